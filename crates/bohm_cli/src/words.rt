@@ -1,0 +1,81 @@
+//! The words that the program is started with.
+
+ghost use Rattle.std.specs.Prelude.{◌≡◌, ◌∷◌, map, codes, string_bytes, IfOk, IfErr};
+ghost use Rattle.bohm_cli.specs.Taken.{AreTaken};
+ghost use Rattle.bohm_cli.specs.Faults.{IsNoMemory};
+ghost use Rattle.bohm_cli.specs.declared.words.WordFault.TheVariants.{NoMemory};
+ghost use Rattle.clap.specs.Words.{kind_of};
+ghost use Rattle.clap.specs.declared.error.kind.ErrorKind.TheVariants.{OutOfMemory};
+ghost use Rattle.bohm_run.specs.Given.{plain};
+
+use bohm_run::Settings;
+use clap::error::ErrorKind;
+use clap::{Command, Error};
+use std::alloc::{AllocError, AllocFailed, Global};
+
+/// Why there are no settings.
+#[derive(Debug, Drop)]
+pub enum WordFault {
+    /// The words are none of the program's, with the text that says so.
+    Bad(String),
+    /// Help was asked for, with its text.
+    Help(String),
+    /// A growth was refused.
+    NoMemory,
+}
+
+impl From<AllocError> for WordFault {
+    ghost from_gives = { λ _ e. e ≡ NoMemory };
+
+    fn from(_e: AllocError) -> WordFault {
+        WordFault::NoMemory
+    }
+}
+
+impl<T: Drop> From<AllocFailed<T>> for WordFault {
+    ghost from_gives = { λ _ e. e ≡ NoMemory };
+
+    fn from(_e: AllocFailed<T>) -> WordFault {
+        WordFault::NoMemory
+    }
+}
+
+/// What clap says of the words.
+fn fault_of(alloc: Global, error: Error) -> WordFault
+    ensures { kind_of error ≡ OutOfMemory → IsNoMemory result }
+{
+    let kind = error.kind();
+    let Ok(text) = format!(in alloc; "{error}") else {
+        return WordFault::NoMemory;
+    };
+    match kind {
+        ErrorKind::OutOfMemory => WordFault::NoMemory,
+        ErrorKind::DisplayHelp => WordFault::Help(text),
+        _ => WordFault::Bad(text),
+    }
+}
+
+/// The program's name and the words.
+fn command_line<'a>(alloc: Global, words: &'a [String]) -> Result<Vec<&'a str>, AllocError>
+    ensures { IfOk result (λ line. map (λ word. word.now) line.items ≡ codes "bohm" ∷ map string_bytes words.entry.now) }
+{
+    let mut line = Vec::new(alloc);
+    line.push("bohm")?;
+    for word in words {
+        line.push(word.as_str())?;
+    }
+    Ok(line)
+}
+
+/// The settings that the words after the program's name give. There are no options: the settings
+/// are the defaults.
+pub fn read_words(alloc: Global, words: &[String]) -> Result<Settings, WordFault>
+    ensures ok { IfOk result (λ settings. settings ≡ plain) }
+    ensures taken { AreTaken (map string_bytes words.now) → IfErr result IsNoMemory }
+{
+    let line = command_line(alloc, words)?;
+    match Command::new(alloc, "bohm").try_get_matches_from(line.as_slice()) {
+        Ok(_) => Ok(Settings::new(1, 1, 1, 4096, 0, None).unwrap()),
+        Err(error) => Err(fault_of(alloc, error)),
+    }
+}

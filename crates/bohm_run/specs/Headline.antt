@@ -1,0 +1,83 @@
+-- What a run over bytes reads, answers and refuses.
+use Rattle.std.specs.Prelude.{◌≡◌, ℕ, ◌<◌, List, length, Option}
+use Rattle.std.specs.FinMap.{entries}
+use Rattle.std.specs.Io.KnownBytes.{Consumes, Appends}
+use Rattle.bohm_tree.specs.Document.{Document}
+use Rattle.bohm_tree.specs.Sound.{IsDocument}
+use Rattle.bohm_txn.specs.Faulty.{WellFormed, IsFirstFault}
+use Rattle.bohm_txn.specs.Serial.{replies}
+use Rattle.bohm_txn.specs.Stores.{store_of, store_after, cell_in}
+use Rattle.bohm_text.specs.Cut.{whole_lines}
+use Rattle.bohm_text.specs.Faults.{IsFirstBadLine, IsShort}
+use Rattle.bohm_text.specs.Print.{print_doc, print_answer}
+use Rattle.bohm_text.specs.declared.fault.TextFault.TheVariants as texts
+use Rattle.bohm_run.specs.Bytes.{ReadsAll, Sends}
+use Rattle.bohm_run.specs.declared.fault.RunFault.{RunFault}
+use Rattle.bohm_run.specs.declared.fault.RunFault.TheVariants.{Read, TooLong, Text, Check, Trimmed, Future, NoMemory, Write}
+
+-- the text of the serial run's replies and of the store that it leaves
+abbrev pub answer_of : Document → List ℕ
+answer_of d =
+    let start = store_of d.store in
+    print_answer (replies (cell_in start) d.log) (entries (store_after start d.log))
+
+-- all that was read is the text of this well-formed document
+pub record ReadsDocument (unread unread' : Option (List ℕ)) (document : Document) : Type 0 where
+  pub sound : IsDocument document
+  pub well_formed : WellFormed document
+  pub read : ReadsAll unread unread' (print_doc document)
+
+-- a well-formed document was read to the reader's end, and its answer was written and nothing else
+pub record Answers (unread unread' written written' : Option (List ℕ)) : Type 0 where
+  pub document : Document
+  pub read : ReadsDocument unread unread' document
+  pub wrote : Appends written written' (answer_of document)
+
+-- a well-formed document was read to the reader's end, and the first bytes of its answer were written
+pub record StopsWriting (unread unread' written written' : Option (List ℕ)) (sent : ℕ) : Type 0 where
+  pub document : Document
+  pub read : ReadsDocument unread unread' document
+  pub wrote : Sends written written' (answer_of document) sent
+
+-- more bytes came than a text may have
+pub record ReadsTooMuch (unread unread' : Option (List ℕ)) : Type 0 where
+  pub bytes : List ℕ
+  pub long : 67108864 < length bytes
+  pub read : Consumes unread unread' bytes
+
+-- all that was read is of this kind
+pub record ReadsText (unread unread' : Option (List ℕ)) (P : List ℕ → Type 0) : Type 0 where
+  pub text : List ℕ
+  pub read : ReadsAll unread unread' text
+  pub is : P text
+
+-- all that was read is the text of a document with this first fault
+pub record ReadsFaulty (unread unread' : Option (List ℕ)) (P : Document → Type 0) : Type 0 where
+  pub document : Document
+  pub sound : IsDocument document
+  pub read : ReadsAll unread unread' (print_doc document)
+  pub is : P document
+
+-- what each refusal says
+abbrev pub Refuses : Option (List ℕ) → Option (List ℕ) → Option (List ℕ) → Option (List ℕ) → RunFault → Type 0
+Refuses unread unread' written written' Read = Unit {0}
+Refuses unread unread' written written' TooLong = ReadsTooMuch unread unread'
+Refuses unread unread' written written' (Text (texts.Line n)) = ReadsText unread unread' (λ text. IsFirstBadLine (whole_lines text) n)
+Refuses unread unread' written written' (Text texts.Short) = ReadsText unread unread' IsShort
+Refuses unread unread' written written' (Text texts.NoMemory) = ⊥
+Refuses unread unread' written written' (Check fault) = ReadsFaulty unread unread' (λ document. IsFirstFault document fault)
+Refuses unread unread' written written' Trimmed = ⊥
+Refuses unread unread' written written' Future = ⊥
+Refuses unread unread' written written' NoMemory = Unit {0}
+Refuses unread unread' written written' (Write sent) = StopsWriting unread unread' written written' sent
+
+-- a refusal before the writing
+abbrev pub IsBeforeWriting : RunFault → Type 0
+IsBeforeWriting Read = Unit {0}
+IsBeforeWriting TooLong = Unit {0}
+IsBeforeWriting (Text fault) = Unit {0}
+IsBeforeWriting (Check fault) = Unit {0}
+IsBeforeWriting Trimmed = Unit {0}
+IsBeforeWriting Future = Unit {0}
+IsBeforeWriting NoMemory = Unit {0}
+IsBeforeWriting (Write sent) = ⊥

@@ -1,0 +1,5 @@
+pub mod Given
+pub mod Refusing
+pub mod FaultLine
+pub mod Bytes
+pub mod Headline

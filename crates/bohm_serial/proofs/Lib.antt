@@ -1,0 +1,4 @@
+pub mod Entries
+pub mod Permuted
+pub mod Listed
+pub mod Steps

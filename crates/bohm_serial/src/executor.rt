@@ -1,0 +1,128 @@
+//! Running a log.
+
+ghost use Rattle.std.specs.Prelude.{◌≡◌, map, length, All, IfOk, OnOk};
+ghost use Rattle.std.specs.FinMap.{entries};
+ghost use Rattle.bohm_txn.specs.Faulty.{IsWellFormedTxn};
+ghost use Rattle.bohm_txn.specs.Meaning.{body};
+ghost use Rattle.bohm_txn.specs.Serial.{replies, reply_of, writes_of};
+ghost use Rattle.bohm_serial.specs.Steps.{reply_with};
+ghost use Rattle.bohm_txn.specs.Stores.{store_of, store_after, cell_in, put_all};
+ghost use Rattle.std.specs.List.{zip};
+
+use crate::store::Store;
+use bohm_txn::{Cell, Checked, Items, Key, NoMemory, Outcome, Reply, Scratch, Txn, Value, eval};
+use std::alloc::Global;
+
+/// What a run answers: the replies in log order, and the entries of the store that it leaves, in
+/// the order of their keys.
+#[derive(Debug, Drop)]
+pub struct Answer {
+    pub replies: Items<Reply>,
+    pub store: Items<(Key, Value)>,
+}
+
+/// What the keys hold, in their order, in place of what stood in the list.
+fn look_up(store: &Store, keys: &[Key], cells: &mut Vec<Cell>) -> Result<(), NoMemory>
+    ensures { OnOk result (cells.new.items ≡ map (cell_in store.now) keys.now) }
+{
+    cells.clear();
+    for key in keys {
+        cells.push(store.get(key))?;
+    }
+    Ok(())
+}
+
+/// Gives each key its cell.
+fn put_cells(store: &mut Store, keys: &[Key], cells: &[Cell]) -> Result<(), NoMemory>
+    requires { length keys.now ≡ length cells.now }
+    ensures { OnOk result (store.new ≡ put_all store.old (zip keys.now cells.now)) }
+{
+    for (key, cell) in keys.iter().zip(cells) {
+        store.put(key, *cell)?;
+    }
+    Ok(())
+}
+
+/// The reply of a transaction that ended so.
+fn reply(alloc: Global, outcome: Outcome, shows: &[Value]) -> Result<Reply, NoMemory>
+    ensures { IfOk result (λ reply. reply ≡ reply_with outcome shows.now) }
+{
+    Ok(match outcome {
+        Outcome::Commit => Reply::Commit {
+            shows: Items::from(Vec::from_slice(alloc, shows)?),
+        },
+        Outcome::Abort { reason, stmt } => Reply::Abort { reason, stmt },
+    })
+}
+
+/// The cells that a transaction is handed, and the room to run it in.
+#[derive(Drop)]
+struct Desk {
+    reads: Vec<Cell>,
+    earlier: Vec<Cell>,
+    scratch: Scratch,
+}
+
+impl Desk {
+    fn new(alloc: Global) -> Result<Desk, NoMemory> {
+        Ok(Desk {
+            reads: Vec::new(alloc),
+            earlier: Vec::new(alloc),
+            scratch: Scratch::new(alloc)?,
+        })
+    }
+}
+
+/// Runs one transaction over the store.
+fn execute(
+    alloc: Global,
+    store: &mut Store,
+    desk: &mut Desk,
+    txn: &Txn,
+) -> Result<Reply, NoMemory>
+    requires { IsWellFormedTxn txn.now }
+    ensures reply { IfOk result (λ reply. reply ≡ reply_of (body (cell_in store.old) txn.now)) }
+    ensures store { OnOk result (store.new ≡ put_all store.old (writes_of (body (cell_in store.old) txn.now))) }
+{
+    let (reads, writes) = (txn.reads.as_slice(), txn.writes.as_slice());
+    look_up(store, reads, &mut desk.reads)?;
+    look_up(store, writes, &mut desk.earlier)?;
+    let outcome = eval(txn, desk.reads.as_slice(), desk.earlier.as_slice(), &mut desk.scratch);
+    put_cells(store, writes, desk.scratch.cells())?;
+    reply(alloc, outcome, desk.scratch.shows())
+}
+
+/// Runs the transactions, one after another.
+fn execute_all(
+    alloc: Global,
+    store: &mut Store,
+    log: &[Txn],
+) -> Result<Vec<Reply>, NoMemory>
+    requires { All IsWellFormedTxn log.now }
+    ensures replies { IfOk result (λ list. list.items ≡ replies (cell_in store.old) log.now) }
+    ensures store { OnOk result (store.new ≡ store_after store.old log.now) }
+{
+    let mut desk = Desk::new(alloc)?;
+    let mut list = Vec::with_capacity(alloc, log.len())?;
+    for txn in log {
+        let reply = execute(alloc, store, &mut desk, txn)?;
+        list.push(reply)?;
+    }
+    Ok(list)
+}
+
+/// Runs the log's transactions one after another over its starting store.
+///
+/// The time grows with the terms of the log and with the number of the store's keys k as k log k.
+pub fn run(alloc: Global, checked: &Checked) -> Result<Answer, NoMemory>
+    ensures replies { IfOk result (λ answer. answer.replies ≡ replies (cell_in (store_of checked.now.store)) checked.now.log) }
+    ensures store { IfOk result (λ answer. answer.store ≡ entries (store_after (store_of checked.now.store) checked.now.log)) }
+{
+    let mut store = Store::new(alloc, checked.store())?;
+    let replies = execute_all(alloc, &mut store, checked.log())?;
+    let entries = store.entries(alloc)?;
+    Ok(Answer {
+        replies: Items::from(replies),
+        store: Items::from(entries),
+    })
+}

@@ -1,0 +1,95 @@
+//! Values by key.
+
+ghost use Rattle.std.specs.Prelude.{◌≡◌, true, IfOk, OnOk};
+ghost use Rattle.std.specs.FinMap.{entries};
+ghost use Rattle.bohm_txn.specs.Faulty.{rising, names_of};
+ghost use Rattle.std.specs.HashMap.{IsUnique};
+ghost use Rattle.std.specs.Str.{bytes_eq};
+ghost use Rattle.bohm_txn.specs.Stores.{store_of, cell_in, put};
+
+use bohm_tree::{Cell, Key, NoMemory, Value};
+use std::alloc::Global;
+use std::collections::HashMap;
+use std::marker::Model;
+
+/// A store that changes, which contracts see as a finite map. A look-up and a change take the same
+/// time whatever it holds.
+#[derive(Drop)]
+pub struct Store {
+    values: HashMap<Key, Value>,
+}
+
+impl Model for Store {
+    ghost use Rattle.std.specs.Ordering.{nat_cmp};
+    ghost use Rattle.std.specs.Cmp.Lexicographic.{slice_cmp};
+    ghost use Rattle.std.specs.Coded.{coded_ℕ, coded_ℤ, coded_list};
+    ghost use Rattle.std.specs.FinMap.{code};
+    ghost use Rattle.bohm_txn.specs.Stores.{Store as FiniteStore, store_of};
+
+    ghost Value = { FiniteStore };
+
+    ghost coded = { code (coded_list coded_ℕ) coded_ℤ };
+
+    ghost view = { λ s. store_of s.values.entries };
+}
+
+impl Store {
+    /// The store of these entries.
+    pub fn new(alloc: Global, entries: &[(Key, Value)]) -> Result<Store, NoMemory>
+        requires rising { rising (names_of entries.now) ≡ true }
+        ensures { IfOk result (λ store. store ≡ store_of entries.now) }
+    {
+        let mut values = HashMap::with_capacity(alloc, entries.len())?;
+        for (key, value) in entries {
+            values.insert(*key, *value)?;
+        }
+        Ok(Store { values })
+    }
+
+    /// What the key holds.
+    pub fn get(&self, key: &Key) -> Cell
+        ensures { result ≡ cell_in self.now key.now }
+    {
+        let found = self.values.get(key).copied();
+        match found {
+            None => Cell::Absent,
+            Some(value) => Cell::Present(value),
+        }
+    }
+
+    /// Gives the key this cell.
+    pub fn put(&mut self, key: &Key, cell: Cell) -> Result<(), NoMemory>
+        ensures { OnOk result (self.new ≡ put self.old key.now cell) }
+    {
+        match cell {
+            Cell::Absent => {
+                self.values.remove(key);
+            }
+            Cell::Present(value) => {
+                self.values.insert(*key, value)?;
+            }
+        }
+        Ok(())
+    }
+
+    /// Its entries, in the order of their keys. The time grows with the number n of entries as n log n.
+    pub fn entries(&self, alloc: Global) -> Result<Vec<(Key, Value)>, NoMemory>
+        ensures { IfOk result (λ list. list.items ≡ entries self.now) }
+    {
+        let mut list = listed(alloc, &self.values)?;
+        list.sort_unstable_by(|entry, other| entry.0.cmp(&other.0));
+        Ok(list)
+    }
+}
+
+/// The entries, in the map's order.
+fn listed(alloc: Global, values: &HashMap<Key, Value>) -> Result<Vec<(Key, Value)>, NoMemory>
+    ensures all { IfOk result (λ list. list.items ≡ values.now.entries) }
+    ensures distinct { IsUnique bytes_eq values.now }
+{
+    let mut list = Vec::with_capacity(alloc, values.len())?;
+    for (key, value) in values {
+        list.push((*key, *value))?;
+    }
+    Ok(list)
+}

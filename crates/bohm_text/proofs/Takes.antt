@@ -1,0 +1,417 @@
+-- What is read of a word was spelled so.
+use Rattle.std.proofs.Common.{◌≡◌, ℕ, zero, suc, ◌+◌, ◌-◌, ◌*◌, ◌^◌, ◌<◌, ◌≤◌, Bool, true, false, cond, List, [], ◌∷◌, ◌++◌, length, Some, None, refl, ap, sym, subst, ◌∙◌, lit<, arith, inl, inr}
+use Rattle.std.specs.Prelude.{Option, ℤ, pos, negsuc, ◌⊎◌, ◌&&◌, ◌==◌, nat_le, nat_lt, codes}
+use Rattle.std.specs.Option.{option_map}
+use Rattle.std.specs.List.{flat_map}
+use Rattle.std.specs.Str.{bytes_eq}
+use Rattle.std.specs.Str.Parse.{AllDigits, digits_value_after, digits_value}
+use Rattle.std.specs.Fmt.{decimal, signed_decimal}
+use Rattle.std.specs.Char.{is_ascii_digit, digit_value}
+use Rattle.std.proofs.lemmas.List.{append-nil}
+use Rattle.std.proofs.lemmas.Bool.{eqb-true, leb-true}
+use Rattle.std.proofs.lemmas.Bool.Decides.{nat_tests}
+use Rattle.std.proofs.lemmas.Slice.Eq.{bytes_eq-Decides}
+use Rattle.std.proofs.lemmas.Fmt.{decimal-digits_value}
+use Rattle.std.proofs.lemmas.Str.Parse.{numerals_by_value, tells_digits}
+use Rattle.bohm_tree.specs.Name.{is_name, key_of}
+use Rattle.bohm_tree.specs.Shape.{is_term, term_of}
+use Rattle.bohm_tree.specs.declared.term.Atom.{Atom}
+use Rattle.bohm_tree.specs.declared.term.Atom.TheVariants.{Lit, Read, Local}
+use Rattle.bohm_tree.specs.declared.stmt.Cmp.{Cmp}
+use Rattle.bohm_tree.specs.declared.stmt.Cmp.TheVariants.{Lt, Le, Eq, Ge, Gt}
+use Rattle.bohm_tree.specs.declared.stmt.Cond.{Cond}
+use Rattle.bohm_tree.specs.declared.stmt.Stmt.{Stmt}
+use Rattle.bohm_tree.specs.declared.stmt.Stmt.TheVariants.{Bind, Need, Has, Lacks, Put, Remove, Show, Fail}
+use Rattle.bohm_text.specs.declared.sums.Stop.{Stop}
+use Rattle.bohm_text.specs.declared.sums.Stop.TheVariants as stops
+use Rattle.bohm_text.specs.Print.{Words, atom_word, first_word, further_words, sum_words, cmp_word, cond_words, guard_words, stmt_words, store_words}
+use Rattle.bohm_text.specs.Reading.{◌>>=◌, digits_of, whole_of, lit_of, negative, number_of, atom_of, first_of, sign_of, further_of, cmp_of, stop_of, Ending, End, When, Compared, ending, Terms, stopped, longer, one_more, terms_of, sum_from, at_end, last_sum, keys_of, local_of, after, right_side, cond_of, guarded, assigned_of, bind_of, put_of, presence_of, need_of, remove_of, fail_of, stmt_of, entry_of}
+
+-- ---- steps that succeed
+
+pub bind_some : {A B : Type 0} (o : Option A) (f : A → Option B) (y : B) → (o >>= f) ≡ Some y → (x : A) × (o ≡ Some x) × (f x ≡ Some y)
+bind_some None f y e = absurd cc
+bind_some (Some x) f y e = (x, refl, e)
+
+pub map_some : {A B : Type 0} (f : A → B) (o : Option A) (y : B) → option_map f o ≡ Some y → (x : A) × (o ≡ Some x) × (f x ≡ y)
+map_some f None y e = absurd cc
+map_some f (Some x) y e = (x, refl, cc)
+
+pub chosen : {A : Type 0} (b : Bool) (x y z : A) → cond b x y ≡ z → ((b ≡ true) × (x ≡ z)) ⊎ ((b ≡ false) × (y ≡ z))
+chosen true x y z e = inl (refl, e)
+chosen false x y z e = inr (refl, e)
+
+pub if_some : {A : Type 0} (b : Bool) (o : Option A) (y : A) → cond b o None ≡ Some y → (b ≡ true) × (o ≡ Some y)
+if_some true o y e = (refl, e)
+if_some false o y e = absurd cc
+
+pub if_none : {A : Type 0} (b : Bool) (o : Option A) (y : A) → cond b None o ≡ Some y → (b ≡ false) × (o ≡ Some y)
+if_none true o y e = absurd cc
+if_none false o y e = (refl, e)
+
+both : (a b : Bool) → (a && b) ≡ true → (a ≡ true) × (b ≡ true)
+both true b e = (refl, e)
+both false b e = absurd cc
+
+pub same_some : {A : Type 0} (x y : A) → ◌≡◌ {A = Option A} (Some x) (Some y) → x ≡ y
+same_some x y e = cc
+
+-- ---- words
+
+pub key_takes : (w k : List ℕ) → key_of w ≡ Some k → (w ≡ k) × (is_name w ≡ true)
+key_takes w k e = let p = if_some (is_name w) (Some w) k e in (same_some w k p.1, p.0)
+
+pub local_takes : (w x : List ℕ) → local_of w ≡ Some x → (w ≡ 36 ∷ x) × (is_name x ≡ true)
+local_takes [] x e = absurd cc
+local_takes (c ∷ cs) x e =
+    let p = if_some (c == 36) (key_of cs) x e in
+    let k = key_takes cs x p.1 in
+    (λ i. eqb-true c 36 p.0 i ∷ k.0 i, rw (← k.0) k.1)
+
+pub same_bytes : (a b : List ℕ) → bytes_eq a b ≡ true → a ≡ b
+same_bytes a b e = (bytes_eq-Decides a b).0 e
+
+digit_is : (c : ℕ) → is_ascii_digit c ≡ true → (48 ≤ c) × (c ≤ 57)
+digit_is c e = grind (arith, nat_tests)
+
+value_is : (c : ℕ) → 48 ≤ c → c ≤ 57 → digit_value c ≡ c - 48
+value_is c low high = grind (arith, nat_tests)
+
+pub digits_take : (limit n : ℕ) (ds : List ℕ) (v : ℕ) → digits_of limit n ds ≡ Some v → n ≤ limit → AllDigits 10 ds × (digits_value_after 10 n ds ≡ v) × (v ≤ limit)
+unfolding digits_of
+digits_take limit n [] v e within = (tt, same_some n v e, let same : n ≡ v = same_some n v e in omega arith)
+digits_take limit n (c ∷ cs) v e within =
+    let p = if_some (is_ascii_digit c && nat_le (n * 10 + (c - 48)) limit) (digits_of limit (n * 10 + (c - 48)) cs) v e in
+    let q = both (is_ascii_digit c) (nat_le (n * 10 + (c - 48)) limit) p.0 in
+    let range = digit_is c q.0 in
+    let value : digit_value c ≡ c - 48 = value_is c range.0 range.1 in
+    let h = digits_take limit (n * 10 + (c - 48)) cs v p.1 (leb-true _ _ q.1) in
+    ((rw value (omega (arith, range.0, range.1)), h.0), rw value h.1, h.2)
+
+not_both : (c : ℕ) (cs : List ℕ) → (c == 48 && nat_lt 0 (length cs)) ≡ false → c ≡ 48 → length (c ∷ cs) ≡ 1
+not_both c cs e is = grind (arith, nat_tests)
+
+pub whole_takes : (limit : ℕ) (w : List ℕ) (v : ℕ) → limit < 2 ^ 64 → whole_of limit w ≡ Some v → (w ≡ decimal v) × (v ≤ limit)
+whole_takes limit [] v small e = absurd cc
+whole_takes limit (c ∷ cs) v small e =
+    let p = if_none (c == 48 && nat_lt 0 (length cs)) (digits_of limit 0 (c ∷ cs)) v e in
+    let h = digits_take limit 0 (c ∷ cs) v p.1 (omega arith) in
+    let value : digits_value 10 (c ∷ cs) ≡ v = h.1 in
+    let text = decimal-digits_value (numerals_by_value (AllDigits 10) tells_digits) (c ∷ cs) h.0 (omega arith) (not_both c cs p.0) (omega (arith, value, h.2)) in
+    (sym (rw value at text), h.2)
+
+pub atom_takes : (w : List ℕ) (a : Atom) → atom_of w ≡ Some a → w ≡ atom_word a
+unfolding atom_of
+atom_takes [] a e = absurd cc
+atom_takes (c ∷ cs) a e =
+    elim (chosen (c == 36) (option_map Local (key_of cs)) (cond (is_ascii_digit c) (option_map Lit (lit_of (c ∷ cs))) (option_map Read (key_of (c ∷ cs)))) (Some a) e) [
+      | inl p ↦
+          let m = map_some Local (key_of cs) a p.1 in
+          let k = key_takes cs m.0 m.1 in
+          rw (← m.2) (λ i. eqb-true c 36 p.0 i ∷ k.0 i)
+      | inr p ↦
+          elim (chosen (is_ascii_digit c) (option_map Lit (lit_of (c ∷ cs))) (option_map Read (key_of (c ∷ cs))) (Some a) p.1) [
+            | inl q ↦ let m = map_some Lit (lit_of (c ∷ cs)) a q.1 in rw (← m.2) (whole_takes (2 ^ 63 - 1) (c ∷ cs) m.0 (lit< tt) m.1).0
+            | inr q ↦ let m = map_some Read (key_of (c ∷ cs)) a q.1 in rw (← m.2) (key_takes (c ∷ cs) m.0 m.1).0
+          ]
+    ]
+
+term_takes : (minus : Bool) (a : Atom) (t : Bool × Atom) → term_of minus a ≡ Some t → (minus, a) ≡ t
+term_takes minus a t e = same_some (minus, a) t (if_some (is_term minus a) (Some (minus, a)) t e).1
+
+pub first_takes : (w : List ℕ) (t : Bool × Atom) → first_of w ≡ Some t → w ≡ first_word t
+unfolding first_of
+first_takes [] t e = absurd cc
+first_takes (c ∷ cs) t e =
+    elim (chosen (c == 45) (atom_of cs >>= λ a. term_of true a) (atom_of (c ∷ cs) >>= λ a. term_of false a) (Some t) e) [
+      | inl p ↦
+          let b = bind_some (atom_of cs) (λ a. term_of true a) t p.1 in
+          rw (← term_takes true b.0 t b.2) (λ i. eqb-true c 45 p.0 i ∷ atom_takes cs b.0 b.1 i)
+      | inr p ↦
+          let b = bind_some (atom_of (c ∷ cs)) (λ a. term_of false a) t p.1 in
+          rw (← term_takes false b.0 t b.2) (atom_takes (c ∷ cs) b.0 b.1)
+    ]
+
+pub sign_takes : (w : List ℕ) (m : Bool) → sign_of w ≡ Some m → w ≡ cond m (codes "-") (codes "+")
+unfolding sign_of
+sign_takes w m e =
+    elim (chosen (bytes_eq w (codes "-")) (Some true) (cond (bytes_eq w (codes "+")) (Some false) None) (Some m) e) [
+      | inl p ↦ rw (← same_some true m p.1) (same_bytes w (codes "-") p.0)
+      | inr p ↦ let q = if_some (bytes_eq w (codes "+")) (Some false) m p.1 in rw (← same_some false m q.1) (same_bytes w (codes "+") q.0)
+    ]
+
+further_takes : (minus : Bool) (w : List ℕ) (t : Bool × Atom) → further_of minus w ≡ Some t → (t.0 ≡ minus) × (w ≡ atom_word t.1)
+unfolding further_of
+further_takes minus w t e =
+    let b = bind_some (atom_of w) (λ a. term_of minus a) t e in
+    let same : (minus, b.0) ≡ t = term_takes minus b.0 t b.2 in
+    subst (λ (x : Bool × Atom). (x.0 ≡ minus) × (w ≡ atom_word x.1)) same (refl, atom_takes w b.0 b.1)
+
+-- ---- sums
+
+-- what stands after a sum
+abbrev pub ending_words : Ending → Words
+ending_words End = []
+ending_words (When words) = codes "when" ∷ words
+ending_words (Compared cmp words) = cmp_word cmp ∷ words
+
+pub cmp_takes : (w : List ℕ) (cmp : Cmp) → cmp_of w ≡ Some cmp → w ≡ cmp_word cmp
+unfolding cmp_of
+cmp_takes w cmp e =
+    let rest4 : Option Cmp = cond (bytes_eq w (codes ">")) (Some Gt) None in
+    let rest3 : Option Cmp = cond (bytes_eq w (codes ">=")) (Some Ge) rest4 in
+    let rest2 : Option Cmp = cond (bytes_eq w (codes "=")) (Some Eq) rest3 in
+    let rest1 : Option Cmp = cond (bytes_eq w (codes "<=")) (Some Le) rest2 in
+    elim (chosen (bytes_eq w (codes "<")) (Some Lt) rest1 (Some cmp) e) [
+      | inl p ↦ rw (← same_some Lt cmp p.1) (same_bytes w (codes "<") p.0)
+      | inr p ↦
+          elim (chosen (bytes_eq w (codes "<=")) (Some Le) rest2 (Some cmp) p.1) [
+            | inl q ↦ rw (← same_some Le cmp q.1) (same_bytes w (codes "<=") q.0)
+            | inr q ↦
+                elim (chosen (bytes_eq w (codes "=")) (Some Eq) rest3 (Some cmp) q.1) [
+                  | inl r ↦ rw (← same_some Eq cmp r.1) (same_bytes w (codes "=") r.0)
+                  | inr r ↦
+                      elim (chosen (bytes_eq w (codes ">=")) (Some Ge) rest4 (Some cmp) r.1) [
+                        | inl t ↦ rw (← same_some Ge cmp t.1) (same_bytes w (codes ">=") t.0)
+                        | inr t ↦ let u = if_some (bytes_eq w (codes ">")) (Some Gt) cmp t.1 in rw (← same_some Gt cmp u.1) (same_bytes w (codes ">") u.0)
+                      ]
+                ]
+          ]
+    ]
+
+stop_takes : (w : List ℕ) (stop : Stop) (words : Words) → stop_of w ≡ Some stop → w ∷ words ≡ ending_words (ending stop words)
+unfolding stop_of
+stop_takes w stop words e =
+    elim (chosen (bytes_eq w (codes "when")) (Some stops.When) (option_map stops.Compared (cmp_of w)) (Some stop) e) [
+      | inl p ↦ subst (λ (s : Stop). w ∷ words ≡ ending_words (ending s words)) (same_some stops.When stop p.1) (ap (λ (v : List ℕ). v ∷ words) (same_bytes w (codes "when") p.0))
+      | inr p ↦ let m = map_some stops.Compared (cmp_of w) stop p.1 in subst (λ (s : Stop). w ∷ words ≡ ending_words (ending s words)) m.2 (ap (λ (v : List ℕ). v ∷ words) (cmp_takes w m.0 m.1))
+    ]
+
+-- the words of terms and of what ends them
+abbrev pub further_text : Terms → Words
+further_text p = flat_map further_words p.0 ++ ending_words p.1
+
+abbrev pub sum_text : Terms → Words
+sum_text p = sum_words p.0 ++ ending_words p.1
+
+stopped_takes : (w : List ℕ) (words : Words) (p : Terms) → stopped w words ≡ Some p → w ∷ words ≡ further_text p
+stopped_takes w words p e =
+    let b = bind_some (stop_of w) (λ stop. Some ([], ending stop words)) p e in
+    subst (λ (q : Terms). w ∷ words ≡ further_text q) (same_some ([], ending b.0 words) p b.2) (stop_takes w b.0 words b.1)
+
+pub longer_some : (t : Bool × Atom) (read : Option Terms) (p : Terms) → longer t read ≡ Some p → (q : Terms) × (read ≡ Some q) × ((t ∷ q.0, q.1) ≡ p)
+longer_some t read p e = let b = bind_some read (λ q. Some (t ∷ q.0, q.1)) p e in (b.0, b.1, same_some (t ∷ b.0.0, b.0.1) p b.2)
+
+-- one term more, after a sign
+more_takes : (sign word : List ℕ) (minus : Bool) (ws : Words) (p : Terms) → sign_of sign ≡ Some minus → ((q : Terms) → terms_of ws ≡ Some q → ws ≡ further_text q)
+    → (further_of minus word >>= λ term. longer term (terms_of ws)) ≡ Some p → sign ∷ word ∷ ws ≡ further_text p
+more_takes sign word minus ws p s rest e =
+    let b = bind_some (further_of minus word) (λ term. longer term (terms_of ws)) p e in
+    let t = further_takes minus word b.0 b.1 in
+    let l = longer_some b.0 (terms_of ws) p b.2 in
+    let signed : sign ≡ cond b.0.0 (codes "-") (codes "+") = sign_takes sign minus s ∙ ap (λ (m : Bool). cond m (codes "-") (codes "+")) (sym t.0) in
+    let whole : sign ∷ word ∷ ws ≡ further_text (b.0 ∷ l.0.0, l.0.1) = λ i. signed i ∷ t.1 i ∷ rest l.0 l.1 i in
+    subst (λ (q : Terms). sign ∷ word ∷ ws ≡ further_text q) l.2 whole
+
+pub terms_take : (ws : Words) (p : Terms) → terms_of ws ≡ Some p → ws ≡ further_text p
+unfolding terms_of
+terms_take [] p e = subst (λ (q : Terms). [] ≡ further_text q) (same_some ([], End) p e) refl
+terms_take (word ∷ []) p e = stopped_takes word [] p e
+terms_take (sign ∷ word ∷ ws) p e =
+    let P : Option Bool → Type 0 = λ (o : Option Bool). sign_of sign ≡ o → one_more o word (terms_of ws) (stopped sign (word ∷ ws)) ≡ Some p → sign ∷ word ∷ ws ≡ further_text p in
+    elim (sign_of sign) as P [
+      | None ↦ λ _ h. stopped_takes sign (word ∷ ws) p h
+      | Some minus ↦ λ s h. more_takes sign word minus ws p s (terms_take ws) h
+    ] refl e
+
+pub sum_takes : (ws : Words) (p : Terms) → sum_from ws ≡ Some p → ws ≡ sum_text p
+unfolding sum_from
+sum_takes [] p e = absurd cc
+sum_takes (word ∷ ws) p e =
+    let b = bind_some (first_of word) (λ term. longer term (terms_of ws)) p e in
+    let l = longer_some b.0 (terms_of ws) p b.2 in
+    let whole : word ∷ ws ≡ sum_text (b.0 ∷ l.0.0, l.0.1) = λ i. first_takes word b.0 b.1 i ∷ terms_take ws l.0 l.1 i in
+    subst (λ (q : Terms). word ∷ ws ≡ sum_text q) l.2 whole
+
+pub at_end_takes : (p : Terms) (sum : List (Bool × Atom)) → at_end p ≡ Some sum → (sum, End) ≡ p
+at_end_takes (ts, End) sum e = let same : ts ≡ sum = same_some ts sum e in ap (λ (x : List (Bool × Atom)). (x, End)) (sym same)
+at_end_takes (ts, When words) sum e = absurd cc
+at_end_takes (ts, Compared cmp words) sum e = absurd cc
+
+pub last_takes : (ws : Words) (sum : List (Bool × Atom)) → last_sum ws ≡ Some sum → ws ≡ sum_words sum
+unfolding last_sum
+last_takes ws sum e =
+    let b = bind_some (sum_from ws) at_end sum e in
+    sum_takes ws b.0 b.1 ∙ (ap sum_text (sym (at_end_takes b.0 sum b.2)) ∙ append-nil (sum_words sum))
+
+right_takes : (p : Terms) (c : Cond) → right_side p ≡ Some c → sum_text p ≡ cond_words c
+right_takes (sum, End) c e = absurd cc
+right_takes (sum, When words) c e = absurd cc
+right_takes (sum, Compared cmp words) c e =
+    let made : List (Bool × Atom) → Cond = λ (right : List (Bool × Atom)). record { left = sum; cmp = cmp; right = right } in
+    let b = bind_some (last_sum words) (λ right. Some (made right)) c e in
+    let whole : sum_words sum ++ cmp_word cmp ∷ words ≡ cond_words (made b.0) = ap (λ (r : Words). sum_words sum ++ cmp_word cmp ∷ r) (last_takes words b.0 b.1) in
+    subst (λ (x : Cond). sum_words sum ++ cmp_word cmp ∷ words ≡ cond_words x) (same_some (made b.0) c b.2) whole
+
+pub cond_takes : (ws : Words) (c : Cond) → cond_of ws ≡ Some c → ws ≡ cond_words c
+unfolding cond_of
+cond_takes ws c e =
+    let b = bind_some (sum_from ws) right_side c e in
+    sum_takes ws b.0 b.1 ∙ right_takes b.0 c b.2
+
+-- ---- lines
+
+pub keys_take : (ws ks : List (List ℕ)) → keys_of ws ≡ Some ks → ws ≡ ks
+unfolding keys_of
+keys_take [] ks e = same_some [] ks e
+keys_take (word ∷ ws) ks e =
+    let b1 = bind_some (key_of word) (λ key. keys_of ws >>= λ keys. Some (key ∷ keys)) ks e in
+    let b2 = bind_some (keys_of ws) (λ keys. Some (b1.0 ∷ keys)) ks b1.2 in
+    let whole : word ∷ ws ≡ b1.0 ∷ b2.0 = λ i. (key_takes word b1.0 b1.1).0 i ∷ keys_take ws b2.0 b2.1 i in
+    whole ∙ same_some (b1.0 ∷ b2.0) ks b2.2
+
+pub after_takes : {X : Type 0} (word : List ℕ) (read : List (List ℕ) → Option X) (ws : List (List ℕ)) (x : X) → after word read ws ≡ Some x → (rest : List (List ℕ)) × (ws ≡ word ∷ rest) × (read rest ≡ Some x)
+after_takes word read [] x e = absurd cc
+after_takes word read (w ∷ ws) x e =
+    let p = if_some (bytes_eq w word) (read ws) x e in
+    (ws, ap (λ (v : List ℕ). v ∷ ws) (same_bytes w word p.0), p.1)
+
+bound_takes : (ws : Words) (sum : List (Bool × Atom)) → after (codes "=") last_sum ws ≡ Some sum → ws ≡ codes "=" ∷ sum_words sum
+bound_takes ws sum e =
+    let a = after_takes (codes "=") last_sum ws sum e in
+    a.1 ∙ ap (λ (r : Words). codes "=" ∷ r) (last_takes a.0 sum a.2)
+
+bind_takes : (ws : Words) (s : Stmt) → bind_of ws ≡ Some s → codes "let" ∷ ws ≡ stmt_words s
+unfolding bind_of
+bind_takes [] s e = absurd cc
+bind_takes (word ∷ ws) s e =
+    let b1 = bind_some (local_of word) (λ name. after (codes "=") last_sum ws >>= λ sum. Some (Bind name sum)) s e in
+    let b2 = bind_some (after (codes "=") last_sum ws) (λ sum. Some (Bind b1.0 sum)) s b1.2 in
+    let whole : codes "let" ∷ word ∷ ws ≡ stmt_words (Bind b1.0 b2.0) = λ i. codes "let" ∷ (local_takes word b1.0 b1.1).0 i ∷ bound_takes ws b2.0 b2.1 i in
+    subst (λ (t : Stmt). codes "let" ∷ word ∷ ws ≡ stmt_words t) (same_some (Bind b1.0 b2.0) s b2.2) whole
+
+guarded_takes : (key : List ℕ) (p : Terms) (s : Stmt) → guarded key p ≡ Some s → codes "set" ∷ key ∷ codes "=" ∷ sum_text p ≡ stmt_words s
+guarded_takes key (sum, End) s e = subst (λ (t : Stmt). codes "set" ∷ key ∷ codes "=" ∷ (sum_words sum ++ []) ≡ stmt_words t) (same_some (Put key sum None) s e) refl
+guarded_takes key (sum, When words) s e =
+    let b = bind_some (cond_of words) (λ c. Some (Put key sum (Some c))) s e in
+    let whole : codes "set" ∷ key ∷ codes "=" ∷ (sum_words sum ++ codes "when" ∷ words) ≡ stmt_words (Put key sum (Some b.0)) = ap (λ (r : Words). codes "set" ∷ key ∷ codes "=" ∷ (sum_words sum ++ codes "when" ∷ r)) (cond_takes words b.0 b.1) in
+    subst (λ (t : Stmt). codes "set" ∷ key ∷ codes "=" ∷ (sum_words sum ++ codes "when" ∷ words) ≡ stmt_words t) (same_some (Put key sum (Some b.0)) s b.2) whole
+guarded_takes key (sum, Compared cmp words) s e = absurd cc
+
+put_takes : (ws : Words) (s : Stmt) → put_of ws ≡ Some s → codes "set" ∷ ws ≡ stmt_words s
+unfolding put_of
+put_takes [] s e = absurd cc
+put_takes (word ∷ ws) s e =
+    let b1 = bind_some (key_of word) (λ key. after (codes "=") (assigned_of key) ws) s e in
+    let a = after_takes (codes "=") (assigned_of b1.0) ws s b1.2 in
+    let b2 = bind_some (sum_from a.0) (guarded b1.0) s a.2 in
+    let whole : codes "set" ∷ word ∷ ws ≡ codes "set" ∷ b1.0 ∷ codes "=" ∷ sum_text b2.0 = λ i. codes "set" ∷ (key_takes word b1.0 b1.1).0 i ∷ (a.1 ∙ ap (λ (r : Words). codes "=" ∷ r) (sum_takes a.0 b2.0 b2.1)) i in
+    whole ∙ guarded_takes b1.0 b2.0 s b2.2
+
+presence_takes : (word name : List ℕ) (s : Stmt) → presence_of word name ≡ Some s → codes "need" ∷ word ∷ name ∷ [] ≡ stmt_words s
+unfolding presence_of
+presence_takes word name s e =
+    elim (chosen (bytes_eq word (codes "has")) (option_map Has (key_of name)) (cond (bytes_eq word (codes "no")) (option_map Lacks (key_of name)) None) (Some s) e) [
+      | inl p ↦
+          let m = map_some Has (key_of name) s p.1 in
+          let whole : codes "need" ∷ word ∷ name ∷ [] ≡ stmt_words (Has m.0) = λ i. codes "need" ∷ same_bytes word (codes "has") p.0 i ∷ (key_takes name m.0 m.1).0 i ∷ [] in
+          subst (λ (t : Stmt). codes "need" ∷ word ∷ name ∷ [] ≡ stmt_words t) m.2 whole
+      | inr p ↦
+          let q = if_some (bytes_eq word (codes "no")) (option_map Lacks (key_of name)) s p.1 in
+          let m = map_some Lacks (key_of name) s q.1 in
+          let whole : codes "need" ∷ word ∷ name ∷ [] ≡ stmt_words (Lacks m.0) = λ i. codes "need" ∷ same_bytes word (codes "no") q.0 i ∷ (key_takes name m.0 m.1).0 i ∷ [] in
+          subst (λ (t : Stmt). codes "need" ∷ word ∷ name ∷ [] ≡ stmt_words t) m.2 whole
+    ]
+
+need_takes : (ws : Words) (s : Stmt) → need_of ws ≡ Some s → codes "need" ∷ ws ≡ stmt_words s
+unfolding need_of
+need_takes [] s e = absurd cc
+need_takes (word ∷ []) s e = absurd cc
+need_takes (word ∷ name ∷ []) s e = presence_takes word name s e
+need_takes (left ∷ cmp ∷ right ∷ ws) s e =
+    let m = map_some Need (cond_of (left ∷ cmp ∷ right ∷ ws)) s e in
+    let whole : codes "need" ∷ left ∷ cmp ∷ right ∷ ws ≡ stmt_words (Need m.0) = ap (λ (r : Words). codes "need" ∷ r) (cond_takes (left ∷ cmp ∷ right ∷ ws) m.0 m.1) in
+    subst (λ (t : Stmt). codes "need" ∷ left ∷ cmp ∷ right ∷ ws ≡ stmt_words t) m.2 whole
+
+show_takes : (ws : Words) (s : Stmt) → option_map Show (last_sum ws) ≡ Some s → codes "show" ∷ ws ≡ stmt_words s
+show_takes ws s e =
+    let m = map_some Show (last_sum ws) s e in
+    let whole : codes "show" ∷ ws ≡ stmt_words (Show m.0) = ap (λ (r : Words). codes "show" ∷ r) (last_takes ws m.0 m.1) in
+    subst (λ (t : Stmt). codes "show" ∷ ws ≡ stmt_words t) m.2 whole
+
+remove_takes : (ws : Words) (s : Stmt) → remove_of ws ≡ Some s → codes "drop" ∷ ws ≡ stmt_words s
+unfolding remove_of
+remove_takes [] s e = absurd cc
+remove_takes (name ∷ []) s e =
+    let m = map_some Remove (key_of name) s e in
+    let whole : codes "drop" ∷ name ∷ [] ≡ stmt_words (Remove m.0) = λ i. codes "drop" ∷ (key_takes name m.0 m.1).0 i ∷ [] in
+    subst (λ (t : Stmt). codes "drop" ∷ name ∷ [] ≡ stmt_words t) m.2 whole
+remove_takes (name ∷ w ∷ ws) s e = absurd cc
+
+fail_takes : (ws : Words) (s : Stmt) → fail_of ws ≡ Some s → codes "fail" ∷ ws ≡ stmt_words s
+unfolding fail_of
+fail_takes [] s e = subst (λ (t : Stmt). codes "fail" ∷ [] ≡ stmt_words t) (same_some Fail s e) refl
+fail_takes (w ∷ ws) s e = absurd cc
+
+-- a line of this verb
+verb_takes : (word verb : List ℕ) (ws : Words) (s : Stmt) → bytes_eq verb word ≡ true → word ∷ ws ≡ stmt_words s → verb ∷ ws ≡ stmt_words s
+verb_takes word verb ws s same whole = ap (λ (v : List ℕ). v ∷ ws) (same_bytes verb word same) ∙ whole
+
+pub stmt_takes : (ws : Words) (s : Stmt) → stmt_of ws ≡ Some s → ws ≡ stmt_words s
+unfolding stmt_of
+stmt_takes [] s e = absurd cc
+stmt_takes (verb ∷ ws) s e =
+    let rest5 : Option Stmt = cond (bytes_eq verb (codes "fail")) (fail_of ws) None in
+    let rest4 : Option Stmt = cond (bytes_eq verb (codes "drop")) (remove_of ws) rest5 in
+    let rest3 : Option Stmt = cond (bytes_eq verb (codes "show")) (option_map Show (last_sum ws)) rest4 in
+    let rest2 : Option Stmt = cond (bytes_eq verb (codes "need")) (need_of ws) rest3 in
+    let rest1 : Option Stmt = cond (bytes_eq verb (codes "let")) (bind_of ws) rest2 in
+    elim (chosen (bytes_eq verb (codes "set")) (put_of ws) rest1 (Some s) e) [
+      | inl p ↦ verb_takes (codes "set") verb ws s p.0 (put_takes ws s p.1)
+      | inr p ↦
+          elim (chosen (bytes_eq verb (codes "let")) (bind_of ws) rest2 (Some s) p.1) [
+            | inl q ↦ verb_takes (codes "let") verb ws s q.0 (bind_takes ws s q.1)
+            | inr q ↦
+                elim (chosen (bytes_eq verb (codes "need")) (need_of ws) rest3 (Some s) q.1) [
+                  | inl r ↦ verb_takes (codes "need") verb ws s r.0 (need_takes ws s r.1)
+                  | inr r ↦
+                      elim (chosen (bytes_eq verb (codes "show")) (option_map Show (last_sum ws)) rest4 (Some s) r.1) [
+                        | inl t ↦ verb_takes (codes "show") verb ws s t.0 (show_takes ws s t.1)
+                        | inr t ↦
+                            elim (chosen (bytes_eq verb (codes "drop")) (remove_of ws) rest5 (Some s) t.1) [
+                              | inl u ↦ verb_takes (codes "drop") verb ws s u.0 (remove_takes ws s u.1)
+                              | inr u ↦ let v = if_some (bytes_eq verb (codes "fail")) (fail_of ws) s u.1 in verb_takes (codes "fail") verb ws s v.0 (fail_takes ws s v.1)
+                            ]
+                      ]
+                ]
+          ]
+    ]
+
+negative_takes : (n : ℕ) (z : ℤ) → negative n ≡ Some z → 45 ∷ decimal n ≡ signed_decimal z
+negative_takes zero z e = absurd cc
+negative_takes (suc n) z e = subst (λ (y : ℤ). 45 ∷ decimal (suc n) ≡ signed_decimal y) (same_some (negsuc n) z e) refl
+
+pub number_takes : (w : List ℕ) (z : ℤ) → number_of w ≡ Some z → w ≡ signed_decimal z
+unfolding number_of
+number_takes [] z e = absurd cc
+number_takes (c ∷ cs) z e =
+    elim (chosen (c == 45) (whole_of (2 ^ 63) cs >>= negative) (option_map pos (lit_of (c ∷ cs))) (Some z) e) [
+      | inl p ↦
+          let b = bind_some (whole_of (2 ^ 63) cs) negative z p.1 in
+          let whole : c ∷ cs ≡ 45 ∷ decimal b.0 = λ i. eqb-true c 45 p.0 i ∷ (whole_takes (2 ^ 63) cs b.0 (lit< tt) b.1).0 i in
+          whole ∙ negative_takes b.0 z b.2
+      | inr p ↦
+          let m = map_some pos (lit_of (c ∷ cs)) z p.1 in
+          subst (λ (y : ℤ). c ∷ cs ≡ signed_decimal y) m.2 (whole_takes (2 ^ 63 - 1) (c ∷ cs) m.0 (lit< tt) m.1).0
+    ]
+
+pub entry_takes : (ws : List (List ℕ)) (entry : List ℕ × ℤ) → entry_of ws ≡ Some entry → ws ≡ store_words entry
+unfolding entry_of
+entry_takes [] entry e = absurd cc
+entry_takes (name ∷ []) entry e = absurd cc
+entry_takes (name ∷ digits ∷ []) entry e =
+    let b1 = bind_some (key_of name) (λ key. number_of digits >>= λ number. Some (key, number)) entry e in
+    let b2 = bind_some (number_of digits) (λ number. Some (b1.0, number)) entry b1.2 in
+    let whole : name ∷ digits ∷ [] ≡ store_words (b1.0, b2.0) = λ i. (key_takes name b1.0 b1.1).0 i ∷ number_takes digits b2.0 b2.1 i ∷ [] in
+    subst (λ (x : List ℕ × ℤ). name ∷ digits ∷ [] ≡ store_words x) (same_some (b1.0, b2.0) entry b2.2) whole
+entry_takes (name ∷ digits ∷ w ∷ ws) entry e = absurd cc

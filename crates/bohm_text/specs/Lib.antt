@@ -1,0 +1,10 @@
+pub mod Print
+pub mod Cut
+pub mod Reading
+pub mod WordsInside
+pub mod SumText
+pub mod Step
+pub mod Parse
+pub mod Front
+pub mod Faults
+pub mod Tidy

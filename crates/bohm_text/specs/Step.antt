@@ -1,0 +1,77 @@
+-- What a line makes of the lines before it.
+use Rattle.std.specs.Prelude.{◌≡◌, ℕ, ℤ, List, [], ◌∷◌, ◌++◌, Option, Some, None, Result, Ok, Err, if◌then◌else◌, codes}
+use Rattle.std.specs.Str.{bytes_eq}
+use Rattle.bohm_tree.specs.declared.stmt.Stmt.{Stmt}
+use Rattle.bohm_tree.specs.declared.txn.Edition.{Edition}
+use Rattle.bohm_tree.specs.declared.txn.Edition.TheVariants.{One, Two}
+use Rattle.bohm_tree.specs.declared.txn.Txn.{Txn}
+use Rattle.bohm_tree.specs.Document.{Document}
+use Rattle.bohm_text.specs.declared.fault.ReadFault.{ReadFault}
+use Rattle.bohm_text.specs.declared.reader.Place.{Place}
+use Rattle.bohm_text.specs.declared.reader.Place.TheVariants as places
+use Rattle.bohm_text.specs.declared.reader.Reader.{Reader}
+use Rattle.bohm_text.specs.Print.{Words}
+use Rattle.bohm_text.specs.Cut.{split}
+use Rattle.bohm_text.specs.Reading.{◌>>=◌, Fails, keys_of, after, stmt_of, entry_of}
+
+-- what the lines so far are the beginning of: nothing yet; a document; or one whose next transaction was opened, with its reads, its writes and some statements
+pub data Progress : Type 0 where
+  Nothing : Progress
+  Between : Document → Progress
+  Opened : Document → Progress
+  Reading : Document → Words → Progress
+  Body : Document → Words → Words → List Stmt → Progress
+
+abbrev pub progress_at : Place → Document → Words → Words → List Stmt → Progress
+progress_at places.Between d reads writes body = Between d
+progress_at places.Opened d reads writes body = Opened d
+progress_at places.Reading d reads writes body = Reading d reads
+progress_at places.Body d reads writes body = Body d reads writes body
+
+-- the whole transactions of a reader
+abbrev pub document_in : Reader → Document
+document_in r = record { edition = r.edition; store = r.store; log = r.log }
+
+abbrev pub progress_of : Reader → Progress
+progress_of r = progress_at r.place (document_in r) r.reads r.writes r.body.items
+
+-- a reader took a line in, unless memory ran out
+abbrev pub Feeds : Result (Unit {0}) ReadFault → Option Progress → Progress → Type 0
+Feeds (Ok done) read next = read ≡ Some next
+Feeds (Err e) read next = Fails e read
+
+abbrev pub begun : Edition → Progress
+begun edition = Between (record { edition = edition; store = []; log = [] })
+
+unfoldable pub head_of : List ℕ → Option Edition
+head_of line = if bytes_eq line (codes "log 1") then Some One else (if bytes_eq line (codes "log 2") then Some Two else None)
+
+abbrev pub with_entry : Document → List ℕ × ℤ → Document
+with_entry d entry = record d { store = d.store ++ entry ∷ [] }
+
+abbrev pub with_txn : Document → Words → Words → List Stmt → Document
+with_txn d reads writes body = record d { log = d.log ++ (record { edition = d.edition; reads = reads; writes = writes; body = body }) ∷ [] }
+
+-- the store ends where the log begins
+abbrev pub next_entry : Document → List Txn → Words → Option Progress
+next_entry d [] words = entry_of words >>= λ entry. Some (Between (with_entry d entry))
+next_entry d (t ∷ ts) words = None
+
+unfoldable pub after_between : Document → List ℕ → Option Progress
+after_between d line = if bytes_eq line (codes "txn") then Some (Opened d) else next_entry d d.log (split 32 line)
+
+unfoldable pub after_body : Document → Words → Words → List Stmt → List ℕ → Option Progress
+after_body d reads writes body line =
+    if bytes_eq line (codes "end") then Some (Between (with_txn d reads writes body)) else (stmt_of (split 32 line) >>= λ s. Some (Body d reads writes (body ++ s ∷ [])))
+
+unfoldable pub step : Progress → List ℕ → Option Progress
+step Nothing line = head_of line >>= λ edition. Some (begun edition)
+step (Between d) line = after_between d line
+step (Opened d) line = after (codes "reads") keys_of (split 32 line) >>= λ reads. Some (Reading d reads)
+step (Reading d reads) line = after (codes "writes") keys_of (split 32 line) >>= λ writes. Some (Body d reads writes [])
+step (Body d reads writes body) line = after_body d reads writes body line
+
+-- what lines make of what stands before them
+abbrev pub steps : Progress → List (List ℕ) → Option Progress
+steps progress [] = Some progress
+steps progress (line ∷ lines) = step progress line >>= λ next. steps next lines

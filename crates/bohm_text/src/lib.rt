@@ -1,0 +1,20 @@
+//! The canonical text of documents and answers: printing, and reading with exact faults.
+#![tactic(auto)]
+
+mod answers;
+mod conditions;
+mod fault;
+pub mod laws;
+mod numbers;
+mod parsing;
+mod printing;
+mod reader;
+mod statements;
+mod sums;
+mod terms;
+mod words;
+
+pub use answers::{print_replies, print_store};
+pub use fault::TextFault;
+pub use parsing::parse;
+pub use printing::print_doc;

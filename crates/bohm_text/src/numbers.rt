@@ -1,0 +1,64 @@
+//! Numbers in decimal.
+
+ghost use Rattle.std.specs.Prelude.{◌≡◌, ◌≤◌, ◌<◌, ◌^◌, IfSome};
+ghost use Rattle.bohm_text.specs.Reading.{digits_of, whole_of, lit_of, number_of, negative};
+
+use bohm_tree::GREATEST_LITERAL;
+
+fn read_digits(limit: u64, digits: &[u8]) -> Option<u64>
+    ensures value { result ≡ digits_of limit 0 digits.now }
+    ensures inside { IfSome result (λ number. number ≤ limit) }
+{
+    let mut number: u64 = 0;
+    for byte in digits {
+        if !byte.is_ascii_digit() {
+            return None;
+        }
+        let next = u128::from(number) * 10 + u128::from(*byte - b'0');
+        if next > u128::from(limit) {
+            return None;
+        }
+        number = next as u64;
+    }
+    Some(number)
+}
+
+fn read_whole(limit: u64, word: &[u8]) -> Option<u64>
+    ensures value { result ≡ whole_of limit word.now }
+    ensures inside { IfSome result (λ number. number ≤ limit) }
+{
+    match word {
+        [] => None,
+        [b'0', _, ..] => None,
+        _ => read_digits(limit, word),
+    }
+}
+
+pub fn read_lit(word: &[u8]) -> Option<u64>
+    ensures value { result ≡ lit_of word.now }
+    ensures inside { IfSome result (λ number. number < 2 ^ 63) }
+{
+    read_whole(GREATEST_LITERAL, word)
+}
+
+fn negated(magnitude: u64) -> Option<i64>
+    requires { magnitude ≤ 2 ^ 63 }
+    ensures { result ≡ negative magnitude }
+{
+    if magnitude == 0 {
+        None
+    } else {
+        Some(-1 - (magnitude - 1) as i64)
+    }
+}
+
+#[tactic(auto, unfolding(crate::specs::Reading::number_of))]
+pub fn read_number(word: &[u8]) -> Option<i64>
+    ensures { result ≡ number_of word.now }
+{
+    match word {
+        [] => None,
+        [b'-', digits @ ..] => negated(read_whole(GREATEST_LITERAL + 1, digits)?),
+        _ => Some(read_lit(word)? as i64),
+    }
+}

@@ -1,0 +1,203 @@
+//! Printing a document.
+
+ghost use Rattle.std.specs.Prelude.{◌≡◌, ◌++◌, ◌∷◌, [], IfOk, map};
+ghost use Rattle.std.specs.List.{flat_map};
+ghost use Rattle.std.specs.Fmt.{signed_decimal};
+ghost use Rattle.bohm_text.specs.Print.{atom_word, first_word, further_words, sum_words, cmp_word, cond_words, guard_words, stmt_words, store_words, txn_lines, spaced, line_text, lines_text, print_doc};
+
+use bohm_tree::{Atom, Cmp, Cond, Doc, Edition, Key, NoMemory, Stmt, Sum, Term, Txn, Value};
+use itoa::Buffer;
+use std::alloc::Global;
+
+fn put_atom(out: &mut Vec<u8>, atom: &Atom) -> Result<(), NoMemory>
+    ensures { IfOk result (λ _. out.new.items ≡ out.old.items ++ atom_word atom.now) }
+{
+    match atom {
+        Atom::Lit(number) => out.extend_from_slice(Buffer::new().format(*number).as_bytes())?,
+        Atom::Read(key) => out.extend_from_slice(key.bytes())?,
+        Atom::Local(name) => {
+            out.push(b'$')?;
+            out.extend_from_slice(name.bytes())?;
+        }
+    }
+    Ok(())
+}
+
+fn put_first(out: &mut Vec<u8>, term: &Term) -> Result<(), NoMemory>
+    ensures { IfOk result (λ _. out.new.items ≡ out.old.items ++ first_word term.now) }
+{
+    if term.minus() {
+        out.push(b'-')?;
+    }
+    put_atom(out, term.atom())
+}
+
+fn put_further(out: &mut Vec<u8>, term: &Term) -> Result<(), NoMemory>
+    ensures { IfOk result (λ _. out.new.items ≡ out.old.items ++ spaced (further_words term.now)) }
+{
+    out.extend_from_slice(if term.minus() { b" - " } else { b" + " })?;
+    put_atom(out, term.atom())
+}
+
+/// A sum, with a space before it.
+fn put_sum(out: &mut Vec<u8>, sum: &Sum) -> Result<(), NoMemory>
+    ensures { IfOk result (λ _. out.new.items ≡ out.old.items ++ spaced (sum_words sum.now)) }
+{
+    if let [first, others @ ..] = sum.terms() {
+        out.push(b' ')?;
+        put_first(out, first)?;
+        for term in others {
+            put_further(out, term)?;
+        }
+    }
+    Ok(())
+}
+
+fn cmp_text(cmp: Cmp) -> &'static [u8]
+    ensures { result.now ≡ cmp_word cmp }
+{
+    match cmp {
+        Cmp::Lt => b"<",
+        Cmp::Le => b"<=",
+        Cmp::Eq => b"=",
+        Cmp::Ge => b">=",
+        Cmp::Gt => b">",
+    }
+}
+
+/// A condition, with a space before it.
+fn put_cond(out: &mut Vec<u8>, cond: &Cond) -> Result<(), NoMemory>
+    ensures { IfOk result (λ _. out.new.items ≡ out.old.items ++ spaced (cond_words cond.now)) }
+{
+    put_sum(out, &cond.left)?;
+    out.push(b' ')?;
+    out.extend_from_slice(cmp_text(cond.cmp))?;
+    put_sum(out, &cond.right)
+}
+
+fn put_guard(out: &mut Vec<u8>, guard: &Option<Cond>) -> Result<(), NoMemory>
+    ensures { IfOk result (λ _. out.new.items ≡ out.old.items ++ spaced (guard_words guard.now)) }
+{
+    if let Some(cond) = guard {
+        out.extend_from_slice(b" when")?;
+        put_cond(out, cond)?;
+    }
+    Ok(())
+}
+
+/// A word and a key.
+fn put_key(out: &mut Vec<u8>, word: &[u8], key: Key) -> Result<(), NoMemory>
+    ensures { IfOk result (λ _. out.new.items ≡ out.old.items ++ word.now ++ key) }
+{
+    out.extend_from_slice(word)?;
+    out.extend_from_slice(key.bytes())?;
+    Ok(())
+}
+
+fn put_stmt(out: &mut Vec<u8>, stmt: &Stmt) -> Result<(), NoMemory>
+    ensures { IfOk result (λ _. out.new.items ≡ out.old.items ++ line_text (stmt_words stmt.now)) }
+{
+    match stmt {
+        Stmt::Bind { name, sum } => {
+            put_key(out, b"let $", *name)?;
+            out.extend_from_slice(b" =")?;
+            put_sum(out, sum)?;
+        }
+        Stmt::Need(cond) => {
+            out.extend_from_slice(b"need")?;
+            put_cond(out, cond)?;
+        }
+        Stmt::Has(key) => put_key(out, b"need has ", *key)?,
+        Stmt::Lacks(key) => put_key(out, b"need no ", *key)?,
+        Stmt::Put { key, sum, guard } => {
+            put_key(out, b"set ", *key)?;
+            out.extend_from_slice(b" =")?;
+            put_sum(out, sum)?;
+            put_guard(out, guard)?;
+        }
+        Stmt::Remove(key) => put_key(out, b"drop ", *key)?,
+        Stmt::Show(sum) => {
+            out.extend_from_slice(b"show")?;
+            put_sum(out, sum)?;
+        }
+        Stmt::Fail => out.extend_from_slice(b"fail")?,
+    }
+    Ok(())
+}
+
+/// A line of keys after a word.
+fn put_set(out: &mut Vec<u8>, word: &[u8], keys: &[Key]) -> Result<(), NoMemory>
+    ensures { IfOk result (λ _. out.new.items ≡ out.old.items ++ line_text (word.now ∷ keys.now) ++ 10 ∷ []) }
+{
+    out.extend_from_slice(word)?;
+    for key in keys {
+        out.push(b' ')?;
+        out.extend_from_slice(key.bytes())?;
+    }
+    out.push(b'\n')?;
+    Ok(())
+}
+
+fn put_body(out: &mut Vec<u8>, body: &[Stmt]) -> Result<(), NoMemory>
+    ensures { IfOk result (λ _. out.new.items ≡ out.old.items ++ lines_text (map stmt_words body.now)) }
+{
+    for stmt in body {
+        put_stmt(out, stmt)?;
+        out.push(b'\n')?;
+    }
+    Ok(())
+}
+
+fn put_txn(out: &mut Vec<u8>, txn: &Txn) -> Result<(), NoMemory>
+    ensures { IfOk result (λ _. out.new.items ≡ out.old.items ++ lines_text (txn_lines txn.now)) }
+{
+    out.extend_from_slice(b"txn\n")?;
+    put_set(out, b"reads", txn.reads.as_slice())?;
+    put_set(out, b"writes", txn.writes.as_slice())?;
+    put_body(out, txn.body.as_slice())?;
+    out.extend_from_slice(b"end\n")?;
+    Ok(())
+}
+
+fn put_log(out: &mut Vec<u8>, log: &[Txn]) -> Result<(), NoMemory>
+    ensures { IfOk result (λ _. out.new.items ≡ out.old.items ++ lines_text (flat_map txn_lines log.now)) }
+{
+    for txn in log {
+        put_txn(out, txn)?;
+    }
+    Ok(())
+}
+
+pub fn put_value(out: &mut Vec<u8>, value: Value) -> Result<(), NoMemory>
+    ensures { IfOk result (λ _. out.new.items ≡ out.old.items ++ signed_decimal value) }
+{
+    out.extend_from_slice(Buffer::new().format(value.get()).as_bytes())?;
+    Ok(())
+}
+
+/// A line for each key of a store.
+pub fn put_entries(out: &mut Vec<u8>, entries: &[(Key, Value)]) -> Result<(), NoMemory>
+    ensures { IfOk result (λ _. out.new.items ≡ out.old.items ++ lines_text (map store_words entries.now)) }
+{
+    for (key, value) in entries {
+        out.extend_from_slice(key.bytes())?;
+        out.push(b' ')?;
+        put_value(out, *value)?;
+        out.push(b'\n')?;
+    }
+    Ok(())
+}
+
+/// The one text of the document. Its time and memory grow with the length of the text.
+pub fn print_doc(alloc: Global, doc: &Doc) -> Result<Vec<u8>, NoMemory>
+    ensures { IfOk result (λ text. text.items ≡ print_doc doc.now) }
+{
+    let mut out = Vec::new(alloc);
+    out.extend_from_slice(match doc.edition() {
+        Edition::One => b"log 1\n",
+        Edition::Two => b"log 2\n",
+    })?;
+    put_entries(&mut out, doc.store())?;
+    put_log(&mut out, doc.log())?;
+    Ok(out)
+}

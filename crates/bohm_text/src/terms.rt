@@ -1,0 +1,90 @@
+//! The terms of a sum, word by word.
+
+ghost use Rattle.std.specs.Prelude.{◌≡◌};
+ghost use Rattle.bohm_text.specs.Reading.{atom_of, first_of, sign_of, further_of, cmp_of, stop_of};
+
+use crate::numbers::read_lit;
+use crate::sums::Stop;
+use bohm_tree::{Atom, Cmp, Key, Term};
+
+#[tactic(auto, unfolding(crate::specs::Reading::atom_of))]
+fn read_atom(word: &[u8]) -> Option<Atom>
+    ensures { result ≡ atom_of word.now }
+{
+    match word {
+        [] => None,
+        [b'$', name @ ..] => Some(Atom::Local(Key::new(name)?)),
+        [first, ..] => {
+            if first.is_ascii_digit() {
+                Some(Atom::Lit(read_lit(word)?))
+            } else {
+                Some(Atom::Read(Key::new(word)?))
+            }
+        }
+    }
+}
+
+/// The first term, its sign at the atom.
+#[tactic(auto, unfolding(crate::specs::Reading::first_of))]
+pub fn read_first(word: &[u8]) -> Option<Term>
+    ensures { result ≡ first_of word.now }
+{
+    match word {
+        [] => None,
+        [b'-', atom @ ..] => Term::new(true, read_atom(atom)?),
+        _ => Term::new(false, read_atom(word)?),
+    }
+}
+
+/// Whether a word between two terms is a minus.
+#[tactic(auto, unfolding(crate::specs::Reading::sign_of))]
+pub fn read_sign(word: &[u8]) -> Option<bool>
+    ensures { result ≡ sign_of word.now }
+{
+    if word == b"-".as_slice() {
+        Some(true)
+    } else if word == b"+".as_slice() {
+        Some(false)
+    } else {
+        None
+    }
+}
+
+/// A term whose sign was read.
+#[tactic(auto, unfolding(crate::specs::Reading::further_of))]
+pub fn read_further(minus: bool, word: &[u8]) -> Option<Term>
+    ensures { result ≡ further_of minus word.now }
+{
+    Term::new(minus, read_atom(word)?)
+}
+
+#[tactic(auto, unfolding(crate::specs::Reading::cmp_of))]
+fn read_cmp(word: &[u8]) -> Option<Cmp>
+    ensures { result ≡ cmp_of word.now }
+{
+    if word == b"<".as_slice() {
+        Some(Cmp::Lt)
+    } else if word == b"<=".as_slice() {
+        Some(Cmp::Le)
+    } else if word == b"=".as_slice() {
+        Some(Cmp::Eq)
+    } else if word == b">=".as_slice() {
+        Some(Cmp::Ge)
+    } else if word == b">".as_slice() {
+        Some(Cmp::Gt)
+    } else {
+        None
+    }
+}
+
+/// The word that ends a sum.
+#[tactic(auto, unfolding(crate::specs::Reading::stop_of))]
+pub fn read_stop(word: &[u8]) -> Option<Stop>
+    ensures { result ≡ stop_of word.now }
+{
+    if word == b"when".as_slice() {
+        Some(Stop::When)
+    } else {
+        Some(Stop::Compared(read_cmp(word)?))
+    }
+}

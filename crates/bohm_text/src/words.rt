@@ -1,0 +1,73 @@
+//! The words of a line.
+
+ghost use Rattle.std.specs.Prelude.{◌≡◌, List, ◌∷◌, [], MatchOption, IfSome, ◌==◌, ◌<◌, length};
+ghost use Rattle.std.specs.List.{position_from};
+ghost use Rattle.bohm_text.specs.Cut.{split};
+
+use std::marker::Model;
+
+/// What is left of a line: its words, with a space between two of them.
+#[derive(Drop)]
+pub struct Words<'a> {
+    rest: Option<&'a [u8]>,
+}
+
+impl<'a> Model for Words<'a> {
+    ghost use Rattle.std.specs.Prelude.{List, ℕ};
+
+    ghost Value = { List (List ℕ) };
+
+    ghost use Rattle.bohm_text.specs.WordsInside.{words_of};
+
+    ghost view = { words_of };
+}
+
+fn space_in(bytes: &[u8]) -> Option<usize>
+    ensures first { result ≡ position_from (λ byte. byte == 32) 0 bytes.now }
+    ensures inside { IfSome result (λ at. at < length bytes.now) }
+{
+    bytes.iter().position(|byte| *byte == b' ')
+}
+
+fn spaces_in(bytes: &[u8]) -> usize {
+    bytes.iter().filter(|byte| **byte == b' ').count()
+}
+
+impl<'a> Words<'a> {
+    pub fn of(line: &'a [u8]) -> Words<'a>
+        ensures { result ≡ split 32 line.now }
+    {
+        Words { rest: Some(line) }
+    }
+
+    /// The same words, to be read apart.
+    pub fn fork(&self) -> Words<'a>
+        ensures { result ≡ self.now }
+    {
+        Words { rest: self.rest }
+    }
+
+    pub fn next(&mut self) -> Option<&'a [u8]>
+        ensures { MatchOption result ((self.old ≡ []) × (self.new ≡ [])) (λ word. self.old ≡ word.now ∷ self.new) }
+    {
+        let rest = self.rest?;
+        match space_in(rest) {
+            None => {
+                self.rest = None;
+                Some(rest)
+            }
+            Some(at) => {
+                self.rest = Some(&rest[at + 1..]);
+                Some(&rest[..at])
+            }
+        }
+    }
+
+    /// How many words are left.
+    pub fn count(&self) -> usize {
+        match self.rest {
+            None => 0,
+            Some(rest) => spaces_in(rest).saturating_add(1),
+        }
+    }
+}

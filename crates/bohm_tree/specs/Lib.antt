@@ -1,0 +1,6 @@
+pub mod Name
+pub mod KeyInside
+pub mod Shape
+pub mod Parts
+pub mod Document
+pub mod Sound

@@ -1,0 +1,20 @@
+//! The tree of a document: keys, values, sums, statements, transactions and the log.
+#![tactic(auto)]
+
+mod cell;
+mod doc;
+mod items;
+mod key;
+mod memory;
+mod stmt;
+mod term;
+mod txn;
+
+pub use cell::{Cell, Value};
+pub use doc::Doc;
+pub use items::Items;
+pub use key::Key;
+pub use memory::NoMemory;
+pub use stmt::{Cmp, Cond, Stmt};
+pub use term::{Atom, GREATEST_LITERAL, Sum, Term};
+pub use txn::{Edition, Txn};

@@ -1,0 +1,21 @@
+//! Transactions.
+
+use crate::items::Items;
+use crate::key::Key;
+use crate::stmt::Stmt;
+
+/// Whether a body sees its own writes: in edition two it does.
+#[derive(Clone, Copy, Debug, PartialEq, Eq)]
+pub enum Edition {
+    One,
+    Two,
+}
+
+/// A transaction: the keys that it declares to read and to write, and its body.
+#[derive(Debug, Drop)]
+pub struct Txn {
+    pub edition: Edition,
+    pub reads: Items<Key>,
+    pub writes: Items<Key>,
+    pub body: Items<Stmt>,
+}

@@ -1,0 +1,65 @@
+-- Rising keys differ from one another.
+use Rattle.std.proofs.Common.{◌≡◌, ℕ, Bool, true, false, List, [], ◌∷◌, refl, ap, sym, ◌∙◌, subst}
+use Rattle.std.specs.Prelude.{◌&&◌, ◌||◌}
+use Rattle.std.specs.Cmp.{tied_itself}
+use Rattle.std.specs.Cmp.Lexicographic.{slice_cmp, nat_list_cmp_total}
+use Rattle.std.specs.List.{list_any}
+use Rattle.std.specs.Ordering.{nat_cmp, is_lt}
+use Rattle.std.specs.Str.{bytes_eq}
+use Rattle.std.specs.declared.cmp.Ordering.{Ordering}
+use Rattle.std.specs.declared.cmp.Ordering.TheVariants.{Less, Equal, Greater}
+use Rattle.bohm_txn.specs.Declares.{IsAmong}
+use Rattle.bohm_txn.specs.Faulty.{rising, rises_from}
+use Rattle.bohm_txn.proofs.Bodies.{same_key, key_itself}
+
+pub other_key : (x k : List ℕ) → bytes_eq x k ≡ false → bytes_eq k x ≡ false
+other_key x k e =
+    elim (bytes_eq k x) as (λ b. bytes_eq k x ≡ b → b ≡ false) [
+      | true ↦ λ h. absurd (let same : bytes_eq x k ≡ true = subst (λ y. bytes_eq x y ≡ true) (sym (same_key k x h)) (key_itself x) in cc)
+      | false ↦ λ h. refl
+    ] refl
+
+pub among_more : (x k : List ℕ) (xs : List (List ℕ)) → bytes_eq x k ≡ false → IsAmong (x ∷ xs) k → IsAmong xs k
+among_more x k xs e among = subst (λ b. (b || list_any (λ y. bytes_eq y k) xs) ≡ true) e among
+
+pub among_first : (x k : List ℕ) (xs : List (List ℕ)) → bytes_eq x k ≡ true → IsAmong (x ∷ xs) k
+among_first x k xs e = rw e refl
+
+pub among_then : (x k : List ℕ) (xs : List (List ℕ)) → IsAmong xs k → IsAmong (x ∷ xs) k
+among_then x k xs among =
+    elim (bytes_eq x k) as (λ b. (b || list_any (λ y. bytes_eq y k) xs) ≡ true) [ true ↦ refl | false ↦ among ]
+
+-- no key stands twice
+abbrev pub AllApart : List (List ℕ) → Type 0
+AllApart [] = Unit {0}
+AllApart (x ∷ xs) = (¬ IsAmong xs x) × AllApart xs
+
+both : (a b : Bool) → (a && b) ≡ true → (a ≡ true) × (b ≡ true)
+both true b e = (refl, e)
+both false b e = absurd cc
+
+less : (o : Ordering) → is_lt o ≡ true → o ≡ Less
+less Less e = refl
+less Equal e = absurd cc
+less Greater e = absurd cc
+
+below_all : (k : List ℕ) (ks : List (List ℕ)) → rises_from k ks ≡ true → (q : List ℕ) → IsAmong ks q → slice_cmp nat_cmp k q ≡ Less
+below_all k [] e q among = absurd cc
+below_all k (n ∷ ns) e q among =
+    let (first, rest) = both (is_lt (slice_cmp nat_cmp k n)) (rises_from n ns) e in
+    let here : slice_cmp nat_cmp k n ≡ Less = less (slice_cmp nat_cmp k n) first in
+    elim (bytes_eq n q) as (λ b. bytes_eq n q ≡ b → slice_cmp nat_cmp k q ≡ Less) [
+      | true ↦ λ h. subst (λ y. slice_cmp nat_cmp k y ≡ Less) (same_key n q h) here
+      | false ↦ λ h. nat_list_cmp_total.trans k n q here (below_all n ns rest q (among_more n q ns h among))
+    ] refl
+
+not_less : (k : List ℕ) → ¬ (slice_cmp nat_cmp k k ≡ Less)
+not_less k e = let tied : slice_cmp nat_cmp k k ≡ Equal = tied_itself nat_list_cmp_total k in cc
+
+apart_from : (k : List ℕ) (ks : List (List ℕ)) → rises_from k ks ≡ true → AllApart (k ∷ ks)
+apart_from k [] e = (λ among. cc, tt)
+apart_from k (n ∷ ns) e = (λ among. not_less k (below_all k (n ∷ ns) e k among), apart_from n ns (both (is_lt (slice_cmp nat_cmp k n)) (rises_from n ns) e).1)
+
+pub rising_apart : (ks : List (List ℕ)) → rising ks ≡ true → AllApart ks
+rising_apart [] e = tt
+rising_apart (k ∷ ks) e = apart_from k ks e

@@ -1,0 +1,16 @@
+pub mod Searches
+pub mod FirstLaw
+pub mod UseLaws
+pub mod Rises
+pub mod Passing
+pub mod Lookups
+pub mod BodyLaw
+pub mod Bodies
+pub mod States
+pub mod Apart
+pub mod Tracking
+pub mod SureLaws
+pub mod Stores
+pub mod Answering
+pub mod LiteralLaws
+pub mod Totals

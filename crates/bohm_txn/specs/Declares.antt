@@ -1,0 +1,55 @@
+-- What a transaction declares, and what its statements read and write.
+use Rattle.std.specs.Prelude.{◌≡◌, ℕ, ◌≤◌, List, Bool, true, ◌⊎◌, count_by, length, Option, Some, None}
+use Rattle.std.specs.List.{AllByRecursion}
+use Rattle.bohm_tree.specs.declared.stmt.Stmt.{Stmt}
+use Rattle.bohm_tree.specs.declared.term.Atom.{Atom}
+use Rattle.bohm_tree.specs.declared.term.Atom.TheVariants.{Lit, Read, Local}
+use Rattle.bohm_tree.specs.declared.txn.Txn.{Txn}
+use Rattle.bohm_tree.specs.Parts.{sums, tested, target, is_show}
+use Rattle.bohm_txn.specs.Faulty.{is_among}
+
+-- the key is one of these
+abbrev pub IsAmong : List (List ℕ) → List ℕ → Type 0
+IsAmong keys k = is_among keys k ≡ true
+
+-- the transaction declares to read or to write the key
+abbrev pub Declares : Txn → List ℕ → Type 0
+Declares t k = IsAmong t.reads k ⊎ IsAmong t.writes k
+
+abbrev pub OnSomeKey : (List ℕ → Type 0) → Option (List ℕ) → Type 0
+OnSomeKey P None = Unit {0}
+OnSomeKey P (Some k) = P k
+
+-- P holds of each key that is read
+abbrev pub AtomReads : (List ℕ → Type 0) → Atom → Type 0
+AtomReads P (Lit n) = Unit {0}
+AtomReads P (Read k) = P k
+AtomReads P (Local x) = Unit {0}
+
+abbrev pub SumReads : (List ℕ → Type 0) → List (Bool × Atom) → Type 0
+SumReads P sum = AllByRecursion (λ t. AtomReads P t.1) sum
+
+abbrev pub StmtReads : (List ℕ → Type 0) → Stmt → Type 0
+StmtReads P s = AllByRecursion (SumReads P) (sums s) × OnSomeKey P (tested s)
+
+-- P holds of the key that is written
+abbrev pub StmtWrites : (List ℕ → Type 0) → Stmt → Type 0
+StmtWrites P s = OnSomeKey P (target s)
+
+-- each sum has at most 16 terms
+abbrev pub AllShort : Stmt → Type 0
+AllShort s = AllByRecursion (λ sum. length sum ≤ 16) (sums s)
+
+-- how many values a commit shows
+abbrev pub shows_in : List Stmt → ℕ
+shows_in body = count_by is_show body
+
+-- what a well-formed transaction keeps
+pub record IsUsable (t : Txn) : Type 0 where
+  pub few_stmts : length t.body ≤ 64
+  pub few_reads : length t.reads ≤ 16
+  pub few_writes : length t.writes ≤ 16
+  pub few_shows : shows_in t.body ≤ 16
+  pub short : AllByRecursion AllShort t.body
+  pub reads : AllByRecursion (StmtReads (IsAmong t.reads)) t.body
+  pub writes : AllByRecursion (StmtWrites (IsAmong t.writes)) t.body

@@ -1,0 +1,12 @@
+pub mod Computing
+pub mod Faulty
+pub mod FirstFault
+pub mod Declares
+pub mod Meaning
+pub mod Serial
+pub mod Stores
+pub mod Sure
+pub mod Results
+pub mod Room
+pub mod Tables
+pub mod Literals

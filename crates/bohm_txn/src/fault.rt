@@ -1,0 +1,25 @@
+//! What the check refuses a document for.
+
+/// The kinds of faults, in the order in which one place's are answered.
+#[derive(Clone, Copy, Debug, PartialEq, Eq)]
+pub enum CheckKind {
+    /// The store's keys, or a transaction's reads or writes, don't strictly rise.
+    Order,
+    /// A statement reads or tests a key that is not among the reads.
+    Unread,
+    /// A statement writes a key that is not among the writes.
+    Unwritten,
+    /// A statement reads a local that no earlier one binds, or binds a name that an earlier one binds.
+    Local,
+    /// A log has over 1,000,000 transactions, a transaction over 64 statements or 16 reads, writes or
+    /// shown values, or a sum over 16 terms.
+    Limit,
+}
+
+/// A document's first fault: transaction 0 is the document as a whole, statement 0 a transaction's.
+#[derive(Clone, Copy, Debug, PartialEq, Eq)]
+pub struct CheckFault {
+    pub txn: u32,
+    pub stmt: u32,
+    pub kind: CheckKind,
+}

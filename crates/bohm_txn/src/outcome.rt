@@ -1,0 +1,33 @@
+//! How a transaction ends.
+
+use bohm_tree::{Items, Value};
+
+/// Why a transaction aborts.
+#[derive(Clone, Copy, Debug, PartialEq, Eq)]
+pub enum Reason {
+    /// A comparison is false, or a key is missing or there that must not be.
+    Need,
+    /// The body says so.
+    Fail,
+    /// A sum reads a missing key.
+    Absent,
+    /// A sum's total is no value.
+    Range,
+}
+
+/// Whether a transaction took effect.
+#[derive(Clone, Copy, Debug, PartialEq, Eq)]
+pub enum Outcome {
+    Commit,
+    /// The first statement that fails, counted from 1, and why it does.
+    Abort { reason: Reason, stmt: u32 },
+}
+
+/// What a transaction answers.
+#[derive(Debug, Drop)]
+pub enum Reply {
+    /// The shown values, in the order of the statements.
+    Commit { shows: Items<Value> },
+    /// The first statement that fails, counted from 1, and why it does.
+    Abort { reason: Reason, stmt: u32 },
+}

@@ -1,0 +1,75 @@
+//! A list with room made before.
+
+ghost use Rattle.std.specs.Prelude.{◌≡◌, ◌<◌, ◌≤◌, List, [], ◌∷◌, ◌++◌, length, IfOk, slice_set};
+
+use std::alloc::{AllocError, Global};
+use std::marker::Model;
+
+/// Values, and room for some number of them.
+#[derive(Debug, Drop)]
+pub struct Room<T> {
+    values: Vec<T>,
+    limit: usize,
+}
+
+impl<T> Model for Room<T> {
+    ghost use Rattle.std.specs.Prelude.{ℕ, List, ◌≤◌, vec_capacity};
+
+    ghost Value = { List T × ℕ };
+
+    ghost view = { λ r. (r.values.items, r.limit) };
+
+    ghost invariant = { λ r. r.limit ≤ vec_capacity r.values };
+}
+
+impl<T> Room<T> {
+    pub fn new(alloc: Global, limit: usize) -> Result<Room<T>, AllocError>
+        ensures { IfOk result (λ room. room ≡ ([], limit)) }
+    {
+        let values = Vec::with_capacity(alloc, limit)?;
+        Ok(Room { values, limit })
+    }
+
+    pub fn push(&mut self, value: T)
+        requires { length self.old.0 < self.old.1 }
+        ensures { self.new ≡ (self.old.0 ++ value ∷ [], self.old.1) }
+    {
+        self.values.push_reserved(value);
+    }
+
+    pub fn set(&mut self, index: usize, value: T)
+    where
+        T: Drop,
+        requires { index < length self.old.0 }
+        ensures { self.new ≡ (slice_set self.old.0 index value, self.old.1) }
+    {
+        self.values[index] = value;
+    }
+
+    pub fn clear(&mut self)
+    where
+        T: Drop,
+        ensures { self.new ≡ ([], self.old.1) }
+    {
+        self.values.clear();
+    }
+
+    /// Puts these values in place of those that it holds.
+    pub fn copy_from(&mut self, values: &[T])
+    where
+        T: Copy + Drop,
+        requires { length values.now ≤ self.old.1 }
+        ensures { self.new ≡ (values.now, self.old.1) }
+    {
+        self.values.clear();
+        for value in values {
+            self.values.push_reserved(*value);
+        }
+    }
+
+    pub fn as_slice(&self) -> &[T]
+        ensures { result.now ≡ self.now.0 }
+    {
+        self.values.as_slice()
+    }
+}

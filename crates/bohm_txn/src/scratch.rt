@@ -1,0 +1,81 @@
+//! Evaluating a transaction.
+
+ghost use Rattle.std.specs.Prelude.{◌≡◌, [], length, map, IfOk};
+ghost use Rattle.bohm_txn.specs.Faulty.{IsWellFormedTxn};
+ghost use Rattle.bohm_txn.specs.Meaning.{Look, body};
+ghost use Rattle.bohm_txn.specs.Serial.{outcome_of, shows_of, after};
+ghost use Rattle.bohm_txn.specs.Sure.{IsSure};
+
+use crate::outcome::Outcome;
+use crate::work::Work;
+use bohm_tree::{Cell, NoMemory, Txn, Value};
+use std::alloc::Global;
+use std::marker::Model;
+
+/// Room for the evaluation of any well-formed transaction, and what the last one left.
+#[derive(Debug, Drop)]
+pub struct Scratch {
+    work: Work,
+}
+
+impl Model for Scratch {
+    ghost use Rattle.bohm_txn.specs.Results.{Results};
+    ghost use Rattle.bohm_txn.specs.Room.{IsRoomy};
+
+    ghost Value = { Results };
+
+    ghost view = { λ s. record { cells = s.work.cells.0; shows = s.work.shows.0 } };
+
+    ghost invariant = { λ s. IsRoomy s.work };
+}
+
+impl Scratch {
+    /// A scratch that shows nothing yet.
+    pub fn new(alloc: Global) -> Result<Scratch, NoMemory>
+        ensures cells { IfOk result (λ scratch. scratch.cells ≡ []) }
+        ensures shows { IfOk result (λ scratch. scratch.shows ≡ []) }
+    {
+        Ok(Scratch {
+            work: Work::new(alloc)?,
+        })
+    }
+
+    /// One cell for each declared write of the transaction that was evaluated last.
+    pub fn cells(&self) -> &[Cell]
+        ensures { result.now ≡ self.now.cells }
+    {
+        self.work.cells.as_slice()
+    }
+
+    /// The values that it shows, in the order of its statements.
+    pub fn shows(&self) -> &[Value]
+        ensures { result.now ≡ self.now.shows }
+    {
+        self.work.shows.as_slice()
+    }
+}
+
+/// Runs a transaction over any store in which its declared reads have the cells `reads` and, unless
+/// it is sure, its declared writes have the cells `earlier`. It leaves in the scratch the cells of
+/// the declared writes after the transaction, and the shown values. It allocates nothing. Its time
+/// grows with the terms of the body, times the declared keys or the locals that each is sought among.
+pub fn eval(txn: &Txn, reads: &[Cell], earlier: &[Cell], scratch: &mut Scratch) -> Outcome
+    requires well { IsWellFormedTxn txn.now }
+    requires reads { length txn.now.reads ≡ length reads.now }
+    requires earlier { length txn.now.writes ≡ length earlier.now }
+    ensures outcome { (look : Look) → map look txn.now.reads ≡ reads.now → outcome_of (body look txn.now) ≡ result }
+    ensures shows { (look : Look) → map look txn.now.reads ≡ reads.now → shows_of (body look txn.now) ≡ scratch.new.shows }
+    ensures cells { (look : Look) → map look txn.now.reads ≡ reads.now → map look txn.now.writes ≡ earlier.now → map (after look txn.now) txn.now.writes ≡ scratch.new.cells }
+    ensures sure { IsSure txn.now → (look : Look) → map look txn.now.reads ≡ reads.now → map (after look txn.now) txn.now.writes ≡ scratch.new.cells }
+{
+    match scratch.work.run(txn, reads, earlier) {
+        Ok(()) => Outcome::Commit,
+        Err((reason, stmt)) => {
+            scratch.work.take_back(earlier);
+            Outcome::Abort { reason, stmt }
+        }
+    }
+}
+
+#[cfg(test)]
+mod tests;
