@@ -33,7 +33,8 @@ pub fn read_all<R: Read>(alloc: Global, reader: &mut R) -> Result<Vec<u8>, RunFa
         if count == 0 {
             return Ok(text);
         }
-        text.extend_from_slice(&buffer[..count]).map_err(NoMemory::from)?;
+        text.extend_from_slice(&buffer[..count])
+            .map_err(NoMemory::from)?;
     }
     Err(RunFault::TooLong)
 }

@@ -4,6 +4,8 @@
 mod bytes;
 mod fault;
 mod fault_line;
+#[cfg(test)]
+mod rows;
 mod running;
 mod settings;
 

@@ -41,7 +41,12 @@ impl Settings {
     ) -> Option<Settings>
         ensures { result ≡ settings_of cc exec parts batch keep at }
     {
-        let is_plain = cc == 1 && exec == 1 && parts == 1 && batch == 4096 && keep == 0 && at.is_none();
+        let is_plain = cc == 1
+            && exec == 1
+            && parts == 1
+            && batch == 4096
+            && keep == 0
+            && at.is_none();
         is_plain.then_some(Settings {
             cc,
             exec,

@@ -37,9 +37,9 @@ newest_taken look (x ∷ xs) k before h =
 
 either : (keys : List (List ℕ)) (k : List ℕ) (P : Type 0) → (¬ IsAmong keys k → P) → P ⊎ IsAmong keys k
 either keys k P none = elim (is_among keys k) as (λ b. is_among keys k ≡ b → P ⊎ IsAmong keys k) [
-    | true ↦ λ e. inr e
-    | false ↦ λ e. inl (none (λ h. cc))
-  ] refl
+  | true ↦ λ e. inr e
+  | false ↦ λ e. inl (none (λ h. cc))
+] refl
 
 -- to put the cells of the declared writes is to put the writes that count
 pub put_all-cells : (s : Store) (t : Txn) → IsWellFormedTxn t → put_all s (zip t.writes (map (after (cell_in s) t) t.writes)) ≡ put_all s (writes_of (body (cell_in s) t))

@@ -74,12 +74,7 @@ impl Desk {
 }
 
 /// Runs one transaction over the store.
-fn execute(
-    alloc: Global,
-    store: &mut Store,
-    desk: &mut Desk,
-    txn: &Txn,
-) -> Result<Reply, NoMemory>
+fn execute(alloc: Global, store: &mut Store, desk: &mut Desk, txn: &Txn) -> Result<Reply, NoMemory>
     requires { IsWellFormedTxn txn.now }
     ensures reply { IfOk result (λ reply. reply ≡ reply_of (body (cell_in store.old) txn.now)) }
     ensures store { OnOk result (store.new ≡ put_all store.old (writes_of (body (cell_in store.old) txn.now))) }
@@ -87,17 +82,18 @@ fn execute(
     let (reads, writes) = (txn.reads.as_slice(), txn.writes.as_slice());
     look_up(store, reads, &mut desk.reads)?;
     look_up(store, writes, &mut desk.earlier)?;
-    let outcome = eval(txn, desk.reads.as_slice(), desk.earlier.as_slice(), &mut desk.scratch);
+    let outcome = eval(
+        txn,
+        desk.reads.as_slice(),
+        desk.earlier.as_slice(),
+        &mut desk.scratch,
+    );
     put_cells(store, writes, desk.scratch.cells())?;
     reply(alloc, outcome, desk.scratch.shows())
 }
 
 /// Runs the transactions, one after another.
-fn execute_all(
-    alloc: Global,
-    store: &mut Store,
-    log: &[Txn],
-) -> Result<Vec<Reply>, NoMemory>
+fn execute_all(alloc: Global, store: &mut Store, log: &[Txn]) -> Result<Vec<Reply>, NoMemory>
     requires { All IsWellFormedTxn log.now }
     ensures replies { IfOk result (λ list. list.items ≡ replies (cell_in store.old) log.now) }
     ensures store { OnOk result (store.new ≡ store_after store.old log.now) }

@@ -1,11 +1,9 @@
--- Conditions and guards, from the sums that they are made of.
-use Rattle.std.proofs.Common.{◌≡◌, ℕ, Bool, List, Some, None, refl, ap, sym, ◌∙◌}
-use Rattle.std.specs.Prelude.{Option, Result, Ok, Err}
+-- Conditions, from the sums that they are made of.
+use Rattle.std.proofs.Common.{◌≡◌, Bool, List, Some, None, refl, ap, ◌∙◌}
+use Rattle.std.specs.Prelude.{Option}
 use Rattle.bohm_tree.specs.declared.term.Atom.{Atom}
 use Rattle.bohm_tree.specs.declared.stmt.Cmp.{Cmp}
 use Rattle.bohm_tree.specs.declared.stmt.Cond.{Cond}
-use Rattle.bohm_tree.specs.declared.stmt.Stmt.{Stmt}
-use Rattle.bohm_tree.specs.declared.stmt.Stmt.TheVariants.{Put}
 use Rattle.bohm_text.specs.declared.fault.ReadFault.{ReadFault}
 use Rattle.bohm_text.specs.declared.fault.ReadFault.TheVariants.{Bad, NoMemory}
 use Rattle.bohm_text.specs.declared.sums.Stop.{Stop}
@@ -13,10 +11,8 @@ use Rattle.bohm_text.specs.declared.sums.Stop.TheVariants as stops
 use Rattle.bohm_text.specs.declared.sums.SumText.{SumText}
 use Rattle.bohm_text.specs.declared.conditions.CondText.{CondText}
 use Rattle.bohm_text.specs.Print.{Words}
-use Rattle.bohm_text.specs.Reading.{◌>>=◌, Fails, Ending, End, When, Compared, ending, sum_from, last_sum, right_side, cond_of, guarded, assigned_of}
+use Rattle.bohm_text.specs.Reading.{◌>>=◌, Fails, Ending, End, When, Compared, ending, sum_from, last_sum, right_side, cond_of}
 use Rattle.bohm_text.specs.SumText.{sum_in, with_ending, cond_in}
-
--- ---- conditions
 
 pub cond_none : (words : Words) → sum_from words ≡ None → cond_of words ≡ None
 unfolding cond_of
@@ -79,65 +75,3 @@ pub cond_not_right : (text : CondText) (left : List (Bool × Atom)) (fault : Rea
 unfolding cond_in
 cond_not_right text left Bad l e = rw (l, e) refl
 cond_not_right text left NoMemory l e = tt
-
--- ---- guards
-
--- the statement of a sum and what stands after it
-assigned_after : List ℕ → Option (List (Bool × Atom)) → Ending → Option Stmt
-assigned_after key read End = read >>= λ sum. Some (Put key sum None)
-assigned_after key read (When words) = read >>= λ sum. cond_of words >>= λ cond. Some (Put key sum (Some cond))
-assigned_after key read (Compared cmp words) = None
-
-guarded-with : (key : List ℕ) (read : Option (List (Bool × Atom))) (end : Ending) → (with_ending read end >>= guarded key) ≡ assigned_after key read end
-unfolding assigned_after
-guarded-with key None End = refl
-guarded-with key None (When words) = refl
-guarded-with key None (Compared cmp words) = refl
-guarded-with key (Some sum) End = refl
-guarded-with key (Some sum) (When words) = refl
-guarded-with key (Some sum) (Compared cmp words) = refl
-
-assigned_of-with : (key : List ℕ) (words : Words) (read : Option (List (Bool × Atom))) (end : Ending) → sum_from words ≡ with_ending read end → assigned_of key words ≡ assigned_after key read end
-assigned_of-with key words read end e = rw e (guarded-with key read end)
-
-pub assigned_none : (key : List ℕ) (words : Words) → sum_from words ≡ None → assigned_of key words ≡ None
-assigned_none key words e = rw e refl
-
-no_guard : (key : List ℕ) (read : Option (List (Bool × Atom))) → (read >>= λ sum. None >>= λ (cond : Cond). Some (Put key sum (Some cond))) ≡ None
-no_guard key None = refl
-no_guard key (Some sum) = refl
-
-module _ (key : List ℕ) (words rest : Words) (text : SumText) (found : sum_from words ≡ with_ending (sum_in text) (ending text.stop rest)) where
-  assigned_at : (stop : Stop) → text.stop ≡ stop → assigned_of key words ≡ assigned_after key (sum_in text) (ending stop rest)
-  assigned_at stop e = assigned_of-with key words (sum_in text) (ending text.stop rest) found ∙ ap (λ (s : Stop). assigned_after key (sum_in text) (ending s rest)) e
-
-  pub plain : (sum : List (Bool × Atom)) → text.stop ≡ stops.End → sum_in text ≡ Some sum → assigned_of key words ≡ Some (Put key sum None)
-  unfolding assigned_after
-  plain sum e is = assigned_at stops.End e ∙ rw is refl
-
-  pub plain_not : (fault : ReadFault) → text.stop ≡ stops.End → Fails fault (sum_in text) → Fails fault (assigned_of key words)
-  unfolding assigned_after
-  plain_not Bad e is = assigned_at stops.End e ∙ rw is refl
-  plain_not NoMemory e is = tt
-
-  pub guard_bad : text.stop ≡ stops.When → cond_of rest ≡ None → assigned_of key words ≡ None
-  unfolding assigned_after
-  guard_bad e none = assigned_at stops.When e ∙ rw none (no_guard key (sum_in text))
-
-  pub guard_found : (sum : List (Bool × Atom)) (cond : Cond) → text.stop ≡ stops.When → cond_of rest ≡ Some cond → sum_in text ≡ Some sum → assigned_of key words ≡ Some (Put key sum (Some cond))
-  unfolding assigned_after
-  guard_found sum cond e c s = assigned_at stops.When e ∙ rw (s, c) refl
-
-  pub guard_no_sum : (fault : ReadFault) → text.stop ≡ stops.When → Fails fault (sum_in text) → Fails fault (assigned_of key words)
-  unfolding assigned_after
-  guard_no_sum Bad e is = assigned_at stops.When e ∙ rw is refl
-  guard_no_sum NoMemory e is = tt
-
-  pub guard_no_cond : (sum : List (Bool × Atom)) (fault : ReadFault) → text.stop ≡ stops.When → sum_in text ≡ Some sum → Fails fault (cond_of rest) → Fails fault (assigned_of key words)
-  unfolding assigned_after
-  guard_no_cond sum Bad e s none = assigned_at stops.When e ∙ rw (s, none) refl
-  guard_no_cond sum NoMemory e s none = tt
-
-  pub compared : (cmp : Cmp) → text.stop ≡ stops.Compared cmp → assigned_of key words ≡ None
-  unfolding assigned_after
-  compared cmp e = assigned_at (stops.Compared cmp) e

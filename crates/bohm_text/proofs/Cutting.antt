@@ -1,10 +1,11 @@
 -- Words without a cut are found again.
-use Rattle.std.proofs.Common.{◌≡◌, ℕ, true, false, List, [], ◌∷◌, ◌++◌, refl, ap, ◌∙◌, append_assoc}
-use Rattle.std.specs.Prelude.{◌==◌}
+use Rattle.std.proofs.Common.{◌≡◌, ℕ, ◌+◌, ◌-◌, ◌<◌, true, false, cond, List, [], ◌∷◌, ◌++◌, length, arith, refl, ap, ◌∙◌, append_assoc}
+use Rattle.std.specs.Prelude.{◌==◌, count_by, Bool}
 use Rattle.std.proofs.lemmas.Bool.{eq-eqb}
 use Rattle.std.proofs.lemmas.List.{append-nil}
+use Rattle.std.proofs.lemmas.List.Recursion.{is_count_by}
 use Rattle.std.specs.List.{AllByRecursion}
-use Rattle.bohm_text.specs.Cut.{split, whole_lines}
+use Rattle.bohm_text.specs.Cut.{onto_first, split, whole_lines}
 use Rattle.bohm_text.specs.Print.{line_text, text_of}
 
 -- the byte does not stand in the part
@@ -37,3 +38,30 @@ pub lines_again : (lines : List (List ℕ)) → AllByRecursion (IsWithout 10) li
 unfolding whole_lines
 lines_again [] lacks = refl
 lines_again (l ∷ ls) lacks = ap whole_lines (append_assoc l (10 ∷ []) (text_of ls)) ∙ (line_again l (text_of ls) lacks.0 ∙ ap (λ (r : List (List ℕ)). l ∷ r) (lines_again ls lacks.1))
+
+length-onto_first : (b : ℕ) (parts : List (List ℕ)) → length (onto_first b parts) ≡ length parts
+length-onto_first b [] = refl
+length-onto_first b (part ∷ parts) = refl
+
+pub split-some : (c : ℕ) (bs : List ℕ) → 0 < length (split c bs)
+unfolding split
+split-some c [] = omega arith
+split-some c (b ∷ bs) =
+    let P : Bool → Type 0 = λ (t : Bool). 0 < length (cond t ([] ∷ split c bs) (onto_first b (split c bs))) in
+    elim (b == c) as P [ true ↦ omega arith | false ↦ omega (arith, split-some c bs, length-onto_first b (split c bs)) ]
+
+one_longer : (c b : ℕ) (bs : List ℕ) → length (split c (b ∷ bs)) - 1 ≡ cond (b == c) (1 + (length (split c bs) - 1)) (length (split c bs) - 1)
+unfolding split
+one_longer c b bs =
+    let P : Bool → Type 0 = λ (t : Bool). length (cond t ([] ∷ split c bs) (onto_first b (split c bs))) - 1 ≡ cond t (1 + (length (split c bs) - 1)) (length (split c bs) - 1) in
+    elim (b == c) as P [ true ↦ omega (arith, split-some c bs) | false ↦ omega (arith, length-onto_first b (split c bs)) ]
+
+no_cut : (c : ℕ) → length (split c []) - 1 ≡ 0
+unfolding split
+no_cut c = refl
+
+-- one part more than there are cuts
+pub length-split : (c : ℕ) (bs : List ℕ) → count_by (λ b. b == c) bs + 1 ≡ length (split c bs)
+length-split c bs =
+    let cuts : length (split c bs) - 1 ≡ count_by (λ b. b == c) bs = is_count_by (λ xs. length (split c xs) - 1) (λ b. b == c) (no_cut c) (one_longer c) bs in
+    omega (arith, cuts, split-some c bs)

@@ -9,17 +9,14 @@ use Rattle.bohm_tree.specs.Name.{key_of}
 use Rattle.bohm_tree.specs.Shape.{is_term, term_of}
 use Rattle.bohm_tree.specs.declared.term.Atom.{Atom}
 use Rattle.bohm_tree.specs.declared.term.Atom.TheVariants.{Lit, Read, Local}
-use Rattle.bohm_tree.specs.declared.stmt.Cmp.{Cmp}
-use Rattle.bohm_tree.specs.declared.stmt.Cmp.TheVariants.{Lt, Le, Eq, Ge, Gt}
 use Rattle.bohm_tree.specs.declared.stmt.Cond.{Cond}
 use Rattle.bohm_tree.specs.declared.stmt.Stmt.{Stmt}
 use Rattle.bohm_tree.specs.declared.stmt.Stmt.TheVariants.{Bind, Need, Has, Lacks, Put, Remove, Show, Fail}
 use Rattle.bohm_tree.specs.declared.txn.Txn.{Txn}
-use Rattle.bohm_tree.specs.declared.txn.Edition.TheVariants.{One, Two}
 use Rattle.bohm_text.specs.Cut.{split}
-use Rattle.bohm_text.specs.Reading.{◌>>=◌, digits_of, whole_of, lit_of, negative, number_of, atom_of, first_of, sign_of, further_of, cmp_of, stop_of, Ending, End, When, Compared, ending, Terms, stopped, longer, one_more, terms_of, sum_from, at_end, last_sum, keys_of, local_of, after, right_side, cond_of, guarded, assigned_of, bind_of, put_of, presence_of, need_of, remove_of, fail_of, stmt_of, entry_of}
+use Rattle.bohm_text.specs.Reading.{◌>>=◌, whole_of, lit_of, negative, number_of, atom_of, first_of, sign_of, further_of, stop_of, End, When, Compared, ending, Terms, stopped, longer, one_more, terms_of, sum_from, at_end, last_sum, keys_of, local_of, after, right_side, cond_of, guarded, assigned_of, bind_of, put_of, presence_of, need_of, remove_of, fail_of, stmt_of, entry_of}
 use Rattle.bohm_text.specs.Print.{Words}
-use Rattle.bohm_tree.specs.Sound.{IsName, IsAtom, IsTerm, IsSum, IsCond, IsGuard, IsStmt, IsNumber, IsEntry, IsTxn, IsDocument}
+use Rattle.bohm_tree.specs.Sound.{IsName, IsAtom, IsTerm, IsSum, IsCond, IsStmt, IsNumber, IsEntry, IsTxn, IsDocument}
 use Rattle.bohm_tree.specs.Document.{Document}
 use Rattle.bohm_text.specs.Step.{Progress, Nothing, Between, Opened, Reading, Body, begun, head_of, with_entry, with_txn, next_entry, after_between, after_body, step, steps}
 use Rattle.bohm_text.proofs.Takes.{bind_some, map_some, chosen, if_some, same_some, key_takes, local_takes, whole_takes, after_takes, longer_some, at_end_takes}

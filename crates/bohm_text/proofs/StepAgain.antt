@@ -1,5 +1,5 @@
 -- The lines of a document are read again.
-use Rattle.std.proofs.Common.{◌≡◌, ℕ, Bool, true, false, List, [], ◌∷◌, ◌++◌, map, Some, refl, ap, sym, ◌∙◌, arith, lit<, append_assoc}
+use Rattle.std.proofs.Common.{◌≡◌, ℕ, Bool, true, false, List, [], ◌∷◌, ◌++◌, map, Some, refl, ap, sym, ◌∙◌, arith, append_assoc}
 use Rattle.std.specs.Prelude.{ℤ, codes}
 use Rattle.std.specs.List.{flat_map, AllByRecursion}
 use Rattle.std.specs.Str.{bytes_eq}
@@ -14,7 +14,7 @@ use Rattle.bohm_text.specs.Print.{Words, line_text, stmt_words, store_words, txn
 use Rattle.bohm_text.specs.Cut.{split}
 use Rattle.bohm_text.specs.Reading.{keys_of, after}
 use Rattle.bohm_tree.specs.Sound.{IsName, IsStmt, IsEntry, IsTxn, IsDocument}
-use Rattle.bohm_text.specs.Step.{Progress, Nothing, Between, Opened, Reading, Body, begun, head_of, with_entry, with_txn, next_entry, after_between, after_body, step, steps}
+use Rattle.bohm_text.specs.Step.{Progress, Nothing, Between, Opened, Reading, Body, begun, head_of, with_txn, after_between, after_body, step, steps}
 use Rattle.bohm_text.specs.Front.{text_lines}
 use Rattle.bohm_text.proofs.Takes.{same_bytes}
 use Rattle.bohm_text.proofs.Again.{keys_again, entry_again, stmt_again}

@@ -15,16 +15,8 @@ use Rattle.bohm_text.specs.Cut.{onto_first, split}
 use Rattle.bohm_text.specs.Reading.{◌>>=◌, keys_of, after, stmt_of, entry_of}
 use Rattle.bohm_text.specs.Step.{Progress, Nothing, Between, Opened, Reading, Body, begun, head_of, with_entry, with_txn, next_entry, after_between, after_body, step, steps}
 use Rattle.bohm_text.specs.Front.{text_lines}
+use Rattle.bohm_text.proofs.Cutting.{split-some}
 use Rattle.bohm_text.proofs.Takes.{bind_some, chosen, if_some, same_some, same_bytes, keys_take, after_takes, stmt_takes, entry_takes}
-
-onto_first-some : (b : ℕ) (parts : List (List ℕ)) → 0 < length parts → 0 < length (onto_first b parts)
-onto_first-some b [] some = some
-onto_first-some b (p ∷ ps) some = omega arith
-
-split-some : (c : ℕ) (bs : List ℕ) → 0 < length (split c bs)
-unfolding split
-split-some c [] = omega arith
-split-some c (b ∷ bs) = elim (b == c) as (λ t. 0 < length (cond t ([] ∷ split c bs) (onto_first b (split c bs)))) [ true ↦ omega arith | false ↦ onto_first-some b (split c bs) (split-some c bs) ]
 
 spaced-some : (parts : List (List ℕ)) → 0 < length parts → spaced parts ≡ 32 ∷ line_text parts
 spaced-some [] some = absurd (omega arith)

@@ -1,6 +1,6 @@
 -- Further terms, one after the other.
-use Rattle.std.proofs.Common.{◌≡◌, ℕ, Bool, true, false, cond, List, [], ◌∷◌, ◌++◌, Some, None, refl, ap, sym, subst, ◌∙◌, append_assoc, inl, inr}
-use Rattle.std.specs.Prelude.{Option, Result, Ok, Err, codes}
+use Rattle.std.proofs.Common.{◌≡◌, ℕ, Bool, true, false, cond, List, [], ◌∷◌, ◌++◌, Some, None, refl, ap, sym, subst, ◌∙◌, append_assoc}
+use Rattle.std.specs.Prelude.{Option, Result, codes}
 use Rattle.std.specs.Option.{option_map, ok_or}
 use Rattle.std.specs.Str.{bytes_eq}
 use Rattle.std.proofs.lemmas.List.{append-nil}
@@ -13,7 +13,7 @@ use Rattle.bohm_text.specs.declared.sums.Stop.{Stop}
 use Rattle.bohm_text.specs.declared.sums.Stop.TheVariants as stops
 use Rattle.bohm_text.specs.declared.sums.SumText.{SumText}
 use Rattle.bohm_text.specs.Print.{Words}
-use Rattle.bohm_text.specs.Reading.{◌>>=◌, Fails, Gives, first_of, sign_of, further_of, cmp_of, stop_of, Ending, End, When, Compared, ending, Terms, stopped, longer, terms_of, GivesEnding, GivesTerms, sum_from, at_end, last_sum}
+use Rattle.bohm_text.specs.Reading.{◌>>=◌, Fails, Gives, first_of, sign_of, further_of, cmp_of, stop_of, Ending, End, When, Compared, ending, Terms, stopped, longer, terms_of, GivesEnding, sum_from, at_end, last_sum}
 use Rattle.bohm_text.specs.SumText.{sum_in, with_ending}
 
 -- ---- one term more, or the end

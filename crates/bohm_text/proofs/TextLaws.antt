@@ -1,7 +1,7 @@
 -- Each document has one text, and the first faulty line is the first that begins no document.
-use Rattle.std.proofs.Common.{◌≡◌, ℕ, ◌-◌, true, false, List, [], ◌∷◌, ◌++◌, map, take, Some, None, refl, ap, sym, subst, ◌∙◌, arith, lit<, append_assoc}
+use Rattle.std.proofs.Common.{◌≡◌, ℕ, ◌-◌, true, false, List, [], ◌∷◌, ◌++◌, take, Some, None, refl, ap, sym, subst, ◌∙◌, arith, append_assoc}
 use Rattle.std.specs.Prelude.{Option, codes, IsSome, ◌==◌}
-use Rattle.std.specs.List.{flat_map, list_all, AllByRecursion}
+use Rattle.std.specs.List.{list_all, AllByRecursion}
 use Rattle.std.proofs.lemmas.List.{append-nil}
 use Rattle.bohm_tree.specs.Document.{Document, same_edition, in_edition, document_of}
 use Rattle.bohm_tree.specs.declared.stmt.Stmt.{Stmt}
@@ -10,7 +10,7 @@ use Rattle.bohm_tree.specs.declared.txn.Edition.{Edition}
 use Rattle.bohm_tree.specs.declared.txn.Edition.TheVariants.{One, Two}
 use Rattle.bohm_text.specs.Print.{Words, line_text, spaced, text_of, doc_lines, print_doc}
 use Rattle.bohm_text.specs.Cut.{whole_lines}
-use Rattle.bohm_tree.specs.Sound.{IsName, IsStmt, IsEntry, IsTxn, IsDocument}
+use Rattle.bohm_tree.specs.Sound.{IsName, IsStmt, IsTxn, IsDocument}
 use Rattle.bohm_text.specs.Step.{Progress, Nothing, Between, Opened, Reading, Body, with_txn, steps}
 use Rattle.bohm_text.specs.Front.{text_lines, Front}
 use Rattle.bohm_text.specs.Faults.{IsFirstBadLine, IsShort}

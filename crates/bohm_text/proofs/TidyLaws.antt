@@ -1,13 +1,12 @@
 -- The text of a document is tidy.
-use Rattle.std.proofs.Common.{◌≡◌, ℕ, ◌<◌, Bool, true, false, List, [], ◌∷◌, ◌++◌, length, map, refl, ap, sym, subst, ◌∙◌, arith, append_assoc}
-use Rattle.std.specs.Prelude.{◌||◌, ◌==◌}
+use Rattle.std.proofs.Common.{◌≡◌, ℕ, ◌<◌, List, [], ◌∷◌, ◌++◌, map, refl, ap, sym, ◌∙◌, arith, append_assoc}
 use Rattle.std.specs.List.{flat_map, AllByRecursion}
 use Rattle.bohm_tree.specs.Document.{Document}
 use Rattle.bohm_tree.specs.Sound.{IsDocument}
 use Rattle.std.proofs.lemmas.List.{append-nil}
 use Rattle.bohm_text.specs.Print.{Words, spaced, line_text, lines_text, head_words, store_words, txn_lines, doc_lines, print_doc}
-use Rattle.bohm_text.specs.Tidy.{is_word_byte, IsTextByte, IsApart, AreApart, IsTidy}
-use Rattle.bohm_text.proofs.WordLaws.{All-append, is_word, IsWord, IsWordByte, word_bytes, word_byte-above, IsLine, doc_are_lines}
+use Rattle.bohm_text.specs.Tidy.{IsTextByte, IsApart, AreApart, IsTidy}
+use Rattle.bohm_text.proofs.WordLaws.{All-append, IsWord, IsWordByte, word_bytes, word_byte-above, IsLine, doc_are_lines}
 
 -- ---- bytes
 

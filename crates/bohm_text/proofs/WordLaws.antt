@@ -1,5 +1,5 @@
 -- No word has a space or a newline.
-use Rattle.std.proofs.Common.{◌≡◌, ℕ, suc, ◌^◌, ◌<◌, ◌≤◌, Bool, true, false, cond, List, [], ◌∷◌, ◌++◌, length, map, Some, None, refl, sym, subst, arith, lit<}
+use Rattle.std.proofs.Common.{◌≡◌, ℕ, suc, ◌^◌, ◌<◌, ◌≤◌, Bool, true, false, cond, List, [], ◌∷◌, ◌++◌, length, map, Some, None, refl, arith}
 use Rattle.std.specs.Prelude.{Option, ℤ, pos, negsuc, ◌&&◌, ◌||◌, ◌==◌, nat_le, codes}
 use Rattle.std.specs.List.{flat_map, list_all, AllByRecursion}
 use Rattle.std.specs.Char.{is_ascii_lowercase, is_ascii_digit}

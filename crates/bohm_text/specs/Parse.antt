@@ -1,5 +1,5 @@
 -- What reading a text gives.
-use Rattle.std.specs.Prelude.{◌≡◌, ◌≢◌, ℕ, ◌+◌, ◌-◌, ◌<◌, ◌≤◌, List, ◌==◌, take, length, Option, Some, None, Result, Ok, Err, IsSome}
+use Rattle.std.specs.Prelude.{◌≡◌, ◌≢◌, ℕ, ◌-◌, ◌<◌, ◌≤◌, List, ◌==◌, take, length, Option, Some, None, Result, Ok, Err, IsSome}
 use Rattle.std.specs.List.{position_from}
 use Rattle.bohm_tree.specs.Document.{Document}
 use Rattle.bohm_text.specs.declared.fault.TextFault.{TextFault}

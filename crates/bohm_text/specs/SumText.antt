@@ -1,5 +1,5 @@
 -- The sums and conditions that stand in a line.
-use Rattle.std.specs.Prelude.{◌≡◌, ℕ, List, ◌∷◌, Bool, Option, Some, None}
+use Rattle.std.specs.Prelude.{◌≡◌, List, ◌∷◌, Bool, Option, Some, None}
 use Rattle.bohm_tree.specs.declared.term.Atom.{Atom}
 use Rattle.bohm_tree.specs.declared.stmt.Cond.{Cond}
 use Rattle.bohm_text.specs.declared.sums.SumText.{SumText}

@@ -12,6 +12,8 @@ mod reader;
 mod statements;
 mod sums;
 mod terms;
+#[cfg(test)]
+mod tests;
 mod words;
 
 pub use answers::{print_replies, print_store};

@@ -1,6 +1,6 @@
 //! The words of a line.
 
-ghost use Rattle.std.specs.Prelude.{◌≡◌, List, ◌∷◌, [], MatchOption, IfSome, ◌==◌, ◌<◌, length};
+ghost use Rattle.std.specs.Prelude.{◌≡◌, List, ◌∷◌, [], MatchOption, IfSome, ◌==◌, ◌<◌, ◌^◌, length, count_by};
 ghost use Rattle.std.specs.List.{position_from};
 ghost use Rattle.bohm_text.specs.Cut.{split};
 
@@ -29,7 +29,10 @@ fn space_in(bytes: &[u8]) -> Option<usize>
     bytes.iter().position(|byte| *byte == b' ')
 }
 
-fn spaces_in(bytes: &[u8]) -> usize {
+fn spaces_in(bytes: &[u8]) -> usize
+    ensures value { result ≡ count_by (λ byte. byte == 32) bytes.now }
+    ensures inside { result < 2 ^ 63 }
+{
     bytes.iter().filter(|byte| **byte == b' ').count()
 }
 
@@ -64,10 +67,12 @@ impl<'a> Words<'a> {
     }
 
     /// How many words are left.
-    pub fn count(&self) -> usize {
+    pub fn count(&self) -> usize
+        ensures { result ≡ length self.now }
+    {
         match self.rest {
             None => 0,
-            Some(rest) => spaces_in(rest).saturating_add(1),
+            Some(rest) => spaces_in(rest) + 1,
         }
     }
 }

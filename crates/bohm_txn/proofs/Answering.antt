@@ -1,5 +1,5 @@
 -- What `eval` answers, from what the tables hold in the end.
-use Rattle.std.proofs.Common.{◌≡◌, ℕ, zero, suc, ◌<◌, List, [], ◌∷◌, length, map, get_or, Ok, Err, refl, ap, sym, ◌∙◌, subst, arith}
+use Rattle.std.proofs.Common.{◌≡◌, ℕ, zero, suc, List, [], ◌∷◌, length, map, Ok, Err, ap, sym, ◌∙◌, subst, arith}
 use Rattle.std.specs.Prelude.{Result, All}
 use Rattle.std.specs.List.{AllByRecursion}
 use Rattle.bohm_tree.specs.declared.cell.Cell.{Cell}
@@ -10,7 +10,7 @@ use Rattle.bohm_txn.specs.Meaning.{Look, Ended, newest, body}
 use Rattle.bohm_txn.specs.Serial.{writes_of, after}
 use Rattle.bohm_txn.specs.Sure.{IsSure}
 use Rattle.bohm_txn.specs.Tables.{Tables, start, tables_from}
-use Rattle.bohm_txn.proofs.Apart.{AllApart, rising_apart}
+use Rattle.bohm_txn.proofs.Apart.{rising_apart}
 use Rattle.bohm_txn.proofs.SureLaws.{sure_cells, sure_commits}
 use Rattle.bohm_txn.proofs.Tracking.{EndAlike, ends_alike, IsCommit, committed, aborted, cells_with, cells_over}
 use Rattle.bohm_txn.proofs.UseLaws.{usable, rising_writes}

@@ -1,5 +1,5 @@
 -- What a body writes is declared, how many values it shows, and what it leaves.
-use Rattle.std.proofs.Common.{◌≡◌, ℕ, suc, ◌+◌, Bool, true, false, cond, List, [], ◌∷◌, ◌++◌, length, map, Option, Some, None, Ok, Err, refl, ap, sym, ◌∙◌, subst, arith}
+use Rattle.std.proofs.Common.{◌≡◌, ℕ, suc, ◌+◌, Bool, true, false, cond, List, [], ◌∷◌, ◌++◌, length, map, Some, Ok, Err, refl, ◌∙◌, subst, arith}
 use Rattle.std.specs.Prelude.{ℤ, Result, if◌then◌else◌}
 use Rattle.std.specs.List.{AllByRecursion, slice_get}
 use Rattle.std.specs.Str.{bytes_eq}
@@ -10,7 +10,6 @@ use Rattle.std.proofs.lemmas.List.Sums.{sum_by-cons}
 use Rattle.bohm_tree.specs.Parts.{is_show}
 use Rattle.bohm_tree.specs.declared.cell.Cell.{Cell}
 use Rattle.bohm_tree.specs.declared.cell.Cell.TheVariants.{Absent, Present}
-use Rattle.bohm_tree.specs.declared.stmt.Cond.{Cond}
 use Rattle.bohm_tree.specs.declared.stmt.Stmt.{Stmt}
 use Rattle.bohm_tree.specs.declared.stmt.Stmt.TheVariants.{Bind, Need, Has, Lacks, Put, Remove, Show, Fail}
 use Rattle.bohm_tree.specs.declared.term.Atom.{Atom}
@@ -19,9 +18,9 @@ use Rattle.bohm_tree.specs.declared.txn.Txn.{Txn}
 use Rattle.bohm_txn.specs.declared.outcome.Reason.{Reason}
 use Rattle.bohm_txn.specs.declared.outcome.Reason.TheVariants as reasons
 use Rattle.bohm_txn.specs.Meaning.{Look, Run, Ended, fresh, newest, then_try, then_do, sum_value, cond_value, guard_value, is_present, bind, write, show, needs, seen, perform, or_stop, body_from, body}
-use Rattle.bohm_txn.specs.Serial.{writes_of, shows_of, over, after}
+use Rattle.bohm_txn.specs.Serial.{writes_of, after}
 use Rattle.bohm_txn.specs.Declares.{IsAmong, StmtWrites, IsUsable, shows_in}
-use Rattle.bohm_txn.proofs.BodyLaw.{Agree, same_body}
+use Rattle.bohm_txn.proofs.BodyLaw.{same_body}
 
 -- P holds of what a body that ended well did
 abbrev pub OnRun : (Run → Type 0) → Ended → Type 0

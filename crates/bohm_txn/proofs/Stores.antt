@@ -1,7 +1,7 @@
 -- A store's cells go as the looks do, and say which store it is.
-use Rattle.std.proofs.Common.{◌≡◌, ℕ, Bool, true, false, cond, List, [], ◌∷◌, length, Option, Some, None, refl, ap, sym, ◌∙◌}
+use Rattle.std.proofs.Common.{◌≡◌, ℕ, Bool, true, false, cond, List, [], ◌∷◌, length, Option, Some, None, refl, ap, ◌∙◌}
 use Rattle.std.specs.Prelude.{ℤ, if◌then◌else◌}
-use Rattle.std.specs.Ordering.{nat_cmp, is_eq, eq_by_cmp}
+use Rattle.std.specs.Ordering.{nat_cmp, eq_by_cmp}
 use Rattle.std.specs.Cmp.{eq_by_cmp_equiv}
 use Rattle.std.specs.Cmp.Lexicographic.{slice_cmp, nat_list_cmp_total}
 use Rattle.std.specs.FinMap as map
@@ -10,8 +10,8 @@ use Rattle.std.proofs.lemmas.Map.Text.{is_eq-slice_cmp}
 use Rattle.bohm_tree.specs.declared.cell.Cell.{Cell}
 use Rattle.bohm_tree.specs.declared.cell.Cell.TheVariants.{Absent, Present}
 use Rattle.bohm_tree.specs.declared.txn.Txn.{Txn}
-use Rattle.bohm_txn.specs.Meaning.{Look, body, newest}
-use Rattle.bohm_txn.specs.Serial.{over, after, state, writes_of}
+use Rattle.bohm_txn.specs.Meaning.{body, newest}
+use Rattle.bohm_txn.specs.Serial.{after, state, writes_of}
 use Rattle.bohm_txn.specs.Stores.{Store, cell_of, cell_in, put, put_all, store_after}
 
 pub tested : (q k : List ℕ) → eq_by_cmp (slice_cmp nat_cmp) q k ≡ bytes_eq k q

@@ -1,11 +1,10 @@
 -- A sure transaction commits over every store, and its cells are the same.
-use Rattle.std.proofs.Common.{◌≡◌, ℕ, zero, suc, ◌+◌, Bool, true, false, cond, List, [], ◌∷◌, ◌++◌, length, map, Option, Some, None, Ok, Err, refl, ap, sym, ◌∙◌, subst, arith, inl, inr}
+use Rattle.std.proofs.Common.{◌≡◌, ℕ, zero, suc, ◌+◌, Bool, true, false, cond, List, [], ◌∷◌, ◌++◌, length, map, Some, None, Ok, Err, refl, ap, sym, ◌∙◌, subst, arith, inl, inr}
 use Rattle.std.specs.Prelude.{ℤ, pos, ◌⊎◌, ◌||◌, ◌&&◌, Result, is_ok}
-use Rattle.std.specs.List.{AllByRecursion, list_all, list_any, slice_get}
+use Rattle.std.specs.List.{AllByRecursion, list_all, slice_get}
 use Rattle.std.specs.Str.{bytes_eq}
 use Rattle.bohm_tree.specs.declared.cell.Cell.{Cell}
 use Rattle.bohm_tree.specs.declared.cell.Cell.TheVariants.{Absent, Present}
-use Rattle.bohm_tree.specs.declared.stmt.Cond.{Cond}
 use Rattle.bohm_tree.specs.declared.stmt.Stmt.{Stmt}
 use Rattle.bohm_tree.specs.declared.stmt.Stmt.TheVariants.{Bind, Need, Has, Lacks, Put, Remove, Show, Fail}
 use Rattle.bohm_tree.specs.declared.term.Atom.{Atom}
@@ -13,11 +12,11 @@ use Rattle.bohm_tree.specs.declared.term.Atom.TheVariants.{Lit, Read, Local}
 use Rattle.bohm_tree.specs.declared.txn.Edition.{Edition}
 use Rattle.bohm_tree.specs.declared.txn.Txn.{Txn}
 use Rattle.bohm_txn.specs.declared.outcome.Reason.{Reason}
-use Rattle.bohm_txn.specs.Declares.{IsAmong, AtomReads, SumReads, StmtReads}
-use Rattle.bohm_txn.specs.Meaning.{Look, Locals, Run, Ended, fresh, newest, signed, total_from, in_range, sum_value, then_try, then_do, guard_value, bind, write, show, seen, perform, or_stop, body_from, body}
-use Rattle.bohm_txn.specs.Serial.{writes_of, shows_of, after}
-use Rattle.bohm_txn.specs.Sure.{is_lit, is_sure_sum, is_sure_put, is_sure_stmt, is_target, is_sure, IsSure}
-use Rattle.bohm_txn.proofs.Bodies.{among_at, map_same}
+use Rattle.bohm_txn.specs.Declares.{AtomReads, SumReads, StmtReads}
+use Rattle.bohm_txn.specs.Meaning.{Look, Locals, Run, Ended, fresh, newest, signed, total_from, in_range, sum_value, then_do, write, show, seen, perform, or_stop, body_from, body}
+use Rattle.bohm_txn.specs.Serial.{writes_of, after}
+use Rattle.bohm_txn.specs.Sure.{is_lit, is_sure_sum, is_sure_stmt, is_target, IsSure}
+use Rattle.bohm_txn.proofs.Bodies.{map_same}
 use Rattle.bohm_txn.proofs.BodyLaw.{same_body}
 use Rattle.bohm_txn.proofs.Tracking.{newest_more, cells_with}
 

@@ -1,6 +1,6 @@
 -- The tables of cells hold what the list of writes says.
 use Rattle.std.proofs.Common.{◌≡◌, ℕ, suc, ◌+◌, Bool, true, false, cond, List, [], ◌∷◌, ◌++◌, length, map, Option, Some, None, Ok, Err, refl, ap, sym, ◌∙◌, subst, arith, add-one}
-use Rattle.std.specs.Prelude.{ℤ, Result, if◌then◌else◌, slice_set}
+use Rattle.std.specs.Prelude.{Result, if◌then◌else◌}
 use Rattle.std.specs.List.{AllByRecursion, position_from, zip}
 use Rattle.std.specs.Option.{option_map}
 use Rattle.std.specs.Str.{bytes_eq}
@@ -16,8 +16,8 @@ use Rattle.bohm_txn.specs.declared.outcome.Reason.{Reason}
 use Rattle.bohm_txn.specs.declared.outcome.Reason.TheVariants as reasons
 use Rattle.bohm_txn.specs.declared.outcome.Outcome.TheVariants as outcomes_are
 use Rattle.bohm_txn.specs.Declares.{IsAmong, StmtReads}
-use Rattle.bohm_txn.specs.Meaning.{Look, Run, Ended, fresh, newest, then_try, then_do, sum_value, cond_value, guard_value, is_present, bind, write, show, needs, seen, perform, or_stop, body_from, body}
-use Rattle.bohm_txn.specs.Serial.{writes_of, shows_of, outcome_of, after}
+use Rattle.bohm_txn.specs.Meaning.{Look, Run, Ended, newest, then_try, then_do, sum_value, cond_value, guard_value, is_present, bind, write, show, needs, seen, perform, or_stop, body_from, body}
+use Rattle.bohm_txn.specs.Serial.{writes_of, shows_of, outcome_of}
 use Rattle.bohm_txn.specs.Tables.{place, cell_from, cell_at, set_from, replaced, seen_after, Tables, start, written, run_with, taken, step, stop_at, tables_from}
 use Rattle.bohm_txn.proofs.Apart.{other_key, among_first, among_then, among_more, AllApart}
 use Rattle.bohm_txn.proofs.Bodies.{same_key, key_itself}

@@ -1,6 +1,6 @@
-use Rattle.std.proofs.Common.{◌≡◌, ◌<◌, length, arith, sym, ◌∙◌}
+use Rattle.std.proofs.Common.{length, sym, ◌∙◌}
 use Rattle.bohm_text.specs.Step.{Nothing, begun, progress_of}
-use Rattle.bohm_text.proofs.Lines.{IsReadTo, read_none, line_fault, read_more, step-head, step-head_bad, some_left, rest_left, txn_open}
+use Rattle.bohm_text.proofs.Lines.{read_none, line_fault, read_more, step-head, step-head_bad, some_left, rest_left, txn_open}
 use Rattle.bohm_text.proofs.parsing.read_text.Goals as goal
 use Rattle.bohm_text.proofs.parsing.read_text.Goals.{in_default-place-via-in-Between+else-is_empty, in_default-place-via-in_default-place}
 

@@ -1,6 +1,5 @@
-use Rattle.std.proofs.Common.{◌≡◌, List, [], ◌∷◌, Bool, Some, refl, sym, subst, ◌∙◌}
+use Rattle.std.proofs.Common.{◌≡◌, List, [], ◌∷◌, Bool, Some, refl, subst, ◌∙◌}
 use Rattle.std.proofs.lemmas.Result.{err_from_is_err_and}
-use Rattle.bohm_tree.specs.Shape.{sum_of}
 use Rattle.bohm_tree.specs.declared.term.Atom.{Atom}
 use Rattle.bohm_text.specs.Reading.{terms_of}
 use Rattle.bohm_text.proofs.TermLoops.{added, built, not_built}

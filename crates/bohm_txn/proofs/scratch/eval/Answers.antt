@@ -1,8 +1,8 @@
-use Rattle.std.proofs.Common.{◌≡◌, ◌≤◌, length, ap, sym, ◌∙◌, arith}
+use Rattle.std.proofs.Common.{ap, sym, ◌∙◌, arith}
 use Rattle.bohm_txn.specs.Declares.{AllShort}
 use Rattle.bohm_txn.specs.Room.{tables_of}
 use Rattle.bohm_txn.specs.Serial.{outcome_of, shows_of}
-use Rattle.bohm_txn.proofs.Answering.{all_at, IsCall, commit, commit_cells, commit_sure, abort, abort_cells, never_aborts}
+use Rattle.bohm_txn.proofs.Answering.{all_at, commit, commit_cells, commit_sure, abort, abort_cells, never_aborts}
 use Rattle.bohm_txn.proofs.UseLaws.{usable}
 use Rattle.bohm_txn.proofs.scratch.eval.Goals as goal
 

@@ -1,4 +1,4 @@
-use Rattle.std.proofs.Common.{sym, ◌∙◌, ap}
+use Rattle.std.proofs.Common.{◌∙◌, ap}
 use Rattle.bohm_txn.specs.Literals.{none_yet, literals_from}
 use Rattle.bohm_txn.proofs.LiteralLaws.{sure_literals, no_literals}
 use Rattle.bohm_txn.proofs.sureness.is_sure_sum.Goals as goal

@@ -1,4 +1,4 @@
-use Rattle.std.proofs.Common.{pos, sym, ◌∙◌}
+use Rattle.std.proofs.Common.{pos, ◌∙◌}
 use Rattle.bohm_txn.proofs.Totals.{newest_found, newest_none}
 use Rattle.bohm_txn.proofs.view.local_among.Goals as goal
 
