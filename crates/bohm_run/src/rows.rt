@@ -6,6 +6,414 @@ use bohm_txn::{CheckFault, CheckKind};
 use std::process::Abort;
 use std::test::Fail;
 
+/// Logs and their answers: `@` stands between the two, and `#` before the next log.
+const LOGS: &str = "\
+log 1
+@--
+#log 2
+@--
+#log 1
+a 5
+txn
+reads a
+writes a
+set a = a + 1
+show a
+end
+@1 commit 5
+--
+a 6
+#log 2
+a 5
+txn
+reads a
+writes a
+set a = a + 1
+show a
+end
+@1 commit 6
+--
+a 6
+#log 1
+a 0
+txn
+reads a
+writes a
+show a
+set a = a + 1
+end
+txn
+reads a
+writes a
+show a
+set a = a + 1
+end
+txn
+reads a
+writes a
+show a
+set a = a + 1
+end
+@1 commit 0
+2 commit 1
+3 commit 2
+--
+a 3
+#log 1
+a 1
+txn
+reads a
+writes a
+set a = 9
+need a > 5
+end
+txn
+reads a
+writes
+show a
+end
+@1 abort need 2
+2 commit 1
+--
+a 1
+#log 1
+txn
+reads
+writes a
+set a = 1
+fail
+end
+txn
+reads a
+writes
+need no a
+end
+@1 abort fail 2
+2 commit
+--
+#log 1
+a 3
+txn
+reads a
+writes a
+set a = 7 when a > 10
+end
+@1 commit
+--
+a 3
+#log 1
+a 5
+txn
+reads
+writes a
+drop a
+end
+txn
+reads a
+writes
+need has a
+end
+txn
+reads a
+writes
+show a + 1
+end
+@1 commit
+2 abort need 1
+3 abort absent 1
+--
+#log 1
+a 5
+txn
+reads a
+writes
+show a
+fail
+end
+@1 abort fail 2
+--
+a 5
+#log 1
+txn 5
+txn
+reads txn
+writes when
+set when = txn when txn > 4
+end
+@1 commit
+--
+txn 5
+when 5
+#log 1
+a 1
+txn
+reads b
+writes a
+set a = 4
+drop a
+set a = b when 1 < 0
+end
+@1 commit
+--
+#log 1
+a 5
+txn
+reads a
+writes a
+let $n = -a - 2
+set a = $n
+show $n + 7
+end
+@1 commit 0
+--
+a -7
+";
+
+/// The same for logs at the ends of the range of values.
+const ENDS_OF_THE_RANGE: &str = "\
+log 1
+a 4000000000000000000
+txn
+reads a
+writes a
+set a = a + 1
+end
+@1 commit
+--
+a 4000000000000000001
+#log 1
+a 9223372036854775807
+txn
+reads a
+writes a
+set a = a + 1
+end
+@1 abort range 1
+--
+a 9223372036854775807
+#log 1
+a 9223372036854775807
+txn
+reads a
+writes a
+set a = a + 1 - 1
+end
+@1 commit
+--
+a 9223372036854775807
+#log 1
+a -9223372036854775808
+txn
+reads a
+writes a
+let $n = -a
+end
+@1 abort range 1
+--
+a -9223372036854775808
+#log 1
+a -9223372036854775808
+txn
+reads a
+writes a
+set a = -a - 1
+end
+@1 commit
+--
+a 9223372036854775807
+#log 1
+a 0
+txn
+reads a
+writes a
+show -9223372036854775807 - 1
+end
+@1 commit -9223372036854775808
+--
+a 0
+#log 1
+a 4000000000000000000
+txn
+reads a
+writes a
+set a = a + 1 - 1
+end
+@1 commit
+--
+a 4000000000000000000
+";
+
+/// The same log in edition one and in edition two.
+const EDITIONS: &str = "\
+log 1
+a 1
+b 2
+txn
+reads a b
+writes a b
+set a = b
+set b = a
+end
+@1 commit
+--
+a 2
+b 1
+#log 2
+a 1
+b 2
+txn
+reads a b
+writes a b
+set a = b
+set b = a
+end
+@1 commit
+--
+a 2
+b 2
+#log 1
+a 5
+txn
+reads a
+writes a
+set a = a + 1
+set a = a + 1
+show a
+end
+@1 commit 5
+--
+a 6
+#log 2
+a 5
+txn
+reads a
+writes a
+set a = a + 1
+set a = a + 1
+show a
+end
+@1 commit 7
+--
+a 7
+#log 1
+a 5
+txn
+reads a
+writes a
+drop a
+need no a
+show a
+end
+@1 abort need 2
+--
+a 5
+#log 2
+a 5
+txn
+reads a
+writes a
+drop a
+need no a
+show a
+end
+@1 abort absent 3
+--
+a 5
+#log 1
+a 3
+txn
+reads a
+writes a
+set a = 7 when a > 10
+show a
+end
+@1 commit 3
+--
+a 3
+#log 2
+a 3
+txn
+reads a
+writes a
+set a = 7 when a > 10
+show a
+end
+@1 commit 3
+--
+a 3
+";
+
+/// Refused logs, each with the line of its fault.
+const REFUSED: &str = "\
+@refused: short
+#log 1@refused: short
+#log 1
+txn
+reads
+@refused: short
+#log 1
+q q q@refused: short
+#log 1
+a  5
+@refused: line 2
+#log 1
+a 05
+@refused: line 2
+#log 3
+@refused: line 1
+#log 1
+txn
+writes
+@refused: line 3
+#log 1
+a 1
+txn
+reads a
+writes a
+set a = b + 1
+end
+@refused: check unread 1 1
+#log 1
+txn
+reads b a
+writes
+end
+@refused: check order 1 0
+#log 1
+b 1
+a 1
+@refused: check order 0 0
+#log 1
+txn
+reads
+writes
+show $x
+end
+@refused: check local 1 1
+#log 1
+txn
+reads
+writes
+let $x = 2
+let $x = 3
+end
+@refused: check local 1 2
+#log 1
+txn
+reads
+writes
+set a = 1
+end
+@refused: check unwritten 1 1
+#log 1
+txn
+reads
+writes
+show 1 + 1 + 1 + 1 + 1 + 1 + 1 + 1 + 1 + 1 + 1 + 1 + 1 + 1 + 1 + 1 + 1
+end
+@refused: check limit 1 1
+";
+
 /// What a run writes; or, where it is refused, the line of its fault, and nothing was written.
 fn said<R: Abort + AllocGlobal>(rt: &R, log: &[u8]) -> Result<Vec<u8>, Fail> {
     let mut unread = log;
@@ -32,191 +440,21 @@ fn fault_of<R: Abort + AllocGlobal>(rt: &R, log: &[u8]) -> Result<RunFault, Fail
     Ok(fault)
 }
 
-/// A head, and what stands behind it.
-fn headed<R: AllocGlobal>(rt: &R, head: &[u8], rest: &[u8]) -> Result<Vec<u8>, Fail> {
-    let mut log = Vec::from_slice(rt.alloc(), head)?;
-    log.extend_from_slice(rest)?;
-    Ok(log)
+fn answers_so<R: Abort + AllocGlobal>(rt: &R, rows: &str) -> Result<(), Fail> {
+    for row in rows.split('#') {
+        let (log, answer) = row.split_once('@').ok_or("a log and its answer")?;
+        let written = said(rt, log.as_bytes())?;
+        assert_eq!(rt; written.as_slice(), answer.as_bytes(), "{row}");
+    }
+    Ok(())
 }
 
 #[test]
 fn whole_logs(rt: HostRuntime) -> Result<(), Fail> {
-    for (log, answer) in [
-        (b"log 1\n".as_slice(), b"--\n".as_slice()),
-        (b"log 2\n", b"--\n"),
-        (
-            b"log 1\na 5\ntxn\nreads a\nwrites a\nset a = a + 1\nshow a\nend\n",
-            b"1 commit 5\n--\na 6\n",
-        ),
-        (
-            b"log 2\na 5\ntxn\nreads a\nwrites a\nset a = a + 1\nshow a\nend\n",
-            b"1 commit 6\n--\na 6\n",
-        ),
-        (
-            b"log 1\na 0\ntxn\nreads a\nwrites a\nshow a\nset a = a + 1\nend\ntxn\nreads a\nwrites a\nshow a\nset a = a + 1\nend\ntxn\nreads a\nwrites a\nshow a\nset a = a + 1\nend\n",
-            b"1 commit 0\n2 commit 1\n3 commit 2\n--\na 3\n",
-        ),
-        (
-            b"log 1\na 1\ntxn\nreads a\nwrites a\nset a = 9\nneed a > 5\nend\ntxn\nreads a\nwrites\nshow a\nend\n",
-            b"1 abort need 2\n2 commit 1\n--\na 1\n",
-        ),
-        (
-            b"log 1\ntxn\nreads\nwrites a\nset a = 1\nfail\nend\ntxn\nreads a\nwrites\nneed no a\nend\n",
-            b"1 abort fail 2\n2 commit\n--\n",
-        ),
-        (
-            b"log 1\na 3\ntxn\nreads a\nwrites a\nset a = 7 when a > 10\nend\n",
-            b"1 commit\n--\na 3\n",
-        ),
-        (
-            b"log 1\na 5\ntxn\nreads\nwrites a\ndrop a\nend\ntxn\nreads a\nwrites\nneed has a\nend\ntxn\nreads a\nwrites\nshow a + 1\nend\n",
-            b"1 commit\n2 abort need 1\n3 abort absent 1\n--\n",
-        ),
-        (
-            b"log 1\na 5\ntxn\nreads a\nwrites\nshow a\nfail\nend\n",
-            b"1 abort fail 2\n--\na 5\n",
-        ),
-        (
-            b"log 1\ntxn 5\ntxn\nreads txn\nwrites when\nset when = txn when txn > 4\nend\n",
-            b"1 commit\n--\ntxn 5\nwhen 5\n",
-        ),
-        (
-            b"log 1\na 1\ntxn\nreads b\nwrites a\nset a = 4\ndrop a\nset a = b when 1 < 0\nend\n",
-            b"1 commit\n--\n",
-        ),
-        (
-            b"log 1\na 5\ntxn\nreads a\nwrites a\nlet $n = -a - 2\nset a = $n\nshow $n + 7\nend\n",
-            b"1 commit 0\n--\na -7\n",
-        ),
-    ] {
-        let written = said(&rt, log)?;
-        assert_eq!(rt; written.as_slice(), answer, "{log:?}");
-    }
-    Ok(())
-}
-
-#[test]
-fn ends_of_the_range(rt: HostRuntime) -> Result<(), Fail> {
-    for (entry, stmt, answer) in [
-        (
-            b"a 4000000000000000000\n".as_slice(),
-            b"set a = a + 1\n".as_slice(),
-            b"1 commit\n--\na 4000000000000000001\n".as_slice(),
-        ),
-        (
-            b"a 9223372036854775807\n",
-            b"set a = a + 1\n",
-            b"1 abort range 1\n--\na 9223372036854775807\n",
-        ),
-        (
-            b"a 9223372036854775807\n",
-            b"set a = a + 1 - 1\n",
-            b"1 commit\n--\na 9223372036854775807\n",
-        ),
-        (
-            b"a -9223372036854775808\n",
-            b"let $n = -a\n",
-            b"1 abort range 1\n--\na -9223372036854775808\n",
-        ),
-        (
-            b"a -9223372036854775808\n",
-            b"set a = -a - 1\n",
-            b"1 commit\n--\na 9223372036854775807\n",
-        ),
-        (
-            b"a 0\n",
-            b"show -9223372036854775807 - 1\n",
-            b"1 commit -9223372036854775808\n--\na 0\n",
-        ),
-        (
-            b"a 4000000000000000000\n",
-            b"set a = a + 1 - 1\n",
-            b"1 commit\n--\na 4000000000000000000\n",
-        ),
-    ] {
-        let mut log = headed(&rt, b"log 1\n", entry)?;
-        log.extend_from_slice(b"txn\nreads a\nwrites a\n")?;
-        log.extend_from_slice(stmt)?;
-        log.extend_from_slice(b"end\n")?;
-        let written = said(&rt, log.as_slice())?;
-        assert_eq!(rt; written.as_slice(), answer, "{stmt:?}");
-    }
-    Ok(())
-}
-
-#[test]
-fn editions(rt: HostRuntime) -> Result<(), Fail> {
-    for (rest, one, two) in [
-        (
-            b"a 1\nb 2\ntxn\nreads a b\nwrites a b\nset a = b\nset b = a\nend\n".as_slice(),
-            b"1 commit\n--\na 2\nb 1\n".as_slice(),
-            b"1 commit\n--\na 2\nb 2\n".as_slice(),
-        ),
-        (
-            b"a 5\ntxn\nreads a\nwrites a\nset a = a + 1\nset a = a + 1\nshow a\nend\n",
-            b"1 commit 5\n--\na 6\n",
-            b"1 commit 7\n--\na 7\n",
-        ),
-        (
-            b"a 5\ntxn\nreads a\nwrites a\ndrop a\nneed no a\nshow a\nend\n",
-            b"1 abort need 2\n--\na 5\n",
-            b"1 abort absent 3\n--\na 5\n",
-        ),
-        (
-            b"a 3\ntxn\nreads a\nwrites a\nset a = 7 when a > 10\nshow a\nend\n",
-            b"1 commit 3\n--\na 3\n",
-            b"1 commit 3\n--\na 3\n",
-        ),
-    ] {
-        let first = said(&rt, headed(&rt, b"log 1\n", rest)?.as_slice())?;
-        assert_eq!(rt; first.as_slice(), one, "edition one of {rest:?}");
-        let second = said(&rt, headed(&rt, b"log 2\n", rest)?.as_slice())?;
-        assert_eq!(rt; second.as_slice(), two, "edition two of {rest:?}");
-    }
-    Ok(())
-}
-
-#[test]
-fn refusals(rt: HostRuntime) -> Result<(), Fail> {
-    for (log, line) in [
-        (b"".as_slice(), b"refused: short\n".as_slice()),
-        (b"log 1", b"refused: short\n"),
-        (b"log 1\ntxn\nreads\n", b"refused: short\n"),
-        (b"log 1\nq q q", b"refused: short\n"),
-        (b"log 1\na  5\n", b"refused: line 2\n"),
-        (b"log 1\na 05\n", b"refused: line 2\n"),
-        (b"log 3\n", b"refused: line 1\n"),
-        (b"log 1\ntxn\nwrites\n", b"refused: line 3\n"),
-        (
-            b"log 1\na 1\ntxn\nreads a\nwrites a\nset a = b + 1\nend\n",
-            b"refused: check unread 1 1\n",
-        ),
-        (
-            b"log 1\ntxn\nreads b a\nwrites\nend\n",
-            b"refused: check order 1 0\n",
-        ),
-        (b"log 1\nb 1\na 1\n", b"refused: check order 0 0\n"),
-        (
-            b"log 1\ntxn\nreads\nwrites\nshow $x\nend\n",
-            b"refused: check local 1 1\n",
-        ),
-        (
-            b"log 1\ntxn\nreads\nwrites\nlet $x = 2\nlet $x = 3\nend\n",
-            b"refused: check local 1 2\n",
-        ),
-        (
-            b"log 1\ntxn\nreads\nwrites\nset a = 1\nend\n",
-            b"refused: check unwritten 1 1\n",
-        ),
-        (
-            b"log 1\ntxn\nreads\nwrites\nshow 1 + 1 + 1 + 1 + 1 + 1 + 1 + 1 + 1 + 1 + 1 + 1 + 1 + 1 + 1 + 1 + 1\nend\n",
-            b"refused: check limit 1 1\n",
-        ),
-    ] {
-        let written = said(&rt, log)?;
-        assert_eq!(rt; written.as_slice(), line, "{log:?}");
-    }
-    Ok(())
+    answers_so(&rt, LOGS)?;
+    answers_so(&rt, ENDS_OF_THE_RANGE)?;
+    answers_so(&rt, EDITIONS)?;
+    answers_so(&rt, REFUSED)
 }
 
 #[test]
@@ -225,7 +463,7 @@ fn counts_of_statements(rt: HostRuntime) -> Result<(), Fail> {
         (64, b"1 abort fail 1\n--\n".as_slice()),
         (65, b"refused: check limit 1 0\n"),
     ] {
-        let mut log = headed(&rt, b"log 1\n", b"txn\nreads\nwrites\n")?;
+        let mut log = Vec::from_slice(rt.alloc(), b"log 1\ntxn\nreads\nwrites\n")?;
         for _ in 0..count {
             log.extend_from_slice(b"fail\n")?;
         }

@@ -6,3 +6,6 @@ mod store;
 
 pub use executor::{Answer, run};
 pub use store::Store;
+
+#[cfg(test)]
+mod tests;

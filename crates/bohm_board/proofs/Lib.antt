@@ -1,0 +1,14 @@
+pub mod Newest
+pub mod SerialSlots
+pub mod Places
+pub mod Inputs
+pub mod Line
+pub mod Keeps
+pub mod Moves
+pub mod Fills
+pub mod Starts
+pub mod Numbers
+pub mod Kept
+pub mod Searched
+pub mod Keeping
+pub mod Wanted

@@ -1,0 +1,110 @@
+-- What a search along rising entries finds is the key's entry.
+use Rattle.std.proofs.Common.{◌≡◌, ℕ, zero, suc, ◌<◌, List, [], ◌∷◌, length, get_or, Bool, true, false, cond, Err, Some, ⊎_elim, refl, sym, subst, ap, ◌∙◌, add-one, arith}
+use Rattle.std.specs.Prelude.{◌&&◌}
+use Rattle.std.specs.List.{slice_get}
+use Rattle.std.specs.declared.cmp.Ordering.{Ordering}
+use Rattle.std.specs.declared.cmp.Ordering.TheVariants.{Less, Equal, Greater}
+use Rattle.std.specs.Ordering.{nat_cmp, is_lt, ordering_reverse, eq_by_cmp}
+use Rattle.std.specs.Str.{bytes_eq}
+use Rattle.std.specs.Cmp.Lexicographic.{slice_cmp, nat_list_cmp_total, texts_ties}
+use Rattle.std.specs.List.Sorted.{IsBinarySearchResult, IsSortedBy}
+use Rattle.std.proofs.lemmas.List.Sorted.{searchable_from_sorted}
+use Rattle.std.proofs.lemmas.Bool.{cases_lt}
+use Rattle.std.proofs.lemmas.Slice.Eq.{bytes_eq-Decides}
+use Rattle.bohm_tree.specs.declared.cell.Cell.{Cell}
+use Rattle.bohm_txn.specs.Faulty.{rising, rises_from}
+use Rattle.bohm_txn.specs.Meaning.{newest}
+use Rattle.bohm_board.specs.Bases.{keys_of}
+
+abbrev pub Entry : Type 0
+Entry = List ℕ × Cell
+
+abbrev pub key_cmp : List ℕ → List ℕ → Ordering
+key_cmp = slice_cmp nat_cmp
+
+-- how an entry's key compares with a key
+abbrev pub against : List ℕ → Entry → Ordering
+against k e = key_cmp e.0 k
+
+left_of : (a b : Bool) → (a && b) ≡ true → a ≡ true
+left_of true b e = refl
+left_of false b e = cc
+
+right_of : (a b : Bool) → (a && b) ≡ true → b ≡ true
+right_of true b e = e
+right_of false b e = cc
+
+is_less : (o : Ordering) → is_lt o ≡ true → o ≡ Less
+is_less Less e = refl
+is_less Equal e = cc
+is_less Greater e = cc
+
+turned : (o : Ordering) → is_lt o ≡ true → is_lt (ordering_reverse o) ≡ false
+turned Less e = refl
+turned Equal e = refl
+turned Greater e = cc
+
+same_at : (a b : List ℕ) (o : Ordering) → key_cmp a b ≡ o → bytes_eq a b ≡ eq_by_cmp (λ x y. o) a b
+same_at a b o e = subst (λ r. bytes_eq a b ≡ eq_by_cmp (λ x y. r) a b) e (texts_ties a b)
+
+above_differs : (k x : List ℕ) → key_cmp k x ≡ Less → bytes_eq x k ≡ false
+above_differs k x e = same_at x k Greater (nat_list_cmp_total.antisymm x k ∙ ap ordering_reverse e)
+
+-- no entry behind one that is above the key has it
+none_behind : (es : List Entry) (k x : List ℕ) (before : Cell) → key_cmp k x ≡ Less → rises_from x (keys_of es) ≡ true → newest es k before ≡ before
+none_behind [] k x before low up = refl
+none_behind (e ∷ es) k x before low up =
+    let next : key_cmp k e.0 ≡ Less = nat_list_cmp_total.trans k x e.0 low (is_less (key_cmp x e.0) (left_of (is_lt (key_cmp x e.0)) (rises_from e.0 (keys_of es)) up)) in
+    rw (above_differs k e.0 next) (none_behind es k e.0 before next (right_of (is_lt (key_cmp x e.0)) (rises_from e.0 (keys_of es)) up))
+
+-- nor one behind the entry of the key itself
+one_alone : (es : List Entry) (k : List ℕ) (before : Cell) → rises_from k (keys_of es) ≡ true → newest es k before ≡ before
+one_alone [] k before up = refl
+one_alone (e ∷ es) k before up =
+    let next : key_cmp k e.0 ≡ Less = is_less (key_cmp k e.0) (left_of (is_lt (key_cmp k e.0)) (rises_from e.0 (keys_of es)) up) in
+    rw (above_differs k e.0 next) (none_behind es k e.0 before next (right_of (is_lt (key_cmp k e.0)) (rises_from e.0 (keys_of es)) up))
+
+rises_on : (x : List ℕ) (ks : List (List ℕ)) → rises_from x ks ≡ true → rising ks ≡ true
+rises_on x [] up = refl
+rises_on x (k ∷ ks) up = right_of (is_lt (key_cmp x k)) (rises_from k ks) up
+
+equal_at : (a b : List ℕ) → key_cmp a b ≡ Equal → bytes_eq a b ≡ true
+equal_at a b e = same_at a b Equal e
+
+at_equal : (es : List Entry) (i : ℕ) (k : List ℕ) (before : Cell) (x : Entry) → rising (keys_of es) ≡ true → slice_get es i ≡ Some x → bytes_eq x.0 k ≡ true → x.0 ≡ k → newest es k before ≡ x.1
+at_equal [] i k before x up at same is = absurd cc
+at_equal (e ∷ es) zero k before x up at same is =
+    let first : e ≡ x = cc in
+    let here : bytes_eq e.0 k ≡ true = ap (λ (y : Entry). bytes_eq y.0 k) first ∙ same in
+    let key : e.0 ≡ k = ap (λ (y : Entry). y.0) first ∙ is in
+    rw here (one_alone es k e.1 (subst (λ (z : List ℕ). rises_from z (keys_of es) ≡ true) key up) ∙ ap (λ (y : Entry). y.1) first)
+at_equal (e ∷ es) (suc i) k before x up at same is = at_equal es i k (cond (bytes_eq e.0 k) e.1 before) x (rises_on e.0 (keys_of es) up) at same is
+
+-- ---- where no entry has the key
+
+steps : (e : Entry) (es : List Entry) → rises_from e.0 (keys_of es) ≡ true → (j : ℕ) (d : Entry) → suc j < length (e ∷ es) → is_lt (key_cmp (get_or (e ∷ es) j d).0 (get_or (e ∷ es) (suc j) d).0) ≡ true
+steps e [] up j d l = absurd (omega arith)
+steps e (n ∷ ns) up zero d l = left_of (is_lt (key_cmp e.0 n.0)) (rises_from n.0 (keys_of ns)) up
+steps e (n ∷ ns) up (suc j) d l = steps n ns (right_of (is_lt (key_cmp e.0 n.0)) (rises_from n.0 (keys_of ns)) up) j d (omega arith)
+
+no_fall : (a b : List ℕ) → is_lt (key_cmp a b) ≡ true → is_lt (key_cmp b a) ≡ false
+no_fall a b e = subst (λ o. is_lt o ≡ false) (sym (nat_list_cmp_total.antisymm b a)) (turned (key_cmp a b) e)
+
+sorted : (es : List Entry) → rising (keys_of es) ≡ true → IsSortedBy (λ a b. is_lt (key_cmp a.0 b.0)) es
+sorted [] up = λ k d a l. absurd (omega arith)
+sorted (e ∷ es) up = λ k d a l. subst (λ n. is_lt (key_cmp (get_or (e ∷ es) n d).0 (get_or (e ∷ es) k d).0) ≡ false) (sym (add-one k)) (no_fall (get_or (e ∷ es) k d).0 (get_or (e ∷ es) (suc k) d).0 (steps e es up k d (omega arith)))
+
+missing : (es : List Entry) (k : List ℕ) (before : Cell) → ((i : ℕ) (d : Entry) → i < length es → bytes_eq (get_or es i d).0 k ≡ false) → newest es k before ≡ before
+missing [] k before h = refl
+missing (e ∷ es) k before h = rw (h 0 e (omega arith)) (missing es k before (λ i d l. h (suc i) d (omega arith)))
+
+pub searched_none : (es : List Entry) (k : List ℕ) (i : ℕ) (before : Cell) → rising (keys_of es) ≡ true → IsBinarySearchResult (against k) es (Err i) → newest es k before ≡ before
+searched_none es k i before up h =
+    let parted = h (searchable_from_sorted nat_list_cmp_total (λ (e : Entry). e.0) es k (sorted es up)) in
+    missing es k before (λ j d below. ⊎_elim
+    (λ early. same_at (get_or es j d).0 k Less (parted.0 j d (omega arith) early))
+    (λ late. same_at (get_or es j d).0 k Greater (parted.1 j d late below))
+    (cases_lt j i))
+
+pub searched_some : (es : List Entry) (k : List ℕ) (i : ℕ) (before : Cell) (x : Entry) → rising (keys_of es) ≡ true → slice_get es i ≡ Some x → key_cmp x.0 k ≡ Equal → newest es k before ≡ x.1
+searched_some es k i before x up at same = at_equal es i k before x up at (equal_at x.0 k same) ((bytes_eq-Decides x.0 k).0 (equal_at x.0 k same))

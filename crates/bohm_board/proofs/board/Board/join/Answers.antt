@@ -1,0 +1,18 @@
+use Rattle.std.proofs.Common.{arith, ap, ◌∙◌}
+use Rattle.bohm_board.specs.Steps.{Sitting}
+use Rattle.bohm_board.proofs.Moves.{joins}
+use Rattle.bohm_board.proofs.Kept.{kept_along, kept_joined}
+use Rattle.bohm_board.proofs.board.Board.join.Goals as goal
+
+pub join_seat-requires : goal.join_seat-requires
+join_seat-requires c =
+    let words = c.args.self.now.sized in
+    let positions = c.args.self.now.laid.positions in
+    let some = c.args.self.now.batch.some in
+    (c.requires.own.0.seat.table, c.requires.own.1.seat.table, c.requires.own.1.seat.bare, omega arith, joins _ _ _ _ _)
+
+pub invariant_of-result : goal.invariant_of-result
+invariant_of-result c = record {
+  bare = ap (λ (m : Sitting). m.1) c.join_seat.ensures.2 ∙ c.args.left.bare;
+  fits = kept_along _ _ _ _ (ap (λ (m : Sitting). m.0) c.join_seat.ensures.2) (kept_joined c.args.left.seat.me.0 c.args.right.seat.me.0 _ _ c.args.left.fits);
+}

@@ -1,0 +1,24 @@
+use Rattle.std.proofs.Common.{arith, ap, ◌∙◌}
+use Rattle.bohm_board.specs.Steps.{Sitting}
+use Rattle.bohm_board.proofs.Moves.{splits}
+use Rattle.bohm_board.proofs.Kept.{kept_along}
+use Rattle.bohm_board.proofs.board.Board.split.Goals as goal
+
+pub split_seat-other-requires : goal.split_seat-other-requires
+split_seat-other-requires c =
+    let words = c.args.self.now.sized in
+    let positions = c.args.self.now.laid.positions in
+    let some = c.args.self.now.batch.some in
+    (c.requires.own.seat.table, omega arith, splits _ _ _ c.requires.free)
+
+pub invariant_of-left : goal.invariant_of-left
+invariant_of-left c = record {
+  bare = ap (λ (m : Sitting). m.1) c.split_seat-other.ensures.2 ∙ c.args.pass.bare;
+  fits = kept_along _ _ _ _ (ap (λ (m : Sitting). m.0) c.split_seat-other.ensures.2) c.args.pass.fits;
+}
+
+pub invariant_of-right : goal.invariant_of-right
+invariant_of-right c = record {
+  bare = ap (λ (m : Sitting). m.1) c.split_seat-other.ensures.4;
+  fits = kept_along _ _ _ _ (ap (λ (m : Sitting). m.0) c.split_seat-other.ensures.4) c.args.pass.fits;
+}

@@ -1,0 +1,102 @@
+-- Batches: their positions, their slots, what is right in them, and what a position wants.
+use Rattle.std.specs.Prelude.{◌≡◌, ℕ, ◌+◌, ◌-◌, ◌<◌, ◌≤◌, List, [], ◌++◌, length, Contains, Bool, false, Option, Some, slice_get, unwrap_or, if◌then◌else◌}
+use Rattle.std.specs.Option.{option_map}
+use Rattle.bohm_tree.specs.declared.cell.Cell.{Cell}
+use Rattle.bohm_tree.specs.declared.cell.Cell.TheVariants.{Absent}
+use Rattle.bohm_tree.specs.declared.txn.Txn.{Txn}
+use Rattle.bohm_txn.specs.declared.outcome.Outcome.{Outcome}
+use Rattle.bohm_txn.specs.Meaning.{Look, newest}
+use Rattle.bohm_txn.specs.Sure.{is_sure}
+use Rattle.bohm_place.specs.declared.access.Access.{Access}
+use Rattle.bohm_place.specs.declared.access.Source.TheVariants.{Within}
+use Rattle.bohm_place.specs.Plans.{Planned, reads_of, writes_of}
+use Rattle.bohm_board.specs.declared.batch.Batch.{Batch}
+use Rattle.bohm_board.specs.declared.slot.Slot.{Slot}
+use Rattle.bohm_board.specs.declared.view.Rights.{Rights}
+use Rattle.bohm_board.specs.Serial.{width, offset, slots_from, outcomes}
+
+abbrev pub txns_of : Batch → List Txn
+txns_of b = b.txns.now
+
+abbrev pub plan_of : Batch → Planned
+plan_of b = b.plan
+
+abbrev pub entries_of : Batch → List (List ℕ × Cell)
+entries_of b = b.base
+
+-- the timestamp of the first transaction
+abbrev pub first_of : Batch → ℕ
+first_of b = b.plan.first
+
+-- what each key holds before the batch
+abbrev pub base_of : Batch → Look
+base_of b = λ k. newest (entries_of b) k Absent
+
+-- ---- positions and slots
+
+-- the position of a timestamp, counted from the batch's first
+abbrev pub position : Batch → ℕ → ℕ
+position b t = t - first_of b
+
+-- a transaction of the batch has the timestamp
+pub record IsIn (b : Batch) (t : ℕ) : Type 0 where
+  pub from : first_of b ≤ t
+  pub below : t < first_of b + length (txns_of b)
+
+abbrev pub txn_at : Batch → ℕ → Option Txn
+txn_at b t = slice_get (txns_of b) (position b t)
+
+-- how many slots the transaction with the timestamp has
+abbrev pub width_at : Batch → ℕ → ℕ
+width_at b t = unwrap_or (option_map width (txn_at b t)) 0
+
+pub record IsSlot (b : Batch) (s : Slot) : Type 0 where
+  pub txn : IsIn b s.txn
+  pub index : s.index < width_at b s.txn
+
+-- the number of a slot among all of the batch, counted from 0
+abbrev pub number : Batch → Slot → ℕ
+number b s = offset (txns_of b) (position b s.txn) + s.index
+
+-- ---- what is right
+
+-- the outcomes and cells of the serial run over the base
+unfoldable pub rights_of : Batch → Rights
+rights_of b = record { outcomes = outcomes (base_of b) (txns_of b); slots = slots_from 0 (base_of b) (txns_of b) }
+
+abbrev pub right_cell : Rights → ℕ → Option Cell
+right_cell r k = option_map (λ x. x.cell) (slice_get r.slots k)
+
+abbrev pub IsRightCell : Batch → Slot → Cell → Type 0
+IsRightCell b s c = right_cell (rights_of b) (number b s) ≡ Some c
+
+abbrev pub IsRightOutcome : Batch → ℕ → Outcome → Type 0
+IsRightOutcome b t o = slice_get (rights_of b).outcomes (position b t) ≡ Some o
+
+-- ---- what a position wants
+
+abbrev pub reads_at : Batch → ℕ → List Access
+reads_at b t = reads_of (plan_of b) (position b t)
+
+abbrev pub writes_at : Batch → ℕ → List Access
+writes_at b t = writes_of (plan_of b) (position b t)
+
+abbrev pub is_sure_at : Batch → ℕ → Bool
+is_sure_at b t = unwrap_or (option_map is_sure (txn_at b t)) false
+
+-- the accesses whose cells t is evaluated over: those of its reads and, unless it is sure, of its writes
+abbrev pub wanted_at : Batch → ℕ → List Access
+wanted_at b t = reads_at b t ++ (if is_sure_at b t then [] else writes_at b t)
+
+-- the slot of the version that the transaction u produces for the access
+abbrev pub slot_in : ℕ → Access → Slot
+slot_in u a = record { txn = u; index = a.index }
+
+-- a wanted source of t is u
+abbrev pub Wants : Batch → ℕ → ℕ → Type 0
+Wants b t u = (a : Access) × Contains (wanted_at b t) a × (a.source ≡ Within u)
+
+-- t is v, or wants a transaction that leads to v
+pub data Leads (b : Batch) (t : ℕ) : ℕ → Type 0 where
+  itself : Leads b t t
+  further : (u v : ℕ) → Leads b t u → Wants b u v → Leads b t v

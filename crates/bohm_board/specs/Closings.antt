@@ -1,0 +1,35 @@
+-- What a closed board has.
+use Rattle.std.specs.Prelude.{◌≡◌, ◌≢◌, ℕ, ◌<◌, ◌≤◌, slice_index, count_by, nat_lt}
+use Rattle.bohm_board.specs.declared.batch.Batch.{Batch}
+use Rattle.bohm_board.specs.declared.closed.Closed.{Closed}
+use Rattle.bohm_board.specs.declared.slot.Slot.{Slot}
+use Rattle.bohm_board.specs.Batches.{position, number}
+
+abbrev pub batch_of_closed : Closed → Batch
+batch_of_closed c = c.batch
+
+abbrev pub status_in : Closed → ℕ → ℕ
+status_in c t = slice_index c.columns.statuses.items (position (batch_of_closed c) t)
+
+abbrev pub presence_in : Closed → Slot → ℕ
+presence_in c s = slice_index c.columns.presences.items (number (batch_of_closed c) s)
+
+-- the position has an outcome
+abbrev pub IsFinished : Closed → ℕ → Type 0
+IsFinished c t = 2 ≤ status_in c t
+
+-- it has none
+abbrev pub IsUnfinished : Closed → ℕ → Type 0
+IsUnfinished c t = status_in c t < 2
+
+-- no pass claimed the position
+abbrev pub IsUntaken : Closed → ℕ → Type 0
+IsUntaken c t = status_in c t ≡ 0
+
+-- the slot has a cell
+abbrev pub HasCell : Closed → Slot → Type 0
+HasCell c s = presence_in c s ≢ 0
+
+-- how many positions have no outcome
+abbrev pub unfinished_in : Closed → ℕ
+unfinished_in c = count_by (λ word. nat_lt word 2) c.columns.statuses.items

@@ -1,0 +1,16 @@
+-- Where the slots of a batch lie.
+use Rattle.std.specs.Prelude.{◌≡◌, ℕ, ◌<◌, ◌≤◌, List, length, slice_index}
+use Rattle.bohm_tree.specs.declared.txn.Txn.{Txn}
+use Rattle.bohm_board.specs.declared.layout.Layout.{Layout}
+use Rattle.bohm_board.specs.Serial.{offset}
+
+-- of each position below n, how many slots there are before it
+pub record AreStarts (txns : List Txn) (n : ℕ) (starts : List ℕ) : Type 0 where
+  pub long : length starts ≡ n
+  pub each : (i : ℕ) → i < n → slice_index starts i ≡ offset txns i
+
+pub record IsLayoutOf (txns : List Txn) (l : Layout) : Type 0 where
+  pub positions : l.positions ≡ length txns
+  pub slots : l.slots ≡ offset txns (length txns)
+  pub starts : AreStarts txns (length txns) l.starts.items
+  pub few : l.slots ≤ 131072

@@ -1,0 +1,11 @@
+pub mod Bases
+pub mod Words
+pub mod Serial
+pub mod Batches
+pub mod Inputs
+pub mod Views
+pub mod Law
+pub mod Steps
+pub mod Layouts
+pub mod Passes
+pub mod Closings

@@ -1,0 +1,70 @@
+-- What the words of a board mean.
+use Rattle.std.specs.Prelude.{ℕ, zero, suc, ◌+◌, ◌*◌, ◌/◌, ◌%◌}
+use Rattle.std.specs.Int.{cast_signed, cast_unsigned, w64}
+use Rattle.bohm_tree.specs.declared.cell.Cell.{Cell}
+use Rattle.bohm_tree.specs.declared.cell.Cell.TheVariants.{Absent, Present}
+use Rattle.bohm_txn.specs.declared.outcome.Outcome.{Outcome}
+use Rattle.bohm_txn.specs.declared.outcome.Outcome.TheVariants.{Commit, Abort}
+use Rattle.bohm_txn.specs.declared.outcome.Reason.{Reason}
+use Rattle.bohm_txn.specs.declared.outcome.Reason.TheVariants as reasons
+use Rattle.bohm_board.specs.declared.status.Status.{Status}
+use Rattle.bohm_board.specs.declared.status.Status.TheVariants.{Open, Busy, Done}
+use Rattle.bohm_board.specs.declared.status.Claimed.{Claimed}
+use Rattle.bohm_board.specs.declared.status.Claimed.TheVariants as claimed
+
+-- ---- status words
+
+-- 0 is open, 1 busy, and every other word an outcome
+abbrev pub status_of : ℕ → Status
+status_of zero = Open
+status_of (suc zero) = Busy
+status_of (suc (suc n)) = Done
+
+-- the status that an exchange found
+abbrev pub found_by : Claimed → Status
+found_by claimed.Mine = Open
+found_by claimed.Busy = Busy
+found_by claimed.Done = Done
+
+abbrev pub thousands_of : Reason → ℕ
+thousands_of reasons.Need = 1
+thousands_of reasons.Fail = 2
+thousands_of reasons.Absent = 3
+thousands_of reasons.Range = 4
+
+-- the status word of an outcome
+abbrev pub word_of : Outcome → ℕ
+word_of Commit = 2
+word_of (Abort reason stmt) = 1000 * thousands_of reason + stmt
+
+-- the statement at which it failed, or 0
+abbrev pub stmt_of : Outcome → ℕ
+stmt_of Commit = 0
+stmt_of (Abort reason stmt) = stmt
+
+-- the outcome of a status word, by its thousands and the rest
+abbrev pub outcome_in : ℕ → ℕ → Outcome
+outcome_in zero stmt = Commit
+outcome_in (suc zero) stmt = Abort reasons.Need stmt
+outcome_in (suc (suc zero)) stmt = Abort reasons.Fail stmt
+outcome_in (suc (suc (suc zero))) stmt = Abort reasons.Absent stmt
+outcome_in (suc (suc (suc (suc n)))) stmt = Abort reasons.Range stmt
+
+abbrev pub outcome_at : ℕ → Outcome
+outcome_at word = outcome_in (word / 1000) (word % 1000)
+
+-- ---- the words of a slot
+
+-- 0 stands for no cell, 1 for `Absent` and 2 for `Present`
+abbrev pub presence_of : Cell → ℕ
+presence_of Absent = 1
+presence_of (Present z) = 2
+
+-- a value modulo 2 ^ 64
+abbrev pub value_of : Cell → ℕ
+value_of Absent = 0
+value_of (Present z) = cast_unsigned w64 z
+
+-- the cell of a value word whose presence word is 2
+abbrev pub present_at : ℕ → Cell
+present_at word = Present (cast_signed w64 word)

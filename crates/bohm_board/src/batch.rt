@@ -1,0 +1,146 @@
+//! Batches.
+
+ghost use Rattle.std.specs.Prelude.{◌≡◌, ◌+◌, ◌<◌, ◌≤◌, ◌^◌, All, length, Some, IsSomeAnd, slice_get};
+ghost use Rattle.std.specs.Cmp.Lexicographic.{slice_cmp};
+ghost use Rattle.std.specs.Ordering.{nat_cmp};
+ghost use Rattle.bohm_txn.specs.Faulty.{IsWellFormedTxn};
+ghost use Rattle.bohm_place.specs.Plans.{IsRightPlan};
+ghost use Rattle.bohm_board.specs.Bases.{IsBase};
+
+use bohm_place::{Access, Plan, Source};
+use bohm_txn::{Cell, Items, Key, Txn};
+use std::cmp::Ordering;
+
+/// Transactions of a log that run as one, their plan, and what each key that they declare holds before
+/// them.
+#[derive(Drop)]
+pub struct Batch<'a> {
+    txns: &'a [Txn],
+    plan: Plan,
+    base: Items<(Key, Cell)>,
+    ghost some: { 0 < length txns.now },
+    ghost few: { length txns.now ≤ 4096 },
+    ghost timestamps: { plan.first + length txns.now ≤ 2 ^ 32 },
+    ghost formed: { All IsWellFormedTxn txns.now },
+    ghost right: { ∥ IsRightPlan txns.now plan ∥₁ },
+    ghost based: { IsBase txns.now base },
+}
+
+impl<'a> Batch<'a> {
+    ghost use Rattle.bohm_board.specs.Batches.{first_of, txns_of, plan_of, entries_of, base_of, txn_at, reads_at, writes_at, position, rights_of, IsIn};
+
+    /// A batch whose first transaction has the timestamp `first`. The base has an entry for each key that
+    /// a transaction declares and for no other, and its keys rise.
+    pub fn new(first: u32, txns: &'a [Txn], plan: Plan, base: Vec<(Key, Cell)>) -> Batch<'a>
+        requires some { 0 < length txns.now }
+        requires few { length txns.now ≤ 4096 }
+        requires timestamps { first + length txns.now ≤ 2 ^ 32 }
+        requires formed { All IsWellFormedTxn txns.now }
+        requires first { plan.first ≡ first }
+        requires right { IsRightPlan txns.now plan }
+        requires base { IsBase txns.now base.items }
+        ensures first { first_of result ≡ first }
+        ensures txns { txns_of result ≡ txns.entry.now }
+        ensures plan { plan_of result ≡ plan }
+        ensures base { entries_of result ≡ base.items }
+    {
+        let _ = first;
+        Batch {
+            txns,
+            plan,
+            base: Items::from(base),
+        }
+    }
+
+    /// The timestamp of the first transaction.
+    pub fn first(&self) -> u32
+        ensures { result ≡ first_of self.now }
+    {
+        self.plan.first()
+    }
+
+    /// The number of transactions.
+    pub fn len(&self) -> u32
+        ensures { result ≡ length (txns_of self.now) }
+    {
+        self.txns.len() as u32
+    }
+
+    /// The transactions, in the order of their timestamps.
+    pub(crate) fn txns(&self) -> &'a [Txn]
+        ensures { result.now ≡ txns_of self.now }
+    {
+        self.txns
+    }
+
+    /// The position of a timestamp, counted from the first.
+    pub(crate) fn position(&self, t: u32) -> usize
+        requires { IsIn self.now t }
+        ensures position { result ≡ position self.now t }
+        ensures inside { result < length (rights_of self.now).outcomes }
+    {
+        (t - self.plan.first()) as usize
+    }
+
+    /// The transaction with a timestamp.
+    pub fn txn(&self, t: u32) -> &'a Txn
+        requires { IsIn self.now t }
+        ensures { txn_at self.now t ≡ Some result.now }
+    {
+        &self.txns[(t - self.plan.first()) as usize]
+    }
+
+    /// Where a declared read, counted from 0, of the transaction with a timestamp finds its version.
+    pub fn read(&self, t: u32, index: u32) -> Source
+        requires txn { IsIn self.now t }
+        requires index { index < length (reads_at self.now t) }
+        ensures { IsSomeAnd (slice_get (reads_at self.now t) index) (λ a. a.source ≡ result) }
+    {
+        self.plan.read(t, index)
+    }
+
+    /// Where the key of a declared write, counted from 0, of the transaction with a timestamp has its
+    /// version before it.
+    pub fn write(&self, t: u32, index: u32) -> Source
+        requires txn { IsIn self.now t }
+        requires index { index < length (writes_at self.now t) }
+        ensures { IsSomeAnd (slice_get (writes_at self.now t) index) (λ a. a.source ≡ result) }
+    {
+        self.plan.write(t, index)
+    }
+
+    /// The same as `read`, with the index of the source's declared write of the key.
+    pub fn read_access(&self, t: u32, index: u32) -> Access
+        requires txn { IsIn self.now t }
+        requires index { index < length (reads_at self.now t) }
+        ensures { slice_get (reads_at self.now t) index ≡ Some result }
+    {
+        self.plan.read_access(t, index)
+    }
+
+    /// The same as `write`, with the index of the source's declared write of the key.
+    pub fn write_access(&self, t: u32, index: u32) -> Access
+        requires txn { IsIn self.now t }
+        requires index { index < length (writes_at self.now t) }
+        ensures { slice_get (writes_at self.now t) index ≡ Some result }
+    {
+        self.plan.write_access(t, index)
+    }
+
+    /// What a key holds before the batch: absence where no transaction of the batch declares it. The time
+    /// grows with the logarithm of the number of declared keys.
+    pub fn before(&self, key: &Key) -> Cell
+        ensures { result ≡ base_of self.now key.now }
+    {
+        let entries = self.base.as_slice();
+        let found = entries.binary_search_by(
+            |entry: &(Key, Cell)| -> Ordering
+                ensures { result ≡ slice_cmp nat_cmp entry.now.0 key.entry.now }
+            { entry.0.cmp(key) },
+        );
+        match found {
+            Ok(i) => entries[i].1,
+            Err(_) => Cell::Absent,
+        }
+    }
+}

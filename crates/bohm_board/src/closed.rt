@@ -1,0 +1,36 @@
+//! What a board leaves.
+
+ghost use Rattle.std.specs.Prelude.{◌≡◌, ◌+◌, ◌<◌, ◌≤◌, ℕ, length, slice_index, vec_len};
+ghost use Rattle.std.specs.Slots.{slots_items, slots_len, IsFull};
+ghost use Rattle.bohm_board.specs.Batches.{rights_of, txns_of};
+ghost use Rattle.bohm_board.specs.Law.{IsSized, IsSound, words_of};
+ghost use Rattle.bohm_board.specs.Layouts.{IsLayoutOf};
+
+use crate::batch::Batch;
+use crate::columns::Columns;
+use crate::layout::Layout;
+use std::alloc::Global;
+
+/// The words of a board that no thread steps on any more.
+#[derive(Drop)]
+pub struct Closed<'a> {
+    pub(crate) batch: Batch<'a>,
+    pub(crate) layout: Layout,
+    pub(crate) columns: Columns,
+    ghost laid: { IsLayoutOf (txns_of batch) layout },
+    ghost lengths: { (length (rights_of batch).outcomes ≡ layout.positions) × (length (rights_of batch).slots ≡ layout.slots) },
+    ghost sized: { IsSized (rights_of batch) (words_of columns) },
+    ghost sound: { IsSound (rights_of batch) (words_of columns) },
+}
+
+/// Copies words from a place on into all of a vector.
+pub(crate) fn copy_words(words: &atomic_table::Closed<(), Global>, from: usize, into: &mut Vec<u64>)
+    requires full { IsFull words.now.words }
+    requires inside { from + vec_len into.old ≤ slots_len words.now.words }
+    ensures len { length into.new.items ≡ length into.old.items }
+    ensures each { (j : ℕ) → j < length into.old.items → slice_index into.new.items j ≡ slice_index (slots_items words.now.words) (from + j) }
+{
+    for j in 0..into.len() {
+        into[j] = words.word(from + j);
+    }
+}

@@ -1,0 +1,77 @@
+//! Where the slots of a batch lie.
+
+ghost use Rattle.std.specs.Prelude.{◌≡◌, ℕ, ◌+◌, ◌<◌, ◌≤◌, length, slice_index, IfOk};
+ghost use Rattle.bohm_txn.specs.Declares.{shows_in};
+ghost use Rattle.bohm_txn.specs.Faulty.{IsWellFormedTxn};
+ghost use Rattle.bohm_board.specs.Serial.{width};
+ghost use Rattle.bohm_board.specs.Batches.{txns_of, number, rights_of, IsSlot};
+ghost use Rattle.bohm_board.specs.Layouts.{IsLayoutOf};
+
+use crate::batch::Batch;
+use crate::slot::Slot;
+use bohm_txn::{NoMemory, Stmt, Txn};
+use std::alloc::Global;
+
+/// How many positions and slots there are, and how many slots before each position.
+#[derive(Drop)]
+pub struct Layout {
+    pub positions: usize,
+    pub slots: usize,
+    pub starts: Vec<u32>,
+}
+
+// How many values a commit shows.
+fn shows(body: &[Stmt]) -> usize
+    ensures { result ≡ shows_in body.now }
+{
+    let mut count = 0;
+    for stmt in body {
+        if stmt.is_show() {
+            count += 1;
+        }
+    }
+    count
+}
+
+// How many slots a transaction has.
+fn width(txn: &Txn) -> u32
+    requires { IsWellFormedTxn txn.now }
+    ensures width { result ≡ width txn.now }
+    ensures few { result ≤ 32 }
+{
+    (txn.writes.as_slice().len() + shows(txn.body.as_slice())) as u32
+}
+
+impl Layout {
+    ghost use Rattle.std.specs.Prelude.{All};
+
+    /// The layout of a batch of these transactions.
+    pub fn new(alloc: Global, txns: &[Txn]) -> Result<Layout, NoMemory>
+        requires few { length txns.now ≤ 4096 }
+        requires formed { All IsWellFormedTxn txns.now }
+        ensures { IfOk result (IsLayoutOf txns.now) }
+    {
+        let mut starts = Vec::with_capacity(alloc, txns.len())?;
+        let mut slots = 0;
+        for txn in txns {
+            starts.push(slots)?;
+            slots += width(txn);
+        }
+        Ok(Layout {
+            positions: txns.len(),
+            slots: slots as usize,
+            starts,
+        })
+    }
+
+    /// The number of a slot among all of the batch, counted from 0.
+    pub fn number(&self, batch: &Batch, slot: Slot) -> usize
+        requires layout { IsLayoutOf (txns_of batch.now) self.now }
+        requires slot { IsSlot batch.now slot }
+        ensures number { result ≡ number batch.now slot }
+        ensures inside { result < length (rights_of batch.now).slots }
+    {
+        let position = batch.position(slot.txn);
+        self.starts[position] as usize + slot.index as usize
+    }
+}

@@ -1,0 +1,20 @@
+//! Passes.
+
+ghost use Rattle.std.specs.Prelude.{◌≡◌, []};
+ghost use Rattle.bohm_board.specs.Views.{IsKept};
+
+use crate::view::View;
+use atomic_table::Seat;
+
+/// What a thread steps on a board with, and what it knows of it. Where a pass is dropped, the position
+/// that it held stays Busy for good.
+#[derive(Drop)]
+pub struct Pass {
+    pub(crate) seat: Seat<(), View>,
+    // The timestamp of the batch's first transaction.
+    pub(crate) first: u32,
+    // The position that it holds, counted from the batch's first.
+    pub(crate) held: Option<u32>,
+    ghost bare: { seat.me.1 ≡ [] },
+    ghost fits: { IsKept seat.me.0 first held },
+}

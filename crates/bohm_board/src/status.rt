@@ -1,0 +1,23 @@
+//! How far a position is.
+
+/// How far a position is.
+#[derive(Clone, Copy, Debug, PartialEq, Eq)]
+pub enum Status {
+    /// No pass has claimed it.
+    Open,
+    /// It is claimed, and has no outcome.
+    Busy,
+    /// It has an outcome, and all its slots are filled.
+    Done,
+}
+
+/// What a claim of a position found.
+#[derive(Clone, Copy, Debug, PartialEq, Eq)]
+pub enum Claimed {
+    /// It was open, and the pass holds it now.
+    Mine,
+    /// A pass holds it, or one that held it was dropped.
+    Busy,
+    /// It has an outcome.
+    Done,
+}

@@ -1,0 +1,157 @@
+-- What a worker finds, transaction by transaction, and what several found together.
+use Rattle.std.proofs.Common.{◌≡◌, ◌≢◌, ℕ, ◌+◌, ◌<◌, ◌≤◌, ◌%◌, ◌==◌, ◌&&◌, ◌||◌, Bool, true, false, List, [], ◌∷◌, ◌++◌, length, map, take, drop, get_or, slice_get, Some, refl, sym, ap, ◌∙◌, inl, inr, ◌⊎◌, arith, if◌then◌else◌, max, nat_lt, append_assoc, append-nil, add-zero, add-one, drop-cons}
+use Rattle.std.proofs.lemmas.Bool.Decides.{nat_tests}
+use Rattle.std.proofs.lemmas.List.{take_more, map-append, length-take-le}
+use Rattle.std.specs.Str.{bytes_eq}
+use Rattle.bohm_tree.specs.declared.txn.Txn.{Txn}
+use Rattle.bohm_place.specs.declared.placeholder.Placeholder.{Placeholder}
+use Rattle.bohm_place.specs.Chains.{Keyed, placeholders_in, none, last_or}
+use Rattle.bohm_place.specs.Shares.{has_part, within, written, made, found_by, newest_ahead, greater_of, greater}
+use Rattle.bohm_place.proofs.Lists.{map_same, same_or}
+use Rattle.bohm_place.proofs.Placed.{Below, Below-append, Below-higher}
+
+pub made_more : (u : ℕ) (xs : List Txn) (x : Txn) (k : List ℕ) → made u (xs ++ x ∷ []) k ≡ made u xs k ++ written (u + length xs) 0 x.writes k
+made_more u [] x k = rw (append-nil, add-zero) refl
+made_more u (y ∷ ys) x k =
+    let e : (u + 1) + length ys ≡ u + length (y ∷ ys) = omega arith in
+    rw (made_more (u + 1) ys x k, e, append_assoc) refl
+
+row_same : (mine : List ℕ → Bool) (base hand : List ℕ → List Placeholder) (first : ℕ) (ahead : List Txn) (k : List ℕ) → hand k ≡ (if mine k then base k ++ made first ahead k else base k) → (b : Bool) → mine k ≡ b
+    → (if mine k then within first (last_or none (hand k)) else none) ≡ (if mine k then newest_ahead first base ahead k else none)
+row_same mine base hand first ahead k h true e = rw (h, e) refl
+row_same mine base hand first ahead k h false e = rw e refl
+
+pub found_step : (mine : List ℕ → Bool) (base hand : List ℕ → List Placeholder) (first : ℕ) (xs : List Txn) (i : ℕ) (d : Txn) → i < length xs
+    → ((k : List ℕ) → hand k ≡ (if mine k then base k ++ made first (take i xs) k else base k))
+    → (out more : List Placeholder) → out ++ found_by mine (newest_ahead first base) (take i xs) (drop i xs) ≡ found_by mine (newest_ahead first base) [] xs
+    → more ≡ (out ++ map (λ k. if mine k then within first (last_or none (hand k)) else none) (get_or xs i d).reads) ++ map (λ k. if mine k then within first (last_or none (hand k)) else none) (get_or xs i d).writes
+    → more ++ found_by mine (newest_ahead first base) (take (i + 1) xs) (drop (i + 1) xs) ≡ found_by mine (newest_ahead first base) [] xs
+found_step mine base hand first xs i d inside chains out more so_far is =
+    let G : List ℕ → Placeholder = λ k. if mine k then within first (last_or none (hand k)) else none in
+    let F : List ℕ → Placeholder = λ k. if mine k then newest_ahead first base (take i xs) k else none in
+    let same : (ks : List (List ℕ)) → map G ks ≡ map F ks = map_same G F (λ k. row_same mine base hand first (take i xs) k (chains k) (mine k) refl) in
+    let x : Txn = get_or xs i d in
+    let at : drop i xs ≡ x ∷ drop (i + 1) xs = rw add-one (drop-cons xs i d inside) in
+    let taken : take (i + 1) xs ≡ take i xs ++ x ∷ [] = take_more xs i d inside in
+    let whole = rw at at so_far in
+    rw (taken, is, same x.reads, same x.writes, append_assoc, append_assoc) (rw (map-append F x.reads x.writes, append_assoc) at whole)
+
+chains_by : (mine : List ℕ → Bool) (base hand new : List ℕ → List Placeholder) (first : ℕ) (xs : List Txn) (i : ℕ) (d : Txn) → i < length xs → (k : List ℕ)
+    → hand k ≡ (if mine k then base k ++ made first (take i xs) k else base k)
+    → new k ≡ (if mine k then hand k ++ written (first + i) 0 (get_or xs i d).writes k else hand k)
+    → (b : Bool) → mine k ≡ b
+    → new k ≡ (if mine k then base k ++ made first (take (i + 1) xs) k else base k)
+chains_by mine base hand new first xs i d inside k h n true e =
+    let len : length (take i xs) ≡ i = length-take-le i xs (omega arith) in
+    let taken : take (i + 1) xs ≡ take i xs ++ get_or xs i d ∷ [] = take_more xs i d inside in
+    rw (n, e, h, e, taken, made_more first (take i xs) (get_or xs i d) k, len, append_assoc) refl
+chains_by mine base hand new first xs i d inside k h n false e = rw (n, e, h, e) refl
+
+pub chains_step : (mine : List ℕ → Bool) (base hand new : List ℕ → List Placeholder) (first : ℕ) (xs : List Txn) (i : ℕ) (d : Txn) → i < length xs → (k : List ℕ)
+    → hand k ≡ (if mine k then base k ++ made first (take i xs) k else base k)
+    → new k ≡ (if mine k then hand k ++ written (first + i) 0 (get_or xs i d).writes k else hand k)
+    → new k ≡ (if mine k then base k ++ made first (take (i + 1) xs) k else base k)
+chains_step mine base hand new first xs i d inside k h n = chains_by mine base hand new first xs i d inside k h n (mine k) refl
+
+-- ---- the begins of a batch
+
+written_below : (t u index : ℕ) (ws : List (List ℕ)) (k : List ℕ) → u < t → Below t (written u index ws k)
+written_below t u index [] k lt = tt
+written_below t u index (w ∷ ws) k lt = Below-append t (if bytes_eq w k then record { begin = u; index = index } ∷ [] else []) (written u (index + 1) ws k) (one (bytes_eq w k)) (written_below t u (index + 1) ws k lt)
+  where
+    one : (b : Bool) → Below t (if b then record { begin = u; index = index } ∷ [] else [])
+    one true = (lt, tt)
+    one false = tt
+
+pub made_below : (t u : ℕ) (xs : List Txn) (k : List ℕ) → u + length xs ≤ t → Below t (made u xs k)
+made_below t u [] k le = tt
+made_below t u (x ∷ xs) k le = Below-append t (written u 0 x.writes k) (made (u + 1) xs k) (written_below t u 0 x.writes k (omega arith)) (made_below t (u + 1) xs k (omega arith))
+
+hand_below_by : (m : Bool) (first t : ℕ) (base hand : List Placeholder) (xs : List Txn) (k : List ℕ) → first + length xs ≤ t → Below first base → hand ≡ (if m then base ++ made first xs k else base) → Below t hand
+hand_below_by true first t base hand xs k le low h = rw h (Below-append t base (made first xs k) (Below-higher first t base (omega arith) low) (made_below t first xs k le))
+hand_below_by false first t base hand xs k le low h = rw h (Below-higher first t base (omega arith) low)
+
+pub hand_below : (m : Bool) (first t : ℕ) (base hand : List Placeholder) (xs : List Txn) (k : List ℕ) → first + length xs ≤ t → Below first base → hand ≡ (if m then base ++ made first xs k else base) → Below t hand
+hand_below m first t base hand xs k le low h = hand_below_by m first t base hand xs k le low h
+
+-- ---- several workers
+
+max_if : (a b : Bool) (v : Placeholder) → greater_of (if a then v else none) (if b then v else none) ≡ (if (a || b) then v else none)
+max_if true true v = λ i. record { begin = same v.begin i; index = same v.index i }
+  where
+    same : (n : ℕ) → max n n ≡ n
+    same n = omega arith
+max_if true false v = λ i. record { begin = left v.begin i; index = left v.index i }
+  where
+    left : (n : ℕ) → max n 0 ≡ n
+    left n = omega arith
+max_if false true v = λ i. record { begin = right v.begin i; index = right v.index i }
+  where
+    right : (n : ℕ) → max 0 n ≡ n
+    right n = omega arith
+max_if false false v = refl
+
+greater_map : (f g : List ℕ → Placeholder) (ks : List (List ℕ)) (xs ys : List Placeholder) → greater (map f ks ++ xs) (map g ks ++ ys) ≡ map (λ k. greater_of (f k) (g k)) ks ++ greater xs ys
+greater_map f g [] xs ys = refl
+greater_map f g (k ∷ ks) xs ys = rw (greater_map f g ks xs ys) refl
+
+-- what two workers found, taken together, is what one finds that has the parts of both
+pub greater_found : (a b : List ℕ → Bool) (f : List Txn → List ℕ → Placeholder) (done xs : List Txn) → greater (found_by a f done xs) (found_by b f done xs) ≡ found_by (λ k. a k || b k) f done xs
+greater_found a b f done [] = refl
+greater_found a b f done (x ∷ xs) =
+    greater_map (λ k. if a k then f done k else none) (λ k. if b k then f done k else none) (x.reads ++ x.writes) (found_by a f (done ++ x ∷ []) xs) (found_by b f (done ++ x ∷ []) xs)
+    ∙ rw (greater_found a b f (done ++ x ∷ []) xs, map_same _ _ (λ k. max_if (a k) (b k) (f done k)) (x.reads ++ x.writes)) refl
+
+pub found_same : (a b : List ℕ → Bool) (f g : List Txn → List ℕ → Placeholder) → ((done : List Txn) (k : List ℕ) → (if a k then f done k else none) ≡ (if b k then g done k else none)) → (done xs : List Txn) → found_by a f done xs ≡ found_by b g done xs
+found_same a b f g same done [] = refl
+found_same a b f g same done (x ∷ xs) = rw (map_same _ _ (same done) (x.reads ++ x.writes), found_same a b f g same (done ++ x ∷ []) xs) refl
+
+or_false : (b : Bool) → (b || false) ≡ b
+or_false true = refl
+or_false false = refl
+
+lt_apart_by : (j p : ℕ) (b : Bool) → nat_lt j p ≡ b → j ≢ p → nat_lt j (p + 1) ≡ b
+lt_apart_by j p true e apart = grind (arith, nat_tests)
+lt_apart_by j p false e apart = grind (arith, nat_tests)
+
+lt_apart : (j p : ℕ) → j ≢ p → nat_lt j (p + 1) ≡ nat_lt j p
+lt_apart j p apart = lt_apart_by j p (nat_lt j p) refl apart
+
+next_or_by : (m w : ℕ) (b : Bool) → (m == w) ≡ b → (nat_lt m w || (m == w)) ≡ nat_lt m (w + 1)
+next_or_by m w true e = let s : m ≡ w = grind (arith, nat_tests) in let l : nat_lt m w ≡ false = grind (arith, nat_tests) in let r : nat_lt m (w + 1) ≡ true = grind (arith, nat_tests) in rw (l, r, e) refl
+next_or_by m w false e =
+    let apart : m ≢ w = λ x. grind (arith, nat_tests) in
+    rw e (or_false (nat_lt m w) ∙ sym (lt_apart m w apart))
+
+-- below w, or w, is below w + 1
+pub next_or : (m w : ℕ) → (nat_lt m w || (m == w)) ≡ nat_lt m (w + 1)
+next_or m w = next_or_by m w (m == w) refl
+
+zero_or : (m : ℕ) → (m == 0) ≡ nat_lt m (0 + 1)
+zero_or m = let none_below : nat_lt m 0 ≡ false = grind (arith, nat_tests) in let all = next_or m 0 in rw none_below at all
+
+module _ (part : List ℕ → ℕ) (n : ℕ) (f : List Txn → List ℕ → Placeholder) (xs : List Txn) where
+  pub found_first : (w : ℕ) → w ≡ 0 → found_by (has_part part n w) f [] xs ≡ found_by (λ k. nat_lt (part k % n) (w + 1)) f [] xs
+  found_first w e = rw e (found_same (has_part part n 0) (λ k. nat_lt (part k % n) (0 + 1)) f f (λ done k. ap (λ b. if b then f done k else none) (zero_or (part k % n))) [] xs)
+
+  pub found_next : (w : ℕ) → greater (found_by (λ k. nat_lt (part k % n) w) f [] xs) (found_by (has_part part n w) f [] xs) ≡ found_by (λ k. nat_lt (part k % n) (w + 1)) f [] xs
+  found_next w = greater_found (λ k. nat_lt (part k % n) w) (has_part part n w) f [] xs
+      ∙ found_same (λ k. nat_lt (part k % n) w || has_part part n w k) (λ k. nat_lt (part k % n) (w + 1)) f f (λ done k. ap (λ b. if b then f done k else none) (next_or (part k % n) w)) [] xs
+
+module _ (part : List ℕ → ℕ) (n w : ℕ) (old new hand given : List Keyed) (more : List ℕ → List Placeholder) where
+  gathered_by : ((p : ℕ) → p < length old → slice_get new p ≡ (if ((p % n) == w) then slice_get hand p else slice_get old p)) → ((k : List ℕ) → part k < length old)
+      → ((k : List ℕ) → has_part part n w k ≡ true → placeholders_in part hand k ≡ placeholders_in part given k ++ more k)
+      → ((k : List ℕ) → nat_lt (part k % n) w ≡ true → placeholders_in part old k ≡ placeholders_in part given k ++ more k)
+      → (k : List ℕ) → nat_lt (part k % n) (w + 1) ≡ true → (b : Bool) → ((part k % n) == w) ≡ b → placeholders_in part new k ≡ placeholders_in part given k ++ more k
+  gathered_by swapped inside hands olds k low true e = let at = swapped (part k) (inside k) in let here : slice_get new (part k) ≡ slice_get hand (part k) = rw e at at in rw here (hands k e)
+  gathered_by swapped inside hands olds k low false e =
+      let at = swapped (part k) (inside k) in
+      let here : slice_get new (part k) ≡ slice_get old (part k) = rw e at at in
+      let apart : (part k % n) ≢ w = λ x. grind (arith, nat_tests) in
+      rw here (olds k (sym (lt_apart (part k % n) w apart) ∙ low))
+
+  pub gathered : ((p : ℕ) → p < length old → slice_get new p ≡ (if ((p % n) == w) then slice_get hand p else slice_get old p)) → ((k : List ℕ) → part k < length old)
+      → ((k : List ℕ) → has_part part n w k ≡ true → placeholders_in part hand k ≡ placeholders_in part given k ++ more k)
+      → ((k : List ℕ) → nat_lt (part k % n) w ≡ true → placeholders_in part old k ≡ placeholders_in part given k ++ more k)
+      → (k : List ℕ) → nat_lt (part k % n) (w + 1) ≡ true → placeholders_in part new k ≡ placeholders_in part given k ++ more k
+  gathered swapped inside hands olds k low = gathered_by swapped inside hands olds k low ((part k % n) == w) refl

@@ -1,0 +1,14 @@
+pub mod Keyed
+pub mod Rising
+pub mod Keeping
+pub mod Listing
+pub mod Lists
+pub mod Swaps
+pub mod Distinct
+pub mod Placed
+pub mod Found
+pub mod Right
+pub mod Nested
+pub mod Parted
+pub mod Newest
+pub mod TestTxns

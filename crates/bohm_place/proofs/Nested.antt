@@ -1,0 +1,119 @@
+-- Accesses in one list, transaction by transaction.
+use Rattle.std.proofs.Common.{◌≡◌, ℕ, zero, suc, ◌+◌, ◌<◌, ◌≤◌, ◌%◌, Bool, true, false, List, [], ◌∷◌, ◌++◌, length, map, take, drop, slice_get, Option, Some, None, option_map, unwrap_or, refl, sym, ap, ◌∙◌, arith, if◌then◌else◌, nat_lt, append_assoc, append-nil, length-append, All}
+use Rattle.std.proofs.lemmas.Bool.Decides.{nat_tests}
+use Rattle.std.proofs.lemmas.Option.{same_Some, slice_get-map, slice_get_within}
+use Rattle.std.proofs.lemmas.List.{map-append, length-map, take_at, drop_at}
+use Rattle.bohm_tree.specs.declared.txn.Txn.{Txn}
+use Rattle.bohm_place.specs.declared.placeholder.Placeholder.{Placeholder}
+use Rattle.bohm_place.specs.declared.access.Access.{Access}
+use Rattle.bohm_place.specs.declared.row.Row.{Row}
+use Rattle.bohm_place.specs.Chains.{Keyed, placeholders_in, none, last_or}
+use Rattle.bohm_place.specs.Shares.{found_by, rows_from, made, newest_ahead}
+use Rattle.bohm_place.specs.Plans.{Accesses, Planned, access_of, accesses_of, reads_of, writes_of, AreRightAccesses, IsRightPlan}
+use Rattle.bohm_place.proofs.Lists.{map_same}
+use Rattle.bohm_place.proofs.Placed.{Below}
+use Rattle.bohm_place.proofs.Found.{found_same}
+use Rattle.bohm_place.proofs.Right.{right_access, newest_ahead-base}
+
+-- what f says of each access, transaction by transaction
+abbrev nested : (List Txn → List ℕ → Placeholder) → List Txn → List Txn → List Accesses
+nested f done [] = []
+nested f done (t ∷ ts) = record { reads = map access_of (map (f done) t.reads); writes = map access_of (map (f done) t.writes) } ∷ nested f (done ++ t ∷ []) ts
+
+front : {A : Type 0} (n m : ℕ) (pre xs ys : List A) → n ≡ length pre → m ≡ length xs → take m (drop n (pre ++ (xs ++ ys))) ≡ xs
+front n m [] xs ys e f = let none_there : n ≡ 0 = omega arith in rw (none_there, f) (taken xs ys)
+  where
+    taken : {A : Type 0} (xs ys : List A) → take (length xs) (xs ++ ys) ≡ xs
+    taken [] ys = refl
+    taken (x ∷ xs) ys = ap (λ zs. x ∷ zs) (taken xs ys)
+front n m (p ∷ pre) xs ys e f = rw e (front (length pre) m pre xs ys refl f)
+
+row_nested : (f : List ℕ → Placeholder) (pre rest : List Placeholder) (start : ℕ) (t : Txn) → start ≡ length pre
+    → accesses_of (pre ++ (map f (t.reads ++ t.writes) ++ rest)) (record { start = start; reads = length t.reads; writes = length t.writes }) ≡ record { reads = map access_of (map f t.reads); writes = map access_of (map f t.writes) }
+row_nested f pre rest start t e =
+    let rs = map f t.reads in
+    let ws = map f t.writes in
+    let parts : pre ++ (map f (t.reads ++ t.writes) ++ rest) ≡ pre ++ (rs ++ (ws ++ rest)) = rw (map-append f t.reads t.writes, append_assoc) refl in
+    let behind : pre ++ (rs ++ (ws ++ rest)) ≡ (pre ++ rs) ++ (ws ++ rest) = sym (append_assoc pre rs (ws ++ rest)) in
+    let reads : take (length t.reads) (drop start (pre ++ (map f (t.reads ++ t.writes) ++ rest))) ≡ rs = rw parts (front start (length t.reads) pre rs (ws ++ rest) e (sym (length-map t.reads f))) in
+    let middle : start + length t.reads ≡ length (pre ++ rs) = omega (arith, length-append pre rs, length-map t.reads f) in
+    let writes : take (length t.writes) (drop (start + length t.reads) (pre ++ (map f (t.reads ++ t.writes) ++ rest))) ≡ ws = rw (parts, behind) (front (start + length t.reads) (length t.writes) (pre ++ rs) ws rest middle (sym (length-map t.writes f))) in
+    λ i. record { reads = map access_of (reads i); writes = map access_of (writes i) }
+
+rows_nested : (f : List Txn → List ℕ → Placeholder) (done ts : List Txn) (pre : List Placeholder) (start : ℕ) → start ≡ length pre
+    → map (accesses_of (pre ++ found_by (λ _. true) f done ts)) (rows_from start ts) ≡ nested f done ts
+rows_nested f done [] pre start e = refl
+rows_nested f done (t ∷ ts) pre start e =
+    let here = map (f done) (t.reads ++ t.writes) in
+    let rest = found_by (λ _. true) f (done ++ t ∷ []) ts in
+    let whole : pre ++ (here ++ rest) ≡ (pre ++ here) ++ rest = sym (append_assoc pre here rest) in
+    let long : (start + length t.reads) + length t.writes ≡ length (pre ++ here) = omega (arith, length-append pre here, length-map (t.reads ++ t.writes) (f done), length-append t.reads t.writes) in
+    let more = rows_nested f (done ++ t ∷ []) ts (pre ++ here) ((start + length t.reads) + length t.writes) long in
+    let more' : map (accesses_of (pre ++ (here ++ rest))) (rows_from ((start + length t.reads) + length t.writes) ts) ≡ nested f (done ++ t ∷ []) ts = rw whole more in
+    λ i. row_nested (f done) pre rest start t e i ∷ more' i
+
+-- the rows of a plan that was found in one list
+pub found_nested : (f : List Txn → List ℕ → Placeholder) (ts : List Txn) → map (accesses_of (found_by (λ _. true) f [] ts)) (rows_from 0 ts) ≡ nested f [] ts
+found_nested f ts = rows_nested f [] ts [] 0 refl
+
+length-nested : (f : List Txn → List ℕ → Placeholder) (done ts : List Txn) → length (nested f done ts) ≡ length ts
+length-nested f done [] = refl
+length-nested f done (t ∷ ts) = ap suc (length-nested f (done ++ t ∷ []) ts)
+
+pub length-rows_from : (start : ℕ) (ts : List Txn) → length (rows_from start ts) ≡ length ts
+length-rows_from start [] = refl
+length-rows_from start (t ∷ ts) = ap suc (length-rows_from ((start + length t.reads) + length t.writes) ts)
+
+nested_at : (f : List Txn → List ℕ → Placeholder) (done ts : List Txn) (i : ℕ) (t : Txn) → slice_get ts i ≡ Some t
+    → slice_get (nested f done ts) i ≡ Some (record { reads = map access_of (map (f (done ++ take i ts)) t.reads); writes = map access_of (map (f (done ++ take i ts)) t.writes) })
+nested_at f done [] i t e = absurd cc
+nested_at f done (x ∷ ts) zero t e = let same : x ≡ t = same_Some x t e in rw (append-nil done, same) refl
+nested_at f done (x ∷ ts) (suc i) t e = let more = nested_at f (done ++ x ∷ []) ts i t e in rw append_assoc at more
+
+get_mapped : {A B : Type 0} (g : A → B) (xs : List A) (j : ℕ) (x : A) (y : B) → slice_get xs j ≡ Some x → slice_get (map g xs) j ≡ Some y → g x ≡ y
+get_mapped g [] j x y e h = absurd cc
+get_mapped g (z ∷ xs) zero x y e h = ap g (sym (same_Some z x e)) ∙ same_Some (g z) y h
+get_mapped g (z ∷ xs) (suc j) x y e h = get_mapped g xs j x y e h
+
+map_twice : {A B C : Type 0} (g : B → C) (f : A → B) (xs : List A) → map g (map f xs) ≡ map (λ x. g (f x)) xs
+map_twice g f [] = refl
+map_twice g f (x ∷ xs) = ap (λ ys. g (f x) ∷ ys) (map_twice g f xs)
+
+-- the source that the transactions ahead give
+abbrev pub ahead_of : ℕ → List Txn → List ℕ → Placeholder
+ahead_of first done k = last_or none (made first done k)
+
+right_row : (first : ℕ) (ts : List Txn) (i : ℕ) (keys : List (List ℕ)) → 0 < first → i ≤ length ts → AreRightAccesses first ts (first + i) keys (map access_of (map (ahead_of first (take i ts)) keys))
+right_row first ts i keys above inside = record {
+  paired = sym (length-map (map (ahead_of first (take i ts)) keys) access_of ∙ length-map keys (ahead_of first (take i ts)));
+  each = λ j k a e h.
+      let h' = rw (map_twice access_of (ahead_of first (take i ts)) keys) at h in
+      let same : access_of (ahead_of first (take i ts) k) ≡ a = get_mapped (λ q. access_of (ahead_of first (take i ts) q)) keys j k a e h' in
+      rw (← same) (right_access first ts k i above inside);
+}
+
+-- the plan that was found in one list is right
+pub right_plan : (first : ℕ) (ts : List Txn) (p : Planned) → 0 < first → p.first ≡ first → p.rows ≡ nested (ahead_of first) [] ts → IsRightPlan ts p
+right_plan first ts p above start rows = record {
+  paired = ap length rows ∙ length-nested (ahead_of first) [] ts;
+  reads = λ i t e.
+      let at = nested_at (ahead_of first) [] ts i t e in
+      let inside = slice_get_within ts i t e in
+      let is : reads_of p i ≡ map access_of (map (ahead_of first (take i ts)) t.reads) = rw (rows, at) refl in
+      rw (is, start) (right_row first ts i t.reads above (omega arith));
+  writes = λ i t e.
+      let at = nested_at (ahead_of first) [] ts i t e in
+      let inside = slice_get_within ts i t e in
+      let is : writes_of p i ≡ map access_of (map (ahead_of first (take i ts)) t.writes) = rw (rows, at) refl in
+      rw (is, start) (right_row first ts i t.writes above (omega arith));
+}
+
+whole_by : (m n : ℕ) (v w : Placeholder) → m < n → v ≡ w → (if nat_lt m n then v else none) ≡ w
+whole_by m n v w lt e = let t : nat_lt m n ≡ true = grind (arith, nat_tests) in rw t e
+
+-- what all workers found together
+pub found_whole : (part : List ℕ → ℕ) (n first : ℕ) (ts : List Txn) (given : List Keyed) → 0 < n → 0 < first → ((k : List ℕ) → Below first (placeholders_in part given k))
+    → found_by (λ k. nat_lt (part k % n) n) (newest_ahead first (placeholders_in part given)) [] ts ≡ found_by (λ _. true) (ahead_of first) [] ts
+found_whole part n first ts given some above low =
+    found_same (λ k. nat_lt (part k % n) n) (λ _. true) (newest_ahead first (placeholders_in part given)) (ahead_of first)
+    (λ done k. whole_by (part k % n) n (newest_ahead first (placeholders_in part given) done k) (ahead_of first done k) (omega arith) (newest_ahead-base first (placeholders_in part given) done k above (low k))) [] ts

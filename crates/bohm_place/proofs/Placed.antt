@@ -1,0 +1,149 @@
+-- Placeholders in the hands of workers.
+use Rattle.std.proofs.Common.{◌≡◌, ◌≢◌, ℕ, zero, suc, ◌+◌, ◌<◌, ◌≤◌, ◌%◌, ◌==◌, ◌&&◌, ◌||◌, Bool, true, false, List, [], ◌∷◌, ◌++◌, length, map, take, get_or, slice_get, slice_set, Option, Some, None, unwrap_or, option_map, refl, sym, ap, ◌∙◌, subst, inl, inr, ◌⊎◌, arith, if◌then◌else◌, All, append-nil}
+use Rattle.std.specs.Str.{bytes_eq}
+use Rattle.std.specs.List.{AllByRecursion}
+use Rattle.std.proofs.lemmas.List.{take_more, append_assoc, map-append}
+use Rattle.std.proofs.lemmas.Option.{same_Some}
+use Rattle.std.proofs.lemmas.List.Elements.{All-nil, All-cons, All-head, All-tail}
+use Rattle.bohm_txn.specs.Faulty.{is_among}
+use Rattle.bohm_place.specs.declared.placeholder.Placeholder.{Placeholder}
+use Rattle.bohm_place.specs.Chains.{Keyed, placeholders, placeholders_in, chain, chain_in, begins, none, last_or, kept, AreEmpty, AreKept}
+use Rattle.bohm_place.specs.Shares.{has_part, within, written, AreDistinct}
+use Rattle.bohm_place.proofs.Keyed.{same_key}
+use Rattle.bohm_place.proofs.Lists.{same_or, set_same, set_other}
+use Rattle.bohm_place.proofs.Distinct.{none_before}
+
+module _ (part : List ℕ → ℕ) where
+  placed_by : (qs : List Keyed) (old new : Keyed) (key k : List ℕ) (n w : ℕ) (next : Placeholder) → part key < length qs → part k < length qs → slice_get qs (part key) ≡ Some old → has_part part n w key ≡ true → (b : Bool) → bytes_eq key k ≡ b
+      → placeholders new k ≡ (if b then placeholders old k ++ next ∷ [] else placeholders old k) → (part k ≡ part key) ⊎ (part k ≢ part key)
+      → placeholders_in part (slice_set qs (part key) new) k ≡ (if (b && has_part part n w k) then placeholders_in part qs k ++ next ∷ [] else placeholders_in part qs k)
+  placed_by qs old new key k n w next inside inside' at mine true e is (inl s) =
+      let g : slice_get (slice_set qs (part key) new) (part k) ≡ Some new = rw s (set_same qs (part key) new inside) in
+      let o : slice_get qs (part k) ≡ Some old = rw s at in
+      let m : has_part part n w k ≡ true = rw (sym s) at mine in
+      rw (g, o, m) is
+  placed_by qs old new key k n w next inside inside' at mine true e is (inr s) = absurd (s (ap part (sym (same_key key k e))))
+  placed_by qs old new key k n w next inside inside' at mine false e is (inl s) =
+      let g : slice_get (slice_set qs (part key) new) (part k) ≡ Some new = rw s (set_same qs (part key) new inside) in
+      let o : slice_get qs (part k) ≡ Some old = rw s at in
+      rw (g, o) is
+  placed_by qs old new key k n w next inside inside' at mine false e is (inr s) = rw (set_other qs (part key) (part k) new inside' s) refl
+
+  pub placed : (qs : List Keyed) (old new : Keyed) (key k : List ℕ) (n w : ℕ) (next : Placeholder) → part key < length qs → part k < length qs → slice_get qs (part key) ≡ Some old → has_part part n w key ≡ true
+      → placeholders new k ≡ (if bytes_eq key k then placeholders old k ++ next ∷ [] else placeholders old k)
+      → placeholders_in part (slice_set qs (part key) new) k ≡ (if (bytes_eq key k && has_part part n w k) then placeholders_in part qs k ++ next ∷ [] else placeholders_in part qs k)
+  placed qs old new key k n w next inside inside' at mine is = placed_by qs old new key k n w next inside inside' at mine (bytes_eq key k) refl is (same_or (part k) (part key))
+
+  not_placed_by : (qs : List Keyed) (key k : List ℕ) (n w : ℕ) (next : Placeholder) (b m : Bool) → bytes_eq key k ≡ b → has_part part n w key ≡ false → has_part part n w k ≡ m
+      → placeholders_in part qs k ≡ (if (b && m) then placeholders_in part qs k ++ next ∷ [] else placeholders_in part qs k)
+  not_placed_by qs key k n w next true true e other m = absurd (clash (sym (subst (λ (q : List ℕ). has_part part n w q ≡ false) (same_key key k e) other) ∙ m))
+    where
+      clash : false ≡ true → ⊥
+      clash e = cc
+  not_placed_by qs key k n w next true false e other m = refl
+  not_placed_by qs key k n w next false m e other is = refl
+
+  -- a key that isn't the worker's
+  pub not_placed : (qs : List Keyed) (key k : List ℕ) (n w : ℕ) (next : Placeholder) → has_part part n w key ≡ false
+      → placeholders_in part qs k ≡ (if (bytes_eq key k && has_part part n w k) then placeholders_in part qs k ++ next ∷ [] else placeholders_in part qs k)
+  not_placed qs key k n w next other = not_placed_by qs key k n w next (bytes_eq key k) (has_part part n w k) refl other refl
+
+skipped : (u index : ℕ) (w : List ℕ) (ws : List (List ℕ)) (k : List ℕ) (b : Bool) → bytes_eq w k ≡ b → (b || is_among ws k) ≡ false → (is_among ws k ≡ false → written u (index + 1) ws k ≡ []) → written u index (w ∷ ws) k ≡ []
+skipped u index w ws k true e absent more = absurd cc
+skipped u index w ws k false e absent more = rw e (more absent)
+
+written_none : (u index : ℕ) (ws : List (List ℕ)) (k : List ℕ) → is_among ws k ≡ false → written u index ws k ≡ []
+written_none u index [] k absent = refl
+written_none u index (w ∷ ws) k absent = skipped u index w ws k (bytes_eq w k) refl absent (written_none u (index + 1) ws k)
+
+written_more : (u index : ℕ) (ws : List (List ℕ)) (w k : List ℕ) (at : ℕ) → at ≡ index + length ws → written u index (ws ++ w ∷ []) k ≡ written u index ws k ++ (if bytes_eq w k then record { begin = u; index = at } ∷ [] else [])
+written_more u index [] w k at e = let s : at ≡ index = omega arith in rw s (append-nil _)
+written_more u index (x ∷ ws) w k at e = rw (written_more u (index + 1) ws w k at (omega arith), append_assoc) refl
+
+step_by : (m e : Bool) (base hand new ws : List Placeholder) (next : Placeholder) → hand ≡ (if m then base ++ ws else base) → new ≡ (if (e && m) then hand ++ next ∷ [] else hand) → new ≡ (if m then base ++ (ws ++ (if e then next ∷ [] else [])) else base)
+step_by true true base hand new ws next h n = rw (n, h, append_assoc) refl
+step_by true false base hand new ws next h n = rw (n, h, append-nil ws) refl
+step_by false true base hand new ws next h n = n ∙ h
+step_by false false base hand new ws next h n = n ∙ h
+
+-- one more write of the transaction u
+pub write_placed : (m : Bool) (base hand new : List Placeholder) (u i : ℕ) (keys : List (List ℕ)) (k d : List ℕ) → i < length keys → length (take i keys) ≡ i
+    → hand ≡ (if m then base ++ written u 0 (take i keys) k else base)
+    → new ≡ (if (bytes_eq (get_or keys i d) k && m) then hand ++ record { begin = u; index = i } ∷ [] else hand)
+    → new ≡ (if m then base ++ written u 0 (take (i + 1) keys) k else base)
+write_placed m base hand new u i keys k d inside len h n =
+    let more : written u 0 (take (i + 1) keys) k ≡ written u 0 (take i keys) k ++ (if bytes_eq (get_or keys i d) k then record { begin = u; index = i } ∷ [] else [])
+    = ap (λ ws. written u 0 ws k) (take_more keys i d inside) ∙ written_more u 0 (take i keys) (get_or keys i d) k i (omega arith) in
+    rw more (step_by m (bytes_eq (get_or keys i d) k) base hand new (written u 0 (take i keys) k) record { begin = u; index = i } h n)
+
+-- the key of the next write has its chain as it was before the transaction
+pub not_yet_placed : (m : Bool) (base hand : List Placeholder) (u i : ℕ) (keys : List (List ℕ)) (d : List ℕ) → i < length keys → AreDistinct keys → hand ≡ (if m then base ++ written u 0 (take i keys) (get_or keys i d) else base) → hand ≡ base
+not_yet_placed true base hand u i keys d inside distinct h = h ∙ ap (λ ws. base ++ ws) (written_none u 0 (take i keys) (get_or keys i d) (none_before keys i d inside distinct)) ∙ append-nil base
+not_yet_placed false base hand u i keys d inside distinct h = h
+
+-- ---- begins below a timestamp
+
+abbrev pub Below : ℕ → List Placeholder → Type 0
+Below t vs = AllByRecursion (λ v. v.begin < t) vs
+
+pub Below-append : (t : ℕ) (vs ws : List Placeholder) → Below t vs → Below t ws → Below t (vs ++ ws)
+Below-append t [] ws h k = k
+Below-append t (v ∷ vs) ws h k = (h.0, Below-append t vs ws h.1 k)
+
+pub Below-higher : (t u : ℕ) (vs : List Placeholder) → t ≤ u → Below t vs → Below u vs
+Below-higher t u [] le h = tt
+Below-higher t u (v ∷ vs) le h = (omega (arith, h.0), Below-higher t u vs le h.1)
+
+pub all_below : (t : ℕ) (vs : List Placeholder) → Below t vs → All (λ b. b < t) (begins vs)
+all_below t [] h = All-nil (λ b. b < t)
+all_below t (v ∷ vs) h = All-cons (λ b. b < t) v.begin (begins vs) h.0 (all_below t vs h.1)
+
+pub below_all : (t : ℕ) (vs : List Placeholder) → All (λ b. b < t) (begins vs) → Below t vs
+below_all t [] h = tt
+below_all t (v ∷ vs) h = (All-head (λ b. b < t) v.begin (begins vs) h, below_all t vs (All-tail (λ b. b < t) v.begin (begins vs) h))
+
+-- ---- parts without chains
+
+pub AreEmpty-push : (parts : List Keyed) (p : Keyed) → AreEmpty parts → ((k : List ℕ) → placeholders p k ≡ []) → AreEmpty (parts ++ p ∷ [])
+AreEmpty-push [] p h e zero q k at = let same : p ≡ q = same_Some p q at in rw (← same) (e k)
+AreEmpty-push [] p h e (suc i) q k at = absurd cc
+AreEmpty-push (x ∷ xs) p h e zero q k at = h 0 q k at
+AreEmpty-push (x ∷ xs) p h e (suc i) q k at = AreEmpty-push xs p (λ j. h (suc j)) e i q k at
+
+in_none : (o : Option Keyed) (k : List ℕ) → ((p : Keyed) → o ≡ Some p → placeholders p k ≡ []) → unwrap_or (option_map (λ p. placeholders p k) o) [] ≡ []
+in_none None k h = refl
+in_none (Some p) k h = h p refl
+
+pub chain_in_empty : (parts : List Keyed) → AreEmpty parts → (part : List ℕ → ℕ) (k : List ℕ) → chain_in part parts k ≡ []
+chain_in_empty parts h part k = ap begins (in_none (slice_get parts (part k)) k (λ p e. h (part k) p k e))
+
+-- ---- parts of which each is trimmed
+
+-- the part, if there is one, has what is kept of its chains
+abbrev pub KeptParts : ℕ → Option Keyed → Option Keyed → Type 0
+KeptParts floor None None = Unit {0}
+KeptParts floor None (Some q) = ⊥
+KeptParts floor (Some p) None = ⊥
+KeptParts floor (Some p) (Some q) = (k : List ℕ) → chain q k ≡ kept floor (chain p k)
+
+in_kept : (floor : ℕ) (o r : Option Keyed) (k : List ℕ) → KeptParts floor o r → begins (unwrap_or (option_map (λ p. placeholders p k) r) []) ≡ kept floor (begins (unwrap_or (option_map (λ p. placeholders p k) o) []))
+in_kept floor None None k h = refl
+in_kept floor (Some p) (Some q) k h = h k
+in_kept floor None (Some q) k h = absurd h
+in_kept floor (Some p) None k h = absurd h
+
+pub AreKept-parts : (floor : ℕ) (parts left : List Keyed) → ((i : ℕ) → KeptParts floor (slice_get parts i) (slice_get left i)) → AreKept floor parts left
+AreKept-parts floor parts left h part k = in_kept floor (slice_get parts (part k)) (slice_get left (part k)) k (h (part k))
+
+pub trimmed_here : (floor : ℕ) (o r : Option Keyed) (p q : Keyed) → o ≡ Some p → r ≡ Some q → ((k : List ℕ) → chain q k ≡ kept floor (chain p k)) → KeptParts floor o r
+trimmed_here floor o r p q e f h = rw (e, f) h
+
+pub trimmed_past : (floor : ℕ) (o r : Option Keyed) → o ≡ None → r ≡ None → KeptParts floor o r
+trimmed_past floor o r e f = rw (e, f) tt
+
+-- ---- what the writes of a transaction find
+
+pub found_write : (F : List ℕ → Placeholder) (before now new : List Placeholder) (v : Placeholder) (keys : List (List ℕ)) (i : ℕ) (key : List ℕ) → i < length keys → get_or keys i key ≡ key → now ≡ before ++ map F (take i keys) → new ≡ now ++ v ∷ [] → v ≡ F key → new ≡ before ++ map F (take (i + 1) keys)
+found_write F before now new v keys i key inside at is n f =
+    let taken : take (i + 1) keys ≡ take i keys ++ key ∷ [] = take_more keys i key inside ∙ ap (λ k. take i keys ++ k ∷ []) at in
+    rw (taken, map-append F (take i keys) (key ∷ []), n, is, f, append_assoc) refl

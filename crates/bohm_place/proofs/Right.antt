@@ -1,0 +1,216 @@
+-- The newest placeholder that the transactions ahead make of a key is the right source.
+use Rattle.std.proofs.Common.{◌≡◌, ℕ, zero, suc, ◌+◌, ◌<◌, ◌≤◌, ◌==◌, ◌||◌, Bool, true, false, List, [], ◌∷◌, ◌++◌, length, take, slice_get, Option, Some, None, refl, sym, ap, ◌∙◌, subst, inl, inr, ◌⊎◌, ⊎_elim, arith, if◌then◌else◌, nat_lt, add-zero}
+use Rattle.std.specs.List.{AllByRecursion}
+use Rattle.std.specs.Str.{bytes_eq}
+use Rattle.std.proofs.lemmas.Bool.Decides.{nat_tests}
+use Rattle.std.proofs.lemmas.Bool.{cases_lt}
+use Rattle.std.proofs.lemmas.Option.{same_Some}
+use Rattle.std.proofs.lemmas.List.{length-take-le}
+use Rattle.bohm_tree.specs.declared.txn.Txn.{Txn}
+use Rattle.bohm_txn.specs.Faulty.{is_among}
+use Rattle.bohm_txn.specs.Declares.{IsAmong}
+use Rattle.bohm_place.specs.declared.placeholder.Placeholder.{Placeholder}
+use Rattle.bohm_place.specs.declared.access.Access.{Access}
+use Rattle.bohm_place.specs.declared.access.Source.TheVariants.{Before, Within}
+use Rattle.bohm_place.specs.Chains.{begins, none, last_or}
+use Rattle.bohm_place.specs.Shares.{within, written, made, AreDistinct, newest_ahead}
+use Rattle.bohm_place.specs.Writers.{HasTxn, Writes, WritesAt, IsNewest, writers}
+use Rattle.bohm_place.specs.Plans.{access_of, IsRightAccess}
+use Rattle.bohm_place.proofs.Keyed.{same_key, key_itself, last_or-append}
+use Rattle.bohm_place.proofs.Rising.{begins-append}
+use Rattle.bohm_place.proofs.Placed.{Below}
+
+among_place : (ks : List (List ℕ)) (j : ℕ) (k : List ℕ) → slice_get ks j ≡ Some k → is_among ks k ≡ true
+among_place [] j k e = absurd cc
+among_place (x ∷ ks) zero k e = let same : x ≡ k = same_Some x k e in rw (same, key_itself k) refl
+among_place (x ∷ ks) (suc j) k e = or_more (bytes_eq x k) (is_among ks k) (among_place ks j k e)
+  where
+    or_more : (a b : Bool) → b ≡ true → (a || b) ≡ true
+    or_more true b e = refl
+    or_more false b e = e
+
+-- ---- the last of the writes of one transaction
+
+-- r is v where none of the writes is of the key, and else the placeholder of one that is
+abbrev LastWritten : Placeholder → ℕ → ℕ → List (List ℕ) → List ℕ → Placeholder → Type 0
+LastWritten v u index ws k r = ((r ≡ v) × (is_among ws k ≡ false)) ⊎ ((j : ℕ) × ((r ≡ record { begin = u; index = index + j }) × (slice_get ws j ≡ Some k)))
+
+last_written_by : (v : Placeholder) (u index : ℕ) (w : List ℕ) (ws : List (List ℕ)) (k : List ℕ) (b : Bool) → bytes_eq w k ≡ b
+    → ((x : Placeholder) → LastWritten x u (index + 1) ws k (last_or x (written u (index + 1) ws k)))
+    → LastWritten v u index (w ∷ ws) k (last_or v (written u index (w ∷ ws) k))
+last_written_by v u index w ws k true e more =
+    let own : Placeholder = record { begin = u; index = index } in
+    let here : last_or v (written u index (w ∷ ws) k) ≡ last_or own (written u (index + 1) ws k) = rw e refl in
+    ⊎_elim
+    (λ (same, absent). let at : index ≡ index + 0 = omega arith in inr (0, (here ∙ same ∙ ap (λ (i : ℕ). record { begin = u; index = i }) at, ap (λ (x : List ℕ). Some x) (same_key w k e))))
+    (λ (j, (same, at)). let next : (index + 1) + j ≡ index + suc j = omega arith in inr (suc j, (here ∙ same ∙ ap (λ (i : ℕ). record { begin = u; index = i }) next, at)))
+    (more own)
+last_written_by v u index w ws k false e more =
+    let here : last_or v (written u index (w ∷ ws) k) ≡ last_or v (written u (index + 1) ws k) = rw e refl in
+    ⊎_elim
+    (λ (same, absent). inl (here ∙ same, rw e absent))
+    (λ (j, (same, at)). let next : (index + 1) + j ≡ index + suc j = omega arith in inr (suc j, (here ∙ same ∙ ap (λ (i : ℕ). record { begin = u; index = i }) next, at)))
+    (more v)
+
+last_written : (v : Placeholder) (u index : ℕ) (ws : List (List ℕ)) (k : List ℕ) → LastWritten v u index ws k (last_or v (written u index ws k))
+last_written v u index [] k = inl (refl, refl)
+last_written v u index (w ∷ ws) k = last_written_by v u index w ws k (bytes_eq w k) refl (λ x. last_written x u (index + 1) ws k)
+
+-- ---- the last of the writes of several transactions
+
+-- no transaction from place p up to place n writes the key
+abbrev NoneFrom : List Txn → List ℕ → ℕ → ℕ → Type 0
+NoneFrom all k p n = (m : ℕ) (x : Txn) → p ≤ m → m < n → slice_get all m ≡ Some x → is_among x.writes k ≡ true → ⊥
+
+-- v is the placeholder of the last transaction below place n that writes the key
+record IsLast (first : ℕ) (all : List Txn) (k : List ℕ) (n : ℕ) (v : Placeholder) : Type 0 where
+  place : ℕ
+  txn : Txn
+  below : place < n
+  begin : v.begin ≡ first + place
+  is_at : slice_get all place ≡ Some txn
+  declared : slice_get txn.writes v.index ≡ Some k
+  none_after : NoneFrom all k (place + 1) n
+
+abbrev LastBelow : ℕ → List Txn → List ℕ → ℕ → Placeholder → Type 0
+LastBelow first all k n v = ((v ≡ none) × NoneFrom all k 0 n) ⊎ IsLast first all k n v
+
+skip : (all : List Txn) (k : List ℕ) (p n : ℕ) (x : Txn) → slice_get all n ≡ Some x → is_among x.writes k ≡ false → NoneFrom all k p n → NoneFrom all k p (n + 1)
+skip all k p n x at absent h m y low high is has = ⊎_elim (λ lt. h m y low lt is has) (λ ge. clash y (same m ge is high) has) (cases_lt m n)
+  where
+    same : (m : ℕ) → n ≤ m → slice_get all m ≡ Some y → m < n + 1 → x ≡ y
+    same m ge is high = let e : m ≡ n = omega arith in same_Some x y (sym at ∙ ap (λ (i : ℕ). slice_get all i) (sym e) ∙ is)
+
+    clash : (y : Txn) → x ≡ y → is_among y.writes k ≡ true → ⊥
+    clash y e has = let h = subst (λ (z : Txn). is_among z.writes k ≡ true) (sym e) has in differ (sym absent ∙ h)
+      where
+        differ : false ≡ true → ⊥
+        differ e = cc
+
+step_by : (first : ℕ) (all : List Txn) (k : List ℕ) (n : ℕ) (x : Txn) (v r : Placeholder) → slice_get all n ≡ Some x → LastBelow first all k n v → LastWritten v (first + n) 0 x.writes k r → LastBelow first all k (n + 1) r
+step_by first all k n x v r at (inl (is, empty)) (inl (same, absent)) = inl (same ∙ is, skip all k 0 n x at absent empty)
+step_by first all k n x v r at (inr l) (inl (same, absent)) = inr (record {
+  place = l.place;
+  txn = l.txn;
+  below = omega (arith, l.below);
+  begin = ap (λ (w : Placeholder). w.begin) same ∙ l.begin;
+  is_at = l.is_at;
+  declared = ap (λ (w : Placeholder). slice_get l.txn.writes w.index) same ∙ l.declared;
+  none_after = skip all k (l.place + 1) n x at absent l.none_after;
+})
+step_by first all k n x v r at before (inr (j, (same, is))) =
+    let index : r.index ≡ j = ap (λ (w : Placeholder). w.index) same ∙ omega arith in
+    inr (record {
+      place = n;
+      txn = x;
+      below = omega arith;
+      begin = ap (λ (w : Placeholder). w.begin) same;
+      is_at = at;
+      declared = rw index is;
+      none_after = λ m y low high e has. absurd (omega arith);
+    })
+
+last_made : (first : ℕ) (all ts : List Txn) (k : List ℕ) (n : ℕ) (v : Placeholder) → ((u : ℕ) (x : Txn) → slice_get ts u ≡ Some x → slice_get all (n + u) ≡ Some x) → LastBelow first all k n v → LastBelow first all k (n + length ts) (last_or v (made (first + n) ts k))
+last_made first all [] k n v same before = rw add-zero before
+last_made first all (t ∷ ts) k n v same before =
+    let at : slice_get all n ≡ Some t = rw add-zero at (same 0 t refl) in
+    let next = step_by first all k n t v (last_or v (written (first + n) 0 t.writes k)) at before (last_written v (first + n) 0 t.writes k) in
+    let more = last_made first all ts k (n + 1) (last_or v (written (first + n) 0 t.writes k)) (λ u x e. let here : (n + 1) + u ≡ n + suc u = omega arith in rw here (same (suc u) x e)) next in
+    let long : (n + 1) + length ts ≡ n + length (t ∷ ts) = omega arith in
+    let begin : first + (n + 1) ≡ (first + n) + 1 = omega arith in
+    let parts : last_or v (made (first + n) (t ∷ ts) k) ≡ last_or (last_or v (written (first + n) 0 t.writes k)) (made ((first + n) + 1) ts k) = last_or-append v (written (first + n) 0 t.writes k) (made ((first + n) + 1) ts k) in
+    rw (parts, ← long, ← begin) more
+
+in_take : {A : Type 0} (xs : List A) (t u : ℕ) (x : A) → slice_get (take t xs) u ≡ Some x → slice_get xs u ≡ Some x
+in_take xs zero u x e = absurd cc
+in_take [] (suc t) u x e = absurd cc
+in_take (y ∷ xs) (suc t) zero x e = e
+in_take (y ∷ xs) (suc t) (suc u) x e = in_take xs t u x e
+
+newest_made : (first : ℕ) (all : List Txn) (k : List ℕ) (i : ℕ) → i ≤ length all → LastBelow first all k i (last_or none (made first (take i all) k))
+newest_made first all k i inside =
+    let start : LastBelow first all k 0 none = inl (refl, λ m x low high e has. absurd (omega arith)) in
+    let r = last_made first all (take i all) k 0 none (λ u x e. let here : 0 + u ≡ u = omega arith in rw here (in_take all i u x e)) start in
+    let long : 0 + length (take i all) ≡ i = omega (arith, length-take-le i all inside) in
+    let begin : first + 0 ≡ first = omega arith in
+    rw (long, begin) at r
+
+-- ---- the right access
+
+right_by : (first : ℕ) (all : List Txn) (k : List ℕ) (i : ℕ) (v : Placeholder) → 0 < first → LastBelow first all k i v → IsRightAccess first all (first + i) k (access_of v)
+right_by first all k i v above (inl (is, empty)) = rw is (record {
+  newest = λ u low w. empty w.there.place w.txn (omega arith) (let t = w.there.timestamp in omega arith) w.there.is_at w.declared;
+  write = refl;
+})
+right_by first all k i v above (inr l) =
+    let some : (v.begin == 0) ≡ false = let b = l.begin in grind (arith, nat_tests) in
+    let there : HasTxn first all v.begin l.txn = record { place = l.place; timestamp = l.begin; is_at = l.is_at } in
+    let at : access_of v ≡ record { source = Within v.begin; index = v.index } = rw some refl in
+    rw at (record {
+      newest = record {
+        below = omega (arith, l.begin, l.below);
+        holds = record { txn = l.txn; there = there; declared = among_place l.txn.writes v.index k l.declared };
+        none_between = λ u low high w. l.none_after w.there.place w.txn (let t = w.there.timestamp in omega (arith, l.begin)) (let t = w.there.timestamp in omega arith) w.there.is_at w.declared;
+      };
+      write = record { txn = l.txn; there = there; declared = l.declared };
+    })
+
+-- what is found ahead of place i is the right source of the transaction there
+pub right_access : (first : ℕ) (all : List Txn) (k : List ℕ) (i : ℕ) → 0 < first → i ≤ length all → IsRightAccess first all (first + i) k (access_of (last_or none (made first (take i all) k)))
+right_access first all k i above inside = right_by first all k i (last_or none (made first (take i all) k)) above (newest_made first all k i inside)
+
+-- ---- chains before the batch don't matter
+
+abbrev Above : ℕ → List Placeholder → Type 0
+Above first vs = AllByRecursion (λ v. first ≤ v.begin) vs
+
+above-append : (first : ℕ) (vs ws : List Placeholder) → Above first vs → Above first ws → Above first (vs ++ ws)
+above-append first [] ws h k = k
+above-append first (v ∷ vs) ws h k = (h.0, above-append first vs ws h.1 k)
+
+written_above : (first u index : ℕ) (ws : List (List ℕ)) (k : List ℕ) → first ≤ u → Above first (written u index ws k)
+written_above first u index [] k le = tt
+written_above first u index (w ∷ ws) k le = above-append first (if bytes_eq w k then record { begin = u; index = index } ∷ [] else []) (written u (index + 1) ws k) (one (bytes_eq w k)) (written_above first u (index + 1) ws k le)
+  where
+    one : (b : Bool) → Above first (if b then record { begin = u; index = index } ∷ [] else [])
+    one true = (le, tt)
+    one false = tt
+
+made_above : (first u : ℕ) (xs : List Txn) (k : List ℕ) → first ≤ u → Above first (made u xs k)
+made_above first u [] k le = tt
+made_above first u (x ∷ xs) k le = above-append first (written u 0 x.writes k) (made (u + 1) xs k) (written_above first u 0 x.writes k le) (made_above first (u + 1) xs k (omega arith))
+
+last_below : (first : ℕ) (v : Placeholder) (vs : List Placeholder) → v.begin < first → Below first vs → (last_or v vs).begin < first
+last_below first v [] lt h = lt
+last_below first v (w ∷ ws) lt h = last_below first w ws h.0 h.1
+
+last_above : (first : ℕ) (v : Placeholder) (vs : List Placeholder) → first ≤ v.begin → Above first vs → first ≤ (last_or v vs).begin
+last_above first v [] le h = le
+last_above first v (w ∷ ws) le h = last_above first w ws h.0 h.1
+
+within_by : (first : ℕ) (v : Placeholder) (vs : List Placeholder) → v.begin < first → Above first vs → within first (last_or v vs) ≡ last_or none vs
+within_by first v [] lt h = let e : nat_lt v.begin first ≡ true = grind (arith, nat_tests) in rw e refl
+within_by first v (w ∷ ws) lt h = let le = last_above first w ws h.0 h.1 in let e : nat_lt (last_or w ws).begin first ≡ false = grind (arith, nat_tests) in rw e refl
+
+pub newest_ahead-base : (first : ℕ) (base : List ℕ → List Placeholder) (ahead : List Txn) (k : List ℕ) → 0 < first → Below first (base k) → newest_ahead first base ahead k ≡ last_or none (made first ahead k)
+newest_ahead-base first base ahead k above low =
+    ap (within first) (last_or-append none (base k) (made first ahead k)) ∙ within_by first (last_or none (base k)) (made first ahead k) (last_below first none (base k) above low) (made_above first first ahead k (omega arith))
+
+-- ---- the begins that a batch adds to a chain
+
+begins-written_by : (u index : ℕ) (w : List ℕ) (ws : List (List ℕ)) (k : List ℕ) (b : Bool) → bytes_eq w k ≡ b → is_among ws w ≡ false
+    → begins (written u (index + 1) ws k) ≡ (if is_among ws k then u ∷ [] else [])
+    → begins (written u index (w ∷ ws) k) ≡ (if (b || is_among ws k) then u ∷ [] else [])
+begins-written_by u index w ws k true e absent more =
+    let gone : is_among ws k ≡ false = subst (λ (q : List ℕ). is_among ws q ≡ false) (same_key w k e) absent in
+    let rest : begins (written u (index + 1) ws k) ≡ [] = rw gone at more in
+    rw (e, rest) refl
+begins-written_by u index w ws k false e absent more = rw e more
+
+begins-written : (u index : ℕ) (ws : List (List ℕ)) (k : List ℕ) → AreDistinct ws → begins (written u index ws k) ≡ (if is_among ws k then u ∷ [] else [])
+begins-written u index [] k d = refl
+begins-written u index (w ∷ ws) k d = begins-written_by u index w ws k (bytes_eq w k) refl d.0 (begins-written u (index + 1) ws k d.1)
+
+pub begins-made : (u : ℕ) (xs : List Txn) (k : List ℕ) → ((i : ℕ) (x : Txn) → slice_get xs i ≡ Some x → AreDistinct x.writes) → begins (made u xs k) ≡ writers u xs k
+begins-made u [] k d = refl
+begins-made u (x ∷ xs) k d = begins-append (written u 0 x.writes k) (made (u + 1) xs k) ∙ rw (begins-written u 0 x.writes k (d 0 x refl), begins-made (u + 1) xs k (λ i. d (suc i))) refl

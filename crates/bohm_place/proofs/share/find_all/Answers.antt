@@ -1,0 +1,54 @@
+use Rattle.std.proofs.Common.{arith, ◌≡◌, ◌≤◌, ◌+◌, ◌++◌, ◌<◌, ℕ, length, List, map, refl, get_or, take, if◌then◌else◌, sym, subst}
+use Rattle.std.proofs.lemmas.List.{length-take-le}
+use Rattle.bohm_txn.specs.Faulty.{IsWellFormedTxn}
+use Rattle.bohm_txn.proofs.UseLaws.{usable, rising_writes}
+use Rattle.bohm_place.specs.declared.placeholder.Placeholder.{Placeholder}
+use Rattle.bohm_place.specs.Chains.{placeholders_in, none, last_or}
+use Rattle.bohm_place.specs.Shares.{has_part, within}
+use Rattle.bohm_place.proofs.Distinct.{AreDistinct-rising}
+use Rattle.bohm_place.proofs.Placed.{all_below, below_all}
+use Rattle.bohm_place.proofs.Found.{found_step, chains_step, hand_below}
+use Rattle.bohm_place.proofs.share.find_all.Goals as goal
+
+pub find_and_place_writes-requires-clause-few : goal.find_and_place_writes-requires-clause-few
+find_and_place_writes-requires-clause-few g c κs lives =
+    let txn = c.index-txns-i.result in
+    let formed : IsWellFormedTxn txn = subst IsWellFormedTxn (sym c.index-txns-i.is) (c.requires.formed c.loop-i.i txn (omega arith)) in
+    rw c.as_slice-writes.ensures (usable txn formed).few_writes
+
+pub find_and_place_writes-requires-clause-distinct : goal.find_and_place_writes-requires-clause-distinct
+find_and_place_writes-requires-clause-distinct g c κs lives =
+    let txn = c.index-txns-i.result in
+    let formed : IsWellFormedTxn txn = subst IsWellFormedTxn (sym c.index-txns-i.is) (c.requires.formed c.loop-i.i txn (omega arith)) in
+    rw c.as_slice-writes.ensures (AreDistinct-rising txn.writes (rising_writes txn formed))
+
+pub find_and_place_writes-requires-clause-above : goal.find_and_place_writes-requires-clause-above
+find_and_place_writes-requires-clause-above g c κs lives k has =
+    let part = g.P.Partition.part_of c.args.partition.now in
+    let txns = c.args.txns.now in
+    let i = c.loop-i.i in
+    let first = c.args.first in
+    let base = placeholders_in part c.args.hand.now k in
+    let hand = placeholders_in part c.loop-i.hand k in
+    let len : length (take i txns) ≡ i = length-take-le i txns (omega arith) in
+    all_below (first + i) hand (hand_below (has_part part c.args.worker.count c.args.worker.number k) first (first + i) base hand (take i txns) k (omega arith) (below_all first base (c.requires.earlier k has)) (c.loop-i.invariant.placed k))
+
+pub loop-i-preserved : goal.loop-i-preserved
+loop-i-preserved g c =
+    let part = g.P.Partition.part_of c.args.partition.now in
+    let mine = has_part part c.args.worker.count c.args.worker.number in
+    let base = placeholders_in part c.args.hand.now in
+    let hand = placeholders_in part c.loop-i.hand in
+    let new = placeholders_in part c.find_and_place_writes.new.hand in
+    let txns = c.args.txns.now in
+    let i = c.loop-i.i in
+    let txn = c.index-txns-i.result in
+    let inside : i < length txns = omega arith in
+    let value : List ℕ → Placeholder = λ k. if mine k then within c.args.first (last_or none (hand k)) else none in
+    let reads = c.in_ok-find_reads.ensures in
+    let writes = c.in_ok-find_and_place_writes.ensures.found in
+    let added : c.find_and_place_writes.new.found.items ≡ (c.loop-i.found.items ++ map value txn.reads) ++ map value txn.writes = rw (writes, reads, c.as_slice-writes.ensures, c.as_slice-reads.ensures) refl in
+    record {
+      placed = λ k. chains_step mine base hand new c.args.first txns i txn inside k (c.loop-i.invariant.placed k) (rw (← c.index-txns-i.is) (rw c.as_slice-writes.ensures at c.in_ok-find_and_place_writes.ensures.placed k));
+      found = found_step mine base hand c.args.first txns i txn inside c.loop-i.invariant.placed c.loop-i.found.items c.find_and_place_writes.new.found.items c.loop-i.invariant.found (rw (← c.index-txns-i.is) added);
+    }

@@ -1,0 +1,42 @@
+use Rattle.std.proofs.Common.{◌≡◌, ◌<◌, ℕ, List, ◌++◌, ◌∷◌, [], All, map, take, get_or, length, sym, ap, ◌∙◌, subst, arith, append_assoc, if◌then◌else◌}
+use Rattle.std.proofs.lemmas.List.{take_more, map-append, length-take-le}
+use Rattle.bohm_place.specs.declared.placeholder.Placeholder.{Placeholder}
+use Rattle.bohm_place.specs.Chains.{placeholders_in, begins, none, last_or}
+use Rattle.bohm_place.specs.Shares.{has_part, within, written}
+use Rattle.bohm_place.proofs.Placed.{write_placed, not_yet_placed, found_write}
+use Rattle.bohm_place.proofs.share.find_and_place_writes.Goals as goal
+
+pub find_and_place-requires-clause-above : goal.find_and_place-requires-clause-above
+find_and_place-requires-clause-above g c κs lives has =
+    let part = g.P.Partition.part_of c.args.partition.now in
+    let keys = c.args.keys.now in
+    let i = c.loop-i.i in
+    let key = c.index-keys-i.result in
+    let is : get_or keys i key ≡ key = sym c.index-keys-i.is in
+    let mine = has_part part c.args.worker.count c.args.worker.number in
+    let base = placeholders_in part c.args.hand.now in
+    let hand = placeholders_in part c.loop-i.hand in
+    let same : hand (get_or keys i key) ≡ base (get_or keys i key) = not_yet_placed (mine (get_or keys i key)) (base (get_or keys i key)) (hand (get_or keys i key)) c.args.ts i keys key (omega arith) c.requires.distinct (c.loop-i.invariant.placed (get_or keys i key)) in
+    let here : hand key ≡ base key = rw is at same in
+    subst (λ (vs : List Placeholder). All (λ b. b < c.args.ts) (begins vs)) (sym here) (c.requires.above key has)
+
+pub loop-i-preserved : goal.loop-i-preserved
+loop-i-preserved g c =
+    let part = g.P.Partition.part_of c.args.partition.now in
+    let keys = c.args.keys.now in
+    let i = c.loop-i.i in
+    let key = c.index-keys-i.result in
+    let is : get_or keys i key ≡ key = sym c.index-keys-i.is in
+    let inside : i < length keys = omega arith in
+    let len : length (take i keys) ≡ i = length-take-le i keys (omega arith) in
+    let mine = has_part part c.args.worker.count c.args.worker.number in
+    let base = placeholders_in part c.args.hand.now in
+    let hand = placeholders_in part c.loop-i.hand in
+    let new = placeholders_in part c.find_and_place.new.hand in
+    let same : hand (get_or keys i key) ≡ base (get_or keys i key) = not_yet_placed (mine (get_or keys i key)) (base (get_or keys i key)) (hand (get_or keys i key)) c.args.ts i keys key inside c.requires.distinct (c.loop-i.invariant.placed (get_or keys i key)) in
+    let here : hand key ≡ base key = rw is at same in
+    let found_here : c.in_ok-newest.newest ≡ (if mine key then within c.args.first (last_or none (base key)) else none) = rw here at c.in_ok-newest.ensures.found in
+    record {
+      found = found_write (λ k. if mine k then within c.args.first (last_or none (base k)) else none) c.args.found.now.items c.loop-i.found.items c.push.new.self.items c.in_ok-newest.newest keys i key inside is c.loop-i.invariant.found c.in_ok-push.ensures.items found_here;
+      placed = λ k. write_placed (mine k) (base k) (hand k) (new k) c.args.ts i keys k key inside len (c.loop-i.invariant.placed k) (rw is (c.in_ok-newest.ensures.placed k));
+    }

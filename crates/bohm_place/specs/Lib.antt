@@ -1,0 +1,4 @@
+pub mod Chains
+pub mod Writers
+pub mod Plans
+pub mod Shares

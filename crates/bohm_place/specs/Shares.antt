@@ -1,0 +1,80 @@
+-- What each planning worker does, and what comes of all together. A worker w of n has the parts p with p % n ≡ w.
+use Rattle.std.specs.Prelude.{◌≡◌, ℕ, ◌+◌, ◌%◌, ◌==◌, ◌<◌, Bool, true, false, List, [], ◌∷◌, ◌++◌, length, map, max, All, nat_lt, slice_get, if◌then◌else◌}
+use Rattle.std.specs.List.{zip}
+use Rattle.std.specs.Str.{bytes_eq}
+use Rattle.bohm_tree.specs.declared.txn.Txn.{Txn}
+use Rattle.bohm_txn.specs.Faulty.{IsWellFormedTxn, is_among}
+use Rattle.bohm_place.specs.declared.placeholder.Placeholder.{Placeholder}
+use Rattle.bohm_place.specs.declared.row.Row.{Row}
+use Rattle.bohm_place.specs.Chains.{Keyed, placeholders_in, none, last_or}
+
+abbrev pub AreWellFormed : List Txn → Type 0
+AreWellFormed txns = All IsWellFormedTxn txns
+
+-- no key stands there twice
+abbrev pub AreDistinct : List (List ℕ) → Type 0
+AreDistinct [] = Unit {0}
+AreDistinct (k ∷ ks) = (is_among ks k ≡ false) × AreDistinct ks
+
+-- the part of each key is one of these many
+abbrev pub AreParts : (List ℕ → ℕ) → ℕ → Type 0
+AreParts part count = (k : List ℕ) → part k < count
+
+-- whether the worker has the key's part
+abbrev pub has_part : (List ℕ → ℕ) → ℕ → ℕ → List ℕ → Bool
+has_part part n w k = (part k % n) == w
+
+-- a placeholder of the batch that starts at `first`, or none
+abbrev pub within : ℕ → Placeholder → Placeholder
+within first v = if nat_lt v.begin first then none else v
+
+-- the placeholders of the key that these declared writes of u make, the first of which has this index
+abbrev pub written : ℕ → ℕ → List (List ℕ) → List ℕ → List Placeholder
+written u index [] k = []
+written u index (w ∷ ws) k = (if bytes_eq w k then record { begin = u; index = index } ∷ [] else []) ++ written u (index + 1) ws k
+
+-- the placeholders of the key that the transactions make, the first of which has the timestamp u
+abbrev pub made : ℕ → List Txn → List ℕ → List Placeholder
+made u [] k = []
+made u (t ∷ ts) k = written u 0 t.writes k ++ made (u + 1) ts k
+
+-- by transaction, what f says of its declared keys where it is told which transactions are ahead, the reads first; none where the key isn't the worker's
+abbrev pub found_by : (List ℕ → Bool) → (List Txn → List ℕ → Placeholder) → List Txn → List Txn → List Placeholder
+found_by mine f ahead [] = []
+found_by mine f ahead (t ∷ ts) = map (λ k. if mine k then f ahead k else none) (t.reads ++ t.writes) ++ found_by mine f (ahead ++ t ∷ []) ts
+
+-- the newest placeholder of the batch, where the chains were these before it
+abbrev pub newest_ahead : ℕ → (List ℕ → List Placeholder) → List Txn → List ℕ → Placeholder
+newest_ahead first base ahead k = within first (last_or none (base k ++ made first ahead k))
+
+-- where the accesses of each transaction lie, the first of which lie at `start`
+abbrev pub rows_from : ℕ → List Txn → List Row
+rows_from start [] = []
+rows_from start (t ∷ ts) = record { start = start; reads = length t.reads; writes = length t.writes } ∷ rows_from ((start + length t.reads) + length t.writes) ts
+
+-- the greater numbers of both
+abbrev pub greater_of : Placeholder → Placeholder → Placeholder
+greater_of v w = record { begin = max v.begin w.begin; index = max v.index w.index }
+
+abbrev pub greater : List Placeholder → List Placeholder → List Placeholder
+greater vs ws = map (λ p. greater_of p.0 p.1) (zip vs ws)
+
+-- of two lists of parts, the second has those of the worker as the first has them
+abbrev pub IsHand : ℕ → ℕ → List Keyed → List Keyed → Type 0
+IsHand n w parts hand = (p : ℕ) → p < length parts → ((p % n) == w) ≡ true → slice_get hand p ≡ slice_get parts p
+
+-- the second has the other parts as the first has them
+abbrev pub KeepsOthers : ℕ → ℕ → List Keyed → List Keyed → Type 0
+KeepsOthers n w parts left = (p : ℕ) → p < length parts → ((p % n) == w) ≡ false → slice_get left p ≡ slice_get parts p
+
+-- what a worker owes for the parts that it was given
+pub record IsShareOf (part : List ℕ → ℕ) (n w first : ℕ) (txns : List Txn) (given : List Keyed) (out : List Placeholder) (left : List Keyed) : Type 0 where
+  pub found : out ≡ found_by (has_part part n w) (newest_ahead first (placeholders_in part given)) [] txns
+  pub chains : (k : List ℕ) → placeholders_in part left k ≡ (if has_part part n w k then placeholders_in part given k ++ made first txns k else placeholders_in part given k)
+  pub parts : length left ≡ length given
+
+-- the same where it was given its own parts of all
+pub record IsPartOf (part : List ℕ → ℕ) (n w first : ℕ) (txns : List Txn) (all : List Keyed) (out : List Placeholder) (left : List Keyed) : Type 0 where
+  pub found : out ≡ found_by (has_part part n w) (newest_ahead first (placeholders_in part all)) [] txns
+  pub chains : (k : List ℕ) → has_part part n w k ≡ true → placeholders_in part left k ≡ placeholders_in part all k ++ made first txns k
+  pub parts : length left ≡ length all

@@ -1,0 +1,19 @@
+//! Sources of accesses.
+
+/// Where an access finds its version.
+#[derive(Clone, Copy, Debug, PartialEq, Eq)]
+pub enum Source {
+    /// The version that stands when the batch starts.
+    Before,
+    /// The version that the transaction with this timestamp, one of the batch, produces.
+    Within(u32),
+}
+
+/// The source of an access of a declared key.
+#[derive(Clone, Copy, Debug, PartialEq, Eq)]
+pub struct Access {
+    pub source: Source,
+    /// Which declared write of the source is of the key, counted from 0. It is 0 where the source is
+    /// `Before`.
+    pub index: u32,
+}

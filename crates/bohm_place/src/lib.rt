@@ -1,0 +1,26 @@
+//! Planning: placeholders for the versions of a batch, and the source of each access, by parts of the
+//! keys. The design is that of BOHM: Faleiro and Abadi, "Rethinking Serializable Multiversion
+//! Concurrency Control", VLDB 2015.
+#![tactic(auto)]
+
+mod access;
+mod chain;
+mod deal;
+pub mod laws;
+mod partition;
+mod placeholder;
+mod places;
+mod planned;
+mod planning;
+mod row;
+mod shards;
+mod share;
+#[cfg(test)]
+mod tests;
+
+pub use access::{Access, Source};
+pub use partition::Partition;
+pub use places::Places;
+pub use planned::Plan;
+pub use planning::plan;
+pub use shards::Shards;

@@ -1,0 +1,24 @@
+//! Partitions of the keys.
+
+ghost use Rattle.std.specs.Prelude.{◌≡◌, ℕ, List, ◌<◌};
+
+use bohm_txn::Key;
+
+/// Which part of the keys each key belongs to. Both answers depend on the value and the key alone.
+pub trait Partition: Sync {
+    ghost count: { Self → ℕ };
+
+    ghost part_of: { Self → List ℕ → ℕ };
+
+    /// The number of parts, at least 1.
+    fn parts(&self) -> u32
+        ensures count { result ≡ count self.now }
+        ensures some { 0 < result };
+
+    /// The part of a key, counted from 0.
+    fn part(&self, key: &Key) -> u32
+        ensures part { result ≡ part_of self.now key.now }
+        ensures below { result < count self.now };
+
+    ghost in_range: { (s : Self) (k : List ℕ) → part_of s k < count s };
+}

@@ -1,0 +1,44 @@
+//! Placeholders of versions.
+
+ghost use Rattle.std.specs.Prelude.{◌≡◌};
+ghost use Rattle.bohm_place.specs.Chains.{none};
+ghost use Rattle.bohm_place.specs.Shares.{within, greater_of};
+
+/// A version that a transaction is going to produce.
+#[derive(Clone, Copy, Debug, PartialEq, Eq)]
+pub struct Placeholder {
+    /// The timestamp of the transaction, or 0 where there is no placeholder.
+    pub begin: u32,
+    /// Which of its declared writes produces the version, counted from 0.
+    pub index: u32,
+}
+
+impl Placeholder {
+    /// Stands where there is no placeholder.
+    pub fn none() -> Placeholder
+        ensures { result ≡ none }
+    {
+        Placeholder { begin: 0, index: 0 }
+    }
+
+    /// The placeholder itself, if it is of the batch that starts at `first`.
+    pub fn within(self, first: u32) -> Placeholder
+        ensures { result ≡ within first self }
+    {
+        if self.begin < first {
+            Placeholder::none()
+        } else {
+            self
+        }
+    }
+
+    /// Of two of which at most one isn't `none`, that one.
+    pub fn or(self, other: Placeholder) -> Placeholder
+        ensures { result ≡ greater_of self other }
+    {
+        Placeholder {
+            begin: self.begin.max(other.begin),
+            index: self.index.max(other.index),
+        }
+    }
+}

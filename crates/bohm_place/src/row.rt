@@ -1,0 +1,37 @@
+//! Where the accesses of a transaction lie.
+
+ghost use Rattle.std.specs.Prelude.{◌≡◌, ◌≤◌, ◌+◌, ◌*◌, ◌^◌, length, sum_by, IfOk};
+ghost use Rattle.bohm_place.specs.Shares.{rows_from, AreWellFormed};
+
+use bohm_txn::{NoMemory, Txn};
+use std::alloc::Global;
+
+/// The accesses of one transaction in a list of all: its reads from `start` on, and its writes behind
+/// them.
+#[derive(Clone, Copy, Debug)]
+pub struct Row {
+    pub start: usize,
+    pub reads: u32,
+    pub writes: u32,
+}
+
+/// The row of each transaction.
+pub fn rows(alloc: Global, txns: &[Txn]) -> Result<Vec<Row>, NoMemory>
+    requires formed { AreWellFormed txns.now }
+    requires few { length txns.now ≤ 2 ^ 32 }
+    ensures { IfOk result (λ v. v.items ≡ rows_from 0 txns.now) }
+{
+    let mut rows = Vec::with_capacity(alloc, txns.len())?;
+    let mut start = 0;
+    for txn in txns {
+        let reads = txn.reads.as_slice().len();
+        let writes = txn.writes.as_slice().len();
+        rows.push(Row {
+            start,
+            reads: reads as u32,
+            writes: writes as u32,
+        })?;
+        start += reads + writes;
+    }
+    Ok(rows)
+}

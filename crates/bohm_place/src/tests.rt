@@ -1,0 +1,341 @@
+ghost use Rattle.std.specs.Prelude.{◌≡◌, ◌%◌, ◌<◌, ◌≤◌, ◌+◌, length, true, IfOk, OnOk, slice_index};
+ghost use Rattle.std.proofs.Math.Nat.{mod-lt};
+ghost use Rattle.bohm_txn.specs.Faulty.{IsWellFormedTxn, rising, rises_from};
+ghost use Rattle.bohm_place.specs.Plans.{IsRightPlan};
+ghost use Rattle.bohm_place.specs.Shares.{AreWellFormed};
+
+use crate::{Access, Partition, Places, Plan, Shards, Source, plan};
+use bohm_txn::{Edition, Items, Key, NoMemory, Txn};
+use std::alloc::Global;
+use std::process::Abort;
+use std::sync::atomic::{AtomicU64, Ordering};
+use std::test::Fail;
+use std::thread;
+use std::thread::Threads;
+
+/// By a key's first byte.
+#[derive(Drop)]
+struct FirstByte {
+    parts: u32,
+    ghost some: { 0 < parts },
+}
+
+impl Partition for FirstByte {
+    ghost count = { λ s. s.parts };
+
+    ghost part_of = { λ s k. slice_index k 0 % s.parts };
+
+    fn parts(&self) -> u32 {
+        self.parts
+    }
+
+    fn part(&self, key: &Key) -> u32 {
+        match key.bytes() {
+            [] => 0,
+            [first, ..] => *first as u32 % self.parts,
+        }
+    }
+
+    ghost in_range = { λ s k. mod-lt (slice_index k 0) s.some };
+}
+
+/// By a key's first byte. The first call waits, for a while, until a second one has begun.
+#[derive(Drop)]
+struct Meeting {
+    bytes: FirstByte,
+    calls: AtomicU64,
+    met: AtomicU64,
+}
+
+impl Partition for Meeting {
+    ghost count = { λ s. s.bytes.parts };
+
+    ghost part_of = { λ s k. slice_index k 0 % s.bytes.parts };
+
+    fn parts(&self) -> u32 {
+        self.bytes.parts()
+    }
+
+    fn part(&self, key: &Key) -> u32 {
+        if self.calls.fetch_add(1, Ordering::SeqCst) == 0 {
+            for _ in 0..10_000_000u32 {
+                if self.calls.load(Ordering::SeqCst) > 1 {
+                    self.met.store(1, Ordering::SeqCst);
+                    break;
+                }
+                thread::yield_now();
+            }
+        }
+        self.bytes.part(key)
+    }
+
+    ghost in_range = { λ s k. mod-lt (slice_index k 0) s.bytes.some };
+}
+
+fn rises_from(key: &Key, keys: &[Key]) -> bool
+    ensures { result ≡ rises_from key.now keys.now }
+{
+    match keys {
+        [] => true,
+        [first, others @ ..] => key.cmp(first).is_lt() && rises_from(first, others),
+    }
+}
+
+fn rises(keys: &[Key]) -> bool
+    ensures { result ≡ rising keys.now }
+{
+    match keys {
+        [] => true,
+        [first, others @ ..] => rises_from(first, others),
+    }
+}
+
+fn keys(rt: &impl Abort, alloc: Global, names: &[&[u8]]) -> Result<Items<Key>, NoMemory> {
+    let mut keys = Items::new(alloc);
+    for name in names {
+        keys.push(Key::new(name).expect(rt, "a name"))?;
+    }
+    Ok(keys)
+}
+
+fn assert_set(rt: &impl Abort, keys: &[Key])
+    ensures rises { rising keys.now ≡ true }
+    ensures few { length keys.now ≤ 16 }
+{
+    let rising = rises(keys);
+    assert!(rt; rising);
+    let few = keys.len() <= 16;
+    assert!(rt; few);
+}
+
+// A transaction without statements.
+fn txn(rt: &impl Abort, alloc: Global, reads: &[&[u8]], writes: &[&[u8]]) -> Result<Txn, NoMemory>
+    ensures { IfOk result IsWellFormedTxn }
+{
+    let reads = keys(rt, alloc, reads)?;
+    let writes = keys(rt, alloc, writes)?;
+    assert_set(rt, reads.as_slice());
+    assert_set(rt, writes.as_slice());
+    Ok(Txn {
+        edition: Edition::One,
+        reads,
+        writes,
+        body: Items::new(alloc),
+    })
+}
+
+fn add(
+    rt: &impl Abort,
+    alloc: Global,
+    txns: &mut Vec<Txn>,
+    reads: &[&[u8]],
+    writes: &[&[u8]],
+) -> Result<(), NoMemory>
+    requires { AreWellFormed txns.old.items }
+    ensures { OnOk result (AreWellFormed txns.new.items) }
+{
+    txns.push(txn(rt, alloc, reads, writes)?)?;
+    Ok(())
+}
+
+// One transaction that writes a.
+fn earlier(rt: &impl Abort, alloc: Global) -> Result<Vec<Txn>, NoMemory>
+    ensures { IfOk result (λ v. AreWellFormed v.items) }
+{
+    let mut txns = Vec::new(alloc);
+    add(rt, alloc, &mut txns, &[], &[b"a"])?;
+    Ok(txns)
+}
+
+fn batch(rt: &impl Abort, alloc: Global) -> Result<Vec<Txn>, NoMemory>
+    ensures { IfOk result (λ v. AreWellFormed v.items) }
+{
+    let mut txns = Vec::new(alloc);
+    add(rt, alloc, &mut txns, &[], &[b"a", b"b"])?;
+    add(rt, alloc, &mut txns, &[b"a"], &[b"a"])?;
+    add(rt, alloc, &mut txns, &[b"a", b"c"], &[b"b"])?;
+    add(rt, alloc, &mut txns, &[b"a", b"b"], &[b"c"])?;
+    Ok(txns)
+}
+
+// The access of a declared read.
+fn read_of(rt: &impl Abort, plan: &Plan, txns: &[Txn], t: u32, index: u32) -> Access
+    requires { IsRightPlan txns.now plan.now }
+{
+    let place = t
+        .checked_sub(plan.first())
+        .expect(rt, "a timestamp of the batch");
+    let txn = txns.get(place as usize).expect(rt, "a transaction");
+    let inside = (index as usize) < txn.reads.as_slice().len();
+    assert!(rt; inside);
+    let access = plan.read_access(t, index);
+    assert_eq!(rt; plan.read(t, index), access.source);
+    access
+}
+
+// The access of a declared write.
+fn write_of(rt: &impl Abort, plan: &Plan, txns: &[Txn], t: u32, index: u32) -> Access
+    requires { IsRightPlan txns.now plan.now }
+{
+    let place = t
+        .checked_sub(plan.first())
+        .expect(rt, "a timestamp of the batch");
+    let txn = txns.get(place as usize).expect(rt, "a transaction");
+    let inside = (index as usize) < txn.writes.as_slice().len();
+    assert!(rt; inside);
+    let access = plan.write_access(t, index);
+    assert_eq!(rt; plan.write(t, index), access.source);
+    access
+}
+
+fn within(begin: u32, index: u32) -> Access {
+    Access {
+        source: Source::Within(begin),
+        index,
+    }
+}
+
+fn before() -> Access {
+    Access {
+        source: Source::Before,
+        index: 0,
+    }
+}
+
+fn assert_plan(rt: &impl Abort, plan: &Plan, txns: &[Txn])
+    requires { IsRightPlan txns.now plan.now }
+{
+    assert_eq!(rt; plan.first(), 5);
+    assert_eq!(rt; plan.len(), 4);
+    for (t, index, want) in [
+        (6, 0, within(5, 0)),
+        (7, 0, within(6, 0)),
+        (7, 1, before()),
+        (8, 0, within(6, 0)),
+        (8, 1, within(7, 0)),
+    ] {
+        assert_eq!(rt;
+            read_of(rt, plan, txns, t, index),
+            want,
+            "read {index} of {t}"
+        );
+    }
+    for (t, index, want) in [
+        (5, 0, before()),
+        (5, 1, before()),
+        (6, 0, within(5, 0)),
+        (7, 0, within(5, 1)),
+        (8, 0, before()),
+    ] {
+        assert_eq!(rt;
+            write_of(rt, plan, txns, t, index),
+            want,
+            "write {index} of {t}"
+        );
+    }
+}
+
+// What `source` answers of a key at some timestamps.
+fn assert_chain(rt: &impl Abort, shards: &Shards, part: u32, name: &[u8], sources: &[(u32, u32)])
+    requires { part < length shards.now }
+{
+    let key = Key::new(name).expect(rt, "a name");
+    for (ts, want) in sources {
+        assert_eq!(rt;
+            shards.places(part).source(&key, *ts),
+            *want,
+            "{key:?} at {ts}"
+        );
+    }
+}
+
+// The chains of a, b and c.
+fn assert_chains(
+    rt: &impl Abort,
+    shards: &Shards,
+    parts: &FirstByte,
+    a: &[(u32, u32)],
+    b: &[(u32, u32)],
+    c: &[(u32, u32)],
+)
+    requires { length shards.now ≡ parts.now.parts }
+{
+    assert_chain(rt, shards, 97 % parts.parts, b"a", a);
+    assert_chain(rt, shards, 98 % parts.parts, b"b", b);
+    assert_chain(rt, shards, 99 % parts.parts, b"c", c);
+}
+
+// Plans the batch behind an earlier one, looks at the plan and the chains, and trims them twice.
+fn plan_batch<R: Abort + Threads + Sync>(
+    rt: &R,
+    alloc: Global,
+    parts: FirstByte,
+    cc: u32,
+) -> Result<(), NoMemory>
+    requires { 0 < cc }
+{
+    let shards = Shards::new(alloc, parts.parts)?;
+    let txns = earlier(rt, alloc)?;
+    let one = txns.len() == 1;
+    assert!(rt; one);
+    let (shards, _) = plan(rt, alloc, shards, 2, txns.as_slice(), cc, &parts)?;
+    let txns = batch(rt, alloc)?;
+    let four = txns.len() == 4;
+    assert!(rt; four);
+    let (mut shards, plan) = plan(rt, alloc, shards, 5, txns.as_slice(), cc, &parts)?;
+    assert_plan(rt, &plan, txns.as_slice());
+    let a = [(9, 6), (6, 5), (5, 2), (2, 0)];
+    let b = [(9, 7), (7, 5), (5, 0)];
+    let c = [(9, 8), (8, 0)];
+    assert_chains(rt, &shards, &parts, &a, &b, &c);
+    shards.trim_places(5);
+    let a = [(9, 6), (6, 5), (5, 0)];
+    assert_chains(rt, &shards, &parts, &a, &b, &c);
+    shards.trim_places(6);
+    let a = [(9, 6), (6, 0)];
+    assert_chains(rt, &shards, &parts, &a, &b, &c);
+    Ok(())
+}
+
+#[test]
+fn every_number_of_workers_and_parts_gives_the_same_plan(rt: HostRuntime) -> Result<(), Fail> {
+    for parts in [1, 7, 64] {
+        for cc in [1, 2, 16] {
+            plan_batch(&rt, rt.alloc(), FirstByte { parts }, cc)?;
+        }
+    }
+    Ok(())
+}
+
+#[test]
+fn two_workers_plan_at_once(rt: HostRuntime) -> Result<(), Fail> {
+    let alloc: Global = rt.alloc();
+    let meeting = Meeting {
+        bytes: FirstByte { parts: 2 },
+        calls: AtomicU64::new(0),
+        met: AtomicU64::new(0),
+    };
+    let txns = batch(&rt, alloc)?;
+    let four = txns.len() == 4;
+    assert!(rt; four);
+    let shards = Shards::new(alloc, 2)?;
+    let (_, plan) = plan(&rt, alloc, shards, 5, txns.as_slice(), 2, &meeting)?;
+    assert_plan(&rt, &plan, txns.as_slice());
+    assert_eq!(rt; meeting.met.load(Ordering::SeqCst), 1);
+    Ok(())
+}
+
+#[test]
+fn a_source_is_below_the_timestamp(rt: HostRuntime) -> Result<(), Fail> {
+    let alloc: Global = rt.alloc();
+    let key = Key::new(b"a").expect(&rt, "a name");
+    let other = Key::new(b"b").expect(&rt, "a name");
+    let mut places = Places::new(alloc);
+    places.place(alloc, key, 4)?;
+    places.place(alloc, key, 9)?;
+    for (ts, want) in [(3, 0), (4, 0), (5, 4), (9, 4), (10, 9)] {
+        assert_eq!(rt; places.source(&key, ts), want, "at {ts}");
+        assert_eq!(rt; places.source(&other, ts), 0, "at {ts}");
+    }
+    Ok(())
+}
