@@ -6,6 +6,3 @@ mod store;
 
 pub use executor::{Answer, run};
 pub use store::Store;
-
-#[cfg(test)]
-mod tests;

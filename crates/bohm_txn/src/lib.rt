@@ -8,8 +8,6 @@ pub mod laws;
 mod outcome;
 mod room;
 mod rules;
-#[cfg(test)]
-mod samples;
 mod scratch;
 mod sureness;
 mod view;

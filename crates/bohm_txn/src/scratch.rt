@@ -76,6 +76,3 @@ pub fn eval(txn: &Txn, reads: &[Cell], earlier: &[Cell], scratch: &mut Scratch) 
         }
     }
 }
-
-#[cfg(test)]
-mod tests;

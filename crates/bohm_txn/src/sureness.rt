@@ -129,6 +129,3 @@ pub fn sure(txn: &Txn) -> bool
     let body = txn.body.as_slice();
     are_sure(body) && are_targets(body, txn.writes.as_slice())
 }
-
-#[cfg(test)]
-mod tests;
