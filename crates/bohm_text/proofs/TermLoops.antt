@@ -1,6 +1,6 @@
 -- Further terms, one after the other.
 use Rattle.std.proofs.Common.{◌≡◌, ℕ, Bool, true, false, cond, List, [], ◌∷◌, ◌++◌, Some, None, refl, ap, sym, subst, ◌∙◌, append_assoc}
-use Rattle.std.specs.Prelude.{Option, Result, codes}
+use Rattle.std.specs.Prelude.{Option, Result, codes, is_some}
 use Rattle.std.specs.Option.{option_map, ok_or}
 use Rattle.std.specs.Str.{bytes_eq}
 use Rattle.std.proofs.lemmas.List.{append-nil}
@@ -14,7 +14,7 @@ use Rattle.bohm_text.specs.declared.sums.Stop.TheVariants as stops
 use Rattle.bohm_text.specs.declared.sums.SumText.{SumText}
 use Rattle.bohm_text.specs.Print.{Words}
 use Rattle.bohm_text.specs.Reading.{◌>>=◌, Fails, Gives, first_of, sign_of, further_of, cmp_of, stop_of, Ending, End, When, Compared, ending, Terms, stopped, longer, terms_of, GivesEnding, sum_from, at_end, last_sum}
-use Rattle.bohm_text.specs.SumText.{sum_in, with_ending}
+use Rattle.bohm_text.specs.SumText.{is_ended, sum_in, with_ending}
 
 -- ---- one term more, or the end
 
@@ -180,6 +180,27 @@ module _ (words rest : Words) (text : SumText) (found : sum_from words ≡ with_
   last_other other = last_sum-with words (sum_in text) (ending text.stop rest) found ∙ last_of-stop (sum_in text) text.stop rest other
 
 -- ---- building
+
+no_sign : (word : List ℕ) (sign : Option Bool) → sign_of word ≡ sign → is_some (stop_of word) ≡ true → sign ≡ None
+no_sign word None s e = refl
+no_sign word (Some minus) s e = let none = no_stop word minus s in absurd (subst (λ (o : Option Stop). is_some o ≡ true → ⊥) (sym none) (λ f. cc) e)
+
+abbrev none_before : Ending → Terms
+none_before end = ([], end)
+
+ends_sum : (r : Option Stop) (w1 : Words) → is_some r ≡ true → (end : Ending) × ((r >>= λ stop. Some (none_before (ending stop w1))) ≡ Some (none_before end))
+ends_sum None w1 e = absurd cc
+ends_sum (Some stop) w1 e = (ending stop w1, refl)
+
+ended : (words : Words) → is_ended words ≡ true → (end : Ending) × (terms_of words ≡ Some (none_before end))
+ended [] e = (End, terms_of-end [] refl)
+ended (word ∷ words) e =
+    let s = ends_sum (stop_of word) words e in
+    (s.0, stops_at words word (no_sign word (sign_of word) refl e) ∙ s.1)
+
+pub alone : (text : SumText) → is_ended text.rest ≡ true → sum_in text ≡ Some (text.first ∷ [])
+unfolding sum_in
+alone text e = let p = ended text.rest e in rw p.1 refl
 
 built_case : (first : Bool × Atom) (read : Option Terms) (now : List (Bool × Atom)) → added (first ∷ []) read ≡ Some now → ((read >>= λ p. Some (first ∷ p.0)) ≡ Some now) × (sum_of now ≡ Some now)
 built_case first None now e = absurd cc

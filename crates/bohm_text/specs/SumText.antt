@@ -1,11 +1,16 @@
 -- The sums and conditions that stand in a line.
-use Rattle.std.specs.Prelude.{◌≡◌, List, ◌∷◌, Bool, Option, Some, None}
+use Rattle.std.specs.Prelude.{◌≡◌, List, [], ◌∷◌, Bool, true, Option, Some, None, is_some}
 use Rattle.bohm_tree.specs.declared.term.Atom.{Atom}
 use Rattle.bohm_tree.specs.declared.stmt.Cond.{Cond}
 use Rattle.bohm_text.specs.declared.sums.SumText.{SumText}
 use Rattle.bohm_text.specs.declared.conditions.CondText.{CondText}
 use Rattle.bohm_text.specs.Print.{Words}
-use Rattle.bohm_text.specs.Reading.{◌>>=◌, Ending, ending, Terms, terms_of, sum_from, last_sum, cond_of}
+use Rattle.bohm_text.specs.Reading.{◌>>=◌, Ending, ending, stop_of, Terms, terms_of, sum_from, last_sum, cond_of}
+
+-- whether the terms of a sum end before these words
+abbrev pub is_ended : Words → Bool
+is_ended [] = true
+is_ended (word ∷ words) = is_some (stop_of word)
 
 -- the sum that the text spells
 unfoldable pub sum_in : SumText → Option (List (Bool × Atom))

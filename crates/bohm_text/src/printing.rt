@@ -5,7 +5,7 @@ ghost use Rattle.std.specs.List.{flat_map};
 ghost use Rattle.std.specs.Fmt.{signed_decimal};
 ghost use Rattle.bohm_text.specs.Print.{atom_word, first_word, further_words, sum_words, cmp_word, cond_words, guard_words, stmt_words, store_words, txn_lines, spaced, line_text, lines_text, print_doc};
 
-use bohm_tree::{Atom, Cmp, Cond, Doc, Edition, Key, NoMemory, Stmt, Sum, Term, Txn, Value};
+use bohm_tree::{Atom, Boxed, Cmp, Cond, Doc, Edition, Key, NoMemory, Stmt, Sum, Term, Txn, Value};
 use itoa::Buffer;
 use std::alloc::Global;
 
@@ -29,14 +29,14 @@ fn put_first(out: &mut Vec<u8>, term: &Term) -> Result<(), NoMemory>
     if term.minus() {
         out.push(b'-')?;
     }
-    put_atom(out, term.atom())
+    put_atom(out, &term.atom())
 }
 
 fn put_further(out: &mut Vec<u8>, term: &Term) -> Result<(), NoMemory>
     ensures { IfOk result (λ _. out.new.items ≡ out.old.items ++ spaced (further_words term.now)) }
 {
     out.extend_from_slice(if term.minus() { b" - " } else { b" + " })?;
-    put_atom(out, term.atom())
+    put_atom(out, &term.atom())
 }
 
 /// A sum, with a space before it.
@@ -75,12 +75,12 @@ fn put_cond(out: &mut Vec<u8>, cond: &Cond) -> Result<(), NoMemory>
     put_sum(out, &cond.right)
 }
 
-fn put_guard(out: &mut Vec<u8>, guard: &Option<Cond>) -> Result<(), NoMemory>
+fn put_guard(out: &mut Vec<u8>, guard: &Option<Boxed<Cond>>) -> Result<(), NoMemory>
     ensures { IfOk result (λ _. out.new.items ≡ out.old.items ++ spaced (guard_words guard.now)) }
 {
     if let Some(cond) = guard {
         out.extend_from_slice(b" when")?;
-        put_cond(out, cond)?;
+        put_cond(out, cond.get())?;
     }
     Ok(())
 }

@@ -8,7 +8,7 @@ use crate::fault::ReadFault;
 use crate::numbers::read_number;
 use crate::sums::{Stop, build_sum, read_last_sum, scan_sum};
 use crate::words::Words;
-use bohm_tree::{Items, Key, Stmt, Sum, Value};
+use bohm_tree::{Boxed, Items, Key, Stmt, Sum, Value};
 use std::alloc::Global;
 
 fn read_local(word: &[u8]) -> Option<Key>
@@ -63,7 +63,7 @@ fn read_assigned(alloc: Global, key: Key, words: &mut Words) -> Result<Stmt, Rea
             Ok(Stmt::Put {
                 key,
                 sum,
-                guard: Some(guard),
+                guard: Some(Boxed::new(alloc, guard)?),
             })
         }
         Stop::Compared(_) => Err(ReadFault::Bad),

@@ -2,7 +2,7 @@
 
 ghost use Rattle.std.specs.Prelude.{◌≡◌};
 ghost use Rattle.bohm_text.specs.Reading.{Gives, GivesEnding, GivesTerms, last_sum};
-ghost use Rattle.bohm_text.specs.SumText.{ScansSum, ScansLast, sum_in};
+ghost use Rattle.bohm_text.specs.SumText.{ScansSum, ScansLast, is_ended, sum_in};
 
 use crate::fault::ReadFault;
 use crate::terms::{read_first, read_further, read_sign, read_stop};
@@ -93,13 +93,26 @@ fn read_terms(words: &mut Words, terms: &mut Vec<Term>) -> Result<(), ReadFault>
     Ok(())
 }
 
+/// Whether the terms of a sum end before these words.
+fn is_ended(words: &mut Words) -> bool
+    ensures { result ≡ is_ended words.old }
+{
+    match words.next() {
+        None => true,
+        Some(word) => read_stop(word).is_some(),
+    }
+}
+
 /// The sum of the text, in just the room that it takes.
 pub fn build_sum(alloc: Global, text: SumText) -> Result<Sum, ReadFault>
     ensures { Gives result (sum_in text.entry) }
 {
+    let mut rest = text.rest;
+    if is_ended(&mut rest.fork()) {
+        return Ok(Sum::from(text.first));
+    }
     let mut terms = Vec::with_capacity(alloc, text.count)?;
     terms.push(text.first)?;
-    let mut rest = text.rest;
     read_terms(&mut rest, &mut terms)?;
     Sum::new(terms).ok_or(ReadFault::Bad)
 }

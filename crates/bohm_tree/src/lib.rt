@@ -1,8 +1,10 @@
 //! The tree of a document: keys, values, sums, statements, transactions and the log.
 #![tactic(auto)]
 
+mod boxed;
 mod cell;
 mod doc;
+mod few;
 mod items;
 mod key;
 mod memory;
@@ -10,6 +12,7 @@ mod stmt;
 mod term;
 mod txn;
 
+pub use boxed::Boxed;
 pub use cell::{Cell, Value};
 pub use doc::Doc;
 pub use items::Items;

@@ -3,6 +3,7 @@
 ghost use Rattle.std.specs.Prelude.{◌≡◌};
 ghost use Rattle.bohm_tree.specs.Parts.{tested, target, bound, is_show};
 
+use crate::boxed::Boxed;
 use crate::key::Key;
 use crate::term::Sum;
 
@@ -42,7 +43,7 @@ pub enum Stmt {
     Put {
         key: Key,
         sum: Sum,
-        guard: Option<Cond>,
+        guard: Option<Boxed<Cond>>,
     },
     /// `drop KEY`
     Remove(Key),

@@ -1,8 +1,9 @@
 //! Sums and their terms.
 
-ghost use Rattle.std.specs.Prelude.{◌≡◌};
+ghost use Rattle.std.specs.Prelude.{◌≡◌, [], ◌∷◌};
 ghost use Rattle.bohm_tree.specs.Shape.{term_of, sum_of};
 
+use crate::few::Few;
 use crate::key::Key;
 use std::marker::Model;
 
@@ -20,11 +21,22 @@ pub enum Atom {
     Local(Key),
 }
 
+/// How many numbers a half of a literal has.
+const HALF: u64 = 4_294_967_296;
+
+/// A term as it lies in memory. A number of 64 bits would lie at a multiple of 8 bytes, with idle
+/// bytes beside a key; its halves don't.
+#[derive(Clone, Copy, Debug, PartialEq, Eq)]
+enum Packed {
+    Lit { minus: bool, high: u32, low: u32 },
+    Read { minus: bool, key: Key },
+    Local { minus: bool, name: Key },
+}
+
 /// An atom, and whether it is taken away.
 #[derive(Clone, Copy, Debug, PartialEq, Eq)]
 pub struct Term {
-    minus: bool,
-    atom: Atom,
+    packed: Packed,
 }
 
 impl Model for Term {
@@ -33,9 +45,15 @@ impl Model for Term {
 
     ghost Value = { Bool × Atom };
 
-    ghost view = { λ t. (t.minus, t.atom) };
+    ghost use Rattle.bohm_tree.specs.TermInside.{term_in, IsHalved, packed_term, packed_ok};
 
-    ghost inverse = { λ p. record { minus = p.0; atom = p.1 } };
+    ghost view = { λ t. term_in t.packed };
+
+    ghost invariant = { λ t. IsHalved t.packed };
+
+    ghost inverse = { λ p. record { packed = packed_term p } };
+
+    ghost inverse_ok = { λ t h i. record { packed = packed_ok t.packed h i } };
 }
 
 impl Term {
@@ -43,29 +61,47 @@ impl Term {
     pub fn new(minus: bool, atom: Atom) -> Option<Term>
         ensures { result ≡ term_of minus atom }
     {
-        match atom {
-            Atom::Lit(number) if number > GREATEST_LITERAL || minus && number == 0 => None,
-            _ => Some(Term { minus, atom }),
-        }
+        let packed = match atom {
+            Atom::Lit(number) => {
+                if number > GREATEST_LITERAL || minus && number == 0 {
+                    return None;
+                }
+                Packed::Lit {
+                    minus,
+                    high: (number / HALF) as u32,
+                    low: (number % HALF) as u32,
+                }
+            }
+            Atom::Read(key) => Packed::Read { minus, key },
+            Atom::Local(name) => Packed::Local { minus, name },
+        };
+        Some(Term { packed })
     }
 
     pub fn minus(&self) -> bool
         ensures { result ≡ self.now.0 }
     {
-        self.minus
+        match self.packed {
+            Packed::Lit { minus, .. } | Packed::Read { minus, .. } | Packed::Local { minus, .. } =>
+                minus,
+        }
     }
 
-    pub fn atom(&self) -> &Atom
-        ensures { result.now ≡ self.now.1 }
+    pub fn atom(&self) -> Atom
+        ensures { result ≡ self.now.1 }
     {
-        &self.atom
+        match self.packed {
+            Packed::Lit { high, low, .. } => Atom::Lit(u64::from(high) * HALF + u64::from(low)),
+            Packed::Read { key, .. } => Atom::Read(key),
+            Packed::Local { name, .. } => Atom::Local(name),
+        }
     }
 }
 
-/// Terms, at least one.
+/// Terms, at least one. One term alone takes no room of its own.
 #[derive(Debug, Drop)]
 pub struct Sum {
-    terms: Vec<Term>,
+    terms: Few<Term>,
 }
 
 impl Model for Sum {
@@ -74,9 +110,20 @@ impl Model for Sum {
 
     ghost Value = { List (Bool × Atom) };
 
-    ghost view = { λ s. s.terms.items };
+    ghost view = { λ s. s.terms };
 
-    ghost invariant = { λ s. 0 < length s.terms.items };
+    ghost invariant = { λ s. 0 < length s.terms };
+}
+
+/// The sum of one term. It takes no memory.
+impl From<Term> for Sum {
+    ghost from_gives = { λ term sum. sum ≡ term ∷ [] };
+
+    fn from(term: Term) -> Sum {
+        Sum {
+            terms: Few::one(term),
+        }
+    }
 }
 
 impl Sum {
@@ -87,7 +134,9 @@ impl Sum {
         if terms.is_empty() {
             None
         } else {
-            Some(Sum { terms })
+            Some(Sum {
+                terms: Few::from(terms),
+            })
         }
     }
 

@@ -1,5 +1,5 @@
 use crate::{
-    Atom, Cmp, Cond, Doc, Edition, GREATEST_LITERAL, Items, Key, Stmt, Sum, Term, Txn, Value,
+    Atom, Boxed, Cmp, Cond, Doc, Edition, GREATEST_LITERAL, Items, Key, Stmt, Sum, Term, Txn, Value,
 };
 use std::alloc::Global;
 use std::process::Abort;
@@ -105,6 +105,9 @@ fn terms_within_the_limits(rt: HostRuntime) -> Result<(), Fail> {
         (true, Atom::Lit(0), false),
         (false, Atom::Lit(1), true),
         (true, Atom::Lit(1), true),
+        (false, Atom::Lit(4_294_967_295), true),
+        (true, Atom::Lit(4_294_967_296), true),
+        (false, Atom::Lit(8_589_934_595), true),
         (false, Atom::Lit(9_223_372_036_854_775_807), true),
         (true, Atom::Lit(9_223_372_036_854_775_807), true),
         (false, Atom::Lit(9_223_372_036_854_775_808), false),
@@ -120,7 +123,7 @@ fn terms_within_the_limits(rt: HostRuntime) -> Result<(), Fail> {
         assert_eq!(rt; found.is_some(), is_term, "{minus} {atom:?}");
         if let Some(term) = found {
             assert_eq!(rt; term.minus(), minus, "{atom:?}");
-            assert_eq!(rt; *term.atom(), atom);
+            assert_eq!(rt; term.atom(), atom);
         }
     }
     Ok(())
@@ -132,8 +135,11 @@ fn sums_have_a_term(rt: HostRuntime) -> Result<(), Fail> {
     assert!(rt; Sum::new(Vec::new(alloc)).is_none());
     let one = Term::new(false, Atom::Lit(1)).ok_or("no term")?;
     let less = Term::new(true, Atom::Read(key("a")?)).ok_or("no term")?;
-    let sum = Sum::new(vec![in alloc; one, less]?).ok_or("no sum")?;
-    assert_eq!(rt; sum.terms(), [one, less].as_slice());
+    assert_eq!(rt; Sum::from(less).terms(), [less].as_slice());
+    for terms in [[less].as_slice(), &[one, less], &[less, one, one]] {
+        let sum = Sum::new(Vec::from_slice(alloc, terms)?).ok_or("no sum")?;
+        assert_eq!(rt; sum.terms(), terms);
+    }
     Ok(())
 }
 
@@ -144,6 +150,10 @@ fn assert_parts(rt: &impl Abort, stmt: Stmt, want: (Option<Key>, Option<Key>, Op
 }
 
 fn put(alloc: Global, key: Key, guard: Option<Cond>) -> Result<Stmt, Fail> {
+    let guard = match guard {
+        Some(cond) => Some(Boxed::new(alloc, cond)?),
+        None => None,
+    };
     Ok(Stmt::Put {
         key,
         sum: literal(alloc, 1)?,
@@ -201,6 +211,13 @@ fn documents_have_one_edition(rt: HostRuntime) -> Result<(), Fail> {
             assert!(rt; doc(alloc, own, editions)?.is_none(), "{editions:?}");
         }
     }
+    Ok(())
+}
+
+#[test]
+fn boxes_hold_a_value(rt: HostRuntime) -> Result<(), Fail> {
+    let boxed = Boxed::new(rt.alloc(), key("a")?)?;
+    assert_eq!(rt; *boxed.get(), key("a")?);
     Ok(())
 }
 

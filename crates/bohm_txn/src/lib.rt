@@ -14,7 +14,7 @@ mod view;
 mod work;
 
 pub use bohm_tree::{
-    Atom, Cell, Cmp, Cond, Doc, Edition, Items, Key, NoMemory, Stmt, Sum, Term, Txn, Value,
+    Atom, Boxed, Cell, Cmp, Cond, Doc, Edition, Items, Key, NoMemory, Stmt, Sum, Term, Txn, Value,
 };
 pub use checked::{Checked, check};
 pub use fault::{CheckFault, CheckKind};

@@ -68,14 +68,14 @@ fn is_declared(keys: &[Key], terms: &[Term]) -> bool
     requires { rising keys.now ≡ true }
     ensures { result ≡ list_all (λ term. reads_among keys.now term.1) terms.now }
 {
-    terms.iter().all(|term| reads_among(keys, term.atom()))
+    terms.iter().all(|term| reads_among(keys, &term.atom()))
 }
 
 /// Whether one of these statements binds each local that the terms read.
 fn is_defined(before: &[Stmt], terms: &[Term]) -> bool
     ensures { result ≡ list_all (λ term. locals_bound before.now term.1) terms.now }
 {
-    terms.iter().all(|term| locals_bound(before, term.atom()))
+    terms.iter().all(|term| locals_bound(before, &term.atom()))
 }
 
 /// Whether all sums of the statement pass: both sides of a condition, and of a guard.
@@ -89,7 +89,7 @@ fn all_sums<F: Fn(&Sum) -> bool>(stmt: &Stmt, passes: F) -> bool
         Stmt::Put { sum, guard, .. } => {
             passes(sum)
                 && match guard {
-                    Some(cond) => passes(&cond.left) && passes(&cond.right),
+                    Some(cond) => passes(&cond.get().left) && passes(&cond.get().right),
                     None => true,
                 }
         }

@@ -54,7 +54,7 @@ impl Literals {
             let Atom::Lit(number) = term.atom() else {
                 return None;
             };
-            literals = literals.with(term.minus(), *number);
+            literals = literals.with(term.minus(), number);
         }
         Some(literals)
     }

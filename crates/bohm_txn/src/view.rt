@@ -11,7 +11,7 @@ ghost use Rattle.bohm_txn.specs.Tables.{place, cell_at};
 ghost use lib.IntN.{neg_ℤ};
 
 use crate::outcome::Reason;
-use bohm_tree::{Atom, Cell, Cmp, Cond, Key, Sum, Term, Value};
+use bohm_tree::{Atom, Boxed, Cell, Cmp, Cond, Key, Sum, Term, Value};
 use std::cmp::Ordering;
 
 /// What a statement sees: the cells of the keys that it may read, and the locals.
@@ -69,19 +69,19 @@ impl View<'_> {
         }
     }
 
-    fn atom(&self, atom: &Atom) -> Option<i128>
+    fn atom(&self, atom: Atom) -> Option<i128>
         requires { length self.now.keys.now ≡ length self.now.cells.now }
-        ensures value { result ≡ atom_value (cell_at self.now.keys.now self.now.cells.now) self.now.locals.now atom.now }
+        ensures value { result ≡ atom_value (cell_at self.now.keys.now self.now.cells.now) self.now.locals.now atom }
         ensures low { IfSome result (λ z. neg_ℤ (pos (2 ^ 64)) ≤ℤ z) }
         ensures high { IfSome result (λ z. z ≤ℤ pos (2 ^ 64)) }
     {
         match atom {
-            Atom::Lit(number) => Some(i128::from(*number)),
-            Atom::Read(key) => match self.cell(key) {
+            Atom::Lit(number) => Some(i128::from(number)),
+            Atom::Read(key) => match self.cell(&key) {
                 Cell::Absent => None,
                 Cell::Present(value) => Some(i128::from(value.get())),
             },
-            Atom::Local(name) => Some(i128::from(local_among(self.locals, name).get())),
+            Atom::Local(name) => Some(i128::from(local_among(self.locals, &name).get())),
         }
     }
 
@@ -139,13 +139,13 @@ impl View<'_> {
     }
 
     /// Whether a guard lets its statement through: no guard always does.
-    pub fn lets_through(&self, guard: &Option<Cond>) -> Result<bool, Reason>
+    pub fn lets_through(&self, guard: &Option<Boxed<Cond>>) -> Result<bool, Reason>
         requires paired { length self.now.keys.now ≡ length self.now.cells.now }
         requires few { AllByRecursion (λ sum. length sum ≤ 16) (guard_sums guard.now) }
         ensures { result ≡ guard_value (cell_at self.now.keys.now self.now.cells.now) self.now.locals.now guard.now }
     {
         match guard {
-            Some(cond) => self.holds(cond),
+            Some(cond) => self.holds(cond.get()),
             None => Ok(true),
         }
     }

@@ -1,5 +1,5 @@
 use crate::{CheckFault, CheckKind, check};
-use bohm_tree::{Atom, Cmp, Cond, Doc, Edition, Items, Key, Stmt, Sum, Term, Txn, Value};
+use bohm_tree::{Atom, Boxed, Cmp, Cond, Doc, Edition, Items, Key, Stmt, Sum, Term, Txn, Value};
 use std::alloc::Global;
 use std::test::Fail;
 
@@ -61,7 +61,7 @@ fn guarded(alloc: Global, left: &[Atom], right: &[Atom]) -> Result<Stmt, Fail> {
     Ok(Stmt::Put {
         key: key(b"a")?,
         sum: sum(alloc, &[Atom::Lit(1)])?,
-        guard: Some(less(alloc, left, right)?),
+        guard: Some(Boxed::new(alloc, less(alloc, left, right)?)?),
     })
 }
 

@@ -1,9 +1,15 @@
-use Rattle.std.proofs.Common.{◌≡◌, List, [], ◌∷◌, Bool, Some, refl, subst, ◌∙◌}
+use Rattle.std.proofs.Common.{◌≡◌, List, [], ◌∷◌, Bool, true, Some, refl, subst, ◌∙◌}
 use Rattle.std.proofs.lemmas.Result.{err_from_is_err_and}
 use Rattle.bohm_tree.specs.declared.term.Atom.{Atom}
 use Rattle.bohm_text.specs.Reading.{terms_of}
-use Rattle.bohm_text.proofs.TermLoops.{added, built, not_built}
+use Rattle.bohm_text.specs.SumText.{is_ended}
+use Rattle.bohm_text.proofs.TermLoops.{added, alone, built, not_built}
 use Rattle.bohm_text.proofs.sums.build_sum.Goals as goal
+
+pub returns-then-is_ended : goal.returns-then-is_ended
+returns-then-is_ended c =
+    let ended : is_ended c.args.text.rest ≡ true = cc in
+    rw c.from.ensures (alone c.args.text ended)
 
 pub returns-in_err-read_terms : goal.returns-in_err-read_terms
 returns-in_err-read_terms c =
