@@ -1,11 +1,9 @@
 -- The finite map of a hash map's entries.
-use Rattle.std.proofs.Common.{◌≡◌, ℕ, zero, suc, ◌+◌, Bool, true, false, cond, List, [], ◌∷◌, ◌++◌, map, take, Some, None, refl, ap, sym, ◌∙◌, add-one, subst}
-use Rattle.std.specs.Prelude.{ℤ, Option, ◌&&◌}
+use Rattle.std.proofs.Common.{◌≡◌, ℕ, zero, suc, ◌+◌, Bool, true, cond, List, [], ◌∷◌, ◌++◌, take, Some, None, refl, ap, sym, ◌∙◌, add-one, subst}
+use Rattle.std.specs.Prelude.{ℤ, Option}
 use Rattle.std.specs.List.{slice_get}
-use Rattle.std.specs.Ordering.{nat_cmp, is_lt, is_eq, eq_by_cmp, ordering_reverse}
-use Rattle.std.specs.declared.cmp.Ordering.{Ordering}
-use Rattle.std.specs.declared.cmp.Ordering.TheVariants.{Less, Equal, Greater}
-use Rattle.std.specs.Cmp.{eq_by_cmp_equiv}
+use Rattle.std.specs.Ordering.{nat_cmp, is_lt}
+use Rattle.std.specs.declared.cmp.Ordering.TheVariants.{Less}
 use Rattle.std.specs.Cmp.Lexicographic.{slice_cmp, nat_list_cmp_total}
 use Rattle.std.specs.FinMap as finite
 use Rattle.std.specs.FinMap.Entries.{find}
@@ -13,7 +11,11 @@ use Rattle.std.specs.Map.{lookup}
 use Rattle.std.specs.Str.{bytes_eq}
 use Rattle.std.proofs.lemmas.Map.Text.{is_eq-slice_cmp}
 use Rattle.bohm_txn.specs.Faulty.{rises_from, rising, names_of}
-use Rattle.bohm_txn.specs.Stores.{Store, store_of}
+use Rattle.bohm_txn.specs.Declares.{IsAmong}
+use Rattle.bohm_txn.specs.Stores.{store_of}
+use Rattle.bohm_txn.proofs.Apart.{both, below_all, among_first, among_then}
+use Rattle.bohm_txn.proofs.Bodies.{key_itself}
+use Rattle.bohm_txn.proofs.Stores.{tested, same_nat}
 
 pub find_lookup : (es : List (List ℕ × ℤ)) (q : List ℕ) → find (slice_cmp nat_cmp) q es ≡ lookup (bytes_eq q) es
 find_lookup [] q = refl
@@ -22,12 +24,6 @@ find_lookup (e ∷ es) q = ap (λ (b : Bool). cond b (Some e.1) (find (slice_cmp
 -- what the store of a list has for a key is what a look-up finds
 pub get-store_of : (es : List (List ℕ × ℤ)) (q : List ℕ) → finite.get (store_of es) q ≡ lookup (bytes_eq q) es
 get-store_of es q = finite.get-from_entries nat_list_cmp_total es q ∙ find_lookup es q
-
-pub same_nat : finite.IsAntisymmetric (slice_cmp nat_cmp)
-same_nat = finite.slice_cmp-IsAntisymmetric finite.nat_cmp-IsAntisymmetric
-
-tested : (q k : List ℕ) → eq_by_cmp (slice_cmp nat_cmp) q k ≡ bytes_eq k q
-tested q k = (eq_by_cmp_equiv nat_list_cmp_total).symm q k ∙ is_eq-slice_cmp k q
 
 -- entries that have z at one key, and at each other key what these have
 pub store_of-insert : (es fs : List (List ℕ × ℤ)) (k : List ℕ) (z : ℤ) → ((q : List ℕ) → lookup (bytes_eq q) fs ≡ cond (bytes_eq k q) (Some z) (lookup (bytes_eq q) es)) → store_of fs ≡ finite.insert (store_of es) k z
@@ -39,32 +35,22 @@ store_of-remove es fs k h = finite.same_map nat_list_cmp_total same_nat _ _ (λ 
 
 -- ---- a list whose keys rise
 
-less_from : (o : Ordering) → is_lt o ≡ true → o ≡ Less
-less_from Less e = refl
-less_from Equal e = absurd cc
-less_from Greater e = absurd cc
-
-first_of : (a b : Bool) → (a && b) ≡ true → a ≡ true
-first_of true b e = refl
-first_of false b e = absurd cc
-
-second_of : (a b : Bool) → (a && b) ≡ true → b ≡ true
-second_of true b e = e
-second_of false b e = absurd cc
+-- an entry's key is among the names
+named : (es : List (List ℕ × ℤ)) (j : ℕ) (x : List ℕ × ℤ) → slice_get es j ≡ Some x → IsAmong (names_of es) x.0
+named [] j x e = absurd cc
+named (y ∷ es) zero x e =
+    let same : y ≡ x = cc in
+    among_first y.0 x.0 (names_of es) (subst (λ (z : List ℕ × ℤ). bytes_eq y.0 z.0 ≡ true) same (key_itself y.0))
+named (y ∷ es) (suc j) x e = among_then y.0 x.0 (names_of es) (named es j x e)
 
 -- what stands behind a key in a rising list is above it
 behind : (a : List ℕ) (es : List (List ℕ × ℤ)) (j : ℕ) (x : List ℕ × ℤ) → rises_from a (names_of es) ≡ true → slice_get es j ≡ Some x → slice_cmp nat_cmp a x.0 ≡ Less
-behind a [] j x r e = absurd cc
-behind a (y ∷ es) zero x r e =
-    let same : y ≡ x = cc in
-    let first : slice_cmp nat_cmp a y.0 ≡ Less = less_from _ (first_of _ _ r) in
-    subst (λ (z : List ℕ × ℤ). slice_cmp nat_cmp a z.0 ≡ Less) same first
-behind a (y ∷ es) (suc j) x r e = nat_list_cmp_total.trans a y.0 x.0 (less_from _ (first_of _ _ r)) (behind y.0 es j x (second_of (is_lt (slice_cmp nat_cmp a y.0)) _ r) e)
+behind a es j x r e = below_all a (names_of es) r x.0 (named es j x e)
 
 unseen_from : (a : List ℕ × ℤ) (es : List (List ℕ × ℤ)) (j : ℕ) (x : List ℕ × ℤ) → rises_from a.0 (names_of es) ≡ true → slice_get es j ≡ Some x → find (slice_cmp nat_cmp) x.0 (a ∷ take j es) ≡ None
 unseen_from a [] j x r e = absurd cc
 unseen_from a (y ∷ es) zero x r e = rw (nat_list_cmp_total.antisymm x.0 a.0, behind a.0 (y ∷ es) zero x r e) refl
-unseen_from a (y ∷ es) (suc j) x r e = rw (nat_list_cmp_total.antisymm x.0 a.0, behind a.0 (y ∷ es) (suc j) x r e) (unseen_from y es j x (second_of (is_lt (slice_cmp nat_cmp a.0 y.0)) _ r) e)
+unseen_from a (y ∷ es) (suc j) x r e = rw (nat_list_cmp_total.antisymm x.0 a.0, behind a.0 (y ∷ es) (suc j) x r e) (unseen_from y es j x (both (is_lt (slice_cmp nat_cmp a.0 y.0)) (rises_from y.0 (names_of es)) r).1 e)
 
 -- a key of a rising list stands nowhere before
 unseen : (es : List (List ℕ × ℤ)) (j : ℕ) (x : List ℕ × ℤ) → rising (names_of es) ≡ true → slice_get es j ≡ Some x → find (slice_cmp nat_cmp) x.0 (take j es) ≡ None

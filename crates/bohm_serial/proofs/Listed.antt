@@ -1,19 +1,22 @@
 -- A store's entries in the order of their keys.
-use Rattle.std.proofs.Common.{◌≡◌, ℕ, zero, suc, ◌+◌, ◌<◌, Bool, true, false, List, [], ◌∷◌, length, get_or, refl, sym, ap, ◌∙◌, subst, arith, add-one}
-use Rattle.std.specs.Prelude.{ℤ, ◌&&◌, nat_eq, T}
-use Rattle.std.specs.List.{AllByRecursion, IsDistinct}
+use Rattle.std.proofs.Common.{◌≡◌, ℕ, suc, ◌<◌, true, false, List, [], ◌∷◌, length, get_or, refl, sym, ap, ◌∙◌, subst, arith, add-one}
+use Rattle.std.specs.Prelude.{ℤ, T}
+use Rattle.std.specs.List.{IsDistinct}
 use Rattle.std.specs.List.Sorted.{IsPermutation, IsSortedByKey}
-use Rattle.std.specs.Map.{keys_of, lookup}
+use Rattle.std.specs.Map.{keys_of}
 use Rattle.std.specs.Ordering.{nat_cmp, is_lt, is_eq, ordering_reverse}
 use Rattle.std.specs.declared.cmp.Ordering.{Ordering}
 use Rattle.std.specs.declared.cmp.Ordering.TheVariants.{Less, Equal, Greater}
+use Rattle.std.specs.Cmp.Derive.{both_true}
 use Rattle.std.specs.Cmp.Lexicographic.{slice_cmp, nat_list_cmp_total, nat_list_eq_equiv}
 use Rattle.std.specs.FinMap as finite
-use Rattle.std.specs.FinMap.Entries.{find, is_sorted, below_all}
+use Rattle.std.specs.FinMap.Entries.{is_sorted, below_all}
 use Rattle.std.specs.Str.{bytes_eq}
 use Rattle.std.proofs.lemmas.Map.Text.{is_eq-slice_cmp}
 use Rattle.bohm_txn.specs.Stores.{Store, store_of}
-use Rattle.bohm_serial.proofs.Entries.{find_lookup, get-store_of, same_nat}
+use Rattle.bohm_txn.proofs.Apart.{both, less}
+use Rattle.bohm_txn.proofs.Stores.{same_nat}
+use Rattle.bohm_serial.proofs.Entries.{find_lookup, get-store_of}
 use Rattle.bohm_serial.proofs.Permuted.{lookup_permuted, distinct_permuted}
 
 -- neither above nor equal
@@ -26,24 +29,10 @@ less_than : (a b : List ℕ) → is_lt (slice_cmp nat_cmp b a) ≡ false → byt
 less_than a b above other = less_by (slice_cmp nat_cmp a b) (slice_cmp nat_cmp b a) (nat_list_cmp_total.antisymm b a) above (is_eq-slice_cmp a b ∙ other)
 
 below_more : (a b : List ℕ) (es : List (List ℕ × ℤ)) → slice_cmp nat_cmp a b ≡ Less → below_all (slice_cmp nat_cmp) b es ≡ true → below_all (slice_cmp nat_cmp) a es ≡ true
-below_more a b [] less h = refl
-below_more a b (e ∷ es) less h = rw (nat_list_cmp_total.trans a b e.0 less (less_from _ (first_of _ _ h))) (below_more a b es less (second_of (is_lt (slice_cmp nat_cmp b e.0)) _ h))
-  where
-    less_from : (o : Ordering) → is_lt o ≡ true → o ≡ Less
-    less_from Less p = refl
-    less_from Equal p = absurd cc
-    less_from Greater p = absurd cc
-
-    first_of : (x y : Bool) → (x && y) ≡ true → x ≡ true
-    first_of true y p = refl
-    first_of false y p = absurd cc
-
-    second_of : (x y : Bool) → (x && y) ≡ true → y ≡ true
-    second_of true y p = p
-    second_of false y p = absurd cc
-
-both : (x y : Bool) → x ≡ true → y ≡ true → (x && y) ≡ true
-both x y p q = rw (p, q) refl
+below_more a b [] under h = refl
+below_more a b (e ∷ es) under h =
+    let (first, rest) = both (is_lt (slice_cmp nat_cmp b e.0)) (below_all (slice_cmp nat_cmp) b es) h in
+    rw (nat_list_cmp_total.trans a b e.0 under (less _ first)) (below_more a b es under rest)
 
 -- keys that don't fall and differ strictly rise
 rises : (es : List (List ℕ × ℤ)) → ((k : ℕ) (d : List ℕ × ℤ) → suc k < length es → is_lt (slice_cmp nat_cmp (get_or es (suc k) d).0 (get_or es k d).0) ≡ false) → IsDistinct bytes_eq (keys_of es) → is_sorted (slice_cmp nat_cmp) es ≡ true
@@ -51,13 +40,9 @@ unfolding IsDistinct
 rises [] sorted distinct = refl
 rises (e ∷ []) sorted distinct = refl
 rises (e ∷ f ∷ es) sorted distinct =
-    let less : slice_cmp nat_cmp e.0 f.0 ≡ Less = less_than e.0 f.0 (sorted 0 e (omega arith)) distinct.0.0 in
+    let first : slice_cmp nat_cmp e.0 f.0 ≡ Less = less_than e.0 f.0 (sorted 0 e (omega arith)) distinct.0.0 in
     let rest : is_sorted (slice_cmp nat_cmp) (f ∷ es) ≡ true = rises (f ∷ es) (λ k d l. sorted (suc k) d (omega arith)) distinct.1 in
-    both _ _ (both _ _ (ap is_lt less) (below_more e.0 f.0 es less (front _ _ rest))) rest
-  where
-    front : (x y : Bool) → (x && y) ≡ true → x ≡ true
-    front true y p = refl
-    front false y p = absurd cc
+    both_true (both_true (ap is_lt first) (below_more e.0 f.0 es first (both (below_all (slice_cmp nat_cmp) f.0 es) (is_sorted (slice_cmp nat_cmp) es) rest).0)) rest
 
 -- the entries of a hash map, once sorted, are the store's
 pub entries_listed : (es items : List (List ℕ × ℤ)) → IsPermutation es items → IsDistinct bytes_eq (keys_of es) → IsSortedByKey (λ e. e.0) (slice_cmp nat_cmp) items → items ≡ finite.entries (store_of es)

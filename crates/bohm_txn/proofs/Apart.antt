@@ -34,16 +34,17 @@ abbrev pub AllApart : List (List ℕ) → Type 0
 AllApart [] = Unit {0}
 AllApart (x ∷ xs) = (¬ IsAmong xs x) × AllApart xs
 
-both : (a b : Bool) → (a && b) ≡ true → (a ≡ true) × (b ≡ true)
+pub both : (a b : Bool) → (a && b) ≡ true → (a ≡ true) × (b ≡ true)
 both true b e = (refl, e)
 both false b e = absurd cc
 
-less : (o : Ordering) → is_lt o ≡ true → o ≡ Less
+pub less : (o : Ordering) → is_lt o ≡ true → o ≡ Less
 less Less e = refl
 less Equal e = absurd cc
 less Greater e = absurd cc
 
-below_all : (k : List ℕ) (ks : List (List ℕ)) → rises_from k ks ≡ true → (q : List ℕ) → IsAmong ks q → slice_cmp nat_cmp k q ≡ Less
+-- rising keys are above the one that they rise from
+pub below_all : (k : List ℕ) (ks : List (List ℕ)) → rises_from k ks ≡ true → (q : List ℕ) → IsAmong ks q → slice_cmp nat_cmp k q ≡ Less
 below_all k [] e q among = absurd cc
 below_all k (n ∷ ns) e q among =
     let (first, rest) = both (is_lt (slice_cmp nat_cmp k n)) (rises_from n ns) e in

@@ -1,10 +1,8 @@
-use Rattle.std.proofs.Common.{◌≡◌, List, map, sym, ap, ◌∙◌}
+use Rattle.std.proofs.Common.{◌≡◌, map, sym, ap, ◌∙◌}
 use Rattle.std.specs.List.{zip}
-use Rattle.bohm_tree.specs.declared.cell.Cell.{Cell}
-use Rattle.bohm_txn.specs.Meaning.{Look, body}
 use Rattle.bohm_txn.specs.Serial.{after}
 use Rattle.bohm_txn.specs.Stores.{cell_in, put_all}
-use Rattle.bohm_serial.proofs.Steps.{on_ok, put_all-cells, reply_is}
+use Rattle.bohm_serial.proofs.Steps.{on_ok, put_all-cells}
 use Rattle.bohm_serial.proofs.executor.execute.Goals as goal
 
 pub returns-clause-store : goal.returns-clause-store

@@ -1,5 +1,3 @@
-use Rattle.std.proofs.Common.{◌≡◌, rules}
-use Rattle.bohm_txn.specs.Stores.{Store, put}
 use Rattle.bohm_serial.proofs.Entries.{store_of-insert, store_of-remove}
 use Rattle.bohm_serial.proofs.store.Store.put.Goals as goal
 
