@@ -1,6 +1,9 @@
 //! The program: a log on standard input, its answer on standard output.
 #![tactic(auto)]
 
+ghost use Rattle.std.specs.Prelude.{◌≡◌};
+ghost use Rattle.std.specs.Process.{exit_status};
+
 mod words;
 
 use bohm_run::{RunFault, Settings, print_fault, run_text};
@@ -38,7 +41,9 @@ fn settings_given(rt: &HostRuntime) -> Result<Settings, WordFault> {
 }
 
 /// Says on standard error why the run was refused.
-fn refuse(rt: &HostRuntime, fault: &RunFault) -> ExitCode {
+fn refuse(rt: &HostRuntime, fault: &RunFault) -> ExitCode
+    ensures { exit_status result ≡ REFUSED }
+{
     let _ = match print_fault(rt.alloc(), fault) {
         Ok(line) => rt.stderr().write_all(line.as_slice()),
         Err(_) => rt.eprint(NO_MEMORY),

@@ -1,11 +1,10 @@
 //! The words that the program is started with.
 
-ghost use Rattle.std.specs.Prelude.{◌≡◌, ◌∷◌, map, codes, string_bytes, IfOk, IfErr};
-ghost use Rattle.bohm_cli.specs.Taken.{AreTaken};
-ghost use Rattle.bohm_cli.specs.Faults.{IsNoMemory};
+ghost use Rattle.std.specs.Prelude.{◌≡◌, [], ◌∷◌, map, codes, string_bytes, IfOk, IfErr};
+ghost use Rattle.bohm_cli.specs.Taken.{AreTaken, faults_in};
+ghost use Rattle.bohm_cli.specs.Faults.{IsNoMemory, IsOfKind, IsFoundAmong};
 ghost use Rattle.bohm_cli.specs.declared.words.WordFault.TheVariants.{NoMemory};
 ghost use Rattle.clap.specs.Words.{kind_of};
-ghost use Rattle.clap.specs.declared.error.kind.ErrorKind.TheVariants.{OutOfMemory};
 ghost use Rattle.bohm_run.specs.Given.{plain};
 
 use bohm_run::Settings;
@@ -42,7 +41,7 @@ impl<T: Drop> From<AllocFailed<T>> for WordFault {
 
 /// What clap says of the words.
 fn fault_of(alloc: Global, error: Error) -> WordFault
-    ensures { kind_of error ≡ OutOfMemory → IsNoMemory result }
+    ensures { IsOfKind (kind_of error) result }
 {
     let kind = error.kind();
     let Ok(text) = format!(in alloc; "{error}") else {
@@ -71,7 +70,9 @@ fn command_line<'a>(alloc: Global, words: &'a [String]) -> Result<Vec<&'a str>, 
 /// are the defaults.
 pub fn read_words(alloc: Global, words: &[String]) -> Result<Settings, WordFault>
     ensures ok { IfOk result (λ settings. settings ≡ plain) }
+    ensures faultless { IfOk result (λ _. faults_in (map string_bytes words.now) ≡ []) }
     ensures taken { AreTaken (map string_bytes words.now) → IfErr result IsNoMemory }
+    ensures found { IfErr result (IsFoundAmong (faults_in (map string_bytes words.now))) }
 {
     let line = command_line(alloc, words)?;
     match Command::new(alloc, "bohm").try_get_matches_from(line.as_slice()) {
@@ -79,3 +80,6 @@ pub fn read_words(alloc: Global, words: &[String]) -> Result<Settings, WordFault
         Err(error) => Err(fault_of(alloc, error)),
     }
 }
+
+#[cfg(test)]
+mod tests;

@@ -1,5 +1,5 @@
 -- What faults in reading and in writing say.
-use Rattle.std.specs.Prelude.{◌≡◌, ℕ, ◌≤◌, List, length, take, Option}
+use Rattle.std.specs.Prelude.{ℕ, ◌≤◌, List, length, take, Option}
 use Rattle.std.specs.Io.KnownBytes.{Consumes, IsAtEnd, Appends}
 use Rattle.bohm_run.specs.declared.fault.RunFault.{RunFault}
 use Rattle.bohm_run.specs.declared.fault.RunFault.TheVariants.{Read, TooLong, Text, Check, Trimmed, Future, NoMemory, Write}
@@ -31,7 +31,8 @@ IsWriteFault written written' bytes Future = ⊥
 IsWriteFault written written' bytes NoMemory = ⊥
 IsWriteFault written written' bytes (Write sent) = Sends written written' bytes sent
 
--- all that the reader had was read, and it is this text
+-- all that the reader had was read, and it is this text, which is not too long
 pub record ReadsAll (unread unread' : Option (List ℕ)) (text : List ℕ) : Type 0 where
   pub read : Consumes unread unread' text
   pub at_end : IsAtEnd unread'
+  pub short : length text ≤ 67108864

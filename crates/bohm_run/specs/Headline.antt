@@ -1,5 +1,5 @@
 -- What a run over bytes reads, answers and refuses.
-use Rattle.std.specs.Prelude.{◌≡◌, ℕ, ◌<◌, List, length, Option}
+use Rattle.std.specs.Prelude.{ℕ, ◌<◌, List, length, Option}
 use Rattle.std.specs.FinMap.{entries}
 use Rattle.std.specs.Io.KnownBytes.{Consumes, Appends}
 use Rattle.bohm_tree.specs.Document.{Document}

@@ -4,10 +4,10 @@
 mod bytes;
 mod fault;
 mod fault_line;
-#[cfg(test)]
-mod rows;
 mod running;
 mod settings;
+#[cfg(test)]
+mod tests;
 
 pub use bytes::LONGEST_TEXT;
 pub use fault::RunFault;
