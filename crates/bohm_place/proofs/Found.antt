@@ -1,5 +1,5 @@
 -- What a worker finds, transaction by transaction, and what several found together.
-use Rattle.std.proofs.Common.{◌≡◌, ◌≢◌, ℕ, ◌+◌, ◌<◌, ◌≤◌, ◌%◌, ◌==◌, ◌&&◌, ◌||◌, Bool, true, false, List, [], ◌∷◌, ◌++◌, length, map, take, drop, get_or, slice_get, Some, refl, sym, ap, ◌∙◌, inl, inr, ◌⊎◌, arith, if◌then◌else◌, max, nat_lt, append_assoc, append-nil, add-zero, add-one, drop-cons}
+use Rattle.std.proofs.Common.{◌≡◌, ◌≢◌, ℕ, ◌+◌, ◌<◌, ◌≤◌, ◌%◌, ◌==◌, ◌||◌, Bool, true, false, List, [], ◌∷◌, ◌++◌, length, map, take, drop, get_or, slice_get, refl, sym, ap, ◌∙◌, arith, if◌then◌else◌, max, nat_lt, append_assoc, append-nil, add-zero, add-one, drop-cons}
 use Rattle.std.proofs.lemmas.Bool.Decides.{nat_tests}
 use Rattle.std.proofs.lemmas.List.{take_more, map-append, length-take-le}
 use Rattle.std.specs.Str.{bytes_eq}
@@ -7,7 +7,7 @@ use Rattle.bohm_tree.specs.declared.txn.Txn.{Txn}
 use Rattle.bohm_place.specs.declared.placeholder.Placeholder.{Placeholder}
 use Rattle.bohm_place.specs.Chains.{Keyed, placeholders_in, none, last_or}
 use Rattle.bohm_place.specs.Shares.{has_part, within, written, made, found_by, newest_ahead, greater_of, greater}
-use Rattle.bohm_place.proofs.Lists.{map_same, same_or}
+use Rattle.bohm_place.proofs.Lists.{map_same}
 use Rattle.bohm_place.proofs.Placed.{Below, Below-append, Below-higher}
 
 pub made_more : (u : ℕ) (xs : List Txn) (x : Txn) (k : List ℕ) → made u (xs ++ x ∷ []) k ≡ made u xs k ++ written (u + length xs) 0 x.writes k

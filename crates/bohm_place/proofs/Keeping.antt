@@ -1,12 +1,11 @@
 -- What is kept of a chain.
-use Rattle.std.proofs.Common.{◌≡◌, ℕ, ◌+◌, ◌<◌, ◌≤◌, Bool, true, false, List, [], ◌∷◌, ◌++◌, length, map, Option, Some, None, refl, sym, ap, ◌∙◌, arith, nat_le, inl, inr, ⊎_elim, ◌⊎◌, take, drop, get_or, set, if◌then◌else◌, All}
+use Rattle.std.proofs.Common.{◌≡◌, ℕ, ◌<◌, ◌≤◌, Bool, true, false, List, [], ◌∷◌, ◌++◌, length, Option, Some, None, refl, sym, ap, arith, nat_le, All}
 use Rattle.std.specs.Option.{option_to_list}
 use Rattle.std.proofs.lemmas.List.Elements.{All-tail}
 use Rattle.std.proofs.lemmas.Bool.Decides.{nat_tests}
 use Rattle.std.proofs.lemmas.Option.{same_Some}
 use Rattle.bohm_place.specs.declared.placeholder.Placeholder.{Placeholder}
 use Rattle.bohm_place.specs.Chains.{begins, RisesFrom, kept, kept_items, second}
-use Rattle.bohm_place.proofs.Keyed.{is_true_or}
 
 begins-kept_by : (floor : ℕ) (v w : Placeholder) (ws : List Placeholder) (b : Bool) → nat_le w.begin floor ≡ b → begins (kept_items floor (w ∷ ws)) ≡ kept floor (begins (w ∷ ws)) → begins (kept_items floor (v ∷ w ∷ ws)) ≡ kept floor (begins (v ∷ w ∷ ws))
 begins-kept_by floor v w ws true e h = rw e h

@@ -1,5 +1,5 @@
 -- Keys, and look-ups in chains by key.
-use Rattle.std.proofs.Common.{◌≡◌, ◌≢◌, ℕ, ◌+◌, ◌<◌, Bool, true, false, ◌||◌, List, [], ◌∷◌, ◌++◌, length, map, get_or, take, drop, Option, Some, None, option_map, unwrap_or, refl, sym, ap, ◌∙◌, ◌⊎◌, inl, inr, ⊎_elim, arith, drop-cons, add-one, if◌then◌else◌}
+use Rattle.std.proofs.Common.{◌≡◌, ℕ, ◌+◌, ◌<◌, Bool, true, false, ◌||◌, List, [], ◌∷◌, ◌++◌, length, get_or, take, drop, unwrap_or, refl, sym, ap, ◌∙◌, ◌⊎◌, inl, inr, drop-cons, add-one}
 use Rattle.std.specs.Map.{lookup}
 use Rattle.std.specs.Str.{bytes_eq}
 use Rattle.std.proofs.lemmas.Slice.Eq.{bytes_eq-Decides}
@@ -9,7 +9,7 @@ use Rattle.bohm_txn.specs.Faulty.{is_among}
 use Rattle.bohm_txn.specs.Declares.{IsAmong}
 use Rattle.bohm_place.specs.declared.placeholder.Placeholder.{Placeholder}
 use Rattle.bohm_place.specs.declared.chain.Chain.{Chain}
-use Rattle.bohm_place.specs.Chains.{placeholders, table, items, items_of, last_or, second}
+use Rattle.bohm_place.specs.Chains.{table, items, items_of, last_or}
 
 pub same_key : (x k : List ℕ) → bytes_eq x k ≡ true → x ≡ k
 same_key x k e = (bytes_eq-Decides x k).0 e

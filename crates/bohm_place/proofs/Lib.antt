@@ -12,3 +12,4 @@ pub mod Nested
 pub mod Parted
 pub mod Newest
 pub mod TestTxns
+pub mod Members

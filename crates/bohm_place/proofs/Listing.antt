@@ -1,5 +1,5 @@
 -- The list of the keys that have more than one begin.
-use Rattle.std.proofs.Common.{◌≡◌, ℕ, ◌+◌, ◌<◌, ◌≤◌, Bool, true, false, ◌||◌, List, [], ◌∷◌, ◌++◌, length, take, drop, get_or, set, refl, sym, ap, ◌∙◌, ◌⊎◌, inl, inr, ⊎_elim, arith, if◌then◌else◌, Result, Ok, Err, IfOk}
+use Rattle.std.proofs.Common.{◌≡◌, ℕ, ◌+◌, ◌<◌, Bool, true, false, ◌||◌, List, [], ◌∷◌, length, take, get_or, set, sym, ap, ◌∙◌, arith, if◌then◌else◌, Result, Ok, Err, IfOk}
 use Rattle.std.specs.Str.{bytes_eq}
 use Rattle.std.proofs.lemmas.List.{take_more_set}
 use Rattle.std.proofs.lemmas.List.Folds.{list_any_more}
@@ -7,7 +7,7 @@ use Rattle.bohm_txn.specs.Faulty.{is_among}
 use Rattle.bohm_txn.specs.Declares.{IsAmong}
 use Rattle.bohm_place.specs.declared.placeholder.Placeholder.{Placeholder}
 use Rattle.bohm_place.specs.Chains.{kept_items}
-use Rattle.bohm_place.proofs.Keyed.{among_left, among_right, among_head, among_head_cases, is_true_or}
+use Rattle.bohm_place.proofs.Keyed.{among_left, among_right, among_head}
 use Rattle.bohm_place.proofs.Keeping.{kept_twice, kept_short}
 
 pub mapped : {T E : Type 0} (P Q : T → Type 0) → ((x : T) → P x → Q x) → (r : Result T E) → IfOk r P → IfOk r Q

@@ -1,16 +1,13 @@
 -- Accesses in one list, transaction by transaction.
-use Rattle.std.proofs.Common.{◌≡◌, ℕ, zero, suc, ◌+◌, ◌<◌, ◌≤◌, ◌%◌, Bool, true, false, List, [], ◌∷◌, ◌++◌, length, map, take, drop, slice_get, Option, Some, None, option_map, unwrap_or, refl, sym, ap, ◌∙◌, arith, if◌then◌else◌, nat_lt, append_assoc, append-nil, length-append, All}
+use Rattle.std.proofs.Common.{◌≡◌, ℕ, zero, suc, ◌+◌, ◌<◌, ◌≤◌, ◌%◌, true, List, [], ◌∷◌, ◌++◌, length, map, take, drop, slice_get, Some, refl, sym, ap, ◌∙◌, arith, if◌then◌else◌, nat_lt, append_assoc, append-nil, length-append}
 use Rattle.std.proofs.lemmas.Bool.Decides.{nat_tests}
-use Rattle.std.proofs.lemmas.Option.{same_Some, slice_get-map, slice_get_within}
-use Rattle.std.proofs.lemmas.List.{map-append, length-map, take_at, drop_at}
+use Rattle.std.proofs.lemmas.Option.{same_Some, slice_get_within}
+use Rattle.std.proofs.lemmas.List.{map-append, length-map}
 use Rattle.bohm_tree.specs.declared.txn.Txn.{Txn}
 use Rattle.bohm_place.specs.declared.placeholder.Placeholder.{Placeholder}
-use Rattle.bohm_place.specs.declared.access.Access.{Access}
-use Rattle.bohm_place.specs.declared.row.Row.{Row}
 use Rattle.bohm_place.specs.Chains.{Keyed, placeholders_in, none, last_or}
 use Rattle.bohm_place.specs.Shares.{found_by, rows_from, made, newest_ahead}
 use Rattle.bohm_place.specs.Plans.{Accesses, Planned, access_of, accesses_of, reads_of, writes_of, AreRightAccesses, IsRightPlan}
-use Rattle.bohm_place.proofs.Lists.{map_same}
 use Rattle.bohm_place.proofs.Placed.{Below}
 use Rattle.bohm_place.proofs.Found.{found_same}
 use Rattle.bohm_place.proofs.Right.{right_access, newest_ahead-base}

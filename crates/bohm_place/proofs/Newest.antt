@@ -1,18 +1,18 @@
 -- A key's cell is the one after its newest writer.
-use Rattle.std.proofs.Common.{◌≡◌, ℕ, zero, suc, ◌+◌, ◌-◌, ◌<◌, ◌≤◌, List, [], ◌∷◌, length, slice_get, get_or, Some, refl, sym, ap, ◌∙◌, subst, arith, add-suc, add-zero, add-one}
+use Rattle.std.proofs.Common.{◌≡◌, ℕ, zero, suc, ◌+◌, ◌-◌, ◌<◌, ◌≤◌, List, length, slice_get, Some, refl, ap, ◌∙◌, subst, arith, add-suc, add-zero}
 use Rattle.std.proofs.lemmas.Option.{get_or_from_slice_get, slice_get_within}
 use Rattle.bohm_tree.specs.declared.txn.Txn.{Txn}
 use Rattle.bohm_txn.specs.Faulty.{IsWellFormedTxn}
-use Rattle.bohm_txn.specs.Declares.{IsAmong, IsUsable}
+use Rattle.bohm_txn.specs.Declares.{IsAmong}
 use Rattle.bohm_txn.specs.Meaning.{Look}
-use Rattle.bohm_txn.specs.Serial.{after, state}
+use Rattle.bohm_txn.specs.Serial.{state}
 use Rattle.bohm_txn.proofs.UseLaws.{usable}
 use Rattle.bohm_txn.proofs.Bodies.{kept}
 use Rattle.bohm_txn.proofs.States.{there, next}
 use Rattle.bohm_place.specs.declared.access.Source.{Source}
 use Rattle.bohm_place.specs.declared.access.Source.TheVariants.{Before, Within}
 use Rattle.bohm_place.specs.Shares.{AreWellFormed}
-use Rattle.bohm_place.specs.Writers.{Writes, IsNewest, upto, newest_of}
+use Rattle.bohm_place.specs.Writers.{IsNewest, upto, newest_of}
 
 formed_at : (ts : List Txn) → AreWellFormed ts → (i : ℕ) (t : Txn) → slice_get ts i ≡ Some t → IsWellFormedTxn t
 formed_at ts formed i t e = subst IsWellFormedTxn (get_or_from_slice_get ts i t t e) (formed i t (slice_get_within ts i t e))

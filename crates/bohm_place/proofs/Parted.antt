@@ -1,12 +1,12 @@
 -- What a worker owes for its own parts of all.
-use Rattle.std.proofs.Common.{◌≡◌, ℕ, ◌<◌, ◌%◌, ◌==◌, Bool, true, false, List, [], ◌++◌, length, slice_get, get_or, map, Some, refl, sym, ap, ◌∙◌, subst, arith, if◌then◌else◌, All}
+use Rattle.std.proofs.Common.{◌≡◌, ℕ, ◌<◌, Bool, true, false, List, [], ◌++◌, length, slice_get, get_or, Some, refl, ap, ◌∙◌, subst, if◌then◌else◌}
 use Rattle.std.proofs.lemmas.Option.{get_or_from_slice_get, slice_get_within}
 use Rattle.bohm_tree.specs.declared.txn.Txn.{Txn}
 use Rattle.bohm_txn.specs.Faulty.{IsWellFormedTxn}
 use Rattle.bohm_txn.proofs.UseLaws.{rising_writes}
 use Rattle.bohm_place.specs.declared.placeholder.Placeholder.{Placeholder}
 use Rattle.bohm_place.specs.Chains.{Keyed, placeholders_in, none}
-use Rattle.bohm_place.specs.Shares.{AreWellFormed, AreDistinct, has_part, made, found_by, newest_ahead, within, IsHand, IsShareOf, IsPartOf}
+use Rattle.bohm_place.specs.Shares.{AreWellFormed, AreDistinct, has_part, made, newest_ahead, IsHand, IsShareOf, IsPartOf}
 use Rattle.bohm_place.proofs.Distinct.{AreDistinct-rising}
 use Rattle.bohm_place.proofs.Found.{found_same}
 

@@ -1,5 +1,5 @@
 -- Placeholders in the hands of workers.
-use Rattle.std.proofs.Common.{◌≡◌, ◌≢◌, ℕ, zero, suc, ◌+◌, ◌<◌, ◌≤◌, ◌%◌, ◌==◌, ◌&&◌, ◌||◌, Bool, true, false, List, [], ◌∷◌, ◌++◌, length, map, take, get_or, slice_get, slice_set, Option, Some, None, unwrap_or, option_map, refl, sym, ap, ◌∙◌, subst, inl, inr, ◌⊎◌, arith, if◌then◌else◌, All, append-nil}
+use Rattle.std.proofs.Common.{◌≡◌, ◌≢◌, ℕ, zero, suc, ◌+◌, ◌<◌, ◌≤◌, ◌&&◌, ◌||◌, Bool, true, false, List, [], ◌∷◌, ◌++◌, length, map, take, get_or, slice_get, slice_set, Option, Some, None, unwrap_or, option_map, refl, sym, ap, ◌∙◌, subst, inl, inr, ◌⊎◌, arith, if◌then◌else◌, All, append-nil}
 use Rattle.std.specs.Str.{bytes_eq}
 use Rattle.std.specs.List.{AllByRecursion}
 use Rattle.std.proofs.lemmas.List.{take_more, append_assoc, map-append}
@@ -7,8 +7,8 @@ use Rattle.std.proofs.lemmas.Option.{same_Some}
 use Rattle.std.proofs.lemmas.List.Elements.{All-nil, All-cons, All-head, All-tail}
 use Rattle.bohm_txn.specs.Faulty.{is_among}
 use Rattle.bohm_place.specs.declared.placeholder.Placeholder.{Placeholder}
-use Rattle.bohm_place.specs.Chains.{Keyed, placeholders, placeholders_in, chain, chain_in, begins, none, last_or, kept, AreEmpty, AreKept}
-use Rattle.bohm_place.specs.Shares.{has_part, within, written, AreDistinct}
+use Rattle.bohm_place.specs.Chains.{Keyed, placeholders, placeholders_in, chain, chain_in, begins, kept, AreEmpty, AreKept}
+use Rattle.bohm_place.specs.Shares.{has_part, written, AreDistinct}
 use Rattle.bohm_place.proofs.Keyed.{same_key}
 use Rattle.bohm_place.proofs.Lists.{same_or, set_same, set_other}
 use Rattle.bohm_place.proofs.Distinct.{none_before}

@@ -1,5 +1,5 @@
 -- The newest placeholder that the transactions ahead make of a key is the right source.
-use Rattle.std.proofs.Common.{◌≡◌, ℕ, zero, suc, ◌+◌, ◌<◌, ◌≤◌, ◌==◌, ◌||◌, Bool, true, false, List, [], ◌∷◌, ◌++◌, length, take, slice_get, Option, Some, None, refl, sym, ap, ◌∙◌, subst, inl, inr, ◌⊎◌, ⊎_elim, arith, if◌then◌else◌, nat_lt, add-zero}
+use Rattle.std.proofs.Common.{◌≡◌, ℕ, zero, suc, ◌+◌, ◌<◌, ◌≤◌, ◌==◌, ◌||◌, Bool, true, false, List, [], ◌∷◌, ◌++◌, length, take, slice_get, Some, refl, sym, ap, ◌∙◌, subst, inl, inr, ◌⊎◌, ⊎_elim, arith, if◌then◌else◌, nat_lt, add-zero}
 use Rattle.std.specs.List.{AllByRecursion}
 use Rattle.std.specs.Str.{bytes_eq}
 use Rattle.std.proofs.lemmas.Bool.Decides.{nat_tests}
@@ -8,13 +8,11 @@ use Rattle.std.proofs.lemmas.Option.{same_Some}
 use Rattle.std.proofs.lemmas.List.{length-take-le}
 use Rattle.bohm_tree.specs.declared.txn.Txn.{Txn}
 use Rattle.bohm_txn.specs.Faulty.{is_among}
-use Rattle.bohm_txn.specs.Declares.{IsAmong}
 use Rattle.bohm_place.specs.declared.placeholder.Placeholder.{Placeholder}
-use Rattle.bohm_place.specs.declared.access.Access.{Access}
-use Rattle.bohm_place.specs.declared.access.Source.TheVariants.{Before, Within}
+use Rattle.bohm_place.specs.declared.access.Source.TheVariants.{Within}
 use Rattle.bohm_place.specs.Chains.{begins, none, last_or}
 use Rattle.bohm_place.specs.Shares.{within, written, made, AreDistinct, newest_ahead}
-use Rattle.bohm_place.specs.Writers.{HasTxn, Writes, WritesAt, IsNewest, writers}
+use Rattle.bohm_place.specs.Writers.{HasTxn, writers}
 use Rattle.bohm_place.specs.Plans.{access_of, IsRightAccess}
 use Rattle.bohm_place.proofs.Keyed.{same_key, key_itself, last_or-append}
 use Rattle.bohm_place.proofs.Rising.{begins-append}

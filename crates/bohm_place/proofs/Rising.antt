@@ -1,6 +1,6 @@
 -- Rising begins, and the greatest of them below a timestamp.
 use Rattle.std.specs.Str.{bytes_eq}
-use Rattle.std.proofs.Common.{◌≡◌, ℕ, ◌+◌, ◌<◌, ◌≤◌, Bool, ◌&&◌, if◌then◌else◌, true, false, List, [], ◌∷◌, ◌++◌, length, map, filter, max, get_or, take, drop, refl, sym, ap, ◌∙◌, arith, nat_lt, All, subst}
+use Rattle.std.proofs.Common.{◌≡◌, ℕ, ◌+◌, ◌<◌, ◌≤◌, Bool, ◌&&◌, if◌then◌else◌, true, false, List, [], ◌∷◌, ◌++◌, length, filter, get_or, take, drop, refl, ap, ◌∙◌, arith, nat_lt, All}
 use Rattle.std.specs.List.{AllByRecursion}
 use Rattle.std.proofs.lemmas.Bool.Decides.{nat_tests}
 use Rattle.std.proofs.lemmas.List.{map-append}

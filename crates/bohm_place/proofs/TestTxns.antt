@@ -1,12 +1,11 @@
 -- Transactions without statements, for tests.
-use Rattle.std.proofs.Common.{◌≡◌, ℕ, zero, suc, ◌<◌, ◌≤◌, Bool, true, false, List, [], ◌∷◌, length, refl, arith}
-use Rattle.std.specs.Prelude.{not, ◌||◌, nat_le, count_by}
+use Rattle.std.proofs.Common.{◌≡◌, zero, suc, ◌≤◌, true, false, [], length, refl, arith}
+use Rattle.std.specs.Prelude.{nat_le}
 use Rattle.std.proofs.lemmas.Bool.Decides.{nat_tests}
 use Rattle.bohm_tree.specs.declared.txn.Txn.{Txn}
-use Rattle.bohm_tree.specs.Parts.{is_show}
 use Rattle.bohm_txn.specs.declared.fault.CheckKind.{CheckKind}
 use Rattle.bohm_txn.specs.declared.fault.CheckKind.TheVariants.{Order, Unread, Unwritten, Local, Limit}
-use Rattle.bohm_txn.specs.Faulty.{IsWellFormedTxn, alone, faulty, sets_faulty, txn_faulty, passes_at, rising}
+use Rattle.bohm_txn.specs.Faulty.{IsWellFormedTxn, sets_faulty, rising}
 
 not_true : false ≡ true → ⊥
 not_true e = cc

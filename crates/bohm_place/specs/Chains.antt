@@ -1,5 +1,5 @@
 -- Chains of begins by key.
-use Rattle.std.specs.Prelude.{◌≡◌, ℕ, ◌<◌, List, [], ◌∷◌, ◌++◌, length, map, filter, max, nat_lt, nat_le, unwrap_or, Option, Some, None, slice_get, if◌then◌else◌}
+use Rattle.std.specs.Prelude.{◌≡◌, ℕ, ◌<◌, ◌≤◌, ◌⊎◌, All, Contains, List, [], ◌∷◌, ◌++◌, length, map, filter, max, nat_lt, nat_le, unwrap_or, Option, Some, None, slice_get, if◌then◌else◌}
 use Rattle.std.specs.Option.{option_map}
 use Rattle.std.specs.Str.{bytes_eq}
 use Rattle.std.specs.Map.{lookup}
@@ -52,6 +52,10 @@ abbrev pub kept : ℕ → List ℕ → List ℕ
 kept floor [] = []
 kept floor (b ∷ []) = b ∷ []
 kept floor (b ∷ c ∷ cs) = if nat_le c floor then kept floor (c ∷ cs) else (b ∷ c ∷ cs)
+
+-- the begin is above the floor, or is the greatest one at or below it
+abbrev pub IsKept : ℕ → List ℕ → ℕ → Type 0
+IsKept floor bs b = Contains bs b × ((floor < b) ⊎ ((b ≤ floor) × All (λ c. c ≤ floor → c ≤ b) bs))
 
 -- each part has what is kept of its chains
 abbrev pub AreKept : ℕ → List Keyed → List Keyed → Type 0

@@ -1,10 +1,11 @@
 //! Laws over the definitions alone.
 
-ghost use Rattle.std.specs.Prelude.{◌≡◌, ℕ, ◌+◌, ◌-◌, ◌≤◌, List, length};
+ghost use Rattle.std.specs.Prelude.{◌≡◌, ℕ, ◌+◌, ◌-◌, ◌≤◌, ◌↔◌, List, length, Contains};
 ghost use Rattle.bohm_tree.specs.declared.txn.Txn.{Txn};
 ghost use Rattle.bohm_txn.specs.Meaning.{Look};
 ghost use Rattle.bohm_txn.specs.Serial.{state};
 ghost use Rattle.bohm_place.specs.declared.access.Source.{Source};
+ghost use Rattle.bohm_place.specs.Chains.{RisesFrom, IsKept, kept};
 ghost use Rattle.bohm_place.specs.Shares.{AreWellFormed};
 ghost use Rattle.bohm_place.specs.Writers.{IsNewest, upto, newest_of};
 
@@ -18,4 +19,9 @@ pub fn newest_state()
 /// t, or that of the starting store where there is none.
 pub fn newest_state_in_log()
     ensures { (look : Look) (log : List Txn) (t : ℕ) (k : List ℕ) (s : Source) → AreWellFormed log → 1 ≤ t → t ≤ length log + 1 → IsNewest 1 log k t s → state look log (t - 1) k ≡ state look log (newest_of s) k }
+{}
+
+/// Of a rising chain there are kept the begins above the floor, and the greatest one at or below it.
+pub fn kept_members()
+    ensures { (floor n b : ℕ) (bs : List ℕ) → RisesFrom n bs → IsKept floor bs b ↔ Contains (kept floor bs) b }
 {}

@@ -1,8 +1,7 @@
-use Rattle.std.proofs.Common.{◌≡◌, ℕ, ◌+◌, ◌<◌, ◌≤◌, ◌%◌, ◌==◌, ◌++◌, ◌∷◌, [], true, false, length, List, slice_get, get_or, length-append, refl, sym, ap, ◌∙◌, subst, arith}
+use Rattle.std.proofs.Common.{◌≡◌, ◌≤◌, ◌%◌, ◌==◌, ◌∷◌, [], false, length, length-append, refl, ◌∙◌, arith}
 use Rattle.std.proofs.lemmas.Bool.Decides.{nat_tests}
 use Rattle.bohm_place.specs.Shares.{IsHand}
 use Rattle.bohm_place.specs.declared.share.Job.{Job}
-use Rattle.bohm_place.specs.declared.share.Worker.{Worker}
 use Rattle.bohm_place.proofs.Lists.{each_pushed}
 use Rattle.bohm_place.proofs.deal.deal.Goals as goal
 

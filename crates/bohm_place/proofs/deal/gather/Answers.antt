@@ -1,9 +1,8 @@
-use Rattle.std.proofs.Common.{rules, arith, ◌≡◌, ℕ, ◌+◌, ◌<◌, ◌%◌, ◌∙◌, sym, ap, [], length, List, slice_index_or, nat_lt, Ok, subst, Result}
+use Rattle.std.proofs.Common.{arith, ◌≡◌, ℕ, ◌+◌, ◌<◌, ◌%◌, ◌∙◌, [], slice_index_or, nat_lt, Ok, subst, Result}
 use Rattle.bohm_tree.specs.declared.memory.NoMemory.{NoMemory}
 use Rattle.std.proofs.lemmas.List.{get_or-set_other, length-set}
-use Rattle.std.proofs.lemmas.Grind.{common_steps}
 use Rattle.bohm_place.specs.Chains.{placeholders_in}
-use Rattle.bohm_place.specs.Shares.{has_part, made, found_by, newest_ahead, IsPartOf}
+use Rattle.bohm_place.specs.Shares.{made, found_by, newest_ahead, IsPartOf}
 use Rattle.bohm_place.specs.declared.share.Share.{Share}
 use Rattle.bohm_place.proofs.Found.{found_first, found_next, gathered}
 use Rattle.bohm_place.proofs.deal.gather.Goals.{then-number-eq0, else-number-eq0+in_ok-found}

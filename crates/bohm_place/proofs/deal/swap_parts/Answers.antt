@@ -1,4 +1,4 @@
-use Rattle.std.proofs.Common.{rules, arith, ◌≡◌, ◌%◌, ◌==◌, ◌<◌, true, false, length, slice_get, Some}
+use Rattle.std.proofs.Common.{arith, ◌≡◌, ◌%◌, ◌==◌, true, false, slice_get, Some}
 use Rattle.std.proofs.lemmas.Bool.Decides.{nat_tests}
 use Rattle.std.proofs.lemmas.Option.{slice_get-get_or}
 use Rattle.bohm_place.proofs.Swaps.{swapped, kept, ended}

@@ -1,4 +1,3 @@
-use Rattle.std.proofs.Common.{◌≡◌}
 use Rattle.bohm_place.proofs.Swaps.{Mixed}
 use Rattle.bohm_place.proofs.deal.swap_parts.Given as goal
 

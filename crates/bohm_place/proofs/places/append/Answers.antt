@@ -1,5 +1,5 @@
-use Rattle.std.proofs.Common.{◌≡◌, sym, ap, ◌∙◌}
-use Rattle.bohm_place.specs.Chains.{items_of, items_at, last_or, none}
+use Rattle.std.proofs.Common.{sym, ap, ◌∙◌}
+use Rattle.bohm_place.specs.Chains.{items_of, last_or, none}
 use Rattle.bohm_place.proofs.Keyed.{last_or-items}
 use Rattle.bohm_place.proofs.Listing.{mapped}
 use Rattle.bohm_place.proofs.places.append.Goals as goal

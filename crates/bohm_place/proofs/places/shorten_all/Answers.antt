@@ -1,10 +1,10 @@
-use Rattle.std.proofs.Common.{◌≡◌, ℕ, ◌<◌, ◌+◌, List, [], if◌then◌else◌, length, take, drop, get_or, set, ◌∷◌, refl, sym, ap, ◌∙◌, arith, inl, inr, ⊎_elim, ◌⊎◌, true, false, Bool, drop-cons, add-one, length-set}
+use Rattle.std.proofs.Common.{◌≡◌, ℕ, ◌<◌, ◌+◌, List, [], if◌then◌else◌, length, take, drop, get_or, ◌∷◌, refl, sym, ap, ◌∙◌, arith, inl, inr, ⊎_elim, ◌⊎◌, true, false, drop-cons, add-one, length-set}
 use Rattle.std.specs.Str.{bytes_eq}
 use Rattle.std.proofs.lemmas.List.{drop-set-lt, take_all, drop_all}
 use Rattle.bohm_txn.specs.Faulty.{is_among}
 use Rattle.bohm_txn.specs.Declares.{IsAmong}
 use Rattle.bohm_place.specs.Chains.{items_at, kept_items}
-use Rattle.bohm_place.proofs.Keyed.{is_true_or, among_head_cases}
+use Rattle.bohm_place.proofs.Keyed.{among_head_cases}
 use Rattle.bohm_place.proofs.Listing.{among_more, kept_more, kept_all, listed_on, listed_now, long_before}
 use Rattle.bohm_place.proofs.places.shorten_all.Goals.{then-shorten, else-shorten}
 use Rattle.bohm_place.proofs.places.shorten_all.Goals as goal

@@ -1,8 +1,8 @@
-use Rattle.std.proofs.Common.{rules, arith, ◌≡◌, ℕ, ◌<◌, ◌+◌, ◌∙◌, ◌++◌, [], ◌∷◌, ap, sym, true, List, length, take, drop, map, slice_index_or, Result, IfOk, Ok, Err, All, subst}
+use Rattle.std.proofs.Common.{arith, ◌≡◌, ℕ, ◌<◌, ◌+◌, ◌∙◌, ◌++◌, [], ◌∷◌, ap, true, List, length, take, drop, map, slice_index_or}
 use Rattle.std.proofs.lemmas.Grind.{common_steps}
 use Rattle.bohm_place.specs.declared.share.Job.{Job}
 use Rattle.bohm_place.specs.Chains.{placeholders_in, begins}
-use Rattle.bohm_place.specs.Shares.{IsHand, IsShareOf, found_by, rows_from, made}
+use Rattle.bohm_place.specs.Shares.{IsHand, found_by, made}
 use Rattle.bohm_place.specs.Plans.{accesses_of}
 use Rattle.bohm_place.proofs.Listing.{mapped}
 use Rattle.bohm_place.proofs.Rising.{begins-append}

@@ -1,9 +1,7 @@
-use Rattle.std.proofs.Common.{◌≡◌, ◌≤◌, ◌<◌, ◌+◌, ◌++◌, ◌∷◌, [], length, take, drop, get_or, subst, sym, ap, ◌∙◌, arith, append_assoc, drop-cons, add-one}
+use Rattle.std.proofs.Common.{◌≡◌, ◌<◌, ◌+◌, ◌∷◌, length, drop, subst, sym, ap, ◌∙◌, arith, append_assoc, drop-cons, add-one}
 use Rattle.bohm_txn.specs.Faulty.{IsWellFormedTxn}
-use Rattle.bohm_txn.specs.Declares.{IsUsable}
 use Rattle.bohm_txn.proofs.UseLaws.{usable}
 use Rattle.bohm_tree.specs.declared.txn.Txn.{Txn}
-use Rattle.bohm_place.specs.Shares.{rows_from}
 use Rattle.bohm_place.proofs.row.rows.Goals as goal
 
 pub overflow_cast-reads : goal.overflow_cast-reads

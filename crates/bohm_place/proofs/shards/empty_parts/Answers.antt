@@ -1,4 +1,4 @@
-use Rattle.std.proofs.Common.{◌≡◌, ◌++◌, ◌∷◌, [], length, length-append, arith}
+use Rattle.std.proofs.Common.{◌∷◌, [], length-append, arith}
 use Rattle.bohm_place.proofs.Placed.{AreEmpty-push}
 use Rattle.bohm_place.proofs.shards.empty_parts.Goals as goal
 

@@ -1,8 +1,8 @@
-use Rattle.std.proofs.Common.{◌≡◌, ℕ, ◌<◌, ◌≤◌, ◌+◌, List, length, slice_get, set, Some, arith, ap, sym, ◌∙◌, ⊎_elim, get_or}
+use Rattle.std.proofs.Common.{◌≡◌, ◌<◌, length, slice_get, set, Some, arith, ap, sym, ◌∙◌, ⊎_elim}
 use Rattle.std.proofs.lemmas.Option.{slice_get-get_or, slice_get_past}
 use Rattle.std.proofs.lemmas.Bool.{cases_lt}
 use Rattle.bohm_place.proofs.Lists.{same_or, set_same, set_other, set_beyond}
-use Rattle.bohm_place.proofs.Placed.{KeptParts, AreKept-parts, trimmed_here, trimmed_past}
+use Rattle.bohm_place.proofs.Placed.{AreKept-parts, trimmed_here, trimmed_past}
 use Rattle.bohm_place.proofs.shards.trim_parts.Goals as goal
 
 pub loop-i-preserved : goal.loop-i-preserved

@@ -1,5 +1,4 @@
-use Rattle.std.proofs.Common.{◌≡◌, ℕ, ◌<◌, ◌≤◌, List, length, slice_get}
-use Rattle.bohm_place.specs.Chains.{Keyed, chain, kept}
+use Rattle.std.proofs.Common.{◌≡◌, ℕ, ◌<◌, ◌≤◌, slice_get}
 use Rattle.bohm_place.proofs.Placed.{KeptParts}
 use Rattle.bohm_place.proofs.shards.trim_parts.Given as goal
 

@@ -1,4 +1,4 @@
-use Rattle.std.proofs.Common.{arith, ◌≡◌, ◌≤◌, ◌+◌, ◌++◌, ◌<◌, ℕ, length, List, map, refl, get_or, take, if◌then◌else◌, sym, subst}
+use Rattle.std.proofs.Common.{arith, ◌≡◌, ◌+◌, ◌++◌, ◌<◌, ℕ, length, List, map, refl, take, if◌then◌else◌, sym, subst}
 use Rattle.std.proofs.lemmas.List.{length-take-le}
 use Rattle.bohm_txn.specs.Faulty.{IsWellFormedTxn}
 use Rattle.bohm_txn.proofs.UseLaws.{usable, rising_writes}
@@ -13,13 +13,13 @@ use Rattle.bohm_place.proofs.share.find_all.Goals as goal
 pub find_and_place_writes-requires-clause-few : goal.find_and_place_writes-requires-clause-few
 find_and_place_writes-requires-clause-few g c κs lives =
     let txn = c.index-txns-i.result in
-    let formed : IsWellFormedTxn txn = subst IsWellFormedTxn (sym c.index-txns-i.is) (c.requires.formed c.loop-i.i txn (omega arith)) in
+    let formed : IsWellFormedTxn txn = subst IsWellFormedTxn (sym c.index-txns-i.is) (c.requires.formed _ txn (omega arith)) in
     rw c.as_slice-writes.ensures (usable txn formed).few_writes
 
 pub find_and_place_writes-requires-clause-distinct : goal.find_and_place_writes-requires-clause-distinct
 find_and_place_writes-requires-clause-distinct g c κs lives =
     let txn = c.index-txns-i.result in
-    let formed : IsWellFormedTxn txn = subst IsWellFormedTxn (sym c.index-txns-i.is) (c.requires.formed c.loop-i.i txn (omega arith)) in
+    let formed : IsWellFormedTxn txn = subst IsWellFormedTxn (sym c.index-txns-i.is) (c.requires.formed _ txn (omega arith)) in
     rw c.as_slice-writes.ensures (AreDistinct-rising txn.writes (rising_writes txn formed))
 
 pub find_and_place_writes-requires-clause-above : goal.find_and_place_writes-requires-clause-above

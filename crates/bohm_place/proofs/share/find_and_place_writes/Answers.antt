@@ -1,8 +1,8 @@
-use Rattle.std.proofs.Common.{◌≡◌, ◌<◌, ℕ, List, ◌++◌, ◌∷◌, [], All, map, take, get_or, length, sym, ap, ◌∙◌, subst, arith, append_assoc, if◌then◌else◌}
-use Rattle.std.proofs.lemmas.List.{take_more, map-append, length-take-le}
+use Rattle.std.proofs.Common.{◌≡◌, ◌<◌, List, All, take, get_or, length, sym, subst, arith, if◌then◌else◌}
+use Rattle.std.proofs.lemmas.List.{length-take-le}
 use Rattle.bohm_place.specs.declared.placeholder.Placeholder.{Placeholder}
 use Rattle.bohm_place.specs.Chains.{placeholders_in, begins, none, last_or}
-use Rattle.bohm_place.specs.Shares.{has_part, within, written}
+use Rattle.bohm_place.specs.Shares.{has_part, within}
 use Rattle.bohm_place.proofs.Placed.{write_placed, not_yet_placed, found_write}
 use Rattle.bohm_place.proofs.share.find_and_place_writes.Goals as goal
 

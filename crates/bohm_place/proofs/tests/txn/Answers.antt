@@ -1,4 +1,4 @@
-use Rattle.std.proofs.Common.{◌≡◌, ◌≤◌, length, true, ap, sym, ◌∙◌}
+use Rattle.std.proofs.Common.{◌≡◌, ◌≤◌, length, true}
 use Rattle.bohm_txn.specs.Faulty.{rising}
 use Rattle.bohm_tree.specs.declared.txn.Edition.TheVariants.{One}
 use Rattle.bohm_place.proofs.TestTxns.{formed_empty}

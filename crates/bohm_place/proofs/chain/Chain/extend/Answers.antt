@@ -1,4 +1,4 @@
-use Rattle.std.proofs.Common.{◌<◌, ◌≡◌, ◌++◌, [], ◌∷◌, length, arith, rules, length-append, deque_len}
+use Rattle.std.proofs.Common.{◌<◌, [], ◌∷◌, length, arith, length-append, deque_len}
 use Rattle.std.proofs.lemmas.Bool.Decides.{nat_tests}
 use Rattle.bohm_place.specs.Chains.{items}
 use Rattle.bohm_place.proofs.Keyed.{among_push}

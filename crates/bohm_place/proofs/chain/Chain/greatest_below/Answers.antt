@@ -1,6 +1,5 @@
-use Rattle.std.proofs.Common.{◌<◌, ◌≤◌, ◌≡◌, ◌+◌, ◌-◌, [], ◌∷◌, length, get_or, drop, arith, rules, ap, sym, ◌∙◌, drop-cons, add-one}
-use Rattle.bohm_place.specs.Chains.{begins}
-use Rattle.bohm_place.proofs.Rising.{greatest_below-newest, greatest_below-at, greatest_below-past, From}
+use Rattle.std.proofs.Common.{◌<◌, ◌≡◌, ◌+◌, ◌-◌, get_or, arith, ap, sym, ◌∙◌}
+use Rattle.bohm_place.proofs.Rising.{greatest_below-newest, greatest_below-at, greatest_below-past}
 use Rattle.bohm_place.proofs.chain.Chain.greatest_below.Goals as goal
 
 pub returns-then-self-ts : goal.returns-then-self-ts

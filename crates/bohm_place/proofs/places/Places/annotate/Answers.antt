@@ -1,4 +1,4 @@
-use Rattle.std.proofs.Common.{◌≡◌, sym, ap, ◌∙◌, is_ok, subst, All, ◌<◌, List, ℕ}
+use Rattle.std.proofs.Common.{sym, ap, ◌∙◌, is_ok, subst, All, ◌<◌, List, ℕ}
 use Rattle.std.specs.Str.{bytes_eq}
 use Rattle.bohm_place.specs.Chains.{items_at, begins, last_or, none}
 use Rattle.bohm_place.proofs.Keyed.{lookup_table, same_key}

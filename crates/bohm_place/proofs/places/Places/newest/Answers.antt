@@ -1,4 +1,4 @@
-use Rattle.std.proofs.Common.{◌≡◌, sym, ap, ◌∙◌}
+use Rattle.std.proofs.Common.{sym, ap, ◌∙◌}
 use Rattle.std.specs.Str.{bytes_eq}
 use Rattle.bohm_place.specs.Chains.{items_of, last_or, none}
 use Rattle.bohm_place.proofs.Keyed.{lookup_table, last_or-items}

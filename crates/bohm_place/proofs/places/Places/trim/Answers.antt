@@ -1,4 +1,4 @@
-use Rattle.std.proofs.Common.{◌≡◌, sym, ap, ◌∙◌}
+use Rattle.std.proofs.Common.{sym, ap, ◌∙◌}
 use Rattle.std.specs.Str.{bytes_eq}
 use Rattle.bohm_place.specs.Chains.{items_at, begins, kept}
 use Rattle.bohm_place.proofs.Keyed.{lookup_table}
