@@ -12,3 +12,6 @@ pub mod Kept
 pub mod Searched
 pub mod Keeping
 pub mod Wanted
+pub mod Counting
+pub mod Idling
+pub mod Holding

@@ -61,7 +61,7 @@ among_right b t keys accesses a u inside are in_it e =
     let (k, at_key) = there keys j (omega (arith, within, are.paired)) in
     right_earlier b t k a u inside (are.each j k a at_key at) e
 
-in_either : (b : Bool) (xs ys : List Access) (a : Access) → Contains (xs ++ (if b then [] else ys)) a → Contains xs a ⊎ Contains ys a
+pub in_either : (b : Bool) (xs ys : List Access) (a : Access) → Contains (xs ++ (if b then [] else ys)) a → Contains xs a ⊎ Contains ys a
 in_either true xs ys a h = ⊎_elim (λ c. inl c) (λ (c : Contains [] a). absurd (nothing_in a c)) (Contains-append_cases xs [] a h)
 in_either false xs ys a h = Contains-append_cases xs ys a h
 

@@ -9,3 +9,4 @@ pub mod Steps
 pub mod Layouts
 pub mod Passes
 pub mod Closings
+pub mod Samples

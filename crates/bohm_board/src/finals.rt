@@ -37,6 +37,7 @@ impl<'a> Closed<'a> {
     pub fn cell(&self, slot: Slot) -> Option<Cell>
         requires { IsSlot (batch_of_closed self.now) slot }
         ensures some { IsSome result ↔ HasCell self.now slot }
+        ensures whole { IsFinished self.now slot.txn → IsSome result }
         ensures right { IfSome result (IsRightCell (batch_of_closed self.now) slot) }
     {
         let number = self.layout.number(&self.batch, slot);

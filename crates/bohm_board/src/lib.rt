@@ -15,6 +15,8 @@ mod plays;
 mod slot;
 mod status;
 mod steps;
+#[cfg(test)]
+mod tests;
 mod view;
 mod words;
 

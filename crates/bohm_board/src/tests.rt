@@ -1,0 +1,5 @@
+//! Boards in use.
+
+mod race;
+mod rows;
+mod samples;
