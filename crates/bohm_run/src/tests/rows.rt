@@ -560,3 +560,17 @@ fn long_words(rt: HostRuntime) -> Result<(), Fail> {
     assert_eq!(rt; fault_of(&rt, log.as_slice())?, RunFault::Check(fault));
     Ok(())
 }
+
+#[test]
+fn settings_are_given_back(rt: HostRuntime) -> Result<(), Fail> {
+    let settings = Settings::new(1, 1, 1, 4096, 0, None).ok_or("the defaults")?;
+    assert_eq!(rt; settings.cc(), 1);
+    assert_eq!(rt; settings.exec(), 1);
+    assert_eq!(rt; settings.parts(), 1);
+    assert_eq!(rt; settings.batch(), 4096);
+    assert_eq!(rt; settings.keep(), 0);
+    assert_eq!(rt; settings.at(), None);
+    assert_eq!(rt; Settings::new(17, 1, 1, 1, 0, None), None);
+    assert_eq!(rt; Settings::new(1, 1, 1, 1, 4097, None), None);
+    Ok(())
+}
