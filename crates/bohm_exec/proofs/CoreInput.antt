@@ -1,0 +1,202 @@
+-- Over its input a position whose wanted slots are filled ends as in the serial run.
+use Rattle.std.proofs.Common.{◌≡◌, ℕ, zero, suc, ◌+◌, List, [], ◌∷◌, ◌++◌, map, length, Bool, true, false, cond, Some, refl, ap, sym, ◌∙◌, subst, inl, inr, arith}
+use Rattle.std.specs.Prelude.{Option, Contains, unwrap_or, if◌then◌else◌, ◌||◌}
+use Rattle.std.specs.Option.{option_map}
+use Rattle.std.specs.List.{slice_get, list_any}
+use Rattle.std.specs.Str.{bytes_eq}
+use Rattle.std.proofs.lemmas.Option.{same_Some, slice_get_within, get_or_from_slice_get}
+use Rattle.std.proofs.lemmas.List.{append-nil}
+use Rattle.std.proofs.lemmas.List.Elements.{Contains-append_left, Contains-append_right}
+use Rattle.bohm_tree.specs.declared.cell.Cell.{Cell}
+use Rattle.bohm_tree.specs.declared.cell.Cell.TheVariants as cells
+use Rattle.bohm_tree.specs.declared.txn.Txn.{Txn}
+use Rattle.bohm_txn.specs.Declares.{IsAmong, shows_in}
+use Rattle.bohm_txn.specs.Meaning.{Look, Ended, newest, body, ◌>>=◌}
+use Rattle.bohm_txn.specs.Serial.{after, state, shows_of, outcome_of}
+use Rattle.bohm_txn.specs.Sure.{is_sure, IsSure}
+use Rattle.bohm_txn.proofs.Bodies.{same_key, key_itself, same_reads, same_cells}
+use Rattle.bohm_txn.proofs.States.{there}
+use Rattle.bohm_txn.proofs.SureLaws.{sure_body, sure_after}
+use Rattle.bohm_place.specs.declared.access.Access.{Access}
+use Rattle.bohm_place.specs.declared.access.Source.{Source}
+use Rattle.bohm_place.specs.declared.access.Source.TheVariants.{Before, Within}
+use Rattle.bohm_board.specs.declared.batch.Batch.{Batch}
+use Rattle.bohm_board.specs.declared.slot.Slot.{Slot}
+use Rattle.bohm_board.specs.Serial.{own_cells, show_cells}
+use Rattle.bohm_board.specs.Batches.{txns_of, base_of, position, number, rights_of, right_cell, IsIn, IsSlot, txn_at, reads_at, writes_at, wanted_at, is_sure_at}
+use Rattle.bohm_board.specs.Inputs.{IsCellFrom, IsCellOf, EndsAlike}
+use Rattle.bohm_board.proofs.Newest.{formed_at}
+use Rattle.bohm_board.proofs.Inputs.{own_right, outcome_right, read_before, write_before}
+use Rattle.bohm_board.proofs.Numbers.{txn_there, slot_there}
+use Rattle.bohm_board.proofs.SerialSlots.{get_left, get_right, length-own_cells}
+use Rattle.bohm_board.proofs.Places.{in_either}
+use Rattle.bohm_board.proofs.Wanted.{reads_paired, writes_paired}
+use Rattle.bohm_exec.specs.Core.{State, IsFilled, HasWanted, cell_from, cell_at, entries, input, outcome_over, cell_over}
+use Rattle.bohm_exec.proofs.CoreSound.{IsSound, filled_right}
+
+among_place : (ks : List (List ℕ)) (k : List ℕ) → IsAmong ks k → (j : ℕ) × (slice_get ks j ≡ Some k)
+among_place [] k e = absurd cc
+among_place (x ∷ ks) k e =
+    elim (bytes_eq x k) as (λ (b : Bool). bytes_eq x k ≡ b → (b || list_any (λ y. bytes_eq y k) ks) ≡ true → (j : ℕ) × (slice_get (x ∷ ks) j ≡ Some k)) [
+      | true ↦ λ same _. (0, ap Some (same_key x k same))
+      | false ↦ λ _ later. let (j, at) = among_place ks k later in (suc j, at)
+    ] refl e
+
+-- ---- what a fold of entries finds
+
+-- where each entry of the key has P, and so has what stands before, what is found has it
+newest_has : (P : Cell → Type 0) (es : List (List ℕ × Cell)) (k : List ℕ) (d : Cell) → ((j : ℕ) (e : List ℕ × Cell) → slice_get es j ≡ Some e → e.0 ≡ k → P e.1) → P d → P (newest es k d)
+newest_has P [] k d each here = here
+newest_has P (e ∷ es) k d each here =
+    newest_has P es k (if bytes_eq e.0 k then e.1 else d) (λ j. each (suc j))
+    (elim (bytes_eq e.0 k) as (λ (b : Bool). bytes_eq e.0 k ≡ b → P (cond b e.1 d)) [
+      | true ↦ λ same. each 0 e refl (same_key e.0 k same)
+      | false ↦ λ _. here
+    ] refl)
+
+-- where the key has an entry, what is found is that of an entry of the key
+pub newest_among : (P : Cell → Type 0) (es : List (List ℕ × Cell)) (k : List ℕ) (d : Cell) (j : ℕ) (e : List ℕ × Cell) → slice_get es j ≡ Some e → e.0 ≡ k → ((m : ℕ) (f : List ℕ × Cell) → slice_get es m ≡ Some f → f.0 ≡ k → P f.1) → P (newest es k d)
+newest_among P [] k d j e at same each = absurd cc
+newest_among P (x ∷ es) k d zero e at same each =
+    let first : x ≡ e = same_Some x e at in
+    let key : x.0 ≡ k = ap (λ (y : List ℕ × Cell). y.0) first ∙ same in
+    let found : bytes_eq x.0 k ≡ true = subst (λ (y : List ℕ). bytes_eq x.0 y ≡ true) key (key_itself x.0) in
+    newest_has P es k (if bytes_eq x.0 k then x.1 else d) (λ m. each (suc m)) (subst (λ (b : Bool). P (cond b x.1 d)) (sym found) (each 0 x refl key))
+newest_among P (x ∷ es) k d (suc j) e at same each = newest_among P es k (if bytes_eq x.0 k then x.1 else d) j e at same (λ m. each (suc m))
+
+-- ---- the entries of a list of keys
+
+-- the entry is that of this key by this access
+pub record IsEntry (b : Batch) (s : State) (keys : List (List ℕ)) (accesses : List Access) (j : ℕ) (e : List ℕ × Cell) : Type 0 where
+  pub access : Access
+  pub key_at : slice_get keys j ≡ Some e.0
+  pub access_at : slice_get accesses j ≡ Some access
+  pub cell : e.1 ≡ cell_at b s e.0 access
+
+pub entry_of : (b : Batch) (s : State) (keys : List (List ℕ)) (accesses : List Access) (j : ℕ) (e : List ℕ × Cell) → slice_get (entries b s keys accesses) j ≡ Some e → IsEntry b s keys accesses j e
+entry_of b s [] accesses j e at = absurd cc
+entry_of b s (k ∷ ks) [] j e at = absurd cc
+entry_of b s (k ∷ ks) (a ∷ more) zero e at =
+    let same : (k, cell_at b s k a) ≡ e = same_Some _ e at in
+    subst (IsEntry b s (k ∷ ks) (a ∷ more) zero) same (record { access = a; key_at = refl; access_at = refl; cell = refl })
+entry_of b s (k ∷ ks) (a ∷ more) (suc j) e at =
+    let rest = entry_of b s ks more j e at in
+    record { access = rest.access; key_at = rest.key_at; access_at = rest.access_at; cell = rest.cell }
+
+-- each key with an access has an entry
+pub entry_at : (b : Batch) (s : State) (keys : List (List ℕ)) (accesses : List Access) (j : ℕ) (k : List ℕ) (a : Access) → slice_get keys j ≡ Some k → slice_get accesses j ≡ Some a → slice_get (entries b s keys accesses) j ≡ Some (k, cell_at b s k a)
+entry_at b s [] accesses j k a at_key at_access = absurd cc
+entry_at b s (x ∷ ks) [] j k a at_key at_access = absurd cc
+entry_at b s (x ∷ ks) (y ∷ more) zero k a at_key at_access =
+    let key : x ≡ k = same_Some x k at_key in
+    let access : y ≡ a = same_Some y a at_access in
+    λ i. Some (key i, cell_at b s (key i) (access i))
+entry_at b s (x ∷ ks) (y ∷ more) (suc j) k a at_key at_access = entry_at b s ks more j k a at_key at_access
+
+-- ---- Body(t, Input(t)) is Body(t, S(t - 1))
+
+source_right : (b : Batch) (s : State) (k : List ℕ) (index : ℕ) (o : Source) → IsSound b s → ((u : ℕ) → o ≡ Within u → IsFilled s (record { txn = u; index = index })) → IsCellFrom b k index (cell_from b s k index o) o
+source_right b s k index Before sound filled = refl
+source_right b s k index (Within u) sound filled = filled_right b s (record { txn = u; index = index }) sound (filled u refl)
+
+-- the cell of a wanted access is right
+wanted_right : (b : Batch) (s : State) (t : ℕ) (k : List ℕ) (a : Access) → IsSound b s → HasWanted b s t → Contains (wanted_at b t) a → IsCellOf b k a (cell_at b s k a)
+wanted_right b s t k a sound filled in_it = source_right b s k a.index a.source sound (λ u e. filled a u in_it e)
+
+contains_at : {A : Type 0} (xs : List A) (j : ℕ) (x : A) → slice_get xs j ≡ Some x → Contains xs x
+contains_at xs j x e = (j, slice_get_within xs j x e, get_or_from_slice_get xs j x x e)
+
+unsure_wants : (b : Batch) (t : ℕ) → is_sure_at b t ≡ false → wanted_at b t ≡ reads_at b t ++ writes_at b t
+unsure_wants b t e = ap (λ (sure : Bool). reads_at b t ++ (if sure then [] else writes_at b t)) e
+
+-- every declared key of an unsure transaction has its cell of the state before it
+module _ (b : Batch) (s : State) (t : ℕ) (x : Txn) (at : txn_at b t ≡ Some x) (sound : IsSound b s) (filled : HasWanted b s t) (unsure : is_sure_at b t ≡ false) where
+  abbrev before : Look
+  before = state (base_of b) (txns_of b) (position b t)
+
+  read_wanted : (a : Access) → Contains (reads_at b t) a → Contains (wanted_at b t) a
+  read_wanted a c = subst (λ (w : List Access). Contains w a) (sym (unsure_wants b t unsure)) (Contains-append_left (reads_at b t) (writes_at b t) a c)
+
+  write_wanted : (a : Access) → Contains (writes_at b t) a → Contains (wanted_at b t) a
+  write_wanted a c = subst (λ (w : List Access). Contains w a) (sym (unsure_wants b t unsure)) (Contains-append_right (reads_at b t) (writes_at b t) a c)
+
+  read_entry : (m : ℕ) (e : List ℕ × Cell) → slice_get (entries b s x.reads (reads_at b t)) m ≡ Some e → before e.0 ≡ e.1
+  read_entry m e at_m =
+      let is = entry_of b s x.reads (reads_at b t) m e at_m in
+      read_before b (position b t) x m e.0 e.1 at is.key_at (λ a at_a. let same : is.access ≡ a = same_Some is.access a (sym is.access_at ∙ at_a) in
+      subst (λ (y : Access). IsCellOf b e.0 y e.1) same (subst (λ (c : Cell). IsCellOf b e.0 is.access c) (sym is.cell) (wanted_right b s t e.0 is.access sound filled (read_wanted is.access (contains_at (reads_at b t) m is.access is.access_at)))))
+
+  write_entry : (m : ℕ) (e : List ℕ × Cell) → slice_get (entries b s x.writes (writes_at b t)) m ≡ Some e → before e.0 ≡ e.1
+  write_entry m e at_m =
+      let is = entry_of b s x.writes (writes_at b t) m e at_m in
+      write_before b (position b t) x m e.0 e.1 at is.key_at (λ a at_a. let same : is.access ≡ a = same_Some is.access a (sym is.access_at ∙ at_a) in
+      subst (λ (y : Access). IsCellOf b e.0 y e.1) same (subst (λ (c : Cell). IsCellOf b e.0 is.access c) (sym is.cell) (wanted_right b s t e.0 is.access sound filled (write_wanted is.access (contains_at (writes_at b t) m is.access is.access_at)))))
+
+  each_entry : (k : List ℕ) (m : ℕ) (e : List ℕ × Cell) → slice_get (entries b s x.reads (reads_at b t) ++ entries b s x.writes (writes_at b t)) m ≡ Some e → e.0 ≡ k → e.1 ≡ before k
+  each_entry k m e at_m key = elim (in_either (entries b s x.reads (reads_at b t)) (entries b s x.writes (writes_at b t)) m e at_m) as (λ _. e.1 ≡ before k) [
+    | inl h ↦ sym (read_entry m e h) ∙ ap before key
+    | inr (n, _, h) ↦ sym (write_entry n e h) ∙ ap before key
+  ]
+
+  unsure_key : (k : List ℕ) (m : ℕ) (e : List ℕ × Cell) → slice_get (entries b s x.reads (reads_at b t) ++ entries b s x.writes (writes_at b t)) m ≡ Some e → e.0 ≡ k → input b s t x k ≡ before k
+  unsure_key k m e at_m key = newest_among (λ c. c ≡ before k) (entries b s x.reads (reads_at b t) ++ entries b s x.writes (writes_at b t)) k cells.Absent m e at_m key (each_entry k)
+
+  unsure_read : (k : List ℕ) → IsAmong x.reads k → input b s t x k ≡ before k
+  unsure_read k among =
+      let (j, at_key) = among_place x.reads k among in
+      let (a, at_access) = there (reads_at b t) j (omega (arith, slice_get_within x.reads j k at_key, reads_paired b t x at)) in
+      unsure_key k j (k, cell_at b s k a) (get_left (entries b s x.reads (reads_at b t)) (entries b s x.writes (writes_at b t)) j (k, cell_at b s k a) (entry_at b s x.reads (reads_at b t) j k a at_key at_access)) refl
+
+  unsure_write : (k : List ℕ) → IsAmong x.writes k → input b s t x k ≡ before k
+  unsure_write k among =
+      let (j, at_key) = among_place x.writes k among in
+      let (a, at_access) = there (writes_at b t) j (omega (arith, slice_get_within x.writes j k at_key, writes_paired b t x at)) in
+      let first : List (List ℕ × Cell) = entries b s x.reads (reads_at b t) in
+      unsure_key k (length first + j) (k, cell_at b s k a) (get_right first (entries b s x.writes (writes_at b t)) (length first + j) j refl ∙ entry_at b s x.writes (writes_at b t) j k a at_key at_access) refl
+
+  unsure_alike : EndsAlike (input b s t x) before x
+  unsure_alike =
+      let bodies : body (input b s t x) x ≡ body before x = same_reads (input b s t x) before x (formed_at (txns_of b) b.formed (position b t) x at) unsure_read in
+      let own : map (after (input b s t x) x) x.writes ≡ map (after before x) x.writes = same_cells (input b s t x) before x x.writes bodies unsure_write in
+      record { bodies = bodies; cells = λ d. own d ++ show_cells (shows_in x.body) (shows_of (bodies d)) }
+
+sure_alike : (look other : Look) (x : Txn) → IsSure x → EndsAlike look other x
+sure_alike look other x sure =
+    let bodies : body look x ≡ body other x = sure_body look other x sure in
+    let own : map (after look x) x.writes ≡ map (after other x) x.writes = sure_after look other x sure in
+    record { bodies = bodies; cells = λ d. own d ++ show_cells (shows_in x.body) (shows_of (bodies d)) }
+
+pub over_own_input : (b : Batch) (s : State) (t : ℕ) (x : Txn) → txn_at b t ≡ Some x → IsSound b s → HasWanted b s t → EndsAlike (input b s t x) (state (base_of b) (txns_of b) (position b t)) x
+over_own_input b s t x at sound filled =
+    let here : is_sure_at b t ≡ is_sure x = ap (λ (o : Option Txn). unwrap_or (option_map is_sure o) false) at in
+    elim (is_sure x) as (λ (v : Bool). is_sure x ≡ v → EndsAlike (input b s t x) (state (base_of b) (txns_of b) (position b t)) x) [
+      | true ↦ λ e. sure_alike (input b s t x) (state (base_of b) (txns_of b) (position b t)) x e
+      | false ↦ λ e. unsure_alike b s t x at sound filled (here ∙ e)
+    ] refl
+
+-- ---- so its outcome and its cells are right
+
+outcome_at : (b : Batch) (s : State) (t : ℕ) (x : Txn) → txn_at b t ≡ Some x → outcome_over b s t ≡ Some (outcome_of (body (input b s t x) x))
+outcome_at b s t x at = ap (λ (o : Option Txn). option_map (λ y. outcome_of (body (input b s t y) y)) o) at
+
+pub outcome_is_right : (b : Batch) (s : State) (t : ℕ) → IsSound b s → IsIn b t → HasWanted b s t → outcome_over b s t ≡ slice_get (rights_of b).outcomes (position b t)
+outcome_is_right b s t sound inside filled =
+    let (x, at) = txn_there b t inside in
+    let alike = over_own_input b s t x at sound filled in
+    outcome_at b s t x at ∙ (ap (λ (e : Ended). Some (outcome_of e)) alike.bodies ∙ sym (outcome_right b (position b t) x at))
+
+cell_over_at : (b : Batch) (s : State) (y : Slot) (x : Txn) → txn_at b y.txn ≡ Some x → cell_over b s y ≡ slice_get (own_cells (input b s y.txn x) x) y.index
+cell_over_at b s y x at = ap (λ (o : Option Txn). o >>= (λ z. slice_get (own_cells (input b s y.txn z) z) y.index)) at
+
+pub cell_is_right : (b : Batch) (s : State) (y : Slot) → IsSound b s → IsSlot b y → HasWanted b s y.txn → cell_over b s y ≡ right_cell (rights_of b) (number b y)
+cell_is_right b s y sound is filled =
+    let (x, at, below) = slot_there b y is in
+    let before : Look = state (base_of b) (txns_of b) (position b y.txn) in
+    let alike = over_own_input b s y.txn x at sound filled in
+    let (c, own) = there (own_cells before x) y.index (omega (arith, below, length-own_cells before x)) in
+    cell_over_at b s y x at ∙ (ap (λ (cs : List Cell). slice_get cs y.index) alike.cells ∙ (own ∙ sym (own_right b (position b y.txn) x at y.index c own)))
+
+pub sure_wants : (b : Batch) (t : ℕ) (x : Txn) → txn_at b t ≡ Some x → IsSure x → wanted_at b t ≡ reads_at b t
+sure_wants b t x at sure =
+    let here : is_sure_at b t ≡ true = ap (λ (o : Option Txn). unwrap_or (option_map is_sure o) false) at ∙ sure in
+    ap (λ (v : Bool). reads_at b t ++ (if v then [] else writes_at b t)) here ∙ append-nil (reads_at b t)

@@ -1,0 +1,143 @@
+-- What holds of a core between any two events, and what a change of its words leaves of it.
+use Rattle.std.proofs.Common.{◌≡◌, ◌≢◌, ℕ, List, [], ◌∷◌, ◌++◌, Bool, true, false, cond, Some, refl, ap, sym, ◌∙◌, subst, ⊎_elim, inl, inr}
+use Rattle.std.specs.Prelude.{Contains, ℤ, ◌⊎◌, ◌==◌, ◌&&◌}
+use Rattle.std.proofs.lemmas.Bool.Decides.{eqb_tells}
+use Rattle.std.proofs.lemmas.List.Elements.{Contains-push_cases, Contains-append_cases}
+use Rattle.std.proofs.lemmas.Option.{same_Some}
+use Rattle.bohm_tree.specs.declared.cell.Cell.TheVariants as cells
+use Rattle.bohm_txn.specs.declared.outcome.Outcome.{Outcome}
+use Rattle.bohm_board.specs.declared.batch.Batch.{Batch}
+use Rattle.bohm_board.specs.declared.slot.Slot.{Slot}
+use Rattle.bohm_board.specs.Batches.{IsRightCell}
+use Rattle.bohm_board.proofs.Moves.{nothing_in}
+use Rattle.bohm_exec.specs.Core.{Progress, Open, Claimed, Done, Presence, View, State, Holds, IsFilled, HasWanted, KnowsWanted, newcomer}
+use Rattle.bohm_exec.specs.CoreEvents.{put, put_slot, is_slot}
+use Rattle.bohm_exec.specs.CoreLaw.{IsLawful, Stays}
+use Rattle.bohm_exec.proofs.CoreSound.{IsSound}
+
+-- what a view of the pass p says is so; what it stored is right, too
+pub record IsTrueOf (b : Batch) (s : State) (p : ℕ) (v : View) : Type 0 where
+  pub done : (t : ℕ) → Contains v.done t → (o : Outcome) × (s.positions t ≡ Done o)
+  pub busy : (t : ℕ) → Contains v.busy t → s.positions t ≢ Open
+  pub known : (x : Slot) (k : Presence) → Contains v.known (x, k) → s.presences x ≡ Some k
+  pub held : (t : ℕ) → Holds v t → s.positions t ≡ Claimed p
+  pub stored : (x : Slot) (z : ℤ) → Contains v.stored (x, z) → IsRightCell b x (cells.Present z) × (s.values x ≡ z)
+  pub filled : (x : Slot) → Contains v.filled x → IsFilled s x
+
+pub record IsKept (b : Batch) (s : State) : Type 0 where
+  pub sound : IsSound b s
+  pub each : (p : ℕ) → IsTrueOf b s p (s.views p)
+
+abbrev holder : Progress → ℕ
+holder Open = 0
+holder (Claimed p) = p
+holder (Done o) = 0
+
+pub one_holder : (p q : ℕ) → Claimed p ≡ Claimed q → p ≡ q
+one_holder p q e = ap holder e
+
+pub lawful : (b : Batch) (s : State) → IsKept b s → IsLawful b s
+lawful b s k = record {
+  absent = k.sound.absent;
+  present = k.sound.present;
+  outcomes = k.sound.outcomes;
+  whole = k.sound.whole;
+  untouched = k.sound.untouched;
+  alone = λ p q t h g. one_holder p q (sym ((k.each p).held t h) ∙ (k.each q).held t g);
+  single = λ p t u h g. same_Some t u (sym h ∙ g);
+  claimed = λ p. (k.each p).held;
+  filled = λ p. (k.each p).filled;
+  stored = λ p x z c. ((k.each p).stored x z c).1;
+  done = λ p. (k.each p).done;
+  busy = λ p. (k.each p).busy;
+  known = λ p. (k.each p).known;
+}
+
+-- where a pass knows what a position wants, it is filled
+pub wanted_filled : (b : Batch) (s : State) (t : ℕ) (v : View) → ((x : Slot) (k : Presence) → Contains v.known (x, k) → s.presences x ≡ Some k) → KnowsWanted b v t → HasWanted b s t
+wanted_filled b s t v known wanted = λ a u in_it e. let (k, c) = wanted a u in_it e in (k, known (record { txn = u; index = a.index }) k c)
+
+-- ---- words that don't go back
+
+pub record Grows (b : Batch) (s s' : State) : Type 0 where
+  pub done : (t : ℕ) (o : Outcome) → s.positions t ≡ Done o → s'.positions t ≡ Done o
+  pub busy : (t : ℕ) → s.positions t ≢ Open → s'.positions t ≢ Open
+  pub filled : (x : Slot) (k : Presence) → s.presences x ≡ Some k → s'.presences x ≡ Some k
+  pub stored : (x : Slot) (z : ℤ) → IsRightCell b x (cells.Present z) → s.values x ≡ z → s'.values x ≡ z
+
+-- the words are the same
+pub still : (b : Batch) (s : State) (views : ℕ → View) → Grows b s (record s { views = views })
+still b s views = record { done = λ t o h. h; busy = λ t h. h; filled = λ x k h. h; stored = λ x z r h. h }
+
+pub stays : (b : Batch) (s s' : State) → IsSound b s → Grows b s s' → Stays s s'
+stays b s s' sound g = record { presences = g.filled; outcomes = g.done; values = λ x e. g.stored x (s.values x) (sound.present x e) refl }
+
+pub true_on : (b : Batch) (s s' : State) (p : ℕ) (v : View) → Grows b s s' → ((t : ℕ) → Holds v t → s'.positions t ≡ Claimed p) → IsTrueOf b s p v → IsTrueOf b s' p v
+true_on b s s' p v g held k = record {
+  done = λ t c. let (o, e) = k.done t c in (o, g.done t o e);
+  busy = λ t c. g.busy t (k.busy t c);
+  known = λ x w c. g.filled x w (k.known x w c);
+  held = held;
+  stored = λ x z c. let (right, e) = k.stored x z c in (right, g.stored x z right e);
+  filled = λ x c. let (w, e) = k.filled x c in (w, g.filled x w e);
+}
+
+-- ---- one place of a function
+
+pub put_cases : {A : Type 0} (P : A → Type 0) (f : ℕ → A) (t : ℕ) (a : A) (u : ℕ) → (u ≡ t → P a) → (u ≢ t → P (f u)) → P (put f t a u)
+put_cases P f t a u here other = ⊎_elim
+    (λ (h : ((u == t) ≡ true) × (u ≡ t)). subst (λ (v : Bool). P (cond v a (f u))) (sym h.0) (here h.1))
+    (λ (h : ((u == t) ≡ false) × (u ≢ t)). subst (λ (v : Bool). P (cond v a (f u))) (sym h.0) (other h.1))
+    (eqb_tells u t)
+
+slot_tells : (x y : Slot) → ((is_slot x y ≡ true) × (y ≡ x)) ⊎ ((is_slot x y ≡ false) × (y ≢ x))
+slot_tells x y = ⊎_elim
+    (λ (h : ((y.txn == x.txn) ≡ true) × (y.txn ≡ x.txn)). ⊎_elim
+    (λ (g : ((y.index == x.index) ≡ true) × (y.index ≡ x.index)). inl (ap (λ (v : Bool). v && (y.index == x.index)) h.0 ∙ g.0, λ i. record { txn = h.1 i; index = g.1 i }))
+    (λ (g : ((y.index == x.index) ≡ false) × (y.index ≢ x.index)). inr (ap (λ (v : Bool). v && (y.index == x.index)) h.0 ∙ g.0, λ e. g.1 (ap (λ (z : Slot). z.index) e)))
+    (eqb_tells y.index x.index))
+    (λ (h : ((y.txn == x.txn) ≡ false) × (y.txn ≢ x.txn)). inr (ap (λ (v : Bool). v && (y.index == x.index)) h.0, λ e. h.1 (ap (λ (z : Slot). z.txn) e)))
+    (eqb_tells y.txn x.txn)
+
+pub slot_cases : {A : Type 0} (P : A → Type 0) (f : Slot → A) (x : Slot) (a : A) (y : Slot) → (y ≡ x → P a) → (y ≢ x → P (f y)) → P (put_slot f x a y)
+slot_cases P f x a y here other = ⊎_elim
+    (λ (h : (is_slot x y ≡ true) × (y ≡ x)). subst (λ (v : Bool). P (cond v a (f y))) (sym h.0) (here h.1))
+    (λ (h : (is_slot x y ≡ false) × (y ≢ x)). subst (λ (v : Bool). P (cond v a (f y))) (sym h.0) (other h.1))
+    (slot_tells x y)
+
+-- ---- one pass moves
+
+-- its view becomes v, and what the others hold stays theirs
+pub moved : (b : Batch) (s s' : State) (p : ℕ) (v : View) → IsKept b s → Grows b s s' → IsSound b s' → IsTrueOf b s' p v → ((q t : ℕ) → q ≢ p → s.positions t ≡ Claimed q → s'.positions t ≡ Claimed q)
+    → IsKept b (record s' { views = put s.views p v })
+moved b s s' p v kept g sound mine others = record {
+  sound = record { absent = sound.absent; present = sound.present; outcomes = sound.outcomes; whole = sound.whole; untouched = sound.untouched };
+  each = λ q. put_cases (λ (w : View). IsTrueOf b (record s' { views = put s.views p v }) q w) s.views p v q
+      (λ e. seen s' (put s.views p v) q v (subst (λ (r : ℕ). IsTrueOf b s' r v) (sym e) mine))
+      (λ ne. seen s' (put s.views p v) q (s.views q) (true_on b s s' q (s.views q) g (λ t h. others q t ne ((kept.each q).held t h)) (kept.each q)));
+}
+  where
+    seen : (r : State) (views : ℕ → View) (q : ℕ) (w : View) → IsTrueOf b r q w → IsTrueOf b (record r { views = views }) q w
+    seen r views q w k = record { done = k.done; busy = k.busy; known = k.known; held = k.held; stored = k.stored; filled = k.filled }
+
+-- the words stay
+pub relearnt : (b : Batch) (s : State) (p : ℕ) (v : View) → IsKept b s → IsTrueOf b s p v → IsKept b (record s { views = put s.views p v })
+relearnt b s p v kept mine = moved b s s p v kept (still b s s.views) kept.sound mine (λ q t ne h. h)
+
+-- a fact on what a list contains, and one more
+pub more : {A : Type 0} (P : A → Type 0) (xs : List A) (x : A) → ((y : A) → Contains xs y → P y) → P x → (y : A) → Contains (xs ++ x ∷ []) y → P y
+more P xs x all here y c = ⊎_elim (all y) (λ (e : x ≡ y). subst P e here) (Contains-push_cases xs x y c)
+
+pub both : {A : Type 0} (P : A → Type 0) (xs ys : List A) → ((y : A) → Contains xs y → P y) → ((y : A) → Contains ys y → P y) → (y : A) → Contains (xs ++ ys) y → P y
+both P xs ys left right y c = ⊎_elim (left y) (right y) (Contains-append_cases xs ys y c)
+
+-- a view that says nothing
+pub true_of_newcomer : (b : Batch) (s : State) (p : ℕ) → IsTrueOf b s p newcomer
+true_of_newcomer b s p = record {
+  done = λ t c. absurd (nothing_in t c);
+  busy = λ t c. absurd (nothing_in t c);
+  known = λ x k c. absurd (nothing_in (x, k) c);
+  held = λ t h. absurd cc;
+  stored = λ x z c. absurd (nothing_in (x, z) c);
+  filled = λ x c. absurd (nothing_in x c);
+}

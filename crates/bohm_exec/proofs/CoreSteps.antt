@@ -1,0 +1,279 @@
+-- Each event keeps what holds between any two, and no word goes back.
+use Rattle.std.proofs.Common.{◌≡◌, ◌≢◌, ℕ, Some, None, refl, ap, sym, ◌∙◌, subst}
+use Rattle.std.specs.Prelude.{Option, ℤ}
+use Rattle.std.proofs.lemmas.Option.{same_Some}
+use Rattle.bohm_tree.specs.declared.cell.Cell.{Cell}
+use Rattle.bohm_tree.specs.declared.cell.Cell.TheVariants as cells
+use Rattle.bohm_txn.specs.declared.outcome.Outcome.{Outcome}
+use Rattle.bohm_board.specs.declared.batch.Batch.{Batch}
+use Rattle.bohm_board.specs.declared.slot.Slot.{Slot}
+use Rattle.bohm_board.specs.declared.status.Status.{Status as Seen}
+use Rattle.bohm_board.specs.declared.status.Status.TheVariants as seen
+use Rattle.bohm_board.specs.declared.status.Claimed.TheVariants as won
+use Rattle.bohm_board.specs.Batches.{IsSlot, IsRightCell, IsRightOutcome}
+use Rattle.bohm_board.proofs.Moves.{nothing_in}
+use Rattle.bohm_exec.specs.Core.{Progress, Open, Claimed, Done, Presence, Absent, Present, View, State, IsFilled}
+use Rattle.bohm_exec.specs.CoreEvents.{Event, LookPresence, LookValue, Status, Claim, FillValue, FillPresence, Finish, Split, Join, MayFill, MayFinish, IsAllowed, HasStoredFor, put, put_slot, status_of, claim_of, presence_of, learnt, saw, holding, stored, filled, finished, joined, next}
+use Rattle.bohm_exec.proofs.CoreSound.{IsSound, one_cell, presence_right}
+use Rattle.bohm_exec.proofs.CoreInput.{outcome_is_right, cell_is_right}
+use Rattle.bohm_exec.proofs.CoreKeeps.{IsTrueOf, IsKept, Grows, one_holder, wanted_filled, still, true_on, put_cases, slot_cases, moved, relearnt, more, both}
+
+-- ---- answers
+
+busy_of : (o : Progress) → seen.Busy ≡ status_of o → o ≢ Open
+busy_of Open e = absurd cc
+busy_of (Claimed p) e = λ h. cc
+busy_of (Done r) e = λ h. cc
+
+done_of : (o : Progress) → seen.Done ≡ status_of o → (r : Outcome) × (o ≡ Done r)
+done_of Open e = absurd cc
+done_of (Claimed p) e = absurd cc
+done_of (Done r) e = (r, refl)
+
+pub won_mine : (o : Progress) → won.Mine ≡ claim_of o → o ≡ Open
+won_mine Open e = refl
+won_mine (Claimed p) e = absurd cc
+won_mine (Done r) e = absurd cc
+
+lost_busy : (o : Progress) → won.Busy ≡ claim_of o → seen.Busy ≡ status_of o
+lost_busy Open e = absurd cc
+lost_busy (Claimed p) e = refl
+lost_busy (Done r) e = absurd cc
+
+lost_done : (o : Progress) → won.Done ≡ claim_of o → seen.Done ≡ status_of o
+lost_done Open e = absurd cc
+lost_done (Claimed p) e = absurd cc
+lost_done (Done r) e = refl
+
+true_learnt : (b : Batch) (s : State) (p : ℕ) (v : View) (x : Slot) (answer : Option Presence) → answer ≡ s.presences x → IsTrueOf b s p v → IsTrueOf b s p (learnt v x answer)
+true_learnt b s p v x None e k = k
+true_learnt b s p v x (Some w) e k = record {
+  done = k.done;
+  busy = k.busy;
+  known = λ y j c. more (λ (z : Slot × Presence). s.presences z.0 ≡ Some z.1) v.known (x, w) (λ z d. k.known z.0 z.1 d) (sym e) (y, j) c;
+  held = k.held;
+  stored = k.stored;
+  filled = k.filled;
+}
+
+true_saw : (b : Batch) (s : State) (p : ℕ) (v : View) (t : ℕ) (answer : Seen) → answer ≡ status_of (s.positions t) → IsTrueOf b s p v → IsTrueOf b s p (saw v t answer)
+true_saw b s p v t seen.Open e k = k
+true_saw b s p v t seen.Busy e k =
+    record { done = k.done; busy = more (λ u. s.positions u ≢ Open) v.busy t k.busy (busy_of (s.positions t) e); known = k.known; held = k.held; stored = k.stored; filled = k.filled }
+true_saw b s p v t seen.Done e k =
+    record { done = more (λ u. (o : Outcome) × (s.positions u ≡ Done o)) v.done t k.done (done_of (s.positions t) e); busy = k.busy; known = k.known; held = k.held; stored = k.stored; filled = k.filled }
+
+-- ---- a position's state becomes o
+
+module _ (b : Batch) (s : State) (t : ℕ) (o : Progress) (not_open : o ≢ Open) where
+  abbrev pub turned : State
+  turned = record s { positions = put s.positions t o }
+
+  turned_grows : ((r : Outcome) → s.positions t ≢ Done r) → Grows b s turned
+  turned_grows not_done = record {
+    done = λ u r h. put_cases (λ w. w ≡ Done r) s.positions t o u (λ e. absurd (not_done r (ap s.positions (sym e) ∙ h))) (λ _. h);
+    busy = λ u h. put_cases (λ w. w ≢ Open) s.positions t o u (λ _. not_open) (λ _. h);
+    filled = λ x k h. h;
+    stored = λ x z r h. h;
+  }
+
+  turned_sound : IsSound b s → ((r : Outcome) → o ≡ Done r → IsRightOutcome b t r) → ((x : Slot) (r : Outcome) → IsSlot b x → x.txn ≡ t → o ≡ Done r → IsFilled s x) → IsSound b turned
+  turned_sound sound right whole = record {
+    absent = sound.absent;
+    present = sound.present;
+    outcomes = λ u r. put_cases (λ w. w ≡ Done r → IsRightOutcome b u r) s.positions t o u (λ e h. subst (λ (v : ℕ). IsRightOutcome b v r) (sym e) (right r h)) (λ _. sound.outcomes u r);
+    whole = λ x r is. put_cases (λ w. w ≡ Done r → IsFilled s x) s.positions t o x.txn (λ e h. whole x r is e h) (λ _. sound.whole x r is);
+    untouched = λ x. put_cases (λ w. w ≡ Open → s.presences x ≡ None) s.positions t o x.txn (λ _ h. absurd (not_open h)) (λ _. sound.untouched x);
+  }
+
+claimed_not_open : (p : ℕ) → Claimed p ≢ Open
+claimed_not_open p = λ h. cc
+
+done_not_open : (o : Outcome) → Done o ≢ Open
+done_not_open o = λ h. cc
+
+claim_grows : (b : Batch) (s : State) (p t : ℕ) → s.positions t ≡ Open → Grows b s (turned b s t (Claimed p) (claimed_not_open p))
+claim_grows b s p t free = turned_grows b s t (Claimed p) (claimed_not_open p) (λ r h. let no : Open ≡ Done r = sym free ∙ h in cc)
+
+claim_keeps : (b : Batch) (s : State) (p t : ℕ) → IsKept b s → s.positions t ≡ Open → IsKept b (next s (Claim p t won.Mine))
+claim_keeps b s p t kept free =
+    let k = kept.each p in
+    let s' : State = turned b s t (Claimed p) (claimed_not_open p) in
+    let g : Grows b s s' = claim_grows b s p t free in
+    let sound : IsSound b s' = turned_sound b s t (Claimed p) (claimed_not_open p) kept.sound (λ r h. absurd cc) (λ x r is e h. absurd cc) in
+    let mine : IsTrueOf b s' p (holding (s.views p) t) = record {
+      done = λ u c. let (o, e) = k.done u c in (o, g.done u o e);
+      busy = λ u c. g.busy u (k.busy u c);
+      known = k.known;
+      held = λ u h. put_cases (λ w. w ≡ Claimed p) s.positions t (Claimed p) u (λ _. refl) (λ ne. absurd (ne (sym (same_Some t u h))));
+      stored = k.stored;
+      filled = k.filled;
+    } in
+    moved b s s' p (holding (s.views p) t) kept g sound mine (λ q u ne h. put_cases (λ w. w ≡ Claimed q) s.positions t (Claimed p) u (λ e. let no : Open ≡ Claimed q = sym free ∙ (ap s.positions (sym e) ∙ h) in absurd cc) (λ _. h))
+
+finish_grows : (b : Batch) (s : State) (p t : ℕ) (o : Outcome) → s.positions t ≡ Claimed p → Grows b s (turned b s t (Done o) (done_not_open o))
+finish_grows b s p t o mine = turned_grows b s t (Done o) (done_not_open o) (λ r h. let no : Claimed p ≡ Done r = sym mine ∙ h in cc)
+
+one_outcome : (o r : Outcome) → Done o ≡ Done r → o ≡ r
+one_outcome o r e = ap of e
+  where
+    of : Progress → Outcome
+    of Open = o
+    of (Claimed p) = o
+    of (Done w) = w
+
+finish_keeps : (b : Batch) (s : State) (p t : ℕ) (o : Outcome) → IsKept b s → MayFinish b s p t o → IsKept b (next s (Finish p t o))
+finish_keeps b s p t o kept may =
+    let k = kept.each p in
+    let s' : State = turned b s t (Done o) (done_not_open o) in
+    let here : s.positions t ≡ Claimed p = k.held t may.holds in
+    let right : IsRightOutcome b t o = sym (outcome_is_right b s t kept.sound may.position (wanted_filled b s t (s.views p) k.known may.wanted)) ∙ may.outcome in
+    let g : Grows b s s' = finish_grows b s p t o here in
+    let sound : IsSound b s' = turned_sound b s t (Done o) (done_not_open o) kept.sound (λ r h. subst (IsRightOutcome b t) (one_outcome o r h) right) (λ x r is e h. k.filled x (may.filled x is e)) in
+    let now : s'.positions t ≡ Done o = put_cases (λ w. w ≡ Done o) s.positions t (Done o) t (λ _. refl) (λ ne. absurd (ne refl)) in
+    let mine : IsTrueOf b s' p (finished (s.views p) t) = record {
+      done = more (λ u. (r : Outcome) × (s'.positions u ≡ Done r)) (s.views p).done t (λ u c. let (r, e) = k.done u c in (r, g.done u r e)) (o, now);
+      busy = λ u c. g.busy u (k.busy u c);
+      known = k.known;
+      held = λ u h. absurd cc;
+      stored = λ x z c. absurd (nothing_in (x, z) c);
+      filled = λ x c. absurd (nothing_in x c);
+    } in
+    moved b s s' p (finished (s.views p) t) kept g sound mine (λ q u ne h. put_cases (λ w. w ≡ Claimed q) s.positions t (Done o) u (λ e. absurd (ne (sym (one_holder p q (sym here ∙ (ap s.positions (sym e) ∙ h)))))) (λ _. h))
+
+-- ---- the words of a slot
+
+fill_right : (b : Batch) (s : State) (p : ℕ) (x : Slot) (c : Cell) → IsKept b s → MayFill b s p x c → IsRightCell b x c
+fill_right b s p x c kept may = sym (cell_is_right b s x kept.sound may.slot (wanted_filled b s x.txn (s.views p) (kept.each p).known may.wanted)) ∙ may.cell
+
+one_value : (z w : ℤ) → cells.Present z ≡ cells.Present w → z ≡ w
+one_value z w e = ap of e
+  where
+    of : Cell → ℤ
+    of cells.Absent = z
+    of (cells.Present v) = v
+
+value_grows : (b : Batch) (s : State) (x : Slot) (z : ℤ) → IsRightCell b x (cells.Present z) → Grows b s (record s { values = put_slot s.values x z })
+value_grows b s x z right = record {
+  done = λ t o h. h;
+  busy = λ t h. h;
+  filled = λ y k h. h;
+  stored = λ y w r h. slot_cases (λ v. v ≡ w) s.values x z y (λ e. one_value z w (one_cell b x (cells.Present z) (cells.Present w) right (subst (λ (u : Slot). IsRightCell b u (cells.Present w)) e r))) (λ _. h);
+}
+
+value_keeps : (b : Batch) (s : State) (p : ℕ) (x : Slot) (z : ℤ) → IsKept b s → MayFill b s p x (cells.Present z) → IsKept b (next s (FillValue p x z))
+value_keeps b s p x z kept may =
+    let k = kept.each p in
+    let s' : State = record s { values = put_slot s.values x z } in
+    let right : IsRightCell b x (cells.Present z) = fill_right b s p x (cells.Present z) kept may in
+    let g : Grows b s s' = value_grows b s x z right in
+    let sound : IsSound b s' = record {
+      absent = kept.sound.absent;
+      present = λ y h. slot_cases (λ v. IsRightCell b y (cells.Present v)) s.values x z y (λ e. subst (λ (u : Slot). IsRightCell b u (cells.Present z)) (sym e) right) (λ _. kept.sound.present y h);
+      outcomes = kept.sound.outcomes;
+      whole = kept.sound.whole;
+      untouched = kept.sound.untouched;
+    } in
+    let here : s'.values x ≡ z = slot_cases (λ v. v ≡ z) s.values x z x (λ _. refl) (λ ne. absurd (ne refl)) in
+    let old : IsTrueOf b s' p (s.views p) = true_on b s s' p (s.views p) g k.held k in
+    let mine : IsTrueOf b s' p (stored (s.views p) x z) = record {
+      done = old.done;
+      busy = old.busy;
+      known = old.known;
+      held = old.held;
+      stored = λ y w c. more (λ (u : Slot × ℤ). IsRightCell b u.0 (cells.Present u.1) × (s'.values u.0 ≡ u.1)) (s.views p).stored (x, z) (λ u d. old.stored u.0 u.1 d) (right, here) (y, w) c;
+      filled = old.filled;
+    } in
+    moved b s s' p (stored (s.views p) x z) kept g sound mine (λ q t ne h. h)
+
+presence_grows : (b : Batch) (s : State) (x : Slot) (c : Cell) → IsSound b s → IsRightCell b x c → Grows b s (record s { presences = put_slot s.presences x (Some (presence_of c)) })
+presence_grows b s x c sound right = record {
+  done = λ t o h. h;
+  busy = λ t h. h;
+  filled = λ y k h. slot_cases (λ v. v ≡ Some k) s.presences x (Some (presence_of c)) y (λ e. ap Some (presence_right b s x k c sound (ap s.presences (sym e) ∙ h) right)) (λ _. h);
+  stored = λ y z r h. h;
+}
+
+-- the cell that the slot shows from now on is right
+shows_absent : (b : Batch) (x : Slot) (c : Cell) → IsRightCell b x c → presence_of c ≡ Absent → IsRightCell b x cells.Absent
+shows_absent b x cells.Absent right e = right
+shows_absent b x (cells.Present z) right e = absurd cc
+
+shows_present : (b : Batch) (s : State) (p : ℕ) (x : Slot) (c : Cell) → IsTrueOf b s p (s.views p) → IsRightCell b x c → HasStoredFor (s.views p) x c → presence_of c ≡ Present → IsRightCell b x (cells.Present (s.values x))
+shows_present b s p x cells.Absent k right has e = absurd cc
+shows_present b s p x (cells.Present z) k right has e =
+    let (is, same) = k.stored x has.0 has.1 in
+    subst (λ (w : ℤ). IsRightCell b x (cells.Present w)) (sym same) is
+
+presence_keeps : (b : Batch) (s : State) (p : ℕ) (x : Slot) (c : Cell) → IsKept b s → MayFill b s p x c → HasStoredFor (s.views p) x c → IsKept b (next s (FillPresence p x c))
+presence_keeps b s p x c kept may has =
+    let k = kept.each p in
+    let w : Option Presence = Some (presence_of c) in
+    let s' : State = record s { presences = put_slot s.presences x w } in
+    let right : IsRightCell b x c = fill_right b s p x c kept may in
+    let busy : s.positions x.txn ≡ Claimed p = k.held x.txn may.holds in
+    let g : Grows b s s' = presence_grows b s x c kept.sound right in
+    let sound : IsSound b s' = record {
+      absent = λ y. slot_cases (λ v. v ≡ Some Absent → IsRightCell b y cells.Absent) s.presences x w y (λ e h. subst (λ (u : Slot). IsRightCell b u cells.Absent) (sym e) (shows_absent b x c right (same_Some (presence_of c) Absent h))) (λ _. kept.sound.absent y);
+      present = λ y. slot_cases (λ v. v ≡ Some Present → IsRightCell b y (cells.Present (s.values y))) s.presences x w y (λ e h. subst (λ (u : Slot). IsRightCell b u (cells.Present (s.values u))) (sym e) (shows_present b s p x c k right has (same_Some (presence_of c) Present h))) (λ _. kept.sound.present y);
+      outcomes = kept.sound.outcomes;
+      whole = λ y o is h. let (j, e) = kept.sound.whole y o is h in (j, g.filled y j e);
+      untouched = λ y h. slot_cases (λ v. v ≡ None) s.presences x w y (λ e. let no : Open ≡ Claimed p = sym h ∙ (ap (λ (u : Slot). s.positions u.txn) e ∙ busy) in absurd cc) (λ _. kept.sound.untouched y h);
+    } in
+    let here : s'.presences x ≡ w = slot_cases (λ v. v ≡ w) s.presences x w x (λ _. refl) (λ ne. absurd (ne refl)) in
+    let old : IsTrueOf b s' p (s.views p) = true_on b s s' p (s.views p) g k.held k in
+    let mine : IsTrueOf b s' p (filled (s.views p) x) = record {
+      done = old.done;
+      busy = old.busy;
+      known = old.known;
+      held = old.held;
+      stored = old.stored;
+      filled = more (IsFilled s') (s.views p).filled x old.filled (presence_of c, here);
+    } in
+    moved b s s' p (filled (s.views p) x) kept g sound mine (λ q t ne h. h)
+
+-- ---- views of passes that hold nothing
+
+true_copied : (b : Batch) (s : State) (p q : ℕ) (v : View) → v.held ≡ None → IsTrueOf b s p v → IsTrueOf b s q v
+true_copied b s p q v free k = record { done = k.done; busy = k.busy; known = k.known; held = λ t h. let no : None ≡ Some t = sym free ∙ h in absurd cc; stored = k.stored; filled = k.filled }
+
+true_joined : (b : Batch) (s : State) (p q : ℕ) (v w : View) → IsTrueOf b s p v → IsTrueOf b s q w → IsTrueOf b s p (joined v w)
+true_joined b s p q v w k j = record {
+  done = both (λ t. (o : Outcome) × (s.positions t ≡ Done o)) v.done w.done k.done j.done;
+  busy = both (λ t. s.positions t ≢ Open) v.busy w.busy k.busy j.busy;
+  known = λ x m c. both (λ (z : Slot × Presence). s.presences z.0 ≡ Some z.1) v.known w.known (λ z d. k.known z.0 z.1 d) (λ z d. j.known z.0 z.1 d) (x, m) c;
+  held = k.held;
+  stored = k.stored;
+  filled = k.filled;
+}
+
+-- ---- all events
+
+pub keeps : (b : Batch) (s : State) (e : Event) → IsKept b s → IsAllowed b s e → IsKept b (next s e)
+keeps b s (LookPresence p x answer) kept may = relearnt b s p (learnt (s.views p) x answer) kept (true_learnt b s p (s.views p) x answer may.1 (kept.each p))
+keeps b s (LookValue p x answer) kept may = kept
+keeps b s (Status p t answer) kept may = relearnt b s p (saw (s.views p) t answer) kept (true_saw b s p (s.views p) t answer may.2 (kept.each p))
+keeps b s (Claim p t won.Mine) kept may = claim_keeps b s p t kept (won_mine (s.positions t) may.2)
+keeps b s (Claim p t won.Busy) kept may = relearnt b s p (saw (s.views p) t seen.Busy) kept (true_saw b s p (s.views p) t seen.Busy (lost_busy (s.positions t) may.2) (kept.each p))
+keeps b s (Claim p t won.Done) kept may = relearnt b s p (saw (s.views p) t seen.Done) kept (true_saw b s p (s.views p) t seen.Done (lost_done (s.positions t) may.2) (kept.each p))
+keeps b s (FillValue p x z) kept may = value_keeps b s p x z kept may.0
+keeps b s (FillPresence p x c) kept may = presence_keeps b s p x c kept may.0 may.1
+keeps b s (Finish p t o) kept may = finish_keeps b s p t o kept may
+keeps b s (Split p q) kept may = relearnt b s q (s.views p) kept (true_copied b s p q (s.views p) may.0 (kept.each p))
+keeps b s (Join p q) kept may = relearnt b s p (joined (s.views p) (s.views q)) kept (true_joined b s p q (s.views p) (s.views q) (kept.each p) (kept.each q))
+
+seen_on : (b : Batch) (s s' : State) (views : ℕ → View) → Grows b s s' → Grows b s (record s' { views = views })
+seen_on b s s' views g = record { done = g.done; busy = g.busy; filled = g.filled; stored = g.stored }
+
+pub grows : (b : Batch) (s : State) (e : Event) → IsKept b s → IsAllowed b s e → Grows b s (next s e)
+grows b s (LookPresence p x answer) kept may = still b s (put s.views p (learnt (s.views p) x answer))
+grows b s (LookValue p x answer) kept may = still b s s.views
+grows b s (Status p t answer) kept may = still b s (put s.views p (saw (s.views p) t answer))
+grows b s (Claim p t won.Mine) kept may = seen_on b s (turned b s t (Claimed p) (claimed_not_open p)) (put s.views p (holding (s.views p) t)) (claim_grows b s p t (won_mine (s.positions t) may.2))
+grows b s (Claim p t won.Busy) kept may = still b s (put s.views p (saw (s.views p) t seen.Busy))
+grows b s (Claim p t won.Done) kept may = still b s (put s.views p (saw (s.views p) t seen.Done))
+grows b s (FillValue p x z) kept may = seen_on b s (record s { values = put_slot s.values x z }) (put s.views p (stored (s.views p) x z)) (value_grows b s x z (fill_right b s p x (cells.Present z) kept may.0))
+grows b s (FillPresence p x c) kept may = seen_on b s (record s { presences = put_slot s.presences x (Some (presence_of c)) }) (put s.views p (filled (s.views p) x)) (presence_grows b s x c kept.sound (fill_right b s p x c kept may.0))
+grows b s (Finish p t o) kept may = seen_on b s (turned b s t (Done o) (done_not_open o)) (put s.views p (finished (s.views p) t)) (finish_grows b s p t o ((kept.each p).held t may.holds))
+grows b s (Split p q) kept may = still b s (put s.views q (s.views p))
+grows b s (Join p q) kept may = still b s (put s.views p (joined (s.views p) (s.views q)))

@@ -1,0 +1,13 @@
+pub mod Serials
+pub mod Strides
+pub mod Seen
+pub mod Viewed
+pub mod Based
+pub mod Descents
+pub mod Accounts
+pub mod CoreSound
+pub mod CoreInput
+pub mod CoreAccess
+pub mod CoreKeeps
+pub mod CoreSteps
+pub mod CoreRuns

@@ -1,0 +1,93 @@
+-- Cells at the places of their accesses, as far as a loop has come.
+use Rattle.std.proofs.Common.{◌≡◌, ◌≢◌, ℕ, zero, suc, ◌+◌, ◌<◌, List, [], ◌∷◌, length, set, Some, refl, sym, ap, ◌∙◌, subst, arith}
+use Rattle.std.specs.Prelude.{Contains}
+use Rattle.std.specs.List.{slice_get}
+use Rattle.std.proofs.lemmas.Option.{same_Some, slice_get_within, slice_get-get_or, get_or_from_slice_get}
+use mathlib.Core.Logic.{dite}
+use native.Mathlib.Decide.{ℕ_discrete}
+use Rattle.bohm_tree.specs.declared.cell.Cell.{Cell}
+use Rattle.bohm_place.specs.declared.access.Access.{Access}
+use Rattle.bohm_place.specs.declared.access.Source.{Source}
+use Rattle.bohm_place.specs.declared.access.Source.TheVariants.{Before, Within}
+use Rattle.bohm_board.specs.declared.batch.Batch.{Batch}
+use Rattle.bohm_board.specs.declared.view.View.{View}
+use Rattle.bohm_board.specs.Batches.{IsRightCell, slot_in}
+use Rattle.bohm_board.specs.Passes.{IsKnown, Keeps}
+use Rattle.bohm_board.proofs.Keeping.{still_known}
+use Rattle.bohm_exec.specs.Handed.{KnowsAll, AreFound}
+
+-- ---- lists
+
+pub get_set_same : {A : Type 0} (xs : List A) (i : ℕ) (x : A) → i < length xs → slice_get (set xs i x) i ≡ Some x
+get_set_same [] i x l = absurd (omega arith)
+get_set_same (y ∷ ys) zero x l = refl
+get_set_same (y ∷ ys) (suc i) x l = get_set_same ys i x (omega arith)
+
+pub get_set_other : {A : Type 0} (xs : List A) (i j : ℕ) (x : A) → j ≢ i → slice_get (set xs i x) j ≡ slice_get xs j
+get_set_other [] i j x ne = refl
+get_set_other (y ∷ ys) zero zero x ne = absurd (ne refl)
+get_set_other (y ∷ ys) zero (suc j) x ne = refl
+get_set_other (y ∷ ys) (suc i) zero x ne = refl
+get_set_other (y ∷ ys) (suc i) (suc j) x ne = get_set_other ys i j x (λ e. ne (ap suc e))
+
+pub among : {A : Type 0} (xs : List A) (j : ℕ) (x : A) → slice_get xs j ≡ Some x → Contains xs x
+among xs j x e = (j, slice_get_within xs j x e, get_or_from_slice_get xs j x x e)
+
+pub place : {A : Type 0} (xs : List A) (x : A) → Contains xs x → (j : ℕ) × (slice_get xs j ≡ Some x)
+place xs x c = (c.0, slice_get-get_or xs c.0 x c.1 ∙ ap Some c.2)
+
+-- ---- what is known and found of the accesses below a place
+
+abbrev pub KnownBelow : Batch → View → List Access → ℕ → Type 0
+KnownBelow b v accesses n = (j : ℕ) (a : Access) (u : ℕ) → j < n → slice_get accesses j ≡ Some a → a.source ≡ Within u → IsKnown b v (slot_in u a)
+
+abbrev pub FoundBelow : Batch → List Access → List Cell → ℕ → Type 0
+FoundBelow b accesses cells n = (j : ℕ) (a : Access) (u : ℕ) (c : Cell) → j < n → slice_get accesses j ≡ Some a → a.source ≡ Within u → slice_get cells j ≡ Some c → IsRightCell b (slot_in u a) c
+
+pub known_next : (b : Batch) (v w : View) (accesses : List Access) (n : ℕ) (a : Access) → Keeps v w → KnownBelow b v accesses n → slice_get accesses n ≡ Some a → ((u : ℕ) → a.source ≡ Within u → IsKnown b w (slot_in u a)) → KnownBelow b w accesses (n + 1)
+known_next b v w accesses n a keeps below at here = λ j x u l at_j is. dite (ℕ_discrete j n)
+    (λ e. let same : a ≡ x = same_Some a x (sym at ∙ (ap (slice_get accesses) (sym e) ∙ at_j)) in
+    subst (λ (y : Access). y.source ≡ Within u → IsKnown b w (slot_in u y)) same (here u) is)
+    (λ ne. still_known b v w (slot_in u x) keeps (below j x u (omega arith) at_j is))
+
+found_next : (b : Batch) (accesses : List Access) (old new : List Cell) (n : ℕ) (a : Access) → ((j : ℕ) → j ≢ n → slice_get new j ≡ slice_get old j) → FoundBelow b accesses old n → slice_get accesses n ≡ Some a
+    → ((u : ℕ) (c : Cell) → a.source ≡ Within u → slice_get new n ≡ Some c → IsRightCell b (slot_in u a) c) → FoundBelow b accesses new (n + 1)
+found_next b accesses old new n a kept below at here = λ j x u c l at_j is cell. dite (ℕ_discrete j n)
+    (λ e. let same : a ≡ x = same_Some a x (sym at ∙ (ap (slice_get accesses) (sym e) ∙ at_j)) in
+    subst (λ (y : Access). y.source ≡ Within u → IsRightCell b (slot_in u y) c) same (λ source. here u c source (ap (slice_get new) (sym e) ∙ cell)) is)
+    (λ ne. below j x u c (omega arith) at_j is (sym (kept j ne) ∙ cell))
+
+not_both : (s : Source) (u : ℕ) → s ≡ Before → s ≡ Within u → ⊥
+not_both s u is_before is_within = cc
+
+same_within : (s : Source) (u w : ℕ) → s ≡ Within u → s ≡ Within w → u ≡ w
+same_within s u w e f = cc
+
+-- of an access whose version stands before the batch nothing is wanted
+pub known_base : (b : Batch) (v : View) (accesses : List Access) (n : ℕ) (a : Access) → Keeps v v → KnownBelow b v accesses n → slice_get accesses n ≡ Some a → a.source ≡ Before → KnownBelow b v accesses (n + 1)
+known_base b v accesses n a keeps below at is = known_next b v v accesses n a keeps below at (λ u other. absurd (not_both a.source u is other))
+
+pub found_base : (b : Batch) (accesses : List Access) (cells : List Cell) (n : ℕ) (a : Access) → FoundBelow b accesses cells n → slice_get accesses n ≡ Some a → a.source ≡ Before → FoundBelow b accesses cells (n + 1)
+found_base b accesses cells n a below at is = found_next b accesses cells cells n a (λ j ne. refl) below at (λ u c other _. absurd (not_both a.source u is other))
+
+-- a version of the batch was seen
+pub known_within : (b : Batch) (v w : View) (accesses : List Access) (n : ℕ) (a : Access) (u : ℕ) → Keeps v w → KnownBelow b v accesses n → slice_get accesses n ≡ Some a → a.source ≡ Within u → IsKnown b w (slot_in u a) → KnownBelow b w accesses (n + 1)
+known_within b v w accesses n a u keeps below at is here = known_next b v w accesses n a keeps below at (λ x other. subst (λ (z : ℕ). IsKnown b w (slot_in z a)) (same_within a.source u x is other) here)
+
+pub found_within : (b : Batch) (accesses : List Access) (cells : List Cell) (n : ℕ) (a : Access) (u : ℕ) (c : Cell) → n < length cells → FoundBelow b accesses cells n → slice_get accesses n ≡ Some a → a.source ≡ Within u → IsRightCell b (slot_in u a) c
+    → FoundBelow b accesses (set cells n c) (n + 1)
+found_within b accesses cells n a u c inside below at is right = found_next b accesses cells (set cells n c) n a (λ j ne. get_set_other cells n j c ne) below at
+    (λ x d other cell.
+    let same : c ≡ d = same_Some c d (sym (get_set_same cells n c inside) ∙ cell) in
+    subst (λ (z : ℕ × Cell). IsRightCell b (slot_in z.0 a) z.1) (λ i. (same_within a.source u x is other i, same i)) right)
+
+pub knows_all : (b : Batch) (v : View) (accesses : List Access) (n : ℕ) → length accesses ≡ n → KnownBelow b v accesses n → KnowsAll b v accesses
+knows_all b v accesses n long below = λ a u in_it is.
+    let (j, at) = place accesses a in_it in
+    let within = slice_get_within accesses j a at in
+    below j a u (omega arith) at is
+
+pub are_found : (b : Batch) (accesses : List Access) (cells : List Cell) (n : ℕ) → length accesses ≡ n → FoundBelow b accesses cells n → AreFound b accesses cells
+are_found b accesses cells n long below = λ j a u c at is cell.
+    let within = slice_get_within accesses j a at in
+    below j a u c (omega arith) at is cell

@@ -1,0 +1,138 @@
+-- What looks and fills change of a view, and what a batch's accesses say of it.
+use Rattle.std.proofs.Common.{◌≡◌, ℕ, ◌+◌, ◌<◌, ◌≤◌, List, [], ◌∷◌, ◌++◌, length, Bool, true, false, Option, None, Some, refl, sym, ap, ◌∙◌, subst, ⊎_elim, inl, inr, arith}
+use Rattle.std.specs.Prelude.{Contains, ◌⊎◌, if◌then◌else◌, unwrap_or}
+use Rattle.std.specs.Option.{option_map}
+use Rattle.std.specs.List.{slice_get}
+use Rattle.std.proofs.lemmas.List.Elements.{Contains-append_cases, Contains-append_left, Contains-append_right, Contains-push, Contains-push_cases}
+use Rattle.std.proofs.lemmas.Option.{slice_get_within, get_or_from_slice_get}
+use mathlib.Core.Logic.{dite}
+use native.Mathlib.Decide.{ℕ_discrete}
+use Rattle.bohm_tree.specs.declared.cell.Cell.{Cell}
+use Rattle.bohm_tree.specs.declared.cell.Cell.TheVariants.{Absent, Present}
+use Rattle.bohm_tree.specs.declared.txn.Txn.{Txn}
+use Rattle.bohm_txn.specs.Faulty.{IsWellFormedTxn}
+use Rattle.bohm_txn.specs.Sure.{is_sure}
+use Rattle.bohm_place.specs.declared.access.Access.{Access}
+use Rattle.bohm_board.specs.declared.batch.Batch.{Batch}
+use Rattle.bohm_board.specs.declared.slot.Slot.{Slot}
+use Rattle.bohm_board.specs.declared.view.Rights.{Rights}
+use Rattle.bohm_board.specs.declared.view.View.{View}
+use Rattle.bohm_board.specs.Batches.{position, number, rights_of, txns_of, txn_at, IsIn, IsSlot, reads_at, writes_at, is_sure_at, slot_in}
+use Rattle.bohm_board.specs.Passes.{IsDone, KnowsWanted}
+use Rattle.bohm_board.specs.Views.{Knows, looked, filled_with, IsUnseen}
+use Rattle.bohm_board.proofs.Keeping.{keeps_same, keeps_then, keeps_looked}
+use Rattle.bohm_board.proofs.Newest.{formed_at}
+use Rattle.bohm_board.proofs.Numbers.{right_at, txn_there}
+use Rattle.bohm_board.proofs.Wanted.{reads_paired, writes_paired}
+use Rattle.bohm_exec.specs.declared.declared_set.DeclaredSet.{DeclaredSet}
+use Rattle.bohm_exec.specs.declared.declared_set.DeclaredSet.TheVariants.{Reads, Writes}
+use Rattle.bohm_exec.specs.Handed.{AreWanted, KnowsAll, keys_in, accesses_in}
+use Rattle.bohm_exec.specs.Turns.{LooksOnly, FillsOnly}
+
+-- ---- looks
+
+pub no_looks : (v : View) → LooksOnly v v
+no_looks v = record { keeps = keeps_same v; done = refl; busy = refl; held = refl; stored = refl; filled = refl }
+
+looks_on : (v w : View) (k : ℕ) (answer : Option Cell) → LooksOnly v w → LooksOnly v (looked w k answer)
+looks_on v w k None l = l
+looks_on v w k (Some Absent) l = record { keeps = keeps_then v w (looked w k (Some Absent)) l.keeps (keeps_looked w k (Some Absent)); done = l.done; busy = l.busy; held = l.held; stored = l.stored; filled = l.filled }
+looks_on v w k (Some (Present z)) l = record { keeps = keeps_then v w (looked w k (Some (Present z))) l.keeps (keeps_looked w k (Some (Present z))); done = l.done; busy = l.busy; held = l.held; stored = l.stored; filled = l.filled }
+
+-- one more look
+pub one_look : (v w u : View) (k : ℕ) (answer : Option Cell) → LooksOnly v w → u ≡ looked w k answer → LooksOnly v u
+one_look v w u k answer l e = subst (λ (z : View). LooksOnly v z) (sym e) (looks_on v w k answer l)
+
+pub then_looks : (u v w : View) → LooksOnly u v → LooksOnly v w → LooksOnly u w
+then_looks u v w a b = record { keeps = keeps_then u v w a.keeps b.keeps; done = b.done ∙ a.done; busy = b.busy ∙ a.busy; held = b.held ∙ a.held; stored = b.stored ∙ a.stored; filled = b.filled ∙ a.filled }
+
+-- an empty slot's position wasn't seen Done
+pub unseen_undone : (b : Batch) (v : View) (s : Slot) → v.right ≡ rights_of b → IsSlot b s → IsUnseen v (number b s) → ¬ IsDone b v s.txn
+unseen_undone b v s right is unseen = λ done.
+    let x = right_at b s is in
+    unseen.done x.0 (subst (λ (r : Rights). slice_get r.slots (number b s) ≡ Some x.0) (sym right) x.1) (subst (λ (i : ℕ). Contains v.done i) (sym x.2) done)
+
+-- ---- what is wanted
+
+pub few_reads : (b : Batch) (t : ℕ) → IsIn b t → length (reads_at b t) ≤ 16
+few_reads b t is =
+    let (x, at) = txn_there b t is in
+    let few = (formed_at (txns_of b) b.formed (position b t) x at).few_reads in
+    omega (arith, few, reads_paired b t x at)
+
+pub few_writes : (b : Batch) (t : ℕ) → IsIn b t → length (writes_at b t) ≤ 16
+few_writes b t is =
+    let (x, at) = txn_there b t is in
+    let few = (formed_at (txns_of b) b.formed (position b t) x at).few_writes in
+    omega (arith, few, writes_paired b t x at)
+
+pub reads_wanted : (b : Batch) (t : ℕ) → AreWanted b t (reads_at b t)
+reads_wanted b t = λ a in_it. Contains-append_left (reads_at b t) (if is_sure_at b t then [] else writes_at b t) a in_it
+
+pub writes_wanted : (b : Batch) (t : ℕ) → is_sure_at b t ≡ false → AreWanted b t (writes_at b t)
+writes_wanted b t unsure = λ a in_it.
+    let P : Bool → Type 0 = λ s. Contains (reads_at b t ++ (if s then [] else writes_at b t)) a in
+    subst P (sym unsure) (Contains-append_right (reads_at b t) (writes_at b t) a in_it)
+
+nothing : (a : Access) → ¬ Contains [] a
+nothing a c = let l = c.1 in absurd (omega arith)
+
+in_either : (s : Bool) (xs ys : List Access) (a : Access) → Contains (xs ++ (if s then [] else ys)) a → Contains xs a ⊎ ((s ≡ false) × Contains ys a)
+in_either true xs ys a h = ⊎_elim (λ (c : Contains xs a). inl c) (λ (c : Contains [] a). absurd (nothing a c)) (Contains-append_cases xs [] a h)
+in_either false xs ys a h = ⊎_elim (λ (c : Contains xs a). inl c) (λ (c : Contains ys a). inr (refl, c)) (Contains-append_cases xs ys a h)
+
+-- the versions of the reads are known and, unless it is sure, those of the writes
+pub knows_wanted : (b : Batch) (v : View) (t : ℕ) → KnowsAll b v (reads_at b t) → (is_sure_at b t ≡ false → KnowsAll b v (writes_at b t)) → KnowsWanted b v t
+knows_wanted b v t reads writes = λ a u in_it is. ⊎_elim
+    (λ (c : Contains (reads_at b t) a). reads a u c is)
+    (λ (c : (is_sure_at b t ≡ false) × Contains (writes_at b t) a). writes c.0 a u c.1 is)
+    (in_either (is_sure_at b t) (reads_at b t) (writes_at b t) a in_it)
+
+pub knows_later : (b : Batch) (v w : View) (accesses : List Access) → ((k : ℕ) → Knows v k → Knows w k) → KnowsAll b v accesses → KnowsAll b w accesses
+knows_later b v w accesses later all = λ a u in_it is. later (number b (slot_in u a)) (all a u in_it is)
+
+pub keys_paired : (set : DeclaredSet) (b : Batch) (t : ℕ) (x : Txn) → txn_at b t ≡ Some x → length (keys_in set x) ≡ length (accesses_in set b t)
+keys_paired Reads b t x at = reads_paired b t x at
+keys_paired Writes b t x at = writes_paired b t x at
+
+-- as many reads are declared as there are accesses, in the transaction that was lent
+pub long_reads : (b lent : Batch) (t : ℕ) (x : Txn) (keys : List (List ℕ)) → lent ≡ b → txn_at lent t ≡ Some x → keys ≡ x.reads → length (reads_at b t) ≡ length keys
+long_reads b lent t x keys same at e = sym (ap length e ∙ reads_paired b t x (subst (λ (z : Batch). txn_at z t ≡ Some x) same at))
+
+pub long_writes : (b lent : Batch) (t : ℕ) (x : Txn) (keys : List (List ℕ)) → lent ≡ b → txn_at lent t ≡ Some x → keys ≡ x.writes → length (writes_at b t) ≡ length keys
+long_writes b lent t x keys same at e = sym (ap length e ∙ writes_paired b t x (subst (λ (z : Batch). txn_at z t ≡ Some x) same at))
+
+-- whether the transaction that was lent is sure
+pub same_sure : (b lent : Batch) (t : ℕ) (x : Txn) (answer : Bool) → lent ≡ b → txn_at lent t ≡ Some x → answer ≡ is_sure x → answer ≡ is_sure_at b t
+same_sure b lent t x answer same at e = e ∙ sym (ap (λ (o : Option Txn). unwrap_or (option_map is_sure o) false) (subst (λ (z : Batch). txn_at z t ≡ Some x) same at))
+
+pub well_formed : (b : Batch) (t : ℕ) (x : Txn) → txn_at b t ≡ Some x → IsWellFormedTxn x
+well_formed b t x at = subst IsWellFormedTxn (get_or_from_slice_get (txns_of b) (position b t) x x at) (b.formed (position b t) x (slice_get_within (txns_of b) (position b t) x at))
+
+-- ---- fills
+
+pub no_fills : (v : View) → FillsOnly v v
+no_fills v = record { right = refl; done = refl; busy = refl; absent = refl; present = refl; held = refl }
+
+fills_on : (v w : View) (k : ℕ) (c : Cell) → FillsOnly v w → FillsOnly v (filled_with w k c) × ((filled_with w k c).filled ≡ w.filled ++ k ∷ [])
+fills_on v w k Absent f = (record { right = f.right; done = f.done; busy = f.busy; absent = f.absent; present = f.present; held = f.held }, refl)
+fills_on v w k (Present z) f = (record { right = f.right; done = f.done; busy = f.busy; absent = f.absent; present = f.present; held = f.held }, refl)
+
+-- one more fill
+pub one_fill : (v w u : View) (k : ℕ) (c : Cell) → FillsOnly v w → u ≡ filled_with w k c → FillsOnly v u × (u.filled ≡ w.filled ++ k ∷ [])
+one_fill v w u k c f e = subst (λ (z : View). FillsOnly v z × (z.filled ≡ w.filled ++ k ∷ [])) (sym e) (fills_on v w k c f)
+
+-- a position's known slots stay known while it is filled
+pub wanted_stays : (b : Batch) (v w : View) (t : ℕ) → w.absent ≡ v.absent → w.present ≡ v.present → KnowsWanted b v t → KnowsWanted b w t
+wanted_stays b v w t absent present knows = λ a u in_it is.
+    let P : List ℕ → Type 0 = λ xs. Contains xs (number b (slot_in u a)) in
+    subst P (λ i. sym absent i ++ sym present i) (knows a u in_it is)
+
+-- the slots of t below the j-th, and the j-th
+pub below_fill : (xs : List ℕ) (start j : ℕ) → ((k : ℕ) → Contains xs k → k < start + j) → (k : ℕ) → Contains (xs ++ (start + j) ∷ []) k → k < start + (j + 1)
+below_fill xs start j all k c = ⊎_elim (λ (h : Contains xs k). let l : k < start + j = all k h in omega arith) (λ (e : start + j ≡ k). omega arith) (Contains-push_cases xs (start + j) k c)
+
+pub all_fill : (xs : List ℕ) (start n : ℕ) → ((j : ℕ) → j < n → Contains xs (start + j)) → (j : ℕ) → j < n + 1 → Contains (xs ++ (start + n) ∷ []) (start + j)
+all_fill xs start n all j l = dite (ℕ_discrete j n)
+    (λ e. subst (λ (z : ℕ). Contains (xs ++ (start + n) ∷ []) (start + z)) (sym e) (Contains-push xs (start + n)))
+    (λ ne. Contains-append_left xs ((start + n) ∷ []) (start + j) (all j (omega arith)))

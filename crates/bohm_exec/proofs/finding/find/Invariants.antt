@@ -1,0 +1,13 @@
+use Rattle.bohm_board.specs.Passes.{IsPassOf, batch_of, view}
+use Rattle.bohm_exec.specs.Handed.{accesses_in}
+use Rattle.bohm_exec.specs.Turns.{LooksOnly}
+use Rattle.bohm_exec.proofs.Seen.{KnownBelow, FoundBelow}
+use Rattle.bohm_exec.proofs.finding.find.Given as goal
+
+abbrev pub invariant-loop-index : goal.invariant-loop-index
+invariant-loop-index l = record {
+  own : IsPassOf l.board l.pass;
+  looks : LooksOnly (view l.fn.pass) (view l.pass);
+  known : KnownBelow (batch_of l.board) (view l.pass) (accesses_in l.set (batch_of l.board) l.t) l.index;
+  found : FoundBelow (batch_of l.board) (accesses_in l.set (batch_of l.board) l.t) l.cells l.index;
+}

@@ -1,0 +1,5 @@
+use Rattle.bohm_exec.proofs.CoreInput.{sure_wants}
+use Rattle.bohm_exec.proofs.laws.sure_wants_its_reads.Goals as goal
+
+pub returns : goal.returns
+returns c = sure_wants

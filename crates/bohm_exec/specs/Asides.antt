@@ -1,0 +1,29 @@
+-- What a sweep sets aside.
+use Rattle.std.specs.Prelude.{◌≡◌, ℕ, List, [], ◌∷◌, map, Contains, ◌⊎◌}
+use Rattle.bohm_board.specs.declared.batch.Batch.{Batch}
+use Rattle.bohm_board.specs.declared.view.View.{View}
+use Rattle.bohm_board.specs.Passes.{IsDone}
+
+-- pairs of a position that was set aside and of the one that was Busy
+abbrev pub Pairs : Type 0
+Pairs = List (ℕ × ℕ)
+
+abbrev pub positions_in : Pairs → List ℕ
+positions_in pairs = map (λ p. p.0) pairs
+
+abbrev pub busy_in : Pairs → List ℕ
+busy_in pairs = map (λ p. p.1) pairs
+
+-- the pass saw the position Done, or the position stands in a pair
+abbrev pub IsAccountedFor : Batch → View → Pairs → ℕ → Type 0
+IsAccountedFor b v pairs t = IsDone b v t ⊎ Contains (positions_in pairs) t
+
+-- the first list is the second without some of its places
+abbrev pub IsPickedFrom : List ℕ → List ℕ → Type 0
+IsPickedFrom [] ys = Unit {0}
+IsPickedFrom (x ∷ xs) [] = ⊥
+IsPickedFrom (x ∷ xs) (y ∷ ys) = ((x ≡ y) × IsPickedFrom xs ys) ⊎ IsPickedFrom (x ∷ xs) ys
+
+-- one of these has the position in a pair
+abbrev pub IsSetAside : List Pairs → ℕ → Type 0
+IsSetAside asides t = (pairs : Pairs) × Contains asides pairs × Contains (positions_in pairs) t

@@ -1,0 +1,8 @@
+pub mod Asides
+pub mod Handed
+pub mod Moments
+pub mod Turns
+pub mod Answers
+pub mod Core
+pub mod CoreEvents
+pub mod CoreLaw

@@ -1,0 +1,34 @@
+//! What a sweep sets aside.
+
+ghost use Rattle.std.specs.Prelude.{◌≡◌};
+
+use std::marker::Model;
+
+/// Pairs of a position that was set aside and of the position that was busy, by their timestamps, in the
+/// order in which they were set aside. Only `sweep` makes one.
+#[derive(Drop)]
+pub struct Aside {
+    pairs: Vec<(u32, u32)>,
+}
+
+impl Model for Aside {
+    ghost use Rattle.bohm_exec.specs.Asides.{Pairs};
+
+    ghost Value = { Pairs };
+
+    ghost view = { λ a. a.pairs.items };
+}
+
+impl Aside {
+    pub(crate) fn new(pairs: Vec<(u32, u32)>) -> Aside
+        ensures { result ≡ pairs.items }
+    {
+        Aside { pairs }
+    }
+
+    pub fn pairs(&self) -> &[(u32, u32)]
+        ensures { result.now ≡ self.now }
+    {
+        self.pairs.as_slice()
+    }
+}

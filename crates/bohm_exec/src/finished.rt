@@ -1,0 +1,95 @@
+//! What a finished batch answers.
+
+ghost use Rattle.std.specs.Prelude.{◌≡◌, ◌<◌, ℕ, length};
+ghost use Rattle.bohm_board.specs.Batches.{IsIn, first_of, txns_of};
+ghost use Rattle.bohm_board.specs.Closings.{batch_of_closed, IsFinished};
+
+use bohm_board::{Batch, Closed, Slot};
+use bohm_txn::{Cell, Outcome};
+
+/// A batch whose positions have all been evaluated: what it answers is what the serial run answers. Only
+/// `complete` makes one.
+#[derive(Drop)]
+pub struct Finished<'a> {
+    closed: Closed<'a>,
+    ghost whole: { (t : ℕ) → IsIn (batch_of_closed closed) t → IsFinished closed t },
+}
+
+impl<'a> Finished<'a> {
+    ghost use Rattle.bohm_board.specs.Batches.{IsSlot, IsRightCell};
+    ghost use Rattle.bohm_exec.specs.Answers.{batch_of_finished};
+    ghost use Rattle.bohm_exec.specs.Moments.{writes_in_txn, shows_in_txn, IsSerialOutcome, IsSerialCell, IsSerialShow};
+
+    /// Of a closed board whose positions all have outcomes.
+    pub(crate) fn new(closed: Closed<'a>) -> Finished<'a>
+        requires { (t : ℕ) → IsIn (batch_of_closed closed) t → IsFinished closed t }
+        ensures { batch_of_finished result ≡ batch_of_closed closed.entry }
+    {
+        Finished { closed }
+    }
+
+    /// The timestamp of the first transaction.
+    pub fn first(&self) -> u32
+        ensures { result ≡ first_of (batch_of_finished self.now) }
+    {
+        self.closed.batch().first()
+    }
+
+    /// The number of transactions.
+    pub fn len(&self) -> u32
+        ensures { result ≡ length (txns_of (batch_of_finished self.now)) }
+    {
+        self.closed.batch().len()
+    }
+
+    pub fn batch(&self) -> &Batch<'a>
+        ensures { result.now ≡ batch_of_finished self.now }
+    {
+        self.closed.batch()
+    }
+
+    fn slot(&self, slot: Slot) -> Cell
+        requires { IsSlot (batch_of_finished self.now) slot }
+        ensures { IsRightCell (batch_of_finished self.now) slot result }
+    {
+        match self.closed.cell(slot) {
+            Some(cell) => cell,
+            None => unreachable!(),
+        }
+    }
+
+    /// How the transaction with a timestamp ends.
+    pub fn outcome(&self, t: u32) -> Outcome
+        requires { IsIn (batch_of_finished self.now) t }
+        ensures { IsSerialOutcome (batch_of_finished self.now) t result }
+    {
+        match self.closed.outcome(t) {
+            Some(outcome) => outcome,
+            None => unreachable!(),
+        }
+    }
+
+    /// What the key of the declared write of this index, counted from 0, of the transaction with a
+    /// timestamp holds after the transaction.
+    pub fn cell(&self, t: u32, index: u32) -> Cell
+        requires txn { IsIn (batch_of_finished self.now) t }
+        requires index { index < writes_in_txn (batch_of_finished self.now) t }
+        ensures { IsSerialCell (batch_of_finished self.now) t index result }
+    {
+        self.slot(Slot { txn: t, index })
+    }
+
+    /// The value of the `show` of this index, counted from 0, of the transaction with a timestamp;
+    /// absence where the transaction aborts.
+    pub fn show(&self, t: u32, index: u32) -> Cell
+        requires txn { IsIn (batch_of_finished self.now) t }
+        requires index { index < shows_in_txn (batch_of_finished self.now) t }
+        ensures { IsSerialShow (batch_of_finished self.now) t index result }
+    {
+        let writes = self.batch().txn(t).writes.as_slice().len() as u32;
+        self.slot(Slot {
+            txn: t,
+            index: writes + index,
+        })
+    }
+}

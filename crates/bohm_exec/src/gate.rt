@@ -1,0 +1,25 @@
+//! Places at which a caller may look at a run.
+
+/// How far a run is. Batches count from 1.
+#[derive(Clone, Copy, Debug, PartialEq, Eq)]
+pub enum Point {
+    /// The plan of this batch is made.
+    Planned(u32),
+    /// The position with this timestamp is claimed, and none of its slots is filled yet.
+    Claimed(u32),
+    /// The position with this timestamp has its outcome.
+    Finished(u32),
+}
+
+/// What is called at each point, from the thread that gets there. It returns.
+pub trait Gate: Sync {
+    fn at(&self, point: Point);
+}
+
+/// A gate that does nothing.
+#[derive(Clone, Copy, Debug)]
+pub struct OpenGate;
+
+impl Gate for OpenGate {
+    fn at(&self, _point: Point) {}
+}

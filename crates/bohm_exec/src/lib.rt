@@ -1,0 +1,28 @@
+//! Evaluation on demand: a pass sweeps a share of a batch's positions, and what it finds busy is set
+//! aside; once no thread steps on the board any more, the positions that are left are evaluated in log
+//! order. The design is that of BOHM: Faleiro and Abadi, "Rethinking Serializable Multiversion
+//! Concurrency Control", VLDB 2015.
+#![tactic(auto)]
+
+mod aside;
+mod claiming;
+mod completion;
+mod declared_set;
+mod evaluation;
+mod filling;
+mod finding;
+mod finished;
+mod gate;
+pub mod laws;
+mod pursuit;
+mod reading;
+mod shares;
+mod sweeping;
+mod turns;
+
+pub use aside::Aside;
+pub use completion::complete;
+pub use finished::Finished;
+pub use gate::{Gate, OpenGate, Point};
+pub use shares::share_of;
+pub use sweeping::sweep;

@@ -1,0 +1,48 @@
+//! A sweep of a share of the positions.
+
+ghost use Rattle.std.specs.Prelude.{◌≡◌, ◌++◌, All, IfOk, OnErr, map};
+ghost use Rattle.bohm_board.specs.Batches.{IsIn, Leads, position};
+ghost use Rattle.bohm_board.specs.Passes.{IsPassOf, HoldsNothing, Keeps, batch_of, view};
+ghost use Rattle.bohm_exec.specs.Asides.{IsAccountedFor, IsPickedFrom, positions_in, busy_in};
+
+use crate::aside::Aside;
+use crate::gate::Gate;
+use crate::pursuit::pursue;
+use bohm_board::{Board, Pass};
+use bohm_txn::{NoMemory, Scratch};
+use std::alloc::Global;
+
+/// Evaluates the positions of the share, in its order, each after all that it leads to, but for what
+/// other passes have: a position that leads to one of those is set aside. A refusal comes before the
+/// first step. The work stack has room for the batch, and the answer for the share.
+pub fn sweep<G: Gate>(
+    alloc: Global,
+    board: &Board,
+    pass: &mut Pass,
+    share: &[u32],
+    gate: &G,
+    scratch: &mut Scratch,
+) -> Result<Aside, NoMemory>
+    requires own { IsPassOf board.now pass.old }
+    requires free { HoldsNothing (view pass.old) }
+    requires inside { All (IsIn (batch_of board.now)) share.now }
+    ensures own { IsPassOf board.now pass.new }
+    ensures free { HoldsNothing (view pass.new) }
+    ensures refused { OnErr result (view pass.new ≡ view pass.old) }
+    ensures keeps { Keeps (view pass.old) (view pass.new) }
+    ensures each { IfOk result (λ aside. All (IsAccountedFor (batch_of board.now) (view pass.new) aside) share.now) }
+    ensures leads { IfOk result (λ aside. All (λ p. Leads (batch_of board.now) p.0 p.1) aside) }
+    ensures busy { IfOk result (λ aside. (view pass.new).busy ≡ (view pass.old).busy ++ map (position (batch_of board.now)) (busy_in aside)) }
+    ensures order { IfOk result (λ aside. IsPickedFrom (positions_in aside) share.now) }
+{
+    let mut stack = Vec::with_capacity(alloc, board.batch().len() as usize)?;
+    let mut pairs = Vec::with_capacity(alloc, share.len())?;
+    for start in share {
+        if let Some(busy) = pursue(board, pass, &mut stack, *start, gate, scratch) {
+            let Ok(()) = pairs.push((*start, busy)) else {
+                unreachable!()
+            };
+        }
+    }
+    Ok(Aside::new(pairs))
+}

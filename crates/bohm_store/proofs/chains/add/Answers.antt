@@ -1,0 +1,37 @@
+use Rattle.std.proofs.Common.{arith, ◌≡◌, ◌<◌, ◌≤◌, ◌+◌, ◌++◌, ◌∷◌, [], length, suc, subst, get_or, take, drop, drop-cons, sym, ap, ◌∙◌, add-one, is_ok, true, false, if◌then◌else◌, ◌&&◌}
+use Rattle.std.proofs.lemmas.Grind.{common_steps}
+use Rattle.bohm_store.specs.Chains.{chain, made, Climb, RisesTo}
+use Rattle.bohm_store.proofs.Grows.{added_of, rises_higher, rises_grown, grown_more}
+use Rattle.bohm_store.proofs.chains.add.Goals as goal
+
+pub returns-then-is_err-clause-chains : goal.returns-then-is_err-clause-chains
+returns-then-is_err-clause-chains c k =
+    let refused : is_ok c.push.result ≡ false = grind (arith, common_steps) in
+    c.take_back.ensures (λ k. chain c.args.chains.now k) (λ j. let n = c.push.ensures.chains j in let n' = rw refused at n in n' ∙ c.loop-i.invariant.chains j) k
+
+pub loop-i-preserved : goal.loop-i-preserved
+loop-i-preserved c =
+    let ws = c.args.writes.now in
+    let i = c.loop-i.i in
+    let w = c.index-writes-i.result in
+    let is : w ≡ get_or ws i w = c.index-writes-i.is in
+    let inside : i < length ws = omega arith in
+    let taken : is_ok c.push.result ≡ true = grind (arith, common_steps) in
+    let more = c.push.ensures.grows in
+    record {
+      chains = λ k. (let n = c.push.ensures.chains k in let n' = rw taken at n in added_of ws i w w k inside is (chain c.args.chains.now k) (chain c.loop-i.chains k) (chain c.push.new.chains k) (c.loop-i.invariant.chains k) n');
+      waits = λ h k. c.push.ensures.waiting k (c.loop-i.invariant.waits h k);
+      climbs = λ n top r h. (let m = c.loop-i.invariant.climbs n top r h in
+        let at : drop i ws ≡ w ∷ drop (i + 1) ws = rw add-one (drop-cons ws i w inside ∙ ap (λ x. x ∷ drop (suc i) ws) (sym is)) in
+        let r' : Climb m.0 (w ∷ drop (i + 1) ws) top = subst (λ xs. Climb m.0 xs top) at m.2 in
+        (w.begin, rises_grown m.0 c.loop-i.followers.items c.push.new.followers.items record { begin = w.begin; key = w.key } r'.0 m.1 more, r'.1));
+      grown = grown_more c.args.followers.now.items c.loop-i.followers.items c.push.new.followers.items record { begin = w.begin; key = w.key } c.loop-i.invariant.grown more;
+    }
+
+pub returns-clause-climbs : goal.returns-clause-climbs
+returns-clause-climbs c n top r h =
+    let ws = c.args.writes.now in
+    let m = c.loop-i.invariant.climbs n top r h in
+    let none : drop c.loop-i.i ws ≡ [] = grind (arith, common_steps) in
+    let le = rw none at m.2 in
+    rises_higher m.0 top c.loop-i.followers.items le m.1

@@ -1,0 +1,14 @@
+use Rattle.std.proofs.Common.{◌≡◌, ℕ, List, length}
+use Rattle.bohm_store.specs.Versions.{kept}
+use Rattle.bohm_store.specs.Chains.{chain, waiting, later_begins, RisesTo}
+use Rattle.bohm_store.proofs.chains.trim.Given as goal
+
+abbrev pub invariant-loop-follower : goal.invariant-loop-follower
+invariant-loop-follower l = record {
+  chains : (k : List ℕ) → kept l.floor (chain l.chains k) ≡ kept l.floor (chain l.initial.chains k);
+  waits : (k : List ℕ) → later_begins (chain l.chains k) ≡ waiting l.followers.items k;
+  climbs : (n : ℕ) → RisesTo n l.initial.followers.items → RisesTo n l.followers.items;
+}
+
+abbrev pub decreases-loop-follower : goal.decreases-loop-follower
+decreases-loop-follower l = length l.followers.items

@@ -1,0 +1,5 @@
+use Rattle.bohm_store.proofs.Newest.{kept_members}
+use Rattle.bohm_store.proofs.laws.kept_members.Goals as goal
+
+pub returns : goal.returns
+returns c = kept_members

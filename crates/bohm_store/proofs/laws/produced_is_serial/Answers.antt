@@ -1,0 +1,5 @@
+use Rattle.bohm_store.proofs.Produced.{produced_state}
+use Rattle.bohm_store.proofs.laws.produced_is_serial.Goals as goal
+
+pub returns : goal.returns
+returns c = λ n ts look txns k well low high. produced_state n ts look txns k well high low

@@ -1,0 +1,123 @@
+-- How versions lie in memory.
+use Rattle.std.specs.Prelude.{◌≡◌, ℕ, suc, ◌+◌, ℤ, ◌≤◌, ◌<◌, List, [], ◌∷◌, ◌++◌, map, Option, None, Some, if◌then◌else◌, nat_le, length, All}
+use Rattle.std.specs.Str.{bytes_eq}
+use Rattle.std.specs.HashMap.{HashMap, get}
+use Rattle.bohm_tree.specs.declared.cell.Cell.{Cell}
+use Rattle.bohm_tree.specs.declared.cell.Cell.TheVariants.{Absent, Present}
+use Rattle.bohm_tree.specs.declared.txn.Txn.{Txn}
+use Rattle.bohm_store.specs.declared.version.Version.{Version}
+use Rattle.bohm_store.specs.declared.version.Write.{Write}
+use Rattle.bohm_store.specs.declared.chain.Chain.{Chain}
+use Rattle.bohm_store.specs.declared.followers.Follower.{Follower}
+use Rattle.bohm_store.specs.Versions.{cell_at, Rises}
+
+-- ---- one key
+
+abbrev pub items : Chain → List Version
+items c = c.first ∷ c.later.items
+
+abbrev pub items_of : Option Chain → List Version
+items_of None = []
+items_of (Some c) = items c
+
+-- the versions of a key
+abbrev pub chain : {S : Type 0} → HashMap (List ℕ) Chain S → List ℕ → List Version
+chain m k = items_of (get bytes_eq m k)
+
+-- without the oldest version, where another one follows
+abbrev pub shift : List Version → List Version
+shift [] = []
+shift (v ∷ []) = v ∷ []
+shift (v ∷ w ∷ ws) = w ∷ ws
+
+-- without the newest version
+abbrev pub front : List Version → List Version
+front [] = []
+front (v ∷ []) = []
+front (v ∷ w ∷ ws) = v ∷ front (w ∷ ws)
+
+-- where the versions after the oldest one begin
+abbrev pub later_begins : List Version → List ℕ
+later_begins [] = []
+later_begins (v ∷ vs) = map (λ v. v.begin) vs
+
+abbrev pub Above : ℕ → List Version → Type 0
+Above ts vs = All (λ v. ts < v.begin) vs
+
+abbrev pub UpTo : ℕ → List Version → Type 0
+UpTo ts vs = All (λ v. v.begin ≤ ts) vs
+
+-- ---- all keys
+
+abbrev pub table : List (List ℕ × Chain) → List (List ℕ × List Version)
+table es = map (λ e. (e.0, items e.1)) es
+
+-- the one version of a key that starts with this cell
+abbrev pub started : Cell → List Version
+started Absent = []
+started (Present z) = record { begin = 0; cell = Present z } ∷ []
+
+-- the versions that these writes make of a key
+abbrev pub made : List Write → List ℕ → List Version
+made [] k = []
+made (w ∷ ws) k = (if bytes_eq w.key k then record { begin = w.begin; cell = w.cell } ∷ [] else []) ++ made ws k
+
+-- the writes begin at or above n, each at or above the one before, and none above the top
+abbrev pub Climb : ℕ → List Write → ℕ → Type 0
+Climb n [] top = n ≤ top
+Climb n (w ∷ ws) top = (n ≤ w.begin) × Climb w.begin ws top
+
+-- how many versions chains have
+abbrev pub chain_total : List Chain → ℕ
+chain_total [] = 0
+chain_total (c ∷ cs) = suc (length c.later.items) + chain_total cs
+
+-- ---- the versions that follow another one of their key
+
+-- where those of a key begin
+abbrev pub waiting : List Follower → List ℕ → List ℕ
+waiting [] k = []
+waiting (f ∷ fs) k = (if bytes_eq f.key k then f.begin ∷ [] else []) ++ waiting fs k
+
+-- each begins at or above the one before, and none above the top
+abbrev pub RisesTo : ℕ → List Follower → Type 0
+RisesTo top [] = Unit {0}
+RisesTo top (f ∷ fs) = (f.begin ≤ top) × All (λ g. f.begin ≤ g.begin) fs × RisesTo top fs
+
+-- the first is not due at the floor
+abbrev pub IsNotDue : ℕ → List Follower → Type 0
+IsNotDue floor [] = Unit {0}
+IsNotDue floor (f ∷ fs) = floor < f.begin
+
+-- ---- a history
+
+-- a key's versions rise up to the top, and each that follows another one stands in the queue
+pub record IsHistory {S : Type 0} (chains : HashMap (List ℕ) Chain S) (followers : List Follower) (floor top : ℕ) : Type 0 where
+  pub ordered : floor ≤ top
+  pub low : (k : List ℕ) → UpTo top (chain chains k)
+  pub rising : (k : List ℕ) → Rises (chain chains k)
+  pub waits : (k : List ℕ) → later_begins (chain chains k) ≡ waiting followers k
+  pub climbs : RisesTo top followers
+
+-- ---- the keys of transactions
+
+-- those that they declare, the reads of each transaction before its writes
+abbrev pub declared_in : List Txn → List (List ℕ)
+declared_in [] = []
+declared_in (t ∷ ts) = (t.reads ++ t.writes) ++ declared_in ts
+
+-- ---- a store
+
+abbrev pub pick : List ℕ → Cell → List (List ℕ × ℤ) → List (List ℕ × ℤ)
+pick k Absent rest = rest
+pick k (Present z) rest = (k, z) ∷ rest
+
+-- the keys that have a value at a time, with it
+abbrev pub picks : ℕ → List (List ℕ × Chain) → List (List ℕ × ℤ)
+picks ts [] = []
+picks ts (e ∷ es) = pick e.0 (cell_at ts (items e.1) Absent) (picks ts es)
+
+-- the same of a history as it is seen
+abbrev pub held : ℕ → List (List ℕ × List Version) → List (List ℕ × ℤ)
+held ts [] = []
+held ts (e ∷ es) = pick e.0 (cell_at ts e.1 Absent) (held ts es)

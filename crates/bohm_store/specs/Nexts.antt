@@ -1,0 +1,33 @@
+-- The batch that follows what a history has.
+use Rattle.std.specs.Prelude.{◌≡◌, ℕ, ◌+◌, ◌-◌, ◌≤◌, ◌++◌, List, length, true}
+use Rattle.std.specs.List.{list_any}
+use Rattle.bohm_tree.specs.declared.txn.Txn.{Txn}
+use Rattle.bohm_txn.specs.Meaning.{Look}
+use Rattle.bohm_txn.specs.Serial.{state}
+use Rattle.bohm_board.specs.declared.batch.Batch.{Batch}
+use Rattle.bohm_board.specs.Bases.{declares}
+use Rattle.bohm_board.specs.Batches.{first_of, txns_of, base_of}
+use Rattle.bohm_store.specs.Versions.{Timeline, past, produced, versions}
+
+-- two looks have the same for each key that the transactions declare
+abbrev pub Agree : List Txn → Look → Look → Type 0
+Agree txns look other = (k : List ℕ) → list_any (declares k) txns ≡ true → look k ≡ other k
+
+-- the batch starts behind the top, and its base is what its keys hold there
+pub record IsNext (t : Timeline) (b : Batch) : Type 0 where
+  pub first : first_of b ≡ t.top + 1
+  pub base : Agree (txns_of b) (base_of b) (past t t.top)
+
+-- nothing that is seen of a history has changed
+pub record IsSame (was now : Timeline) : Type 0 where
+  pub floor : now.floor ≡ was.floor
+  pub top : now.top ≡ was.top
+  pub versions : (k : List ℕ) → versions now k ≡ versions was k
+
+-- each declared write of the transactions behind the top has its version, and the past goes on with their serial run
+pub record IsSettled (was now : Timeline) (txns : List Txn) : Type 0 where
+  pub floor : now.floor ≡ was.floor
+  pub top : now.top ≡ was.top + length txns
+  pub versions : (k : List ℕ) → versions now k ≡ versions was k ++ produced (was.top + 1) (past was was.top) txns k
+  pub earlier : (ts : ℕ) → ts ≤ was.top → past now ts ≡ past was ts
+  pub later : (ts : ℕ) → was.top ≤ ts → ts ≤ now.top → past now ts ≡ state (past was was.top) txns (ts - was.top)

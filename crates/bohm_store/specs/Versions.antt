@@ -1,0 +1,77 @@
+-- The versions of each key, and the stores of the past that they say.
+use Rattle.std.specs.Prelude.{◌≡◌, ℕ, suc, ◌+◌, ℤ, ◌≤◌, ◌<◌, ◌⊎◌, Bool, List, [], ◌∷◌, ◌++◌, map, Contains, All, if◌then◌else◌, nat_le, length, unwrap_or}
+use Rattle.std.specs.Str.{bytes_eq}
+use Rattle.std.specs.Map.{lookup}
+use Rattle.bohm_tree.specs.declared.cell.Cell.{Cell}
+use Rattle.bohm_tree.specs.declared.cell.Cell.TheVariants.{Absent, Present}
+use Rattle.bohm_tree.specs.declared.txn.Txn.{Txn}
+use Rattle.bohm_txn.specs.Faulty.{is_among}
+use Rattle.bohm_txn.specs.Meaning.{Look}
+use Rattle.bohm_txn.specs.Serial.{after}
+use Rattle.bohm_store.specs.declared.version.Version.{Version}
+
+-- ---- the versions of one key, oldest first
+
+-- each begins above the one before
+abbrev pub Rises : List Version → Type 0
+Rises [] = Unit {0}
+Rises (v ∷ vs) = All (λ w. v.begin < w.begin) vs × Rises vs
+
+-- of the versions that begin at or below ts it begins last
+pub record IsNewestAt (ts : ℕ) (vs : List Version) (v : Version) : Type 0 where
+  pub there : Contains vs v
+  pub low : v.begin ≤ ts
+  pub newest : All (λ w. w.begin ≤ ts → w.begin ≤ v.begin) vs
+
+-- the cell is that of the version with the greatest begin at or below ts, or it is absent and there is none
+abbrev pub IsCellAt : ℕ → List Version → Cell → Type 0
+IsCellAt ts vs c = ((v : Version) × IsNewestAt ts vs v × (v.cell ≡ c)) ⊎ (All (λ v. ts < v.begin) vs × (c ≡ Absent))
+
+-- the cell of the last one that begins at or below ts, or the cell before all of them
+abbrev pub cell_at : ℕ → List Version → Cell → Cell
+cell_at ts [] before = before
+cell_at ts (v ∷ vs) before = cell_at ts vs (if nat_le v.begin ts then v.cell else before)
+
+-- the version stays: it begins above the floor, or is the newest one at or below it
+abbrev pub IsKept : ℕ → List Version → Version → Type 0
+IsKept floor vs v = (Contains vs v × (floor < v.begin)) ⊎ IsNewestAt floor vs v
+
+-- those that stay, of versions that rise
+abbrev pub kept : ℕ → List Version → List Version
+kept floor [] = []
+kept floor (v ∷ []) = v ∷ []
+kept floor (v ∷ w ∷ ws) = if nat_le w.begin floor then kept floor (w ∷ ws) else (v ∷ w ∷ ws)
+
+-- ---- the versions of all keys
+
+-- what a history is seen as: a floor, a top, and by key its versions
+pub record Timeline : Type 0 where
+  pub floor : ℕ
+  pub top : ℕ
+  pub chains : List (List ℕ × List Version)
+
+-- the versions of a key in a list by key
+abbrev pub versions_in : List (List ℕ × List Version) → List ℕ → List Version
+versions_in chains k = unwrap_or (lookup (bytes_eq k) chains) []
+
+abbrev pub versions : Timeline → List ℕ → List Version
+versions t k = versions_in t.chains k
+
+-- Past(ts): what each key holds after the transaction at ts
+abbrev pub past : Timeline → ℕ → Look
+past t ts = λ k. cell_at ts (versions t k) Absent
+
+-- how many versions there are
+abbrev pub total : List (List ℕ × List Version) → ℕ
+total [] = 0
+total (e ∷ es) = length e.1 + total es
+
+-- the versions that a starting store gives a key
+abbrev pub given : List (List ℕ × ℤ) → List ℕ → List Version
+given [] k = []
+given (p ∷ ps) k = if bytes_eq p.0 k then record { begin = 0; cell = Present p.1 } ∷ [] else given ps k
+
+-- the versions that transactions give a key, the first of which is at u and sees this look: one for each that declares to write it, aborted ones included
+abbrev pub produced : ℕ → Look → List Txn → List ℕ → List Version
+produced u look [] k = []
+produced u look (t ∷ ts) k = (if is_among t.writes k then record { begin = u; cell = after look t k } ∷ [] else []) ++ produced (u + 1) (after look t) ts k

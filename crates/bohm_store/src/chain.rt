@@ -1,0 +1,84 @@
+//! The versions of one key.
+
+ghost use Rattle.std.specs.Prelude.{◌≡◌, [], ◌∷◌, ◌++◌, false, is_ok, if◌then◌else◌};
+ghost use Rattle.bohm_tree.specs.declared.cell.Cell.TheVariants.{Absent};
+ghost use Rattle.bohm_store.specs.Chains.{items, shift, front};
+ghost use Rattle.bohm_store.specs.Versions.{cell_at};
+
+use crate::followers::Follower;
+use crate::version::Version;
+use bohm_txn::{Cell, Key, NoMemory};
+use std::alloc::Global;
+use std::collections::VecDeque;
+
+/// The versions of one key, rising. It is never empty, and takes no memory of its own for the oldest.
+#[derive(Drop)]
+pub struct Chain {
+    pub first: Version,
+    pub later: VecDeque<Version>,
+}
+
+impl Chain {
+    pub fn new(alloc: Global, first: Version) -> Chain
+        ensures { items result ≡ first ∷ [] }
+    {
+        Chain {
+            first,
+            later: VecDeque::new(alloc),
+        }
+    }
+
+    /// The cell of the newest version that begins at or below a timestamp, or absence. Its time grows
+    /// with how many versions are newer.
+    pub fn cell_at(&self, ts: u32) -> Cell
+        ensures { result ≡ cell_at ts (items self.now) Absent }
+    {
+        let mut i = self.later.len();
+        while i > 0 {
+            i -= 1;
+            let version = self.later[i];
+            if version.begin <= ts {
+                return version.cell;
+            }
+        }
+        if self.first.begin <= ts {
+            self.first.cell
+        } else {
+            Cell::Absent
+        }
+    }
+
+    /// Adds a version, and that it follows another one.
+    pub fn extend(
+        &mut self,
+        followers: &mut VecDeque<Follower>,
+        key: Key,
+        begin: u32,
+        cell: Cell,
+    ) -> Result<(), NoMemory>
+        ensures items { items self.new ≡ (if is_ok result then items self.old ++ record { begin = begin; cell = cell } ∷ [] else items self.old) }
+        ensures followers { followers.new.items ≡ (if is_ok result then followers.old.items ++ record { begin = begin; key = key } ∷ [] else followers.old.items) }
+    {
+        self.later.reserve(1)?;
+        followers.push_back(Follower { begin, key })?;
+        self.later.push_back_reserved(Version { begin, cell });
+        Ok(())
+    }
+
+    /// Lets the oldest version go, where another one follows.
+    pub fn drop_oldest(&mut self)
+        ensures { items self.new ≡ shift (items self.old) }
+    {
+        if let Some(next) = self.later.pop_front() {
+            self.first = next;
+        }
+    }
+
+    /// Lets the newest version go, where it isn't the only one, and answers whether it went.
+    pub fn drop_newest(&mut self) -> bool
+        ensures items { items self.new ≡ (if result then front (items self.old) else items self.old) }
+        ensures only { result ≡ false → front (items self.old) ≡ [] }
+    {
+        self.later.pop_back().is_some()
+    }
+}

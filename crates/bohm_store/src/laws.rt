@@ -1,0 +1,35 @@
+//! Laws over the definitions alone. No running call uses them.
+
+ghost use Rattle.std.specs.Prelude.{◌≡◌, ◌+◌, ◌-◌, ◌≤◌, ◌↔◌, ℕ, List, All, Contains, length};
+ghost use Rattle.std.specs.List.{IsDistinct};
+ghost use Rattle.std.specs.Map.{keys_of};
+ghost use Rattle.std.specs.Str.{bytes_eq};
+ghost use Rattle.bohm_tree.specs.declared.cell.Cell.TheVariants.{Absent};
+ghost use Rattle.bohm_tree.specs.declared.txn.Txn.{Txn};
+ghost use Rattle.bohm_txn.specs.Faulty.{IsWellFormedTxn};
+ghost use Rattle.bohm_txn.specs.Meaning.{Look};
+ghost use Rattle.bohm_txn.specs.Serial.{state};
+ghost use Rattle.bohm_store.specs.declared.version.Version.{Version};
+ghost use Rattle.bohm_store.specs.Versions.{IsCellAt, IsKept, Rises, Timeline, cell_at, kept, produced, total, versions};
+
+/// Of versions that rise, the cell at a timestamp is that of the one with the greatest begin at or below
+/// it.
+pub fn cell_of_the_newest()
+    ensures { (ts : ℕ) (vs : List Version) → Rises vs → IsCellAt ts vs (cell_at ts vs Absent) }
+{}
+
+/// Of versions that rise, there are kept those that begin above the floor, and the newest one at or
+/// below it.
+pub fn kept_members()
+    ensures { (floor : ℕ) (vs : List Version) (v : Version) → Rises vs → Contains (kept floor vs) v ↔ IsKept floor vs v }
+{}
+
+/// The versions that transactions behind n produce say of each timestamp what their serial run leaves.
+pub fn produced_is_serial()
+    ensures { (n ts : ℕ) (look : Look) (txns : List Txn) (k : List ℕ) → All IsWellFormedTxn txns → n ≤ ts → ts ≤ n + length txns → cell_at ts (produced (n + 1) look txns k) (look k) ≡ state look txns (ts - n) k }
+{}
+
+/// Two histories in which each key has the same versions have as many versions.
+pub fn same_versions_same_count()
+    ensures { (t r : Timeline) → IsDistinct bytes_eq (keys_of t.chains) → IsDistinct bytes_eq (keys_of r.chains) → ((k : List ℕ) → versions t k ≡ versions r k) → total t.chains ≡ total r.chains }
+{}

@@ -1,0 +1,17 @@
+//! The versions of each key, and the stores of the past that they say.
+#![tactic(auto)]
+
+mod base;
+mod chain;
+mod chains;
+mod fault;
+mod followers;
+mod history;
+pub mod laws;
+mod listing;
+mod settling;
+mod version;
+
+pub use fault::{PastFault, StoreFault};
+pub use history::History;
+

@@ -1,0 +1,58 @@
+//! What all keys hold, and how many versions there are.
+
+ghost use Rattle.std.specs.Prelude.{◌≡◌, ◌++◌, [], IfOk, OnOk, min};
+ghost use Rattle.std.specs.HashMap.{values, IsUnique};
+ghost use Rattle.std.specs.Str.{bytes_eq};
+ghost use Rattle.bohm_tree.specs.declared.cell.Cell.TheVariants.{Absent};
+ghost use Rattle.bohm_store.specs.Versions.{cell_at};
+ghost use Rattle.bohm_store.specs.Chains.{chain_total, items, pick, picks};
+
+use crate::chain::Chain;
+use bohm_txn::{Cell, Key, NoMemory, Value};
+use std::alloc::Global;
+use std::collections::HashMap;
+
+// Lists a key with its value at a timestamp, where it has one.
+fn list_one(
+    out: &mut Vec<(Key, Value)>,
+    key: &Key,
+    chain: &Chain,
+    ts: u32,
+) -> Result<(), NoMemory>
+    ensures { OnOk result (out.new.items ≡ out.old.items ++ pick key.now (cell_at ts (items chain.now) Absent) []) }
+{
+    if let Cell::Present(value) = chain.cell_at(ts) {
+        out.push((*key, value))?;
+    }
+    Ok(())
+}
+
+/// The keys that have a value at a timestamp, with it, in the map's order.
+pub fn present(
+    chains: &HashMap<Key, Chain>,
+    alloc: Global,
+    ts: u32,
+) -> Result<Vec<(Key, Value)>, NoMemory>
+    ensures picks { IfOk result (λ v. v.items ≡ picks ts chains.now.entries) }
+    ensures unique { IsUnique bytes_eq chains.now }
+{
+    let mut out = Vec::with_capacity(alloc, chains.len())?;
+    for (key, chain) in chains {
+        list_one(&mut out, key, chain, ts)?;
+    }
+    Ok(out)
+}
+
+/// The number of versions, or the greatest number where there are more.
+pub fn count(chains: &HashMap<Key, Chain>) -> u64
+    ensures count { result ≡ min (chain_total (values chains.now)) 18446744073709551615 }
+    ensures unique { IsUnique bytes_eq chains.now }
+{
+    let mut count = 0u64;
+    for chain in chains.values() {
+        count = count
+            .saturating_add(1)
+            .saturating_add(chain.later.len() as u64);
+    }
+    count
+}

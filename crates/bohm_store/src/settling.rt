@@ -1,0 +1,48 @@
+//! The writes of a finished batch.
+
+ghost use Rattle.std.specs.Prelude.{◌≡◌, ◌<◌, ◌≤◌, ◌+◌, ◌++◌, ◌^◌, ℕ, List, Some, length, IfOk, OnOk};
+ghost use Rattle.bohm_board.specs.Batches.{IsIn, base_of, first_of, txn_at, txns_of};
+ghost use Rattle.bohm_exec.specs.Answers.{batch_of_finished};
+ghost use Rattle.bohm_exec.specs.Moments.{state_after};
+ghost use Rattle.bohm_store.specs.Written.{IsTxnWriting, written, written_all};
+
+use crate::version::Write;
+use bohm_exec::Finished;
+use bohm_txn::{Key, NoMemory};
+use std::alloc::Global;
+
+// Lists the writes of one transaction.
+fn list_writes(
+    out: &mut Vec<Write>,
+    finished: &Finished<'_>,
+    t: u32,
+    keys: &[Key],
+) -> Result<(), NoMemory>
+    requires txn { IsIn (batch_of_finished finished.now) t }
+    requires keys { IsTxnWriting (batch_of_finished finished.now) t keys.now }
+    ensures { OnOk result (out.new.items ≡ out.old.items ++ written t (state_after (batch_of_finished finished.now) t) keys.now) }
+{
+    for i in 0..keys.len() {
+        let cell = finished.cell(t, i as u32);
+        out.push(Write {
+            begin: t,
+            key: keys[i],
+            cell,
+        })?;
+    }
+    Ok(())
+}
+
+/// The writes of all transactions, in log order.
+pub fn writes_of(alloc: Global, finished: &Finished<'_>) -> Result<Vec<Write>, NoMemory>
+    ensures { IfOk result (λ v. v.items ≡ written_all (first_of (batch_of_finished finished.now)) (base_of (batch_of_finished finished.now)) (txns_of (batch_of_finished finished.now))) }
+{
+    let mut out = Vec::new(alloc);
+    let first = finished.first();
+    for place in 0..finished.len() {
+        let t = first + place;
+        let txn = finished.batch().txn(t);
+        list_writes(&mut out, finished, t, txn.writes.as_slice())?;
+    }
+    Ok(out)
+}
