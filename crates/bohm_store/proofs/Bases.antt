@@ -43,8 +43,8 @@ same_tests false false f g = refl
 -- sorting and leaving out what stands there twice keep the same keys
 pub sorted_among : (xs ys : List (List ℕ)) (k : List ℕ) → IsPermutation xs ys → is_among (dedup bytes_eq ys) k ≡ is_among xs k
 sorted_among xs ys k p = same_tests (is_among (dedup bytes_eq ys) k) (is_among xs k)
-  (λ h. contains_among xs k (Contains-permutation ys xs k (IsPermutation-sym xs ys p) (Contains-from_dedup bytes_eq ys k (among_contains (dedup bytes_eq ys) k h))))
-  (λ h. contains_among (dedup bytes_eq ys) k (Contains-dedup nat_list_eq_equiv (λ x y e. (bytes_eq-Decides x y).0 e) ys k (Contains-permutation xs ys k p (among_contains xs k h))))
+    (λ h. contains_among xs k (Contains-permutation ys xs k (IsPermutation-sym xs ys p) (Contains-from_dedup bytes_eq ys k (among_contains (dedup bytes_eq ys) k h))))
+    (λ h. contains_among (dedup bytes_eq ys) k (Contains-dedup nat_list_eq_equiv (λ x y e. (bytes_eq-Decides x y).0 e) ys k (Contains-permutation xs ys k p (among_contains xs k h))))
 
 pub declared_any : (txns : List Txn) (k : List ℕ) → is_among (declared_in txns) k ≡ list_any (declares k) txns
 declared_any [] k = refl

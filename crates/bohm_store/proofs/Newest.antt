@@ -53,15 +53,15 @@ found_by : (ts : ℕ) (v : Version) (vs : List Version) (before : Cell) (b : Boo
 found_by ts v vs before true e above more =
     let low : v.begin ≤ ts = grind (arith, nat_tests) in
     rw e (⊎_elim
-      (λ (w, n, is). inl (w, newest_behind ts v w vs above n, is))
-      (λ (past, is). inl (v, newest_first ts v vs low past, sym is))
-      (more v.cell))
+    (λ (w, n, is). inl (w, newest_behind ts v w vs above n, is))
+    (λ (past, is). inl (v, newest_first ts v vs low past, sym is))
+    (more v.cell))
 found_by ts v vs before false e above more =
     let past : ts < v.begin = grind (arith, nat_tests) in
     rw e (⊎_elim
-      (λ (w, n, is). inl (w, newest_behind ts v w vs above n, is))
-      (λ (later, is). inr (All-cons (λ x. ts < x.begin) v vs past later, is))
-      (more before))
+    (λ (w, n, is). inl (w, newest_behind ts v w vs above n, is))
+    (λ (later, is). inr (All-cons (λ x. ts < x.begin) v vs past later, is))
+    (more before))
 
 found : (ts : ℕ) (vs : List Version) (before : Cell) → Rises vs → Found ts vs (cell_at ts vs before) before
 found ts [] before r = inr (All-nil (λ x. ts < x.begin), refl)
@@ -95,15 +95,15 @@ to_by : (floor : ℕ) (v w x : Version) (ws : List Version) (b : Bool) → nat_l
 to_by floor v w x ws true e lt (inl (there, above)) more =
     let low : w.begin ≤ floor = grind (arith, nat_tests) in
     rw e (⊎_elim
-      (λ (same : v ≡ x). let here : floor < v.begin = subst (λ y. floor < y.begin) (sym same) above in absurd (omega arith))
-      (λ there. more (inl (there, above)))
-      (contains_cases v x (w ∷ ws) there))
+    (λ (same : v ≡ x). let here : floor < v.begin = subst (λ y. floor < y.begin) (sym same) above in absurd (omega arith))
+    (λ there. more (inl (there, above)))
+    (contains_cases v x (w ∷ ws) there))
 to_by floor v w x ws true e lt (inr n) more =
     let low : w.begin ≤ floor = grind (arith, nat_tests) in
     rw e (⊎_elim
-      (λ (same : v ≡ x). let under : w.begin ≤ x.begin = All-head (λ y. y.begin ≤ floor → y.begin ≤ x.begin) w ws (All-tail (λ y. y.begin ≤ floor → y.begin ≤ x.begin) v (w ∷ ws) n.newest) low in let here : w.begin ≤ v.begin = subst (λ y. w.begin ≤ y.begin) (sym same) under in absurd (omega arith))
-      (λ there. more (inr (record { there = there; low = n.low; newest = All-tail (λ y. y.begin ≤ floor → y.begin ≤ x.begin) v (w ∷ ws) n.newest })))
-      (contains_cases v x (w ∷ ws) n.there))
+    (λ (same : v ≡ x). let under : w.begin ≤ x.begin = All-head (λ y. y.begin ≤ floor → y.begin ≤ x.begin) w ws (All-tail (λ y. y.begin ≤ floor → y.begin ≤ x.begin) v (w ∷ ws) n.newest) low in let here : w.begin ≤ v.begin = subst (λ y. w.begin ≤ y.begin) (sym same) under in absurd (omega arith))
+    (λ there. more (inr (record { there = there; low = n.low; newest = All-tail (λ y. y.begin ≤ floor → y.begin ≤ x.begin) v (w ∷ ws) n.newest })))
+    (contains_cases v x (w ∷ ws) n.there))
 to_by floor v w x ws false e lt (inl (there, above)) more = rw e there
 to_by floor v w x ws false e lt (inr n) more = rw e n.there
 
@@ -131,16 +131,16 @@ from_by floor v w x ws false e r m more =
     let past : floor < w.begin = grind (arith, nat_tests) in
     let above = all_above floor w ws past r.1 in
     ⊎_elim
-      (λ (same : v ≡ x). subst (λ y. IsKept floor (v ∷ w ∷ ws) y) same (kept_first floor v (w ∷ ws) above))
-      (λ (there : Contains (w ∷ ws) x). inl (contains_tail v x (w ∷ ws) there, all_contains (λ y. floor < y.begin) (w ∷ ws) x above there))
-      (contains_cases v x (w ∷ ws) (rw e at m))
+    (λ (same : v ≡ x). subst (λ y. IsKept floor (v ∷ w ∷ ws) y) same (kept_first floor v (w ∷ ws) above))
+    (λ (there : Contains (w ∷ ws) x). inl (contains_tail v x (w ∷ ws) there, all_contains (λ y. floor < y.begin) (w ∷ ws) x above there))
+    (contains_cases v x (w ∷ ws) (rw e at m))
 
 from : (floor : ℕ) (vs : List Version) (x : Version) → Rises vs → Contains (kept floor vs) x → IsKept floor vs x
 from floor [] x r (k, lt, e) = absurd (omega arith)
 from floor (v ∷ []) x r m = ⊎_elim
-  (λ (same : v ≡ x). subst (λ y. IsKept floor (v ∷ []) y) same (kept_first floor v [] (All-nil (λ y. floor < y.begin))))
-  (λ (there : Contains [] x). absurd (let lt = there.1 in omega arith))
-  (contains_cases v x [] m)
+    (λ (same : v ≡ x). subst (λ y. IsKept floor (v ∷ []) y) same (kept_first floor v [] (All-nil (λ y. floor < y.begin))))
+    (λ (there : Contains [] x). absurd (let lt = there.1 in omega arith))
+    (contains_cases v x [] m)
 from floor (v ∷ w ∷ ws) x r m = from_by floor v w x ws (nat_le w.begin floor) refl r m (from floor (w ∷ ws) x r.1)
 
 pub kept_members : (floor : ℕ) (vs : List Version) (x : Version) → Rises vs → Contains (kept floor vs) x ↔ IsKept floor vs x

@@ -69,7 +69,7 @@ unwritten look t k well none = kept look t k (usable t well) (λ among. clash (s
 pub produced_state : (n ts : ℕ) (look : Look) (txns : List Txn) (k : List ℕ) → All IsWellFormedTxn txns → ts ≤ n + length txns → n ≤ ts → cell_at ts (produced (n + 1) look txns k) (look k) ≡ state look txns (ts - n) k
 produced_state n ts look [] k well high low = let none : ts - n ≡ 0 = omega arith in rw none refl
 produced_state n ts look (t ∷ txns) k well high low = ⊎_elim
-  (λ (lt : n < ts).
+    (λ (lt : n < ts).
     let next : ts - n ≡ suc (ts - (n + 1)) = omega arith in
     let head = one (is_among t.writes k) (n + 1) (after look t k) in
     let rest = produced (n + 1 + 1) (after look t) txns k in
@@ -77,10 +77,10 @@ produced_state n ts look (t ∷ txns) k well high low = ⊎_elim
     ∙ ap (cell_at ts rest) (one_by (n + 1) ts (is_among t.writes k) (after look t k) (look k) (omega arith) (unwritten look t k (All-head IsWellFormedTxn t txns well)))
     ∙ produced_state (n + 1) ts (after look t) txns k (All-tail IsWellFormedTxn t txns well) (omega arith) (omega arith)
     ∙ rw next refl)
-  (λ (le : ts ≤ n).
+    (λ (le : ts ≤ n).
     let none : ts - n ≡ 0 = omega arith in
     cell_at-above ts (produced (n + 1) look (t ∷ txns) k) (look k) (produced_from ts (n + 1) look (t ∷ txns) k (omega arith)) ∙ rw none refl)
-  (cases_lt n ts)
+    (cases_lt n ts)
 
 -- ---- what keys that no transaction declares hold doesn't matter
 
@@ -107,5 +107,5 @@ produced_same u look other [] k well same = refl
 produced_same u look other (t ∷ txns) k well same =
     let next = agree_after look other t txns (All-head IsWellFormedTxn t txns well) same in
     both (one (is_among t.writes k) u (after look t k)) (produced (u + 1) (after look t) txns k) (one (is_among t.writes k) u (after other t k)) (produced (u + 1) (after other t) txns k)
-      (one_same (is_among t.writes k) u (after look t k) (after other t k) (λ among. next k (or_left (declares k t) (list_any (declares k) txns) (or_right (is_among t.reads k) (is_among t.writes k) among))))
-      (produced_same (u + 1) (after look t) (after other t) txns k (All-tail IsWellFormedTxn t txns well) (λ j declared. next j (or_right (declares j t) (list_any (declares j) txns) declared)))
+    (one_same (is_among t.writes k) u (after look t k) (after other t k) (λ among. next k (or_left (declares k t) (list_any (declares k) txns) (or_right (is_among t.reads k) (is_among t.writes k) among))))
+    (produced_same (u + 1) (after look t) (after other t) txns k (All-tail IsWellFormedTxn t txns well) (λ j declared. next j (or_right (declares j t) (list_any (declares j) txns) declared)))

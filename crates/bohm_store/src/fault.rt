@@ -1,7 +1,7 @@
 //! Why there is no answer about the past.
 
-use std::alloc::AllocError;
 use bohm_txn::NoMemory;
+use std::alloc::AllocError;
 
 /// Why a timestamp has no cell.
 #[derive(Clone, Copy, Debug, PartialEq, Eq)]

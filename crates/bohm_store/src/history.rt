@@ -140,7 +140,12 @@ impl History {
     /// The batch of these transactions that starts behind the top, with what their keys hold there. The
     /// plan is given up on a refusal. The time grows with the number n of keys that the transactions
     /// declare as n log n.
-    pub fn batch<'a>(&self, alloc: Global, txns: &'a [Txn], plan: Plan) -> Result<Batch<'a>, NoMemory>
+    pub fn batch<'a>(
+        &self,
+        alloc: Global,
+        txns: &'a [Txn],
+        plan: Plan,
+    ) -> Result<Batch<'a>, NoMemory>
         requires some { 0 < length txns.now }
         requires few { length txns.now ≤ 4096 }
         requires timestamps { self.now.top + 1 + length txns.now ≤ 2 ^ 32 }

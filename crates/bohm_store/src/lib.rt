@@ -14,4 +14,3 @@ mod version;
 
 pub use fault::{PastFault, StoreFault};
 pub use history::History;
-

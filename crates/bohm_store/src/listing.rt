@@ -13,12 +13,7 @@ use std::alloc::Global;
 use std::collections::HashMap;
 
 // Lists a key with its value at a timestamp, where it has one.
-fn list_one(
-    out: &mut Vec<(Key, Value)>,
-    key: &Key,
-    chain: &Chain,
-    ts: u32,
-) -> Result<(), NoMemory>
+fn list_one(out: &mut Vec<(Key, Value)>, key: &Key, chain: &Chain, ts: u32) -> Result<(), NoMemory>
     ensures { OnOk result (out.new.items ≡ out.old.items ++ pick key.now (cell_at ts (items chain.now) Absent) []) }
 {
     if let Cell::Present(value) = chain.cell_at(ts) {

@@ -22,9 +22,9 @@ loop-i-preserved c =
       chains = λ k. (let n = c.push.ensures.chains k in let n' = rw taken at n in added_of ws i w w k inside is (chain c.args.chains.now k) (chain c.loop-i.chains k) (chain c.push.new.chains k) (c.loop-i.invariant.chains k) n');
       waits = λ h k. c.push.ensures.waiting k (c.loop-i.invariant.waits h k);
       climbs = λ n top r h. (let m = c.loop-i.invariant.climbs n top r h in
-        let at : drop i ws ≡ w ∷ drop (i + 1) ws = rw add-one (drop-cons ws i w inside ∙ ap (λ x. x ∷ drop (suc i) ws) (sym is)) in
-        let r' : Climb m.0 (w ∷ drop (i + 1) ws) top = subst (λ xs. Climb m.0 xs top) at m.2 in
-        (w.begin, rises_grown m.0 c.loop-i.followers.items c.push.new.followers.items record { begin = w.begin; key = w.key } r'.0 m.1 more, r'.1));
+          let at : drop i ws ≡ w ∷ drop (i + 1) ws = rw add-one (drop-cons ws i w inside ∙ ap (λ x. x ∷ drop (suc i) ws) (sym is)) in
+          let r' : Climb m.0 (w ∷ drop (i + 1) ws) top = subst (λ xs. Climb m.0 xs top) at m.2 in
+          (w.begin, rises_grown m.0 c.loop-i.followers.items c.push.new.followers.items record { begin = w.begin; key = w.key } r'.0 m.1 more, r'.1));
       grown = grown_more c.args.followers.now.items c.loop-i.followers.items c.push.new.followers.items record { begin = w.begin; key = w.key } c.loop-i.invariant.grown more;
     }
 

@@ -34,7 +34,7 @@ loop-place-preserved c =
     let here : slice_get txns i ≡ Some txn = subst (λ (n : ℕ). slice_get txns n ≡ Some txn) place there in
     let number : t ≡ first_of batch + i = ap (λ (n : ℕ). n + i) c.first-first.ensures in
     let listed : c.list_writes.new.out.items ≡ c.loop-place.out.items ++ written (first_of batch + i) (state (base_of batch) txns (i + 1)) txn.writes =
-      c.in_ok-list_writes.ensures
-      ∙ rw (c.as_slice.ensures) (ap (λ (n : ℕ). c.loop-place.out.items ++ written t (state (base_of batch) txns (n + 1)) txn.writes) place)
-      ∙ ap (λ (n : ℕ). c.loop-place.out.items ++ written n (state (base_of batch) txns (i + 1)) txn.writes) number in
+    c.in_ok-list_writes.ensures
+    ∙ rw (c.as_slice.ensures) (ap (λ (n : ℕ). c.loop-place.out.items ++ written t (state (base_of batch) txns (n + 1)) txn.writes) place)
+    ∙ ap (λ (n : ℕ). c.loop-place.out.items ++ written n (state (base_of batch) txns (i + 1)) txn.writes) number in
     rw listed (written_step (base_of batch) txns (first_of batch) i txn c.loop-place.out.items (written_all (first_of batch) (base_of batch) txns) here c.loop-place.invariant)

@@ -31,4 +31,4 @@ returns-in-Ok-clause-entries c =
     let is = c.in-Ok.ensures.picks ∙ picks_table c.args.ts c.self.inside.chains.entries in
     let moved : IsPermutation (held c.args.ts es) items = subst (λ (xs : List (List ℕ × ℤ)). IsPermutation xs items) is c.sort_unstable_by.ensures.permutation in
     entries_listed (held c.args.ts es) items moved (distinct_held c.args.ts es unique)
-      (c.sort_unstable_by.ensures.sorted (λ x y. is_lt (slice_cmp nat_cmp x.0 y.0)) (ranks_by nat_list_cmp_total (λ e. e.0)) (answers_always _ (λ a r. is_lt r ≡ is_lt (slice_cmp nat_cmp a.0.now.0 a.1.0.now.0)) _ (λ f a r g q. search rules)))
+    (c.sort_unstable_by.ensures.sorted (λ x y. is_lt (slice_cmp nat_cmp x.0 y.0)) (ranks_by nat_list_cmp_total (λ e. e.0)) (answers_always _ (λ a r. is_lt r ≡ is_lt (slice_cmp nat_cmp a.0.now.0 a.1.0.now.0)) _ (λ f a r g q. search rules)))

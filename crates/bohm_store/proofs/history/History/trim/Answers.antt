@@ -35,5 +35,5 @@ returns-clause-kept c =
 pub returns-clause-past : goal.returns-clause-past
 returns-clause-past c =
     rw (← c.self.view_is) (λ ts le. (let same : (k : List ℕ) → _ = λ k. (ap (λ vs. cell_at ts vs Absent) (lookup_table (bytes_eq k) c.trim.new.chains.entries ∙ c.trim.ensures.chains k)
-      ∙ cell_at-kept c.args.floor ts (chain c.self.inside.chains k) Absent le
-      ∙ ap (λ vs. cell_at ts vs Absent) (sym (lookup_table (bytes_eq k) c.self.inside.chains.entries))) in λ i k. same k i))
+    ∙ cell_at-kept c.args.floor ts (chain c.self.inside.chains k) Absent le
+    ∙ ap (λ vs. cell_at ts vs Absent) (sym (lookup_table (bytes_eq k) c.self.inside.chains.entries))) in λ i k. same k i))
