@@ -1,5 +1,5 @@
 -- Two lists of versions by key in which each key has the same versions have as many.
-use Rattle.std.proofs.Common.{◌≡◌, ℕ, zero, suc, ◌+◌, Bool, true, false, cond, List, [], ◌∷◌, length, Option, Some, None, unwrap_or, refl, sym, ap, ◌∙◌, arith, if◌then◌else◌}
+use Rattle.std.proofs.Common.{◌≡◌, ℕ, ◌+◌, Bool, true, false, cond, List, [], ◌∷◌, length, Option, None, unwrap_or, refl, sym, ap, ◌∙◌, arith, if◌then◌else◌}
 use Rattle.std.specs.List.{AllByRecursion, IsDistinct}
 use Rattle.std.specs.Map.{lookup, keys_of, remove_entry}
 use Rattle.std.specs.Str.{bytes_eq}

@@ -1,5 +1,5 @@
 -- The finite map of a list of entries.
-use Rattle.std.proofs.Common.{◌≡◌, ℕ, zero, suc, ◌+◌, Bool, true, cond, List, [], ◌∷◌, ◌++◌, take, Some, None, refl, ap, sym, ◌∙◌, add-one, subst}
+use Rattle.std.proofs.Common.{◌≡◌, ℕ, zero, suc, ◌+◌, Bool, true, cond, List, [], ◌∷◌, ◌++◌, take, Some, None, refl, ap, ◌∙◌, add-one, subst}
 use Rattle.std.specs.Prelude.{ℤ, Option}
 use Rattle.std.specs.List.{slice_get}
 use Rattle.std.specs.Ordering.{nat_cmp, is_lt}
@@ -15,7 +15,7 @@ use Rattle.bohm_txn.specs.Declares.{IsAmong}
 use Rattle.bohm_txn.specs.Stores.{store_of}
 use Rattle.bohm_txn.proofs.Apart.{both, below_all, among_first, among_then}
 use Rattle.bohm_txn.proofs.Bodies.{key_itself}
-use Rattle.bohm_txn.proofs.Stores.{tested, same_nat}
+use Rattle.bohm_txn.proofs.Stores.{same_nat}
 
 pub find_lookup : (es : List (List ℕ × ℤ)) (q : List ℕ) → find (slice_cmp nat_cmp) q es ≡ lookup (bytes_eq q) es
 find_lookup [] q = refl

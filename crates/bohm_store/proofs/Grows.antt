@@ -1,15 +1,14 @@
 -- Versions and followers that come and go at the ends.
-use Rattle.std.proofs.Common.{◌≡◌, ◌≢◌, ℕ, zero, suc, ◌+◌, ◌-◌, ◌<◌, ◌≤◌, Bool, true, false, List, [], ◌∷◌, ◌++◌, length, map, take, drop, drop-cons, get_or, All, refl, sym, ap, ◌∙◌, arith, if◌then◌else◌, nat_le, ◌&&◌, append_assoc, append-nil, add-one, subst, inl, inr, ◌⊎◌, Option, Some, None, option_to_list, is_some}
+use Rattle.std.proofs.Common.{◌≡◌, ℕ, ◌+◌, ◌<◌, ◌≤◌, Bool, true, false, List, [], ◌∷◌, ◌++◌, length, map, take, get_or, All, refl, sym, ap, ◌∙◌, arith, if◌then◌else◌, nat_le, ◌&&◌, append_assoc, append-nil, subst, inl, inr, ◌⊎◌, Option, Some, None, option_to_list, is_some}
 use Rattle.std.specs.Str.{bytes_eq}
 use Rattle.std.proofs.lemmas.Bool.Decides.{nat_tests}
 use Rattle.std.proofs.lemmas.List.{take_more, map-append}
 use Rattle.std.proofs.lemmas.List.Elements.{All-head, All-tail, All-push, All-cons, All-nil, All-weaker}
-use Rattle.bohm_tree.specs.declared.cell.Cell.{Cell}
 use Rattle.bohm_store.specs.declared.version.Version.{Version}
 use Rattle.bohm_store.specs.declared.version.Write.{Write}
 use Rattle.bohm_store.specs.declared.followers.Follower.{Follower}
 use Rattle.bohm_store.specs.Versions.{kept}
-use Rattle.bohm_store.specs.Chains.{Above, UpTo, made, shift, front, waiting, later_begins, RisesTo, Climb, IsNotDue}
+use Rattle.bohm_store.specs.Chains.{made, shift, front, waiting, later_begins, RisesTo, IsNotDue}
 
 waiting_push : (fs : List Follower) (f : Follower) (k : List ℕ) → waiting (fs ++ f ∷ []) k ≡ waiting fs k ++ (if bytes_eq f.key k then f.begin ∷ [] else [])
 waiting_push [] f k = append-nil _

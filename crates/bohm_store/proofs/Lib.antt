@@ -12,3 +12,4 @@ pub mod Permuted
 pub mod Listed
 pub mod Held
 pub mod Counts
+pub mod Swept

@@ -1,5 +1,5 @@
 -- Of versions that rise: the cell at a time is that of the newest one, and those that a floor keeps are the ones above it and the newest.
-use Rattle.std.proofs.Common.{◌≡◌, ℕ, zero, suc, ◌<◌, ◌≤◌, Bool, true, false, List, [], ◌∷◌, length, get_or, All, refl, sym, subst, inl, inr, ⊎_elim, ◌⊎◌, arith, nat_le, if◌then◌else◌}
+use Rattle.std.proofs.Common.{◌≡◌, ℕ, zero, suc, ◌<◌, ◌≤◌, Bool, true, false, List, [], ◌∷◌, All, refl, sym, subst, inl, inr, ⊎_elim, ◌⊎◌, arith, nat_le}
 use Rattle.std.specs.Prelude.{Contains, ◌↔◌}
 use Rattle.std.proofs.lemmas.Bool.{cases_lt}
 use Rattle.std.proofs.lemmas.Bool.Decides.{nat_tests}
@@ -8,7 +8,6 @@ use Rattle.bohm_tree.specs.declared.cell.Cell.{Cell}
 use Rattle.bohm_tree.specs.declared.cell.Cell.TheVariants.{Absent}
 use Rattle.bohm_store.specs.declared.version.Version.{Version}
 use Rattle.bohm_store.specs.Versions.{Rises, IsNewestAt, IsCellAt, IsKept, cell_at, kept}
-use Rattle.bohm_store.proofs.Past.{cell_at-above}
 
 contains_head : (v : Version) (vs : List Version) → Contains (v ∷ vs) v
 contains_head v vs = (0, omega arith, refl)

@@ -1,13 +1,11 @@
 -- What transactions that run one after another produce: versions that rise, and say what each key holds after each of them.
-use Rattle.std.proofs.Common.{◌≡◌, ℕ, zero, suc, ◌+◌, ◌-◌, ◌<◌, ◌≤◌, Bool, true, false, ◌||◌, List, [], ◌∷◌, ◌++◌, length, All, refl, sym, ap, ◌∙◌, arith, if◌then◌else◌, nat_le, inl, inr, ◌⊎◌, ⊎_elim, add-one, subst}
+use Rattle.std.proofs.Common.{◌≡◌, ℕ, suc, ◌+◌, ◌-◌, ◌<◌, ◌≤◌, Bool, true, false, ◌||◌, List, [], ◌∷◌, ◌++◌, length, All, refl, sym, ap, ◌∙◌, arith, if◌then◌else◌, nat_le, ⊎_elim}
 use Rattle.std.specs.List.{list_any}
 use Rattle.std.proofs.lemmas.Bool.{cases_lt}
 use Rattle.std.proofs.lemmas.Bool.Decides.{nat_tests}
 use Rattle.std.proofs.lemmas.List.Elements.{All-head, All-tail, All-nil, All-cons, All-weaker, All-append}
 use Rattle.bohm_tree.specs.declared.cell.Cell.{Cell}
-use Rattle.bohm_tree.specs.declared.cell.Cell.TheVariants.{Absent}
 use Rattle.bohm_tree.specs.declared.txn.Txn.{Txn}
-use Rattle.bohm_txn.specs.Declares.{IsAmong}
 use Rattle.bohm_txn.specs.Faulty.{is_among, IsWellFormedTxn}
 use Rattle.bohm_txn.specs.Meaning.{Look}
 use Rattle.bohm_txn.specs.Serial.{after, state}
@@ -18,7 +16,7 @@ use Rattle.bohm_store.specs.declared.version.Version.{Version}
 use Rattle.bohm_store.specs.Versions.{Rises, cell_at, produced}
 use Rattle.bohm_store.specs.Nexts.{Agree}
 use Rattle.bohm_store.specs.Chains.{Above, UpTo}
-use Rattle.bohm_store.proofs.Past.{cell_at-above, cell_at-append, cell_at-up_to}
+use Rattle.bohm_store.proofs.Past.{cell_at-above, cell_at-append}
 
 -- the version that one transaction produces of a key, if it writes it
 abbrev one : Bool → ℕ → Cell → List Version

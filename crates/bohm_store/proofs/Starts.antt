@@ -1,5 +1,5 @@
 -- The chains of a starting store.
-use Rattle.std.proofs.Common.{◌≡◌, ℕ, zero, suc, ◌+◌, ◌<◌, ◌≤◌, Bool, true, false, List, [], ◌∷◌, take, cond, refl, sym, ap, ◌∙◌, arith, if◌then◌else◌, Option, Some, None, All}
+use Rattle.std.proofs.Common.{◌≡◌, ℕ, ◌+◌, ◌<◌, ◌≤◌, Bool, true, false, List, [], ◌∷◌, take, cond, refl, ap, ◌∙◌, arith, if◌then◌else◌, Option, Some}
 use Rattle.std.specs.Prelude.{ℤ}
 use Rattle.std.specs.List.{slice_get}
 use Rattle.std.specs.FinMap as finite

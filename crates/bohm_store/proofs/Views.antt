@@ -1,7 +1,6 @@
 -- Look-ups in a history as it is seen, and in the chains behind it.
-use Rattle.std.proofs.Common.{◌≡◌, ℕ, Bool, true, false, List, [], ◌∷◌, map, Option, Some, None, unwrap_or, refl}
+use Rattle.std.proofs.Common.{◌≡◌, ℕ, Bool, true, false, List, [], ◌∷◌, unwrap_or, refl}
 use Rattle.std.specs.Map.{lookup}
-use Rattle.bohm_store.specs.declared.version.Version.{Version}
 use Rattle.bohm_store.specs.declared.chain.Chain.{Chain}
 use Rattle.bohm_store.specs.Chains.{items_of, table}
 

@@ -1,5 +1,5 @@
 -- The writes of transactions make the versions that they produce.
-use Rattle.std.proofs.Common.{◌≡◌, ℕ, zero, suc, ◌+◌, ◌<◌, ◌≤◌, Bool, true, false, ◌||◌, List, [], ◌∷◌, ◌++◌, length, All, refl, sym, ap, ◌∙◌, arith, if◌then◌else◌, append_assoc, subst, take, drop, get_or, add-one, Some}
+use Rattle.std.proofs.Common.{◌≡◌, ℕ, zero, suc, ◌+◌, ◌<◌, ◌≤◌, Bool, true, false, List, [], ◌∷◌, ◌++◌, length, All, refl, sym, ap, ◌∙◌, arith, if◌then◌else◌, append_assoc, subst, take, drop, get_or, add-one, Some}
 use Rattle.std.specs.List.{slice_get}
 use Rattle.std.specs.Str.{bytes_eq}
 use Rattle.std.proofs.lemmas.List.{take_more}
@@ -15,7 +15,6 @@ use Rattle.bohm_txn.proofs.States.{next}
 use Rattle.bohm_txn.proofs.UseLaws.{rising_writes}
 use Rattle.bohm_place.specs.Shares.{AreDistinct}
 use Rattle.bohm_place.proofs.Distinct.{AreDistinct-rising}
-use Rattle.bohm_store.specs.declared.version.Version.{Version}
 use Rattle.bohm_store.specs.declared.version.Write.{Write}
 use Rattle.bohm_store.specs.Versions.{produced}
 use Rattle.bohm_store.specs.Chains.{made, Climb}

@@ -1,5 +1,5 @@
 -- How versions lie in memory.
-use Rattle.std.specs.Prelude.{◌≡◌, ℕ, suc, ◌+◌, ℤ, ◌≤◌, ◌<◌, List, [], ◌∷◌, ◌++◌, map, Option, None, Some, if◌then◌else◌, nat_le, length, All}
+use Rattle.std.specs.Prelude.{◌≡◌, ℕ, suc, ◌+◌, ℤ, ◌≤◌, ◌<◌, List, [], ◌∷◌, ◌++◌, map, Option, None, Some, if◌then◌else◌, length, All}
 use Rattle.std.specs.Str.{bytes_eq}
 use Rattle.std.specs.HashMap.{HashMap, get}
 use Rattle.bohm_tree.specs.declared.cell.Cell.{Cell}

@@ -14,3 +14,6 @@ mod version;
 
 pub use fault::{PastFault, StoreFault};
 pub use history::History;
+
+#[cfg(test)]
+mod tests;

@@ -1,11 +1,10 @@
-use Rattle.std.proofs.Common.{◌≡◌, ◌∙◌, List, ℕ, true, map, take, length, ap, sym, arith}
-use Rattle.std.specs.List.{list_any}
+use Rattle.std.proofs.Common.{◌≡◌, ◌∙◌, List, ℕ, map, ap, arith}
 use Rattle.std.proofs.lemmas.List.{take_all}
 use Rattle.bohm_tree.specs.declared.cell.Cell.{Cell}
 use Rattle.bohm_tree.specs.declared.cell.Cell.TheVariants.{Absent}
 use Rattle.bohm_txn.specs.Meaning.{newest}
 use Rattle.bohm_txn.specs.Faulty.{is_among, rising}
-use Rattle.bohm_board.specs.Bases.{declares, keys_of}
+use Rattle.bohm_board.specs.Bases.{keys_of}
 use Rattle.bohm_store.specs.Versions.{cell_at}
 use Rattle.bohm_store.specs.Chains.{chain}
 use Rattle.bohm_store.proofs.Bases.{keys_paired, newest_paired}

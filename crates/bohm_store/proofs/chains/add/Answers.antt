@@ -1,6 +1,6 @@
-use Rattle.std.proofs.Common.{arith, ◌≡◌, ◌<◌, ◌≤◌, ◌+◌, ◌++◌, ◌∷◌, [], length, suc, subst, get_or, take, drop, drop-cons, sym, ap, ◌∙◌, add-one, is_ok, true, false, if◌then◌else◌, ◌&&◌}
+use Rattle.std.proofs.Common.{arith, ◌≡◌, ◌<◌, ◌+◌, ◌∷◌, [], length, suc, subst, get_or, drop, drop-cons, sym, ap, ◌∙◌, add-one, is_ok, true, false}
 use Rattle.std.proofs.lemmas.Grind.{common_steps}
-use Rattle.bohm_store.specs.Chains.{chain, made, Climb, RisesTo}
+use Rattle.bohm_store.specs.Chains.{chain, Climb}
 use Rattle.bohm_store.proofs.Grows.{added_of, rises_higher, rises_grown, grown_more}
 use Rattle.bohm_store.proofs.chains.add.Goals as goal
 

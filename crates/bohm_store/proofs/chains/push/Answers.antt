@@ -1,7 +1,7 @@
-use Rattle.std.proofs.Common.{◌≡◌, ◌++◌, [], ◌∷◌, Bool, true, false, ◌&&◌, is_ok, if◌then◌else◌, List, refl, rules}
+use Rattle.std.proofs.Common.{◌≡◌, ◌++◌, [], ◌∷◌, true, ◌&&◌, is_ok, if◌then◌else◌, List, rules}
 use Rattle.std.specs.Str.{bytes_eq}
 use Rattle.bohm_store.specs.declared.version.Version.{Version}
-use Rattle.bohm_store.specs.Chains.{chain, items, waiting, later_begins}
+use Rattle.bohm_store.specs.Chains.{chain}
 use Rattle.bohm_store.proofs.Grows.{waits_extended}
 use Rattle.bohm_store.proofs.chains.push.Goals as goal
 

@@ -1,4 +1,4 @@
-use Rattle.std.proofs.Common.{◌≡◌, Option, Some, None, ◌∙◌, sym, ap, length, refl, if◌then◌else◌, List, ℕ, ℤ, [], ◌∷◌, take, subst, arith}
+use Rattle.std.proofs.Common.{◌≡◌, Option, Some, ◌∙◌, sym, ap, length, refl, if◌then◌else◌, List, ℕ, ℤ, [], ◌∷◌, take, subst, arith}
 use Rattle.std.specs.List.{slice_get}
 use Rattle.std.specs.FinMap as finite
 use Rattle.std.specs.Ordering.{nat_cmp}

@@ -1,4 +1,4 @@
-use Rattle.std.proofs.Common.{arith, ◌≡◌, ◌<◌, ◌+◌, ◌-◌, ◌∙◌, append-nil, get_or}
+use Rattle.std.proofs.Common.{arith, ◌≡◌, ◌+◌, ◌-◌, ◌∙◌, append-nil}
 use Rattle.bohm_store.specs.Chains.{chain}
 use Rattle.bohm_store.proofs.Grows.{taken}
 use Rattle.bohm_store.proofs.chains.take_back.Goals as goal

@@ -1,6 +1,6 @@
-use Rattle.std.proofs.Common.{◌≡◌, ◌∷◌, ℕ, List, sym, ◌∙◌}
+use Rattle.std.proofs.Common.{◌≡◌, ℕ, List, sym, ◌∙◌}
 use Rattle.bohm_store.specs.Versions.{kept}
-use Rattle.bohm_store.specs.Chains.{chain, waiting, later_begins, RisesTo}
+use Rattle.bohm_store.specs.Chains.{chain, waiting, later_begins}
 use Rattle.bohm_store.proofs.Grows.{shifted, kept_all}
 use Rattle.bohm_store.proofs.chains.trim.Goals as goal
 

@@ -1,4 +1,4 @@
-use Rattle.std.proofs.Common.{arith, ◌≡◌, ◌≤◌, ◌+◌, min, []}
+use Rattle.std.proofs.Common.{arith}
 use Rattle.bohm_store.proofs.listing.count.Goals as goal
 
 pub returns-clause-count : goal.returns-clause-count

@@ -1,11 +1,10 @@
-use Rattle.std.proofs.Common.{◌≡◌, ◌+◌, ◌<◌, ◌++◌, ◌∷◌, [], ◌∙◌, ℕ, List, Some, length, take, get_or, ap, sym, refl, arith, append_assoc}
+use Rattle.std.proofs.Common.{◌≡◌, ◌++◌, ◌∷◌, [], ◌∙◌, ℕ, List, Some, length, ap, refl, arith}
 use Rattle.std.specs.List.{slice_get}
 use Rattle.std.proofs.lemmas.Option.{slice_get_read}
 use Rattle.bohm_txn.specs.Meaning.{Look}
 use Rattle.bohm_exec.specs.Answers.{batch_of_finished}
 use Rattle.bohm_exec.specs.Moments.{state_after}
 use Rattle.bohm_store.specs.declared.version.Write.{Write}
-use Rattle.bohm_store.specs.Written.{written}
 use Rattle.bohm_store.proofs.Writing.{written_push}
 use Rattle.bohm_store.proofs.settling.list_writes.Goals as goal
 

@@ -1,14 +1,11 @@
-use Rattle.std.proofs.Common.{◌≡◌, ◌+◌, ◌-◌, ◌<◌, ◌≤◌, ◌++◌, ◌∙◌, ℕ, List, Some, length, drop, ap, sym, refl, arith, subst}
+use Rattle.std.proofs.Common.{◌≡◌, ◌+◌, ◌-◌, ◌++◌, ◌∙◌, ℕ, Some, ap, sym, arith, subst}
 use Rattle.std.specs.List.{slice_get}
-use Rattle.bohm_tree.specs.declared.txn.Txn.{Txn}
 use Rattle.bohm_txn.specs.Faulty.{IsWellFormedTxn}
 use Rattle.bohm_txn.specs.Serial.{state}
 use Rattle.bohm_txn.proofs.UseLaws.{usable}
 use Rattle.bohm_board.specs.declared.batch.Batch.{Batch}
 use Rattle.bohm_board.specs.Batches.{base_of, first_of, txn_at, txns_of}
 use Rattle.bohm_exec.specs.Answers.{batch_of_finished}
-use Rattle.bohm_exec.specs.Moments.{state_after}
-use Rattle.bohm_store.specs.declared.version.Write.{Write}
 use Rattle.bohm_store.specs.Written.{written, written_all}
 use Rattle.bohm_store.proofs.Writing.{all_at, written_step}
 use Rattle.bohm_store.proofs.settling.writes_of.Goals as goal

@@ -1,7 +1,6 @@
-use Rattle.std.proofs.Common.{arith, ◌≡◌, ◌<◌, ◌≤◌, ◌-◌, [], ◌∷◌, get_or, ap, sym, ◌∙◌, nat_le, true, false, if◌then◌else◌}
+use Rattle.std.proofs.Common.{arith, ◌≡◌, ◌≤◌, ◌-◌, get_or, ap, sym, ◌∙◌, nat_le, true, false, if◌then◌else◌}
 use Rattle.std.proofs.lemmas.Bool.Decides.{nat_tests}
 use Rattle.bohm_tree.specs.declared.cell.Cell.TheVariants.{Absent}
-use Rattle.bohm_store.specs.Versions.{cell_at}
 use Rattle.bohm_store.proofs.Past.{cell_at-found, cell_at-above}
 use Rattle.bohm_store.proofs.chain.Chain.cell_at.Goals as goal
 

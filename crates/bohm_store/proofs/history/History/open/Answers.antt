@@ -1,21 +1,20 @@
-use Rattle.std.proofs.Common.{◌≡◌, ◌∙◌, ◌≤◌, List, ℕ, arith, refl, ap}
+use Rattle.std.proofs.Common.{◌∙◌, List, ℕ, arith, ap}
 use Rattle.std.specs.Str.{bytes_eq}
 use Rattle.bohm_tree.specs.declared.cell.Cell.TheVariants.{Absent}
 use Rattle.bohm_txn.specs.Stores.{cell_in, store_of}
 use Rattle.bohm_store.specs.Versions.{cell_at}
-use Rattle.bohm_store.specs.Chains.{started, later_begins}
+use Rattle.bohm_store.specs.Chains.{later_begins}
 use Rattle.bohm_store.proofs.Starts.{started_low, started_rises, started_alone, started_past}
 use Rattle.bohm_store.proofs.Views.{lookup_table}
 use Rattle.bohm_store.proofs.history.History.open.Goals as goal
 
 pub invariant_of-result : goal.invariant_of-result
 invariant_of-result c =
-    let look = cell_in (store_of c.args.entries.now) in
     record {
       ordered = omega arith;
-      low = λ k. rw (c.in_ok-chains.ensures k) (started_low (look k));
-      rising = λ k. rw (c.in_ok-chains.ensures k) (started_rises (look k));
-      waits = λ k. rw (c.new.ensures.items) (ap later_begins (c.in_ok-chains.ensures k) ∙ started_alone (look k));
+      low = λ k. rw (c.in_ok-chains.ensures k) (started_low _);
+      rising = λ k. rw (c.in_ok-chains.ensures k) (started_rises _);
+      waits = λ k. rw (c.new.ensures.items) (ap later_begins (c.in_ok-chains.ensures k) ∙ started_alone _);
       climbs = rw (c.new.ensures.items) tt;
     }
 

@@ -1,15 +1,12 @@
-use Rattle.std.proofs.Common.{◌≡◌, ◌+◌, ◌-◌, ◌≤◌, ◌++◌, ◌∙◌, List, ℕ, length, ap, sym, refl, arith, subst}
+use Rattle.std.proofs.Common.{◌≡◌, ◌+◌, ◌≤◌, ◌++◌, ◌∙◌, List, ℕ, length, ap, sym, refl, arith, subst}
 use Rattle.std.specs.Str.{bytes_eq}
 use Rattle.bohm_tree.specs.declared.cell.Cell.TheVariants.{Absent}
 use Rattle.bohm_txn.specs.Meaning.{Look}
-use Rattle.bohm_txn.specs.Serial.{state}
 use Rattle.bohm_board.specs.Batches.{base_of, txns_of}
-use Rattle.bohm_store.specs.declared.version.Version.{Version}
 use Rattle.bohm_store.specs.declared.version.Write.{Write}
 use Rattle.bohm_store.specs.Versions.{cell_at, past, produced}
 use Rattle.bohm_store.specs.Chains.{chain, table, Climb}
 use Rattle.bohm_store.specs.Written.{written_all}
-use Rattle.bohm_store.proofs.Grows.{rises_higher}
 use Rattle.bohm_store.proofs.Views.{lookup_table}
 use Rattle.bohm_store.proofs.Later.{made_produced, settled_low, settled_rises, settled_earlier, settled_later}
 use Rattle.bohm_store.proofs.Writing.{written_climbs}

@@ -1,8 +1,6 @@
-use Rattle.std.proofs.Common.{◌≡◌, ◌∙◌, List, ℕ, ap, sym, true, false, arith, nat_lt, Ok, if◌then◌else◌}
+use Rattle.std.proofs.Common.{◌≡◌, ap, false, arith, nat_lt, Ok}
 use Rattle.std.specs.Str.{bytes_eq}
 use Rattle.std.proofs.lemmas.Bool.Decides.{nat_tests}
-use Rattle.bohm_tree.specs.declared.cell.Cell.TheVariants.{Absent}
-use Rattle.bohm_store.specs.Versions.{cell_at, IsCellAt}
 use Rattle.bohm_store.specs.Chains.{chain}
 use Rattle.bohm_store.proofs.Newest.{cell_at-newest}
 use Rattle.bohm_store.proofs.Views.{lookup_table}

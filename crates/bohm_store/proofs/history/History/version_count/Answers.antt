@@ -1,4 +1,4 @@
-use Rattle.std.proofs.Common.{◌≡◌, ap, ◌∙◌, min}
+use Rattle.std.proofs.Common.{ap, ◌∙◌, min}
 use Rattle.bohm_store.proofs.Held.{keys_table, total_table}
 use Rattle.bohm_store.proofs.history.History.version_count.Goals as goal
 
