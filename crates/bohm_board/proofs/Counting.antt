@@ -1,6 +1,6 @@
 -- Logs that count up one key, for tests.
-use Rattle.std.proofs.Common.{◌≡◌, ℕ, zero, suc, ℤ, pos, ◌+◌, ◌-◌, ◌<◌, ◌≤◌, ◌^◌, List, [], ◌∷◌, ◌++◌, map, Bool, true, false, length, Some, refl, sym, ap, ◌∙◌, subst, ⊎_elim, inl, inr, arith, zero-add}
-use Rattle.std.specs.Prelude.{Ok, Option, unwrap_or, Contains, ◌||◌, ◌⊎◌, nat_lt, All}
+use Rattle.std.proofs.Common.{◌≡◌, ℕ, zero, suc, pos, ◌+◌, ◌-◌, ◌<◌, ◌≤◌, List, [], ◌∷◌, ◌++◌, map, Bool, true, false, length, Some, refl, sym, ap, ◌∙◌, subst, ⊎_elim, inl, inr, arith, zero-add}
+use Rattle.std.specs.Prelude.{Ok, Option, unwrap_or, Contains, ◌⊎◌, All}
 use Rattle.std.specs.List.{slice_get, list_any}
 use Rattle.std.specs.Option.{option_map}
 use Rattle.std.specs.Str.{bytes_eq}
@@ -16,15 +16,13 @@ use Rattle.bohm_txn.specs.declared.fault.CheckKind.TheVariants.{Order, Unread, U
 use Rattle.bohm_txn.specs.declared.outcome.Outcome.TheVariants.{Commit}
 use Rattle.bohm_txn.specs.Faulty.{faulty, alone, IsWellFormedTxn, is_among}
 use Rattle.bohm_txn.specs.Meaning.{Look, Ended, body, fits, sum_value}
-use Rattle.bohm_txn.specs.Meaning.{Run}
 use Rattle.bohm_txn.specs.Serial.{after, over, state, outcome_of, writes_of, shows_of}
 use Rattle.bohm_txn.specs.Sure.{is_sure}
 use Rattle.bohm_place.specs.declared.access.Access.{Access}
 use Rattle.bohm_board.specs.declared.batch.Batch.{Batch}
-use Rattle.bohm_board.specs.declared.slot.Slot.{Slot}
 use Rattle.bohm_board.specs.Bases.{IsBase, declares}
-use Rattle.bohm_board.specs.Serial.{own_cells, show_cells, width}
-use Rattle.bohm_board.specs.Batches.{txns_of, first_of, base_of, position, txn_at, width_at, reads_at, writes_at, wanted_at, is_sure_at, IsIn, IsSlot, IsRightCell, IsRightOutcome, number}
+use Rattle.bohm_board.specs.Serial.{own_cells, show_cells}
+use Rattle.bohm_board.specs.Batches.{txns_of, base_of, position, txn_at, width_at, reads_at, writes_at, wanted_at, is_sure_at, IsIn, IsSlot, IsRightCell, IsRightOutcome, number}
 use Rattle.bohm_board.specs.Samples.{name, counter, IsCounting}
 use Rattle.bohm_board.proofs.Inputs.{own_right, outcome_right}
 use Rattle.bohm_board.proofs.Numbers.{position_inside, txn_there, width_there}

@@ -1,7 +1,7 @@
 -- Transactions that do nothing are well formed, declare no key, have no slots and commit.
-use Rattle.std.proofs.Common.{◌≡◌, ℕ, zero, suc, ◌<◌, List, [], ◌∷◌, Bool, true, false, length, Some, refl, sym, ap, ◌∙◌, subst, ⊎_elim, arith}
-use Rattle.std.specs.Prelude.{Contains, ◌||◌, All}
-use Rattle.std.specs.List.{slice_get, list_any}
+use Rattle.std.proofs.Common.{◌≡◌, ℕ, zero, suc, List, [], ◌∷◌, true, false, length, Some, refl, sym, ap, ◌∙◌, subst, ⊎_elim, arith}
+use Rattle.std.specs.Prelude.{Contains, All}
+use Rattle.std.specs.List.{list_any}
 use Rattle.std.proofs.lemmas.List.Elements.{All-head, All-tail, All-weaker}
 use Rattle.std.proofs.lemmas.Option.{slice_get_within, get_or_from_slice_get}
 use Rattle.bohm_tree.specs.declared.txn.Edition.{Edition}
@@ -10,14 +10,11 @@ use Rattle.bohm_txn.specs.declared.fault.CheckKind.{CheckKind}
 use Rattle.bohm_txn.specs.declared.fault.CheckKind.TheVariants.{Order, Unread, Unwritten, Local, Limit}
 use Rattle.bohm_txn.specs.declared.outcome.Outcome.TheVariants.{Commit}
 use Rattle.bohm_txn.specs.Faulty.{faulty, alone, IsWellFormedTxn}
-use Rattle.bohm_txn.specs.Meaning.{Look, body}
-use Rattle.bohm_txn.specs.Serial.{state, outcome_of}
 use Rattle.bohm_place.specs.declared.access.Access.{Access}
 use Rattle.bohm_board.specs.declared.batch.Batch.{Batch}
 use Rattle.bohm_board.specs.declared.view.View.{View}
 use Rattle.bohm_board.specs.Bases.{IsBase, declares}
-use Rattle.bohm_board.specs.Serial.{width}
-use Rattle.bohm_board.specs.Batches.{txns_of, base_of, position, txn_at, width_at, reads_at, writes_at, is_sure_at, IsIn, IsRightOutcome}
+use Rattle.bohm_board.specs.Batches.{txns_of, position, txn_at, reads_at, writes_at, is_sure_at, IsIn, IsRightOutcome}
 use Rattle.bohm_board.specs.Passes.{KnowsWanted, HasFilledAll}
 use Rattle.bohm_board.specs.Samples.{IsIdle}
 use Rattle.bohm_board.proofs.Inputs.{outcome_right}

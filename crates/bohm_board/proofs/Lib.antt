@@ -15,3 +15,4 @@ pub mod Wanted
 pub mod Counting
 pub mod Idling
 pub mod Holding
+pub mod PlacesOfKeys

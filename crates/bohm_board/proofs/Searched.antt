@@ -1,18 +1,22 @@
 -- What a search along rising entries finds is the key's entry.
-use Rattle.std.proofs.Common.{◌≡◌, ℕ, zero, suc, ◌<◌, List, [], ◌∷◌, length, get_or, Bool, true, false, cond, Err, Some, ⊎_elim, refl, sym, subst, ap, ◌∙◌, add-one, arith}
-use Rattle.std.specs.Prelude.{◌&&◌}
+use Rattle.std.proofs.Common.{◌≡◌, ℕ, zero, suc, ◌<◌, List, [], ◌∷◌, length, get_or, Bool, true, false, cond, Result, Ok, Err, Some, ⊎_elim, refl, sym, subst, ap, ◌∙◌, add-one, arith}
+use Rattle.std.specs.Prelude.{◌&&◌, ◌||◌}
+use Rattle.std.specs.Option.{option_map}
+use Rattle.std.specs.Result.{IfOk, OnErr}
 use Rattle.std.specs.List.{slice_get}
 use Rattle.std.specs.declared.cmp.Ordering.{Ordering}
 use Rattle.std.specs.declared.cmp.Ordering.TheVariants.{Less, Equal, Greater}
 use Rattle.std.specs.Ordering.{nat_cmp, is_lt, ordering_reverse, eq_by_cmp}
 use Rattle.std.specs.Str.{bytes_eq}
 use Rattle.std.specs.Cmp.Lexicographic.{slice_cmp, nat_list_cmp_total, texts_ties}
-use Rattle.std.specs.List.Sorted.{IsBinarySearchResult, IsSortedBy}
+use Rattle.std.specs.List.Sorted.{IsBinarySearchResult, IsSearchInRange, IsSortedBy}
 use Rattle.std.proofs.lemmas.List.Sorted.{searchable_from_sorted}
 use Rattle.std.proofs.lemmas.Bool.{cases_lt}
+use Rattle.std.proofs.lemmas.Option.{same_Some, slice_get-map, slice_get-get_or}
 use Rattle.std.proofs.lemmas.Slice.Eq.{bytes_eq-Decides}
 use Rattle.bohm_tree.specs.declared.cell.Cell.{Cell}
-use Rattle.bohm_txn.specs.Faulty.{rising, rises_from}
+use Rattle.bohm_tree.specs.declared.cell.Cell.TheVariants.{Absent}
+use Rattle.bohm_txn.specs.Faulty.{is_among, rising, rises_from}
 use Rattle.bohm_txn.specs.Meaning.{newest}
 use Rattle.bohm_board.specs.Bases.{keys_of}
 
@@ -94,17 +98,41 @@ sorted : (es : List Entry) → rising (keys_of es) ≡ true → IsSortedBy (λ a
 sorted [] up = λ k d a l. absurd (omega arith)
 sorted (e ∷ es) up = λ k d a l. subst (λ n. is_lt (key_cmp (get_or (e ∷ es) n d).0 (get_or (e ∷ es) k d).0) ≡ false) (sym (add-one k)) (no_fall (get_or (e ∷ es) k d).0 (get_or (e ∷ es) (suc k) d).0 (steps e es up k d (omega arith)))
 
-missing : (es : List Entry) (k : List ℕ) (before : Cell) → ((i : ℕ) (d : Entry) → i < length es → bytes_eq (get_or es i d).0 k ≡ false) → newest es k before ≡ before
-missing [] k before h = refl
-missing (e ∷ es) k before h = rw (h 0 e (omega arith)) (missing es k before (λ i d l. h (suc i) d (omega arith)))
+none_has : (es : List Entry) (k : List ℕ) → ((i : ℕ) (d : Entry) → i < length es → bytes_eq (get_or es i d).0 k ≡ false) → is_among (keys_of es) k ≡ false
+none_has [] k h = refl
+none_has (e ∷ es) k h = rw (h 0 e (omega arith)) (none_has es k (λ i d l. h (suc i) d (omega arith)))
 
-pub searched_none : (es : List Entry) (k : List ℕ) (i : ℕ) (before : Cell) → rising (keys_of es) ≡ true → IsBinarySearchResult (against k) es (Err i) → newest es k before ≡ before
-searched_none es k i before up h =
+pub searched_none : (es : List Entry) (k : List ℕ) (r : Result ℕ ℕ) → rising (keys_of es) ≡ true → IsBinarySearchResult (against k) es r → OnErr r (is_among (keys_of es) k ≡ false)
+searched_none es k (Ok i) up h = tt
+searched_none es k (Err i) up h =
     let parted = h (searchable_from_sorted nat_list_cmp_total (λ (e : Entry). e.0) es k (sorted es up)) in
-    missing es k before (λ j d below. ⊎_elim
+    none_has es k (λ j d below. ⊎_elim
     (λ early. same_at (get_or es j d).0 k Less (parted.0 j d (omega arith) early))
     (λ late. same_at (get_or es j d).0 k Greater (parted.1 j d late below))
     (cases_lt j i))
 
-pub searched_some : (es : List Entry) (k : List ℕ) (i : ℕ) (before : Cell) (x : Entry) → rising (keys_of es) ≡ true → slice_get es i ≡ Some x → key_cmp x.0 k ≡ Equal → newest es k before ≡ x.1
-searched_some es k i before x up at same = at_equal es i k before x up at (equal_at x.0 k same) ((bytes_eq-Decides x.0 k).0 (equal_at x.0 k same))
+pub searched_some : (es : List Entry) (k : List ℕ) (r : Result ℕ ℕ) → IsSearchInRange r (length es) → IsBinarySearchResult (against k) es r → IfOk r (λ i. slice_get (keys_of es) i ≡ Some k)
+searched_some es k (Ok i) inside h =
+    let x : Entry = get_or es i ([], Absent) in
+    let same : x.0 ≡ k = (bytes_eq-Decides x.0 k).0 (equal_at x.0 k (h ([], Absent))) in
+    slice_get-map (λ (e : Entry). e.0) es i ∙ ap (option_map (λ (e : Entry). e.0)) (slice_get-get_or es i ([], Absent) inside) ∙ ap (λ y. Some y) same
+searched_some es k (Err i) inside h = tt
+
+-- ---- what a key has by its entry
+
+pub newest_there : (es : List Entry) (i : ℕ) (k : List ℕ) (before : Cell) (x : Entry) → rising (keys_of es) ≡ true → slice_get es i ≡ Some x → slice_get (keys_of es) i ≡ Some k → newest es k before ≡ x.1
+newest_there es i k before x up at key =
+    let same : x.0 ≡ k = same_Some x.0 k (ap (option_map (λ (e : Entry). e.0)) (sym at) ∙ sym (slice_get-map (λ (e : Entry). e.0) es i) ∙ key) in
+    at_equal es i k before x up at ((bytes_eq-Decides x.0 k).1 same) same
+
+pub newest_missing : (es : List Entry) (k : List ℕ) (before : Cell) → is_among (keys_of es) k ≡ false → newest es k before ≡ before
+newest_missing [] k before h = refl
+newest_missing (e ∷ es) k before h = rw (left_false (bytes_eq e.0 k) (is_among (keys_of es) k) h) (newest_missing es k before (right_false (bytes_eq e.0 k) (is_among (keys_of es) k) h))
+  where
+    left_false : (a b : Bool) → (a || b) ≡ false → a ≡ false
+    left_false true b e = cc
+    left_false false b e = refl
+
+    right_false : (a b : Bool) → (a || b) ≡ false → b ≡ false
+    right_false true b e = cc
+    right_false false b e = e

@@ -1,9 +1,13 @@
 -- What the keys of a batch hold before it.
-use Rattle.std.specs.Prelude.{◌≡◌, ℕ, List, map, Bool, true, ◌||◌}
+use Rattle.std.specs.Prelude.{◌≡◌, ℕ, ◌<◌, ◌⊎◌, List, map, Bool, true, ◌||◌, Some, slice_get}
 use Rattle.std.specs.List.{list_any}
 use Rattle.bohm_tree.specs.declared.cell.Cell.{Cell}
 use Rattle.bohm_tree.specs.declared.txn.Txn.{Txn}
 use Rattle.bohm_txn.specs.Faulty.{is_among, rising}
+use Rattle.bohm_place.specs.declared.access.Access.{Access}
+use Rattle.bohm_place.specs.declared.access.Source.TheVariants.{Before}
+use Rattle.bohm_place.specs.declared.declared_set.DeclaredSet.{DeclaredSet}
+use Rattle.bohm_place.specs.Plans.{Planned, keys_in, planned_in, HasSourcesOf, IsRightPlan}
 
 abbrev pub keys_of : List (List ℕ × Cell) → List (List ℕ)
 keys_of entries = map (λ e. e.0) entries
@@ -15,3 +19,18 @@ declares k t = is_among t.reads k || is_among t.writes k
 pub record IsBase (txns : List Txn) (entries : List (List ℕ × Cell)) : Type 0 where
   pub rises : rising (keys_of entries) ≡ true
   pub keys : (k : List ℕ) → is_among (keys_of entries) k ≡ list_any (declares k) txns
+
+-- the index is the place of key n among the entries
+abbrev pub HasPlace : List (List ℕ × Cell) → List (List ℕ) → ℕ → Access → Type 0
+HasPlace entries keys n a = (k : List ℕ) → slice_get keys n ≡ Some k → slice_get (keys_of entries) a.index ≡ Some k
+
+-- each access whose source is `Before` has the place of its key among the entries
+abbrev pub AreNoted : List Txn → Planned → List (List ℕ × Cell) → Type 0
+AreNoted txns p entries = (set : DeclaredSet) (i n : ℕ) (x : Txn) (a : Access) → slice_get txns i ≡ Some x → slice_get (planned_in set p i) n ≡ Some a → a.source ≡ Before → HasPlace entries (keys_in set x) n a
+
+-- the second plan is the first with the places of the first `count` keys of the set in row i
+pub record IsSetNoted (p q : Planned) (set : DeclaredSet) (i : ℕ) (keys : List (List ℕ)) (entries : List (List ℕ × Cell)) (count : ℕ) : Type 0 where
+  pub sources : HasSourcesOf p q
+  pub right : (txns : List Txn) → IsRightPlan txns p → IsRightPlan txns q
+  pub each : (other : DeclaredSet) (m n : ℕ) (a : Access) → slice_get (planned_in other q m) n ≡ Some a → (slice_get (planned_in other p m) n ≡ Some a) ⊎ ((other ≡ set) × (m ≡ i) × HasPlace entries keys n a)
+  pub done : (n : ℕ) (a : Access) → n < count → slice_get (planned_in set q i) n ≡ Some a → a.source ≡ Before → HasPlace entries keys n a

@@ -9,7 +9,8 @@ use Rattle.bohm_txn.specs.Meaning.{Look, newest}
 use Rattle.bohm_txn.specs.Sure.{is_sure}
 use Rattle.bohm_place.specs.declared.access.Access.{Access}
 use Rattle.bohm_place.specs.declared.access.Source.TheVariants.{Within}
-use Rattle.bohm_place.specs.Plans.{Planned, reads_of, writes_of}
+use Rattle.bohm_place.specs.declared.declared_set.DeclaredSet.{DeclaredSet}
+use Rattle.bohm_place.specs.Plans.{Planned, keys_in, planned_in, reads_of, writes_of}
 use Rattle.bohm_board.specs.declared.batch.Batch.{Batch}
 use Rattle.bohm_board.specs.declared.slot.Slot.{Slot}
 use Rattle.bohm_board.specs.declared.view.Rights.{Rights}
@@ -80,6 +81,13 @@ reads_at b t = reads_of (plan_of b) (position b t)
 
 abbrev pub writes_at : Batch → ℕ → List Access
 writes_at b t = writes_of (plan_of b) (position b t)
+
+-- of one of the two sets that t declares, the accesses, and the key of index j
+abbrev pub accesses_in : DeclaredSet → Batch → ℕ → List Access
+accesses_in set b t = planned_in set (plan_of b) (position b t)
+
+abbrev pub key_in : DeclaredSet → Batch → ℕ → ℕ → Option (List ℕ)
+key_in set b t j = slice_get (unwrap_or (option_map (keys_in set) (txn_at b t)) []) j
 
 abbrev pub is_sure_at : Batch → ℕ → Bool
 is_sure_at b t = unwrap_or (option_map is_sure (txn_at b t)) false

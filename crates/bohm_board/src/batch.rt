@@ -1,15 +1,14 @@
 //! Batches.
 
 ghost use Rattle.std.specs.Prelude.{◌≡◌, ◌+◌, ◌<◌, ◌≤◌, ◌^◌, All, length, Some, IsSomeAnd, slice_get};
-ghost use Rattle.std.specs.Cmp.Lexicographic.{slice_cmp};
-ghost use Rattle.std.specs.Ordering.{nat_cmp};
 ghost use Rattle.bohm_txn.specs.Faulty.{IsWellFormedTxn};
-ghost use Rattle.bohm_place.specs.Plans.{IsRightPlan};
-ghost use Rattle.bohm_board.specs.Bases.{IsBase};
+ghost use Rattle.bohm_place.specs.Plans.{source_in, HasSourcesOf, IsRightPlan};
+ghost use Rattle.bohm_place.specs.declared.access.Source.TheVariants.{Before};
+ghost use Rattle.bohm_board.specs.Bases.{AreNoted, IsBase};
 
-use bohm_place::{Access, Plan, Source};
+use crate::noting::{note_places, search};
+use bohm_place::{Access, DeclaredSet, Plan, Source};
 use bohm_txn::{Cell, Items, Key, Txn};
-use std::cmp::Ordering;
 
 /// Transactions of a log that run as one, their plan, and what each key that they declare holds before
 /// them.
@@ -24,13 +23,17 @@ pub struct Batch<'a> {
     ghost formed: { All IsWellFormedTxn txns.now },
     ghost right: { ∥ IsRightPlan txns.now plan ∥₁ },
     ghost based: { IsBase txns.now base },
+    ghost noted: { AreNoted txns.now plan base },
 }
 
 impl<'a> Batch<'a> {
-    ghost use Rattle.bohm_board.specs.Batches.{first_of, txns_of, plan_of, entries_of, base_of, txn_at, reads_at, writes_at, position, rights_of, IsIn};
+    ghost use Rattle.bohm_board.specs.Batches.{first_of, txns_of, plan_of, entries_of, base_of, txn_at, key_in, accesses_in, reads_at, writes_at, position, rights_of, IsIn};
+    ghost use Rattle.std.specs.Option.{option_map};
 
     /// A batch whose first transaction has the timestamp `first`. The base has an entry for each key that
-    /// a transaction declares and for no other, and its keys rise.
+    /// a transaction declares and for no other, and its keys rise. The time grows with the number of
+    /// accesses, each by the logarithm of the base's length: the plan's accesses whose source is `Before`
+    /// have the place of their key in the base from now on.
     pub fn new(first: u32, txns: &'a [Txn], plan: Plan, base: Vec<(Key, Cell)>) -> Batch<'a>
         requires some { 0 < length txns.now }
         requires few { length txns.now ≤ 4096 }
@@ -41,10 +44,12 @@ impl<'a> Batch<'a> {
         requires base { IsBase txns.now base.items }
         ensures first { first_of result ≡ first }
         ensures txns { txns_of result ≡ txns.entry.now }
-        ensures plan { plan_of result ≡ plan }
+        ensures plan { HasSourcesOf plan (plan_of result) }
         ensures base { entries_of result ≡ base.items }
     {
         let _ = first;
+        let mut plan = plan;
+        note_places(&mut plan, txns, &base);
         Batch {
             txns,
             plan,
@@ -109,22 +114,26 @@ impl<'a> Batch<'a> {
         self.plan.write(t, index)
     }
 
-    /// The same as `read`, with the index of the source's declared write of the key.
-    pub fn read_access(&self, t: u32, index: u32) -> Access
+    /// The access of the key of this index, counted from 0, in a declared set of the transaction with a
+    /// timestamp. Its time is constant.
+    pub fn access(&self, set: DeclaredSet, t: u32, index: u32) -> Access
         requires txn { IsIn self.now t }
-        requires index { index < length (reads_at self.now t) }
-        ensures { slice_get (reads_at self.now t) index ≡ Some result }
+        requires index { index < length (accesses_in set self.now t) }
+        ensures { slice_get (accesses_in set self.now t) index ≡ Some result }
     {
-        self.plan.read_access(t, index)
+        self.plan.access(set, t, index)
     }
 
-    /// The same as `write`, with the index of the source's declared write of the key.
-    pub fn write_access(&self, t: u32, index: u32) -> Access
+    /// What the key of this index, counted from 0, in a declared set of the transaction with a timestamp
+    /// holds before the batch, where that is the version that its access takes. Its time is constant.
+    pub fn cell_before(&self, set: DeclaredSet, t: u32, index: u32) -> Cell
         requires txn { IsIn self.now t }
-        requires index { index < length (writes_at self.now t) }
-        ensures { slice_get (writes_at self.now t) index ≡ Some result }
+        requires index { index < length (accesses_in set self.now t) }
+        requires source { source_in set (plan_of self.now) (position self.now t) index ≡ Some Before }
+        ensures { option_map (base_of self.now) (key_in set self.now t index) ≡ Some result }
     {
-        self.plan.write_access(t, index)
+        let access = self.plan.access(set, t, index);
+        self.base.as_slice()[access.index as usize].1
     }
 
     /// What a key holds before the batch: absence where no transaction of the batch declares it. The time
@@ -133,12 +142,7 @@ impl<'a> Batch<'a> {
         ensures { result ≡ base_of self.now key.now }
     {
         let entries = self.base.as_slice();
-        let found = entries.binary_search_by(
-            |entry: &(Key, Cell)| -> Ordering
-                ensures { result ≡ slice_cmp nat_cmp entry.now.0 key.entry.now }
-            { entry.0.cmp(key) },
-        );
-        match found {
+        match search(entries, key) {
             Ok(i) => entries[i].1,
             Err(_) => Cell::Absent,
         }

@@ -10,6 +10,7 @@ mod closed;
 mod columns;
 mod finals;
 mod layout;
+mod noting;
 mod pass;
 mod plays;
 mod slot;

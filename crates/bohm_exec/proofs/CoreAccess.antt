@@ -15,14 +15,14 @@ use Rattle.bohm_place.specs.declared.access.Source.{Source}
 use Rattle.bohm_place.specs.declared.access.Source.TheVariants.{Before, Within}
 use Rattle.bohm_place.specs.Plans.{IsRightAccess, IsRightPlan, IsIndexOf}
 use Rattle.bohm_place.specs.Shares.{AreDistinct}
-use Rattle.bohm_place.specs.Writers.{IsNewest}
+use Rattle.bohm_place.specs.Writers.{IsNewest, WritesAt}
 use Rattle.bohm_place.proofs.Distinct.{AreDistinct-rising}
 use Rattle.bohm_board.specs.declared.batch.Batch.{Batch}
 use Rattle.bohm_board.specs.Batches.{txns_of, plan_of, first_of, position, txn_at, reads_at, writes_at}
 use Rattle.bohm_board.proofs.Inputs.{cell_planned}
 use Rattle.bohm_board.proofs.Places.{in_either}
 use Rattle.bohm_board.proofs.SerialSlots.{get_left, get_right}
-use Rattle.bohm_exec.specs.Core.{State, cell_at, entries, input}
+use Rattle.bohm_exec.specs.Core.{State, cell_at, cell_from, cell_in, entries, input}
 use Rattle.bohm_exec.proofs.CoreInput.{entry_of, entry_at, newest_among}
 
 -- ---- one right access
@@ -56,9 +56,8 @@ same_source first txns k t (Within u) (Within v) n m = ⊎_elim
     (cases_lt v u))
     (cases_lt u v)
 
-same_index : (first : ℕ) (txns : List Txn) (k : List ℕ) (i j : ℕ) (o : Source) → All IsWellFormedTxn txns → IsIndexOf first txns k i o → IsIndexOf first txns k j o → i ≡ j
-same_index first txns k i j Before all n m = n ∙ sym m
-same_index first txns k i j (Within u) all n m =
+same_index : (first : ℕ) (txns : List Txn) (k : List ℕ) (u i j : ℕ) → All IsWellFormedTxn txns → WritesAt first txns k u i → WritesAt first txns k u j → i ≡ j
+same_index first txns k u i j all n m =
     let stamp : u ≡ first + n.there.place = n.there.timestamp in
     let other : u ≡ first + m.there.place = m.there.timestamp in
     let place : m.there.place ≡ n.there.place = omega arith in
@@ -66,31 +65,32 @@ same_index first txns k i j (Within u) all n m =
     let formed : IsWellFormedTxn n.txn = subst IsWellFormedTxn (get_or_from_slice_get txns n.there.place n.txn n.txn n.there.is_at) (all n.there.place n.txn (slice_get_within txns n.there.place n.txn n.there.is_at)) in
     same_place n.txn.writes i j k (AreDistinct-rising n.txn.writes (rising_writes n.txn formed)) n.declared (subst (λ (x : Txn). slice_get x.writes j ≡ Some k) same m.declared)
 
-same_access : (first : ℕ) (txns : List Txn) (k : List ℕ) (t : ℕ) (a d : Access) → All IsWellFormedTxn txns → IsRightAccess first txns t k a → IsRightAccess first txns t k d → a ≡ d
-same_access first txns k t a d all n m =
-    let source : a.source ≡ d.source = same_source first txns k t a.source d.source n.newest m.newest in
-    let index : a.index ≡ d.index = same_index first txns k a.index d.index d.source all (subst (IsIndexOf first txns k a.index) source n.write) m.write in
-    λ i. record { source = source i; index = index i }
-
 -- ---- each entry of a key has the same cell
 
 module _ (b : Batch) (s : State) (t : ℕ) (x : Txn) (at : txn_at b t ≡ Some x) (plan : IsRightPlan (txns_of b) (plan_of b)) where
   abbrev Right : List ℕ → Access → Type 0
   Right k a = IsRightAccess (first_of b) (txns_of b) (first_of b + position b t) k a
 
+  same_cell_by : (k : List ℕ) (i j : ℕ) (o : Source) → IsIndexOf (first_of b) (txns_of b) k i o → IsIndexOf (first_of b) (txns_of b) k j o → cell_from b s k i o ≡ cell_from b s k j o
+  same_cell_by k i j Before n m = refl
+  same_cell_by k i j (Within u) n m = ap (λ (index : ℕ). cell_in s (record { txn = u; index = index })) (same_index (first_of b) (txns_of b) k u i j b.formed n m)
+
+  same_cell : (k : List ℕ) (a d : Access) → Right k a → Right k d → cell_at b s k a ≡ cell_at b s k d
+  same_cell k a d n m =
+      let source : a.source ≡ d.source = same_source (first_of b) (txns_of b) k (first_of b + position b t) a.source d.source n.newest m.newest in
+      ap (cell_from b s k a.index) source ∙ same_cell_by k a.index d.index d.source (subst (IsIndexOf (first_of b) (txns_of b) k a.index) source n.write) m.write
+
   read_entry : (m : ℕ) (e : List ℕ × Cell) (k : List ℕ) (a : Access) → Right k a → slice_get (entries b s x.reads (reads_at b t)) m ≡ Some e → e.0 ≡ k → e.1 ≡ cell_at b s k a
   read_entry m e k a right at_m key =
       let is = entry_of b s x.reads (reads_at b t) m e at_m in
       let here : Right e.0 is.access = (plan.reads (position b t) x at).each m e.0 is.access is.key_at is.access_at in
-      let same : is.access ≡ a = same_access (first_of b) (txns_of b) k (first_of b + position b t) is.access a b.formed (subst (λ (y : List ℕ). Right y is.access) key here) right in
-      is.cell ∙ (λ i. cell_at b s (key i) (same i))
+      is.cell ∙ (λ i. cell_at b s (key i) is.access) ∙ same_cell k is.access a (subst (λ (y : List ℕ). Right y is.access) key here) right
 
   write_entry : (m : ℕ) (e : List ℕ × Cell) (k : List ℕ) (a : Access) → Right k a → slice_get (entries b s x.writes (writes_at b t)) m ≡ Some e → e.0 ≡ k → e.1 ≡ cell_at b s k a
   write_entry m e k a right at_m key =
       let is = entry_of b s x.writes (writes_at b t) m e at_m in
       let here : Right e.0 is.access = (plan.writes (position b t) x at).each m e.0 is.access is.key_at is.access_at in
-      let same : is.access ≡ a = same_access (first_of b) (txns_of b) k (first_of b + position b t) is.access a b.formed (subst (λ (y : List ℕ). Right y is.access) key here) right in
-      is.cell ∙ (λ i. cell_at b s (key i) (same i))
+      is.cell ∙ (λ i. cell_at b s (key i) is.access) ∙ same_cell k is.access a (subst (λ (y : List ℕ). Right y is.access) key here) right
 
   abbrev all_entries : List (List ℕ × Cell)
   all_entries = entries b s x.reads (reads_at b t) ++ entries b s x.writes (writes_at b t)

@@ -11,3 +11,4 @@ pub mod CoreAccess
 pub mod CoreKeeps
 pub mod CoreSteps
 pub mod CoreRuns
+pub mod Tested

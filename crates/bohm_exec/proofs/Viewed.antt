@@ -24,9 +24,11 @@ use Rattle.bohm_board.proofs.Keeping.{keeps_same, keeps_then, keeps_looked}
 use Rattle.bohm_board.proofs.Newest.{formed_at}
 use Rattle.bohm_board.proofs.Numbers.{right_at, txn_there}
 use Rattle.bohm_board.proofs.Wanted.{reads_paired, writes_paired}
-use Rattle.bohm_exec.specs.declared.declared_set.DeclaredSet.{DeclaredSet}
-use Rattle.bohm_exec.specs.declared.declared_set.DeclaredSet.TheVariants.{Reads, Writes}
-use Rattle.bohm_exec.specs.Handed.{AreWanted, KnowsAll, keys_in, accesses_in}
+use Rattle.bohm_place.specs.declared.declared_set.DeclaredSet.{DeclaredSet}
+use Rattle.bohm_place.specs.declared.declared_set.DeclaredSet.TheVariants.{Reads, Writes}
+use Rattle.bohm_place.specs.Plans.{keys_in}
+use Rattle.bohm_board.specs.Batches.{accesses_in}
+use Rattle.bohm_exec.specs.Handed.{AreWanted, KnowsAll}
 use Rattle.bohm_exec.specs.Turns.{LooksOnly, FillsOnly}
 
 -- ---- looks

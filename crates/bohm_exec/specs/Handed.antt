@@ -11,18 +11,7 @@ use Rattle.bohm_board.specs.declared.view.View.{View}
 use Rattle.bohm_board.specs.Batches.{IsRightCell, is_sure_at, reads_at, writes_at, slot_in, wanted_at, width_at}
 use Rattle.bohm_board.specs.Inputs.{AreCellsOf}
 use Rattle.bohm_board.specs.Passes.{IsKnown}
-use Rattle.bohm_exec.specs.declared.declared_set.DeclaredSet.{DeclaredSet}
-use Rattle.bohm_exec.specs.declared.declared_set.DeclaredSet.TheVariants.{Reads, Writes}
 use Rattle.bohm_exec.specs.Moments.{shown}
-
--- the keys of one of the two sets that a transaction declares, and their accesses
-abbrev pub keys_in : DeclaredSet → Txn → List (List ℕ)
-keys_in Reads x = x.reads
-keys_in Writes x = x.writes
-
-abbrev pub accesses_in : DeclaredSet → Batch → ℕ → List Access
-accesses_in Reads b t = reads_at b t
-accesses_in Writes b t = writes_at b t
 
 -- a position wants the versions of these accesses
 abbrev pub AreWanted : Batch → ℕ → List Access → Type 0

@@ -3,6 +3,7 @@ pub mod Handed
 pub mod Moments
 pub mod Turns
 pub mod Answers
+pub mod Samples
 pub mod Core
 pub mod CoreEvents
 pub mod CoreLaw

@@ -1,20 +1,18 @@
 //! Evaluating what no sweep has finished.
 
 ghost use Rattle.std.specs.Prelude.{◌≡◌, ◌≢◌, ◌≤◌, ◌<◌, ℕ, length};
-ghost use Rattle.bohm_board.specs.Batches.{IsIn, position, width_at};
+ghost use Rattle.bohm_board.specs.Batches.{accesses_in, IsIn, position, width_at};
 ghost use Rattle.bohm_board.specs.Closings.{batch_of_closed, status_in, IsFinished, IsUnfinished, HasCell};
 ghost use Rattle.bohm_exec.specs.Answers.{batch_of_finished};
 ghost use Rattle.bohm_exec.specs.Asides.{IsSetAside};
-ghost use Rattle.bohm_exec.specs.Handed.{accesses_in, AreWanted, AreFound, AreRightSlots, slot_of};
+ghost use Rattle.bohm_exec.specs.Handed.{AreWanted, AreFound, AreRightSlots, slot_of};
 
 use crate::aside::Aside;
-use crate::declared_set::DeclaredSet;
 use crate::evaluation::{evaluate, slot_cell};
 use crate::filling::width_at;
 use crate::finished::Finished;
-use crate::reading::access_in;
 use bohm_board::{Closed, Slot};
-use bohm_place::Source;
+use bohm_place::{DeclaredSet, Source};
 use bohm_txn::{Cell, Scratch, sure};
 
 /// Takes the cells of the versions of the batch among the accesses of a declared set, and puts them at
@@ -29,7 +27,7 @@ fn take_cells(closed: &Closed, t: u32, set: DeclaredSet, cells: &mut [Cell])
 {
     let batch = closed.batch();
     for index in 0..cells.len() {
-        let access = access_in(set, batch, t, index as u32);
+        let access = batch.access(set, t, index as u32);
         match access.source {
             Source::Before => {}
             Source::Within(u) => {

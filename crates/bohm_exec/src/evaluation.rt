@@ -1,29 +1,27 @@
 //! The evaluation of one position.
 
 ghost use Rattle.std.specs.Prelude.{◌≡◌, ◌≤◌, Some, length};
-ghost use Rattle.bohm_board.specs.Batches.{IsIn, IsRightOutcome, is_sure_at, txn_at};
+ghost use Rattle.bohm_tree.specs.declared.txn.Txn.{Txn};
+ghost use Rattle.bohm_place.specs.Plans.{keys_in};
+ghost use Rattle.bohm_board.specs.Batches.{accesses_in, IsIn, IsRightOutcome, is_sure_at, txn_at};
 ghost use Rattle.bohm_board.specs.Inputs.{AreCellsOf};
-ghost use Rattle.bohm_exec.specs.Handed.{keys_in, accesses_in, AreFound, ArePaired, IsFound, IsHanded, AreRightSlots, slot_cell};
+ghost use Rattle.bohm_exec.specs.Handed.{AreFound, ArePaired, IsFound, IsHanded, AreRightSlots, slot_cell};
 
-use crate::declared_set::DeclaredSet;
-use crate::reading::{access_in, keys_in};
 use bohm_board::Batch;
-use bohm_place::Source;
-use bohm_txn::{Cell, Outcome, Scratch, Txn, eval};
+use bohm_place::{DeclaredSet, Source};
+use bohm_txn::{Cell, Outcome, Scratch, eval};
 
 /// Puts the base's cells at the places of the accesses whose version stands when the batch starts.
-fn add_base(batch: &Batch, t: u32, txn: &Txn, set: DeclaredSet, cells: &mut [Cell])
+fn add_base(batch: &Batch, t: u32, set: DeclaredSet, cells: &mut [Cell])
     requires inside { IsIn batch.now t }
-    requires txn { txn_at batch.now t ≡ Some txn.now }
     requires paired { length (accesses_in set batch.now t) ≡ length cells.old }
     requires few { length cells.old ≤ 16 }
     requires found { AreFound batch.now (accesses_in set batch.now t) cells.old }
-    ensures { AreCellsOf batch.now (keys_in set txn.now) (accesses_in set batch.now t) cells.new }
+    ensures { (x : Txn) → txn_at batch.now t ≡ Some x → AreCellsOf batch.now (keys_in set x) (accesses_in set batch.now t) cells.new }
 {
-    for (index, key) in keys_in(set, txn).iter().enumerate() {
-        let access = access_in(set, batch, t, index as u32);
-        match access.source {
-            Source::Before => cells[index] = batch.before(key),
+    for index in 0..cells.len() {
+        match batch.access(set, t, index as u32).source {
+            Source::Before => cells[index] = batch.cell_before(set, t, index as u32),
             Source::Within(_) => {}
         }
     }
@@ -47,9 +45,9 @@ pub(crate) fn evaluate(
     ensures cells { AreRightSlots batch.now t scratch.new }
 {
     let txn = batch.txn(t);
-    add_base(batch, t, txn, DeclaredSet::Reads, reads);
+    add_base(batch, t, DeclaredSet::Reads, reads);
     if !sure {
-        add_base(batch, t, txn, DeclaredSet::Writes, earlier);
+        add_base(batch, t, DeclaredSet::Writes, earlier);
     }
     eval(txn, reads, earlier, scratch)
 }

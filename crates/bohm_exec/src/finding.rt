@@ -1,15 +1,13 @@
 //! What a position is evaluated over, looked up on the board.
 
 ghost use Rattle.std.specs.Prelude.{◌≡◌, ◌≤◌, length, IfSome, IsNone};
-ghost use Rattle.bohm_board.specs.Batches.{IsIn, Wants, is_sure_at};
+ghost use Rattle.bohm_board.specs.Batches.{accesses_in, IsIn, Wants, is_sure_at};
 ghost use Rattle.bohm_board.specs.Passes.{IsPassOf, IsDone, KnowsWanted, batch_of, view};
-ghost use Rattle.bohm_exec.specs.Handed.{accesses_in, AreWanted, KnowsAll, AreFound, ArePaired, IsFound};
+ghost use Rattle.bohm_exec.specs.Handed.{AreWanted, KnowsAll, AreFound, ArePaired, IsFound};
 ghost use Rattle.bohm_exec.specs.Turns.{LooksOnly};
 
-use crate::declared_set::DeclaredSet;
-use crate::reading::access_in;
 use bohm_board::{Board, Pass, Slot};
-use bohm_place::Source;
+use bohm_place::{DeclaredSet, Source};
 use bohm_txn::Cell;
 
 /// Looks up the versions of the batch among the accesses of a declared set, and puts their cells at
@@ -28,7 +26,7 @@ fn find(board: &Board, pass: &mut Pass, t: u32, set: DeclaredSet, cells: &mut [C
 {
     let batch = board.batch();
     for index in 0..cells.len() {
-        let access = access_in(set, batch, t, index as u32);
+        let access = batch.access(set, t, index as u32);
         match access.source {
             Source::Before => {}
             Source::Within(u) => {

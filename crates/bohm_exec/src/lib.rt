@@ -7,7 +7,6 @@
 mod aside;
 mod claiming;
 mod completion;
-mod declared_set;
 mod evaluation;
 mod filling;
 mod finding;
@@ -15,9 +14,10 @@ mod finished;
 mod gate;
 pub mod laws;
 mod pursuit;
-mod reading;
 mod shares;
 mod sweeping;
+#[cfg(test)]
+mod tests;
 mod turns;
 
 pub use aside::Aside;

@@ -13,3 +13,4 @@ pub mod Parted
 pub mod Newest
 pub mod TestTxns
 pub mod Members
+pub mod Noted

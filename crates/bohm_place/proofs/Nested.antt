@@ -7,7 +7,7 @@ use Rattle.bohm_tree.specs.declared.txn.Txn.{Txn}
 use Rattle.bohm_place.specs.declared.placeholder.Placeholder.{Placeholder}
 use Rattle.bohm_place.specs.Chains.{Keyed, placeholders_in, none, last_or}
 use Rattle.bohm_place.specs.Shares.{found_by, rows_from, made, newest_ahead}
-use Rattle.bohm_place.specs.Plans.{Accesses, Planned, access_of, accesses_of, reads_of, writes_of, AreRightAccesses, IsRightPlan}
+use Rattle.bohm_place.specs.Plans.{Accesses, Planned, access_of, accesses_of, reads_of, writes_of, AreLaidFrom, AreRightAccesses, IsRightPlan}
 use Rattle.bohm_place.proofs.Placed.{Below}
 use Rattle.bohm_place.proofs.Found.{found_same}
 use Rattle.bohm_place.proofs.Right.{right_access, newest_ahead-base}
@@ -60,6 +60,10 @@ length-nested f done (t ∷ ts) = ap suc (length-nested f (done ++ t ∷ []) ts)
 pub length-rows_from : (start : ℕ) (ts : List Txn) → length (rows_from start ts) ≡ length ts
 length-rows_from start [] = refl
 length-rows_from start (t ∷ ts) = ap suc (length-rows_from ((start + length t.reads) + length t.writes) ts)
+
+pub laid-rows_from : (start : ℕ) (ts : List Txn) → AreLaidFrom start (rows_from start ts)
+laid-rows_from start [] = tt
+laid-rows_from start (t ∷ ts) = (omega arith, laid-rows_from ((start + length t.reads) + length t.writes) ts)
 
 nested_at : (f : List Txn → List ℕ → Placeholder) (done ts : List Txn) (i : ℕ) (t : Txn) → slice_get ts i ≡ Some t
     → slice_get (nested f done ts) i ≡ Some (record { reads = map access_of (map (f (done ++ take i ts)) t.reads); writes = map access_of (map (f (done ++ take i ts)) t.writes) })

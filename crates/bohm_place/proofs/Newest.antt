@@ -14,7 +14,7 @@ use Rattle.bohm_place.specs.declared.access.Source.TheVariants.{Before, Within}
 use Rattle.bohm_place.specs.Shares.{AreWellFormed}
 use Rattle.bohm_place.specs.Writers.{IsNewest, upto, newest_of}
 
-formed_at : (ts : List Txn) → AreWellFormed ts → (i : ℕ) (t : Txn) → slice_get ts i ≡ Some t → IsWellFormedTxn t
+pub formed_at : (ts : List Txn) → AreWellFormed ts → (i : ℕ) (t : Txn) → slice_get ts i ≡ Some t → IsWellFormedTxn t
 formed_at ts formed i t e = subst IsWellFormedTxn (get_or_from_slice_get ts i t t e) (formed i t (slice_get_within ts i t e))
 
 -- a transaction that doesn't write the key leaves its cell

@@ -18,7 +18,7 @@ use Rattle.bohm_place.proofs.Keyed.{same_key, key_itself, last_or-append}
 use Rattle.bohm_place.proofs.Rising.{begins-append}
 use Rattle.bohm_place.proofs.Placed.{Below}
 
-among_place : (ks : List (List ℕ)) (j : ℕ) (k : List ℕ) → slice_get ks j ≡ Some k → is_among ks k ≡ true
+pub among_place : (ks : List (List ℕ)) (j : ℕ) (k : List ℕ) → slice_get ks j ≡ Some k → is_among ks k ≡ true
 among_place [] j k e = absurd cc
 among_place (x ∷ ks) zero k e = let same : x ≡ k = same_Some x k e in rw (same, key_itself k) refl
 among_place (x ∷ ks) (suc j) k e = or_more (bytes_eq x k) (is_among ks k) (among_place ks j k e)
@@ -138,7 +138,7 @@ newest_made first all k i inside =
 right_by : (first : ℕ) (all : List Txn) (k : List ℕ) (i : ℕ) (v : Placeholder) → 0 < first → LastBelow first all k i v → IsRightAccess first all (first + i) k (access_of v)
 right_by first all k i v above (inl (is, empty)) = rw is (record {
   newest = λ u low w. empty w.there.place w.txn (omega arith) (let t = w.there.timestamp in omega arith) w.there.is_at w.declared;
-  write = refl;
+  write = tt;
 })
 right_by first all k i v above (inr l) =
     let some : (v.begin == 0) ≡ false = let b = l.begin in grind (arith, nat_tests) in

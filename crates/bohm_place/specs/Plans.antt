@@ -1,10 +1,12 @@
 -- The right plan of a batch.
-use Rattle.std.specs.Prelude.{◌≡◌, ℕ, ◌+◌, List, [], length, map, take, drop, Some, slice_get, unwrap_or, ◌==◌, if◌then◌else◌}
+use Rattle.std.specs.Prelude.{◌≡◌, ℕ, ◌+◌, ◌<◌, ◌≤◌, ◌^◌, ◌⊎◌, List, [], ◌∷◌, length, map, take, drop, Option, Some, slice_get, unwrap_or, ◌==◌, if◌then◌else◌}
 use Rattle.std.specs.Option.{option_map}
 use Rattle.bohm_tree.specs.declared.txn.Txn.{Txn}
 use Rattle.bohm_place.specs.declared.access.Access.{Access}
 use Rattle.bohm_place.specs.declared.access.Source.{Source}
 use Rattle.bohm_place.specs.declared.access.Source.TheVariants.{Before, Within}
+use Rattle.bohm_place.specs.declared.declared_set.DeclaredSet.{DeclaredSet}
+use Rattle.bohm_place.specs.declared.declared_set.DeclaredSet.TheVariants.{Reads, Writes}
 use Rattle.bohm_place.specs.declared.placeholder.Placeholder.{Placeholder}
 use Rattle.bohm_place.specs.declared.row.Row.{Row}
 use Rattle.bohm_place.specs.Writers.{IsNewest, WritesAt}
@@ -26,9 +28,21 @@ reads_of p i = unwrap_or (option_map (λ row. row.reads) (slice_get p.rows i)) [
 abbrev pub writes_of : Planned → ℕ → List Access
 writes_of p i = unwrap_or (option_map (λ row. row.writes) (slice_get p.rows i)) []
 
--- the index is that of the source's declared write of the key
+-- of one of the two sets that a transaction declares, the keys and their accesses
+abbrev pub keys_in : DeclaredSet → Txn → List (List ℕ)
+keys_in Reads x = x.reads
+keys_in Writes x = x.writes
+
+abbrev pub planned_in : DeclaredSet → Planned → ℕ → List Access
+planned_in Reads p i = reads_of p i
+planned_in Writes p i = writes_of p i
+
+abbrev pub source_in : DeclaredSet → Planned → ℕ → ℕ → Option Source
+source_in set p i j = option_map (λ a. a.source) (slice_get (planned_in set p i) j)
+
+-- the index is that of the source's declared write of the key; a source `Before` has none
 abbrev pub IsIndexOf : ℕ → List Txn → List ℕ → ℕ → Source → Type 0
-IsIndexOf first txns k index Before = index ≡ 0
+IsIndexOf first txns k index Before = Unit {0}
 IsIndexOf first txns k index (Within u) = WritesAt first txns k u index
 
 -- the access of the key by the transaction with the timestamp t has the right source
@@ -47,6 +61,27 @@ pub record IsRightPlan (txns : List Txn) (p : Planned) : Type 0 where
   pub reads : (i : ℕ) (txn : Txn) → slice_get txns i ≡ Some txn → AreRightAccesses p.first txns (p.first + i) txn.reads (reads_of p i)
   pub writes : (i : ℕ) (txn : Txn) → slice_get txns i ≡ Some txn → AreRightAccesses p.first txns (p.first + i) txn.writes (writes_of p i)
 
+-- ---- places in a base
+
+-- the second plan has the sources of the first
+pub record HasSourcesOf (p q : Planned) : Type 0 where
+  pub first : q.first ≡ p.first
+  pub paired : length q.rows ≡ length p.rows
+  pub sources : (set : DeclaredSet) (i j : ℕ) → source_in set q i j ≡ source_in set p i j
+
+-- this is the access j of the set in row i, and has the place noted
+pub record IsNote (set other : DeclaredSet) (i m j n place : ℕ) (a : Access) : Type 0 where
+  pub same : other ≡ set
+  pub row : m ≡ i
+  pub index : n ≡ j
+  pub access : a ≡ record { source = Before; index = place }
+
+-- the second plan is the first with a place noted at the access j of the set in row i
+pub record IsNoted (p q : Planned) (set : DeclaredSet) (i j place : ℕ) : Type 0 where
+  pub sources : HasSourcesOf p q
+  pub here : slice_get (planned_in set q i) j ≡ Some (record { source = Before; index = place })
+  pub each : (other : DeclaredSet) (m n : ℕ) (a : Access) → slice_get (planned_in other q m) n ≡ Some a → (slice_get (planned_in other p m) n ≡ Some a) ⊎ IsNote set other i m j n place a
+
 -- ---- how a plan lies in memory
 
 -- a begin of 0 stands for no placeholder of the batch
@@ -55,3 +90,24 @@ access_of v = record { source = if (v.begin == 0) then Before else Within v.begi
 
 abbrev pub accesses_of : List Placeholder → Row → Accesses
 accesses_of vs row = record { reads = map access_of (take row.reads (drop row.start vs)); writes = map access_of (take row.writes (drop (row.start + row.reads) vs)) }
+
+-- where the accesses of a declared set lie, and how many they are
+abbrev pub start_in : DeclaredSet → Row → ℕ
+start_in Reads row = row.start
+start_in Writes row = row.start + row.reads
+
+abbrev pub count_in : DeclaredSet → Row → ℕ
+count_in Reads row = row.reads
+count_in Writes row = row.writes
+
+abbrev pub end_of : Row → ℕ
+end_of row = (row.start + row.reads) + row.writes
+
+-- each row's accesses lie behind those of the rows before it, and all behind n
+abbrev pub AreLaidFrom : ℕ → List Row → Type 0
+AreLaidFrom n [] = Unit {0}
+AreLaidFrom n (row ∷ rows) = (n ≤ row.start) × AreLaidFrom (end_of row) rows
+
+pub record AreRows (rows : List Row) : Type 0 where
+  pub few : length rows < 2 ^ 32
+  pub laid : AreLaidFrom 0 rows

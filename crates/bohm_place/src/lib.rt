@@ -6,6 +6,7 @@
 mod access;
 mod chain;
 mod deal;
+mod declared_set;
 pub mod laws;
 mod partition;
 mod placeholder;
@@ -19,6 +20,7 @@ mod share;
 mod tests;
 
 pub use access::{Access, Source};
+pub use declared_set::DeclaredSet;
 pub use partition::Partition;
 pub use places::Places;
 pub use planned::Plan;

@@ -1,9 +1,10 @@
 //! Plans.
 
-ghost use Rattle.std.specs.Prelude.{◌≡◌, ◌-◌, ◌<◌, ◌≤◌, ◌^◌, length, slice_get, Some, IsSomeAnd};
+ghost use Rattle.std.specs.Prelude.{◌≡◌, ◌-◌, ◌<◌, ◌≤◌, length, slice_get, Some, IsSomeAnd};
 ghost use Rattle.bohm_place.specs.Plans.{access_of};
 
 use crate::access::{Access, Source};
+use crate::declared_set::DeclaredSet;
 use crate::placeholder::Placeholder;
 use crate::row::Row;
 use std::marker::Model;
@@ -17,14 +18,14 @@ pub struct Plan {
 }
 
 impl Model for Plan {
-    ghost use Rattle.std.specs.Prelude.{map, ◌^◌, ◌<◌, length};
-    ghost use Rattle.bohm_place.specs.Plans.{Planned, accesses_of};
+    ghost use Rattle.std.specs.Prelude.{map};
+    ghost use Rattle.bohm_place.specs.Plans.{Planned, accesses_of, AreRows};
 
     ghost Value = { Planned };
 
     ghost view = { λ p. record { first = p.first; rows = map (accesses_of p.placeholders.items) p.rows.items } };
 
-    ghost invariant = { λ p. length p.rows.items < 2 ^ 32 };
+    ghost invariant = { λ p. AreRows p.rows.items };
 }
 
 impl From<Placeholder> for Access {
@@ -44,11 +45,12 @@ impl From<Placeholder> for Access {
 
 impl Plan {
     ghost use Rattle.std.specs.Prelude.{map};
-    ghost use Rattle.bohm_place.specs.Plans.{accesses_of, reads_of, writes_of};
+    ghost use Rattle.bohm_place.specs.Plans.{accesses_of, planned_in, reads_of, writes_of, source_in, AreRows, IsNoted};
+    ghost use Rattle.bohm_place.specs.declared.access.Source.TheVariants.{Before};
 
     /// The plan of a batch that starts at a timestamp.
     pub(crate) fn new(first: u32, placeholders: Vec<Placeholder>, rows: Vec<Row>) -> Plan
-        requires { length rows.items < 2 ^ 32 }
+        requires { AreRows rows.items }
         ensures first { result.first ≡ first }
         ensures rows { result.rows ≡ map (accesses_of placeholders.items) rows.items }
     {
@@ -79,7 +81,7 @@ impl Plan {
         requires index { index < length (reads_of self.now (t - self.now.first)) }
         ensures { IsSomeAnd (slice_get (reads_of self.now (t - self.now.first)) index) (λ a. a.source ≡ result) }
     {
-        self.read_access(t, index).source
+        self.access(DeclaredSet::Reads, t, index).source
     }
 
     /// The source of the declared write of this index, counted from 0, of the transaction with a
@@ -89,28 +91,30 @@ impl Plan {
         requires index { index < length (writes_of self.now (t - self.now.first)) }
         ensures { IsSomeAnd (slice_get (writes_of self.now (t - self.now.first)) index) (λ a. a.source ≡ result) }
     {
-        self.write_access(t, index).source
+        self.access(DeclaredSet::Writes, t, index).source
     }
 
-    /// The same of a read, with the index of the source's declared write of the key. Its time is
-    /// constant.
-    pub fn read_access(&self, t: u32, index: u32) -> Access
+    /// The access of the key of this index, counted from 0, in a declared set of the transaction with a
+    /// timestamp. Its time is constant.
+    pub fn access(&self, set: DeclaredSet, t: u32, index: u32) -> Access
         requires first { self.now.first ≤ t }
-        requires index { index < length (reads_of self.now (t - self.now.first)) }
-        ensures { slice_get (reads_of self.now (t - self.now.first)) index ≡ Some result }
+        requires index { index < length (planned_in set self.now (t - self.now.first)) }
+        ensures { slice_get (planned_in set self.now (t - self.now.first)) index ≡ Some result }
     {
         let row = self.rows[(t - self.first) as usize];
-        Access::from(self.placeholders[row.start + index as usize])
+        Access::from(self.placeholders[row.place(set, index)])
     }
 
-    /// The same of a declared write, with the index of the source's declared write of the key. Its time
-    /// is constant.
-    pub fn write_access(&self, t: u32, index: u32) -> Access
-        requires first { self.now.first ≤ t }
-        requires index { index < length (writes_of self.now (t - self.now.first)) }
-        ensures { slice_get (writes_of self.now (t - self.now.first)) index ≡ Some result }
+    /// Notes the place of the key in the base of the batch at an access whose source is `Before`. All
+    /// other accesses stay as they are. Its time is constant.
+    pub fn note(&mut self, set: DeclaredSet, t: u32, index: u32, place: u32)
+        requires first { self.old.first ≤ t }
+        requires index { index < length (planned_in set self.old (t - self.old.first)) }
+        requires source { source_in set self.old (t - self.old.first) index ≡ Some Before }
+        ensures { IsNoted self.old self.new set (t - self.old.first) index place }
     {
         let row = self.rows[(t - self.first) as usize];
-        Access::from(self.placeholders[row.start + row.reads as usize + index as usize])
+        let accessed = row.place(set, index);
+        self.placeholders[accessed].index = place;
     }
 }

@@ -1,8 +1,10 @@
 //! Where the accesses of a transaction lie.
 
-ghost use Rattle.std.specs.Prelude.{◌≡◌, ◌≤◌, ◌+◌, ◌*◌, ◌^◌, length, sum_by, IfOk};
+ghost use Rattle.std.specs.Prelude.{◌≡◌, ◌<◌, ◌≤◌, ◌+◌, ◌*◌, ◌^◌, length, sum_by, IfOk};
+ghost use Rattle.bohm_place.specs.Plans.{start_in};
 ghost use Rattle.bohm_place.specs.Shares.{rows_from, AreWellFormed};
 
+use crate::declared_set::DeclaredSet;
 use bohm_txn::{NoMemory, Txn};
 use std::alloc::Global;
 
@@ -13,6 +15,20 @@ pub struct Row {
     pub start: usize,
     pub reads: u32,
     pub writes: u32,
+}
+
+impl Row {
+    /// Where the access of this index, counted from 0, of a declared set lies.
+    pub fn place(self, set: DeclaredSet, index: u32) -> usize
+        requires { start_in set self + index < 2 ^ 64 }
+        ensures { result ≡ start_in set self + index }
+    {
+        let start = match set {
+            DeclaredSet::Reads => self.start,
+            DeclaredSet::Writes => self.start + self.reads as usize,
+        };
+        start + index as usize
+    }
 }
 
 /// The row of each transaction.

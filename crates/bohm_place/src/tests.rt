@@ -4,7 +4,7 @@ ghost use Rattle.bohm_txn.specs.Faulty.{IsWellFormedTxn, rising, rises_from};
 ghost use Rattle.bohm_place.specs.Plans.{IsRightPlan};
 ghost use Rattle.bohm_place.specs.Shares.{AreWellFormed};
 
-use crate::{Access, Partition, Places, Plan, Shards, Source, plan};
+use crate::{Access, DeclaredSet, Partition, Places, Plan, Shards, Source, plan};
 use bohm_txn::{Edition, Items, Key, NoMemory, Txn};
 use std::alloc::Global;
 use std::process::Abort;
@@ -168,7 +168,7 @@ fn read_of(rt: &impl Abort, plan: &Plan, txns: &[Txn], t: u32, index: u32) -> Ac
     let txn = txns.get(place as usize).expect(rt, "a transaction");
     let inside = (index as usize) < txn.reads.as_slice().len();
     assert!(rt; inside);
-    let access = plan.read_access(t, index);
+    let access = plan.access(DeclaredSet::Reads, t, index);
     assert_eq!(rt; plan.read(t, index), access.source);
     access
 }
@@ -183,7 +183,7 @@ fn write_of(rt: &impl Abort, plan: &Plan, txns: &[Txn], t: u32, index: u32) -> A
     let txn = txns.get(place as usize).expect(rt, "a transaction");
     let inside = (index as usize) < txn.writes.as_slice().len();
     assert!(rt; inside);
-    let access = plan.write_access(t, index);
+    let access = plan.access(DeclaredSet::Writes, t, index);
     assert_eq!(rt; plan.write(t, index), access.source);
     access
 }

@@ -1,5 +1,5 @@
 -- A transaction's step over a finite store.
-use Rattle.std.proofs.Common.{◌≡◌, ℕ, zero, suc, ◌+◌, Bool, true, false, List, [], ◌∷◌, ◌++◌, map, length, drop, Some, Ok, Err, refl, sym, ap, ◌∙◌, inl, inr, arith, add-one, append_assoc}
+use Rattle.std.proofs.Common.{◌≡◌, ℕ, ◌+◌, Bool, true, false, List, [], ◌∷◌, ◌++◌, map, length, drop, Some, Ok, Err, refl, sym, ap, ◌∙◌, inl, inr, arith, append_assoc}
 use Rattle.std.specs.Prelude.{ℤ, ◌⊎◌, ◌||◌, cond, Result, OnOk}
 use Rattle.std.specs.List.{zip, list_any, slice_get}
 use Rattle.std.specs.Str.{bytes_eq}
@@ -13,6 +13,7 @@ use Rattle.bohm_txn.specs.Meaning.{Look, Ended, body, newest}
 use Rattle.bohm_txn.specs.Serial.{writes_of, shows_of, outcome_of, reply_of, after, replies}
 use Rattle.bohm_txn.specs.Stores.{Store, cell_in, put_all, store_after}
 use Rattle.bohm_txn.proofs.Bodies.{kept, same_key}
+use Rattle.bohm_txn.proofs.Lists.{drop_at}
 use Rattle.bohm_txn.proofs.Stores.{cell_in-put_all, same_store}
 use Rattle.bohm_txn.proofs.UseLaws.{usable}
 use Rattle.bohm_serial.specs.Steps.{reply_with}
@@ -63,18 +64,13 @@ pub on_ok : {A E P : Type 0} (r : Result A E) → P → OnOk r P
 on_ok (Ok x) p = p
 on_ok (Err e) p = tt
 
-drop_more : (ts : List Txn) (i : ℕ) (t : Txn) → slice_get ts i ≡ Some t → drop i ts ≡ t ∷ drop (suc i) ts
-drop_more [] i t e = absurd cc
-drop_more (x ∷ ts) zero t e = let same : x ≡ t = cc in λ j. same j ∷ ts
-drop_more (x ∷ ts) (suc i) t e = drop_more ts i t e
-
 -- one more transaction of the log
 pub replies_more : (s s' : Store) (ts : List Txn) (i : ℕ) (t : Txn) (r : Reply) (done whole : List Reply) → slice_get ts i ≡ Some t → r ≡ reply_of (body (cell_in s) t) → s' ≡ put_all s (writes_of (body (cell_in s) t))
     → done ++ replies (cell_in s) (drop i ts) ≡ whole → (done ++ r ∷ []) ++ replies (cell_in s') (drop (i + 1) ts) ≡ whole
 replies_more s s' ts i t r done whole at is next e =
     let look : cell_in s' ≡ after (cell_in s) t = ap cell_in next ∙ cell_in-step s t in
-    let here : replies (cell_in s) (drop i ts) ≡ r ∷ replies (cell_in s') (drop (i + 1) ts) = ap (replies (cell_in s)) (drop_more ts i t at) ∙ (λ j. sym is j ∷ replies (sym look j) (drop (sym (add-one i) j) ts)) in
+    let here : replies (cell_in s) (drop i ts) ≡ r ∷ replies (cell_in s') (drop (i + 1) ts) = ap (replies (cell_in s)) (drop_at ts i t at) ∙ (λ j. sym is j ∷ replies (sym look j) (drop (i + 1) ts)) in
     rw append_assoc (ap (λ (rs : List Reply). done ++ rs) (sym here) ∙ e)
 
 pub store_after_more : (s s' : Store) (ts : List Txn) (i : ℕ) (t : Txn) (whole : Store) → slice_get ts i ≡ Some t → s' ≡ put_all s (writes_of (body (cell_in s) t)) → store_after s (drop i ts) ≡ whole → store_after s' (drop (i + 1) ts) ≡ whole
-store_after_more s s' ts i t whole at next e = (λ j. store_after (next j) (drop (add-one i j) ts)) ∙ (sym (ap (store_after s) (drop_more ts i t at)) ∙ e)
+store_after_more s s' ts i t whole at next e = (λ j. store_after (next j) (drop (i + 1) ts)) ∙ (sym (ap (store_after s) (drop_at ts i t at)) ∙ e)

@@ -52,11 +52,11 @@ distinct_removed k (f ∷ fs) d = distinct_by k f fs (bytes_eq k f.0) refl d (di
 
 -- ---- the count
 
-rest_distinct : (e : List ℕ × List Version) (es : Keyed) → IsDistinct bytes_eq (keys_of (e ∷ es)) → IsDistinct bytes_eq (keys_of es)
+pub rest_distinct : (e : List ℕ × List Version) (es : Keyed) → IsDistinct bytes_eq (keys_of (e ∷ es)) → IsDistinct bytes_eq (keys_of es)
 unfolding IsDistinct
 rest_distinct e es d = d.1
 
-gone : (e : List ℕ × List Version) (es : Keyed) (k : List ℕ) → IsDistinct bytes_eq (keys_of (e ∷ es)) → bytes_eq k e.0 ≡ true → versions_in es k ≡ []
+pub gone : (e : List ℕ × List Version) (es : Keyed) (k : List ℕ) → IsDistinct bytes_eq (keys_of (e ∷ es)) → bytes_eq k e.0 ≡ true → versions_in es k ≡ []
 unfolding IsDistinct
 gone e es k d same = ap (λ (o : Option (List Version)). unwrap_or o []) (none_from e.0 k es same d.0)
 

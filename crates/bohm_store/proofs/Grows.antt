@@ -170,9 +170,22 @@ pub added_of : (ws : List Write) (i : ℕ) (d w : Write) (k : List ℕ) → i < 
     → new ≡ old ++ made (take (i + 1) ws) k
 added_of ws i d w k inside is old mid new m n = added ws i d k inside old mid new m (subst (λ (x : Write). new ≡ (if bytes_eq x.key k then mid ++ record { begin = x.begin; cell = x.cell } ∷ [] else mid)) is n)
 
-pub shortened : (v : Version) (old new : List Version) (r : Option Version) → old ≡ new ++ option_to_list r → v ∷ new ≡ (if is_some r then front (v ∷ old) else v ∷ old)
-shortened v old new None e = ap (λ xs. v ∷ xs) (sym (e ∙ append-nil new))
-shortened v old new (Some w) e = rw e (sym (front_more v new w))
+-- the newest version let go, among those that stand behind the second one
+pub dropped_later : (v : Version) (second : Option Version) (old new : List Version) (w : Version) → old ≡ new ++ w ∷ [] → v ∷ (option_to_list second ++ new) ≡ front (v ∷ (option_to_list second ++ old))
+dropped_later v None old new w e = rw e (sym (front_more v new w))
+dropped_later v (Some x) old new w e = rw e (ap (λ xs. v ∷ xs) (sym (front_more x new w)))
+
+-- or where none stands there
+pub dropped_second : (v : Version) (second : Option Version) (old new : List Version) (went : Bool) → length old ≡ 0 → length new ≡ 0 → went ≡ is_some second → v ∷ new ≡ (if went then front (v ∷ (option_to_list second ++ old)) else v ∷ (option_to_list second ++ old))
+dropped_second v None [] [] went o n is = rw is refl
+dropped_second v (Some x) [] [] went o n is = rw is refl
+dropped_second v second (y ∷ ys) new went o n is = absurd (omega arith)
+dropped_second v second old (y ∷ ys) went o n is = absurd (omega arith)
+
+pub dropped_only : (v : Version) (second : Option Version) (old : List Version) (went : Bool) → length old ≡ 0 → went ≡ is_some second → went ≡ false → front (v ∷ (option_to_list second ++ old)) ≡ []
+dropped_only v None [] went o is not = refl
+dropped_only v (Some x) [] went o is not = absurd cc
+dropped_only v second (y ∷ ys) went o is not = absurd (omega arith)
 
 pub rises_grown : (n : ℕ) (old new : List Follower) (f : Follower) → n ≤ f.begin → RisesTo n old → (new ≡ old) ⊎ (new ≡ old ++ f ∷ []) → RisesTo f.begin new
 rises_grown n old new f le h (inl e) = rw e (rises_higher n f.begin old le h)

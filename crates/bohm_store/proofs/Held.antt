@@ -1,7 +1,7 @@
 -- The keys that have a value at a time.
-use Rattle.std.proofs.Common.{◌≡◌, ℕ, Bool, true, false, List, [], ◌∷◌, ◌++◌, length, None, unwrap_or, refl, ap, ◌∙◌, suc, ◌+◌}
+use Rattle.std.proofs.Common.{◌≡◌, ℕ, Bool, true, false, List, [], ◌∷◌, ◌++◌, None, unwrap_or, refl, ap, ◌∙◌}
 use Rattle.std.specs.Prelude.{ℤ}
-use Rattle.std.specs.Map.{lookup, keys_of, values_of}
+use Rattle.std.specs.Map.{lookup, keys_of}
 use Rattle.std.specs.List.{AllByRecursion, IsDistinct}
 use Rattle.std.specs.Str.{bytes_eq}
 use Rattle.std.specs.Cmp.Lexicographic.{nat_list_eq_equiv}
@@ -11,9 +11,9 @@ use Rattle.bohm_txn.specs.Meaning.{number_in}
 use Rattle.bohm_txn.specs.Stores.{cell_of, cell_in, store_of}
 use Rattle.bohm_store.specs.declared.version.Version.{Version}
 use Rattle.bohm_store.specs.declared.chain.Chain.{Chain}
-use Rattle.bohm_store.specs.Versions.{cell_at, total}
-use Rattle.bohm_store.specs.Chains.{items, table, pick, picks, held, chain_total}
-use Rattle.bohm_store.proofs.Entries.{get-store_of}
+use Rattle.bohm_store.specs.Versions.{cell_at}
+use Rattle.bohm_store.specs.Chains.{items, table, pick, picks, held}
+use Rattle.bohm_txn.proofs.Entries.{get-store_of}
 
 pub pick-append : (k : List ℕ) (c : Cell) (rest : List (List ℕ × ℤ)) → pick k c [] ++ rest ≡ pick k c rest
 pick-append k Absent rest = refl
@@ -26,10 +26,6 @@ picks_table ts (e ∷ es) = ap (pick e.0 (cell_at ts (items e.1) Absent)) (picks
 pub keys_table : (es : List (List ℕ × Chain)) → keys_of (table es) ≡ keys_of es
 keys_table [] = refl
 keys_table (e ∷ es) = ap (λ ks. e.0 ∷ ks) (keys_table es)
-
-pub total_table : (es : List (List ℕ × Chain)) → chain_total (values_of es) ≡ total (table es)
-total_table [] = refl
-total_table (e ∷ es) = ap (λ n. suc (length e.1.later.items) + n) (total_table es)
 
 -- ---- the keys differ
 

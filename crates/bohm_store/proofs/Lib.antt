@@ -2,14 +2,12 @@ pub mod Past
 pub mod Newest
 pub mod Grows
 pub mod Views
-pub mod Entries
 pub mod Starts
 pub mod Produced
 pub mod Writing
 pub mod Bases
 pub mod Later
-pub mod Permuted
-pub mod Listed
 pub mod Held
 pub mod Counts
 pub mod Swept
+pub mod Queued

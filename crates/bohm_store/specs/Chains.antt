@@ -1,5 +1,5 @@
 -- How versions lie in memory.
-use Rattle.std.specs.Prelude.{◌≡◌, ℕ, suc, ◌+◌, ℤ, ◌≤◌, ◌<◌, List, [], ◌∷◌, ◌++◌, map, Option, None, Some, if◌then◌else◌, length, All}
+use Rattle.std.specs.Prelude.{◌≡◌, ℕ, ℤ, ◌≤◌, ◌<◌, List, [], ◌∷◌, ◌++◌, map, Option, None, Some, if◌then◌else◌, All, option_to_list}
 use Rattle.std.specs.Str.{bytes_eq}
 use Rattle.std.specs.HashMap.{HashMap, get}
 use Rattle.bohm_tree.specs.declared.cell.Cell.{Cell}
@@ -14,7 +14,7 @@ use Rattle.bohm_store.specs.Versions.{cell_at, Rises}
 -- ---- one key
 
 abbrev pub items : Chain → List Version
-items c = c.first ∷ c.later.items
+items c = c.first ∷ (option_to_list c.second ++ c.later.items)
 
 abbrev pub items_of : Option Chain → List Version
 items_of None = []
@@ -66,11 +66,6 @@ made (w ∷ ws) k = (if bytes_eq w.key k then record { begin = w.begin; cell = w
 abbrev pub Climb : ℕ → List Write → ℕ → Type 0
 Climb n [] top = n ≤ top
 Climb n (w ∷ ws) top = (n ≤ w.begin) × Climb w.begin ws top
-
--- how many versions chains have
-abbrev pub chain_total : List Chain → ℕ
-chain_total [] = 0
-chain_total (c ∷ cs) = suc (length c.later.items) + chain_total cs
 
 -- ---- the versions that follow another one of their key
 

@@ -1,6 +1,6 @@
 //! The versions of one key.
 
-ghost use Rattle.std.specs.Prelude.{◌≡◌, [], ◌∷◌, ◌++◌, false, is_ok, if◌then◌else◌};
+ghost use Rattle.std.specs.Prelude.{◌≡◌, [], ◌∷◌, ◌++◌, false, is_ok, option_to_list, if◌then◌else◌};
 ghost use Rattle.bohm_tree.specs.declared.cell.Cell.TheVariants.{Absent};
 ghost use Rattle.bohm_store.specs.Chains.{items, shift, front};
 ghost use Rattle.bohm_store.specs.Versions.{cell_at};
@@ -11,11 +11,12 @@ use bohm_txn::{Cell, Key, NoMemory};
 use std::alloc::Global;
 use std::collections::VecDeque;
 
-/// The versions of one key, rising. It is never empty, and takes no memory of its own for the oldest.
+/// The versions of one key, rising. It is never empty, and takes no memory of its own for the two oldest.
 #[derive(Drop)]
 pub struct Chain {
-    pub first: Version,
-    pub later: VecDeque<Version>,
+    first: Version,
+    second: Option<Version>,
+    later: VecDeque<Version>,
 }
 
 impl Chain {
@@ -24,7 +25,19 @@ impl Chain {
     {
         Chain {
             first,
+            second: None,
             later: VecDeque::new(alloc),
+        }
+    }
+
+    // The cell of the newest of the two oldest that begins at or below a timestamp, or absence.
+    fn early_cell_at(&self, ts: u32) -> Cell
+        ensures { result ≡ cell_at ts (self.now.first ∷ option_to_list self.now.second) Absent }
+    {
+        let before = self.first.cell_or(ts, Cell::Absent);
+        match self.second {
+            Some(version) => version.cell_or(ts, before),
+            None => before,
         }
     }
 
@@ -41,15 +54,11 @@ impl Chain {
                 return version.cell;
             }
         }
-        if self.first.begin <= ts {
-            self.first.cell
-        } else {
-            Cell::Absent
-        }
+        self.early_cell_at(ts)
     }
 
-    /// Adds a version, and that it follows another one.
-    pub fn extend(
+    // Adds a version where a second one stands, and that it follows another one.
+    fn extend_later(
         &mut self,
         followers: &mut VecDeque<Follower>,
         key: Key,
@@ -65,12 +74,39 @@ impl Chain {
         Ok(())
     }
 
+    /// Adds a version, and that it follows another one.
+    pub fn extend(
+        &mut self,
+        followers: &mut VecDeque<Follower>,
+        key: Key,
+        begin: u32,
+        cell: Cell,
+    ) -> Result<(), NoMemory>
+        ensures items { items self.new ≡ (if is_ok result then items self.old ++ record { begin = begin; cell = cell } ∷ [] else items self.old) }
+        ensures followers { followers.new.items ≡ (if is_ok result then followers.old.items ++ record { begin = begin; key = key } ∷ [] else followers.old.items) }
+    {
+        if self.second.is_some() || !self.later.is_empty() {
+            return self.extend_later(followers, key, begin, cell);
+        }
+        followers.push_back(Follower { begin, key })?;
+        self.second = Some(Version { begin, cell });
+        Ok(())
+    }
+
     /// Lets the oldest version go, where another one follows.
     pub fn drop_oldest(&mut self)
         ensures { items self.new ≡ shift (items self.old) }
     {
-        if let Some(next) = self.later.pop_front() {
-            self.first = next;
+        match self.second {
+            Some(second) => {
+                self.first = second;
+                self.second = self.later.pop_front();
+            }
+            None => {
+                if let Some(next) = self.later.pop_front() {
+                    self.first = next;
+                }
+            }
         }
     }
 
@@ -79,6 +115,9 @@ impl Chain {
         ensures items { items self.new ≡ (if result then front (items self.old) else items self.old) }
         ensures only { result ≡ false → front (items self.old) ≡ [] }
     {
-        self.later.pop_back().is_some()
+        match self.later.pop_back() {
+            Some(_) => true,
+            None => self.second.take().is_some(),
+        }
     }
 }

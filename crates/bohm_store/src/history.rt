@@ -10,7 +10,7 @@ ghost use Rattle.bohm_txn.specs.Faulty.{rising, names_of, IsWellFormedTxn};
 ghost use Rattle.bohm_txn.specs.Stores.{cell_in, store_of};
 ghost use Rattle.bohm_store.specs.declared.version.Version.{Version};
 ghost use Rattle.bohm_store.specs.Versions.{IsCellAt, IsKept, kept, past, total, versions};
-ghost use Rattle.bohm_place.specs.Plans.{IsRightPlan};
+ghost use Rattle.bohm_place.specs.Plans.{HasSourcesOf, IsRightPlan};
 ghost use Rattle.bohm_board.specs.Batches.{base_of, first_of, plan_of, txns_of};
 ghost use Rattle.bohm_exec.specs.Answers.{batch_of_finished};
 ghost use Rattle.bohm_store.specs.Chains.{started};
@@ -22,7 +22,7 @@ use crate::chain::Chain;
 use crate::chains::{add, cell_of, start, trim};
 use crate::fault::{PastFault, StoreFault};
 use crate::followers::Follower;
-use crate::listing::{count, present};
+use crate::listing::present;
 use crate::settling::writes_of;
 use crate::version::Write;
 use bohm_board::Batch;
@@ -89,9 +89,11 @@ impl History {
 
     /// What a key holds after the transaction with a timestamp: the cell of its version with the greatest
     /// begin at or below it. `Trimmed` below the floor, `Future` above the top. Its time is that of one
-    /// look-up, and grows with how many versions of the key are newer.
+    /// look-up, and grows with how many versions of the key are newer. It takes no memory.
     pub fn value_at(&self, key: &Key, ts: u32) -> Result<Cell, PastFault>
-        ensures result { result ≡ (if nat_lt ts self.now.floor then Err PastFault.Trimmed else if nat_lt self.now.top ts then Err PastFault.Future else Ok (past self.now ts key.now)) }
+        ensures trimmed { (result ≡ Err PastFault.Trimmed) ↔ (ts < self.now.floor) }
+        ensures future { (result ≡ Err PastFault.Future) ↔ (self.now.top < ts) }
+        ensures within { self.now.floor ≤ ts → ts ≤ self.now.top → result ≡ Ok (past self.now ts key.now) }
         ensures newest { IfOk result (IsCellAt ts (versions self.now key.now)) }
     {
         if ts < self.floor {
@@ -104,11 +106,12 @@ impl History {
     }
 
     /// What each key holds after the transaction with a timestamp: the keys that have a value, rising, with
-    /// it. `Trimmed` below the floor and `Future` above the top, which are decided before any growth. Its
-    /// time grows with the number n of keys as n log n, and with how many versions are newer.
+    /// it. `Trimmed` below the floor and `Future` above the top, which are decided before any growth. It
+    /// goes over all keys: its time grows with their number n as n log n, and with how many versions are
+    /// newer.
     pub fn store_at(&self, alloc: Global, ts: u32) -> Result<Vec<(Key, Value)>, StoreFault>
-        ensures trimmed { ts < self.now.floor → result ≡ Err StoreFault.Trimmed }
-        ensures future { self.now.floor ≤ ts → self.now.top < ts → result ≡ Err StoreFault.Future }
+        ensures trimmed { (result ≡ Err StoreFault.Trimmed) ↔ (ts < self.now.floor) }
+        ensures future { (result ≡ Err StoreFault.Future) ↔ (self.now.top < ts) }
         ensures within { self.now.floor ≤ ts → ts ≤ self.now.top → OnErr result (result ≡ Err StoreFault.NoMemory) }
         ensures past { IfOk result (λ v. cell_in (store_of v.items) ≡ past self.now ts) }
         ensures entries { IfOk result (λ v. v.items ≡ entries (store_of v.items)) }
@@ -128,18 +131,18 @@ impl History {
         }
     }
 
-    /// The number of kept versions, or the greatest number of 64 bits where there are more. Its time grows
-    /// with the number of keys.
+    /// The number of kept versions, or the greatest number of 64 bits where there are more. Its time is
+    /// constant: each key has one version that follows no other, and the others stand in a queue.
     pub fn version_count(&self) -> u64
         ensures count { result ≡ min (total self.now.chains) 18446744073709551615 }
         ensures distinct { IsDistinct bytes_eq (keys_of self.now.chains) }
     {
-        count(&self.chains)
+        (self.chains.len() as u64).saturating_add(self.followers.len() as u64)
     }
 
     /// The batch of these transactions that starts behind the top, with what their keys hold there. The
     /// plan is given up on a refusal. The time grows with the number n of keys that the transactions
-    /// declare as n log n.
+    /// declare as n log n, whatever other keys there are.
     pub fn batch<'a>(
         &self,
         alloc: Global,
@@ -153,7 +156,7 @@ impl History {
         requires first { plan.first ≡ self.now.top + 1 }
         requires right { IsRightPlan txns.now plan }
         ensures txns { IfOk result (λ b. txns_of b ≡ txns.entry.now) }
-        ensures plan { IfOk result (λ b. plan_of b ≡ plan) }
+        ensures plan { IfOk result (λ b. HasSourcesOf plan (plan_of b)) }
         ensures next { IfOk result (IsNext self.now) }
     {
         let base = base_at(&self.chains, alloc, txns, self.top)?;
@@ -182,8 +185,11 @@ impl History {
     }
 
     /// Adds a version for each declared write of each transaction of the batch, aborted ones included, and
-    /// moves the top to the batch's end. The batch is the next one of this history. A refusal changes
-    /// nothing. The time grows with the number of the batch's declared writes.
+    /// moves the top to the batch's end. The batch is the next one of this history.
+    ///
+    /// A refusal changes nothing that is seen: a key may be new, and how many versions it gets comes out
+    /// only on the way, so not all growth can come first; the versions that were added are let go again,
+    /// newest first. The time grows with the number of the batch's declared writes, on a refusal too.
     pub fn settle(&mut self, alloc: Global, finished: &Finished<'_>) -> Result<(), NoMemory>
         requires { IsNext self.old (batch_of_finished finished.now) }
         ensures err { OnErr result (IsSame self.old self.new) }
@@ -195,12 +201,13 @@ impl History {
 
     /// Where the floor is above the present one it becomes the floor, and of each key there stay the
     /// versions that begin above it and the newest one at or below it. Else nothing changes. Its time
-    /// grows with how many versions go.
+    /// grows with how many versions go, whatever keys and versions stay. It takes no memory.
     pub fn trim(&mut self, floor: u32)
         requires { floor ≤ self.old.top }
         ensures floor { self.new.floor ≡ max self.old.floor floor }
         ensures top { self.new.top ≡ self.old.top }
-        ensures versions { (k : List ℕ) → versions self.new k ≡ (if nat_lt self.old.floor floor then kept floor (versions self.old k) else versions self.old k) }
+        ensures versions { self.old.floor < floor → (k : List ℕ) → versions self.new k ≡ kept floor (versions self.old k) }
+        ensures unchanged { floor ≤ self.old.floor → (k : List ℕ) → versions self.new k ≡ versions self.old k }
         ensures kept { self.old.floor < floor → (k : List ℕ) (v : Version) → Contains (versions self.new k) v ↔ IsKept floor (versions self.old k) v }
         ensures past { (ts : ℕ) → self.new.floor ≤ ts → past self.new ts ≡ past self.old ts }
     {

@@ -1,11 +1,11 @@
-//! What all keys hold, and how many versions there are.
+//! What all keys hold.
 
-ghost use Rattle.std.specs.Prelude.{◌≡◌, ◌++◌, [], IfOk, OnOk, min};
-ghost use Rattle.std.specs.HashMap.{values, IsUnique};
+ghost use Rattle.std.specs.Prelude.{◌≡◌, ◌++◌, [], IfOk, OnOk};
+ghost use Rattle.std.specs.HashMap.{IsUnique};
 ghost use Rattle.std.specs.Str.{bytes_eq};
 ghost use Rattle.bohm_tree.specs.declared.cell.Cell.TheVariants.{Absent};
 ghost use Rattle.bohm_store.specs.Versions.{cell_at};
-ghost use Rattle.bohm_store.specs.Chains.{chain_total, items, pick, picks};
+ghost use Rattle.bohm_store.specs.Chains.{items, pick, picks};
 
 use crate::chain::Chain;
 use bohm_txn::{Cell, Key, NoMemory, Value};
@@ -36,18 +36,4 @@ pub fn present(
         list_one(&mut out, key, chain, ts)?;
     }
     Ok(out)
-}
-
-/// The number of versions, or the greatest number where there are more.
-pub fn count(chains: &HashMap<Key, Chain>) -> u64
-    ensures count { result ≡ min (chain_total (values chains.now)) 18446744073709551615 }
-    ensures unique { IsUnique bytes_eq chains.now }
-{
-    let mut count = 0u64;
-    for chain in chains.values() {
-        count = count
-            .saturating_add(1)
-            .saturating_add(chain.later.len() as u64);
-    }
-    count
 }

@@ -33,11 +33,22 @@ fn list_writes(
     Ok(())
 }
 
+// How many writes the transactions declare.
+fn count_writes(finished: &Finished<'_>) -> usize {
+    let mut count = 0;
+    let first = finished.first();
+    for place in 0..finished.len() {
+        let txn = finished.batch().txn(first + place);
+        count += txn.writes.as_slice().len();
+    }
+    count
+}
+
 /// The writes of all transactions, in log order.
 pub fn writes_of(alloc: Global, finished: &Finished<'_>) -> Result<Vec<Write>, NoMemory>
     ensures { IfOk result (λ v. v.items ≡ written_all (first_of (batch_of_finished finished.now)) (base_of (batch_of_finished finished.now)) (txns_of (batch_of_finished finished.now))) }
 {
-    let mut out = Vec::new(alloc);
+    let mut out = Vec::with_capacity(alloc, count_writes(finished))?;
     let first = finished.first();
     for place in 0..finished.len() {
         let t = first + place;

@@ -162,8 +162,10 @@ fn assert_untrimmed(rt: &impl Abort, history: &History) {
 
 fn assert_trimmed(rt: &impl Abort, history: &History) {
     assert_eq!(rt; history.floor(), 2);
+    assert_eq!(rt; history.top(), 3);
     assert_eq!(rt; history.version_count(), 1);
     assert_eq!(rt; history.value_at(&key(rt), 1), Err(PastFault::Trimmed));
+    assert_eq!(rt; history.value_at(&key(rt), 2), Ok(Cell::Absent));
 }
 
 #[test]
@@ -281,5 +283,143 @@ fn a_store_is_listed_by_rising_keys(rt: HostRuntime) -> Result<(), Fail> {
     let history = History::open(alloc, checked.store())?;
     let store = history.store_at(alloc, 0).expect(&rt, "a store");
     assert_eq!(rt; store.as_slice(), checked.store());
+    Ok(())
+}
+
+fn named(rt: &impl Abort, name: &[u8]) -> Key {
+    Key::new(name).expect(rt, "a name")
+}
+
+fn set(rt: &impl Abort, alloc: Global, key: Key, number: u64) -> Result<Stmt, NoMemory> {
+    Ok(Stmt::Put {
+        key,
+        sum: sum(rt, alloc, &[literal(rt, number)])?,
+        guard: None,
+    })
+}
+
+// Adds one to a; drops b and sets c to 3.
+fn first_log(rt: &impl Abort, alloc: Global) -> Result<Vec<Txn>, NoMemory> {
+    let (b, c) = (named(rt, b"b"), named(rt, b"c"));
+    let body = vec![in alloc; Stmt::Remove(b), set(rt, alloc, c, 3)?]?;
+    Ok(vec![in alloc; counter(rt, alloc)?, txn(alloc, &[], &[b, c], body)?]?)
+}
+
+// Sets a to b, which is missing.
+fn second_log(rt: &impl Abort, alloc: Global) -> Result<Vec<Txn>, NoMemory> {
+    let (a, b) = (key(rt), named(rt, b"b"));
+    let read = Term::new(false, Atom::Read(b)).expect(rt, "a term");
+    let put = Stmt::Put {
+        key: a,
+        sum: sum(rt, alloc, &[read])?,
+        guard: None,
+    };
+    Ok(vec![in alloc; txn(alloc, &[b], &[a], vec![in alloc; put]?)?]?)
+}
+
+// Sets b to 7; drops a.
+fn third_log(rt: &impl Abort, alloc: Global) -> Result<Vec<Txn>, NoMemory> {
+    let (a, b) = (key(rt), named(rt, b"b"));
+    let put = txn(alloc, &[], &[b], vec![in alloc; set(rt, alloc, b, 7)?]?)?;
+    let removal = txn(alloc, &[], &[a], vec![in alloc; Stmt::Remove(a)]?)?;
+    Ok(vec![in alloc; put, removal]?)
+}
+
+// Runs the log as the next batch; after a refusal again, which must have changed nothing that is seen.
+fn settle_surely<R: Abort + Threads + Sync>(
+    rt: &R,
+    alloc: Global,
+    history: &mut History,
+    log: Vec<Txn>,
+) -> Result<(), NoMemory> {
+    let log = checked(rt, alloc, None, log)?;
+    let (floor, top, count) = (history.floor(), history.top(), history.version_count());
+    let store = history.store_at(alloc, top).expect(rt, "a store");
+    if settle_log(rt, alloc, history, &log).is_ok() {
+        return Ok(());
+    }
+    assert_eq!(rt; history.floor(), floor);
+    assert_eq!(rt; history.top(), top);
+    assert_eq!(rt; history.version_count(), count);
+    let left = history.store_at(alloc, top).expect(rt, "a store");
+    assert_eq!(rt; left.as_slice(), store.as_slice());
+    settle_log(rt, alloc, history, &log)
+}
+
+fn assert_history(rt: &impl Abort, history: &History, floor: u32, top: u32, count: u64)
+    ensures { history.now.top ≡ top }
+{
+    assert_eq!(rt; history.floor(), floor);
+    assert_eq!(rt; history.top(), top);
+    assert_eq!(rt; history.version_count(), count);
+}
+
+// The store at a timestamp, written as keys of one letter and values of one digit.
+fn assert_written(
+    rt: &impl Abort,
+    alloc: Global,
+    history: &History,
+    ts: u32,
+    want: &[u8],
+) -> Result<(), NoMemory> {
+    let mut text = Vec::new(alloc);
+    for (key, value) in &history.store_at(alloc, ts).expect(rt, "a store") {
+        text.extend_from_slice(key.bytes())?;
+        let digit = u8::try_from(value.get()).expect(rt, "a digit");
+        text.push(digit.wrapping_add(b'0'))?;
+    }
+    assert_eq!(rt; text.as_slice(), want, "at {ts}");
+    Ok(())
+}
+
+// The history of a at 1 and b at 2.
+fn opened(rt: &impl Abort, alloc: Global) -> Result<History, NoMemory> {
+    let mut store = Vec::new(alloc);
+    store.push((key(rt), Value::from(1)))?;
+    store.push((named(rt, b"b"), Value::from(2)))?;
+    let doc = Doc::new(Edition::One, store, Vec::new(alloc)).expect(rt, "one edition");
+    let checked = check(doc).expect(rt, "a well-formed document");
+    History::open(alloc, checked.store())
+}
+
+// What the three batches leave of the history, from timestamp 1 on.
+fn assert_settled(rt: &impl Abort, alloc: Global, history: &History) -> Result<(), NoMemory> {
+    assert_written(rt, alloc, history, 1, b"a2b2")?;
+    assert_written(rt, alloc, history, 3, b"a2c3")?;
+    assert_written(rt, alloc, history, 4, b"a2b7c3")?;
+    // The aborted transaction's version has the cell before it.
+    assert_eq!(rt; history.value_at(&key(rt), 3), Ok(present(2)));
+    Ok(())
+}
+
+// What two more trims leave.
+fn assert_trims(rt: &impl Abort, alloc: Global, history: &mut History) -> Result<(), NoMemory>
+    requires { history.old.top ≡ 5 }
+{
+    history.trim(3);
+    assert_history(rt, history, 3, 5, 5);
+    assert_written(rt, alloc, history, 3, b"a2c3")?;
+    assert_written(rt, alloc, history, 5, b"b7c3")?;
+    history.trim(5);
+    assert_history(rt, history, 5, 5, 3);
+    assert_written(rt, alloc, history, 5, b"b7c3")
+}
+
+#[test]
+fn batches_and_trims_in_turn(rt: HostRuntime) -> Result<(), Fail> {
+    let alloc: Global = rt.alloc();
+    let mut history = opened(&rt, alloc)?;
+    assert_history(&rt, &history, 0, 0, 2);
+    settle_surely(&rt, alloc, &mut history, first_log(&rt, alloc)?)?;
+    assert_history(&rt, &history, 0, 2, 5);
+    assert_written(&rt, alloc, &history, 0, b"a1b2")?;
+    assert_written(&rt, alloc, &history, 2, b"a2c3")?;
+    history.trim(1);
+    assert_history(&rt, &history, 1, 2, 4);
+    settle_surely(&rt, alloc, &mut history, second_log(&rt, alloc)?)?;
+    settle_surely(&rt, alloc, &mut history, third_log(&rt, alloc)?)?;
+    assert_settled(&rt, alloc, &history)?;
+    assert_history(&rt, &history, 1, 5, 7);
+    assert_trims(&rt, alloc, &mut history)?;
     Ok(())
 }

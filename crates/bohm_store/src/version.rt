@@ -1,5 +1,7 @@
 //! Versions.
 
+ghost use Rattle.std.specs.Prelude.{◌≡◌, nat_le, if◌then◌else◌};
+
 use bohm_txn::{Cell, Key};
 
 /// What a key holds from the transaction with a timestamp on, up to the next version of the key. A
@@ -8,6 +10,15 @@ use bohm_txn::{Cell, Key};
 pub struct Version {
     pub begin: u32,
     pub cell: Cell,
+}
+
+impl Version {
+    /// Its cell where it begins at or below a timestamp, or else the cell before it.
+    pub fn cell_or(self, ts: u32, before: Cell) -> Cell
+        ensures { result ≡ (if nat_le self.begin ts then self.cell else before) }
+    {
+        if self.begin <= ts { self.cell } else { before }
+    }
 }
 
 /// A version of a key.

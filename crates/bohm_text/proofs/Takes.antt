@@ -8,7 +8,7 @@ use Rattle.std.specs.Str.Parse.{AllDigits, digits_value_after, digits_value}
 use Rattle.std.specs.Fmt.{decimal, signed_decimal}
 use Rattle.std.specs.Char.{is_ascii_digit, digit_value}
 use Rattle.std.proofs.lemmas.List.{append-nil}
-use Rattle.std.proofs.lemmas.Bool.{eqb-true, leb-true}
+use Rattle.std.proofs.lemmas.Bool.{and_parts, eqb-true, leb-true}
 use Rattle.std.proofs.lemmas.Bool.Decides.{nat_tests}
 use Rattle.std.proofs.lemmas.Slice.Eq.{bytes_eq-Decides}
 use Rattle.std.proofs.lemmas.Fmt.{decimal-digits_value}
@@ -49,10 +49,6 @@ pub if_none : {A : Type 0} (b : Bool) (o : Option A) (y : A) → cond b None o �
 if_none true o y e = absurd cc
 if_none false o y e = (refl, e)
 
-both : (a b : Bool) → (a && b) ≡ true → (a ≡ true) × (b ≡ true)
-both true b e = (refl, e)
-both false b e = absurd cc
-
 pub same_some : {A : Type 0} (x y : A) → ◌≡◌ {A = Option A} (Some x) (Some y) → x ≡ y
 same_some x y e = cc
 
@@ -82,7 +78,7 @@ unfolding digits_of
 digits_take limit n [] v e within = (tt, same_some n v e, let same : n ≡ v = same_some n v e in omega arith)
 digits_take limit n (c ∷ cs) v e within =
     let p = if_some (is_ascii_digit c && nat_le (n * 10 + (c - 48)) limit) (digits_of limit (n * 10 + (c - 48)) cs) v e in
-    let q = both (is_ascii_digit c) (nat_le (n * 10 + (c - 48)) limit) p.0 in
+    let q = and_parts (is_ascii_digit c) (nat_le (n * 10 + (c - 48)) limit) p.0 in
     let range = digit_is c q.0 in
     let value : digit_value c ≡ c - 48 = value_is c range.0 range.1 in
     let h = digits_take limit (n * 10 + (c - 48)) cs v p.1 (leb-true _ _ q.1) in

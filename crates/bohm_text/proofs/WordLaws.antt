@@ -5,6 +5,7 @@ use Rattle.std.specs.List.{flat_map, list_all, AllByRecursion}
 use Rattle.std.specs.Char.{is_ascii_lowercase, is_ascii_digit}
 use Rattle.std.specs.Str.Parse.{AllDigits}
 use Rattle.std.specs.Fmt.{decimal, signed_decimal}
+use Rattle.std.proofs.lemmas.Bool.{and_parts}
 use Rattle.std.proofs.lemmas.Bool.Decides.{nat_tests}
 use Rattle.std.proofs.lemmas.Str.Parse.{digit_from_value}
 use Rattle.std.proofs.lemmas.Fmt.{decimal_is_IsNumeral}
@@ -39,10 +40,6 @@ pub All-flat_map : {A B : Type 0} (P : A → Type 0) (Q : B → Type 0) (f : A �
 All-flat_map P Q f h [] all = tt
 All-flat_map P Q f h (x ∷ xs) all = All-append Q (f x) (flat_map f xs) (h x all.0) (All-flat_map P Q f h xs all.1)
 
-both : (a b : Bool) → (a && b) ≡ true → (a ≡ true) × (b ≡ true)
-both true b e = (refl, e)
-both false b e = absurd cc
-
 -- ---- words
 
 -- at least one byte, and only bytes of words
@@ -58,7 +55,7 @@ IsWordByte b = is_word_byte b ≡ true
 
 all_bytes : (w : List ℕ) → list_all is_word_byte w ≡ true → AllByRecursion IsWordByte w
 all_bytes [] e = tt
-all_bytes (c ∷ cs) e = let p = both (is_word_byte c) (list_all is_word_byte cs) e in (p.0, all_bytes cs p.1)
+all_bytes (c ∷ cs) e = let p = and_parts (is_word_byte c) (list_all is_word_byte cs) e in (p.0, all_bytes cs p.1)
 
 word_all : (w : List ℕ) → IsWord w → list_all is_word_byte w ≡ true
 word_all [] e = absurd cc
@@ -102,13 +99,13 @@ digit_byte c e =
 
 name_bytes : (cs : List ℕ) → list_all is_name_byte cs ≡ true → list_all is_word_byte cs ≡ true
 name_bytes [] e = refl
-name_bytes (c ∷ cs) e = let p = both (is_name_byte c) (list_all is_name_byte cs) e in rw (name_byte c p.0, name_bytes cs p.1) refl
+name_bytes (c ∷ cs) e = let p = and_parts (is_name_byte c) (list_all is_name_byte cs) e in rw (name_byte c p.0, name_bytes cs p.1) refl
 
 pub name_word : (w : List ℕ) → IsName w → IsWord w
 name_word [] e = absurd cc
 name_word (c ∷ cs) e =
-    let p = both (nat_le (length cs) 31 && is_ascii_lowercase c) (list_all is_name_byte cs) e in
-    let q = both (nat_le (length cs) 31) (is_ascii_lowercase c) p.0 in
+    let p = and_parts (nat_le (length cs) 31 && is_ascii_lowercase c) (list_all is_name_byte cs) e in
+    let q = and_parts (nat_le (length cs) 31) (is_ascii_lowercase c) p.0 in
     rw (lowercase_byte c q.1, name_bytes cs p.1) refl
 
 local_is_word : (x : List ℕ) → IsName x → IsWord (36 ∷ x)

@@ -1,5 +1,6 @@
 use crate::{
-    Atom, Boxed, Cmp, Cond, Doc, Edition, GREATEST_LITERAL, Items, Key, Stmt, Sum, Term, Txn, Value,
+    Atom, Boxed, Cmp, Cond, Doc, Edition, GREATEST_LITERAL, Items, Key, NoMemory, Stmt, Sum, Term,
+    Txn, Value,
 };
 use std::alloc::Global;
 use std::process::Abort;
@@ -233,5 +234,12 @@ fn items_are_a_list(rt: HostRuntime) -> Result<(), Fail> {
     let values = items.into_vec();
     assert_eq!(rt; values.as_slice(), [3, 1, 2].as_slice());
     assert_eq!(rt; Items::from(values).as_slice(), [3, 1, 2].as_slice());
+    Ok(())
+}
+
+#[test]
+fn want_of_memory_has_a_text(rt: HostRuntime) -> Result<(), Fail> {
+    let text = format!(in rt.alloc(); "{NoMemory}")?;
+    assert_eq!(rt; text.as_str(), "out of memory");
     Ok(())
 }

@@ -1,6 +1,6 @@
 -- Rising keys differ from one another.
-use Rattle.std.proofs.Common.{◌≡◌, ℕ, Bool, true, false, List, [], ◌∷◌, refl, sym, subst}
-use Rattle.std.specs.Prelude.{◌&&◌, ◌||◌}
+use Rattle.std.proofs.Common.{◌≡◌, ℕ, zero, suc, ◌<◌, true, false, List, [], ◌∷◌, length, take, get_or, refl, sym, subst, arith}
+use Rattle.std.specs.Prelude.{◌||◌}
 use Rattle.std.specs.Cmp.{tied_itself}
 use Rattle.std.specs.Cmp.Lexicographic.{slice_cmp, nat_list_cmp_total}
 use Rattle.std.specs.List.{list_any}
@@ -8,9 +8,11 @@ use Rattle.std.specs.Ordering.{nat_cmp, is_lt}
 use Rattle.std.specs.Str.{bytes_eq}
 use Rattle.std.specs.declared.cmp.Ordering.{Ordering}
 use Rattle.std.specs.declared.cmp.Ordering.TheVariants.{Less, Equal, Greater}
+use Rattle.std.proofs.lemmas.Bool.{and_parts, false_from_ne_true}
+use Rattle.std.proofs.lemmas.Option.{slice_get-get_or}
 use Rattle.bohm_txn.specs.Declares.{IsAmong}
-use Rattle.bohm_txn.specs.Faulty.{rising, rises_from}
-use Rattle.bohm_txn.proofs.Bodies.{same_key, key_itself}
+use Rattle.bohm_txn.specs.Faulty.{is_among, rising, rises_from}
+use Rattle.bohm_txn.proofs.Bodies.{same_key, key_itself, among_at}
 
 pub other_key : (x k : List ℕ) → bytes_eq x k ≡ false → bytes_eq k x ≡ false
 other_key x k e =
@@ -34,10 +36,6 @@ abbrev pub AllApart : List (List ℕ) → Type 0
 AllApart [] = Unit {0}
 AllApart (x ∷ xs) = (¬ IsAmong xs x) × AllApart xs
 
-pub both : (a b : Bool) → (a && b) ≡ true → (a ≡ true) × (b ≡ true)
-both true b e = (refl, e)
-both false b e = absurd cc
-
 pub less : (o : Ordering) → is_lt o ≡ true → o ≡ Less
 less Less e = refl
 less Equal e = absurd cc
@@ -47,7 +45,7 @@ less Greater e = absurd cc
 pub below_all : (k : List ℕ) (ks : List (List ℕ)) → rises_from k ks ≡ true → (q : List ℕ) → IsAmong ks q → slice_cmp nat_cmp k q ≡ Less
 below_all k [] e q among = absurd cc
 below_all k (n ∷ ns) e q among =
-    let (first, rest) = both (is_lt (slice_cmp nat_cmp k n)) (rises_from n ns) e in
+    let (first, rest) = and_parts (is_lt (slice_cmp nat_cmp k n)) (rises_from n ns) e in
     let here : slice_cmp nat_cmp k n ≡ Less = less (slice_cmp nat_cmp k n) first in
     elim (bytes_eq n q) as (λ b. bytes_eq n q ≡ b → slice_cmp nat_cmp k q ≡ Less) [
       | true ↦ λ h. subst (λ y. slice_cmp nat_cmp k y ≡ Less) (same_key n q h) here
@@ -59,8 +57,19 @@ not_less k e = let tied : slice_cmp nat_cmp k k ≡ Equal = tied_itself nat_list
 
 apart_from : (k : List ℕ) (ks : List (List ℕ)) → rises_from k ks ≡ true → AllApart (k ∷ ks)
 apart_from k [] e = (λ among. cc, tt)
-apart_from k (n ∷ ns) e = (λ among. not_less k (below_all k (n ∷ ns) e k among), apart_from n ns (both (is_lt (slice_cmp nat_cmp k n)) (rises_from n ns) e).1)
+apart_from k (n ∷ ns) e = (λ among. not_less k (below_all k (n ∷ ns) e k among), apart_from n ns (and_parts (is_lt (slice_cmp nat_cmp k n)) (rises_from n ns) e).1)
 
 pub rising_apart : (ks : List (List ℕ)) → rising ks ≡ true → AllApart ks
 rising_apart [] e = tt
 rising_apart (k ∷ ks) e = apart_from k ks e
+
+differs : (k : List ℕ) (ks : List (List ℕ)) (x : List ℕ) → ¬ IsAmong ks k → IsAmong ks x → bytes_eq k x ≡ false
+differs k ks x absent has = false_from_ne_true (bytes_eq k x) (λ e. absent (subst (λ (y : List ℕ). IsAmong ks y) (sym (same_key k x e)) has))
+
+-- the key at a place stands at no place before
+pub none_before : (ks : List (List ℕ)) (i : ℕ) (d : List ℕ) → i < length ks → AllApart ks → is_among (take i ks) (get_or ks i d) ≡ false
+none_before [] i d inside apart = absurd (omega arith)
+none_before (k ∷ ks) zero d inside apart = refl
+none_before (k ∷ ks) (suc i) d inside apart =
+    let there : IsAmong ks (get_or ks i d) = among_at ks i (get_or ks i d) (slice_get-get_or ks i d (omega arith)) in
+    rw (differs k ks (get_or ks i d) apart.0 there, none_before ks i d (omega arith) apart.1) refl

@@ -14,3 +14,7 @@ pub mod Stores
 pub mod Answering
 pub mod LiteralLaws
 pub mod Totals
+pub mod Lists
+pub mod Permuted
+pub mod Entries
+pub mod Listed

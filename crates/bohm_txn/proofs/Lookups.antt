@@ -1,6 +1,6 @@
 -- What a binary search along rising keys answers.
-use Rattle.std.proofs.Common.{◌≡◌, ℕ, zero, suc, ◌<◌, List, [], ◌∷◌, length, get_or, Bool, true, false, Result, Ok, Err, ⊎_elim, refl, sym, subst, add-one, arith}
-use Rattle.std.specs.Prelude.{◌&&◌, ◌||◌, is_ok}
+use Rattle.std.proofs.Common.{◌≡◌, ℕ, zero, suc, ◌<◌, List, [], ◌∷◌, length, get_or, true, false, Result, Ok, Err, ⊎_elim, refl, sym, subst, add-one, arith}
+use Rattle.std.specs.Prelude.{is_ok}
 use Rattle.std.specs.declared.cmp.Ordering.{Ordering}
 use Rattle.std.specs.declared.cmp.Ordering.TheVariants.{Less, Equal, Greater}
 use Rattle.std.specs.Ordering.{nat_cmp, is_lt, ordering_reverse, eq_by_cmp}
@@ -8,7 +8,7 @@ use Rattle.std.specs.Str.{bytes_eq}
 use Rattle.std.specs.Cmp.Lexicographic.{slice_cmp, nat_list_cmp_total, texts_ties}
 use Rattle.std.specs.List.Sorted.{IsBinarySearchResult, IsSearchInRange, IsSortedBy}
 use Rattle.std.proofs.lemmas.List.Sorted.{searchable_from_sorted}
-use Rattle.std.proofs.lemmas.Bool.{cases_lt}
+use Rattle.std.proofs.lemmas.Bool.{and_parts, cases_lt, or_right}
 use Rattle.bohm_txn.specs.Faulty.{rising, rises_from, is_among}
 
 abbrev key_cmp : List ℕ → List ℕ → Ordering
@@ -16,18 +16,10 @@ key_cmp = slice_cmp nat_cmp
 
 -- ---- rising keys are sorted
 
-left_of : (a b : Bool) → (a && b) ≡ true → a ≡ true
-left_of true b e = refl
-left_of false b e = cc
-
-right_of : (a b : Bool) → (a && b) ≡ true → b ≡ true
-right_of true b e = e
-right_of false b e = cc
-
 steps : (x : List ℕ) (xs : List (List ℕ)) → rises_from x xs ≡ true → (j : ℕ) (d : List ℕ) → suc j < length (x ∷ xs) → is_lt (key_cmp (get_or (x ∷ xs) j d) (get_or (x ∷ xs) (suc j) d)) ≡ true
 steps x [] e j d l = absurd (omega arith)
-steps x (y ∷ ys) e zero d l = left_of (is_lt (key_cmp x y)) (rises_from y ys) e
-steps x (y ∷ ys) e (suc j) d l = steps y ys (right_of (is_lt (key_cmp x y)) (rises_from y ys) e) j d (omega arith)
+steps x (y ∷ ys) e zero d l = (and_parts (is_lt (key_cmp x y)) (rises_from y ys) e).0
+steps x (y ∷ ys) e (suc j) d l = steps y ys ((and_parts (is_lt (key_cmp x y)) (rises_from y ys) e).1) j d (omega arith)
 
 turned : (o : Ordering) → is_lt o ≡ true → is_lt (ordering_reverse o) ≡ false
 turned Less e = refl
@@ -45,10 +37,6 @@ sorted (x ∷ xs) e = λ k d a l. subst (λ n. is_lt (key_cmp (get_or (x ∷ xs)
 
 same_at : (a b : List ℕ) (o : Ordering) → key_cmp a b ≡ o → bytes_eq a b ≡ eq_by_cmp (λ x y. o) a b
 same_at a b o e = subst (λ r. bytes_eq a b ≡ eq_by_cmp (λ x y. r) a b) e (texts_ties a b)
-
-or_right : (a b : Bool) → b ≡ true → (a || b) ≡ true
-or_right true b e = refl
-or_right false b e = e
 
 there : (keys : List (List ℕ)) (k : List ℕ) (i : ℕ) → i < length keys → ((d : List ℕ) → key_cmp (get_or keys i d) k ≡ Equal) → is_among keys k ≡ true
 there [] k i l h = absurd (omega arith)

@@ -1,8 +1,9 @@
 -- A sure transaction commits over every store, and its cells are the same.
 use Rattle.std.proofs.Common.{◌≡◌, ℕ, zero, suc, ◌+◌, Bool, true, false, cond, List, [], ◌∷◌, ◌++◌, length, map, Some, None, Ok, Err, refl, ap, sym, ◌∙◌, subst, arith, inl, inr}
-use Rattle.std.specs.Prelude.{ℤ, pos, ◌⊎◌, ◌||◌, ◌&&◌, Result, is_ok}
+use Rattle.std.specs.Prelude.{ℤ, pos, ◌⊎◌, ◌||◌, Result, is_ok}
 use Rattle.std.specs.List.{AllByRecursion, list_all, slice_get}
 use Rattle.std.specs.Str.{bytes_eq}
+use Rattle.std.proofs.lemmas.Bool.{and_parts}
 use Rattle.bohm_tree.specs.declared.cell.Cell.{Cell}
 use Rattle.bohm_tree.specs.declared.cell.Cell.TheVariants.{Absent, Present}
 use Rattle.bohm_tree.specs.declared.stmt.Stmt.{Stmt}
@@ -20,13 +21,9 @@ use Rattle.bohm_txn.proofs.Bodies.{map_same}
 use Rattle.bohm_txn.proofs.BodyLaw.{same_body}
 use Rattle.bohm_txn.proofs.Tracking.{newest_more, cells_with}
 
-both : (a b : Bool) → (a && b) ≡ true → (a ≡ true) × (b ≡ true)
-both true b e = (refl, e)
-both false b e = absurd cc
-
 pub all_true : {A : Type 0} (p : A → Bool) (xs : List A) → list_all p xs ≡ true → AllByRecursion (λ x. p x ≡ true) xs
 all_true p [] e = tt
-all_true p (x ∷ xs) e = ((both (p x) (list_all p xs) e).0, all_true p xs (both (p x) (list_all p xs) e).1)
+all_true p (x ∷ xs) e = ((and_parts (p x) (list_all p xs) e).0, all_true p xs (and_parts (p x) (list_all p xs) e).1)
 
 all_map : {A : Type 0} (P Q : A → Type 0) (xs : List A) → ((x : A) → P x → Q x) → AllByRecursion P xs → AllByRecursion Q xs
 all_map P Q [] f all = tt
@@ -43,12 +40,12 @@ same_literals look other locals others z ((minus, Read k) ∷ ts) all = absurd (
 same_literals look other locals others z ((minus, Local x) ∷ ts) all = absurd (let no : false ≡ true = all.0 in cc)
 
 literals : (sum : List (Bool × Atom)) → is_sure_sum sum ≡ true → AllByRecursion (λ t. is_lit t.1 ≡ true) sum
-literals sum e = all_true (λ t. is_lit t.1) sum (both (list_all (λ t. is_lit t.1) sum) (is_ok (sum_value (λ k. Absent) [] sum)) e).0
+literals sum e = all_true (λ t. is_lit t.1) sum (and_parts (list_all (λ t. is_lit t.1) sum) (is_ok (sum_value (λ k. Absent) [] sum)) e).0
 
 -- a sure sum has the same value everywhere
 sure_sum : (look : Look) (locals : Locals) (sum : List (Bool × Atom)) → is_sure_sum sum ≡ true → (z : ℤ) × (sum_value look locals sum ≡ Ok z)
 sure_sum look locals sum e =
-    let (z, is) = value_of (sum_value (λ k. Absent) [] sum) (both (list_all (λ t. is_lit t.1) sum) (is_ok (sum_value (λ k. Absent) [] sum)) e).1 in
+    let (z, is) = value_of (sum_value (λ k. Absent) [] sum) (and_parts (list_all (λ t. is_lit t.1) sum) (is_ok (sum_value (λ k. Absent) [] sum)) e).1 in
     (z, ap in_range (same_literals look (λ k. Absent) locals [] (pos 0) sum (literals sum e)) ∙ is)
 
 -- ---- the writes that a commit leaves
@@ -110,7 +107,7 @@ commits e look run n (Fail ∷ ss) all = no all.0
 -- ---- the transaction
 
 sure_stmts : (t : Txn) → IsSure t → AllByRecursion (λ s. is_sure_stmt s ≡ true) t.body
-sure_stmts t sure = all_true is_sure_stmt t.body (both (list_all is_sure_stmt t.body) (list_all (is_target t.body) t.writes) sure).0
+sure_stmts t sure = all_true is_sure_stmt t.body (and_parts (list_all is_sure_stmt t.body) (list_all (is_target t.body) t.writes) sure).0
 
 lit_reads : (P : List ℕ → Type 0) (a : Atom) → is_lit a ≡ true → AtomReads P a
 lit_reads P (Lit n) h = tt
@@ -142,14 +139,14 @@ sure_commits look t sure = let r = commits t.edition look fresh 1 t.body (sure_s
 
 among_passes : (p : List ℕ → Bool) (ks : List (List ℕ)) (j : ℕ) (k : List ℕ) → list_all p ks ≡ true → slice_get ks j ≡ Some k → p k ≡ true
 among_passes p [] j k e at = absurd cc
-among_passes p (x ∷ xs) zero k e at = let same : x ≡ k = cc in subst (λ y. p y ≡ true) same (both (p x) (list_all p xs) e).0
-among_passes p (x ∷ xs) (suc j) k e at = among_passes p xs j k (both (p x) (list_all p xs) e).1 at
+among_passes p (x ∷ xs) zero k e at = let same : x ≡ k = cc in subst (λ y. p y ≡ true) same (and_parts (p x) (list_all p xs) e).0
+among_passes p (x ∷ xs) (suc j) k e at = among_passes p xs j k (and_parts (p x) (list_all p xs) e).1 at
 
 -- a declared write has a cell that doesn't depend on the one before
 sure_covered : (look : Look) (t : Txn) → IsSure t → (j : ℕ) (k : List ℕ) → slice_get t.writes j ≡ Some k → Covered (writes_of (body look t)) k
 sure_covered look t sure j k at =
     let r = commits t.edition look fresh 1 t.body (sure_stmts t sure) in
-    let target = among_passes (is_target t.body) t.writes j k (both (list_all is_sure_stmt t.body) (list_all (is_target t.body) t.writes) sure).1 at in
+    let target = among_passes (is_target t.body) t.writes j k (and_parts (list_all is_sure_stmt t.body) (list_all (is_target t.body) t.writes) sure).1 at in
     subst (λ (e : Ended). Covered (writes_of e) k) (sym r.is) (r.covers k (inr target))
 
 -- its declared writes have the same cells after it, whatever stood before

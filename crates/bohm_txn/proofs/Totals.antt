@@ -1,5 +1,5 @@
 -- A total, term by term.
-use Rattle.std.proofs.Common.{◌≡◌, ℕ, suc, ◌+◌, ◌<◌, Bool, true, false, cond, List, [], ◌∷◌, length, get_or, drop, reverse, Option, Some, None, refl, ap, sym, ◌∙◌, add-one, drop-cons}
+use Rattle.std.proofs.Common.{◌≡◌, ℕ, ◌+◌, ◌<◌, Bool, true, false, cond, List, [], ◌∷◌, length, get_or, drop, reverse, Option, Some, None, refl, ap, sym, ◌∙◌}
 use Rattle.std.specs.Prelude.{ℤ, if◌then◌else◌}
 use Rattle.std.specs.List.{find}
 use Rattle.std.specs.Option.{option_map, option_or}
@@ -8,9 +8,7 @@ use Rattle.std.proofs.lemmas.List.{reverse-append}
 use Rattle.std.proofs.lemmas.List.Folds.{find-append}
 use Rattle.bohm_tree.specs.declared.term.Atom.{Atom}
 use Rattle.bohm_txn.specs.Meaning.{newest, Look, Locals, atom_value, total_from, signed, ◌>>=◌}
-
-front : {A : Type 0} (xs : List A) (i : ℕ) (x : A) → i < length xs → x ≡ get_or xs i x → drop i xs ≡ x ∷ drop (i + 1) xs
-front xs i x within is = rw add-one (drop-cons xs i x within ∙ ap (λ y. y ∷ drop (suc i) xs) (sym is))
+use Rattle.bohm_txn.proofs.Lists.{front}
 
 pub total_step : (look : Look) (locals : Locals) (terms : List (Bool × Atom)) (i : ℕ) (t : Bool × Atom) (z n : ℤ) → i < length terms → t ≡ get_or terms i t → option_map (λ x. signed z t.0 x) (atom_value look locals t.1) ≡ Some n
     → total_from look locals z (drop i terms) ≡ total_from look locals n (drop (i + 1) terms)

@@ -68,6 +68,3 @@ pub fn check(doc: Doc) -> Result<Checked, CheckFault>
         Some(fault) => Err(fault),
     }
 }
-
-#[cfg(test)]
-mod tests;

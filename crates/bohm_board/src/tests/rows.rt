@@ -10,7 +10,7 @@ ghost use Rattle.bohm_board.specs.Samples.{counter, name, IsCounting};
 
 use super::samples::open;
 use crate::{Batch, Board, Claimed, Closed, Pass, Slot, Status};
-use bohm_place::{Access, Source};
+use bohm_place::{Access, DeclaredSet, Source};
 use bohm_txn::{Atom, Cell, Edition, Items, Key, NoMemory, Outcome, Stmt, Sum, Term, Txn, Value};
 use std::alloc::Global;
 use std::process::Abort;
@@ -108,8 +108,8 @@ fn learn_wanted(rt: &impl Abort, board: &Board, pass: &mut Pass, t: u32)
     ensures held { (view pass.new).held ≡ (view pass.old).held }
     ensures wanted { KnowsWanted (batch_of board.now) (view pass.new) t }
 {
-    let read = board.batch().read_access(t, 0);
-    let write = board.batch().write_access(t, 0);
+    let read = board.batch().access(DeclaredSet::Reads, t, 0);
+    let write = board.batch().access(DeclaredSet::Writes, t, 0);
     let is_known = learn(board, pass, read);
     assert!(rt; is_known);
     let is_known = learn(board, pass, write);
@@ -232,6 +232,13 @@ fn assert_batch(rt: &impl Abort, batch: &Batch)
         };
         assert_eq!(rt; batch.read(t, 0), source, "at {t}");
         assert_eq!(rt; batch.write(t, 0), source, "at {t}");
+        match batch.access(DeclaredSet::Reads, t, 0).source {
+            Source::Before => {
+                assert_eq!(rt; t, 1);
+                assert_eq!(rt; batch.cell_before(DeclaredSet::Reads, t, 0), present(0));
+            }
+            Source::Within(u) => assert_eq!(rt; u, t - 1),
+        }
     }
     assert_eq!(rt; batch.before(&key), present(0));
     let other = Key::new(b"b").expect(rt, "a name");

@@ -5,8 +5,7 @@ ghost use Rattle.bohm_txn.specs.Faulty.{IsWellFormedTxn};
 use bohm_serial::{Answer, run};
 use bohm_text::parse;
 use bohm_txn::{
-    Cell, CheckFault, Checked, Doc, Key, Outcome, Reason, Reply, Scratch, Txn, Value, check, eval,
-    sure,
+    Cell, Checked, Doc, Key, Outcome, Reason, Reply, Scratch, Txn, Value, check, eval, sure,
 };
 use std::alloc::Global;
 use std::process::Abort;
@@ -390,60 +389,6 @@ end
 @not sure
 ";
 
-/// Logs without their heads, and the fault that the check finds: its kind, its transaction and its
-/// statement.
-const FAULTS: &str = "\
-txn
-reads
-writes
-set a = b + $x
-end
-@Unread 1 1
-#txn
-reads
-writes
-end
-txn
-reads b a
-writes
-show c
-end
-@Order 2 0
-#txn
-reads
-writes
-let $x = $x
-end
-@Local 1 1
-#b 1
-a 1
-@Order 0 0
-#txn
-reads b a
-writes
-end
-@Order 1 0
-#txn
-reads
-writes
-show $x
-end
-@Local 1 1
-#txn
-reads
-writes
-let $x = 2
-let $x = 3
-end
-@Local 1 2
-#txn
-reads
-writes
-show 1 + 1 + 1 + 1 + 1 + 1 + 1 + 1 + 1 + 1 + 1 + 1 + 1 + 1 + 1 + 1 + 1
-end
-@Limit 1 1
-";
-
 /// Logs without their heads, and what they answer in edition one and in edition two: a part for
 /// each reply, with the shown values, and last the store that they leave.
 const RUNS: &str = "\
@@ -524,13 +469,13 @@ end
 @ a -1
 ";
 
-fn document(alloc: Global, head: &str, log: &str) -> Result<Doc, Fail> {
+pub fn document(alloc: Global, head: &str, log: &str) -> Result<Doc, Fail> {
     let mut text = String::from_str(alloc, head)?;
     text.push_str(log)?;
     Ok(parse(alloc, text.as_bytes())?)
 }
 
-fn checked(alloc: Global, head: &str, log: &str) -> Result<Checked, Fail> {
+pub fn checked(alloc: Global, head: &str, log: &str) -> Result<Checked, Fail> {
     Ok(check(document(alloc, head, log)?)?)
 }
 
@@ -541,7 +486,7 @@ fn parts_of(row: &str) -> Result<(&str, &str, &str), Fail> {
     Ok((log, one, two))
 }
 
-fn assert_told(
+pub fn assert_told(
     rt: &impl Abort,
     told: Result<String, Fail>,
     want: &str,
@@ -694,50 +639,6 @@ fn literals_alone_are_sure(rt: HostRuntime) -> Result<(), Fail> {
         assert_told(&rt, sureness(rt.alloc(), "log 2\n", log), want, log)?;
     }
     Ok(())
-}
-
-/// The fault that the check finds.
-fn fault(alloc: Global, head: &str, log: &str) -> Result<String, Fail> {
-    let CheckFault { txn, stmt, kind } = check(document(alloc, head, log)?).err().ok_or("a fault")?;
-    Ok(format!(in alloc; "{kind:?} {txn} {stmt}")?)
-}
-
-#[test]
-fn logs_are_refused(rt: HostRuntime) -> Result<(), Fail> {
-    for row in FAULTS.split('#') {
-        let (log, want) = row.split_once('@').ok_or("a fault")?;
-        assert_told(&rt, fault(rt.alloc(), "log 1\n", log), want, log)?;
-        assert_told(&rt, fault(rt.alloc(), "log 2\n", log), want, log)?;
-    }
-    Ok(())
-}
-
-/// The transaction with this opening and a body that is one statement too long.
-fn long_body(alloc: Global, opening: &str) -> Result<String, Fail> {
-    let mut log = String::from_str(alloc, opening)?;
-    for _ in 0..65 {
-        log.push_str("fail\n")?;
-    }
-    log.push_str("end\n")?;
-    Ok(log)
-}
-
-#[test]
-fn long_bodies_are_refused(rt: HostRuntime) -> Result<(), Fail> {
-    let log = long_body(rt.alloc(), "txn\nreads b a\nwrites\n")?;
-    assert_told(
-        &rt,
-        fault(rt.alloc(), "log 1\n", log.as_str()),
-        "Order 1 0",
-        log.as_str(),
-    )?;
-    let log = long_body(rt.alloc(), "txn\nreads a b\nwrites\n")?;
-    assert_told(
-        &rt,
-        fault(rt.alloc(), "log 1\n", log.as_str()),
-        "Limit 1 0",
-        log.as_str(),
-    )
 }
 
 fn put_reply(alloc: Global, text: &mut String, reply: &Reply) -> Result<(), Fail> {

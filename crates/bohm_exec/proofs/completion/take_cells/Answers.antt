@@ -3,19 +3,19 @@ use Rattle.std.specs.List.{slice_get}
 use Rattle.bohm_board.specs.declared.batch.Batch.{Batch}
 use Rattle.bohm_board.specs.Closings.{batch_of_closed}
 use Rattle.bohm_board.proofs.Wanted.{IsEarlier, wanted_earlier}
-use Rattle.bohm_exec.specs.Handed.{accesses_in}
+use Rattle.bohm_board.specs.Batches.{accesses_in}
 use Rattle.bohm_exec.proofs.Seen.{among, found_base, found_within, are_found}
 use Rattle.bohm_exec.proofs.completion.take_cells.Goals as goal
-use Rattle.bohm_exec.proofs.completion.take_cells.Goals.{After-access_in-access, In-Within, in-Before, in-Within+in-Some}
+use Rattle.bohm_exec.proofs.completion.take_cells.Goals.{After-access-access, In-Within, in-Before, in-Within+in-Some}
 
-at_index : (c : After-access_in-access) → slice_get (accesses_in c.args.set (batch_of_closed c.args.closed.now) c.args.t) c.loop-index.index ≡ Some c.access_in-access.result
-at_index c = subst (λ (b : Batch). slice_get (accesses_in c.args.set b c.args.t) c.loop-index.index ≡ Some c.access_in-access.result) c.batch-batch.ensures c.access_in-access.ensures
+at_index : (c : After-access-access) → slice_get (accesses_in c.args.set (batch_of_closed c.args.closed.now) c.args.t) c.loop-index.index ≡ Some c.access-access.result
+at_index c = subst (λ (b : Batch). slice_get (accesses_in c.args.set b c.args.t) c.loop-index.index ≡ Some c.access-access.result) c.batch-batch.ensures c.access-access.ensures
 
-earlier : (c : In-Within) → IsEarlier (batch_of_closed c.args.closed.now) c.args.t c.access_in-access.result c.in-Within.u
+earlier : (c : In-Within) → IsEarlier (batch_of_closed c.args.closed.now) c.args.t c.access-access.result c.in-Within.u
 earlier c =
     let b = batch_of_closed c.args.closed.now in
-    let a = c.access_in-access.result in
-    let wanted = c.requires.wanted a (among (accesses_in c.args.set b c.args.t) c.loop-index.index a (at_index (goal.at.In-Within c).After-access_in-access)) in
+    let a = c.access-access.result in
+    let wanted = c.requires.wanted a (among (accesses_in c.args.set b c.args.t) c.loop-index.index a (at_index (goal.at.In-Within c).After-access-access)) in
     wanted_earlier b c.args.t a c.in-Within.u c.requires.inside wanted c.in-Within.is
 
 nothing : false ≡ true → ⊥
@@ -38,9 +38,9 @@ loop-index-preserved c =
     let b = batch_of_closed c.args.closed.now in
     let accesses = accesses_in c.args.set b c.args.t in
     let n = c.loop-index.index in
-    let a = c.access_in-access.result in
+    let a = c.access-access.result in
     let cells = c.loop-index.cells in
-    let at = at_index (goal.at.loop-index-preserved c).After-access_in-access in
+    let at = at_index (goal.at.loop-index-preserved c).After-access-access in
     elim c.match-access.branch [
       | in-Before w ↦ rw w.cells-is (found_base b accesses cells n a c.loop-index.invariant at w.in-Before.is)
       | in-Within+in-Some w ↦ rw w.cells-is (found_within b accesses cells n a w.in-Within.u w.in-Some.cell (omega (arith, c.loop-index.auto.cells)) c.loop-index.invariant at w.in-Within.is w.in-Some.ensures.right)

@@ -1,5 +1,5 @@
 use Rattle.bohm_board.specs.Closings.{batch_of_closed}
-use Rattle.bohm_exec.specs.Handed.{accesses_in}
+use Rattle.bohm_board.specs.Batches.{accesses_in}
 use Rattle.bohm_exec.proofs.Seen.{FoundBelow}
 use Rattle.bohm_exec.proofs.completion.take_cells.Given as goal
 

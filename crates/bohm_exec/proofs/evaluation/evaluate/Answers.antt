@@ -33,7 +33,7 @@ pub eval-requires-clause-earlier : goal.eval-requires-clause-earlier
 eval-requires-clause-earlier c = omega (arith, writes_paired c.args.batch.now c.args.t c.txn-txn.result.now c.txn-txn.ensures, c.requires.paired.of_writes, c.if-not-sure.auto.earlier)
 
 same_reads : (c : After-add_base) → map (state_before c.args.batch.now c.args.t) c.txn-txn.result.now.reads ≡ c.add_base.new.cells
-same_reads c = reads_before c.args.batch.now (position c.args.batch.now c.args.t) c.txn-txn.result.now c.add_base.new.cells c.txn-txn.ensures c.add_base.ensures
+same_reads c = reads_before c.args.batch.now (position c.args.batch.now c.args.t) c.txn-txn.result.now c.add_base.new.cells c.txn-txn.ensures (c.add_base.ensures c.txn-txn.result.now c.txn-txn.ensures)
 
 pub returns-clause-outcome : goal.returns-clause-outcome
 returns-clause-outcome c =
@@ -47,7 +47,7 @@ written c =
     let reads = same_reads (goal.at.After-eval c).After-add_base in
     elim c.if-not-sure.branch [
       | then-not-sure w ↦
-          let before = writes_before b (position b c.args.t) x w.add_base-then-not-sure.new.cells c.txn-txn.ensures w.add_base-then-not-sure.ensures in
+          let before = writes_before b (position b c.args.t) x w.add_base-then-not-sure.new.cells c.txn-txn.ensures (w.add_base-then-not-sure.ensures x c.txn-txn.ensures) in
           c.eval.ensures.cells (state_before b c.args.t) reads (rw w.earlier-is before)
       | else-not-sure w ↦
           let sure : is_sure x ≡ true = subst (λ (o : Option Txn). unwrap_or (option_map is_sure o) false ≡ true) c.txn-txn.ensures (sym c.requires.sure ∙ w.if-not-sure.false) in

@@ -8,20 +8,20 @@ use Rattle.bohm_board.specs.Passes.{batch_of, view}
 use Rattle.bohm_board.specs.Views.{Knows}
 use Rattle.bohm_board.proofs.Keeping.{keeps_same, keeps_along, keeps_looked, knows_looked}
 use Rattle.bohm_board.proofs.Wanted.{wanted_earlier}
-use Rattle.bohm_exec.specs.Handed.{accesses_in}
+use Rattle.bohm_board.specs.Batches.{accesses_in}
 use Rattle.bohm_exec.proofs.Seen.{among, known_base, found_base, known_within, found_within, knows_all, are_found}
 use Rattle.bohm_exec.proofs.Viewed.{no_looks, one_look, unseen_undone}
 use Rattle.bohm_exec.proofs.finding.find.Goals as goal
-use Rattle.bohm_exec.proofs.finding.find.Goals.{After-access_in-access, In-Within, in-Before, in-Within+in-Some}
+use Rattle.bohm_exec.proofs.finding.find.Goals.{After-access-access, In-Within, in-Before, in-Within+in-Some}
 
-at_index : (c : After-access_in-access) → slice_get (accesses_in c.args.set (batch_of c.args.board.now) c.args.t) c.loop-index.index ≡ Some c.access_in-access.result
-at_index c = subst (λ (b : Batch). slice_get (accesses_in c.args.set b c.args.t) c.loop-index.index ≡ Some c.access_in-access.result) c.batch-batch.ensures c.access_in-access.ensures
+at_index : (c : After-access-access) → slice_get (accesses_in c.args.set (batch_of c.args.board.now) c.args.t) c.loop-index.index ≡ Some c.access-access.result
+at_index c = subst (λ (b : Batch). slice_get (accesses_in c.args.set b c.args.t) c.loop-index.index ≡ Some c.access-access.result) c.batch-batch.ensures c.access-access.ensures
 
-wanted : (c : After-access_in-access) → Contains (wanted_at (batch_of c.args.board.now) c.args.t) c.access_in-access.result
-wanted c = c.requires.wanted c.access_in-access.result (among (accesses_in c.args.set (batch_of c.args.board.now) c.args.t) c.loop-index.index c.access_in-access.result (at_index c))
+wanted : (c : After-access-access) → Contains (wanted_at (batch_of c.args.board.now) c.args.t) c.access-access.result
+wanted c = c.requires.wanted c.access-access.result (among (accesses_in c.args.set (batch_of c.args.board.now) c.args.t) c.loop-index.index c.access-access.result (at_index c))
 
-slot_inside : (c : In-Within) → IsSlot (batch_of c.args.board.now) (slot_in c.in-Within.u c.access_in-access.result)
-slot_inside c = (wanted_earlier (batch_of c.args.board.now) c.args.t c.access_in-access.result c.in-Within.u c.requires.inside (wanted (goal.at.In-Within c).After-access_in-access) c.in-Within.is).slot
+slot_inside : (c : In-Within) → IsSlot (batch_of c.args.board.now) (slot_in c.in-Within.u c.access-access.result)
+slot_inside c = (wanted_earlier (batch_of c.args.board.now) c.args.t c.access-access.result c.in-Within.u c.requires.inside (wanted (goal.at.In-Within c).After-access-access) c.in-Within.is).slot
 
 pub loop-index-init : goal.loop-index-init
 loop-index-init c = record {
@@ -35,26 +35,26 @@ pub look-requires-clause-inside : goal.look-requires-clause-inside
 look-requires-clause-inside c = slot_inside (goal.at.look-requires-clause-inside c).In-Within
 
 pub returns-in-None-clause-view : goal.returns-in-None-clause-view
-returns-in-None-clause-view c = one_look (view c.args.pass.now) (view c.loop-index.pass) (view c.look.new.pass) (number (batch_of c.args.board.now) (slot_in c.in-Within.u c.access_in-access.result)) None c.loop-index.invariant.looks c.in-None.ensures.view
+returns-in-None-clause-view c = one_look (view c.args.pass.now) (view c.loop-index.pass) (view c.look.new.pass) (number (batch_of c.args.board.now) (slot_in c.in-Within.u c.access-access.result)) None c.loop-index.invariant.looks c.in-None.ensures.view
 
 pub returns-in-None-clause-missing : goal.returns-in-None-clause-missing
 returns-in-None-clause-missing c =
     let b = batch_of c.args.board.now in
-    let a = c.access_in-access.result in
+    let a = c.access-access.result in
     let u = c.in-Within.u in
     let before = (goal.at.returns-in-None-clause-missing c).In-Within in
     let undone = unseen_undone b (view c.loop-index.pass) (slot_in u a) c.loop-index.invariant.own.seat.right (slot_inside before) (c.in-None.ensures.none refl) in
-    ((a, wanted (goal.at.returns-in-None-clause-missing c).After-access_in-access, c.in-Within.is), λ done. undone (subst (λ xs. Contains xs (position b u)) (sym c.loop-index.invariant.looks.done) done))
+    ((a, wanted (goal.at.returns-in-None-clause-missing c).After-access-access, c.in-Within.is), λ done. undone (subst (λ xs. Contains xs (position b u)) (sym c.loop-index.invariant.looks.done) done))
 
 pub loop-index-preserved : goal.loop-index-preserved
 loop-index-preserved c =
     let b = batch_of c.args.board.now in
     let accesses = accesses_in c.args.set b c.args.t in
     let n = c.loop-index.index in
-    let a = c.access_in-access.result in
+    let a = c.access-access.result in
     let inv = c.loop-index.invariant in
     let v = view c.loop-index.pass in
-    let at = at_index (goal.at.loop-index-preserved c).After-access_in-access in
+    let at = at_index (goal.at.loop-index-preserved c).After-access-access in
     elim c.match-access.branch [
       | in-Before w ↦ record {
         own = rw w.pass-is inv.own;

@@ -1,5 +1,5 @@
 use Rattle.bohm_board.specs.Passes.{IsPassOf, batch_of, view}
-use Rattle.bohm_exec.specs.Handed.{accesses_in}
+use Rattle.bohm_board.specs.Batches.{accesses_in}
 use Rattle.bohm_exec.specs.Turns.{LooksOnly}
 use Rattle.bohm_exec.proofs.Seen.{KnownBelow, FoundBelow}
 use Rattle.bohm_exec.proofs.finding.find.Given as goal

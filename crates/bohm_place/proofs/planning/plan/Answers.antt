@@ -9,7 +9,7 @@ use Rattle.bohm_place.proofs.Rising.{begins-append}
 use Rattle.bohm_place.proofs.Placed.{Below, below_all, all_below}
 use Rattle.bohm_place.proofs.Found.{hand_below}
 use Rattle.bohm_place.proofs.Right.{begins-made}
-use Rattle.bohm_place.proofs.Nested.{ahead_of, right_plan, found_nested, found_whole, length-rows_from}
+use Rattle.bohm_place.proofs.Nested.{ahead_of, right_plan, found_nested, found_whole, length-rows_from, laid-rows_from}
 use Rattle.bohm_place.proofs.Parted.{part_of_share, writes_distinct}
 use Rattle.bohm_place.proofs.planning.plan.Goals as goal
 
@@ -35,7 +35,7 @@ gather-requires-clause-shares g c κs lives w d low =
     rw c.of-given.ensures (mapped _ _ (λ s right. part_of_share part n c.args.first txns given job.hand.items s.hand.items w s.found.items (rw worker at right) hand inside long) (slice_index_or c.in_ok-shares.shares.items w d) each)
 
 pub new-requires : goal.new-requires
-new-requires g c = rw c.in_ok-rows.ensures (omega (arith, length-rows_from 0 c.args.txns.now, c.requires.room, c.requires.position))
+new-requires g c = rw c.in_ok-rows.ensures (record { few = omega (arith, length-rows_from 0 c.args.txns.now, c.requires.room, c.requires.position); laid = laid-rows_from 0 c.args.txns.now })
 
 pub returns-clause-right : goal.returns-clause-right
 returns-clause-right g c =

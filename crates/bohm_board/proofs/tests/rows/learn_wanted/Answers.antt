@@ -10,34 +10,34 @@ use Rattle.bohm_board.proofs.Keeping.{knows_on}
 use Rattle.bohm_board.proofs.Wanted.{wanted_earlier}
 use Rattle.bohm_board.proofs.tests.rows.learn_wanted.Goals as goal
 
-pub read_access-read-requires-clause-index : goal.read_access-read-requires-clause-index
-read_access-read-requires-clause-index g c = rw c.batch.ensures (omega (arith, one_read c.args.board.now.batch c.requires.counting c.args.t c.requires.inside))
+pub access-read-requires-clause-index : goal.access-read-requires-clause-index
+access-read-requires-clause-index g c = rw c.batch.ensures (omega (arith, one_read c.args.board.now.batch c.requires.counting c.args.t c.requires.inside))
 
-pub write_access-write-requires-clause-index : goal.write_access-write-requires-clause-index
-write_access-write-requires-clause-index g c = rw c.batch-2.ensures (omega (arith, one_write c.args.board.now.batch c.requires.counting c.args.t c.requires.inside))
+pub access-write-requires-clause-index : goal.access-write-requires-clause-index
+access-write-requires-clause-index g c = rw c.batch-2.ensures (omega (arith, one_write c.args.board.now.batch c.requires.counting c.args.t c.requires.inside))
 
 pub learn-is_known-requires-clause-inside : goal.learn-is_known-requires-clause-inside
 learn-is_known-requires-clause-inside g c = λ u e.
     let b = c.args.board.now.batch in
-    let a = c.read_access-read.result in
-    let at : slice_get (reads_at b c.args.t) 0 ≡ Some a = rw (← c.batch.ensures) c.read_access-read.ensures in
+    let a = c.access-read.result in
+    let at : slice_get (reads_at b c.args.t) 0 ≡ Some a = rw (← c.batch.ensures) c.access-read.ensures in
     (wanted_earlier b c.args.t a u c.requires.inside (read_wanted b c.args.t a at) e).slot
 
 pub learn-is_known-requires-2-clause-inside : goal.learn-is_known-requires-2-clause-inside
 learn-is_known-requires-2-clause-inside g c = λ u e.
     let b = c.args.board.now.batch in
-    let a = c.write_access-write.result in
-    let at : slice_get (writes_at b c.args.t) 0 ≡ Some a = rw (← c.batch-2.ensures) c.write_access-write.ensures in
+    let a = c.access-write.result in
+    let at : slice_get (writes_at b c.args.t) 0 ≡ Some a = rw (← c.batch-2.ensures) c.access-write.ensures in
     (wanted_earlier b c.args.t a u c.requires.inside (write_wanted b c.requires.counting c.args.t a c.requires.inside at) e).slot
 
 pub returns-clause-wanted : goal.returns-clause-wanted
 returns-clause-wanted g c = λ a u in_it e.
     let b = c.args.board.now.batch in
     let t = c.args.t in
-    let r = c.read_access-read.result in
-    let w = c.write_access-write.result in
-    let at_read : slice_get (reads_at b t) 0 ≡ Some r = rw (← c.batch.ensures) c.read_access-read.ensures in
-    let at_write : slice_get (writes_at b t) 0 ≡ Some w = rw (← c.batch-2.ensures) c.write_access-write.ensures in
+    let r = c.access-read.result in
+    let w = c.access-write.result in
+    let at_read : slice_get (reads_at b t) 0 ≡ Some r = rw (← c.batch.ensures) c.access-read.ensures in
+    let at_write : slice_get (writes_at b t) 0 ≡ Some w = rw (← c.batch-2.ensures) c.access-write.ensures in
     let one = c.learn-is_known.new.pass.seat.me.0 in
     let two = c.learn-is_known-2.new.pass.seat.me.0 in
     let is_one : IsTrue c.learn-is_known.result = search rules in

@@ -1,6 +1,5 @@
-use Rattle.std.proofs.Common.{◌≡◌, ◌≤◌, List, ℕ, ap, sym, ◌∙◌, true, nat_lt, arith}
+use Rattle.std.proofs.Common.{◌≤◌, List, ℕ, ap, sym, ◌∙◌}
 use Rattle.std.specs.Str.{bytes_eq}
-use Rattle.std.proofs.lemmas.Bool.Decides.{nat_tests}
 use Rattle.bohm_tree.specs.declared.cell.Cell.TheVariants.{Absent}
 use Rattle.bohm_store.specs.declared.version.Version.{Version}
 use Rattle.bohm_store.specs.Versions.{kept, cell_at}
@@ -23,9 +22,8 @@ invariant_of-self c =
     }
 
 pub returns-clause-versions : goal.returns-clause-versions
-returns-clause-versions c k =
-    let raised : nat_lt c.self.inside.floor c.args.floor ≡ true = grind (arith, nat_tests) in
-    rw (← c.self.view_is, raised) (lookup_table (bytes_eq k) c.trim.new.chains.entries ∙ c.trim.ensures.chains k ∙ ap (kept c.args.floor) (sym (lookup_table (bytes_eq k) c.self.inside.chains.entries)))
+returns-clause-versions c =
+    rw (← c.self.view_is) (λ lt k. lookup_table (bytes_eq k) c.trim.new.chains.entries ∙ c.trim.ensures.chains k ∙ ap (kept c.args.floor) (sym (lookup_table (bytes_eq k) c.self.inside.chains.entries)))
 
 pub returns-clause-kept : goal.returns-clause-kept
 returns-clause-kept c =

@@ -1,16 +1,12 @@
-use Rattle.std.proofs.Common.{◌≡◌, ap, false, arith, nat_lt, Ok}
+use Rattle.std.proofs.Common.{ap, Ok}
 use Rattle.std.specs.Str.{bytes_eq}
-use Rattle.std.proofs.lemmas.Bool.Decides.{nat_tests}
 use Rattle.bohm_store.specs.Chains.{chain}
 use Rattle.bohm_store.proofs.Newest.{cell_at-newest}
 use Rattle.bohm_store.proofs.Views.{lookup_table}
 use Rattle.bohm_store.proofs.history.History.value_at.Goals as goal
 
-pub returns-clause-result : goal.returns-clause-result
-returns-clause-result c =
-    let kept : nat_lt c.args.ts c.self.inside.floor ≡ false = grind (arith, nat_tests) in
-    let there : nat_lt c.self.inside.top c.args.ts ≡ false = grind (arith, nat_tests) in
-    rw (← c.self.view_is, kept, there, lookup_table (bytes_eq c.args.key.now) c.self.inside.chains.entries) (ap Ok c.cell_of.ensures)
+pub returns-clause-within : goal.returns-clause-within
+returns-clause-within c = λ low high. rw (← c.self.view_is, lookup_table (bytes_eq c.args.key.now) c.self.inside.chains.entries) (ap Ok c.cell_of.ensures)
 
 pub returns-clause-newest : goal.returns-clause-newest
 returns-clause-newest c = rw (← c.self.view_is, lookup_table (bytes_eq c.args.key.now) c.self.inside.chains.entries, c.cell_of.ensures) (cell_at-newest c.args.ts (chain c.self.inside.chains c.args.key.now) (c.self.invariant.rising c.args.key.now))

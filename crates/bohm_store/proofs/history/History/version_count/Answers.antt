@@ -1,9 +1,22 @@
-use Rattle.std.proofs.Common.{ap, ◌∙◌, min}
-use Rattle.bohm_store.proofs.Held.{keys_table, total_table}
+use Rattle.std.proofs.Common.{◌≡◌, ◌∙◌, ◌+◌, length, ap, min, arith}
+use Rattle.std.specs.List.{IsDistinct}
+use Rattle.std.specs.Map.{keys_of}
+use Rattle.std.specs.Str.{bytes_eq}
+use Rattle.bohm_store.specs.Chains.{later_begins, table}
+use Rattle.bohm_store.specs.Versions.{total}
+use Rattle.bohm_store.proofs.Held.{keys_table}
+use Rattle.bohm_store.proofs.Queued.{total_queued}
+use Rattle.bohm_store.proofs.Views.{lookup_table}
 use Rattle.bohm_store.proofs.history.History.version_count.Goals as goal
 
 pub returns-clause-count : goal.returns-clause-count
-returns-clause-count c = rw (← c.self.view_is) (c.count.ensures.count ∙ ap (λ n. min n 18446744073709551615) (total_table c.self.inside.chains.entries))
+returns-clause-count c =
+    let es = c.self.inside.chains.entries in
+    let fs = c.self.inside.followers.items in
+    let distinct : IsDistinct bytes_eq (keys_of (table es)) = rw (keys_table es) c.len.ensures.unique in
+    let whole : total (table es) ≡ length es + length fs = total_queued es fs distinct (λ k. ap later_begins (lookup_table (bytes_eq k) es) ∙ c.self.invariant.waits k) in
+    let both : c.len.result + c.len-2.result ≡ length es + length fs = omega (arith, c.len.ensures.len, c.len-2.ensures, c.self.inside.followers.ok.0) in
+    rw (← c.self.view_is, whole) (c.saturating_add.ensures ∙ ap (λ n. min n 18446744073709551615) both)
 
 pub returns-clause-distinct : goal.returns-clause-distinct
-returns-clause-distinct c = rw (← c.self.view_is, keys_table c.self.inside.chains.entries) (c.count.ensures.unique)
+returns-clause-distinct c = rw (← c.self.view_is, keys_table c.self.inside.chains.entries) c.len.ensures.unique

@@ -1,0 +1,10 @@
+use Rattle.bohm_place.specs.Plans.{HasSourcesOf, IsRightPlan}
+use Rattle.bohm_board.proofs.PlacesOfKeys.{AreNotedBelow}
+use Rattle.bohm_board.proofs.noting.note_places.Given as goal
+
+abbrev pub invariant-loop-i : goal.invariant-loop-i
+invariant-loop-i l = record {
+  sources : HasSourcesOf l.initial.plan l.plan;
+  right : IsRightPlan l.txns l.plan;
+  noted : AreNotedBelow l.txns l.plan l.entries l.i;
+}

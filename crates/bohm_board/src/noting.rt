@@ -1,0 +1,68 @@
+//! The places of the declared keys in a batch's base.
+
+ghost use Rattle.std.specs.Prelude.{◌≡◌, ℕ, List, ◌+◌, ◌-◌, ◌<◌, ◌≤◌, ◌^◌, All, IfOk, OnErr, length, slice_get, Some, true, false};
+ghost use Rattle.std.specs.Cmp.Lexicographic.{slice_cmp};
+ghost use Rattle.std.specs.Ordering.{nat_cmp};
+ghost use Rattle.bohm_txn.specs.Declares.{IsAmong};
+ghost use Rattle.bohm_txn.specs.Faulty.{IsWellFormedTxn, is_among, rising};
+ghost use Rattle.bohm_place.specs.Plans.{keys_in, planned_in, HasSourcesOf, IsRightPlan};
+ghost use Rattle.bohm_board.specs.Bases.{keys_of, AreNoted, IsBase, IsSetNoted};
+
+use bohm_place::{DeclaredSet, Plan, Source};
+use bohm_txn::{Cell, Key, Txn};
+use std::cmp::Ordering;
+
+/// The place of a key among entries by rising keys, or where it would stand.
+pub fn search(entries: &[(Key, Cell)], key: &Key) -> Result<usize, usize>
+    requires { rising (keys_of entries.now) ≡ true }
+    ensures found { IfOk result (λ i. slice_get (keys_of entries.now) i ≡ Some key.now) }
+    ensures missing { OnErr result (is_among (keys_of entries.now) key.now ≡ false) }
+{
+    entries.binary_search_by(
+        |entry: &(Key, Cell)| -> Ordering
+            ensures { result ≡ slice_cmp nat_cmp entry.now.0 key.entry.now }
+        { entry.0.cmp(key) },
+    )
+}
+
+/// Notes the places of the keys of one declared set of the transaction with the timestamp t.
+fn note_set(plan: &mut Plan, entries: &[(Key, Cell)], set: DeclaredSet, t: u32, txn: &Txn)
+    requires first { plan.old.first ≤ t }
+    requires paired { length (keys_in set txn.now) ≡ length (planned_in set plan.old (t - plan.old.first)) }
+    requires few { length (keys_in set txn.now) ≤ 16 }
+    requires rises { rising (keys_of entries.now) ≡ true }
+    requires entries { length entries.now < 2 ^ 32 }
+    requires there { (k : List ℕ) → IsAmong (keys_in set txn.now) k → IsAmong (keys_of entries.now) k }
+    ensures { IsSetNoted plan.old plan.new set (t - plan.old.first) (keys_in set txn.now) entries.now (length (keys_in set txn.now)) }
+{
+    for (index, key) in set.keys(txn).iter().enumerate() {
+        let index = index as u32;
+        match plan.access(set, t, index).source {
+            Source::Before => match search(entries, key) {
+                Ok(place) => plan.note(set, t, index, place as u32),
+                Err(_) => {}
+            },
+            Source::Within(_) => {}
+        }
+    }
+}
+
+/// Notes at each access whose source is `Before` the place of its key in the base. The time grows with
+/// these accesses, each by the logarithm of the base's length.
+pub fn note_places(plan: &mut Plan, txns: &[Txn], entries: &[(Key, Cell)])
+    requires few { length txns.now ≤ 4096 }
+    requires timestamps { plan.old.first + length txns.now ≤ 2 ^ 32 }
+    requires formed { All IsWellFormedTxn txns.now }
+    requires right { IsRightPlan txns.now plan.old }
+    requires base { IsBase txns.now entries.now }
+    ensures sources { HasSourcesOf plan.old plan.new }
+    ensures right { IsRightPlan txns.now plan.new }
+    ensures noted { AreNoted txns.now plan.new entries.now }
+{
+    let first = plan.first();
+    for (i, txn) in txns.iter().enumerate() {
+        let t = first + i as u32;
+        note_set(plan, entries, DeclaredSet::Reads, t, txn);
+        note_set(plan, entries, DeclaredSet::Writes, t, txn);
+    }
+}

@@ -1,0 +1,25 @@
+//! The two sets of keys that a transaction declares.
+
+ghost use Rattle.std.specs.Prelude.{◌≡◌};
+ghost use Rattle.bohm_place.specs.Plans.{keys_in};
+
+use bohm_txn::{Key, Txn};
+
+/// One of the two sets of keys that a transaction declares.
+#[derive(Clone, Copy, Debug, PartialEq, Eq)]
+pub enum DeclaredSet {
+    Reads,
+    Writes,
+}
+
+impl DeclaredSet {
+    /// The keys of the set, in the order in which they are declared.
+    pub fn keys(self, txn: &Txn) -> &[Key]
+        ensures { result.now ≡ keys_in self txn.now }
+    {
+        match self {
+            DeclaredSet::Reads => txn.reads.as_slice(),
+            DeclaredSet::Writes => txn.writes.as_slice(),
+        }
+    }
+}
