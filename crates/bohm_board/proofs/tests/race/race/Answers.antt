@@ -1,4 +1,3 @@
-use Rattle.std.proofs.Common.{sym, subst}
 use Rattle.bohm_board.proofs.Idling.{empty_base}
 use Rattle.bohm_board.proofs.tests.race.race.Goals as goal
 

@@ -1,5 +1,4 @@
-use Rattle.std.proofs.Common.{arith, ◌≡◌, ◌≢◌, ◌<◌, ℕ, Some, sym, ap, ◌∙◌, subst}
-use Rattle.bohm_tree.specs.declared.cell.Cell.{Cell}
+use Rattle.std.proofs.Common.{arith, ◌≢◌, ◌<◌, Some, sym, ap, ◌∙◌, subst}
 use Rattle.bohm_txn.specs.declared.outcome.Outcome.TheVariants.{Commit}
 use Rattle.bohm_board.specs.declared.batch.Batch.{Batch}
 use Rattle.bohm_board.specs.Batches.{IsSlot, IsRightCell, IsRightOutcome, number, width_at}

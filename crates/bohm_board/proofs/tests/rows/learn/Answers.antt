@@ -1,4 +1,3 @@
-use Rattle.std.proofs.Common.{◌≡◌}
 use Rattle.std.specs.Prelude.{IsTrue, is_some}
 use Rattle.bohm_board.proofs.Holding.{knows_source}
 use Rattle.bohm_board.proofs.tests.rows.learn.Goals as goal

@@ -1,8 +1,7 @@
-use Rattle.std.proofs.Common.{arith, rules, ◌≡◌, ℕ, sym, ap, ◌∙◌, subst, ⊎_elim}
+use Rattle.std.proofs.Common.{arith, rules, ◌≡◌, sym, ap, ◌∙◌, subst, ⊎_elim}
 use Rattle.std.specs.Prelude.{IsTrue, Some}
 use Rattle.std.specs.List.{slice_get}
 use Rattle.bohm_place.specs.declared.access.Access.{Access}
-use Rattle.bohm_board.specs.declared.batch.Batch.{Batch}
 use Rattle.bohm_board.specs.Batches.{reads_at, writes_at, slot_in}
 use Rattle.bohm_board.specs.Passes.{IsKnown}
 use Rattle.bohm_board.proofs.Counting.{one_read, one_write, read_wanted, write_wanted, wanted_two}
