@@ -1,5 +1,5 @@
-//! A plain history of the same make as the crate's: a hash map from keys to chains of versions, and a
-//! queue of the versions that follow another one of their key.
+//! A plain history of the same make as the crate's: chains of versions by place, a hash map from keys to
+//! places, and a queue of the versions that follow another one of their key.
 use std::collections::hash_map::Entry;
 use std::collections::{HashMap, VecDeque};
 use std::hash::{Hash, Hasher};
@@ -90,7 +90,7 @@ impl Chain {
 
 struct Follower {
     begin: u32,
-    key: Key,
+    place: usize,
 }
 
 pub struct Txn {
@@ -114,7 +114,8 @@ impl Finished<'_> {
 
 #[derive(Default)]
 pub struct History {
-    chains: HashMap<Key, Chain>,
+    places: HashMap<Key, usize>,
+    chains: Vec<Chain>,
     followers: VecDeque<Follower>,
     floor: u32,
     pub top: u32,
@@ -123,38 +124,42 @@ pub struct History {
 impl History {
     pub fn open(entries: &[(Key, i64)]) -> History {
         let mut history = History::default();
+        history.places.reserve(entries.len());
         history.chains.reserve(entries.len());
         for (key, value) in entries {
             let first = Version {
                 begin: 0,
                 cell: Cell::Present(*value),
             };
-            history.chains.insert(*key, Chain::of(first));
+            history.places.insert(*key, history.chains.len());
+            history.chains.push(Chain::of(first));
         }
         history
     }
 
     pub fn value_at(&self, key: &Key, ts: u32) -> Cell {
-        self.chains
+        self.places
             .get(key)
-            .map_or(Cell::Absent, |chain| chain.cell_at(ts))
+            .map_or(Cell::Absent, |place| self.chains[*place].cell_at(ts))
     }
 
     pub fn version_count(&self) -> usize {
-        self.chains.values().map(Chain::len).sum()
+        self.chains.iter().map(Chain::len).sum()
     }
 
     fn push(&mut self, key: Key, version: Version) {
-        match self.chains.entry(key) {
-            Entry::Occupied(mut chain) => {
-                chain.get_mut().push(version);
+        match self.places.entry(key) {
+            Entry::Occupied(place) => {
+                let place = *place.get();
+                self.chains[place].push(version);
                 self.followers.push_back(Follower {
                     begin: version.begin,
-                    key,
+                    place,
                 });
             }
             Entry::Vacant(room) => {
-                room.insert(Chain::of(version));
+                room.insert(self.chains.len());
+                self.chains.push(Chain::of(version));
             }
         }
     }
@@ -174,9 +179,7 @@ impl History {
             return;
         }
         while let Some(follower) = self.followers.pop_front_if(|next| next.begin <= floor) {
-            if let Some(chain) = self.chains.get_mut(&follower.key) {
-                chain.drop_oldest();
-            }
+            self.chains[follower.place].drop_oldest();
         }
         self.floor = floor;
     }

@@ -1,6 +1,7 @@
 -- Versions and followers that come and go at the ends.
 use Rattle.std.proofs.Common.{◌≡◌, ℕ, ◌+◌, ◌<◌, ◌≤◌, Bool, true, false, List, [], ◌∷◌, ◌++◌, length, map, take, get_or, All, refl, sym, ap, ◌∙◌, arith, if◌then◌else◌, nat_le, ◌&&◌, append_assoc, append-nil, subst, inl, inr, ◌⊎◌, Option, Some, None, option_to_list, is_some}
 use Rattle.std.specs.Str.{bytes_eq}
+use Rattle.std.specs.Cmp.Lexicographic.{nat_list_eq_equiv}
 use Rattle.std.proofs.lemmas.Bool.Decides.{nat_tests}
 use Rattle.std.proofs.lemmas.List.{take_more, map-append}
 use Rattle.std.proofs.lemmas.List.Elements.{All-head, All-tail, All-push, All-cons, All-nil, All-weaker}
@@ -8,19 +9,20 @@ use Rattle.bohm_store.specs.declared.version.Version.{Version}
 use Rattle.bohm_store.specs.declared.version.Write.{Write}
 use Rattle.bohm_store.specs.declared.followers.Follower.{Follower}
 use Rattle.bohm_store.specs.Versions.{kept}
-use Rattle.bohm_store.specs.Chains.{made, shift, front, waiting, later_begins, RisesTo, IsNotDue}
+use Rattle.bohm_store.specs.Chains.{Queued, keyed, made, shift, front, waiting, later_begins, RisesTo, IsNotDue}
+use Rattle.bohm_store.proofs.Places.{left_empty}
 
-waiting_push : (fs : List Follower) (f : Follower) (k : List ℕ) → waiting (fs ++ f ∷ []) k ≡ waiting fs k ++ (if bytes_eq f.key k then f.begin ∷ [] else [])
+waiting_push : (fs : List Queued) (f : Queued) (k : List ℕ) → waiting (fs ++ f ∷ []) k ≡ waiting fs k ++ (if bytes_eq f.key k then f.begin ∷ [] else [])
 waiting_push [] f k = append-nil _
 waiting_push (g ∷ gs) f k = rw (waiting_push gs f k, append_assoc) refl
 
-waits_by : (v : Version) (vs : List Version) (w : Version) (fs : List Follower) (key k : List ℕ) → bytes_eq key k ≡ true
+waits_by : (v : Version) (vs : List Version) (w : Version) (fs : List Queued) (key k : List ℕ) → bytes_eq key k ≡ true
     → later_begins (v ∷ vs) ≡ waiting fs k
     → later_begins (v ∷ vs ++ w ∷ []) ≡ waiting (fs ++ record { begin = w.begin; key = key } ∷ []) k
 waits_by v vs w fs key k e h = rw (waiting_push fs record { begin = w.begin; key = key } k, e, map-append (λ (v : Version). v.begin) vs (w ∷ []), h) refl
 
 -- a follower more, and a version more where the key is this one
-waits_cases : (old new : List Version) (v : Version) (vs : List Version) (w : Version) (fs : List Follower) (key k : List ℕ) (b : Bool) → bytes_eq key k ≡ b
+waits_cases : (old new : List Version) (v : Version) (vs : List Version) (w : Version) (fs : List Queued) (key k : List ℕ) (b : Bool) → bytes_eq key k ≡ b
     → (bytes_eq key k ≡ true → old ≡ v ∷ vs) → new ≡ (if bytes_eq key k then old ++ w ∷ [] else old)
     → later_begins old ≡ waiting fs k
     → later_begins new ≡ waiting (fs ++ record { begin = w.begin; key = key } ∷ []) k
@@ -38,14 +40,14 @@ abbrev rest_of : List Version → List Version
 rest_of [] = []
 rest_of (v ∷ vs) = vs
 
-pub waits_more : (old new : List Version) (v : Version) (vs : List Version) (w : Version) (fs : List Follower) (key k : List ℕ)
+pub waits_more : (old new : List Version) (v : Version) (vs : List Version) (w : Version) (fs : List Queued) (key k : List ℕ)
     → (bytes_eq key k ≡ true → old ≡ v ∷ vs) → new ≡ (if bytes_eq key k then old ++ w ∷ [] else old)
     → later_begins old ≡ waiting fs k
     → later_begins new ≡ waiting (fs ++ record { begin = w.begin; key = key } ∷ []) k
 waits_more old new v vs w fs key k is n h = waits_cases old new v vs w fs key k (bytes_eq key k) refl is n h
 
 -- the same where both may be refused
-pub waits_extended : (ok : Bool) (old new : List Version) (w : Version) (fs gs : List Follower) (key k : List ℕ)
+pub waits_extended : (ok : Bool) (old new : List Version) (w : Version) (fs gs : List Queued) (key k : List ℕ)
     → (bytes_eq key k ≡ true → (v : Version) × (vs : List Version) × (old ≡ v ∷ vs)) → new ≡ (if (ok && bytes_eq key k) then old ++ w ∷ [] else old) → gs ≡ (if ok then fs ++ record { begin = w.begin; key = key } ∷ [] else fs)
     → later_begins old ≡ waiting fs k → later_begins new ≡ waiting gs k
 waits_extended true old new w fs gs key k is n g h = rw g (waits_cases old new (first_or w old) (rest_of old) w fs key k (bytes_eq key k) refl (λ e. (let (v, vs, at) = is e in rw at refl)) n h)
@@ -114,7 +116,7 @@ pub added : (ws : List Write) (i : ℕ) (d : Write) (k : List ℕ) → i < lengt
 added ws i d k inside old mid new m n = added_by ws i d k inside old mid new m n (bytes_eq (get_or ws i d).key k) refl
 
 -- one version let go
-shifted_by : (floor : ℕ) (old new : List Version) (f : Follower) (fs : List Follower) (k : List ℕ) → later_begins old ≡ waiting (f ∷ fs) k → f.begin ≤ floor
+shifted_by : (floor : ℕ) (old new : List Version) (f : Queued) (fs : List Queued) (k : List ℕ) → later_begins old ≡ waiting (f ∷ fs) k → f.begin ≤ floor
     → new ≡ (if bytes_eq f.key k then shift old else old) → (b : Bool) → bytes_eq f.key k ≡ b
     → (kept floor new ≡ kept floor old) × (later_begins new ≡ waiting fs k)
 shifted_by floor [] new f fs k h le n true e = let h' = rw e at h in absurd cc
@@ -131,18 +133,18 @@ shifted_by floor old new f fs k h le n false e =
     let n' : new ≡ old = rw e at n in
     rw n' (refl, h')
 
-pub shifted : (floor : ℕ) (old new : List Version) (f : Follower) (fs : List Follower) (k : List ℕ) → later_begins old ≡ waiting (f ∷ fs) k → f.begin ≤ floor
+pub shifted : (floor : ℕ) (old new : List Version) (f : Queued) (fs : List Queued) (k : List ℕ) → later_begins old ≡ waiting (f ∷ fs) k → f.begin ≤ floor
     → new ≡ (if bytes_eq f.key k then shift old else old)
     → (kept floor new ≡ kept floor old) × (later_begins new ≡ waiting fs k)
 shifted floor old new f fs k h le n = shifted_by floor old new f fs k h le n (bytes_eq f.key k) refl
 
-above_waiting_by : (floor : ℕ) (f : Follower) (fs : List Follower) (k : List ℕ) (b : Bool) → bytes_eq f.key k ≡ b → floor < f.begin → All (λ n. floor < n) (waiting fs k) → All (λ n. floor < n) (waiting (f ∷ fs) k)
-above_waiting_by floor f fs k true e lt h = rw e (All-cons (λ n. floor < n) f.begin (waiting fs k) lt h)
-above_waiting_by floor f fs k false e lt h = rw e h
+above_waiting_by : (floor : ℕ) (ks : List (List ℕ)) (f : Follower) (fs : List Follower) (k : List ℕ) (b : Bool) → bytes_eq (get_or ks f.place []) k ≡ b → floor < f.begin → All (λ n. floor < n) (waiting (keyed ks fs) k) → All (λ n. floor < n) (waiting (keyed ks (f ∷ fs)) k)
+above_waiting_by floor ks f fs k true e lt h = rw e (All-cons (λ n. floor < n) f.begin (waiting (keyed ks fs) k) lt h)
+above_waiting_by floor ks f fs k false e lt h = rw e h
 
-above_waiting : (floor : ℕ) (fs : List Follower) (k : List ℕ) → All (λ (f : Follower). floor < f.begin) fs → All (λ n. floor < n) (waiting fs k)
-above_waiting floor [] k h = All-nil (λ n. floor < n)
-above_waiting floor (f ∷ fs) k h = above_waiting_by floor f fs k (bytes_eq f.key k) refl (All-head (λ (f : Follower). floor < f.begin) f fs h) (above_waiting floor fs k (All-tail (λ (f : Follower). floor < f.begin) f fs h))
+above_waiting : (floor : ℕ) (ks : List (List ℕ)) (fs : List Follower) (k : List ℕ) → All (λ (f : Follower). floor < f.begin) fs → All (λ n. floor < n) (waiting (keyed ks fs) k)
+above_waiting floor ks [] k h = All-nil (λ n. floor < n)
+above_waiting floor ks (f ∷ fs) k h = above_waiting_by floor ks f fs k (bytes_eq (get_or ks f.place []) k) refl (All-head (λ (f : Follower). floor < f.begin) f fs h) (above_waiting floor ks fs k (All-tail (λ (f : Follower). floor < f.begin) f fs h))
 
 not_due : (floor n : ℕ) (fs : List Follower) → RisesTo n fs → IsNotDue floor fs → All (λ (f : Follower). floor < f.begin) fs
 not_due floor n [] r h = All-nil (λ (f : Follower). floor < f.begin)
@@ -156,8 +158,8 @@ kept_above floor (v ∷ w ∷ ws) h =
     let no : nat_le w.begin floor ≡ false = grind (arith, nat_tests) in
     rw no refl
 
-pub kept_all : (floor n : ℕ) (vs : List Version) (fs : List Follower) (k : List ℕ) → later_begins vs ≡ waiting fs k → RisesTo n fs → IsNotDue floor fs → kept floor vs ≡ vs
-kept_all floor n vs fs k h r due = kept_above floor vs (rw h (above_waiting floor fs k (not_due floor n fs r due)))
+pub kept_all : (floor n : ℕ) (vs : List Version) (ks : List (List ℕ)) (fs : List Follower) (k : List ℕ) → later_begins vs ≡ waiting (keyed ks fs) k → RisesTo n fs → IsNotDue floor fs → kept floor vs ≡ vs
+kept_all floor n vs ks fs k h r due = kept_above floor vs (rw h (above_waiting floor ks fs k (not_due floor n fs r due)))
 
 pub taken_of : (ws : List Write) (i : ℕ) (d w : Write) (k : List ℕ) → i < length ws → w ≡ get_or ws i d → (old new base : List Version)
     → old ≡ base ++ made (take (i + 1) ws) k → new ≡ (if bytes_eq w.key k then front old else old)
@@ -187,10 +189,18 @@ dropped_only v None [] went o is not = refl
 dropped_only v (Some x) [] went o is not = absurd cc
 dropped_only v second (y ∷ ys) went o is not = absurd (omega arith)
 
-pub rises_grown : (n : ℕ) (old new : List Follower) (f : Follower) → n ≤ f.begin → RisesTo n old → (new ≡ old) ⊎ (new ≡ old ++ f ∷ []) → RisesTo f.begin new
-rises_grown n old new f le h (inl e) = rw e (rises_higher n f.begin old le h)
-rises_grown n old new f le h (inr e) = rw e (rises_push n old f le h)
+pub rises_grown : (n begin : ℕ) (old new : List Follower) → n ≤ begin → RisesTo n old → (new ≡ old) ⊎ ((place : ℕ) × (new ≡ old ++ record { begin = begin; place = place } ∷ [])) → RisesTo begin new
+rises_grown n begin old new le h (inl e) = rw e (rises_higher n begin old le h)
+rises_grown n begin old new le h (inr e) = rw e.1 (rises_push n old record { begin = begin; place = e.0 } le h)
 
-pub grown_more : (base old new : List Follower) (f : Follower) → ((more : List Follower) × (old ≡ base ++ more)) → (new ≡ old) ⊎ (new ≡ old ++ f ∷ []) → (more : List Follower) × (new ≡ base ++ more)
-grown_more base old new f m (inl e) = (m.0, e ∙ m.1)
-grown_more base old new f m (inr e) = (m.0 ++ f ∷ [], e ∙ rw (m.1, append_assoc) refl)
+pub grown_more : (begin : ℕ) (base old new : List Follower) → ((more : List Follower) × (old ≡ base ++ more)) → (new ≡ old) ⊎ ((place : ℕ) × (new ≡ old ++ record { begin = begin; place = place } ∷ [])) → (more : List Follower) × (new ≡ base ++ more)
+grown_more begin base old new m (inl e) = (m.0, e ∙ m.1)
+grown_more begin base old new m (inr e) = (m.0 ++ record { begin = begin; place = e.0 } ∷ [], e.1 ∙ rw (m.1, append_assoc) refl)
+
+-- where all that is left of a key's versions came with these writes, it had none before them
+pub base_empty : (ws : List Write) (i : ℕ) (d : Write) → i < length ws → (old base : List Version)
+    → old ≡ base ++ made (take (i + 1) ws) (get_or ws i d).key → front old ≡ [] → base ≡ []
+base_empty ws i d inside old base o none =
+    let key = (get_or ws i d).key in
+    let same : front old ≡ (if bytes_eq key key then front old else old) = rw (nat_list_eq_equiv.refl key) refl in
+    left_empty base (made (take i ws) key) (sym none ∙ taken ws i d key inside old (front old) base o same)

@@ -1,4 +1,5 @@
 pub mod Past
+pub mod Places
 pub mod Newest
 pub mod Grows
 pub mod Views

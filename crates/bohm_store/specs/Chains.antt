@@ -1,7 +1,7 @@
 -- How versions lie in memory.
-use Rattle.std.specs.Prelude.{◌≡◌, ℕ, ℤ, ◌≤◌, ◌<◌, List, [], ◌∷◌, ◌++◌, map, Option, None, Some, if◌then◌else◌, All, option_to_list}
+use Rattle.std.specs.Prelude.{◌≡◌, ℕ, ℤ, ◌≤◌, ◌<◌, List, [], ◌∷◌, ◌++◌, map, length, get_or, Option, None, Some, if◌then◌else◌, All, option_to_list}
 use Rattle.std.specs.Str.{bytes_eq}
-use Rattle.std.specs.HashMap.{HashMap, get}
+use Rattle.std.specs.HashMap.{HashMap, get, keys}
 use Rattle.bohm_tree.specs.declared.cell.Cell.{Cell}
 use Rattle.bohm_tree.specs.declared.cell.Cell.TheVariants.{Absent, Present}
 use Rattle.bohm_tree.specs.declared.txn.Txn.{Txn}
@@ -69,8 +69,23 @@ Climb n (w ∷ ws) top = (n ≤ w.begin) × Climb w.begin ws top
 
 -- ---- the versions that follow another one of their key
 
+-- such a version by its key
+pub record Queued : Type 0 where
+  pub begin : ℕ
+  pub key : List ℕ
+
+-- the keys at the places
+abbrev pub keyed : List (List ℕ) → List Follower → List Queued
+keyed ks [] = []
+keyed ks (f ∷ fs) = record { begin = f.begin; key = get_or ks f.place [] } ∷ keyed ks fs
+
+-- there is a key at each place
+abbrev pub ArePlaced : List (List ℕ) → List Follower → Type 0
+ArePlaced ks [] = Unit {0}
+ArePlaced ks (f ∷ fs) = (f.place < length ks) × ArePlaced ks fs
+
 -- where those of a key begin
-abbrev pub waiting : List Follower → List ℕ → List ℕ
+abbrev pub waiting : List Queued → List ℕ → List ℕ
 waiting [] k = []
 waiting (f ∷ fs) k = (if bytes_eq f.key k then f.begin ∷ [] else []) ++ waiting fs k
 
@@ -86,12 +101,13 @@ IsNotDue floor (f ∷ fs) = floor < f.begin
 
 -- ---- a history
 
--- a key's versions rise up to the top, and each that follows another one stands in the queue
+-- a key's versions rise up to the top, and each that follows another one stands in the queue, by the place of its key
 pub record IsHistory {S : Type 0} (chains : HashMap (List ℕ) Chain S) (followers : List Follower) (floor top : ℕ) : Type 0 where
   pub ordered : floor ≤ top
   pub low : (k : List ℕ) → UpTo top (chain chains k)
   pub rising : (k : List ℕ) → Rises (chain chains k)
-  pub waits : (k : List ℕ) → later_begins (chain chains k) ≡ waiting followers k
+  pub placed : ArePlaced (keys chains) followers
+  pub waits : (k : List ℕ) → later_begins (chain chains k) ≡ waiting (keyed (keys chains) followers) k
   pub climbs : RisesTo top followers
 
 -- ---- the keys of transactions

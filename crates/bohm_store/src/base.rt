@@ -12,8 +12,8 @@ ghost use Rattle.bohm_store.specs.Chains.{chain, declared_in};
 use crate::chain::Chain;
 use crate::chains::cell_of;
 use bohm_txn::{Cell, Key, NoMemory, Txn};
+use indexmap::IndexMap;
 use std::alloc::Global;
-use std::collections::HashMap;
 
 // The keys that the transactions declare, each as often as it is declared.
 fn declared(alloc: Global, txns: &[Txn]) -> Result<Vec<Key>, NoMemory>
@@ -41,7 +41,7 @@ fn declared_once(alloc: Global, txns: &[Txn]) -> Result<Vec<Key>, NoMemory>
 /// Each key that the transactions declare, rising, with the cell of its newest version that begins at or
 /// below a timestamp.
 pub fn base_at(
-    chains: &HashMap<Key, Chain>,
+    chains: &IndexMap<Key, Chain>,
     alloc: Global,
     txns: &[Txn],
     ts: u32,

@@ -7,7 +7,7 @@ ghost use Rattle.bohm_store.specs.Versions.{cell_at};
 
 use crate::followers::Follower;
 use crate::version::Version;
-use bohm_txn::{Cell, Key, NoMemory};
+use bohm_txn::{Cell, NoMemory};
 use std::alloc::Global;
 use std::collections::VecDeque;
 
@@ -61,15 +61,15 @@ impl Chain {
     fn extend_later(
         &mut self,
         followers: &mut VecDeque<Follower>,
-        key: Key,
+        place: usize,
         begin: u32,
         cell: Cell,
     ) -> Result<(), NoMemory>
         ensures items { items self.new ≡ (if is_ok result then items self.old ++ record { begin = begin; cell = cell } ∷ [] else items self.old) }
-        ensures followers { followers.new.items ≡ (if is_ok result then followers.old.items ++ record { begin = begin; key = key } ∷ [] else followers.old.items) }
+        ensures followers { followers.new.items ≡ (if is_ok result then followers.old.items ++ record { begin = begin; place = place } ∷ [] else followers.old.items) }
     {
         self.later.reserve(1)?;
-        followers.push_back(Follower { begin, key })?;
+        followers.push_back(Follower { begin, place })?;
         self.later.push_back_reserved(Version { begin, cell });
         Ok(())
     }
@@ -78,17 +78,17 @@ impl Chain {
     pub fn extend(
         &mut self,
         followers: &mut VecDeque<Follower>,
-        key: Key,
+        place: usize,
         begin: u32,
         cell: Cell,
     ) -> Result<(), NoMemory>
         ensures items { items self.new ≡ (if is_ok result then items self.old ++ record { begin = begin; cell = cell } ∷ [] else items self.old) }
-        ensures followers { followers.new.items ≡ (if is_ok result then followers.old.items ++ record { begin = begin; key = key } ∷ [] else followers.old.items) }
+        ensures followers { followers.new.items ≡ (if is_ok result then followers.old.items ++ record { begin = begin; place = place } ∷ [] else followers.old.items) }
     {
         if self.second.is_some() || !self.later.is_empty() {
-            return self.extend_later(followers, key, begin, cell);
+            return self.extend_later(followers, place, begin, cell);
         }
-        followers.push_back(Follower { begin, key })?;
+        followers.push_back(Follower { begin, place })?;
         self.second = Some(Version { begin, cell });
         Ok(())
     }

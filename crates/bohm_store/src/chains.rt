@@ -1,27 +1,30 @@
 //! The versions of all keys.
 
 ghost use Rattle.std.specs.Prelude.{◌≡◌, ℕ, List, [], ◌∷◌, ◌++◌, ◌≤◌, ◌&&◌, ◌⊎◌, is_ok, true, false, if◌then◌else◌, IfOk, OnOk, OnErr};
+ghost use Rattle.std.specs.Prelude.{◌<◌, false, get_or, length, slice_get, Some};
+ghost use Rattle.std.specs.HashMap.{keys};
 ghost use Rattle.std.specs.Str.{bytes_eq};
 ghost use Rattle.bohm_tree.specs.declared.cell.Cell.TheVariants.{Absent};
-ghost use Rattle.bohm_txn.specs.Faulty.{rising, names_of};
+ghost use Rattle.bohm_txn.specs.Faulty.{is_among, rising, names_of};
 ghost use Rattle.bohm_txn.specs.Stores.{cell_in, store_of};
 ghost use Rattle.bohm_store.specs.declared.version.Version.{Version};
 ghost use Rattle.bohm_store.specs.Versions.{cell_at, kept};
-ghost use Rattle.bohm_store.specs.Chains.{chain, shift, front, later_begins, made, started, waiting, Climb, RisesTo};
+ghost use Rattle.bohm_store.specs.Chains.{chain, keyed, ArePlaced, shift, front, later_begins, made, started, waiting, Climb, RisesTo};
 
 use crate::chain::Chain;
 use crate::followers::{Follower, take_due};
 use crate::version::{Version, Write};
 use bohm_txn::{Cell, Key, NoMemory, Value};
+use indexmap::IndexMap;
 use std::alloc::Global;
-use std::collections::{HashMap, VecDeque};
+use std::collections::VecDeque;
 
 /// The chains of a starting store.
-pub fn start(alloc: Global, entries: &[(Key, Value)]) -> Result<HashMap<Key, Chain>, NoMemory>
+pub fn start(alloc: Global, entries: &[(Key, Value)]) -> Result<IndexMap<Key, Chain>, NoMemory>
     requires { rising (names_of entries.now) ≡ true }
     ensures { IfOk result (λ chains. (k : List ℕ) → chain chains k ≡ started (cell_in (store_of entries.now) k)) }
 {
-    let mut chains = HashMap::with_capacity(alloc, entries.len())?;
+    let mut chains = IndexMap::with_capacity(alloc, entries.len())?;
     for (key, value) in entries {
         let first = Version {
             begin: 0,
@@ -33,7 +36,7 @@ pub fn start(alloc: Global, entries: &[(Key, Value)]) -> Result<HashMap<Key, Cha
 }
 
 /// The cell of a key's newest version that begins at or below a timestamp, or absence.
-pub fn cell_of(chains: &HashMap<Key, Chain>, key: &Key, ts: u32) -> Cell
+pub fn cell_of(chains: &IndexMap<Key, Chain>, key: &Key, ts: u32) -> Cell
     ensures { result ≡ cell_at ts (chain chains.now key.now) Absent }
 {
     match chains.get(key) {
@@ -44,18 +47,23 @@ pub fn cell_of(chains: &HashMap<Key, Chain>, key: &Key, ts: u32) -> Cell
 
 // Adds a version to a key's chain, and to the queue where it isn't the first one.
 fn push(
-    chains: &mut HashMap<Key, Chain>,
+    chains: &mut IndexMap<Key, Chain>,
     followers: &mut VecDeque<Follower>,
     alloc: Global,
     write: Write,
 ) -> Result<(), NoMemory>
     ensures chains { (k : List ℕ) → chain chains.new k ≡ (if (is_ok result && bytes_eq write.key k) then chain chains.old k ++ record { begin = write.begin; cell = write.cell } ∷ [] else chain chains.old k) }
-    ensures waiting { (k : List ℕ) → later_begins (chain chains.old k) ≡ waiting followers.old.items k → later_begins (chain chains.new k) ≡ waiting followers.new.items k }
-    ensures grows { (followers.new.items ≡ followers.old.items) ⊎ (followers.new.items ≡ followers.old.items ++ record { begin = write.begin; key = write.key } ∷ []) }
+    ensures keys { (more : List (List ℕ)) × (keys chains.new ≡ keys chains.old ++ more) }
+    ensures waiting { ArePlaced (keys chains.old) followers.old.items → (k : List ℕ) → later_begins (chain chains.old k) ≡ waiting (keyed (keys chains.old) followers.old.items) k → later_begins (chain chains.new k) ≡ waiting (keyed (keys chains.new) followers.new.items) k }
+    ensures placed { ArePlaced (keys chains.old) followers.old.items → ArePlaced (keys chains.new) followers.new.items }
+    ensures grows { (followers.new.items ≡ followers.old.items) ⊎ ((place : ℕ) × (followers.new.items ≡ followers.old.items ++ record { begin = write.begin; place = place } ∷ [])) }
 {
     let Write { begin, key, cell } = write;
-    match chains.get_mut(&key) {
-        Some(chain) => chain.extend(followers, key, begin, cell),
+    match chains.get_index_of(&key) {
+        Some(place) => {
+            let (_, chain) = chains.pair_mut(place);
+            chain.extend(followers, place, begin, cell)
+        }
         None => {
             chains.insert(key, Chain::new(alloc, Version { begin, cell }))?;
             Ok(())
@@ -64,9 +72,10 @@ fn push(
 }
 
 // Lets the newest version of a key go, where it isn't the only one.
-fn drop_later(chains: &mut HashMap<Key, Chain>, key: &Key) -> bool
+fn drop_later(chains: &mut IndexMap<Key, Chain>, key: &Key) -> bool
     ensures chains { (k : List ℕ) → chain chains.new k ≡ (if (result && bytes_eq key.now k) then front (chain chains.old k) else chain chains.old k) }
     ensures only { result ≡ false → (k : List ℕ) → bytes_eq key.now k ≡ true → front (chain chains.old k) ≡ [] }
+    ensures keys { keys chains.new ≡ keys chains.old }
 {
     match chains.get_mut(key) {
         Some(chain) => chain.drop_newest(),
@@ -74,18 +83,22 @@ fn drop_later(chains: &mut HashMap<Key, Chain>, key: &Key) -> bool
     }
 }
 
-// Lets the newest version of a key go.
-fn retreat(chains: &mut HashMap<Key, Chain>, key: &Key)
-    ensures { (k : List ℕ) → chain chains.new k ≡ (if bytes_eq key.now k then front (chain chains.old k) else chain chains.old k) }
+// Lets the newest version of a key go, and the key itself with its only one. The keys before it keep their
+// places.
+fn retreat(chains: &mut IndexMap<Key, Chain>, key: &Key)
+    ensures chains { (k : List ℕ) → chain chains.new k ≡ (if bytes_eq key.now k then front (chain chains.old k) else chain chains.old k) }
+    ensures keys { (ks more : List (List ℕ)) → keys chains.old ≡ ks ++ more → (front (chain chains.old key.now) ≡ [] → is_among ks key.now ≡ false) → (rest : List (List ℕ)) × (keys chains.new ≡ ks ++ rest) }
 {
     if !drop_later(chains, key) {
-        chains.remove(key);
+        chains.shift_remove(key);
     }
 }
 
-// Lets the versions of these writes go again, which came last.
-fn take_back(chains: &mut HashMap<Key, Chain>, writes: &[Write])
-    ensures { (base : List ℕ → List Version) → ((k : List ℕ) → chain chains.old k ≡ base k ++ made writes.now k) → (k : List ℕ) → chain chains.new k ≡ base k }
+// Lets the versions of these writes go again, which came last. The keys that had versions before them keep
+// their places.
+fn take_back(chains: &mut IndexMap<Key, Chain>, writes: &[Write])
+    ensures chains { (base : List ℕ → List Version) → ((k : List ℕ) → chain chains.old k ≡ base k ++ made writes.now k) → (k : List ℕ) → chain chains.new k ≡ base k }
+    ensures keys { (base : List ℕ → List Version) (ks more : List (List ℕ)) → ((k : List ℕ) → chain chains.old k ≡ base k ++ made writes.now k) → keys chains.old ≡ ks ++ more → ((k : List ℕ) → base k ≡ [] → is_among ks k ≡ false) → (rest : List (List ℕ)) × (keys chains.new ≡ ks ++ rest) }
 {
     let mut i = writes.len();
     while i > 0 {
@@ -96,13 +109,15 @@ fn take_back(chains: &mut HashMap<Key, Chain>, writes: &[Write])
 
 /// Adds the versions of a batch. A refusal leaves everything as it was.
 pub fn add(
-    chains: &mut HashMap<Key, Chain>,
+    chains: &mut IndexMap<Key, Chain>,
     followers: &mut VecDeque<Follower>,
     alloc: Global,
     writes: &[Write],
 ) -> Result<(), NoMemory>
     ensures chains { (k : List ℕ) → chain chains.new k ≡ (if is_ok result then chain chains.old k ++ made writes.now k else chain chains.old k) }
-    ensures waiting { OnOk result (((k : List ℕ) → later_begins (chain chains.old k) ≡ waiting followers.old.items k) → (k : List ℕ) → later_begins (chain chains.new k) ≡ waiting followers.new.items k) }
+    ensures keys { (more : List (List ℕ)) × (keys chains.new ≡ keys chains.old ++ more) }
+    ensures placed { OnOk result (ArePlaced (keys chains.old) followers.old.items → ArePlaced (keys chains.new) followers.new.items) }
+    ensures waiting { OnOk result (ArePlaced (keys chains.old) followers.old.items → ((k : List ℕ) → later_begins (chain chains.old k) ≡ waiting (keyed (keys chains.old) followers.old.items) k) → (k : List ℕ) → later_begins (chain chains.new k) ≡ waiting (keyed (keys chains.new) followers.new.items) k) }
     ensures climbs { OnOk result ((n top : ℕ) → Climb n writes.now top → RisesTo n followers.old.items → RisesTo top followers.new.items) }
     ensures err { OnErr result (followers.new.items ≡ followers.old.items) }
 {
@@ -117,25 +132,28 @@ pub fn add(
     Ok(())
 }
 
-// Lets the oldest version of a key go, where another one follows.
-fn advance(chains: &mut HashMap<Key, Chain>, key: &Key)
-    ensures { (k : List ℕ) → chain chains.new k ≡ (if bytes_eq key.now k then shift (chain chains.old k) else chain chains.old k) }
+// Lets the oldest version of the key at a place go, where another one follows.
+fn advance(chains: &mut IndexMap<Key, Chain>, place: usize)
+    requires { place < length (keys chains.old) }
+    ensures chains { (k : List ℕ) → chain chains.new k ≡ (if bytes_eq (get_or (keys chains.old) place []) k then shift (chain chains.old k) else chain chains.old k) }
+    ensures keys { keys chains.new ≡ keys chains.old }
 {
-    if let Some(chain) = chains.get_mut(key) {
-        chain.drop_oldest();
-    }
+    let (_, chain) = chains.pair_mut(place);
+    chain.drop_oldest();
 }
 
 /// Keeps of each key the versions that begin above the floor and the newest one at or below it. Its time
 /// grows with how many versions go.
-pub fn trim(chains: &mut HashMap<Key, Chain>, followers: &mut VecDeque<Follower>, floor: u32)
-    requires waiting { (k : List ℕ) → later_begins (chain chains.old k) ≡ waiting followers.old.items k }
+pub fn trim(chains: &mut IndexMap<Key, Chain>, followers: &mut VecDeque<Follower>, floor: u32)
+    requires placed { ArePlaced (keys chains.old) followers.old.items }
+    requires waiting { (k : List ℕ) → later_begins (chain chains.old k) ≡ waiting (keyed (keys chains.old) followers.old.items) k }
     requires climbs { (n : ℕ) × RisesTo n followers.old.items }
     ensures chains { (k : List ℕ) → chain chains.new k ≡ kept floor (chain chains.old k) }
-    ensures waiting { (k : List ℕ) → later_begins (chain chains.new k) ≡ waiting followers.new.items k }
+    ensures placed { ArePlaced (keys chains.new) followers.new.items }
+    ensures waiting { (k : List ℕ) → later_begins (chain chains.new k) ≡ waiting (keyed (keys chains.new) followers.new.items) k }
     ensures climbs { (n : ℕ) → RisesTo n followers.old.items → RisesTo n followers.new.items }
 {
     while let Some(follower) = take_due(followers, floor) {
-        advance(chains, &follower.key);
+        advance(chains, follower.place);
     }
 }

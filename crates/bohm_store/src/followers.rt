@@ -3,15 +3,14 @@
 ghost use Rattle.std.specs.Prelude.{◌≡◌, ◌≤◌, ◌∷◌, MatchOption};
 ghost use Rattle.bohm_store.specs.Chains.{IsNotDue};
 
-use bohm_txn::Key;
 use std::collections::VecDeque;
 
-/// A version that follows another one of its key. Once it is at or below the floor, the one before it is
+/// A version that follows another one of its key, by the place of that key among all. Once it is at or below the floor, the one before it is
 /// let go.
 #[derive(Clone, Copy, Debug)]
 pub struct Follower {
     pub begin: u32,
-    pub key: Key,
+    pub place: usize,
 }
 
 /// Takes the first follower, if it begins at or below the floor.

@@ -29,15 +29,18 @@ use bohm_board::Batch;
 use bohm_exec::Finished;
 use bohm_place::Plan;
 use bohm_txn::{Cell, Key, NoMemory, Txn, Value};
+use indexmap::IndexMap;
 use std::alloc::Global;
-use std::collections::{HashMap, VecDeque};
+use std::collections::VecDeque;
 use std::marker::Model;
 
 /// The versions of each key from a floor up to a top, which are timestamps.
 #[derive(Drop)]
 pub struct History {
-    chains: HashMap<Key, Chain>,
-    // The versions that follow another one of their key, in the order of their begins.
+    // New keys go last, and only a refusal takes keys away again, the last ones: a key keeps its place.
+    chains: IndexMap<Key, Chain>,
+    // The versions that follow another one of their key, in the order of their begins. Each has the place of
+    // its key, so that a trim looks up none.
     followers: VecDeque<Follower>,
     floor: u32,
     top: u32,

@@ -9,8 +9,8 @@ ghost use Rattle.bohm_store.specs.Chains.{items, pick, picks};
 
 use crate::chain::Chain;
 use bohm_txn::{Cell, Key, NoMemory, Value};
+use indexmap::IndexMap;
 use std::alloc::Global;
-use std::collections::HashMap;
 
 // Lists a key with its value at a timestamp, where it has one.
 fn list_one(out: &mut Vec<(Key, Value)>, key: &Key, chain: &Chain, ts: u32) -> Result<(), NoMemory>
@@ -24,7 +24,7 @@ fn list_one(out: &mut Vec<(Key, Value)>, key: &Key, chain: &Chain, ts: u32) -> R
 
 /// The keys that have a value at a timestamp, with it, in the map's order.
 pub fn present(
-    chains: &HashMap<Key, Chain>,
+    chains: &IndexMap<Key, Chain>,
     alloc: Global,
     ts: u32,
 ) -> Result<Vec<(Key, Value)>, NoMemory>

@@ -1,6 +1,6 @@
-use Rattle.std.proofs.Common.{arith, ◌≡◌, ◌+◌, ◌-◌, ◌∙◌, append-nil}
-use Rattle.bohm_store.specs.Chains.{chain}
-use Rattle.bohm_store.proofs.Grows.{taken}
+use Rattle.std.proofs.Common.{arith, ◌≡◌, ◌+◌, ◌-◌, ◌∙◌, append-nil, ◌++◌, get_or, take}
+use Rattle.bohm_store.specs.Chains.{chain, made}
+use Rattle.bohm_store.proofs.Grows.{base_empty, taken}
 use Rattle.bohm_store.proofs.chains.take_back.Goals as goal
 
 pub loop-i-preserved : goal.loop-i-preserved
@@ -11,11 +11,18 @@ loop-i-preserved c =
     let next : i + 1 ≡ c.loop-i.i = omega arith in
     record {
       within = omega (arith, c.loop-i.invariant.within);
-      left = λ base h k. taken ws i w k (omega (arith, c.loop-i.invariant.within)) (chain c.loop-i.chains k) (chain c.retreat.new.chains k) (base k) (rw next (c.loop-i.invariant.left base h k)) (c.retreat.ensures k);
+      left = λ base h k. taken ws i w k (omega (arith, c.loop-i.invariant.within)) (chain c.loop-i.chains k) (chain c.retreat.new.chains k) (base k) (rw next (c.loop-i.invariant.left base h k)) (c.retreat.ensures.chains k);
+      kept = λ base ks more h e none. (let (rest, at) = c.loop-i.invariant.kept base ks more h e none in
+          let key = (get_or ws i w).key in
+          let left : chain c.loop-i.chains key ≡ base key ++ made (take (i + 1) ws) key = rw next (c.loop-i.invariant.left base h key) in
+          c.retreat.ensures.keys ks rest at (λ gone. none key (base_empty ws i w (omega (arith, c.loop-i.invariant.within)) (chain c.loop-i.chains key) (base key) left gone)));
     }
 
-pub returns : goal.returns
-returns c base h k =
+pub returns-clause-chains : goal.returns-clause-chains
+returns-clause-chains c base h k =
     let none : c.loop-i.i ≡ 0 = omega arith in
     let left = rw none at (c.loop-i.invariant.left base h k) in
     left ∙ append-nil _
+
+pub returns-clause-keys : goal.returns-clause-keys
+returns-clause-keys c = λ base ks more h e none. c.loop-i.invariant.kept base ks more h e none

@@ -14,6 +14,7 @@ invariant_of-result c =
       ordered = omega arith;
       low = λ k. rw (c.in_ok-chains.ensures k) (started_low _);
       rising = λ k. rw (c.in_ok-chains.ensures k) (started_rises _);
+      placed = rw (c.new.ensures.items) tt;
       waits = λ k. rw (c.new.ensures.items) (ap later_begins (c.in_ok-chains.ensures k) ∙ started_alone _);
       climbs = rw (c.new.ensures.items) tt;
     }

@@ -7,6 +7,8 @@ use Rattle.bohm_store.specs.declared.version.Write.{Write}
 use Rattle.bohm_store.specs.Versions.{cell_at, past, produced}
 use Rattle.bohm_store.specs.Chains.{chain, table, Climb}
 use Rattle.bohm_store.specs.Written.{written_all}
+use Rattle.std.specs.HashMap.{keys}
+use Rattle.bohm_store.proofs.Places.{keyed_longer, placed_longer}
 use Rattle.bohm_store.proofs.Views.{lookup_table}
 use Rattle.bohm_store.proofs.Later.{made_produced, settled_low, settled_rises, settled_earlier, settled_later}
 use Rattle.bohm_store.proofs.Writing.{written_climbs}
@@ -22,11 +24,13 @@ returns-in-Err-clause-err c = rw (← c.self.view_is) (record {
 pub invariant_of-self-in-Err : goal.invariant_of-self-in-Err
 invariant_of-self-in-Err c =
     let was = c.self.invariant in
+    let more = c.in-Err.ensures.keys in
     record {
       ordered = was.ordered;
       low = λ k. rw (c.in-Err.ensures.chains k) (was.low k);
       rising = λ k. rw (c.in-Err.ensures.chains k) (was.rising k);
-      waits = λ k. rw (c.in-Err.ensures.chains k, c.in-Err.ensures.err) (was.waits k);
+      placed = rw (c.in-Err.ensures.err, more.1) (placed_longer (keys c.self.inside.chains) more.0 c.self.inside.followers.items was.placed);
+      waits = λ k. rw (c.in-Err.ensures.chains k, c.in-Err.ensures.err, more.1, keyed_longer (keys c.self.inside.chains) more.0 c.self.inside.followers.items was.placed) (was.waits k);
       climbs = rw (c.in-Err.ensures.err) was.climbs;
     }
 
@@ -45,7 +49,8 @@ invariant_of-self c =
       ordered = omega (arith, was.ordered);
       low = λ k. rw c.len.ensures (settled_low top look txns k (chain c.self.inside.chains k) (chain c.add.new.chains k) (grown k) (was.low k));
       rising = λ k. settled_rises top look txns k (chain c.self.inside.chains k) (chain c.add.new.chains k) (grown k) (was.low k) (was.rising k);
-      waits = c.in-Ok.ensures.waiting was.waits;
+      placed = c.in-Ok.ensures.placed was.placed;
+      waits = c.in-Ok.ensures.waiting was.placed was.waits;
       climbs = rw c.len.ensures (c.in-Ok.ensures.climbs top (top + length txns) climb was.climbs);
     }
 

@@ -17,6 +17,7 @@ invariant_of-self c =
       ordered = requires;
       low = λ k. rw (c.trim.ensures.chains k) (All-kept (λ (v : Version). v.begin ≤ c.self.inside.top) c.args.floor (chain c.self.inside.chains k) (was.low k));
       rising = λ k. rw (c.trim.ensures.chains k) (Rises-kept c.args.floor (chain c.self.inside.chains k) (was.rising k));
+      placed = c.trim.ensures.placed;
       waits = c.trim.ensures.waiting;
       climbs = c.trim.ensures.climbs c.self.inside.top was.climbs;
     }
