@@ -129,12 +129,14 @@ pub placed_extended : (ok : Bool) (ks js : List (List ℕ)) (fs gs : List Follow
 placed_extended true ks js fs gs f e g lt placed = rw (e, g) (placed_push ks fs f placed lt)
 placed_extended false ks js fs gs f e g lt placed = rw (e, g) placed
 
+-- the same as it is seen by keys
 pub keyed_extended : (ok : Bool) (ks js : List (List ℕ)) (fs gs : List Follower) (f : Follower) (key : List ℕ) → js ≡ ks → gs ≡ (if ok then fs ++ f ∷ [] else fs) → get_or ks f.place [] ≡ key → keyed js gs ≡ (if ok then keyed ks fs ++ record { begin = f.begin; key = key } ∷ [] else keyed ks fs)
 keyed_extended true ks js fs gs f key e g is = rw (e, g) (keyed_push ks fs f ∙ ap (λ (x : List ℕ). keyed ks fs ++ record { begin = f.begin; key = x } ∷ []) is)
 keyed_extended false ks js fs gs f key e g is = rw (e, g) refl
 
 -- ---- a new key
 
+-- a look-up that found nothing
 pub none_of : {A : Type 0} (o : Option A) → false ≡ is_some o → o ≡ None
 none_of None e = refl
 none_of (Some x) e = absurd cc
@@ -142,12 +144,15 @@ none_of (Some x) e = absurd cc
 pub keys_added : {S : Type 0} (m n : HashMap (List ℕ) Chain S) (k : List ℕ) (c : Chain) → get bytes_eq m k ≡ None → n.entries ≡ insert_entry bytes_eq m.entries k c → keys n ≡ keys m ++ k ∷ []
 keys_added m n k c none e = ap keys_of (e ∙ insert_entry-new bytes_eq m k c none) ∙ map-append (λ (x : List ℕ × Chain). x.0) m.entries ((k, c) ∷ [])
 
+-- its one version follows none
 pub alone : (o n : Option Chain) (b : Bool) (c : Chain) (v : Version) → n ≡ cond b (Some c) o → items c ≡ v ∷ [] → (b ≡ true → o ≡ None) → later_begins (items_of n) ≡ later_begins (items_of o)
 alone o n true c v e h none = let gone = none refl in rw (e, gone) (ap later_begins h)
 alone o n false c v e h none = rw e refl
 
 pub none_same : {S : Type 0} (m : HashMap (List ℕ) Chain S) (key k : List ℕ) → get bytes_eq m key ≡ None → bytes_eq key k ≡ true → get bytes_eq m k ≡ None
 none_same m key k none e = subst (λ (x : List ℕ). get bytes_eq m x ≡ None) ((bytes_eq-Decides key k).0 e) none
+
+-- ---- lists
 
 pub left_empty : {A : Type 0} (xs ys : List A) → [] ≡ xs ++ ys → xs ≡ []
 left_empty [] ys e = refl

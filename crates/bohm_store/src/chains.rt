@@ -1,7 +1,6 @@
 //! The versions of all keys.
 
-ghost use Rattle.std.specs.Prelude.{◌≡◌, ℕ, List, [], ◌∷◌, ◌++◌, ◌≤◌, ◌&&◌, ◌⊎◌, is_ok, true, false, if◌then◌else◌, IfOk, OnOk, OnErr};
-ghost use Rattle.std.specs.Prelude.{◌<◌, false, get_or, length, slice_get, Some};
+ghost use Rattle.std.specs.Prelude.{◌≡◌, ℕ, List, [], ◌∷◌, ◌++◌, ◌<◌, ◌≤◌, ◌&&◌, ◌⊎◌, is_ok, true, false, get_or, if◌then◌else◌, length, IfOk, OnOk, OnErr};
 ghost use Rattle.std.specs.HashMap.{keys};
 ghost use Rattle.std.specs.Str.{bytes_eq};
 ghost use Rattle.bohm_tree.specs.declared.cell.Cell.TheVariants.{Absent};
