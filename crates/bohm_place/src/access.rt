@@ -13,7 +13,7 @@ pub enum Source {
 #[derive(Clone, Copy, Debug, PartialEq, Eq)]
 pub struct Access {
     pub source: Source,
-    /// Which declared write of the source is of the key, counted from 0. Where the source is `Before`, a
-    /// plan that was made has 0 here, and a batch the place of the key in its base.
+    /// Which declared write of the source is of the key, counted from 0. Where the source is `Before` it
+    /// names no write: a batch has the place of the key in its base there.
     pub index: u32,
 }
