@@ -42,12 +42,13 @@ fn key(rt: &impl Abort) -> Key {
     Key::new(b"a").expect(rt, "a name")
 }
 
-fn literal(rt: &impl Abort, number: u64) -> Term {
-    Term::new(false, Atom::Lit(number)).expect(rt, "a term")
-}
-
-fn sum(rt: &impl Abort, alloc: Global, terms: &[Term]) -> Result<Sum, NoMemory> {
-    Ok(Sum::new(Vec::from_slice(alloc, terms)?).expect(rt, "a sum"))
+// The sum of these.
+fn sum(rt: &impl Abort, alloc: Global, atoms: &[Atom]) -> Result<Sum, NoMemory> {
+    let mut terms = Vec::with_capacity(alloc, atoms.len())?;
+    for atom in atoms {
+        terms.push(Term::new(false, *atom).expect(rt, "a term"))?;
+    }
+    Ok(Sum::new(terms).expect(rt, "a sum"))
 }
 
 // A transaction that reads and writes some of these keys.
@@ -141,8 +142,7 @@ fn present(number: i64) -> Cell {
 // `drop a`, `need has a`, `show a + 1`.
 fn removal(rt: &impl Abort, alloc: Global) -> Result<Vec<Txn>, NoMemory> {
     let a = key(rt);
-    let read = Term::new(false, Atom::Read(a)).expect(rt, "a term");
-    let more = sum(rt, alloc, &[read, literal(rt, 1)])?;
+    let more = sum(rt, alloc, &[Atom::Read(a), Atom::Lit(1)])?;
     let mut log = Vec::new(alloc);
     log.push(txn(alloc, &[], &[a], vec![in alloc; Stmt::Remove(a)]?)?)?;
     log.push(txn(alloc, &[a], &[], vec![in alloc; Stmt::Has(a)]?)?)?;
@@ -188,7 +188,7 @@ fn aborted(rt: &impl Abort, alloc: Global) -> Result<Vec<Txn>, NoMemory> {
     let a = key(rt);
     let put = Stmt::Put {
         key: a,
-        sum: sum(rt, alloc, &[literal(rt, 1)])?,
+        sum: sum(rt, alloc, &[Atom::Lit(1)])?,
         guard: None,
     };
     let mut log = Vec::new(alloc);
@@ -214,10 +214,9 @@ fn an_aborted_writer_has_a_version(rt: HostRuntime) -> Result<(), Fail> {
 // It adds one to the key.
 fn counter(rt: &impl Abort, alloc: Global) -> Result<Txn, NoMemory> {
     let a = key(rt);
-    let read = Term::new(false, Atom::Read(a)).expect(rt, "a term");
     let put = Stmt::Put {
         key: a,
-        sum: sum(rt, alloc, &[read, literal(rt, 1)])?,
+        sum: sum(rt, alloc, &[Atom::Read(a), Atom::Lit(1)])?,
         guard: None,
     };
     txn(alloc, &[a], &[a], vec![in alloc; put]?)
@@ -293,7 +292,7 @@ fn named(rt: &impl Abort, name: &[u8]) -> Key {
 fn set(rt: &impl Abort, alloc: Global, key: Key, number: u64) -> Result<Stmt, NoMemory> {
     Ok(Stmt::Put {
         key,
-        sum: sum(rt, alloc, &[literal(rt, number)])?,
+        sum: sum(rt, alloc, &[Atom::Lit(number)])?,
         guard: None,
     })
 }
@@ -308,10 +307,9 @@ fn first_log(rt: &impl Abort, alloc: Global) -> Result<Vec<Txn>, NoMemory> {
 // Sets a to b, which is missing.
 fn second_log(rt: &impl Abort, alloc: Global) -> Result<Vec<Txn>, NoMemory> {
     let (a, b) = (key(rt), named(rt, b"b"));
-    let read = Term::new(false, Atom::Read(b)).expect(rt, "a term");
     let put = Stmt::Put {
         key: a,
-        sum: sum(rt, alloc, &[read])?,
+        sum: sum(rt, alloc, &[Atom::Read(b)])?,
         guard: None,
     };
     Ok(vec![in alloc; txn(alloc, &[b], &[a], vec![in alloc; put]?)?]?)

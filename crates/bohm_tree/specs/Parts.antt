@@ -1,9 +1,16 @@
--- The parts of a statement that the check asks for.
+-- The parts of terms and statements that the check asks for.
 use Rattle.std.specs.Prelude.{ℕ, List, [], ◌∷◌, Bool, true, false, Option, Some, None}
 use Rattle.bohm_tree.specs.declared.term.Atom.{Atom}
+use Rattle.bohm_tree.specs.declared.term.Atom.TheVariants.{Lit, Read, Local}
 use Rattle.bohm_tree.specs.declared.stmt.Cond.{Cond}
 use Rattle.bohm_tree.specs.declared.stmt.Stmt.{Stmt}
 use Rattle.bohm_tree.specs.declared.stmt.Stmt.TheVariants.{Bind, Need, Has, Lacks, Put, Remove, Show, Fail}
+
+-- the key that it reads
+abbrev pub key_read : Atom → Option (List ℕ)
+key_read (Lit n) = None
+key_read (Read k) = Some k
+key_read (Local x) = None
 
 abbrev pub guard_sums : Option Cond → List (List (Bool × Atom))
 guard_sums None = []

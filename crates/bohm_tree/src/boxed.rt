@@ -2,7 +2,9 @@
 
 ghost use Rattle.std.specs.Prelude.{◌≡◌, IfOk};
 
+use crate::key::Key;
 use crate::memory::NoMemory;
+use crate::noting::Noting;
 use std::alloc::Global;
 use std::marker::Model;
 
@@ -35,5 +37,11 @@ impl<T> Boxed<T> {
         ensures { result.now ≡ self.now }
     {
         &self.room
+    }
+}
+
+impl<T: Noting> Noting for Boxed<T> {
+    fn note(&mut self, keys: &[Key]) {
+        self.room.note(keys);
     }
 }

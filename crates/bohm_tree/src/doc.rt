@@ -1,6 +1,6 @@
 //! Documents: a store and a log.
 
-ghost use Rattle.std.specs.Prelude.{◌≡◌};
+ghost use Rattle.std.specs.Prelude.{◌≡◌, ◌<◌, length};
 ghost use Rattle.std.specs.List.{list_all};
 ghost use Rattle.bohm_tree.specs.Document.{in_edition};
 
@@ -53,6 +53,17 @@ impl Doc {
         } else {
             None
         }
+    }
+
+    /// Notes for each term of one transaction, counted from 0, where the key that it reads stands among
+    /// the declared reads, if these rise: `place_among` then finds it there at once. The document stays
+    /// as it was. It takes no memory. Its time grows with the number of terms, times the logarithm of
+    /// that of the reads.
+    pub fn note_places(&mut self, index: usize)
+        requires { index < length self.old.log }
+        ensures { self.new ≡ self.old }
+    {
+        self.log.note_places(index);
     }
 
     pub fn edition(&self) -> Edition

@@ -2,6 +2,8 @@
 
 ghost use Rattle.std.specs.Prelude.{◌≡◌, [], ◌∷◌};
 
+use crate::key::Key;
+use crate::noting::{Noting, note_all};
 use std::marker::Model;
 
 #[derive(Debug, Drop)]
@@ -58,6 +60,15 @@ impl<T> Few<T> {
         match &self.held {
             Held::One(value) => value.as_slice(),
             Held::Any(values) => values.as_slice(),
+        }
+    }
+}
+
+impl<T: Noting> Noting for Few<T> {
+    fn note(&mut self, keys: &[Key]) {
+        match &mut self.held {
+            Held::One(value) => note_all(value.as_mut_slice(), keys),
+            Held::Any(values) => note_all(values.as_mut_slice(), keys),
         }
     }
 }

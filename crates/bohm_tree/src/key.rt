@@ -1,19 +1,20 @@
 //! Keys and names of locals.
 
-ghost use Rattle.std.specs.Prelude.{◌≡◌, List, ℕ, Some, nat_eq};
+ghost use Rattle.std.specs.Prelude.{◌≡◌, ◌<◌, List, ℕ, Some, IfSome, length, nat_eq};
 ghost use Rattle.std.specs.Ordering.{nat_cmp};
 ghost use Rattle.std.specs.Cmp.{partial_equiv_from_equiv};
 ghost use Rattle.std.specs.Cmp.Lexicographic.{pointwise, slice_cmp, nat_list_eq_equiv, nat_list_cmp_total, texts_ties, texts_po};
 ghost use Rattle.std.proofs.Common.{refl};
 ghost use Rattle.std.specs.List.{list_all};
-ghost use Rattle.bohm_tree.specs.Name.{key_of, is_name, is_name_byte};
+ghost use Rattle.std.specs.Str.{bytes_eq};
+ghost use Rattle.bohm_tree.specs.Name.{key_of, is_name, is_name_byte, place};
 
 use std::cmp::Ordering;
 use std::hash::{Hash, Hasher};
 use std::marker::Model;
 
 /// A name of 1 to 32 bytes: a lower-case letter, then lower-case letters, digits and underscores.
-/// It stands in a fixed room, so that it can be copied.
+/// It stands in a fixed room, with zeros behind it, so that it can be copied and compared as a whole.
 #[derive(Clone, Copy, Debug)]
 pub struct Key {
     bytes: [u8; 32],
@@ -75,6 +76,14 @@ impl Key {
         })
     }
 
+    /// Its first place among these, if it is one of them. The time grows with their number.
+    pub fn place_among(&self, keys: &[Key]) -> Option<usize>
+        ensures place { result ≡ place keys.now self.now }
+        ensures inside { IfSome result (λ i. i < length keys.now) }
+    {
+        keys.iter().position(|key| *key == *self)
+    }
+
     /// Its name.
     pub fn bytes(&self) -> &[u8]
         ensures { result.now ≡ self.now }
@@ -89,7 +98,7 @@ impl PartialEq for Key {
     ghost laws = { partial_equiv_from_equiv nat_list_eq_equiv };
 
     fn eq(&self, other: &Key) -> bool {
-        self.bytes() == other.bytes()
+        self.size == other.size && self.bytes == other.bytes
     }
 }
 

@@ -8,6 +8,7 @@ mod few;
 mod items;
 mod key;
 mod memory;
+mod noting;
 mod stmt;
 mod term;
 mod txn;

@@ -5,6 +5,7 @@ ghost use Rattle.bohm_tree.specs.Parts.{tested, target, bound, is_show};
 
 use crate::boxed::Boxed;
 use crate::key::Key;
+use crate::noting::Noting;
 use crate::term::Sum;
 
 /// How two sums are compared.
@@ -88,5 +89,29 @@ impl Stmt {
         ensures { result ≡ is_show self.now }
     {
         matches!(self, Stmt::Show(_))
+    }
+}
+
+impl Noting for Cond {
+    fn note(&mut self, keys: &[Key]) {
+        self.left.note(keys);
+        self.right.note(keys);
+    }
+}
+
+impl Noting for Stmt {
+    fn note(&mut self, keys: &[Key]) {
+        match self {
+            Stmt::Bind { sum, .. } => sum.note(keys),
+            Stmt::Show(sum) => sum.note(keys),
+            Stmt::Need(cond) => cond.note(keys),
+            Stmt::Put { sum, guard, .. } => {
+                sum.note(keys);
+                if let Some(cond) = guard {
+                    cond.note(keys);
+                }
+            }
+            Stmt::Has(_) | Stmt::Lacks(_) | Stmt::Remove(_) | Stmt::Fail => {}
+        }
     }
 }

@@ -1,10 +1,13 @@
 //! Sums and their terms.
 
-ghost use Rattle.std.specs.Prelude.{◌≡◌, [], ◌∷◌};
+ghost use Rattle.std.specs.Prelude.{◌≡◌, ◌<◌, [], ◌∷◌, None, IfSome, MatchOption, length};
+ghost use Rattle.bohm_tree.specs.Name.{IsPlaceOf};
+ghost use Rattle.bohm_tree.specs.Parts.{key_read};
 ghost use Rattle.bohm_tree.specs.Shape.{term_of, sum_of};
 
 use crate::few::Few;
 use crate::key::Key;
+use crate::noting::Noting;
 use std::marker::Model;
 
 /// The greatest literal.
@@ -26,15 +29,16 @@ const HALF: u64 = 4_294_967_296;
 
 /// A term as it lies in memory. A number of 64 bits would lie at a multiple of 8 bytes, with idle
 /// bytes beside a key; its halves don't.
-#[derive(Clone, Copy, Debug, PartialEq, Eq)]
+#[derive(Clone, Debug, Drop)]
 enum Packed {
     Lit { minus: bool, high: u32, low: u32 },
-    Read { minus: bool, key: Key },
+    /// The place is where the key was last noted among some keys.
+    Read { minus: bool, place: u8, key: Key },
     Local { minus: bool, name: Key },
 }
 
 /// An atom, and whether it is taken away.
-#[derive(Clone, Copy, Debug, PartialEq, Eq)]
+#[derive(Clone, Debug, Drop)]
 pub struct Term {
     packed: Packed,
 }
@@ -45,15 +49,23 @@ impl Model for Term {
 
     ghost Value = { Bool × Atom };
 
-    ghost use Rattle.bohm_tree.specs.TermInside.{term_in, IsHalved, packed_term, packed_ok};
+    ghost use Rattle.bohm_tree.specs.TermInside.{term_in, IsHalved};
 
     ghost view = { λ t. term_in t.packed };
 
     ghost invariant = { λ t. IsHalved t.packed };
+}
 
-    ghost inverse = { λ p. record { packed = packed_term p } };
-
-    ghost inverse_ok = { λ t h i. record { packed = packed_ok t.packed h i } };
+/// The place of a key among some, which is looked for at one place first.
+#[tactic(auto, using(crate::proofs::Places::noted, crate::proofs::Places::sought))]
+fn place_near(keys: &[Key], key: &Key, place: usize) -> Option<usize>
+    ensures place { IsPlaceOf keys.now key.now result }
+    ensures inside { IfSome result (λ i. i < length keys.now) }
+{
+    match keys.get(place) {
+        Some(noted) if *noted == *key => Some(place),
+        _ => key.place_among(keys),
+    }
 }
 
 impl Term {
@@ -72,7 +84,11 @@ impl Term {
                     low: (number % HALF) as u32,
                 }
             }
-            Atom::Read(key) => Packed::Read { minus, key },
+            Atom::Read(key) => Packed::Read {
+                minus,
+                place: 0,
+                key,
+            },
             Atom::Local(name) => Packed::Local { minus, name },
         };
         Some(Term { packed })
@@ -87,6 +103,18 @@ impl Term {
         }
     }
 
+    /// The place among these of the key that it reads, if it is one of them. It is found at once where
+    /// it was noted among the same keys, and else the keys are gone along.
+    pub fn place_among(&self, keys: &[Key]) -> Option<usize>
+        ensures place { MatchOption (key_read self.now.1) (result ≡ None) (λ k. IsPlaceOf keys.now k result) }
+        ensures inside { IfSome result (λ i. i < length keys.now) }
+    {
+        match &self.packed {
+            Packed::Read { place, key, .. } => place_near(keys, key, usize::from(*place)),
+            Packed::Lit { .. } | Packed::Local { .. } => None,
+        }
+    }
+
     pub fn atom(&self) -> Atom
         ensures { result ≡ self.now.1 }
     {
@@ -94,6 +122,16 @@ impl Term {
             Packed::Lit { high, low, .. } => Atom::Lit(u64::from(high) * HALF + u64::from(low)),
             Packed::Read { key, .. } => Atom::Read(key),
             Packed::Local { name, .. } => Atom::Local(name),
+        }
+    }
+}
+
+impl Noting for Term {
+    fn note(&mut self, keys: &[Key]) {
+        if let Packed::Read { place, key, .. } = &mut self.packed {
+            if let Ok(found) = keys.binary_search(key) {
+                *place = u8::try_from(found).unwrap_or(0);
+            }
         }
     }
 }
@@ -144,5 +182,11 @@ impl Sum {
         ensures { result.now ≡ self.now }
     {
         self.terms.as_slice()
+    }
+}
+
+impl Noting for Sum {
+    fn note(&mut self, keys: &[Key]) {
+        self.terms.note(keys);
     }
 }

@@ -130,16 +130,31 @@ fn terms_within_the_limits(rt: HostRuntime) -> Result<(), Fail> {
     Ok(())
 }
 
+fn term(parts: (bool, Atom)) -> Result<Term, Fail> {
+    Ok(Term::new(parts.0, parts.1).ok_or("no term")?)
+}
+
+/// The terms have these signs and atoms.
+fn assert_terms(rt: &impl Abort, terms: &[Term], want: &[(bool, Atom)]) {
+    assert_eq!(rt; terms.len(), want.len());
+    for (term, parts) in terms.iter().zip(want) {
+        assert_eq!(rt; (term.minus(), term.atom()), *parts);
+    }
+}
+
 #[test]
 fn sums_have_a_term(rt: HostRuntime) -> Result<(), Fail> {
     let alloc = rt.alloc();
     assert!(rt; Sum::new(Vec::new(alloc)).is_none());
-    let one = Term::new(false, Atom::Lit(1)).ok_or("no term")?;
-    let less = Term::new(true, Atom::Read(key("a")?)).ok_or("no term")?;
-    assert_eq!(rt; Sum::from(less).terms(), [less].as_slice());
-    for terms in [[less].as_slice(), &[one, less], &[less, one, one]] {
-        let sum = Sum::new(Vec::from_slice(alloc, terms)?).ok_or("no sum")?;
-        assert_eq!(rt; sum.terms(), terms);
+    let one = (false, Atom::Lit(1));
+    let less = (true, Atom::Read(key("a")?));
+    assert_terms(&rt, Sum::from(term(less)?).terms(), &[less]);
+    for parts in [[less].as_slice(), &[one, less], &[less, one, one]] {
+        let mut terms = Vec::with_capacity(alloc, parts.len())?;
+        for part in parts {
+            terms.push(term(*part)?)?;
+        }
+        assert_terms(&rt, Sum::new(terms).ok_or("no sum")?.terms(), parts);
     }
     Ok(())
 }
@@ -185,6 +200,97 @@ fn statements_have_parts(rt: HostRuntime) -> Result<(), Fail> {
         (None, None, None, true),
     );
     assert_parts(&rt, Stmt::Fail, (None, None, None, false));
+    Ok(())
+}
+
+fn reading(key: Key) -> Result<Sum, Fail> {
+    Ok(Sum::from(term((false, Atom::Read(key)))?))
+}
+
+fn reading_cond(key: Key) -> Result<Cond, Fail> {
+    Ok(Cond {
+        left: reading(key)?,
+        cmp: Cmp::Lt,
+        right: reading(key)?,
+    })
+}
+
+/// Each term finds its key at this place among keys that are all that one.
+fn assert_sum(rt: &impl Abort, sum: &Sum, key: Key, place: usize) {
+    for term in sum.terms() {
+        assert_eq!(rt; term.place_among(&[key, key, key]), Some(place));
+    }
+}
+
+fn assert_cond(rt: &impl Abort, cond: &Cond, key: Key, place: usize) {
+    assert_sum(rt, &cond.left, key, place);
+    assert_sum(rt, &cond.right, key, place);
+}
+
+fn assert_stmt(rt: &impl Abort, stmt: &Stmt, key: Key, place: usize) {
+    match stmt {
+        Stmt::Bind { sum, .. } | Stmt::Show(sum) => assert_sum(rt, sum, key, place),
+        Stmt::Need(cond) => assert_cond(rt, cond, key, place),
+        Stmt::Put { sum, guard, .. } => {
+            assert_sum(rt, sum, key, place);
+            if let Some(cond) = guard {
+                assert_cond(rt, cond.get(), key, place);
+            }
+        }
+        Stmt::Has(_) | Stmt::Lacks(_) | Stmt::Remove(_) | Stmt::Fail => {}
+    }
+}
+
+fn assert_doc(rt: &impl Abort, doc: &Doc, key: Key, place: usize) {
+    for txn in doc.log() {
+        for stmt in txn.body.as_slice() {
+            assert_stmt(rt, stmt, key, place);
+        }
+    }
+}
+
+/// The statement's terms, which read c, find it where it stands among a, b and c, once that is noted.
+fn assert_noted(rt: &impl Abort, alloc: Global, stmt: Stmt) -> Result<(), Fail> {
+    let c = key("c")?;
+    let mut txn = empty_txn(alloc, Edition::Two);
+    txn.reads = Items::from(vec![in alloc; key("a")?, key("b")?, c]?);
+    txn.body = Items::from(vec![in alloc; stmt]?);
+    let log = vec![in alloc; txn]?;
+    let mut doc = Doc::new(Edition::Two, Vec::new(alloc), log).ok_or("no document")?;
+    assert_doc(rt, &doc, c, 0);
+    doc.note_places(0);
+    assert_doc(rt, &doc, c, 2);
+    Ok(())
+}
+
+#[test]
+fn places_are_noted(rt: HostRuntime) -> Result<(), Fail> {
+    let alloc = rt.alloc();
+    let c = key("c")?;
+    let bind = Stmt::Bind {
+        name: c,
+        sum: reading(c)?,
+    };
+    assert_noted(&rt, alloc, bind)?;
+    assert_noted(&rt, alloc, Stmt::Need(reading_cond(c)?))?;
+    let guard = Boxed::new(alloc, reading_cond(c)?)?;
+    let put = Stmt::Put {
+        key: c,
+        sum: reading(c)?,
+        guard: Some(guard),
+    };
+    assert_noted(&rt, alloc, put)?;
+    let terms = vec![in alloc; term((false, Atom::Read(c)))?, term((true, Atom::Read(c)))?]?;
+    assert_noted(&rt, alloc, Stmt::Show(Sum::new(terms).ok_or("no sum")?))
+}
+
+#[test]
+fn terms_find_their_keys(rt: HostRuntime) -> Result<(), Fail> {
+    let (a, b, c) = (key("a")?, key("b")?, key("c")?);
+    let read = term((false, Atom::Read(b)))?;
+    assert_eq!(rt; read.place_among(&[a, b, c]), Some(1));
+    assert_eq!(rt; read.place_among(&[a, c]), None);
+    assert_eq!(rt; term((false, Atom::Local(b)))?.place_among(&[b]), None);
     Ok(())
 }
 

@@ -8,6 +8,7 @@ pub mod BodyLaw
 pub mod Bodies
 pub mod States
 pub mod Apart
+pub mod Places
 pub mod Tracking
 pub mod SureLaws
 pub mod Stores

@@ -1,10 +1,11 @@
 -- The tables of cells hold what the list of writes says.
-use Rattle.std.proofs.Common.{◌≡◌, ℕ, suc, ◌+◌, Bool, true, false, cond, List, [], ◌∷◌, ◌++◌, length, map, Option, Some, None, Ok, Err, refl, ap, sym, ◌∙◌, subst, arith, add-one}
+use Rattle.std.proofs.Common.{◌≡◌, ℕ, suc, ◌+◌, Bool, true, false, cond, List, [], ◌∷◌, ◌++◌, length, map, Option, Some, None, Ok, Err, refl, ap, sym, ◌∙◌, subst, arith}
 use Rattle.std.specs.Prelude.{Result, if◌then◌else◌}
-use Rattle.std.specs.List.{AllByRecursion, position_from, zip}
+use Rattle.std.specs.List.{AllByRecursion, zip}
 use Rattle.std.specs.Option.{option_map}
 use Rattle.std.specs.Str.{bytes_eq}
 use Rattle.std.proofs.lemmas.List.{length-set}
+use Rattle.bohm_tree.specs.Name.{place}
 use Rattle.bohm_tree.specs.declared.cell.Cell.{Cell}
 use Rattle.bohm_tree.specs.declared.cell.Cell.TheVariants.{Absent, Present}
 use Rattle.bohm_tree.specs.declared.stmt.Stmt.{Stmt}
@@ -18,23 +19,13 @@ use Rattle.bohm_txn.specs.declared.outcome.Outcome.TheVariants as outcomes_are
 use Rattle.bohm_txn.specs.Declares.{IsAmong, StmtReads}
 use Rattle.bohm_txn.specs.Meaning.{Look, Run, Ended, newest, then_try, then_do, sum_value, cond_value, guard_value, is_present, bind, write, show, needs, seen, perform, or_stop, body_from, body}
 use Rattle.bohm_txn.specs.Serial.{writes_of, shows_of, outcome_of}
-use Rattle.bohm_txn.specs.Tables.{place, cell_from, cell_at, set_from, replaced, seen_after, Tables, start, written, run_with, taken, step, stop_at, tables_from}
+use Rattle.bohm_txn.specs.Tables.{cell_from, cell_at, set_from, replaced, seen_after, Tables, start, written, run_with, taken, step, stop_at, tables_from}
 use Rattle.bohm_txn.proofs.Apart.{other_key, among_first, among_then, among_more, AllApart}
 use Rattle.bohm_txn.proofs.Bodies.{same_key, key_itself}
+use Rattle.bohm_txn.proofs.Places.{place-cons}
 use Rattle.bohm_txn.proofs.BodyLaw.{same_stmt}
 
 -- ---- places, entry by entry
-
-later : (t : List ℕ → Bool) (i : ℕ) (xs : List (List ℕ)) → position_from t (i + 1) xs ≡ option_map suc (position_from t i xs)
-later t i [] = refl
-later t i (x ∷ xs) =
-    elim (t x) as (λ b. cond b (Some (i + 1)) (position_from t (i + 1 + 1) xs) ≡ option_map suc (cond b (Some i) (position_from t (i + 1) xs))) [
-      | true ↦ ap (λ n. Some n) (add-one i)
-      | false ↦ later t (i + 1) xs
-    ]
-
-place-cons : (x : List ℕ) (xs : List (List ℕ)) (k : List ℕ) → place (x ∷ xs) k ≡ cond (bytes_eq x k) (Some 0) (option_map suc (place xs k))
-place-cons x xs k = ap (λ o. cond (bytes_eq x k) (Some 0) o) (later (λ y. bytes_eq y k) 0 xs)
 
 cell_at-cons : (x : List ℕ) (xs : List (List ℕ)) (c : Cell) (cs : List Cell) (k : List ℕ) → cell_at (x ∷ xs) (c ∷ cs) k ≡ cond (bytes_eq x k) c (cell_at xs cs k)
 cell_at-cons x xs c cs k = ap (λ o. cell_from (c ∷ cs) o) (place-cons x xs k) ∙ cases (bytes_eq x k) (place xs k)

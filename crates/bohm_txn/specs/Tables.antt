@@ -1,7 +1,6 @@
 -- What `eval` keeps while it runs a body: a cell for each declared key in place of the list of writes.
 use Rattle.std.specs.Prelude.{ℕ, ℤ, ◌+◌, List, [], ◌∷◌, Option, Some, None, Result, Ok, Err, slice_set, slice_index_or}
-use Rattle.std.specs.List.{position_from}
-use Rattle.std.specs.Str.{bytes_eq}
+use Rattle.bohm_tree.specs.Name.{place}
 use Rattle.bohm_tree.specs.declared.cell.Cell.{Cell}
 use Rattle.bohm_tree.specs.declared.cell.Cell.TheVariants.{Absent}
 use Rattle.bohm_tree.specs.declared.stmt.Stmt.{Stmt}
@@ -10,10 +9,6 @@ use Rattle.bohm_tree.specs.declared.txn.Edition.TheVariants.{One, Two}
 use Rattle.bohm_tree.specs.declared.txn.Txn.{Txn}
 use Rattle.bohm_txn.specs.declared.outcome.Reason.{Reason}
 use Rattle.bohm_txn.specs.Meaning.{Look, Locals, Run, perform, then_do}
-
--- the first place of a key
-abbrev pub place : List (List ℕ) → List ℕ → Option ℕ
-place keys k = position_from (λ x. bytes_eq x k) 0 keys
 
 abbrev pub cell_from : List Cell → Option ℕ → Cell
 cell_from cells None = Absent

@@ -93,13 +93,16 @@ fn first_in_txn(txn: &Txn) -> Option<(u32, CheckKind)>
     }
 }
 
-/// The first fault of a log's transactions, counted from 1.
-fn first_in_log(log: &[Txn]) -> Option<CheckFault>
-    requires { length log.now ≤ 1000000 }
-    ensures { result ≡ option_map fault_of (first_in_log log.now) }
+/// The first fault of a log's transactions, counted from 1. Each one's terms have the places of their
+/// keys noted first, which the check and each evaluation then need not seek.
+fn first_in_log(doc: &mut Doc) -> Option<CheckFault>
+    requires { length doc.old.log ≤ 1000000 }
+    ensures fault { result ≡ option_map fault_of (first_in_log doc.old.log) }
+    ensures same { doc.new ≡ doc.old }
 {
-    for (i, txn) in log.iter().enumerate() {
-        if let Some((stmt, kind)) = first_in_txn(txn) {
+    for i in 0..doc.log().len() {
+        doc.note_places(i);
+        if let Some((stmt, kind)) = first_in_txn(&doc.log()[i]) {
             return Some(CheckFault {
                 txn: i as u32 + 1,
                 stmt,
@@ -111,8 +114,9 @@ fn first_in_log(log: &[Txn]) -> Option<CheckFault>
 }
 
 /// The first fault of a document: its store and the length of its log are transaction 0.
-pub fn first_fault(doc: &Doc) -> Option<CheckFault>
-    ensures { result ≡ option_map fault_of (first_in_doc doc.now) }
+pub fn first_fault(doc: &mut Doc) -> Option<CheckFault>
+    ensures fault { result ≡ option_map fault_of (first_in_doc doc.old) }
+    ensures same { doc.new ≡ doc.old }
 {
     let whole = |kind| {
         Some(CheckFault {
@@ -126,6 +130,6 @@ pub fn first_fault(doc: &Doc) -> Option<CheckFault>
     } else if doc.log().len() > MOST_TXNS {
         whole(CheckKind::Limit)
     } else {
-        first_in_log(doc.log())
+        first_in_log(doc)
     }
 }

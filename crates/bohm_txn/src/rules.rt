@@ -13,7 +13,6 @@ use bohm_tree::{Atom, Key, Stmt, Sum, Term};
 const MOST_TERMS: usize = 16;
 
 /// Whether the key is one of these.
-
 fn is_among(keys: &[Key], key: &Key) -> bool
     requires { rising keys.now ≡ true }
     ensures { result ≡ is_among keys.now key.now }
@@ -44,12 +43,11 @@ fn is_missing(keys: &[Key], key: Option<Key>) -> bool
     key.is_some_and(|key| !is_among(keys, &key))
 }
 
-fn reads_among(keys: &[Key], atom: &Atom) -> bool
-    requires { rising keys.now ≡ true }
-    ensures { result ≡ reads_among keys.now atom.now }
+fn reads_among(keys: &[Key], term: &Term) -> bool
+    ensures { result ≡ reads_among keys.now term.now.1 }
 {
-    match atom {
-        Atom::Read(key) => is_among(keys, key),
+    match term.atom() {
+        Atom::Read(_) => term.place_among(keys).is_some(),
         Atom::Lit(_) | Atom::Local(_) => true,
     }
 }
@@ -65,10 +63,9 @@ fn locals_bound(before: &[Stmt], atom: &Atom) -> bool
 
 /// Whether each key that the terms read is among these.
 fn is_declared(keys: &[Key], terms: &[Term]) -> bool
-    requires { rising keys.now ≡ true }
     ensures { result ≡ list_all (λ term. reads_among keys.now term.1) terms.now }
 {
-    terms.iter().all(|term| reads_among(keys, &term.atom()))
+    terms.iter().all(|term| reads_among(keys, term))
 }
 
 /// Whether one of these statements binds each local that the terms read.
@@ -99,7 +96,6 @@ fn all_sums<F: Fn(&Sum) -> bool>(stmt: &Stmt, passes: F) -> bool
 
 /// Whether each key that the statement's sums read is among these.
 fn are_sums_declared(reads: &[Key], stmt: &Stmt) -> bool
-    requires { rising reads.now ≡ true }
     ensures { result ≡ list_all (list_all (λ term. reads_among reads.now term.1)) (sums stmt.now) }
 {
     all_sums(stmt, |sum| is_declared(reads, sum.terms()))

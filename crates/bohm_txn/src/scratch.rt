@@ -57,8 +57,11 @@ impl Scratch {
 
 /// Runs a transaction over any store in which its declared reads have the cells `reads` and, unless
 /// it is sure, its declared writes have the cells `earlier`. It leaves in the scratch the cells of
-/// the declared writes after the transaction, and the shown values. It allocates nothing. Its time
-/// grows with the terms of the body, times the declared keys or the locals that each is sought among.
+/// the declared writes after the transaction, and the shown values. It allocates nothing.
+///
+/// Its time grows with the terms of the body. In a transaction of a checked document a term finds its
+/// key at once; in another one the key is sought among the reads. A local is sought among those that
+/// are bound, and the key that a statement tests or writes among the declared ones.
 pub fn eval(txn: &Txn, reads: &[Cell], earlier: &[Cell], scratch: &mut Scratch) -> Outcome
     requires well { IsWellFormedTxn txn.now }
     requires reads { length txn.now.reads ≡ length reads.now }

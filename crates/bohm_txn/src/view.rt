@@ -1,13 +1,15 @@
 //! Sums and conditions over what a statement sees.
 
-ghost use Rattle.std.specs.Prelude.{◌≡◌, ◌≤◌, ◌<◌, ℤ, pos, ◌+ℤ◌, ◌≤ℤ◌, ◌^◌, List, length, reverse, IfSome};
+ghost use Rattle.std.specs.Prelude.{◌≡◌, ◌≤◌, ◌<◌, ℤ, pos, ◌+ℤ◌, ◌≤ℤ◌, ◌^◌, List, length, reverse, true, IfSome};
 ghost use Rattle.std.specs.Option.{option_map, option_copied};
 ghost use Rattle.std.specs.Ordering.{int_cmp};
 ghost use Rattle.std.specs.List.{AllByRecursion, find};
 ghost use Rattle.std.specs.Str.{bytes_eq};
-ghost use Rattle.bohm_tree.specs.Parts.{guard_sums};
+ghost use Rattle.bohm_tree.specs.Parts.{guard_sums, key_read};
+ghost use Rattle.bohm_txn.specs.Declares.{OnSomeKey};
+ghost use Rattle.bohm_txn.specs.Faulty.{rising};
 ghost use Rattle.bohm_txn.specs.Meaning.{newest, atom_value, total_from, sum_value, compares, cond_value, guard_value, signed};
-ghost use Rattle.bohm_txn.specs.Tables.{place, cell_at};
+ghost use Rattle.bohm_txn.specs.Tables.{cell_at};
 ghost use lib.IntN.{neg_ℤ};
 
 use crate::outcome::Reason;
@@ -20,14 +22,6 @@ pub struct View<'a> {
     pub keys: &'a [Key],
     pub cells: &'a [Cell],
     pub locals: &'a [(Key, Value)],
-}
-
-/// The place of a key among some.
-pub fn place_of(keys: &[Key], key: &Key) -> Option<usize>
-    ensures place { result ≡ place keys.now key.now }
-    ensures inside { IfSome result (λ i. i < length keys.now) }
-{
-    keys.iter().position(|declared| *declared == *key)
 }
 
 fn last_bound<'a>(locals: &'a [(Key, Value)], name: &Key) -> Option<&'a (Key, Value)>
@@ -63,21 +57,34 @@ impl View<'_> {
         requires { length self.now.keys.now ≡ length self.now.cells.now }
         ensures { result ≡ cell_at self.now.keys.now self.now.cells.now key.now }
     {
-        match place_of(self.keys, key) {
+        match key.place_among(self.keys) {
             Some(i) => self.cells[i],
             None => Cell::Absent,
         }
     }
 
-    fn atom(&self, atom: Atom) -> Option<i128>
-        requires { length self.now.keys.now ≡ length self.now.cells.now }
-        ensures value { result ≡ atom_value (cell_at self.now.keys.now self.now.cells.now) self.now.locals.now atom }
+    /// The cell of the key that a term reads.
+    fn cell_read(&self, term: &Term) -> Cell
+        requires paired { length self.now.keys.now ≡ length self.now.cells.now }
+        requires rising { rising self.now.keys.now ≡ true }
+        ensures { OnSomeKey (λ k. result ≡ cell_at self.now.keys.now self.now.cells.now k) (key_read term.now.1) }
+    {
+        match term.place_among(self.keys) {
+            Some(i) => self.cells[i],
+            None => Cell::Absent,
+        }
+    }
+
+    fn atom(&self, term: &Term) -> Option<i128>
+        requires paired { length self.now.keys.now ≡ length self.now.cells.now }
+        requires rising { rising self.now.keys.now ≡ true }
+        ensures value { result ≡ atom_value (cell_at self.now.keys.now self.now.cells.now) self.now.locals.now term.now.1 }
         ensures low { IfSome result (λ z. neg_ℤ (pos (2 ^ 64)) ≤ℤ z) }
         ensures high { IfSome result (λ z. z ≤ℤ pos (2 ^ 64)) }
     {
-        match atom {
+        match term.atom() {
             Atom::Lit(number) => Some(i128::from(number)),
-            Atom::Read(key) => match self.cell(&key) {
+            Atom::Read(_) => match self.cell_read(term) {
                 Cell::Absent => None,
                 Cell::Present(value) => Some(i128::from(value.get())),
             },
@@ -87,13 +94,14 @@ impl View<'_> {
 
     fn add(&self, total: i128, term: &Term) -> Option<i128>
         requires paired { length self.now.keys.now ≡ length self.now.cells.now }
+        requires rising { rising self.now.keys.now ≡ true }
         requires low { neg_ℤ (pos (2 ^ 70)) ≤ℤ total }
         requires high { total ≤ℤ pos (2 ^ 70) }
         ensures value { result ≡ option_map (λ z. signed total term.now.0 z) (atom_value (cell_at self.now.keys.now self.now.cells.now) self.now.locals.now term.now.1) }
         ensures low { IfSome result (λ z. (neg_ℤ (pos (2 ^ 64)) +ℤ total) ≤ℤ z) }
         ensures high { IfSome result (λ z. z ≤ℤ (total +ℤ pos (2 ^ 64))) }
     {
-        let number = self.atom(term.atom())?;
+        let number = self.atom(term)?;
         Some(if term.minus() {
             total - number
         } else {
@@ -103,6 +111,7 @@ impl View<'_> {
 
     fn total(&self, terms: &[Term]) -> Option<i128>
         requires paired { length self.now.keys.now ≡ length self.now.cells.now }
+        requires rising { rising self.now.keys.now ≡ true }
         requires few { length terms.now ≤ 16 }
         ensures { result ≡ total_from (cell_at self.now.keys.now self.now.cells.now) self.now.locals.now (pos 0) terms.now }
     {
@@ -116,6 +125,7 @@ impl View<'_> {
     /// The value of a sum. A partial total may be out of range.
     pub fn sum(&self, sum: &Sum) -> Result<Value, Reason>
         requires paired { length self.now.keys.now ≡ length self.now.cells.now }
+        requires rising { rising self.now.keys.now ≡ true }
         requires few { length sum.now ≤ 16 }
         ensures { result ≡ sum_value (cell_at self.now.keys.now self.now.cells.now) self.now.locals.now sum.now }
     {
@@ -129,6 +139,7 @@ impl View<'_> {
     /// Whether a comparison holds.
     pub fn holds(&self, cond: &Cond) -> Result<bool, Reason>
         requires paired { length self.now.keys.now ≡ length self.now.cells.now }
+        requires rising { rising self.now.keys.now ≡ true }
         requires few_left { length cond.now.left ≤ 16 }
         requires few_right { length cond.now.right ≤ 16 }
         ensures { result ≡ cond_value (cell_at self.now.keys.now self.now.cells.now) self.now.locals.now cond.now }
@@ -141,6 +152,7 @@ impl View<'_> {
     /// Whether a guard lets its statement through: no guard always does.
     pub fn lets_through(&self, guard: &Option<Boxed<Cond>>) -> Result<bool, Reason>
         requires paired { length self.now.keys.now ≡ length self.now.cells.now }
+        requires rising { rising self.now.keys.now ≡ true }
         requires few { AllByRecursion (λ sum. length sum ≤ 16) (guard_sums guard.now) }
         ensures { result ≡ guard_value (cell_at self.now.keys.now self.now.cells.now) self.now.locals.now guard.now }
     {

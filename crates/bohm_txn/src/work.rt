@@ -1,12 +1,13 @@
 //! Running a body, statement by statement.
 
-ghost use Rattle.std.specs.Prelude.{◌≡◌, ◌≤◌, ◌<◌, List, [], ◌∷◌, length, MatchResult, IfOk, Ok, Err, All};
+ghost use Rattle.std.specs.Prelude.{◌≡◌, ◌≤◌, ◌<◌, List, [], ◌∷◌, length, true, MatchResult, IfOk, Ok, Err, All};
 ghost use Rattle.bohm_txn.specs.Declares.{AllShort};
+ghost use Rattle.bohm_txn.specs.Faulty.{rising};
 ghost use Rattle.bohm_txn.specs.Tables.{start, replaced, written, step, tables_from};
 
 use crate::outcome::Reason;
 use crate::room::Room;
-use crate::view::{View, place_of};
+use crate::view::View;
 use bohm_tree::{Cell, Edition, Key, NoMemory, Stmt, Txn, Value};
 use std::alloc::Global;
 
@@ -33,7 +34,7 @@ fn replace(cells: &mut Room<Cell>, keys: &[Key], key: &Key, cell: &Cell)
     ensures after { cells.new ≡ (replaced keys.now cells.old.0 key.now cell.now, cells.old.1) }
     ensures long { length cells.new.0 ≡ length cells.old.0 }
 {
-    let Some(place) = place_of(keys, key) else {
+    let Some(place) = key.place_among(keys) else {
         return;
     };
     cells.set(place, *cell);
@@ -83,6 +84,7 @@ impl Work {
 
     fn perform(&mut self, txn: &Txn, stmt: &Stmt) -> Result<(), Reason>
         requires sized { IsSized txn.now self.old }
+        requires rising { rising txn.now.reads ≡ true }
         requires short { AllShort stmt.now }
         requires locals { length self.old.locals.0 < self.old.locals.1 }
         requires shows { length self.old.shows.0 < self.old.shows.1 }
@@ -149,6 +151,7 @@ impl Work {
         requires earlier { length txn.now.writes ≡ length earlier.now }
         requires few_reads { length txn.now.reads ≤ 16 }
         requires few_writes { length txn.now.writes ≤ 16 }
+        requires rising { rising txn.now.reads ≡ true }
         requires few_stmts { length txn.now.body ≤ 64 }
         requires short { All AllShort txn.now.body }
         ensures outcome { MatchResult result

@@ -3,7 +3,7 @@ use Rattle.bohm_txn.specs.Declares.{AllShort}
 use Rattle.bohm_txn.specs.Room.{tables_of}
 use Rattle.bohm_txn.specs.Serial.{outcome_of, shows_of}
 use Rattle.bohm_txn.proofs.Answering.{all_at, commit, commit_cells, commit_sure, abort, abort_cells, never_aborts}
-use Rattle.bohm_txn.proofs.UseLaws.{usable}
+use Rattle.bohm_txn.proofs.UseLaws.{usable, rising_reads}
 use Rattle.bohm_txn.proofs.scratch.eval.Goals as goal
 
 pub run-requires-clause-few_reads : goal.run-requires-clause-few_reads
@@ -11,6 +11,9 @@ run-requires-clause-few_reads c = (usable c.args.txn.now c.requires.well).few_re
 
 pub run-requires-clause-few_writes : goal.run-requires-clause-few_writes
 run-requires-clause-few_writes c = (usable c.args.txn.now c.requires.well).few_writes
+
+pub run-requires-clause-rising : goal.run-requires-clause-rising
+run-requires-clause-rising c = rising_reads c.args.txn.now c.requires.well
 
 pub run-requires-clause-few_stmts : goal.run-requires-clause-few_stmts
 run-requires-clause-few_stmts c = (usable c.args.txn.now c.requires.well).few_stmts
