@@ -1,5 +1,5 @@
 -- Rising keys are distinct.
-use Rattle.std.proofs.Common.{◌≡◌, ℕ, ◌<◌, true, false, List, [], ◌∷◌, length, take, get_or}
+use Rattle.std.proofs.Common.{◌≡◌, ℕ, true, List, [], ◌∷◌}
 use Rattle.std.proofs.lemmas.Bool.{both_ways, false_from_ne_true}
 use Rattle.bohm_txn.specs.Faulty.{is_among, rising}
 use Rattle.bohm_txn.proofs.Apart as keys
@@ -9,13 +9,9 @@ AreDistinct-apart : (ks : List (List ℕ)) → keys.AllApart ks → AreDistinct 
 AreDistinct-apart [] h = tt
 AreDistinct-apart (k ∷ ks) h = (false_from_ne_true (is_among ks k) h.0, AreDistinct-apart ks h.1)
 
-apart-AreDistinct : (ks : List (List ℕ)) → AreDistinct ks → keys.AllApart ks
+pub apart-AreDistinct : (ks : List (List ℕ)) → AreDistinct ks → keys.AllApart ks
 apart-AreDistinct [] h = tt
 apart-AreDistinct (k ∷ ks) h = (both_ways (is_among ks k) h.0, apart-AreDistinct ks h.1)
 
 pub AreDistinct-rising : (ks : List (List ℕ)) → rising ks ≡ true → AreDistinct ks
 AreDistinct-rising ks h = AreDistinct-apart ks (keys.rising_apart ks h)
-
--- the key at a place stands at no place before
-pub none_before : (ks : List (List ℕ)) (i : ℕ) (d : List ℕ) → i < length ks → AreDistinct ks → is_among (take i ks) (get_or ks i d) ≡ false
-none_before ks i d inside distinct = keys.none_before ks i d inside (apart-AreDistinct ks distinct)

@@ -1,14 +1,18 @@
 -- What a worker finds, transaction by transaction, and what several found together.
-use Rattle.std.proofs.Common.{◌≡◌, ◌≢◌, ℕ, ◌+◌, ◌<◌, ◌≤◌, ◌%◌, ◌==◌, ◌||◌, Bool, true, false, List, [], ◌∷◌, ◌++◌, length, map, take, drop, get_or, slice_get, refl, sym, ap, ◌∙◌, arith, if◌then◌else◌, max, nat_lt, append_assoc, append-nil, add-zero, add-one, drop-cons}
+use Rattle.std.proofs.Common.{◌≡◌, ◌≢◌, ℕ, ◌+◌, ◌<◌, ◌≤◌, ◌%◌, ◌==◌, ◌||◌, Bool, true, false, List, [], ◌∷◌, ◌++◌, length, map, take, drop, get_or, slice_get, refl, sym, ap, ◌∙◌, arith, if◌then◌else◌, max, nat_lt, append_assoc, append-nil, add-zero}
+use Rattle.std.proofs.Math.Bool.{or-false}
 use Rattle.std.proofs.lemmas.Bool.Decides.{nat_tests}
-use Rattle.std.proofs.lemmas.List.{take_more, map-append, length-take-le}
+use Rattle.std.proofs.lemmas.List.{drop_more, take_more, map-append, length-take-le}
+use Rattle.std.specs.List.{AllByRecursion}
 use Rattle.std.specs.Str.{bytes_eq}
 use Rattle.bohm_tree.specs.declared.txn.Txn.{Txn}
+use Rattle.bohm_txn.proofs.Bodies.{map_same}
 use Rattle.bohm_place.specs.declared.placeholder.Placeholder.{Placeholder}
 use Rattle.bohm_place.specs.Chains.{Keyed, placeholders_in, none, last_or}
 use Rattle.bohm_place.specs.Shares.{has_part, within, written, made, found_by, newest_ahead, greater_of, greater}
-use Rattle.bohm_place.proofs.Lists.{map_same}
-use Rattle.bohm_place.proofs.Placed.{Below, Below-append, Below-higher}
+use Rattle.bohm_place.proofs.Lists.{each_append}
+use Rattle.bohm_place.proofs.Placed.{Below, Below-higher}
+use Rattle.bohm_place.proofs.Swaps.{lt_apart}
 
 pub made_more : (u : ℕ) (xs : List Txn) (x : Txn) (k : List ℕ) → made u (xs ++ x ∷ []) k ≡ made u xs k ++ written (u + length xs) 0 x.writes k
 made_more u [] x k = rw (append-nil, add-zero) refl
@@ -29,9 +33,9 @@ pub found_step : (mine : List ℕ → Bool) (base hand : List ℕ → List Place
 found_step mine base hand first xs i d inside chains out more so_far is =
     let G : List ℕ → Placeholder = λ k. if mine k then within first (last_or none (hand k)) else none in
     let F : List ℕ → Placeholder = λ k. if mine k then newest_ahead first base (take i xs) k else none in
-    let same : (ks : List (List ℕ)) → map G ks ≡ map F ks = map_same G F (λ k. row_same mine base hand first (take i xs) k (chains k) (mine k) refl) in
+    let same : (ks : List (List ℕ)) → map G ks ≡ map F ks = λ ks. map_same G F ks (λ j k e. row_same mine base hand first (take i xs) k (chains k) (mine k) refl) in
     let x : Txn = get_or xs i d in
-    let at : drop i xs ≡ x ∷ drop (i + 1) xs = rw add-one (drop-cons xs i d inside) in
+    let at : drop i xs ≡ x ∷ drop (i + 1) xs = drop_more xs i d inside in
     let taken : take (i + 1) xs ≡ take i xs ++ x ∷ [] = take_more xs i d inside in
     let whole = rw at at so_far in
     rw (taken, is, same x.reads, same x.writes, append_assoc, append_assoc) (rw (map-append F x.reads x.writes, append_assoc) at whole)
@@ -55,20 +59,21 @@ chains_step mine base hand new first xs i d inside k h n = chains_by mine base h
 
 -- ---- the begins of a batch
 
-written_below : (t u index : ℕ) (ws : List (List ℕ)) (k : List ℕ) → u < t → Below t (written u index ws k)
-written_below t u index [] k lt = tt
-written_below t u index (w ∷ ws) k lt = Below-append t (if bytes_eq w k then record { begin = u; index = index } ∷ [] else []) (written u (index + 1) ws k) (one (bytes_eq w k)) (written_below t u (index + 1) ws k lt)
+-- what holds of the timestamp holds of each begin
+written_each : (P : ℕ → Type 0) (u index : ℕ) (ws : List (List ℕ)) (k : List ℕ) → P u → AllByRecursion (λ (v : Placeholder). P v.begin) (written u index ws k)
+written_each P u index [] k p = tt
+written_each P u index (w ∷ ws) k p = each_append (λ (v : Placeholder). P v.begin) (if bytes_eq w k then record { begin = u; index = index } ∷ [] else []) (written u (index + 1) ws k) (one (bytes_eq w k)) (written_each P u (index + 1) ws k p)
   where
-    one : (b : Bool) → Below t (if b then record { begin = u; index = index } ∷ [] else [])
-    one true = (lt, tt)
+    one : (b : Bool) → AllByRecursion (λ (v : Placeholder). P v.begin) (if b then record { begin = u; index = index } ∷ [] else [])
+    one true = (p, tt)
     one false = tt
 
-pub made_below : (t u : ℕ) (xs : List Txn) (k : List ℕ) → u + length xs ≤ t → Below t (made u xs k)
-made_below t u [] k le = tt
-made_below t u (x ∷ xs) k le = Below-append t (written u 0 x.writes k) (made (u + 1) xs k) (written_below t u 0 x.writes k (omega arith)) (made_below t (u + 1) xs k (omega arith))
+pub made_each : (P : ℕ → Type 0) (u : ℕ) (xs : List Txn) (k : List ℕ) → ((t : ℕ) → u ≤ t → t < u + length xs → P t) → AllByRecursion (λ (v : Placeholder). P v.begin) (made u xs k)
+made_each P u [] k p = tt
+made_each P u (x ∷ xs) k p = each_append (λ (v : Placeholder). P v.begin) (written u 0 x.writes k) (made (u + 1) xs k) (written_each P u 0 x.writes k (p u (omega arith) (omega arith))) (made_each P (u + 1) xs k (λ t low high. p t (omega arith) (omega arith)))
 
 hand_below_by : (m : Bool) (first t : ℕ) (base hand : List Placeholder) (xs : List Txn) (k : List ℕ) → first + length xs ≤ t → Below first base → hand ≡ (if m then base ++ made first xs k else base) → Below t hand
-hand_below_by true first t base hand xs k le low h = rw h (Below-append t base (made first xs k) (Below-higher first t base (omega arith) low) (made_below t first xs k le))
+hand_below_by true first t base hand xs k le low h = rw h (each_append (λ (v : Placeholder). v.begin < t) base (made first xs k) (Below-higher first t base (omega arith) low) (made_each (λ b. b < t) first xs k (λ b from to. omega arith)))
 hand_below_by false first t base hand xs k le low h = rw h (Below-higher first t base (omega arith) low)
 
 pub hand_below : (m : Bool) (first t : ℕ) (base hand : List Placeholder) (xs : List Txn) (k : List ℕ) → first + length xs ≤ t → Below first base → hand ≡ (if m then base ++ made first xs k else base) → Below t hand
@@ -100,28 +105,17 @@ pub greater_found : (a b : List ℕ → Bool) (f : List Txn → List ℕ → Pla
 greater_found a b f done [] = refl
 greater_found a b f done (x ∷ xs) =
     greater_map (λ k. if a k then f done k else none) (λ k. if b k then f done k else none) (x.reads ++ x.writes) (found_by a f (done ++ x ∷ []) xs) (found_by b f (done ++ x ∷ []) xs)
-    ∙ rw (greater_found a b f (done ++ x ∷ []) xs, map_same _ _ (λ k. max_if (a k) (b k) (f done k)) (x.reads ++ x.writes)) refl
+    ∙ rw (greater_found a b f (done ++ x ∷ []) xs, map_same _ _ (x.reads ++ x.writes) (λ j k e. max_if (a k) (b k) (f done k))) refl
 
 pub found_same : (a b : List ℕ → Bool) (f g : List Txn → List ℕ → Placeholder) → ((done : List Txn) (k : List ℕ) → (if a k then f done k else none) ≡ (if b k then g done k else none)) → (done xs : List Txn) → found_by a f done xs ≡ found_by b g done xs
 found_same a b f g same done [] = refl
-found_same a b f g same done (x ∷ xs) = rw (map_same _ _ (same done) (x.reads ++ x.writes), found_same a b f g same (done ++ x ∷ []) xs) refl
-
-or_false : (b : Bool) → (b || false) ≡ b
-or_false true = refl
-or_false false = refl
-
-lt_apart_by : (j p : ℕ) (b : Bool) → nat_lt j p ≡ b → j ≢ p → nat_lt j (p + 1) ≡ b
-lt_apart_by j p true e apart = grind (arith, nat_tests)
-lt_apart_by j p false e apart = grind (arith, nat_tests)
-
-lt_apart : (j p : ℕ) → j ≢ p → nat_lt j (p + 1) ≡ nat_lt j p
-lt_apart j p apart = lt_apart_by j p (nat_lt j p) refl apart
+found_same a b f g same done (x ∷ xs) = rw (map_same _ _ (x.reads ++ x.writes) (λ j k e. same done k), found_same a b f g same (done ++ x ∷ []) xs) refl
 
 next_or_by : (m w : ℕ) (b : Bool) → (m == w) ≡ b → (nat_lt m w || (m == w)) ≡ nat_lt m (w + 1)
 next_or_by m w true e = let s : m ≡ w = grind (arith, nat_tests) in let l : nat_lt m w ≡ false = grind (arith, nat_tests) in let r : nat_lt m (w + 1) ≡ true = grind (arith, nat_tests) in rw (l, r, e) refl
 next_or_by m w false e =
     let apart : m ≢ w = λ x. grind (arith, nat_tests) in
-    rw e (or_false (nat_lt m w) ∙ sym (lt_apart m w apart))
+    rw e (or-false (nat_lt m w) ∙ sym (lt_apart m w apart))
 
 -- below w, or w, is below w + 1
 pub next_or : (m w : ℕ) → (nat_lt m w || (m == w)) ≡ nat_lt m (w + 1)

@@ -1,11 +1,8 @@
 -- What is kept of a chain.
-use Rattle.std.proofs.Common.{◌≡◌, ℕ, ◌<◌, ◌≤◌, Bool, true, false, List, [], ◌∷◌, ◌++◌, length, Option, Some, None, refl, sym, ap, arith, nat_le, All}
-use Rattle.std.specs.Option.{option_to_list}
+use Rattle.std.proofs.Common.{◌≡◌, ℕ, ◌<◌, Bool, true, false, List, [], ◌∷◌, length, refl, arith, nat_le, All}
 use Rattle.std.proofs.lemmas.List.Elements.{All-tail}
-use Rattle.std.proofs.lemmas.Bool.Decides.{nat_tests}
-use Rattle.std.proofs.lemmas.Option.{same_Some}
 use Rattle.bohm_place.specs.declared.placeholder.Placeholder.{Placeholder}
-use Rattle.bohm_place.specs.Chains.{begins, RisesFrom, kept, kept_items, second}
+use Rattle.bohm_place.specs.Chains.{begins, RisesFrom, kept, kept_items}
 
 begins-kept_by : (floor : ℕ) (v w : Placeholder) (ws : List Placeholder) (b : Bool) → nat_le w.begin floor ≡ b → begins (kept_items floor (w ∷ ws)) ≡ kept floor (begins (w ∷ ws)) → begins (kept_items floor (v ∷ w ∷ ws)) ≡ kept floor (begins (v ∷ w ∷ ws))
 begins-kept_by floor v w ws true e h = rw e h
@@ -38,31 +35,6 @@ pub RisesFrom-kept : (n floor : ℕ) (bs : List ℕ) → RisesFrom n bs → Rise
 RisesFrom-kept n floor [] h = h
 RisesFrom-kept n floor (b ∷ []) h = h
 RisesFrom-kept n floor (b ∷ c ∷ cs) h = RisesFrom-kept_by n floor b c cs (nat_le c floor) refl h (RisesFrom-kept n floor (c ∷ cs))
-
--- ---- a step of shortening
-
-pub kept_done : (floor s : ℕ) (vs : List Placeholder) → second vs ≡ Some s → floor < s → kept_items floor vs ≡ vs
-kept_done floor s [] e lt = refl
-kept_done floor s (v ∷ []) e lt = refl
-kept_done floor s (v ∷ w ∷ ws) e lt = let same : w.begin ≡ s = same_Some w.begin s e in let f : nat_le w.begin floor ≡ false = grind (arith, nat_tests) in rw f refl
-
-pub long-second : (s : ℕ) (vs : List Placeholder) → second vs ≡ Some s → 1 < length vs
-long-second s [] e = absurd cc
-long-second s (v ∷ []) e = absurd cc
-long-second s (v ∷ w ∷ ws) e = omega arith
-
-pub short-second : (vs : List Placeholder) → second vs ≡ None → length vs < 2
-short-second [] e = omega arith
-short-second (v ∷ []) e = omega arith
-short-second (v ∷ w ∷ ws) e = absurd cc
-
-kept_popped : (floor s : ℕ) (v : Placeholder) (ws : List Placeholder) → second (v ∷ ws) ≡ Some s → s ≤ floor → kept_items floor ws ≡ kept_items floor (v ∷ ws)
-kept_popped floor s v [] e le = absurd cc
-kept_popped floor s v (w ∷ ws) e le = let same : w.begin ≡ s = same_Some w.begin s e in let t : nat_le w.begin floor ≡ true = grind (arith, nat_tests) in rw t refl
-
-pub kept-popped : (floor s : ℕ) (r : Option Placeholder) (vs ws : List Placeholder) (newest : Placeholder) → vs ≡ option_to_list r ++ ws → second (vs ++ newest ∷ []) ≡ Some s → s ≤ floor → kept_items floor (ws ++ newest ∷ []) ≡ kept_items floor (vs ++ newest ∷ [])
-kept-popped floor s None vs ws newest is e le = ap (λ us. kept_items floor (us ++ newest ∷ [])) (sym is)
-kept-popped floor s (Some v) vs ws newest is e le = rw is (kept_popped floor s v (ws ++ newest ∷ []) (rw is at e) le)
 
 -- ---- what holds of each begin holds of those that are kept
 

@@ -1,31 +1,33 @@
 -- Lists by places.
-use Rattle.std.proofs.Common.{◌≡◌, ◌≢◌, ℕ, zero, suc, ◌+◌, ◌<◌, Bool, true, false, List, [], ◌∷◌, ◌++◌, length, map, slice_get, slice_set, set, get_or, Some, refl, sym, ap, ◌∙◌, inl, inr, ◌⊎◌, arith, length-set, ◌==◌}
-use Rattle.std.proofs.lemmas.Bool.Decides.{nat_tests}
+use Rattle.std.proofs.Common.{◌≡◌, ◌≢◌, ℕ, zero, suc, ◌+◌, ◌<◌, List, [], ◌∷◌, ◌++◌, length, take, drop, slice_get, slice_set, set, get_or, Some, refl, ap, ◌∙◌, arith, length-set}
+use Rattle.std.specs.List.{AllByRecursion}
 use Rattle.std.proofs.lemmas.Option.{slice_get-get_or}
-use Rattle.std.proofs.lemmas.List.{get_or-set_same, get_or-set_other}
+use Rattle.std.proofs.lemmas.List.{get_or-set_same}
 
-same_from : (m n : ℕ) (b : Bool) → (m == n) ≡ b → (m ≡ n) ⊎ (m ≢ n)
-same_from m n true e = inl (grind (arith, nat_tests))
-same_from m n false e = inr (λ x. grind (arith, nat_tests))
+pub get_take : {A : Type 0} (c n : ℕ) (xs : List A) → n < c → slice_get (take c xs) n ≡ slice_get xs n
+get_take zero n xs h = absurd (omega arith)
+get_take (suc c) n [] h = refl
+get_take (suc c) zero (x ∷ xs) h = refl
+get_take (suc c) (suc n) (x ∷ xs) h = get_take c n xs (omega arith)
 
-pub same_or : (m n : ℕ) → (m ≡ n) ⊎ (m ≢ n)
-same_or m n = same_from m n (m == n) refl
+pub get_drop : {A : Type 0} (s n : ℕ) (xs : List A) → slice_get (drop s xs) n ≡ slice_get xs (s + n)
+get_drop zero n xs = let e : n ≡ (0 + n) = omega arith in ap (slice_get xs) e
+get_drop (suc s) n [] = refl
+get_drop (suc s) n (x ∷ xs) = let e : suc (s + n) ≡ (suc s + n) = omega arith in get_drop s n xs ∙ ap (slice_get (x ∷ xs)) e
 
 pub set_same : {Q : Type 0} (qs : List Q) (p : ℕ) (q : Q) → p < length qs → slice_get (slice_set qs p q) p ≡ Some q
 set_same qs p q h = let l : p < length (set qs p q) = omega (arith, length-set qs p q) in slice_get-get_or (set qs p q) p q l ∙ ap (λ x. Some x) (get_or-set_same qs p q q h)
 
-pub set_other : {Q : Type 0} (qs : List Q) (p j : ℕ) (q : Q) → j < length qs → j ≢ p → slice_get (slice_set qs p q) j ≡ slice_get qs j
-set_other qs p j q h apart = let l : j < length (set qs p q) = omega (arith, length-set qs p q) in slice_get-get_or (set qs p q) j q l ∙ ap (λ x. Some x) (get_or-set_other qs p j q q apart) ∙ sym (slice_get-get_or qs j q h)
+pub set_other : {Q : Type 0} (qs : List Q) (p j : ℕ) (q : Q) → j ≢ p → slice_get (slice_set qs p q) j ≡ slice_get qs j
+set_other [] p j q apart = refl
+set_other (x ∷ qs) zero zero q apart = absurd (apart refl)
+set_other (x ∷ qs) zero (suc j) q apart = refl
+set_other (x ∷ qs) (suc p) zero q apart = refl
+set_other (x ∷ qs) (suc p) (suc j) q apart = set_other qs p j q (λ e. apart (ap suc e))
 
-pub map_same : {X Y : Type 0} (f g : X → Y) → ((x : X) → f x ≡ g x) → (xs : List X) → map f xs ≡ map g xs
-map_same f g e [] = refl
-map_same f g e (x ∷ xs) = rw (e x, map_same f g e xs) refl
-
-pub set_beyond : {Q : Type 0} (qs : List Q) (p j : ℕ) (q : Q) → p < j → slice_get (slice_set qs p q) j ≡ slice_get qs j
-set_beyond [] p j q h = refl
-set_beyond (x ∷ qs) p zero q h = absurd (omega arith)
-set_beyond (x ∷ qs) zero (suc j) q h = refl
-set_beyond (x ∷ qs) (suc p) (suc j) q h = set_beyond qs p j q (omega arith)
+pub each_append : {A : Type 0} (P : A → Type 0) (xs ys : List A) → AllByRecursion P xs → AllByRecursion P ys → AllByRecursion P (xs ++ ys)
+each_append P [] ys h k = k
+each_append P (x ∷ xs) ys h k = (h.0, each_append P xs ys h.1 k)
 
 -- what holds of each element at its place, after a push
 pub each_pushed : {A : Type 0} (P : ℕ → A → Type 0) (xs : List A) (x : A) → ((w : ℕ) (d : A) → w < length xs → P w (get_or xs w d)) → P (length xs) x → (w : ℕ) (d : A) → w < length xs + 1 → P w (get_or (xs ++ x ∷ []) w d)

@@ -1,10 +1,10 @@
 -- What is kept of a rising chain, begin by begin.
-use Rattle.std.proofs.Common.{◌≡◌, ℕ, zero, suc, ◌<◌, ◌≤◌, Bool, true, false, List, [], ◌∷◌, length, get_or, All, refl, inl, inr, ⊎_elim, ◌⊎◌, arith, nat_le}
+use Rattle.std.proofs.Common.{◌≡◌, ℕ, zero, suc, ◌<◌, ◌≤◌, Bool, true, false, List, [], ◌∷◌, length, get_or, refl, inl, inr, ⊎_elim, ◌⊎◌, arith, nat_le}
 use Rattle.std.specs.Prelude.{Contains, ◌↔◌}
 use Rattle.std.specs.List.{AllByRecursion}
 use Rattle.std.proofs.lemmas.Bool.{cases_lt}
 use Rattle.std.proofs.lemmas.Bool.Decides.{nat_tests}
-use Rattle.std.proofs.lemmas.List.Elements.{All-head, All-tail, All-nil, All-cons}
+use Rattle.std.proofs.lemmas.List.Elements.{All-from_recursion, recursion_from_All}
 use Rattle.bohm_place.specs.Chains.{RisesFrom, kept, IsKept}
 
 abbrev Mem : ℕ → List ℕ → Type 0
@@ -24,14 +24,6 @@ contains_of (x ∷ xs) b (inr m) = let (k, lt, e) = contains_of xs b m in (suc k
 -- no begin at or below the floor is above b
 abbrev Tops : ℕ → ℕ → List ℕ → Type 0
 Tops floor b bs = AllByRecursion (λ c. c ≤ floor → c ≤ b) bs
-
-tops_of : (floor b : ℕ) (bs : List ℕ) → All (λ c. c ≤ floor → c ≤ b) bs → Tops floor b bs
-tops_of floor b [] h = tt
-tops_of floor b (c ∷ cs) h = (All-head (λ c. c ≤ floor → c ≤ b) c cs h, tops_of floor b cs (All-tail (λ c. c ≤ floor → c ≤ b) c cs h))
-
-all_tops : (floor b : ℕ) (bs : List ℕ) → Tops floor b bs → All (λ c. c ≤ floor → c ≤ b) bs
-all_tops floor b [] h = All-nil (λ c. c ≤ floor → c ≤ b)
-all_tops floor b (c ∷ cs) h = All-cons (λ c. c ≤ floor → c ≤ b) c cs h.0 (all_tops floor b cs h.1)
 
 abbrev Stays : ℕ → List ℕ → ℕ → Type 0
 Stays floor bs b = Mem b bs × ((floor < b) ⊎ ((b ≤ floor) × Tops floor b bs))
@@ -80,6 +72,6 @@ from floor n b (x ∷ c ∷ cs) r m = from_by floor x c b cs (nat_le c floor) re
 
 pub kept_contains : (floor n b : ℕ) (bs : List ℕ) → RisesFrom n bs → IsKept floor bs b ↔ Contains (kept floor bs) b
 kept_contains floor n b bs r = (
-  λ s. contains_of (kept floor bs) b (to floor n b bs r (mem_of bs b s.0.0 s.0.1 s.0.2, ⊎_elim inl (λ (low, tops). inr (low, tops_of floor b bs tops)) s.1)),
-  λ h. (let s = from floor n b bs r (mem_of (kept floor bs) b h.0 h.1 h.2) in (contains_of bs b s.0, ⊎_elim inl (λ (low, tops). inr (low, all_tops floor b bs tops)) s.1)),
+  λ s. contains_of (kept floor bs) b (to floor n b bs r (mem_of bs b s.0.0 s.0.1 s.0.2, ⊎_elim inl (λ (low, tops). inr (low, recursion_from_All (λ c. c ≤ floor → c ≤ b) bs tops)) s.1)),
+  λ h. (let s = from floor n b bs r (mem_of (kept floor bs) b h.0 h.1 h.2) in (contains_of bs b s.0, ⊎_elim inl (λ (low, tops). inr (low, All-from_recursion (λ c. c ≤ floor → c ≤ b) bs tops)) s.1)),
 )

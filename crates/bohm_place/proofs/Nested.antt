@@ -1,29 +1,30 @@
 -- Accesses in one list, transaction by transaction.
-use Rattle.std.proofs.Common.{◌≡◌, ℕ, zero, suc, ◌+◌, ◌<◌, ◌≤◌, ◌%◌, true, List, [], ◌∷◌, ◌++◌, length, map, take, drop, slice_get, Some, refl, sym, ap, ◌∙◌, arith, if◌then◌else◌, nat_lt, append_assoc, append-nil, length-append}
+use Rattle.std.proofs.Common.{◌≡◌, ℕ, zero, suc, ◌+◌, ◌<◌, ◌≤◌, ◌%◌, true, List, [], ◌∷◌, ◌++◌, length, map, take, drop, slice_get, Some, refl, sym, ap, ◌∙◌, subst, arith, if◌then◌else◌, nat_lt, append_assoc, append-nil, length-append}
 use Rattle.std.proofs.lemmas.Bool.Decides.{nat_tests}
-use Rattle.std.proofs.lemmas.Option.{same_Some, slice_get_within}
-use Rattle.std.proofs.lemmas.List.{map-append, length-map}
+use Rattle.std.proofs.lemmas.Option.{same_Some, slice_get-map, slice_get_within}
+use Rattle.std.proofs.lemmas.List.{drop_at, map-append, length-map, take_at}
+use Rattle.std.proofs.lemmas.Simd.{map-map}
 use Rattle.bohm_tree.specs.declared.txn.Txn.{Txn}
+use Rattle.bohm_place.specs.declared.access.Access.{Access}
+use Rattle.bohm_place.specs.declared.access.Source.TheVariants.{Before}
+use Rattle.bohm_place.specs.declared.declared_set.DeclaredSet.{DeclaredSet}
+use Rattle.bohm_place.specs.declared.declared_set.DeclaredSet.TheVariants.{Reads, Writes}
 use Rattle.bohm_place.specs.declared.placeholder.Placeholder.{Placeholder}
+use Rattle.bohm_place.specs.declared.row.Row.{Row}
 use Rattle.bohm_place.specs.Chains.{Keyed, placeholders_in, none, last_or}
 use Rattle.bohm_place.specs.Shares.{found_by, rows_from, made, newest_ahead}
-use Rattle.bohm_place.specs.Plans.{Accesses, Planned, access_of, accesses_of, reads_of, writes_of, AreLaidFrom, AreRightAccesses, IsRightPlan}
+use Rattle.bohm_place.specs.Plans.{Accesses, Planned, access_of, accesses_of, reads_of, writes_of, AreLaidFrom, planned_in, AreRightAccesses, IsRightPlan, HasNoPlaces}
 use Rattle.bohm_place.proofs.Placed.{Below}
 use Rattle.bohm_place.proofs.Found.{found_same}
-use Rattle.bohm_place.proofs.Right.{right_access, newest_ahead-base}
+use Rattle.bohm_place.proofs.Right.{right_access, index_before, newest_ahead-base}
 
 -- what f says of each access, transaction by transaction
-abbrev nested : (List Txn → List ℕ → Placeholder) → List Txn → List Txn → List Accesses
+abbrev pub nested : (List Txn → List ℕ → Placeholder) → List Txn → List Txn → List Accesses
 nested f done [] = []
 nested f done (t ∷ ts) = record { reads = map access_of (map (f done) t.reads); writes = map access_of (map (f done) t.writes) } ∷ nested f (done ++ t ∷ []) ts
 
 front : {A : Type 0} (n m : ℕ) (pre xs ys : List A) → n ≡ length pre → m ≡ length xs → take m (drop n (pre ++ (xs ++ ys))) ≡ xs
-front n m [] xs ys e f = let none_there : n ≡ 0 = omega arith in rw (none_there, f) (taken xs ys)
-  where
-    taken : {A : Type 0} (xs ys : List A) → take (length xs) (xs ++ ys) ≡ xs
-    taken [] ys = refl
-    taken (x ∷ xs) ys = ap (λ zs. x ∷ zs) (taken xs ys)
-front n m (p ∷ pre) xs ys e f = rw e (front (length pre) m pre xs ys refl f)
+front n m pre xs ys e f = ap (take m) (drop_at pre (xs ++ ys) n (sym e)) ∙ take_at xs ys m (sym f)
 
 row_nested : (f : List ℕ → Placeholder) (pre rest : List Placeholder) (start : ℕ) (t : Txn) → start ≡ length pre
     → accesses_of (pre ++ (map f (t.reads ++ t.writes) ++ rest)) (record { start = start; reads = length t.reads; writes = length t.writes }) ≡ record { reads = map access_of (map f t.reads); writes = map access_of (map f t.writes) }
@@ -50,7 +51,7 @@ rows_nested f done (t ∷ ts) pre start e =
     λ i. row_nested (f done) pre rest start t e i ∷ more' i
 
 -- the rows of a plan that was found in one list
-pub found_nested : (f : List Txn → List ℕ → Placeholder) (ts : List Txn) → map (accesses_of (found_by (λ _. true) f [] ts)) (rows_from 0 ts) ≡ nested f [] ts
+found_nested : (f : List Txn → List ℕ → Placeholder) (ts : List Txn) → map (accesses_of (found_by (λ _. true) f [] ts)) (rows_from 0 ts) ≡ nested f [] ts
 found_nested f ts = rows_nested f [] ts [] 0 refl
 
 length-nested : (f : List Txn → List ℕ → Placeholder) (done ts : List Txn) → length (nested f done ts) ≡ length ts
@@ -71,15 +72,6 @@ nested_at f done [] i t e = absurd cc
 nested_at f done (x ∷ ts) zero t e = let same : x ≡ t = same_Some x t e in rw (append-nil done, same) refl
 nested_at f done (x ∷ ts) (suc i) t e = let more = nested_at f (done ++ x ∷ []) ts i t e in rw append_assoc at more
 
-get_mapped : {A B : Type 0} (g : A → B) (xs : List A) (j : ℕ) (x : A) (y : B) → slice_get xs j ≡ Some x → slice_get (map g xs) j ≡ Some y → g x ≡ y
-get_mapped g [] j x y e h = absurd cc
-get_mapped g (z ∷ xs) zero x y e h = ap g (sym (same_Some z x e)) ∙ same_Some (g z) y h
-get_mapped g (z ∷ xs) (suc j) x y e h = get_mapped g xs j x y e h
-
-map_twice : {A B C : Type 0} (g : B → C) (f : A → B) (xs : List A) → map g (map f xs) ≡ map (λ x. g (f x)) xs
-map_twice g f [] = refl
-map_twice g f (x ∷ xs) = ap (λ ys. g (f x) ∷ ys) (map_twice g f xs)
-
 -- the source that the transactions ahead give
 abbrev pub ahead_of : ℕ → List Txn → List ℕ → Placeholder
 ahead_of first done k = last_or none (made first done k)
@@ -88,8 +80,9 @@ right_row : (first : ℕ) (ts : List Txn) (i : ℕ) (keys : List (List ℕ)) →
 right_row first ts i keys above inside = record {
   paired = sym (length-map (map (ahead_of first (take i ts)) keys) access_of ∙ length-map keys (ahead_of first (take i ts)));
   each = λ j k a e h.
-      let h' = rw (map_twice access_of (ahead_of first (take i ts)) keys) at h in
-      let same : access_of (ahead_of first (take i ts) k) ≡ a = get_mapped (λ q. access_of (ahead_of first (take i ts) q)) keys j k a e h' in
+      let f : List ℕ → Access = λ q. access_of (ahead_of first (take i ts) q) in
+      let at : slice_get (map access_of (map (ahead_of first (take i ts)) keys)) j ≡ Some (f k) = rw (map-map, slice_get-map f keys j, e) refl in
+      let same : f k ≡ a = same_Some (f k) a (sym at ∙ h) in
       rw (← same) (right_access first ts k i above inside);
 }
 
@@ -109,12 +102,43 @@ right_plan first ts p above start rows = record {
       rw (is, start) (right_row first ts i t.writes above (omega arith));
 }
 
+-- ---- accesses of the version before the batch
+
+in_row : (P : Access → Type 0) (f : List ℕ → Placeholder) → ((k : List ℕ) → P (access_of (f k))) → (keys : List (List ℕ)) (j : ℕ) (a : Access) → slice_get (map access_of (map f keys)) j ≡ Some a → P a
+in_row P f each [] j a e = absurd cc
+in_row P f each (k ∷ keys) zero a e = subst P (same_Some (access_of (f k)) a e) (each k)
+in_row P f each (k ∷ keys) (suc j) a e = in_row P f each keys j a e
+
+-- each access is what f says of a key
+in_nested : (P : Access → Type 0) (f : List Txn → List ℕ → Placeholder) → ((done : List Txn) (k : List ℕ) → P (access_of (f done k))) → (set : DeclaredSet) (first : ℕ) (done ts : List Txn) (i j : ℕ) (a : Access) → slice_get (planned_in set (record { first = first; rows = nested f done ts }) i) j ≡ Some a → P a
+in_nested P f each Reads first done [] i j a e = absurd cc
+in_nested P f each Writes first done [] i j a e = absurd cc
+in_nested P f each Reads first done (t ∷ ts) zero j a e = in_row P (f done) (each done) t.reads j a e
+in_nested P f each Writes first done (t ∷ ts) zero j a e = in_row P (f done) (each done) t.writes j a e
+in_nested P f each Reads first done (t ∷ ts) (suc i) j a e = in_nested P f each Reads first (done ++ t ∷ []) ts i j a e
+in_nested P f each Writes first done (t ∷ ts) (suc i) j a e = in_nested P f each Writes first (done ++ t ∷ []) ts i j a e
+
+-- the plan that was found in one list has no places
+pub no_places : (first : ℕ) (ts : List Txn) (p : Planned) → 0 < first → p.rows ≡ nested (ahead_of first) [] ts → HasNoPlaces p
+no_places first ts p above rows set i j a e =
+    in_nested (λ x. x.source ≡ Before → x.index ≡ 0) (ahead_of first) (λ done k. index_before first done k above) set p.first [] ts i j a
+    (subst (λ (rs : List Accesses). slice_get (planned_in set (record { first = p.first; rows = rs }) i) j ≡ Some a) rows e)
+
+-- ---- several workers
+
 whole_by : (m n : ℕ) (v w : Placeholder) → m < n → v ≡ w → (if nat_lt m n then v else none) ≡ w
 whole_by m n v w lt e = let t : nat_lt m n ≡ true = grind (arith, nat_tests) in rw t e
 
 -- what all workers found together
-pub found_whole : (part : List ℕ → ℕ) (n first : ℕ) (ts : List Txn) (given : List Keyed) → 0 < n → 0 < first → ((k : List ℕ) → Below first (placeholders_in part given k))
+found_whole : (part : List ℕ → ℕ) (n first : ℕ) (ts : List Txn) (given : List Keyed) → 0 < n → 0 < first → ((k : List ℕ) → Below first (placeholders_in part given k))
     → found_by (λ k. nat_lt (part k % n) n) (newest_ahead first (placeholders_in part given)) [] ts ≡ found_by (λ _. true) (ahead_of first) [] ts
 found_whole part n first ts given some above low =
     found_same (λ k. nat_lt (part k % n) n) (λ _. true) (newest_ahead first (placeholders_in part given)) (ahead_of first)
     (λ done k. whole_by (part k % n) n (newest_ahead first (placeholders_in part given) done k) (ahead_of first done k) (omega arith) (newest_ahead-base first (placeholders_in part given) done k above (low k))) [] ts
+
+-- the rows of the plan, where they are laid out one behind another
+pub rows_whole : (part : List ℕ → ℕ) (n first : ℕ) (ts : List Txn) (given : List Keyed) (found : List Placeholder) (rows : List Row) → 0 < n → 0 < first → ((k : List ℕ) → Below first (placeholders_in part given k))
+    → found ≡ found_by (λ k. nat_lt (part k % n) n) (newest_ahead first (placeholders_in part given)) [] ts → rows ≡ rows_from 0 ts → map (accesses_of found) rows ≡ nested (ahead_of first) [] ts
+rows_whole part n first ts given found rows some above low e laid =
+    let whole : found ≡ found_by (λ _. true) (ahead_of first) [] ts = e ∙ found_whole part n first ts given some above low in
+    rw (whole, laid) (found_nested (ahead_of first) ts)

@@ -1,8 +1,7 @@
 -- Noting a place at one access changes no other access of a plan.
-use Rattle.std.proofs.Common.{Bool, true, false, get_or, ◌≡◌, ◌≢◌, ℕ, zero, suc, ◌+◌, ◌<◌, ◌≤◌, ◌==◌, List, [], ◌∷◌, length, map, take, drop, min, slice_get, slice_set, Option, Some, None, unwrap_or, option_map, refl, sym, ap, ◌∙◌, subst, inl, inr, ◌⊎◌, ⊎_elim, arith, length-drop}
-use Rattle.std.proofs.lemmas.Bool.{cases_lt}
+use Rattle.std.proofs.Common.{get_or, ◌≡◌, ℕ, zero, suc, ◌+◌, ◌<◌, ◌≤◌, List, [], ◌∷◌, length, map, take, drop, min, slice_get, slice_set, Option, Some, None, unwrap_or, option_map, refl, sym, ap, ◌∙◌, subst, inl, inr, ◌⊎◌, ⊎_elim, arith, length-drop}
+use Rattle.std.proofs.lemmas.Bool.{cases_eq, cases_lt}
 use Rattle.std.proofs.lemmas.List.{length-map, length-take}
-use Rattle.std.proofs.lemmas.Bool.Decides.{nat_tests}
 use Rattle.std.proofs.lemmas.Option.{same_Some, slice_get-map, slice_get_past, slice_get_within, slice_get_read, get_or_from_slice_get}
 use Rattle.bohm_tree.specs.declared.txn.Txn.{Txn}
 use Rattle.bohm_place.specs.declared.access.Access.{Access}
@@ -14,7 +13,8 @@ use Rattle.bohm_place.specs.declared.placeholder.Placeholder.{Placeholder}
 use Rattle.bohm_place.specs.declared.row.Row.{Row}
 use Rattle.bohm_place.specs.Plans.{Planned, access_of, accesses_of, planned_in, source_in, keys_in, start_in, count_in, end_of, AreLaidFrom, HasSourcesOf, IsNote, IsNoted, AreRightAccesses, IsRightAccess, IsRightPlan}
 use Rattle.bohm_place.specs.Writers.{IsNewest}
-use Rattle.bohm_place.proofs.Lists.{set_same, set_other, set_beyond, same_or}
+use Rattle.bohm_place.proofs.Right.{begin_before}
+use Rattle.bohm_place.proofs.Lists.{get_take, get_drop, set_same, set_other}
 
 -- ---- what a plan lists, by places in memory
 
@@ -30,17 +30,6 @@ cut_of Reads first vs rows m None e = rw (slice_get-map (accesses_of vs) rows m,
 cut_of Reads first vs rows m (Some row) e = rw (slice_get-map (accesses_of vs) rows m, e) refl
 cut_of Writes first vs rows m None e = rw (slice_get-map (accesses_of vs) rows m, e) refl
 cut_of Writes first vs rows m (Some row) e = rw (slice_get-map (accesses_of vs) rows m, e) refl
-
-get_take : {A : Type 0} (c n : ℕ) (xs : List A) → n < c → slice_get (take c xs) n ≡ slice_get xs n
-get_take zero n xs h = absurd (omega arith)
-get_take (suc c) n [] h = refl
-get_take (suc c) zero (x ∷ xs) h = refl
-get_take (suc c) (suc n) (x ∷ xs) h = get_take c n xs (omega arith)
-
-get_drop : {A : Type 0} (s n : ℕ) (xs : List A) → slice_get (drop s xs) n ≡ slice_get xs (s + n)
-get_drop zero n xs = let e : n ≡ (0 + n) = omega arith in ap (slice_get xs) e
-get_drop (suc s) n [] = refl
-get_drop (suc s) n (x ∷ xs) = let e : suc (s + n) ≡ (suc s + n) = omega arith in get_drop s n xs ∙ ap (slice_get (x ∷ xs)) e
 
 get_cut : (s : DeclaredSet) (vs : List Placeholder) (row : Row) (n : ℕ) → n < count_in s row → slice_get (cut s vs row) n ≡ option_map access_of (slice_get vs (start_in s row + n))
 get_cut s vs row n h = slice_get-map access_of (take (count_in s row) (drop (start_in s row) vs)) n ∙ ap (option_map access_of) (get_take (count_in s row) n (drop (start_in s row) vs) h ∙ get_drop (start_in s row) n vs)
@@ -90,7 +79,7 @@ module _ (rows : List Row) (laid : AreLaidFrom 0 rows) where
       (λ earlier. absurd (omega (arith, laid_apart rows 0 m i other row laid there at earlier, (inside_row s other n h).1, (inside_row set row j l).0)))
       (λ later. absurd (omega (arith, apart, laid_apart rows 0 i m row other laid at there (omega (arith, apart)), (inside_row s other n h).0, (inside_row set row j l).1)))
       (cases_lt m i))
-      (same_or m i)
+      (cases_eq m i)
 
   -- ---- one placeholder is another one
 
@@ -100,9 +89,6 @@ module _ (rows : List Row) (laid : AreLaidFrom 0 rows) where
 
     abbrev pub new : List Placeholder
     new = slice_set vs p noted
-
-    elsewhere : (q : ℕ) → q ≢ p → slice_get new q ≡ slice_get vs q
-    elsewhere q apart = ⊎_elim (λ low. set_other vs p q noted low apart) (λ high. set_beyond vs p q noted (omega (arith, within, high))) (cases_lt q (length vs))
 
     now : access_of noted ≡ record { source = Before; index = place }
     now = rw (none, index) refl
@@ -126,8 +112,8 @@ module _ (rows : List Row) (laid : AreLaidFrom 0 rows) where
         let now_at : option_map (λ (a : Access). a.source) (slice_get (cut set new row) j) ≡ Some Before = ap (option_map (λ (a : Access). a.source)) there in
         let both : option_map (λ (a : Access). a.source) (slice_get (cut set new row) j) ≡ option_map (λ (a : Access). a.source) (slice_get (cut set vs row) j) = now_at ∙ sym was in
         rw (one.0, one.2, ← rows_same) both)
-        (λ apart. ap (option_map (λ (a : Access). a.source)) (get_cut s new other n inside ∙ ap (option_map access_of) (elsewhere (start_in s other + n) apart) ∙ sym (get_cut s vs other n inside)))
-        (same_or (start_in s other + n) p))
+        (λ apart. ap (option_map (λ (a : Access). a.source)) (get_cut s new other n inside ∙ ap (option_map access_of) (set_other vs p (start_in s other + n) noted apart) ∙ sym (get_cut s vs other n inside)))
+        (cases_eq (start_in s other + n) p))
         (λ past. ap (option_map (λ (a : Access). a.source)) (past_cut s new other n past ∙ sym (past_cut s vs other n past)))
         (cases_lt n (count_in s other))
 
@@ -143,8 +129,8 @@ module _ (rows : List Row) (laid : AreLaidFrom 0 rows) where
         let one = one_place s set m i n j other row in_m at inside l same in
         let found : Some a ≡ Some (access_of noted) = sym at_n ∙ get_cut s new other n inside ∙ ap (option_map access_of) (ap (slice_get new) same ∙ at_place) in
         inr (record { same = one.0; row = one.1; index = one.2; access = same_Some a (access_of noted) found ∙ now }))
-        (λ apart. inl (get_cut s vs other n inside ∙ ap (option_map access_of) (sym (elsewhere (start_in s other + n) apart)) ∙ sym (get_cut s new other n inside) ∙ at_n))
-        (same_or (start_in s other + n) p)
+        (λ apart. inl (get_cut s vs other n inside ∙ ap (option_map access_of) (sym (set_other vs p (start_in s other + n) noted apart)) ∙ sym (get_cut s new other n inside) ∙ at_n))
+        (cases_eq (start_in s other + n) p)
 
     each_by : (s : DeclaredSet) (m n : ℕ) (a : Access) (o : Option Row) → slice_get rows m ≡ o → slice_get (planned_in s (laid_out first new rows) m) n ≡ Some a → (slice_get (planned_in s (laid_out first vs rows) m) n ≡ Some a) ⊎ IsNote set s i m j n place a
     each_by s m n a None in_m at_n = let h = rw (cut_of s first new rows m None in_m) at at_n in absurd cc
@@ -169,10 +155,6 @@ located_by first vs rows set i j row (Some other) at is inside =
     let h = rw (cut_of set first vs rows i (Some row) at') at inside in
     (at', omega (arith, length-cut set vs row), omega (arith, length-cut set vs row, length-drop (start_in set row) vs))
 
-begin_by : (v : Placeholder) (b : Bool) → (v.begin == 0) ≡ b → (access_of v).source ≡ Before → v.begin ≡ 0
-begin_by v true e before = grind (arith, nat_tests)
-begin_by v false e before = absurd (let h = rw e at before in cc)
-
 pub noted_there : (first : ℕ) (vs : List Placeholder) (rows : List Row) (set : DeclaredSet) (i j place : ℕ) (row : Row) (v noted : Placeholder) → AreLaidFrom 0 rows → row ≡ get_or rows i row → j < length (planned_in set (laid_out first vs rows) i) → v ≡ get_or vs (start_in set row + j) v → noted.begin ≡ v.begin → noted.index ≡ place → source_in set (laid_out first vs rows) i j ≡ Some Before
     → IsNoted (laid_out first vs rows) (laid_out first (slice_set vs (start_in set row + j) noted) rows) set i j place
 noted_there first vs rows set i j place row v noted laid is inside there begin index before =
@@ -181,7 +163,7 @@ noted_there first vs rows set i j place row v noted laid is inside there begin i
     let found = get_cut set vs row j located.1 ∙ ap (option_map access_of) at_v in
     let source : option_map (λ (a : Access). a.source) (slice_get (cut set vs row) j) ≡ Some Before = ap (λ accesses. option_map (λ (a : Access). a.source) (slice_get accesses j)) (sym (cut_of set first vs rows i (Some row) located.0)) ∙ before in
     let is_before : (access_of v).source ≡ Before = same_Some (access_of v).source Before (sym (ap (option_map (λ (a : Access). a.source)) found) ∙ source) in
-    noted_at rows laid first vs set i j place row located.0 located.1 located.2 noted (begin ∙ begin_by v (v.begin == 0) refl is_before) index before
+    noted_at rows laid first vs set i j place row located.0 located.1 located.2 noted (begin ∙ begin_before v is_before) index before
 
 -- ---- what stays of a plan
 

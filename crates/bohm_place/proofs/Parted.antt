@@ -1,14 +1,13 @@
 -- What a worker owes for its own parts of all.
-use Rattle.std.proofs.Common.{◌≡◌, ℕ, ◌<◌, Bool, true, false, List, [], ◌++◌, length, slice_get, get_or, Some, refl, ap, ◌∙◌, subst, if◌then◌else◌}
-use Rattle.std.proofs.lemmas.Option.{get_or_from_slice_get, slice_get_within}
+use Rattle.std.proofs.Common.{◌≡◌, ℕ, ◌<◌, Bool, true, false, List, [], ◌++◌, length, slice_get, Some, refl, ap, ◌∙◌, if◌then◌else◌}
 use Rattle.bohm_tree.specs.declared.txn.Txn.{Txn}
-use Rattle.bohm_txn.specs.Faulty.{IsWellFormedTxn}
 use Rattle.bohm_txn.proofs.UseLaws.{rising_writes}
 use Rattle.bohm_place.specs.declared.placeholder.Placeholder.{Placeholder}
 use Rattle.bohm_place.specs.Chains.{Keyed, placeholders_in, none}
 use Rattle.bohm_place.specs.Shares.{AreWellFormed, AreDistinct, has_part, made, newest_ahead, IsHand, IsShareOf, IsPartOf}
 use Rattle.bohm_place.proofs.Distinct.{AreDistinct-rising}
 use Rattle.bohm_place.proofs.Found.{found_same}
+use Rattle.bohm_place.proofs.Newest.{formed_at}
 
 module _ (part : List ℕ → ℕ) (n first : ℕ) (txns : List Txn) (all hand left : List Keyed) (w : ℕ) where
   held : IsHand n w all hand → ((k : List ℕ) → part k < length all) → (k : List ℕ) → has_part part n w k ≡ true → placeholders_in part hand k ≡ placeholders_in part all k
@@ -32,6 +31,4 @@ module _ (part : List ℕ → ℕ) (n first : ℕ) (txns : List Txn) (all hand l
 
 -- the declared writes of each transaction are distinct
 pub writes_distinct : (txns : List Txn) → AreWellFormed txns → (i : ℕ) (t : Txn) → slice_get txns i ≡ Some t → AreDistinct t.writes
-writes_distinct txns formed i t e =
-    let at : get_or txns i t ≡ t = get_or_from_slice_get txns i t t e in
-    AreDistinct-rising t.writes (rising_writes t (subst IsWellFormedTxn at (formed i t (slice_get_within txns i t e))))
+writes_distinct txns formed i t e = AreDistinct-rising t.writes (rising_writes t (formed_at txns formed i t e))

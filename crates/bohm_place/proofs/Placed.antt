@@ -1,52 +1,40 @@
 -- Placeholders in the hands of workers.
-use Rattle.std.proofs.Common.{◌≡◌, ◌≢◌, ℕ, zero, suc, ◌+◌, ◌<◌, ◌≤◌, ◌&&◌, ◌||◌, Bool, true, false, List, [], ◌∷◌, ◌++◌, length, map, take, get_or, slice_get, slice_set, Option, Some, None, unwrap_or, option_map, refl, sym, ap, ◌∙◌, subst, inl, inr, ◌⊎◌, arith, if◌then◌else◌, All, append-nil}
+use Rattle.std.proofs.Common.{◌≡◌, ◌≢◌, ℕ, zero, suc, ◌+◌, ◌<◌, ◌≤◌, ◌&&◌, ◌||◌, Bool, true, false, List, [], ◌∷◌, ◌++◌, length, map, take, get_or, slice_get, slice_set, Option, Some, None, unwrap_or, option_map, refl, sym, ap, ◌∙◌, inl, inr, ◌⊎◌, arith, if◌then◌else◌, All, append-nil}
 use Rattle.std.specs.Str.{bytes_eq}
 use Rattle.std.specs.List.{AllByRecursion}
-use Rattle.std.proofs.lemmas.List.{take_more, append_assoc, map-append}
+use Rattle.std.proofs.lemmas.Bool.{cases_eq}
+use Rattle.std.proofs.lemmas.List.{take_more, append_assoc, map_more}
 use Rattle.std.proofs.lemmas.Option.{same_Some}
-use Rattle.std.proofs.lemmas.List.Elements.{All-nil, All-cons, All-head, All-tail}
+use Rattle.std.proofs.lemmas.List.Elements.{All-from_recursion, All-map, All-head, All-tail}
 use Rattle.bohm_txn.specs.Faulty.{is_among}
+use Rattle.bohm_txn.proofs.Apart.{none_before}
+use Rattle.bohm_txn.proofs.Bodies.{same_key}
 use Rattle.bohm_place.specs.declared.placeholder.Placeholder.{Placeholder}
-use Rattle.bohm_place.specs.Chains.{Keyed, placeholders, placeholders_in, chain, chain_in, begins, kept, AreEmpty, AreKept}
+use Rattle.bohm_place.specs.Chains.{Keyed, placeholders, placeholders_in, chain, begins, kept, AreEmpty, AreKept}
 use Rattle.bohm_place.specs.Shares.{has_part, written, AreDistinct}
-use Rattle.bohm_place.proofs.Keyed.{same_key}
-use Rattle.bohm_place.proofs.Lists.{same_or, set_same, set_other}
-use Rattle.bohm_place.proofs.Distinct.{none_before}
+use Rattle.bohm_place.proofs.Lists.{set_same, set_other}
+use Rattle.bohm_place.proofs.Distinct.{apart-AreDistinct}
 
 module _ (part : List ℕ → ℕ) where
-  placed_by : (qs : List Keyed) (old new : Keyed) (key k : List ℕ) (n w : ℕ) (next : Placeholder) → part key < length qs → part k < length qs → slice_get qs (part key) ≡ Some old → has_part part n w key ≡ true → (b : Bool) → bytes_eq key k ≡ b
+  placed_by : (qs : List Keyed) (old new : Keyed) (key k : List ℕ) (n w : ℕ) (next : Placeholder) → part key < length qs → slice_get qs (part key) ≡ Some old → has_part part n w key ≡ true → (b : Bool) → bytes_eq key k ≡ b
       → placeholders new k ≡ (if b then placeholders old k ++ next ∷ [] else placeholders old k) → (part k ≡ part key) ⊎ (part k ≢ part key)
       → placeholders_in part (slice_set qs (part key) new) k ≡ (if (b && has_part part n w k) then placeholders_in part qs k ++ next ∷ [] else placeholders_in part qs k)
-  placed_by qs old new key k n w next inside inside' at mine true e is (inl s) =
+  placed_by qs old new key k n w next inside at mine true e is (inl s) =
       let g : slice_get (slice_set qs (part key) new) (part k) ≡ Some new = rw s (set_same qs (part key) new inside) in
       let o : slice_get qs (part k) ≡ Some old = rw s at in
       let m : has_part part n w k ≡ true = rw (sym s) at mine in
       rw (g, o, m) is
-  placed_by qs old new key k n w next inside inside' at mine true e is (inr s) = absurd (s (ap part (sym (same_key key k e))))
-  placed_by qs old new key k n w next inside inside' at mine false e is (inl s) =
+  placed_by qs old new key k n w next inside at mine true e is (inr s) = absurd (s (ap part (sym (same_key key k e))))
+  placed_by qs old new key k n w next inside at mine false e is (inl s) =
       let g : slice_get (slice_set qs (part key) new) (part k) ≡ Some new = rw s (set_same qs (part key) new inside) in
       let o : slice_get qs (part k) ≡ Some old = rw s at in
       rw (g, o) is
-  placed_by qs old new key k n w next inside inside' at mine false e is (inr s) = rw (set_other qs (part key) (part k) new inside' s) refl
+  placed_by qs old new key k n w next inside at mine false e is (inr s) = rw (set_other qs (part key) (part k) new s) refl
 
-  pub placed : (qs : List Keyed) (old new : Keyed) (key k : List ℕ) (n w : ℕ) (next : Placeholder) → part key < length qs → part k < length qs → slice_get qs (part key) ≡ Some old → has_part part n w key ≡ true
+  pub placed : (qs : List Keyed) (old new : Keyed) (key k : List ℕ) (n w : ℕ) (next : Placeholder) → part key < length qs → slice_get qs (part key) ≡ Some old → has_part part n w key ≡ true
       → placeholders new k ≡ (if bytes_eq key k then placeholders old k ++ next ∷ [] else placeholders old k)
       → placeholders_in part (slice_set qs (part key) new) k ≡ (if (bytes_eq key k && has_part part n w k) then placeholders_in part qs k ++ next ∷ [] else placeholders_in part qs k)
-  placed qs old new key k n w next inside inside' at mine is = placed_by qs old new key k n w next inside inside' at mine (bytes_eq key k) refl is (same_or (part k) (part key))
-
-  not_placed_by : (qs : List Keyed) (key k : List ℕ) (n w : ℕ) (next : Placeholder) (b m : Bool) → bytes_eq key k ≡ b → has_part part n w key ≡ false → has_part part n w k ≡ m
-      → placeholders_in part qs k ≡ (if (b && m) then placeholders_in part qs k ++ next ∷ [] else placeholders_in part qs k)
-  not_placed_by qs key k n w next true true e other m = absurd (clash (sym (subst (λ (q : List ℕ). has_part part n w q ≡ false) (same_key key k e) other) ∙ m))
-    where
-      clash : false ≡ true → ⊥
-      clash e = cc
-  not_placed_by qs key k n w next true false e other m = refl
-  not_placed_by qs key k n w next false m e other is = refl
-
-  -- a key that isn't the worker's
-  pub not_placed : (qs : List Keyed) (key k : List ℕ) (n w : ℕ) (next : Placeholder) → has_part part n w key ≡ false
-      → placeholders_in part qs k ≡ (if (bytes_eq key k && has_part part n w k) then placeholders_in part qs k ++ next ∷ [] else placeholders_in part qs k)
-  not_placed qs key k n w next other = not_placed_by qs key k n w next (bytes_eq key k) (has_part part n w k) refl other refl
+  placed qs old new key k n w next inside at mine is = placed_by qs old new key k n w next inside at mine (bytes_eq key k) refl is (cases_eq (part k) (part key))
 
 skipped : (u index : ℕ) (w : List ℕ) (ws : List (List ℕ)) (k : List ℕ) (b : Bool) → bytes_eq w k ≡ b → (b || is_among ws k) ≡ false → (is_among ws k ≡ false → written u (index + 1) ws k ≡ []) → written u index (w ∷ ws) k ≡ []
 skipped u index w ws k true e absent more = absurd cc
@@ -78,7 +66,7 @@ write_placed m base hand new u i keys k d inside len h n =
 
 -- the key of the next write has its chain as it was before the transaction
 pub not_yet_placed : (m : Bool) (base hand : List Placeholder) (u i : ℕ) (keys : List (List ℕ)) (d : List ℕ) → i < length keys → AreDistinct keys → hand ≡ (if m then base ++ written u 0 (take i keys) (get_or keys i d) else base) → hand ≡ base
-not_yet_placed true base hand u i keys d inside distinct h = h ∙ ap (λ ws. base ++ ws) (written_none u 0 (take i keys) (get_or keys i d) (none_before keys i d inside distinct)) ∙ append-nil base
+not_yet_placed true base hand u i keys d inside distinct h = h ∙ ap (λ ws. base ++ ws) (written_none u 0 (take i keys) (get_or keys i d) (none_before keys i d inside (apart-AreDistinct keys distinct))) ∙ append-nil base
 not_yet_placed false base hand u i keys d inside distinct h = h
 
 -- ---- begins below a timestamp
@@ -86,17 +74,12 @@ not_yet_placed false base hand u i keys d inside distinct h = h
 abbrev pub Below : ℕ → List Placeholder → Type 0
 Below t vs = AllByRecursion (λ v. v.begin < t) vs
 
-pub Below-append : (t : ℕ) (vs ws : List Placeholder) → Below t vs → Below t ws → Below t (vs ++ ws)
-Below-append t [] ws h k = k
-Below-append t (v ∷ vs) ws h k = (h.0, Below-append t vs ws h.1 k)
-
 pub Below-higher : (t u : ℕ) (vs : List Placeholder) → t ≤ u → Below t vs → Below u vs
 Below-higher t u [] le h = tt
 Below-higher t u (v ∷ vs) le h = (omega (arith, h.0), Below-higher t u vs le h.1)
 
 pub all_below : (t : ℕ) (vs : List Placeholder) → Below t vs → All (λ b. b < t) (begins vs)
-all_below t [] h = All-nil (λ b. b < t)
-all_below t (v ∷ vs) h = All-cons (λ b. b < t) v.begin (begins vs) h.0 (all_below t vs h.1)
+all_below t vs h = All-map (λ b. b < t) (λ v. v.begin) vs (All-from_recursion (λ v. v.begin < t) vs h)
 
 pub below_all : (t : ℕ) (vs : List Placeholder) → All (λ b. b < t) (begins vs) → Below t vs
 below_all t [] h = tt
@@ -109,13 +92,6 @@ AreEmpty-push [] p h e zero q k at = let same : p ≡ q = same_Some p q at in rw
 AreEmpty-push [] p h e (suc i) q k at = absurd cc
 AreEmpty-push (x ∷ xs) p h e zero q k at = h 0 q k at
 AreEmpty-push (x ∷ xs) p h e (suc i) q k at = AreEmpty-push xs p (λ j. h (suc j)) e i q k at
-
-in_none : (o : Option Keyed) (k : List ℕ) → ((p : Keyed) → o ≡ Some p → placeholders p k ≡ []) → unwrap_or (option_map (λ p. placeholders p k) o) [] ≡ []
-in_none None k h = refl
-in_none (Some p) k h = h p refl
-
-pub chain_in_empty : (parts : List Keyed) → AreEmpty parts → (part : List ℕ → ℕ) (k : List ℕ) → chain_in part parts k ≡ []
-chain_in_empty parts h part k = ap begins (in_none (slice_get parts (part k)) k (λ p e. h (part k) p k e))
 
 -- ---- parts of which each is trimmed
 
@@ -144,6 +120,4 @@ trimmed_past floor o r e f = rw (e, f) tt
 -- ---- what the writes of a transaction find
 
 pub found_write : (F : List ℕ → Placeholder) (before now new : List Placeholder) (v : Placeholder) (keys : List (List ℕ)) (i : ℕ) (key : List ℕ) → i < length keys → get_or keys i key ≡ key → now ≡ before ++ map F (take i keys) → new ≡ now ++ v ∷ [] → v ≡ F key → new ≡ before ++ map F (take (i + 1) keys)
-found_write F before now new v keys i key inside at is n f =
-    let taken : take (i + 1) keys ≡ take i keys ++ key ∷ [] = take_more keys i key inside ∙ ap (λ k. take i keys ++ k ∷ []) at in
-    rw (taken, map-append F (take i keys) (key ∷ []), n, is, f, append_assoc) refl
+found_write F before now new v keys i key inside at is n f = rw (map_more F keys i key inside, at, n, is, f, append_assoc) refl

@@ -1,31 +1,25 @@
 -- The newest placeholder that the transactions ahead make of a key is the right source.
-use Rattle.std.proofs.Common.{◌≡◌, ℕ, zero, suc, ◌+◌, ◌<◌, ◌≤◌, ◌==◌, ◌||◌, Bool, true, false, List, [], ◌∷◌, ◌++◌, length, take, slice_get, Some, refl, sym, ap, ◌∙◌, subst, inl, inr, ◌⊎◌, ⊎_elim, arith, if◌then◌else◌, nat_lt, add-zero}
+use Rattle.std.proofs.Common.{◌≡◌, ℕ, suc, ◌+◌, ◌<◌, ◌≤◌, ◌==◌, ◌||◌, Bool, true, false, List, [], ◌∷◌, length, take, slice_get, Some, refl, sym, ap, ◌∙◌, subst, inl, inr, ◌⊎◌, ⊎_elim, arith, if◌then◌else◌, nat_lt, add-zero}
 use Rattle.std.specs.List.{AllByRecursion}
 use Rattle.std.specs.Str.{bytes_eq}
 use Rattle.std.proofs.lemmas.Bool.Decides.{nat_tests}
-use Rattle.std.proofs.lemmas.Bool.{cases_lt}
-use Rattle.std.proofs.lemmas.Option.{same_Some}
-use Rattle.std.proofs.lemmas.List.{length-take-le}
+use Rattle.std.proofs.lemmas.Bool.{cases_lt, false≢true}
+use Rattle.std.proofs.lemmas.Option.{same_Some, slice_get_within}
+use Rattle.std.proofs.lemmas.List.{length-take, length-take-le}
 use Rattle.bohm_tree.specs.declared.txn.Txn.{Txn}
 use Rattle.bohm_txn.specs.Faulty.{is_among}
+use Rattle.bohm_txn.proofs.Bodies.{same_key, among_at}
 use Rattle.bohm_place.specs.declared.placeholder.Placeholder.{Placeholder}
-use Rattle.bohm_place.specs.declared.access.Source.TheVariants.{Within}
+use Rattle.bohm_place.specs.declared.access.Source.TheVariants.{Before, Within}
 use Rattle.bohm_place.specs.Chains.{begins, none, last_or}
 use Rattle.bohm_place.specs.Shares.{within, written, made, AreDistinct, newest_ahead}
 use Rattle.bohm_place.specs.Writers.{HasTxn, writers}
 use Rattle.bohm_place.specs.Plans.{access_of, IsRightAccess}
-use Rattle.bohm_place.proofs.Keyed.{same_key, key_itself, last_or-append}
+use Rattle.bohm_place.proofs.Keyed.{last_or-append}
+use Rattle.bohm_place.proofs.Lists.{get_take}
 use Rattle.bohm_place.proofs.Rising.{begins-append}
 use Rattle.bohm_place.proofs.Placed.{Below}
-
-pub among_place : (ks : List (List ℕ)) (j : ℕ) (k : List ℕ) → slice_get ks j ≡ Some k → is_among ks k ≡ true
-among_place [] j k e = absurd cc
-among_place (x ∷ ks) zero k e = let same : x ≡ k = same_Some x k e in rw (same, key_itself k) refl
-among_place (x ∷ ks) (suc j) k e = or_more (bytes_eq x k) (is_among ks k) (among_place ks j k e)
-  where
-    or_more : (a b : Bool) → b ≡ true → (a || b) ≡ true
-    or_more true b e = refl
-    or_more false b e = e
+use Rattle.bohm_place.proofs.Found.{made_each}
 
 -- ---- the last of the writes of one transaction
 
@@ -80,10 +74,7 @@ skip all k p n x at absent h m y low high is has = ⊎_elim (λ lt. h m y low lt
     same m ge is high = let e : m ≡ n = omega arith in same_Some x y (sym at ∙ ap (λ (i : ℕ). slice_get all i) (sym e) ∙ is)
 
     clash : (y : Txn) → x ≡ y → is_among y.writes k ≡ true → ⊥
-    clash y e has = let h = subst (λ (z : Txn). is_among z.writes k ≡ true) (sym e) has in differ (sym absent ∙ h)
-      where
-        differ : false ≡ true → ⊥
-        differ e = cc
+    clash y e has = let h = subst (λ (z : Txn). is_among z.writes k ≡ true) (sym e) has in false≢true (sym absent ∙ h)
 
 step_by : (first : ℕ) (all : List Txn) (k : List ℕ) (n : ℕ) (x : Txn) (v r : Placeholder) → slice_get all n ≡ Some x → LastBelow first all k n v → LastWritten v (first + n) 0 x.writes k r → LastBelow first all k (n + 1) r
 step_by first all k n x v r at (inl (is, empty)) (inl (same, absent)) = inl (same ∙ is, skip all k 0 n x at absent empty)
@@ -120,10 +111,7 @@ last_made first all (t ∷ ts) k n v same before =
     rw (parts, ← long, ← begin) more
 
 in_take : {A : Type 0} (xs : List A) (t u : ℕ) (x : A) → slice_get (take t xs) u ≡ Some x → slice_get xs u ≡ Some x
-in_take xs zero u x e = absurd cc
-in_take [] (suc t) u x e = absurd cc
-in_take (y ∷ xs) (suc t) zero x e = e
-in_take (y ∷ xs) (suc t) (suc u) x e = in_take xs t u x e
+in_take xs t u x e = sym (get_take t u xs (omega (arith, slice_get_within (take t xs) u x e, length-take t xs))) ∙ e
 
 newest_made : (first : ℕ) (all : List Txn) (k : List ℕ) (i : ℕ) → i ≤ length all → LastBelow first all k i (last_or none (made first (take i all) k))
 newest_made first all k i inside =
@@ -147,7 +135,7 @@ right_by first all k i v above (inr l) =
     rw at (record {
       newest = record {
         below = omega (arith, l.begin, l.below);
-        holds = record { txn = l.txn; there = there; declared = among_place l.txn.writes v.index k l.declared };
+        holds = record { txn = l.txn; there = there; declared = among_at l.txn.writes v.index k l.declared };
         none_between = λ u low high w. l.none_after w.there.place w.txn (let t = w.there.timestamp in omega (arith, l.begin)) (let t = w.there.timestamp in omega arith) w.there.is_at w.declared;
       };
       write = record { txn = l.txn; there = there; declared = l.declared };
@@ -162,21 +150,8 @@ right_access first all k i above inside = right_by first all k i (last_or none (
 abbrev Above : ℕ → List Placeholder → Type 0
 Above first vs = AllByRecursion (λ v. first ≤ v.begin) vs
 
-above-append : (first : ℕ) (vs ws : List Placeholder) → Above first vs → Above first ws → Above first (vs ++ ws)
-above-append first [] ws h k = k
-above-append first (v ∷ vs) ws h k = (h.0, above-append first vs ws h.1 k)
-
-written_above : (first u index : ℕ) (ws : List (List ℕ)) (k : List ℕ) → first ≤ u → Above first (written u index ws k)
-written_above first u index [] k le = tt
-written_above first u index (w ∷ ws) k le = above-append first (if bytes_eq w k then record { begin = u; index = index } ∷ [] else []) (written u (index + 1) ws k) (one (bytes_eq w k)) (written_above first u (index + 1) ws k le)
-  where
-    one : (b : Bool) → Above first (if b then record { begin = u; index = index } ∷ [] else [])
-    one true = (le, tt)
-    one false = tt
-
-made_above : (first u : ℕ) (xs : List Txn) (k : List ℕ) → first ≤ u → Above first (made u xs k)
-made_above first u [] k le = tt
-made_above first u (x ∷ xs) k le = above-append first (written u 0 x.writes k) (made (u + 1) xs k) (written_above first u 0 x.writes k le) (made_above first (u + 1) xs k (omega arith))
+made_above : (first : ℕ) (xs : List Txn) (k : List ℕ) → Above first (made first xs k)
+made_above first xs k = made_each (λ b. first ≤ b) first xs k (λ t from to. from)
 
 last_below : (first : ℕ) (v : Placeholder) (vs : List Placeholder) → v.begin < first → Below first vs → (last_or v vs).begin < first
 last_below first v [] lt h = lt
@@ -192,7 +167,24 @@ within_by first v (w ∷ ws) lt h = let le = last_above first w ws h.0 h.1 in le
 
 pub newest_ahead-base : (first : ℕ) (base : List ℕ → List Placeholder) (ahead : List Txn) (k : List ℕ) → 0 < first → Below first (base k) → newest_ahead first base ahead k ≡ last_or none (made first ahead k)
 newest_ahead-base first base ahead k above low =
-    ap (within first) (last_or-append none (base k) (made first ahead k)) ∙ within_by first (last_or none (base k)) (made first ahead k) (last_below first none (base k) above low) (made_above first first ahead k (omega arith))
+    ap (within first) (last_or-append none (base k) (made first ahead k)) ∙ within_by first (last_or none (base k)) (made first ahead k) (last_below first none (base k) above low) (made_above first ahead k)
+
+-- ---- no placeholder
+
+begin_by : (v : Placeholder) (b : Bool) → (v.begin == 0) ≡ b → (access_of v).source ≡ Before → v.begin ≡ 0
+begin_by v true e before = grind (arith, nat_tests)
+begin_by v false e before = absurd (let h = rw e at before in cc)
+
+pub begin_before : (v : Placeholder) → (access_of v).source ≡ Before → v.begin ≡ 0
+begin_before v before = begin_by v (v.begin == 0) refl before
+
+index_by : (first : ℕ) (vs : List Placeholder) → 0 < first → Above first vs → (last_or none vs).begin ≡ 0 → (last_or none vs).index ≡ 0
+index_by first [] above h e = refl
+index_by first (v ∷ vs) above h e = absurd (omega (arith, last_above first v vs h.0 h.1, e))
+
+-- where the transactions ahead make no placeholder of the key, its access has the index 0
+pub index_before : (first : ℕ) (ahead : List Txn) (k : List ℕ) → 0 < first → (access_of (last_or none (made first ahead k))).source ≡ Before → (last_or none (made first ahead k)).index ≡ 0
+index_before first ahead k above before = index_by first (made first ahead k) above (made_above first ahead k) (begin_before (last_or none (made first ahead k)) before)
 
 -- ---- the begins that a batch adds to a chain
 

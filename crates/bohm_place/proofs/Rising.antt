@@ -1,13 +1,13 @@
 -- Rising begins, and the greatest of them below a timestamp.
 use Rattle.std.specs.Str.{bytes_eq}
-use Rattle.std.proofs.Common.{◌≡◌, ℕ, ◌+◌, ◌<◌, ◌≤◌, Bool, ◌&&◌, if◌then◌else◌, true, false, List, [], ◌∷◌, ◌++◌, length, filter, get_or, take, drop, refl, ap, ◌∙◌, arith, nat_lt, All}
+use Rattle.std.proofs.Common.{◌≡◌, ℕ, ◌+◌, ◌<◌, ◌≤◌, Bool, ◌&&◌, if◌then◌else◌, true, false, List, [], ◌∷◌, ◌++◌, length, filter, get_or, take, drop, refl, sym, ap, ◌∙◌, arith, nat_lt, All}
 use Rattle.std.specs.List.{AllByRecursion}
 use Rattle.std.proofs.lemmas.Bool.Decides.{nat_tests}
-use Rattle.std.proofs.lemmas.List.{map-append}
+use Rattle.std.proofs.lemmas.List.{append_assoc, drop_more, map-append, take-append-drop}
 use Rattle.std.proofs.lemmas.List.Elements.{All-head, All-tail}
 use Rattle.bohm_place.specs.declared.placeholder.Placeholder.{Placeholder}
 use Rattle.bohm_place.specs.Chains.{begins, RisesFrom, greatest, greatest_below}
-use Rattle.bohm_place.proofs.Keyed.{split_at}
+use Rattle.bohm_place.proofs.Lists.{each_append}
 
 pub begins-append : (vs ws : List Placeholder) → begins (vs ++ ws) ≡ begins vs ++ begins ws
 begins-append vs ws = map-append (λ v. v.begin) vs ws
@@ -19,10 +19,6 @@ RisesFrom-push n (x ∷ xs) t h below lt = (h.0, RisesFrom-push x xs t h.1 (All-
 -- the begins from ts on
 abbrev pub From : ℕ → List ℕ → Type 0
 From ts xs = AllByRecursion (λ b. ts ≤ b) xs
-
-pub From-append : (ts : ℕ) (xs ys : List ℕ) → From ts xs → From ts ys → From ts (xs ++ ys)
-From-append ts [] ys h k = k
-From-append ts (x ∷ xs) ys h k = (h.0, From-append ts xs ys h.1 k)
 
 none_below : (ts : ℕ) (xs : List ℕ) → From ts xs → filter (λ b. nat_lt b ts) xs ≡ []
 none_below ts [] h = refl
@@ -53,17 +49,13 @@ greatest_below-at ts vs w i d inside rises lt above last =
     let front = begins (take i vs) in
     let b = (get_or vs i d).begin in
     let back = begins (drop (i + 1) vs) in
-    let parts : begins vs ≡ front ++ (b ∷ back) = ap begins (split_at vs i d inside) ∙ begins-append (take i vs) (get_or vs i d ∷ drop (i + 1) vs) in
-    let whole : begins (vs ++ w ∷ []) ≡ front ++ (b ∷ (back ++ w.begin ∷ [])) = begins-append vs (w ∷ []) ∙ ap (λ xs. xs ++ w.begin ∷ []) parts ∙ assoc front (b ∷ back) (w.begin ∷ []) in
-    rw whole (greatest_below-found 0 ts front b (back ++ w.begin ∷ []) (rw whole at rises) lt (From-append ts back (w.begin ∷ []) above (last, tt)))
-  where
-    assoc : {A : Type 0} (xs ys zs : List A) → (xs ++ ys) ++ zs ≡ xs ++ (ys ++ zs)
-    assoc [] ys zs = refl
-    assoc (x ∷ xs) ys zs = ap (λ us. x ∷ us) (assoc xs ys zs)
+    let parts : begins vs ≡ front ++ (b ∷ back) = ap begins (sym (take-append-drop i vs) ∙ ap (λ us. take i vs ++ us) (drop_more vs i d inside)) ∙ begins-append (take i vs) (get_or vs i d ∷ drop (i + 1) vs) in
+    let whole : begins (vs ++ w ∷ []) ≡ front ++ (b ∷ (back ++ w.begin ∷ [])) = begins-append vs (w ∷ []) ∙ ap (λ xs. xs ++ w.begin ∷ []) parts ∙ append_assoc front (b ∷ back) (w.begin ∷ []) in
+    rw whole (greatest_below-found 0 ts front b (back ++ w.begin ∷ []) (rw whole at rises) lt (each_append (λ b. ts ≤ b) back (w.begin ∷ []) above (last, tt)))
 
 -- the same of a chain of which none is below ts
 pub greatest_below-past : (ts : ℕ) (vs : List Placeholder) (w : Placeholder) → From ts (begins vs) → ts ≤ w.begin → greatest_below ts (begins (vs ++ w ∷ [])) ≡ 0
-greatest_below-past ts vs w above last = rw (begins-append vs (w ∷ [])) (greatest_below-none ts (begins vs ++ w.begin ∷ []) (From-append ts (begins vs) (w.begin ∷ []) above (last, tt)))
+greatest_below-past ts vs w above last = rw (begins-append vs (w ∷ [])) (greatest_below-none ts (begins vs ++ w.begin ∷ []) (each_append (λ b. ts ≤ b) (begins vs) (w.begin ∷ []) above (last, tt)))
 
 -- the same of the newest one
 pub greatest_below-newest : (ts : ℕ) (vs : List Placeholder) (w : Placeholder) → RisesFrom 0 (begins (vs ++ w ∷ [])) → w.begin < ts → greatest_below ts (begins (vs ++ w ∷ [])) ≡ w.begin

@@ -63,6 +63,10 @@ pub record IsRightPlan (txns : List Txn) (p : Planned) : Type 0 where
 
 -- ---- places in a base
 
+-- no place is noted: the index of each access whose source is `Before` is 0
+abbrev pub HasNoPlaces : Planned → Type 0
+HasNoPlaces p = (set : DeclaredSet) (i j : ℕ) (a : Access) → slice_get (planned_in set p i) j ≡ Some a → a.source ≡ Before → a.index ≡ 0
+
 -- the second plan has the sources of the first
 pub record HasSourcesOf (p q : Planned) : Type 0 where
   pub first : q.first ≡ p.first

@@ -4,7 +4,7 @@ ghost use Rattle.std.specs.Prelude.{◌≡◌, ℕ, List, ◌+◌, ◌++◌, ◌
 ghost use denote.Param.Send.{IsSync};
 ghost use Rattle.bohm_place.specs.Chains.{chain_in};
 ghost use Rattle.bohm_place.specs.Writers.{writers};
-ghost use Rattle.bohm_place.specs.Plans.{IsRightPlan};
+ghost use Rattle.bohm_place.specs.Plans.{IsRightPlan, HasNoPlaces};
 ghost use Rattle.bohm_place.specs.Shares.{AreParts, AreWellFormed, IsShareOf, has_part};
 
 use crate::deal::{deal, gather};
@@ -46,7 +46,6 @@ fn plan_shares<P: Partition, R: Threads + Sync>(
     partition: &P,
     accesses: usize,
 ) -> Result<Vec<Result<Share, NoMemory>>, NoMemory>
-    requires law { AreParts (P.part_of partition.now) (P.count partition.now) }
     requires parts { All (λ j. length j.hand.items ≡ P.count partition.now) jobs.items }
     requires workers { All (λ j. 0 < j.worker.count) jobs.items }
     requires earlier { All (λ j. (k : List ℕ) → has_part (P.part_of partition.now) j.worker.count j.worker.number k ≡ true → All (λ b. b < first) (chain_in (P.part_of partition.now) j.hand.items k)) jobs.items }
@@ -60,7 +59,7 @@ fn plan_shares<P: Partition, R: Threads + Sync>(
         rt,
         jobs,
         &|job: Job| -> Result<Share, NoMemory>
-            requires { IsSync P.row × AreParts (P.part_of partition.now) (P.count partition.now) × (length job.hand.items ≡ P.count partition.now) × (0 < job.worker.count) × ((k : List ℕ) → has_part (P.part_of partition.now) job.worker.count job.worker.number k ≡ true → All (λ b. b < first) (chain_in (P.part_of partition.now) job.hand.items k)) × (0 < first) × (first + length txns.now ≤ 2 ^ 32) × AreWellFormed txns.now }
+            requires { IsSync P.row × (length job.hand.items ≡ P.count partition.now) × (0 < job.worker.count) × ((k : List ℕ) → has_part (P.part_of partition.now) job.worker.count job.worker.number k ≡ true → All (λ b. b < first) (chain_in (P.part_of partition.now) job.hand.items k)) × (0 < first) × (first + length txns.now ≤ 2 ^ 32) × AreWellFormed txns.now }
             ensures { IfOk result (λ s. IsShareOf (P.part_of partition.entry.now) job.worker.count job.worker.number first txns.entry.now job.hand.items s.found.items s.hand.items) }
         { plan_share(alloc, job, first, txns, partition, accesses) },
     )?;
@@ -69,9 +68,9 @@ fn plan_shares<P: Partition, R: Threads + Sync>(
 
 /// Plans a batch: finds for each access of its transactions, in log order, the newest writer of the key
 /// among the transactions of the batch before it, and adds each declared write to its key's chain. The
-/// plan is the same for every number of workers and every partition. Of `cc` workers the one with number
-/// i takes the parts whose number is i modulo `cc`; each goes through all transactions, in a thread of
-/// its own where there is more than one.
+/// index of an access without such a writer is 0, and so the plan is the same for every number of
+/// workers and every partition. Of `cc` workers the one with number i takes the parts whose number is i
+/// modulo `cc`; each goes through all transactions, in a thread of its own where there is more than one.
 ///
 /// A refusal gives the shards up. The time of one worker grows with the number of accesses, and with one
 /// look-up for each access of its own.
@@ -92,6 +91,7 @@ pub fn plan<P: Partition, R: Threads + Sync>(
     requires formed { AreWellFormed txns.now }
     ensures first { IfOk result (λ r. r.1.first ≡ first) }
     ensures right { IfOk result (λ r. IsRightPlan txns.now r.1) }
+    ensures unplaced { IfOk result (λ r. HasNoPlaces r.1) }
     ensures parts { IfOk result (λ r. length r.0 ≡ length shards) }
     ensures chains { IfOk result (λ r. (k : List ℕ) → chain_in (P.part_of partition.now) r.0 k ≡ chain_in (P.part_of partition.now) shards k ++ writers first txns.now k) }
     ensures below { IfOk result (λ r. (k : List ℕ) → All (λ b. b < first + length txns.now) (chain_in (P.part_of partition.now) r.0 k)) }

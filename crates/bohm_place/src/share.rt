@@ -3,7 +3,7 @@
 ghost use Rattle.std.specs.Prelude.{◌≡◌, ℕ, List, ◌+◌, ◌++◌, ◌%◌, ◌^◌, ◌<◌, ◌≤◌, ◌==◌, ◌&&◌, [], ◌∷◌, length, map, All, OnOk, IfOk, true, if◌then◌else◌};
 ghost use Rattle.std.specs.Str.{bytes_eq};
 ghost use Rattle.bohm_place.specs.Chains.{placeholders_in, chain_in, none, last_or};
-ghost use Rattle.bohm_place.specs.Shares.{AreWellFormed, AreDistinct, AreParts, has_part, within, written, made, found_by, newest_ahead, IsShareOf};
+ghost use Rattle.bohm_place.specs.Shares.{AreWellFormed, AreDistinct, has_part, within, written, made, found_by, newest_ahead, IsShareOf};
 
 use crate::partition::Partition;
 use crate::placeholder::Placeholder;
@@ -72,7 +72,6 @@ fn find_and_place<P: Partition>(
     next: Placeholder,
     worker: Worker,
 ) -> Result<Placeholder, NoMemory>
-    requires law { AreParts (P.part_of partition.now) (P.count partition.now) }
     requires parts { length hand.old ≡ P.count partition.now }
     requires workers { 0 < worker.count }
     requires timestamp { 0 < next.begin }
@@ -116,7 +115,6 @@ fn find_and_place_writes<P: Partition>(
     keys: &[Key],
     worker: Worker,
 ) -> Result<(), NoMemory>
-    requires law { AreParts (P.part_of partition.now) (P.count partition.now) }
     requires parts { length hand.old ≡ P.count partition.now }
     requires workers { 0 < worker.count }
     requires timestamp { 0 < ts }
@@ -146,7 +144,6 @@ fn find_all<P: Partition>(
     worker: Worker,
     accesses: usize,
 ) -> Result<Vec<Placeholder>, NoMemory>
-    requires law { AreParts (P.part_of partition.now) (P.count partition.now) }
     requires parts { length hand.old ≡ P.count partition.now }
     requires workers { 0 < worker.count }
     requires position { 0 < first }
@@ -180,7 +177,6 @@ pub fn plan_share<P: Partition>(
     partition: &P,
     accesses: usize,
 ) -> Result<Share, NoMemory>
-    requires law { AreParts (P.part_of partition.now) (P.count partition.now) }
     requires parts { length job.hand.items ≡ P.count partition.now }
     requires workers { 0 < job.worker.count }
     requires position { 0 < first }

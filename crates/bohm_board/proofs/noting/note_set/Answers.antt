@@ -2,10 +2,10 @@ use Rattle.std.proofs.Common.{◌≡◌, ℕ, List, ◌-◌, ◌<◌, length, sl
 use Rattle.std.specs.Option.{option_map}
 use Rattle.std.proofs.lemmas.List.{length-map}
 use Rattle.std.proofs.lemmas.Option.{slice_get_read, slice_get_within}
+use Rattle.bohm_txn.proofs.Bodies.{among_at}
 use Rattle.bohm_place.specs.declared.access.Access.{Access}
 use Rattle.bohm_place.specs.Plans.{keys_in, planned_in, IsNoted}
 use Rattle.bohm_place.proofs.Noted.{sources_long}
-use Rattle.bohm_place.proofs.Right.{among_place}
 use Rattle.bohm_board.specs.Bases.{keys_of, IsSetNoted}
 use Rattle.bohm_board.proofs.Searched.{Entry}
 use Rattle.bohm_board.proofs.PlacesOfKeys.{none_noted, next_passed, next_noted}
@@ -65,7 +65,7 @@ loop-index-preserved c =
           rw w.plan-is (next_noted p set i keys entries q w.note.new.self n w.in-Ok.place k noted now before key found)
       | in-Before+in-Err w ↦
           let missing = rw w.in-Err.is at w.search.ensures.missing in
-          let there = c.requires.there k (among_place keys n k key) in
+          let there = c.requires.there k (among_at keys n k key) in
           absurd (let h : true ≡ false = sym there ∙ missing in cc)
       | in-Within w ↦ rw w.plan-is (next_passed p set i keys entries q n w.in-Within.field-0 c.access.result noted at w.in-Within.is)
     ]

@@ -1,10 +1,11 @@
-use Rattle.std.proofs.Common.{◌≡◌, ℕ, ◌<◌, ◌+◌, List, [], if◌then◌else◌, length, take, drop, get_or, ◌∷◌, refl, sym, ap, ◌∙◌, arith, inl, inr, ⊎_elim, ◌⊎◌, true, false, drop-cons, add-one, length-set}
+use Rattle.std.proofs.Common.{◌≡◌, ℕ, ◌<◌, ◌+◌, List, [], if◌then◌else◌, length, take, drop, get_or, ◌∷◌, refl, sym, ◌∙◌, arith, inl, inr, ⊎_elim, ◌⊎◌, true, length-set}
 use Rattle.std.specs.Str.{bytes_eq}
-use Rattle.std.proofs.lemmas.List.{drop-set-lt, take_all, drop_all}
+use Rattle.std.proofs.lemmas.Bool.{false≢true, or_cases}
+use Rattle.std.proofs.lemmas.List.{drop-set-lt, drop_more, take_all, drop_all}
 use Rattle.bohm_txn.specs.Faulty.{is_among}
 use Rattle.bohm_txn.specs.Declares.{IsAmong}
+use Rattle.bohm_txn.proofs.Lists.{front}
 use Rattle.bohm_place.specs.Chains.{items_at, kept_items}
-use Rattle.bohm_place.proofs.Keyed.{among_head_cases}
 use Rattle.bohm_place.proofs.Listing.{among_more, kept_more, kept_all, listed_on, listed_now, long_before}
 use Rattle.bohm_place.proofs.places.shorten_all.Goals.{then-shorten, else-shorten}
 use Rattle.bohm_place.proofs.places.shorten_all.Goals as goal
@@ -21,15 +22,14 @@ loop-i-preserved c =
     let key = c.index.result.now in
     let inside : i < length xs = omega (arith, c.loop-i.long.ok.0) in
     let inside' : i < length all = omega arith in
-    let is : get_or xs i key ≡ key = sym c.index.ensures in
-    let here : drop i xs ≡ key ∷ drop (i + 1) xs = rw add-one (drop-cons xs i key inside) ∙ ap (λ k. k ∷ drop (i + 1) xs) is in
-    let there : drop i all ≡ get_or all i key ∷ drop (i + 1) all = rw add-one (drop-cons all i key inside') in
+    let here : drop i xs ≡ key ∷ drop (i + 1) xs = front xs i key inside c.index.ensures in
+    let there : drop i all ≡ get_or all i key ∷ drop (i + 1) all = drop_more all i key inside' in
     let both : key ∷ drop (i + 1) xs ≡ get_or all i key ∷ drop (i + 1) all = sym here ∙ c.loop-i.invariant.rest ∙ there in
     let same : get_or all i key ≡ key = cc in
     let rest : drop (i + 1) xs ≡ drop (i + 1) all = cc in
     let told = c.shorten.ensures.chains in
     let before : (k : List ℕ) → 1 < length (items_at c.shorten.new.chains k) → IsAmong (take n xs) k ⊎ ((bytes_eq key k ≡ true) ⊎ IsAmong (drop (i + 1) all) k)
-    = λ k long. ⊎_elim inl (λ h. let h' = rw (there, same) at h in inr (among_head_cases key (drop (i + 1) all) k h'))
+    = λ k long. ⊎_elim inl (λ h. let h' = rw (there, same) at h in inr (or_cases (bytes_eq key k) (is_among (drop (i + 1) all) k) h'))
     (c.loop-i.invariant.listed k (long_before c.args.floor (bytes_eq key k) (items_at c.loop-i.chains k) (items_at c.shorten.new.chains k) (told k) long)) in
     let chains : (k : List ℕ) → items_at c.shorten.new.chains k ≡ (if is_among (take (i + 1) all) k then kept_items c.args.floor (items_at c.args.chains.now k) else items_at c.args.chains.now k)
     = λ k. rw (among_more all i key k inside' same) (kept_more c.args.floor (is_among (take i all) k) (bytes_eq key k) (items_at c.args.chains.now k) (items_at c.loop-i.chains k) (items_at c.shorten.new.chains k) (c.loop-i.invariant.chains k) (told k)) in
@@ -60,7 +60,4 @@ pub returns-clause-listed : goal.returns-clause-listed
 returns-clause-listed c k long =
     let all = c.args.long.now.items in
     let past : drop c.loop-i.i all ≡ [] = drop_all c.loop-i.i all (omega (arith, c.args.long.now.ok.0)) in
-    rw c.truncate.ensures.items (⊎_elim (λ h. h) (λ h. absurd (none_there (rw past at h))) (c.loop-i.invariant.listed k long))
-  where
-    none_there : false ≡ true → ⊥
-    none_there e = cc
+    rw c.truncate.ensures.items (⊎_elim (λ h. h) (λ h. absurd (false≢true (rw past at h))) (c.loop-i.invariant.listed k long))

@@ -1,7 +1,7 @@
-use Rattle.std.proofs.Common.{◌≡◌, ◌<◌, ◌+◌, ◌∷◌, length, drop, subst, sym, ap, ◌∙◌, arith, append_assoc, drop-cons, add-one}
+use Rattle.std.proofs.Common.{◌≡◌, ◌<◌, ◌+◌, ◌∷◌, length, drop, subst, sym, arith, append_assoc}
 use Rattle.bohm_txn.specs.Faulty.{IsWellFormedTxn}
+use Rattle.bohm_txn.proofs.Lists.{front}
 use Rattle.bohm_txn.proofs.UseLaws.{usable}
-use Rattle.bohm_tree.specs.declared.txn.Txn.{Txn}
 use Rattle.bohm_place.proofs.row.rows.Goals as goal
 
 pub overflow_cast-reads : goal.overflow_cast-reads
@@ -23,7 +23,7 @@ loop-txn-preserved c =
     let txn = c.txn-item.result in
     let use_of = usable txn (subst IsWellFormedTxn (sym c.txn-item.is) (c.requires.formed i txn (omega arith))) in
     let inside : i < length txns = omega arith in
-    let at : drop i txns ≡ txn ∷ drop (i + 1) txns = rw add-one (drop-cons txns i txn inside) ∙ ap (λ (x : Txn). x ∷ drop (i + 1) txns) (sym c.txn-item.is) in
+    let at : drop i txns ≡ txn ∷ drop (i + 1) txns = front txns i txn inside c.txn-item.is in
     let whole = rw at at c.loop-txn.invariant.1 in
     let start = c.loop-txn.start in
     let sum : (start + length txn.reads) + length txn.writes ≡ start + (length txn.reads + length txn.writes) = omega arith in

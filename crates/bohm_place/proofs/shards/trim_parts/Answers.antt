@@ -1,7 +1,7 @@
 use Rattle.std.proofs.Common.{◌≡◌, ◌<◌, length, slice_get, set, Some, arith, ap, sym, ◌∙◌, ⊎_elim}
 use Rattle.std.proofs.lemmas.Option.{slice_get-get_or, slice_get_past}
-use Rattle.std.proofs.lemmas.Bool.{cases_lt}
-use Rattle.bohm_place.proofs.Lists.{same_or, set_same, set_other, set_beyond}
+use Rattle.std.proofs.lemmas.Bool.{cases_eq, cases_lt}
+use Rattle.bohm_place.proofs.Lists.{set_same, set_other}
 use Rattle.bohm_place.proofs.Placed.{AreKept-parts, trimmed_here, trimmed_past}
 use Rattle.bohm_place.proofs.shards.trim_parts.Goals as goal
 
@@ -17,9 +17,9 @@ loop-i-preserved c =
     let was : slice_get all i ≡ Some old = sym (c.loop-i.invariant.1 i (omega arith)) ∙ at in (
       λ j low. ⊎_elim
           (λ e. rw e (trimmed_here c.args.floor (slice_get all i) (slice_get (set parts i new) i) old new was (set_same parts i new inside) (λ k. (let told = c.trim.ensures k in rw (← c.index-parts-i.is) at told))))
-          (λ apart. rw (set_other parts i j new (omega arith) apart) (c.loop-i.invariant.0 j (omega arith)))
-          (same_or j i),
-      λ j high. set_beyond parts i j new (omega arith) ∙ c.loop-i.invariant.1 j (omega arith),
+          (λ apart. rw (set_other parts i j new apart) (c.loop-i.invariant.0 j (omega arith)))
+          (cases_eq j i),
+      λ j high. set_other parts i j new (omega arith) ∙ c.loop-i.invariant.1 j (omega arith),
     )
 
 pub returns : goal.returns

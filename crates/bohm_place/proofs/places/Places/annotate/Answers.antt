@@ -1,9 +1,10 @@
 use Rattle.std.proofs.Common.{sym, ap, ◌∙◌, is_ok, subst, All, ◌<◌, List, ℕ}
 use Rattle.std.specs.Str.{bytes_eq}
+use Rattle.std.proofs.lemmas.Result.{IfOk-weaker}
+use Rattle.bohm_txn.proofs.Bodies.{same_key}
 use Rattle.bohm_place.specs.Chains.{items_at, begins, last_or, none}
-use Rattle.bohm_place.proofs.Keyed.{lookup_table, same_key}
+use Rattle.bohm_place.proofs.Keyed.{lookup_table}
 use Rattle.bohm_place.proofs.Rising.{rises_appended}
-use Rattle.bohm_place.proofs.Listing.{mapped}
 use Rattle.bohm_place.proofs.places.Places.annotate.Goals as goal
 
 pub invariant_of-self : goal.invariant_of-self
@@ -18,7 +19,7 @@ invariant_of-self c =
     }
 
 pub returns-clause-newest : goal.returns-clause-newest
-returns-clause-newest c = rw (← c.self.view_is) (mapped _ _ (λ v e. e ∙ ap (last_or none) (sym (lookup_table (bytes_eq c.args.key) c.self.inside.chains.entries))) c.append.result c.append.ensures.newest)
+returns-clause-newest c = rw (← c.self.view_is) (IfOk-weaker c.append.result _ _ (λ v e. e ∙ ap (last_or none) (sym (lookup_table (bytes_eq c.args.key) c.self.inside.chains.entries))) c.append.ensures.newest)
 
 pub returns-clause-chains : goal.returns-clause-chains
 returns-clause-chains c k = rw (← c.self.view_is, lookup_table (bytes_eq k) c.append.new.chains.entries, lookup_table (bytes_eq k) c.self.inside.chains.entries) (c.append.ensures.chains k)
