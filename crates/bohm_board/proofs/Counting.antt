@@ -4,6 +4,7 @@ use Rattle.std.specs.Prelude.{Ok, Option, unwrap_or, Contains, ◌⊎◌, All}
 use Rattle.std.specs.List.{slice_get, list_any}
 use Rattle.std.specs.Option.{option_map}
 use Rattle.std.specs.Str.{bytes_eq}
+use Rattle.std.proofs.lemmas.Bool.{false≢true}
 use Rattle.std.proofs.lemmas.Bool.Decides.{nat_tests}
 use Rattle.std.proofs.lemmas.List.Elements.{All-head, All-tail, All-weaker, Contains-append_left, Contains-append_right}
 use Rattle.std.proofs.lemmas.Option.{same_Some, slice_get_within, slice_get-get_or, get_or_from_slice_get}
@@ -33,33 +34,30 @@ AreCounters ts = All (λ t. t ≡ counter) ts
 
 -- ---- such a transaction is well formed
 
-not_false : ¬ (false ≡ true)
-not_false e = cc
-
 counter_formed : (n s : ℕ) (kind : CheckKind) → ¬ (faulty (alone counter) n s kind ≡ true)
-counter_formed zero zero Order = not_false
-counter_formed zero zero Unread = not_false
-counter_formed zero zero Unwritten = not_false
-counter_formed zero zero Local = not_false
-counter_formed zero zero Limit = not_false
-counter_formed zero (suc s) kind = not_false
-counter_formed (suc zero) zero Order = not_false
-counter_formed (suc zero) zero Unread = not_false
-counter_formed (suc zero) zero Unwritten = not_false
-counter_formed (suc zero) zero Local = not_false
-counter_formed (suc zero) zero Limit = not_false
-counter_formed (suc zero) (suc zero) Order = not_false
-counter_formed (suc zero) (suc zero) Unread = not_false
-counter_formed (suc zero) (suc zero) Unwritten = not_false
-counter_formed (suc zero) (suc zero) Local = not_false
-counter_formed (suc zero) (suc zero) Limit = not_false
-counter_formed (suc zero) (suc (suc zero)) Order = not_false
-counter_formed (suc zero) (suc (suc zero)) Unread = not_false
-counter_formed (suc zero) (suc (suc zero)) Unwritten = not_false
-counter_formed (suc zero) (suc (suc zero)) Local = not_false
-counter_formed (suc zero) (suc (suc zero)) Limit = not_false
-counter_formed (suc zero) (suc (suc (suc s))) kind = not_false
-counter_formed (suc (suc n)) s kind = not_false
+counter_formed zero zero Order = false≢true
+counter_formed zero zero Unread = false≢true
+counter_formed zero zero Unwritten = false≢true
+counter_formed zero zero Local = false≢true
+counter_formed zero zero Limit = false≢true
+counter_formed zero (suc s) kind = false≢true
+counter_formed (suc zero) zero Order = false≢true
+counter_formed (suc zero) zero Unread = false≢true
+counter_formed (suc zero) zero Unwritten = false≢true
+counter_formed (suc zero) zero Local = false≢true
+counter_formed (suc zero) zero Limit = false≢true
+counter_formed (suc zero) (suc zero) Order = false≢true
+counter_formed (suc zero) (suc zero) Unread = false≢true
+counter_formed (suc zero) (suc zero) Unwritten = false≢true
+counter_formed (suc zero) (suc zero) Local = false≢true
+counter_formed (suc zero) (suc zero) Limit = false≢true
+counter_formed (suc zero) (suc (suc zero)) Order = false≢true
+counter_formed (suc zero) (suc (suc zero)) Unread = false≢true
+counter_formed (suc zero) (suc (suc zero)) Unwritten = false≢true
+counter_formed (suc zero) (suc (suc zero)) Local = false≢true
+counter_formed (suc zero) (suc (suc zero)) Limit = false≢true
+counter_formed (suc zero) (suc (suc (suc s))) kind = false≢true
+counter_formed (suc (suc n)) s kind = false≢true
 
 pub counters_formed : (ts : List Txn) → AreCounters ts → All IsWellFormedTxn ts
 counters_formed ts all = All-weaker (λ t. t ≡ counter) IsWellFormedTxn (λ t e. subst IsWellFormedTxn (sym e) counter_formed) ts all

@@ -2,6 +2,7 @@
 use Rattle.std.proofs.Common.{◌≡◌, ℕ, zero, suc, List, [], ◌∷◌, true, false, length, Some, refl, sym, ap, ◌∙◌, subst, ⊎_elim, arith}
 use Rattle.std.specs.Prelude.{Contains, All}
 use Rattle.std.specs.List.{list_any}
+use Rattle.std.proofs.lemmas.Bool.{false≢true}
 use Rattle.std.proofs.lemmas.List.Elements.{All-head, All-tail, All-weaker}
 use Rattle.std.proofs.lemmas.Option.{slice_get_within, get_or_from_slice_get}
 use Rattle.bohm_tree.specs.declared.txn.Edition.{Edition}
@@ -27,23 +28,20 @@ blank e = record { edition = e; reads = []; writes = []; body = [] }
 as_blank : (t : Txn) → IsIdle t → t ≡ blank t.edition
 as_blank t i = λ d. record { edition = t.edition; reads = i.reads d; writes = i.writes d; body = i.body d }
 
-not_false : ¬ (false ≡ true)
-not_false e = cc
-
 blank_formed : (e : Edition) (n s : ℕ) (kind : CheckKind) → ¬ (faulty (alone (blank e)) n s kind ≡ true)
-blank_formed e zero zero Order = not_false
-blank_formed e zero zero Unread = not_false
-blank_formed e zero zero Unwritten = not_false
-blank_formed e zero zero Local = not_false
-blank_formed e zero zero Limit = not_false
-blank_formed e zero (suc s) kind = not_false
-blank_formed e (suc zero) zero Order = not_false
-blank_formed e (suc zero) zero Unread = not_false
-blank_formed e (suc zero) zero Unwritten = not_false
-blank_formed e (suc zero) zero Local = not_false
-blank_formed e (suc zero) zero Limit = not_false
-blank_formed e (suc zero) (suc s) kind = not_false
-blank_formed e (suc (suc n)) s kind = not_false
+blank_formed e zero zero Order = false≢true
+blank_formed e zero zero Unread = false≢true
+blank_formed e zero zero Unwritten = false≢true
+blank_formed e zero zero Local = false≢true
+blank_formed e zero zero Limit = false≢true
+blank_formed e zero (suc s) kind = false≢true
+blank_formed e (suc zero) zero Order = false≢true
+blank_formed e (suc zero) zero Unread = false≢true
+blank_formed e (suc zero) zero Unwritten = false≢true
+blank_formed e (suc zero) zero Local = false≢true
+blank_formed e (suc zero) zero Limit = false≢true
+blank_formed e (suc zero) (suc s) kind = false≢true
+blank_formed e (suc (suc n)) s kind = false≢true
 
 idle_formed : (t : Txn) → IsIdle t → IsWellFormedTxn t
 idle_formed t i = subst IsWellFormedTxn (sym (as_blank t i)) (blank_formed t.edition)

@@ -104,7 +104,7 @@ writes_before b i x cells at are = same_list (state (base_of b) (txns_of b) i) x
 
 -- ---- Body(t, Input(t)) is Body(t, S(t - 1))
 
-among_place : (ks : List (List ℕ)) (k : List ℕ) → IsAmong ks k → (j : ℕ) × (slice_get ks j ≡ Some k)
+pub among_place : (ks : List (List ℕ)) (k : List ℕ) → IsAmong ks k → (j : ℕ) × (slice_get ks j ≡ Some k)
 among_place [] k e = absurd cc
 among_place (x ∷ ks) k e =
     elim (bytes_eq x k) as (λ (b : Bool). bytes_eq x k ≡ b → (b || list_any (λ y. bytes_eq y k) ks) ≡ true → (j : ℕ) × (slice_get (x ∷ ks) j ≡ Some k)) [

@@ -9,8 +9,7 @@ use lib.Seq.{set-get_or}
 use prog.Atomic.{either}
 use Rattle.atomic_table.specs.Table.{State, Me, step, keeps, stepped, opening, Allows, Splits, Joins, Final, Seen}
 use Rattle.atomic_table.proofs.Lists.{exchanged, set_else}
-use Rattle.bohm_board.specs.declared.status.Status.{Status}
-use Rattle.bohm_board.specs.declared.status.Status.TheVariants.{Open, Busy, Done}
+use Rattle.bohm_board.specs.declared.status.Status.TheVariants.{Open, Done}
 use Rattle.bohm_board.specs.declared.view.RightSlot.{RightSlot}
 use Rattle.bohm_board.specs.declared.view.Rights.{Rights}
 use Rattle.bohm_board.specs.declared.view.View.{View}
@@ -19,6 +18,7 @@ use Rattle.bohm_board.specs.Law.{Words, in_line, IsSized, IsSound, IsUntouched, 
 use Rattle.bohm_board.specs.Views.{newcomer, spent, saw, claimed, finished, joined, Recalls}
 use Rattle.bohm_board.specs.Steps.{MeetsStatus, MeetsClaim, MeetsFinish}
 use Rattle.bohm_board.proofs.Line.{put_at, status_in, status_put, same_words}
+use Rattle.bohm_board.proofs.Holding.{saw_held}
 use Rattle.bohm_board.proofs.Keeps.{Grows, still, moved, relearnt, arrived, more, both}
 
 abbrev St : Type 0
@@ -51,11 +51,6 @@ knows_saw r w v t zero k e = k
 knows_saw r w v t (suc zero) k e = record { done = k.done; busy = more (λ y. get_or w.statuses y 0 ≢ 0) v.busy t k.busy (λ z. omega arith); absent = k.absent; present = k.present; held = k.held; stored = k.stored; filled = k.filled }
 knows_saw r w v t (suc (suc n)) k e = record { done = more (λ y. 2 ≤ get_or w.statuses y 0) v.done t k.done (omega arith); busy = k.busy; absent = k.absent; present = k.present; held = k.held; stored = k.stored; filled = k.filled }
 
-held_saw : (v : View) (t : ℕ) (status : Status) → (saw v t status).held ≡ v.held
-held_saw v t Open = refl
-held_saw v t Busy = refl
-held_saw v t Done = refl
-
 -- a load
 pub read : (r : Rights) (s : St) (rule : IsRuled r s) (i id : ℕ) (cs : List (ℕ × Unit {0})) (v v' : View) → get_elem? s.views id ≡ some v → IsTrueOf r rule.words v' → v'.held ≡ v.held
     → IsRuled r (stepped s i (get_or s.words i 0) id cs v' keeps)
@@ -73,7 +68,7 @@ sees r slots id me t inside s rule _ at _ =
     let long = rule.lawful.sized.statuses in
     let e : n ≡ get_or w.statuses t 0 = ap (λ (z : List ℕ). get_or z t 0) rule.line ∙ status_in w t (omega arith) in
     let v' : View = saw me.0 t (status_of n) in
-    (v', keeps, tt, read r s rule t id me.1 me.0 v' at (knows_saw r w me.0 t n k e) (held_saw me.0 t (status_of n)), (refl, refl, recalls r w me.0 t n k e))
+    (v', keeps, tt, read r s rule t id me.1 me.0 v' at (knows_saw r w me.0 t n k e) (saw_held me.0 t (status_of n)), (refl, refl, recalls r w me.0 t n k e))
 
 -- the status word of t becomes x
 module _ (r : Rights) (w : Words) (t x : ℕ) (sized : IsSized r w) (inside : t < length r.outcomes) where
@@ -147,7 +142,7 @@ claim_miss r s rule id me t n at e here ne =
     let w = rule.words in
     let k : IsTrueOf r w me.0 = rule.lawful.each id me.0 at in
     subst (λ (z : ℕ × View). IsRuled r (stepped s t z.0 id me.1 z.1 keeps)) (λ i. (sym here i, sym (claimed_saw me.0 t n ne) i))
-    (read r s rule t id me.1 me.0 (saw me.0 t (status_of n)) at (knows_saw r w me.0 t n k e) (held_saw me.0 t (status_of n)))
+    (read r s rule t id me.1 me.0 (saw me.0 t (status_of n)) at (knows_saw r w me.0 t n k e) (saw_held me.0 t (status_of n)))
 
 pub claims : (r : Rights) (slots id : ℕ) (me : M) (t : ℕ) → t < length r.outcomes → me.0.held ≡ None
     → Allows (IsRuled r) slots id me t (λ n. either (eqb n 0) 1 n) (MeetsClaim (step slots t 0 1 none) me)

@@ -1,12 +1,12 @@
 -- The places of declared keys among the entries of a base.
-use Rattle.std.proofs.Common.{◌≡◌, ℕ, zero, suc, ◌+◌, ◌*◌, ◌<◌, ◌≤◌, Bool, true, false, List, [], ◌∷◌, ◌++◌, length, slice_get, get_or, Some, refl, sym, ap, ◌∙◌, subst, inl, inr, ⊎_elim, arith, All, length-append}
-use Rattle.std.specs.Prelude.{◌||◌}
+use Rattle.std.proofs.Common.{◌≡◌, ℕ, suc, ◌+◌, ◌*◌, ◌<◌, ◌≤◌, true, false, List, [], ◌∷◌, ◌++◌, length, slice_get, get_or, Some, refl, sym, ap, ◌∙◌, subst, inl, inr, ⊎_elim, arith, All, length-append}
 use Rattle.std.specs.List.{list_any, AllByRecursion, IsDistinct}
 use Rattle.std.specs.Str.{bytes_eq}
 use Rattle.std.specs.Cmp.Lexicographic.{nat_list_eq_equiv}
-use Rattle.std.proofs.lemmas.Bool.{cases_lt, false_from_ne_true}
+use Rattle.std.proofs.lemmas.Bool.{cases_lt, false_from_ne_true, or_right}
 use Rattle.std.proofs.lemmas.List.{length-map}
 use Rattle.std.proofs.lemmas.List.Folds.{list_any-append}
+use Rattle.std.proofs.lemmas.Map.Keys.{any_passes_from_place}
 use Rattle.std.proofs.lemmas.Map.Made.{length-le_from_is_member}
 use Rattle.std.proofs.lemmas.Option.{same_Some, slice_get-get_or, slice_get_within}
 use Rattle.bohm_tree.specs.declared.cell.Cell.{Cell}
@@ -26,7 +26,7 @@ use Rattle.bohm_board.specs.Batches.{entries_of, txn_at, key_in, accesses_in, po
 use Rattle.bohm_board.proofs.Newest.{formed_at}
 use Rattle.bohm_board.proofs.Numbers.{txn_there}
 use Rattle.bohm_board.proofs.Wanted.{reads_paired, writes_paired}
-use Rattle.bohm_board.specs.Bases.{keys_of, declares, HasPlace, IsBase, IsSetNoted}
+use Rattle.bohm_board.specs.Bases.{keys_of, declared_in, declares, HasPlace, IsBase, IsSetNoted}
 
 abbrev pub Entries : Type 0
 Entries = List (List ℕ × Cell)
@@ -42,48 +42,34 @@ unfolding IsDistinct
 distinct_apart [] h = tt
 distinct_apart (k ∷ ks) h = (apart_each k ks h.0, distinct_apart ks h.1)
 
-member_among : (ks : List (List ℕ)) (k : List ℕ) → list_any (bytes_eq k) ks ≡ is_among ks k
+pub member_among : (ks : List (List ℕ)) (k : List ℕ) → list_any (bytes_eq k) ks ≡ is_among ks k
 member_among [] k = refl
 member_among (x ∷ ks) k = rw (nat_list_eq_equiv.symm k x, member_among ks k) refl
 
--- all declared keys of the transactions
-abbrev all_declared : List Txn → List (List ℕ)
-all_declared [] = []
-all_declared (t ∷ ts) = (t.reads ++ t.writes) ++ all_declared ts
+pub declared_any : (ts : List Txn) (k : List ℕ) → is_among (declared_in ts) k ≡ list_any (declares k) ts
+declared_any [] k = refl
+declared_any (t ∷ ts) k = rw (list_any-append (λ y. bytes_eq y k) (t.reads ++ t.writes) (declared_in ts), list_any-append (λ y. bytes_eq y k) t.reads t.writes, declared_any ts k) refl
 
-among_declared : (ts : List Txn) (k : List ℕ) → is_among (all_declared ts) k ≡ list_any (declares k) ts
-among_declared [] k = refl
-among_declared (t ∷ ts) k = rw (list_any-append (λ y. bytes_eq y k) (t.reads ++ t.writes) (all_declared ts), list_any-append (λ y. bytes_eq y k) t.reads t.writes, among_declared ts k) refl
-
-length-declared : (ts : List Txn) → All IsWellFormedTxn ts → length (all_declared ts) ≤ 32 * length ts
+length-declared : (ts : List Txn) → All IsWellFormedTxn ts → length (declared_in ts) ≤ 32 * length ts
 length-declared [] h = omega arith
 length-declared (t ∷ ts) h =
     let each = usable t (h 0 t (omega arith)) in
     let rest = length-declared ts (λ i d l. h (suc i) d (omega arith)) in
-    omega (arith, each.few_reads, each.few_writes, rest, length-append (t.reads ++ t.writes) (all_declared ts), length-append t.reads t.writes)
+    omega (arith, each.few_reads, each.few_writes, rest, length-append (t.reads ++ t.writes) (declared_in ts), length-append t.reads t.writes)
 
 pub few_entries : (ts : List Txn) (entries : Entries) → IsBase ts entries → All IsWellFormedTxn ts → length entries ≤ 32 * length ts
 few_entries ts entries base formed =
     let keys = keys_of entries in
-    let among : (k : List ℕ) → list_any (bytes_eq k) keys ≡ true → list_any (bytes_eq k) (all_declared ts) ≡ true = λ k has. member_among (all_declared ts) k ∙ among_declared ts k ∙ sym (base.keys k) ∙ sym (member_among keys k) ∙ has in
-    omega (arith, length-le_from_is_member nat_list_eq_equiv keys (all_declared ts) (distinct_apart keys (rising_apart keys base.rises)) among, length-declared ts formed, length-map entries (λ (e : List ℕ × Cell). e.0))
-
-or_right : (a b : Bool) → b ≡ true → (a || b) ≡ true
-or_right true b e = refl
-or_right false b e = e
+    let among : (k : List ℕ) → list_any (bytes_eq k) keys ≡ true → list_any (bytes_eq k) (declared_in ts) ≡ true = λ k has. member_among (declared_in ts) k ∙ declared_any ts k ∙ sym (base.keys k) ∙ sym (member_among keys k) ∙ has in
+    omega (arith, length-le_from_is_member nat_list_eq_equiv keys (declared_in ts) (distinct_apart keys (rising_apart keys base.rises)) among, length-declared ts formed, length-map entries (λ (e : List ℕ × Cell). e.0))
 
 -- the entries have each key of a declared set
-among_any : (f : Txn → Bool) (ts : List Txn) (i : ℕ) (x : Txn) → slice_get ts i ≡ Some x → f x ≡ true → list_any f ts ≡ true
-among_any f [] i x at has = absurd cc
-among_any f (t ∷ ts) zero x at has = let same : t ≡ x = same_Some t x at in rw (ap f same ∙ has) refl
-among_any f (t ∷ ts) (suc i) x at has = or_right (f t) (list_any f ts) (among_any f ts i x at has)
-
 declares_in : (set : DeclaredSet) (x : Txn) (k : List ℕ) → IsAmong (keys_in set x) k → declares k x ≡ true
 declares_in Reads x k among = rw among refl
 declares_in Writes x k among = or_right (is_among x.reads k) (is_among x.writes k) among
 
 pub keys_there : (ts : List Txn) (entries : Entries) (set : DeclaredSet) (i : ℕ) (x : Txn) → IsBase ts entries → slice_get ts i ≡ Some x → (k : List ℕ) → IsAmong (keys_in set x) k → IsAmong (keys_of entries) k
-keys_there ts entries set i x base at k among = base.keys k ∙ among_any (declares k) ts i x at (declares_in set x k among)
+keys_there ts entries set i x base at k among = base.keys k ∙ any_passes_from_place (declares k) ts i x at (declares_in set x k among)
 
 -- ---- one declared set
 

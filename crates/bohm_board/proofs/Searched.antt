@@ -1,23 +1,24 @@
 -- What a search along rising entries finds is the key's entry.
-use Rattle.std.proofs.Common.{◌≡◌, ℕ, zero, suc, ◌<◌, List, [], ◌∷◌, length, get_or, Bool, true, false, cond, Result, Ok, Err, Some, ⊎_elim, refl, sym, subst, ap, ◌∙◌, add-one, arith}
-use Rattle.std.specs.Prelude.{◌&&◌, ◌||◌}
+use Rattle.std.proofs.Common.{◌≡◌, ℕ, zero, suc, ◌<◌, List, [], ◌∷◌, length, get_or, true, false, cond, Result, Ok, Err, Some, ⊎_elim, refl, sym, subst, ap, ◌∙◌, add-one, arith}
 use Rattle.std.specs.Option.{option_map}
 use Rattle.std.specs.Result.{IfOk, OnErr}
 use Rattle.std.specs.List.{slice_get}
 use Rattle.std.specs.declared.cmp.Ordering.{Ordering}
 use Rattle.std.specs.declared.cmp.Ordering.TheVariants.{Less, Equal, Greater}
-use Rattle.std.specs.Ordering.{nat_cmp, is_lt, ordering_reverse, eq_by_cmp}
+use Rattle.std.specs.Ordering.{nat_cmp, is_lt, ordering_reverse}
 use Rattle.std.specs.Str.{bytes_eq}
-use Rattle.std.specs.Cmp.Lexicographic.{slice_cmp, nat_list_cmp_total, texts_ties}
+use Rattle.std.specs.Cmp.Lexicographic.{slice_cmp, nat_list_cmp_total}
 use Rattle.std.specs.List.Sorted.{IsBinarySearchResult, IsSearchInRange, IsSortedBy}
 use Rattle.std.proofs.lemmas.List.Sorted.{searchable_from_sorted}
-use Rattle.std.proofs.lemmas.Bool.{cases_lt}
+use Rattle.std.proofs.lemmas.Bool.{and_parts, cases_lt, or_parts}
 use Rattle.std.proofs.lemmas.Option.{same_Some, slice_get-map, slice_get-get_or}
 use Rattle.std.proofs.lemmas.Slice.Eq.{bytes_eq-Decides}
 use Rattle.bohm_tree.specs.declared.cell.Cell.{Cell}
 use Rattle.bohm_tree.specs.declared.cell.Cell.TheVariants.{Absent}
 use Rattle.bohm_txn.specs.Faulty.{is_among, rising, rises_from}
 use Rattle.bohm_txn.specs.Meaning.{newest}
+use Rattle.bohm_txn.proofs.Apart.{less}
+use Rattle.bohm_txn.proofs.Lookups.{no_fall, same_at}
 use Rattle.bohm_board.specs.Bases.{keys_of}
 
 abbrev pub Entry : Type 0
@@ -30,27 +31,6 @@ key_cmp = slice_cmp nat_cmp
 abbrev pub against : List ℕ → Entry → Ordering
 against k e = key_cmp e.0 k
 
-left_of : (a b : Bool) → (a && b) ≡ true → a ≡ true
-left_of true b e = refl
-left_of false b e = cc
-
-right_of : (a b : Bool) → (a && b) ≡ true → b ≡ true
-right_of true b e = e
-right_of false b e = cc
-
-is_less : (o : Ordering) → is_lt o ≡ true → o ≡ Less
-is_less Less e = refl
-is_less Equal e = cc
-is_less Greater e = cc
-
-turned : (o : Ordering) → is_lt o ≡ true → is_lt (ordering_reverse o) ≡ false
-turned Less e = refl
-turned Equal e = refl
-turned Greater e = cc
-
-same_at : (a b : List ℕ) (o : Ordering) → key_cmp a b ≡ o → bytes_eq a b ≡ eq_by_cmp (λ x y. o) a b
-same_at a b o e = subst (λ r. bytes_eq a b ≡ eq_by_cmp (λ x y. r) a b) e (texts_ties a b)
-
 above_differs : (k x : List ℕ) → key_cmp k x ≡ Less → bytes_eq x k ≡ false
 above_differs k x e = same_at x k Greater (nat_list_cmp_total.antisymm x k ∙ ap ordering_reverse e)
 
@@ -58,19 +38,21 @@ above_differs k x e = same_at x k Greater (nat_list_cmp_total.antisymm x k ∙ a
 none_behind : (es : List Entry) (k x : List ℕ) (before : Cell) → key_cmp k x ≡ Less → rises_from x (keys_of es) ≡ true → newest es k before ≡ before
 none_behind [] k x before low up = refl
 none_behind (e ∷ es) k x before low up =
-    let next : key_cmp k e.0 ≡ Less = nat_list_cmp_total.trans k x e.0 low (is_less (key_cmp x e.0) (left_of (is_lt (key_cmp x e.0)) (rises_from e.0 (keys_of es)) up)) in
-    rw (above_differs k e.0 next) (none_behind es k e.0 before next (right_of (is_lt (key_cmp x e.0)) (rises_from e.0 (keys_of es)) up))
+    let (first, rest) = and_parts (is_lt (key_cmp x e.0)) (rises_from e.0 (keys_of es)) up in
+    let next : key_cmp k e.0 ≡ Less = nat_list_cmp_total.trans k x e.0 low (less (key_cmp x e.0) first) in
+    rw (above_differs k e.0 next) (none_behind es k e.0 before next rest)
 
 -- nor one behind the entry of the key itself
 one_alone : (es : List Entry) (k : List ℕ) (before : Cell) → rises_from k (keys_of es) ≡ true → newest es k before ≡ before
 one_alone [] k before up = refl
 one_alone (e ∷ es) k before up =
-    let next : key_cmp k e.0 ≡ Less = is_less (key_cmp k e.0) (left_of (is_lt (key_cmp k e.0)) (rises_from e.0 (keys_of es)) up) in
-    rw (above_differs k e.0 next) (none_behind es k e.0 before next (right_of (is_lt (key_cmp k e.0)) (rises_from e.0 (keys_of es)) up))
+    let (first, rest) = and_parts (is_lt (key_cmp k e.0)) (rises_from e.0 (keys_of es)) up in
+    let next : key_cmp k e.0 ≡ Less = less (key_cmp k e.0) first in
+    rw (above_differs k e.0 next) (none_behind es k e.0 before next rest)
 
 rises_on : (x : List ℕ) (ks : List (List ℕ)) → rises_from x ks ≡ true → rising ks ≡ true
 rises_on x [] up = refl
-rises_on x (k ∷ ks) up = right_of (is_lt (key_cmp x k)) (rises_from k ks) up
+rises_on x (k ∷ ks) up = (and_parts (is_lt (key_cmp x k)) (rises_from k ks) up).1
 
 equal_at : (a b : List ℕ) → key_cmp a b ≡ Equal → bytes_eq a b ≡ true
 equal_at a b e = same_at a b Equal e
@@ -88,11 +70,8 @@ at_equal (e ∷ es) (suc i) k before x up at same is = at_equal es i k (cond (by
 
 steps : (e : Entry) (es : List Entry) → rises_from e.0 (keys_of es) ≡ true → (j : ℕ) (d : Entry) → suc j < length (e ∷ es) → is_lt (key_cmp (get_or (e ∷ es) j d).0 (get_or (e ∷ es) (suc j) d).0) ≡ true
 steps e [] up j d l = absurd (omega arith)
-steps e (n ∷ ns) up zero d l = left_of (is_lt (key_cmp e.0 n.0)) (rises_from n.0 (keys_of ns)) up
-steps e (n ∷ ns) up (suc j) d l = steps n ns (right_of (is_lt (key_cmp e.0 n.0)) (rises_from n.0 (keys_of ns)) up) j d (omega arith)
-
-no_fall : (a b : List ℕ) → is_lt (key_cmp a b) ≡ true → is_lt (key_cmp b a) ≡ false
-no_fall a b e = subst (λ o. is_lt o ≡ false) (sym (nat_list_cmp_total.antisymm b a)) (turned (key_cmp a b) e)
+steps e (n ∷ ns) up zero d l = (and_parts (is_lt (key_cmp e.0 n.0)) (rises_from n.0 (keys_of ns)) up).0
+steps e (n ∷ ns) up (suc j) d l = steps n ns ((and_parts (is_lt (key_cmp e.0 n.0)) (rises_from n.0 (keys_of ns)) up).1) j d (omega arith)
 
 sorted : (es : List Entry) → rising (keys_of es) ≡ true → IsSortedBy (λ a b. is_lt (key_cmp a.0 b.0)) es
 sorted [] up = λ k d a l. absurd (omega arith)
@@ -127,12 +106,6 @@ newest_there es i k before x up at key =
 
 pub newest_missing : (es : List Entry) (k : List ℕ) (before : Cell) → is_among (keys_of es) k ≡ false → newest es k before ≡ before
 newest_missing [] k before h = refl
-newest_missing (e ∷ es) k before h = rw (left_false (bytes_eq e.0 k) (is_among (keys_of es) k) h) (newest_missing es k before (right_false (bytes_eq e.0 k) (is_among (keys_of es) k) h))
-  where
-    left_false : (a b : Bool) → (a || b) ≡ false → a ≡ false
-    left_false true b e = cc
-    left_false false b e = refl
-
-    right_false : (a b : Bool) → (a || b) ≡ false → b ≡ false
-    right_false true b e = cc
-    right_false false b e = e
+newest_missing (e ∷ es) k before h =
+    let (first, rest) = or_parts (bytes_eq e.0 k) (is_among (keys_of es) k) h in
+    rw first (newest_missing es k before rest)

@@ -1,5 +1,5 @@
 -- What the keys of a batch hold before it.
-use Rattle.std.specs.Prelude.{◌≡◌, ℕ, ◌<◌, ◌⊎◌, List, map, Bool, true, ◌||◌, Some, slice_get}
+use Rattle.std.specs.Prelude.{◌≡◌, ℕ, ◌<◌, ◌⊎◌, List, [], ◌∷◌, ◌++◌, map, Bool, true, ◌||◌, Some, slice_get}
 use Rattle.std.specs.List.{list_any}
 use Rattle.bohm_tree.specs.declared.cell.Cell.{Cell}
 use Rattle.bohm_tree.specs.declared.txn.Txn.{Txn}
@@ -14,6 +14,11 @@ keys_of entries = map (λ e. e.0) entries
 
 abbrev pub declares : List ℕ → Txn → Bool
 declares k t = is_among t.reads k || is_among t.writes k
+
+-- the keys that transactions declare, the reads of each before its writes
+abbrev pub declared_in : List Txn → List (List ℕ)
+declared_in [] = []
+declared_in (t ∷ ts) = (t.reads ++ t.writes) ++ declared_in ts
 
 -- the keys rise, and a key has an entry exactly where a transaction declares it
 pub record IsBase (txns : List Txn) (entries : List (List ℕ × Cell)) : Type 0 where

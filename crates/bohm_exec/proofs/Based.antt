@@ -15,7 +15,7 @@ use Rattle.bohm_board.specs.Inputs.{IsCellFrom, IsCellOf}
 use Rattle.bohm_board.specs.Serial.{show_cells}
 use Rattle.bohm_exec.specs.Handed.{AreFound}
 use Rattle.bohm_exec.specs.Moments.{shown}
-use Rattle.bohm_exec.proofs.Seen.{get_set_same, get_set_other}
+use Rattle.bohm_exec.proofs.Seen.{get_set_same, get_set_other, not_both}
 use Rattle.bohm_exec.proofs.Serials.{show_at}
 
 abbrev pub CellsBelow : Batch → List (List ℕ) → List Access → List Cell → ℕ → Type 0
@@ -48,9 +48,6 @@ found_stays b accesses cells n a c found at is = λ j x u d at_j source cell. di
     (λ e. let same : a ≡ x = same_Some a x (sym at ∙ (ap (slice_get accesses) (sym e) ∙ at_j)) in
     absurd (not_both a.source u is (ap (λ (y : Access). y.source) same ∙ source)))
     (λ ne. found j x u d at_j source (sym (get_set_other cells n j c ne) ∙ cell))
-  where
-    not_both : (s : Source) (u : ℕ) → s ≡ Before → s ≡ Within u → ⊥
-    not_both s u is_before is_within = cc
 
 -- a cell that is there already
 pub within_there : (b : Batch) (keys : List (List ℕ)) (accesses : List Access) (cells : List Cell) (n : ℕ) (k : List ℕ) (a : Access) (u : ℕ) → AreFound b accesses cells → CellsBelow b keys accesses cells n → slice_get keys n ≡ Some k → slice_get accesses n ≡ Some a → a.source ≡ Within u

@@ -1,10 +1,10 @@
 -- Over its input a position whose wanted slots are filled ends as in the serial run.
 use Rattle.std.proofs.Common.{◌≡◌, ℕ, zero, suc, ◌+◌, List, [], ◌∷◌, ◌++◌, map, length, Bool, true, false, cond, Some, refl, ap, sym, ◌∙◌, subst, inl, inr, arith}
-use Rattle.std.specs.Prelude.{Option, Contains, unwrap_or, if◌then◌else◌, ◌||◌}
+use Rattle.std.specs.Prelude.{Option, Contains, unwrap_or, if◌then◌else◌}
 use Rattle.std.specs.Option.{option_map}
-use Rattle.std.specs.List.{slice_get, list_any}
+use Rattle.std.specs.List.{slice_get}
 use Rattle.std.specs.Str.{bytes_eq}
-use Rattle.std.proofs.lemmas.Option.{same_Some, slice_get_within, get_or_from_slice_get}
+use Rattle.std.proofs.lemmas.Option.{same_Some, slice_get_within}
 use Rattle.std.proofs.lemmas.List.{append-nil}
 use Rattle.std.proofs.lemmas.List.Elements.{Contains-append_left, Contains-append_right}
 use Rattle.bohm_tree.specs.declared.cell.Cell.{Cell}
@@ -26,21 +26,14 @@ use Rattle.bohm_board.specs.Serial.{own_cells, show_cells}
 use Rattle.bohm_board.specs.Batches.{txns_of, base_of, position, number, rights_of, right_cell, IsIn, IsSlot, txn_at, reads_at, writes_at, wanted_at, is_sure_at}
 use Rattle.bohm_board.specs.Inputs.{IsCellFrom, IsCellOf, EndsAlike}
 use Rattle.bohm_board.proofs.Newest.{formed_at}
-use Rattle.bohm_board.proofs.Inputs.{own_right, outcome_right, read_before, write_before}
+use Rattle.bohm_board.proofs.Inputs.{among_place, own_right, outcome_right, read_before, write_before}
 use Rattle.bohm_board.proofs.Numbers.{txn_there, slot_there}
 use Rattle.bohm_board.proofs.SerialSlots.{get_left, get_right, length-own_cells}
 use Rattle.bohm_board.proofs.Places.{in_either}
 use Rattle.bohm_board.proofs.Wanted.{reads_paired, writes_paired}
 use Rattle.bohm_exec.specs.Core.{State, IsFilled, HasWanted, cell_from, cell_at, entries, input, outcome_over, cell_over}
 use Rattle.bohm_exec.proofs.CoreSound.{IsSound, filled_right}
-
-among_place : (ks : List (List ℕ)) (k : List ℕ) → IsAmong ks k → (j : ℕ) × (slice_get ks j ≡ Some k)
-among_place [] k e = absurd cc
-among_place (x ∷ ks) k e =
-    elim (bytes_eq x k) as (λ (b : Bool). bytes_eq x k ≡ b → (b || list_any (λ y. bytes_eq y k) ks) ≡ true → (j : ℕ) × (slice_get (x ∷ ks) j ≡ Some k)) [
-      | true ↦ λ same _. (0, ap Some (same_key x k same))
-      | false ↦ λ _ later. let (j, at) = among_place ks k later in (suc j, at)
-    ] refl e
+use Rattle.bohm_exec.proofs.Seen.{contains_at}
 
 -- ---- what a fold of entries finds
 
@@ -102,9 +95,6 @@ source_right b s k index (Within u) sound filled = filled_right b s (record { tx
 -- the cell of a wanted access is right
 wanted_right : (b : Batch) (s : State) (t : ℕ) (k : List ℕ) (a : Access) → IsSound b s → HasWanted b s t → Contains (wanted_at b t) a → IsCellOf b k a (cell_at b s k a)
 wanted_right b s t k a sound filled in_it = source_right b s k a.index a.source sound (λ u e. filled a u in_it e)
-
-contains_at : {A : Type 0} (xs : List A) (j : ℕ) (x : A) → slice_get xs j ≡ Some x → Contains xs x
-contains_at xs j x e = (j, slice_get_within xs j x e, get_or_from_slice_get xs j x x e)
 
 unsure_wants : (b : Batch) (t : ℕ) → is_sure_at b t ≡ false → wanted_at b t ≡ reads_at b t ++ writes_at b t
 unsure_wants b t e = ap (λ (sure : Bool). reads_at b t ++ (if sure then [] else writes_at b t)) e

@@ -1,7 +1,7 @@
 -- Lists of events.
 use Rattle.std.proofs.Common.{◌≡◌, ◌≢◌, ℕ, ◌≤◌, List, [], ◌∷◌, Bool, true, false, cond, refl, ap, sym, ◌∙◌, subst, arith}
 use Rattle.std.specs.Prelude.{count_by}
-use Rattle.std.proofs.lemmas.Bool.{eqb-true}
+use Rattle.std.proofs.lemmas.Bool.{eqb-true, false_from_ne_true}
 use Rattle.std.proofs.lemmas.List.Sums.{sum_by-cons}
 use Rattle.bohm_txn.specs.declared.outcome.Outcome.{Outcome}
 use Rattle.bohm_board.specs.declared.status.Claimed.TheVariants as won
@@ -103,13 +103,9 @@ wins_closes s t (Finish p u o) h = absurd cc
 wins_closes s t (Split p q) h = absurd cc
 wins_closes s t (Join p q) h = absurd cc
 
-is_false : (v : Bool) → (v ≡ true → ⊥) → v ≡ false
-is_false true not = absurd (not refl)
-is_false false not = refl
-
 pub claimed_once : (b : Batch) (es : List Event) (t : ℕ) → IsRun b empty es → count_by (wins t) es ≤ 1
 claimed_once b es t run = one_passes b (wins t) (λ s. s.positions t ≢ Open)
-    (λ s e kept may closed. is_false (wins t e) (λ h. closed (wins_open b s t e may h)))
+    (λ s e kept may closed. false_from_ne_true (wins t e) (λ h. closed (wins_open b s t e may h)))
     (λ s e kept may h. wins_closes s t e h)
     (λ s e kept may closed. (grows b s e kept may).busy t closed)
     empty es (starts b) run
@@ -146,7 +142,7 @@ finishes_ends s t (Join p q) h = absurd cc
 
 pub finished_once : (b : Batch) (es : List Event) (t : ℕ) → IsRun b empty es → count_by (finishes t) es ≤ 1
 finished_once b es t run = one_passes b (finishes t) (IsDoneAt t)
-    (λ s e kept may done. is_false (finishes t e) (λ h. finishes_claimed b s t e kept may h done))
+    (λ s e kept may done. false_from_ne_true (finishes t e) (λ h. finishes_claimed b s t e kept may h done))
     (λ s e kept may h. finishes_ends s t e h)
     (λ s e kept may done. (done.0, (grows b s e kept may).done t done.0 done.1))
     empty es (starts b) run

@@ -30,8 +30,8 @@ get_set_other (y ∷ ys) zero (suc j) x ne = refl
 get_set_other (y ∷ ys) (suc i) zero x ne = refl
 get_set_other (y ∷ ys) (suc i) (suc j) x ne = get_set_other ys i j x (λ e. ne (ap suc e))
 
-pub among : {A : Type 0} (xs : List A) (j : ℕ) (x : A) → slice_get xs j ≡ Some x → Contains xs x
-among xs j x e = (j, slice_get_within xs j x e, get_or_from_slice_get xs j x x e)
+pub contains_at : {A : Type 0} (xs : List A) (j : ℕ) (x : A) → slice_get xs j ≡ Some x → Contains xs x
+contains_at xs j x e = (j, slice_get_within xs j x e, get_or_from_slice_get xs j x x e)
 
 pub place : {A : Type 0} (xs : List A) (x : A) → Contains xs x → (j : ℕ) × (slice_get xs j ≡ Some x)
 place xs x c = (c.0, slice_get-get_or xs c.0 x c.1 ∙ ap Some c.2)
@@ -57,7 +57,7 @@ found_next b accesses old new n a kept below at here = λ j x u c l at_j is cell
     subst (λ (y : Access). y.source ≡ Within u → IsRightCell b (slot_in u y) c) same (λ source. here u c source (ap (slice_get new) (sym e) ∙ cell)) is)
     (λ ne. below j x u c (omega arith) at_j is (sym (kept j ne) ∙ cell))
 
-not_both : (s : Source) (u : ℕ) → s ≡ Before → s ≡ Within u → ⊥
+pub not_both : (s : Source) (u : ℕ) → s ≡ Before → s ≡ Within u → ⊥
 not_both s u is_before is_within = cc
 
 same_within : (s : Source) (u w : ℕ) → s ≡ Within u → s ≡ Within w → u ≡ w

@@ -1,10 +1,11 @@
 -- What the tests of lists say that tests make of a batch and of what was set aside.
-use Rattle.std.proofs.Common.{◌≡◌, ℕ, zero, suc, List, [], ◌∷◌, Bool, true, false, Some, refl, sym, ap, ◌∙◌, subst, ⊎_elim}
+use Rattle.std.proofs.Common.{◌≡◌, ℕ, zero, suc, List, [], ◌∷◌, Bool, true, Some, refl, sym, ap, ◌∙◌, subst, ⊎_elim}
 use Rattle.std.specs.Prelude.{◌&&◌, ◌||◌, ◌==◌, Contains}
 use Rattle.std.specs.Option.{option_map}
 use Rattle.std.specs.List.{list_any, list_all, slice_get}
+use Rattle.std.specs.Cmp.{both_ways}
 use Rattle.std.specs.Str.{bytes_eq}
-use Rattle.std.proofs.lemmas.Bool.{eqb-true, and_parts, or_cases, or_left, or_right}
+use Rattle.std.proofs.lemmas.Bool.{eqb-true, and_parts, or_cases}
 use Rattle.std.proofs.lemmas.Option.{same_Some, slice_get-map}
 use Rattle.std.proofs.lemmas.Slice.Eq.{bytes_eq-Decides}
 use Rattle.bohm_tree.specs.declared.txn.Txn.{Txn}
@@ -12,12 +13,7 @@ use Rattle.bohm_txn.specs.Faulty.{is_among, rising}
 use Rattle.bohm_board.specs.Bases.{IsBase, keys_of, declares}
 use Rattle.bohm_exec.specs.Asides.{Pairs, IsSetAside, positions_in}
 use Rattle.bohm_exec.specs.Samples.{Entries, has_entry, have_entries, are_declared, has_base, is_base, has_position, is_set_aside}
-use Rattle.bohm_exec.proofs.Seen.{among}
-
-same_bool : (a b : Bool) → (a ≡ true → b ≡ true) → (b ≡ true → a ≡ true) → a ≡ b
-same_bool true b f g = sym (f refl)
-same_bool false true f g = g refl
-same_bool false false f g = refl
+use Rattle.bohm_exec.proofs.Seen.{contains_at}
 
 all_at : {A : Type 0} (p : A → Bool) (xs : List A) (j : ℕ) (x : A) → list_all p xs ≡ true → slice_get xs j ≡ Some x → p x ≡ true
 all_at p [] j x all e = absurd cc
@@ -36,11 +32,6 @@ any_at p (y ∷ xs) e = ⊎_elim
     (λ (h : p y ≡ true). (0, y, refl, h))
     (λ (h : list_any p xs ≡ true). later p y xs (any_at p xs h))
     (or_cases (p y) (list_any p xs) e)
-
-any_from : {A : Type 0} (p : A → Bool) (xs : List A) (j : ℕ) (x : A) → slice_get xs j ≡ Some x → p x ≡ true → list_any p xs ≡ true
-any_from p [] j x e h = absurd cc
-any_from p (y ∷ xs) zero x e h = or_left (p y) (list_any p xs) (ap p (same_Some y x e) ∙ h)
-any_from p (y ∷ xs) (suc j) x e h = or_right (p y) (list_any p xs) (any_from p xs j x e h)
 
 -- ---- a base
 
@@ -76,7 +67,7 @@ tested_base ts es sound =
     let second = and_parts (are_declared ts es) (has_base es ts) first.1 in
     record {
       rises = first.0;
-      keys = λ k. among_entries es k ∙ same_bool (has_entry es k) (list_any (declares k) ts) (entry_declared ts es k second.0) (declared_entered ts es k second.1);
+      keys = λ k. among_entries es k ∙ both_ways (has_entry es k) (list_any (declares k) ts) (entry_declared ts es k second.0) (declared_entered ts es k second.1);
     }
 
 -- ---- what was set aside
@@ -87,4 +78,4 @@ tested_aside asides t e =
     let pairs : Pairs = found.1 in
     let inside = any_at (λ p. p.0 == t) pairs found.3 in
     let at : slice_get (positions_in pairs) inside.0 ≡ Some inside.1.0 = slice_get-map (λ (p : ℕ × ℕ). p.0) pairs inside.0 ∙ ap (λ o. option_map (λ (p : ℕ × ℕ). p.0) o) inside.2 in
-    (pairs, among asides found.0 pairs found.2, subst (λ (u : ℕ). Contains (positions_in pairs) u) (eqb-true inside.1.0 t inside.3) (among (positions_in pairs) inside.0 inside.1.0 at))
+    (pairs, contains_at asides found.0 pairs found.2, subst (λ (u : ℕ). Contains (positions_in pairs) u) (eqb-true inside.1.0 t inside.3) (contains_at (positions_in pairs) inside.0 inside.1.0 at))

@@ -1,56 +1,34 @@
 -- The keys that transactions declare, and what they hold.
 use Rattle.std.proofs.Common.{◌≡◌, ℕ, zero, suc, Bool, true, false, ◌||◌, List, [], ◌∷◌, ◌++◌, map, refl, sym, ap, ◌∙◌, arith, if◌then◌else◌}
-use Rattle.std.specs.List.{list_any, dedup, Contains}
+use Rattle.std.specs.List.{dedup, Contains}
 use Rattle.std.specs.List.Sorted.{IsPermutation, IsSorted, IsStrictlySortedBy}
 use Rattle.std.specs.Str.{bytes_eq}
+use Rattle.std.specs.Cmp.{both_ways}
 use Rattle.std.specs.Ordering.{nat_cmp}
 use Rattle.std.specs.Cmp.Lexicographic.{slice_cmp, nat_list_cmp_total, nat_list_eq_equiv, texts_ties}
 use Rattle.std.proofs.lemmas.List.Kept.{IsStrictlySortedBy-dedup, Contains-dedup, Contains-from_dedup}
 use Rattle.std.proofs.lemmas.List.Sorted.{Contains-permutation, IsPermutation-sym}
-use Rattle.std.proofs.lemmas.List.Folds.{list_any-append}
-use Rattle.std.proofs.lemmas.Slice.Eq.{bytes_eq-Decides}
+use Rattle.std.proofs.lemmas.Map.Views.{Contains-from_any, list_any-from_Contains}
 use Rattle.bohm_tree.specs.declared.cell.Cell.{Cell}
-use Rattle.bohm_tree.specs.declared.txn.Txn.{Txn}
 use Rattle.bohm_txn.specs.Meaning.{newest}
 use Rattle.bohm_txn.specs.Faulty.{is_among, rising}
-use Rattle.bohm_board.specs.Bases.{declares, keys_of}
-use Rattle.bohm_store.specs.Chains.{declared_in}
+use Rattle.bohm_txn.proofs.Bodies.{same_key}
+use Rattle.bohm_board.specs.Bases.{keys_of}
+use Rattle.bohm_board.proofs.PlacesOfKeys.{member_among}
 
 -- ---- which keys
 
 among_contains : (ks : List (List ℕ)) (k : List ℕ) → is_among ks k ≡ true → Contains ks k
-among_contains [] k h = absurd cc
-among_contains (x ∷ ks) k h = by x ks k (bytes_eq x k) refl h (among_contains ks k)
-  where
-    by : (x : List ℕ) (ks : List (List ℕ)) (k : List ℕ) (b : Bool) → bytes_eq x k ≡ b → is_among (x ∷ ks) k ≡ true → (is_among ks k ≡ true → Contains ks k) → Contains (x ∷ ks) k
-    by x ks k true e h more = (0, omega arith, (bytes_eq-Decides x k).0 e)
-    by x ks k false e h more = let (i, lt, is) = more (rw e at h) in (suc i, omega arith, is)
+among_contains ks k h = Contains-from_any same_key k ks (member_among ks k ∙ h)
 
 contains_among : (ks : List (List ℕ)) (k : List ℕ) → Contains ks k → is_among ks k ≡ true
-contains_among [] k (i, lt, e) = absurd (omega arith)
-contains_among (x ∷ ks) k (zero, lt, e) = rw ((bytes_eq-Decides x k).1 e) refl
-contains_among (x ∷ ks) k (suc i, lt, e) = or_more (bytes_eq x k) (is_among ks k) (contains_among ks k (i, omega arith, e))
-  where
-    or_more : (a b : Bool) → b ≡ true → (a || b) ≡ true
-    or_more true b e = refl
-    or_more false b e = e
-
-same_tests : (a b : Bool) → (a ≡ true → b ≡ true) → (b ≡ true → a ≡ true) → a ≡ b
-same_tests true b f g = sym (f refl)
-same_tests false true f g = g refl
-same_tests false false f g = refl
+contains_among ks k h = sym (member_among ks k) ∙ list_any-from_Contains nat_list_eq_equiv k ks h
 
 -- sorting and leaving out what stands there twice keep the same keys
 pub sorted_among : (xs ys : List (List ℕ)) (k : List ℕ) → IsPermutation xs ys → is_among (dedup bytes_eq ys) k ≡ is_among xs k
-sorted_among xs ys k p = same_tests (is_among (dedup bytes_eq ys) k) (is_among xs k)
+sorted_among xs ys k p = both_ways (is_among (dedup bytes_eq ys) k) (is_among xs k)
     (λ h. contains_among xs k (Contains-permutation ys xs k (IsPermutation-sym xs ys p) (Contains-from_dedup bytes_eq ys k (among_contains (dedup bytes_eq ys) k h))))
-    (λ h. contains_among (dedup bytes_eq ys) k (Contains-dedup nat_list_eq_equiv (λ x y e. (bytes_eq-Decides x y).0 e) ys k (Contains-permutation xs ys k p (among_contains xs k h))))
-
-pub declared_any : (txns : List Txn) (k : List ℕ) → is_among (declared_in txns) k ≡ list_any (declares k) txns
-declared_any [] k = refl
-declared_any (t ∷ txns) k =
-    list_any-append (λ x. bytes_eq x k) (t.reads ++ t.writes) (declared_in txns)
-    ∙ rw (list_any-append (λ x. bytes_eq x k) t.reads t.writes, declared_any txns k) refl
+    (λ h. contains_among (dedup bytes_eq ys) k (Contains-dedup nat_list_eq_equiv same_key ys k (Contains-permutation xs ys k p (among_contains xs k h))))
 
 -- each is below the next
 rises : (ks : List (List ℕ)) → IsStrictlySortedBy (slice_cmp nat_cmp) ks → rising ks ≡ true
@@ -73,11 +51,11 @@ newest_kept f [] k before e = e
 newest_kept f (x ∷ ks) k before e = newest_kept f ks k (if bytes_eq x k then f x else before) (by (bytes_eq x k) refl)
   where
     by : (b : Bool) → bytes_eq x k ≡ b → (if b then f x else before) ≡ f k
-    by true is = ap f ((bytes_eq-Decides x k).0 is)
+    by true is = ap f (same_key x k is)
     by false is = e
 
 newest_by : (f : List ℕ → Cell) (x : List ℕ) (ks : List (List ℕ)) (k : List ℕ) (before : Cell) (b : Bool) → bytes_eq x k ≡ b → (b || is_among ks k) ≡ true → ((c : Cell) → is_among ks k ≡ true → newest (map (λ j. (j, f j)) ks) k c ≡ f k) → newest (map (λ j. (j, f j)) ks) k (if b then f x else before) ≡ f k
-newest_by f x ks k before true is h more = newest_kept f ks k (f x) (ap f ((bytes_eq-Decides x k).0 is))
+newest_by f x ks k before true is h more = newest_kept f ks k (f x) (ap f (same_key x k is))
 newest_by f x ks k before false is h more = more before h
 
 pub newest_paired : (f : List ℕ → Cell) (ks : List (List ℕ)) (k : List ℕ) (before : Cell) → is_among ks k ≡ true → newest (map (λ j. (j, f j)) ks) k before ≡ f k

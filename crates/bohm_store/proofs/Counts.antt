@@ -5,6 +5,7 @@ use Rattle.std.specs.Map.{lookup, keys_of, remove_entry}
 use Rattle.std.specs.Str.{bytes_eq}
 use Rattle.std.specs.Cmp.Lexicographic.{nat_list_eq_equiv}
 use Rattle.std.proofs.lemmas.Map.{lookup-remove_entry}
+use Rattle.bohm_txn.proofs.Bodies.{key_itself}
 use Rattle.bohm_store.specs.declared.version.Version.{Version}
 use Rattle.bohm_store.specs.Versions.{total, versions_in}
 use Rattle.bohm_store.proofs.Held.{none_from}
@@ -60,9 +61,6 @@ pub gone : (e : List ℕ × List Version) (es : Keyed) (k : List ℕ) → IsDist
 unfolding IsDistinct
 gone e es k d same = ap (λ (o : Option (List Version)). unwrap_or o []) (none_from e.0 k es same d.0)
 
-itself : (k : List ℕ) → bytes_eq k k ≡ true
-itself k = nat_list_eq_equiv.refl k
-
 rest_by : (e : List ℕ × List Version) (es fs : Keyed) (k : List ℕ) (b : Bool) → bytes_eq e.0 k ≡ b → IsDistinct bytes_eq (keys_of (e ∷ es)) → versions_in (e ∷ es) k ≡ versions_in fs k → versions_in es k ≡ (if bytes_eq e.0 k then [] else versions_in fs k)
 rest_by e es fs k true is d same = rw is (gone e es k d (nat_list_eq_equiv.symm k e.0 ∙ is))
 rest_by e es fs k false is d same =
@@ -73,7 +71,7 @@ rest_by e es fs k false is d same =
 total_none : (fs : Keyed) → IsDistinct bytes_eq (keys_of fs) → ((k : List ℕ) → [] ≡ versions_in fs k) → total fs ≡ 0
 total_none [] d none = refl
 total_none (f ∷ fs) d none =
-    let first : [] ≡ f.1 = rw (itself f.0) at (none f.0) in
+    let first : [] ≡ f.1 = rw (key_itself f.0) at (none f.0) in
     let rest : total fs ≡ 0 = total_none fs (rest_distinct f fs d) (λ k. rest_empty f fs k (bytes_eq k f.0) refl d (none k)) in
     let long : 0 ≡ length f.1 = ap (λ (vs : List Version). length vs) first in
     omega (arith, rest, long)
@@ -87,7 +85,7 @@ total_same [] fs d f same = sym (total_none fs f same)
 total_same (e ∷ es) fs d f same =
     let others = remove_entry (bytes_eq e.0) fs in
     let rest : total es ≡ total others = total_same es others (rest_distinct e es d) (distinct_removed e.0 fs f) (λ k. rest_by e es fs k (bytes_eq e.0 k) refl d (same k) ∙ sym (versions_removed e.0 k fs f)) in
-    let here : e.1 ≡ versions_in fs e.0 = rw (itself e.0) at (same e.0) in
+    let here : e.1 ≡ versions_in fs e.0 = rw (key_itself e.0) at (same e.0) in
     let whole = total_removed e.0 fs in
     let long : length e.1 ≡ length (versions_in fs e.0) = ap (λ (vs : List Version). length vs) here in
     omega (arith, rest, whole, long)

@@ -1,7 +1,7 @@
 -- What transactions that run one after another produce: versions that rise, and say what each key holds after each of them.
 use Rattle.std.proofs.Common.{◌≡◌, ℕ, suc, ◌+◌, ◌-◌, ◌<◌, ◌≤◌, Bool, true, false, ◌||◌, List, [], ◌∷◌, ◌++◌, length, All, refl, sym, ap, ◌∙◌, arith, if◌then◌else◌, nat_le, ⊎_elim}
 use Rattle.std.specs.List.{list_any}
-use Rattle.std.proofs.lemmas.Bool.{cases_lt}
+use Rattle.std.proofs.lemmas.Bool.{cases_lt, or_left, or_right, true≢false}
 use Rattle.std.proofs.lemmas.Bool.Decides.{nat_tests}
 use Rattle.std.proofs.lemmas.List.Elements.{All-head, All-tail, All-nil, All-cons, All-weaker, All-append}
 use Rattle.bohm_tree.specs.declared.cell.Cell.{Cell}
@@ -58,10 +58,7 @@ one_by u ts true c before le same = let here : nat_le u ts ≡ true = grind (ari
 one_by u ts false c before le same = sym (same refl)
 
 unwritten : (look : Look) (t : Txn) (k : List ℕ) → IsWellFormedTxn t → is_among t.writes k ≡ false → after look t k ≡ look k
-unwritten look t k well none = kept look t k (usable t well) (λ among. clash (sym among ∙ none))
-  where
-    clash : true ≡ false → ⊥
-    clash e = cc
+unwritten look t k well none = kept look t k (usable t well) (λ among. true≢false (sym among ∙ none))
 
 -- after the transaction at ts each key holds what the newest of them at or below ts says
 pub produced_state : (n ts : ℕ) (look : Look) (txns : List Txn) (k : List ℕ) → All IsWellFormedTxn txns → ts ≤ n + length txns → n ≤ ts → cell_at ts (produced (n + 1) look txns k) (look k) ≡ state look txns (ts - n) k
@@ -81,14 +78,6 @@ produced_state n ts look (t ∷ txns) k well high low = ⊎_elim
     (cases_lt n ts)
 
 -- ---- what keys that no transaction declares hold doesn't matter
-
-or_left : (a b : Bool) → a ≡ true → (a || b) ≡ true
-or_left true b e = refl
-or_left false b e = absurd cc
-
-or_right : (a b : Bool) → b ≡ true → (a || b) ≡ true
-or_right true b e = refl
-or_right false b e = e
 
 agree_after : (look other : Look) (t : Txn) (txns : List Txn) → IsWellFormedTxn t → Agree (t ∷ txns) look other → Agree (t ∷ txns) (after look t) (after other t)
 agree_after look other t txns well same = λ k declared. same_after look other t k (same_reads look other t (usable t well) (λ j among. same j (or_left (declares j t) (list_any (declares j) txns) (or_left (is_among t.reads j) (is_among t.writes j) among)))) (same k declared)

@@ -6,6 +6,7 @@ use Rattle.std.specs.Map.{keys_of}
 use Rattle.std.specs.Str.{bytes_eq}
 use Rattle.std.specs.Cmp.Lexicographic.{nat_list_eq_equiv}
 use Rattle.std.proofs.lemmas.List.{length-map}
+use Rattle.bohm_txn.proofs.Bodies.{key_itself}
 use Rattle.bohm_store.specs.declared.chain.Chain.{Chain}
 use Rattle.bohm_store.specs.declared.version.Version.{Version}
 use Rattle.bohm_store.specs.Chains.{Queued, items, later_begins, table, waiting}
@@ -29,7 +30,7 @@ parted : (k : List ℕ) (fs : List Queued) → length (waiting fs k) + length (o
 parted k [] = refl
 parted k (f ∷ fs) = parted_by k f fs (bytes_eq f.key k) refl (parted k fs)
 
--- of the key itself nothing is left
+-- of the key key_itself nothing is left
 none_by : (k q : List ℕ) (f : Queued) (fs : List Queued) (b : Bool) → bytes_eq f.key k ≡ b → bytes_eq q k ≡ true → waiting (others k fs) q ≡ [] → waiting (others k (f ∷ fs)) q ≡ []
 none_by k q f fs true e same more = rw e more
 none_by k q f fs false e same more =
@@ -53,12 +54,9 @@ all_left k q (f ∷ fs) other = all_by k q f fs (bytes_eq f.key k) refl other (a
 
 -- ---- the count
 
-itself : (k : List ℕ) → bytes_eq k k ≡ true
-itself k = nat_list_eq_equiv.refl k
-
 none_waits : (fs : List Queued) → ((k : List ℕ) → [] ≡ waiting fs k) → length fs ≡ 0
 none_waits [] none = refl
-none_waits (f ∷ fs) none = let first = rw (itself f.key) at (none f.key) in absurd cc
+none_waits (f ∷ fs) none = let first = rw (key_itself f.key) at (none f.key) in absurd cc
 
 -- a version stands ahead of those that follow one
 abbrev AllStarted : Keyed → Type 0
@@ -73,7 +71,7 @@ total_waiting : (es : Keyed) (fs : List Queued) → IsDistinct bytes_eq (keys_of
 total_waiting [] fs d started waits = omega (arith, none_waits fs waits)
 total_waiting (e ∷ es) fs d started waits =
     let rest = total_waiting es (others e.0 fs) (rest_distinct e es d) started.1 (λ k. rest_waits e es fs k (bytes_eq k e.0) refl d (waits k)) in
-    let here : later_begins e.1 ≡ waiting fs e.0 = rw (itself e.0) at (waits e.0) in
+    let here : later_begins e.1 ≡ waiting fs e.0 = rw (key_itself e.0) at (waits e.0) in
     omega (arith, rest, parted e.0 fs, started.0, ap length here)
 
 -- ---- of the chains in memory

@@ -11,6 +11,7 @@ use Rattle.bohm_tree.specs.declared.txn.Txn.{Txn}
 use Rattle.bohm_txn.specs.Faulty.{is_among, IsWellFormedTxn}
 use Rattle.bohm_txn.specs.Meaning.{Look}
 use Rattle.bohm_txn.specs.Serial.{after, state}
+use Rattle.bohm_txn.proofs.Lists.{drop_at}
 use Rattle.bohm_txn.proofs.States.{next}
 use Rattle.bohm_txn.proofs.UseLaws.{rising_writes}
 use Rattle.bohm_place.specs.Shares.{AreDistinct}
@@ -68,11 +69,6 @@ written_more u look ks i d inside = rw (take_more ks i d inside) (pushed (take i
     pushed [] k = refl
     pushed (x ∷ xs) k = ap (λ (ws : List Write). record { begin = u; key = x; cell = look x } ∷ ws) (pushed xs k)
 
-drop_at : (txns : List Txn) (i : ℕ) (x : Txn) → slice_get txns i ≡ Some x → drop i txns ≡ x ∷ drop (suc i) txns
-drop_at [] i x e = absurd cc
-drop_at (t ∷ txns) zero x e = let same : t ≡ x = cc in ap (λ (y : Txn). y ∷ txns) same
-drop_at (t ∷ txns) (suc i) x e = drop_at txns i x e
-
 -- one transaction more
 pub written_step : (base : Look) (txns : List Txn) (first i : ℕ) (x : Txn) (out whole : List Write) → slice_get txns i ≡ Some x
     → out ++ written_all (first + i) (state base txns i) (drop i txns) ≡ whole
@@ -80,9 +76,8 @@ pub written_step : (base : Look) (txns : List Txn) (first i : ℕ) (x : Txn) (ou
 written_step base txns first i x out whole here h =
     let after_it : state base txns (i + 1) ≡ after (state base txns i) x = rw add-one (next base txns i x here) in
     let number : first + (i + 1) ≡ first + i + 1 = omega arith in
-    let tail : drop (i + 1) txns ≡ drop (suc i) txns = rw add-one refl in
     let more = rw (drop_at txns i x here) at h in
-    rw (after_it, number, tail, append_assoc) more
+    rw (after_it, number, append_assoc) more
 
 pub all_at : {A : Type 0} (P : A → Type 0) (xs : List A) (i : ℕ) (x : A) → All P xs → slice_get xs i ≡ Some x → P x
 all_at P xs i x h e = subst P (get_or_from_slice_get xs i x x e) (h i x (slice_get_within xs i x e))

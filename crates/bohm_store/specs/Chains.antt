@@ -1,10 +1,9 @@
 -- How versions lie in memory.
-use Rattle.std.specs.Prelude.{◌≡◌, ℕ, ℤ, ◌≤◌, ◌<◌, List, [], ◌∷◌, ◌++◌, map, length, get_or, Option, None, Some, if◌then◌else◌, All, option_to_list}
+use Rattle.std.specs.Prelude.{◌≡◌, ℕ, ℤ, Bool, ◌≤◌, ◌<◌, List, [], ◌∷◌, ◌++◌, map, length, get_or, Option, None, Some, if◌then◌else◌, All, option_to_list}
 use Rattle.std.specs.Str.{bytes_eq}
 use Rattle.std.specs.HashMap.{HashMap, get, keys}
 use Rattle.bohm_tree.specs.declared.cell.Cell.{Cell}
 use Rattle.bohm_tree.specs.declared.cell.Cell.TheVariants.{Absent, Present}
-use Rattle.bohm_tree.specs.declared.txn.Txn.{Txn}
 use Rattle.bohm_store.specs.declared.version.Version.{Version}
 use Rattle.bohm_store.specs.declared.version.Write.{Write}
 use Rattle.bohm_store.specs.declared.chain.Chain.{Chain}
@@ -99,6 +98,11 @@ abbrev pub IsNotDue : ℕ → List Follower → Type 0
 IsNotDue floor [] = Unit {0}
 IsNotDue floor (f ∷ fs) = floor < f.begin
 
+-- where it is taken, a chain has the version last and the queue says that it follows another one; else both are as they were
+pub record IsExtended (ok : Bool) (old new : Chain) (was now : List Follower) (place : ℕ) (v : Version) : Type 0 where
+  pub versions : items new ≡ (if ok then items old ++ v ∷ [] else items old)
+  pub followers : now ≡ (if ok then was ++ record { begin = v.begin; place = place } ∷ [] else was)
+
 -- ---- a history
 
 -- a key's versions rise up to the top, and each that follows another one stands in the queue, by the place of its key
@@ -109,13 +113,6 @@ pub record IsHistory {S : Type 0} (chains : HashMap (List ℕ) Chain S) (followe
   pub placed : ArePlaced (keys chains) followers
   pub waits : (k : List ℕ) → later_begins (chain chains k) ≡ waiting (keyed (keys chains) followers) k
   pub climbs : RisesTo top followers
-
--- ---- the keys of transactions
-
--- those that they declare, the reads of each transaction before its writes
-abbrev pub declared_in : List Txn → List (List ℕ)
-declared_in [] = []
-declared_in (t ∷ ts) = (t.reads ++ t.writes) ++ declared_in ts
 
 -- ---- a store
 

@@ -44,6 +44,12 @@ kept floor (v ∷ w ∷ ws) = if nat_le w.begin floor then kept floor (w ∷ ws)
 
 -- ---- the versions of all keys
 
+-- a version with its key
+pub record KeyedVersion : Type 0 where
+  pub begin : ℕ
+  pub key : List ℕ
+  pub cell : Cell
+
 -- what a history is seen as: a floor, a top, and by key its versions
 pub record Timeline : Type 0 where
   pub floor : ℕ

@@ -5,9 +5,9 @@ ghost use Rattle.std.specs.List.{list_any};
 ghost use Rattle.bohm_tree.specs.declared.cell.Cell.TheVariants.{Absent};
 ghost use Rattle.bohm_txn.specs.Meaning.{newest};
 ghost use Rattle.bohm_txn.specs.Faulty.{is_among, rising};
-ghost use Rattle.bohm_board.specs.Bases.{IsBase, declares};
+ghost use Rattle.bohm_board.specs.Bases.{IsBase, declared_in, declares};
 ghost use Rattle.bohm_store.specs.Versions.{cell_at};
-ghost use Rattle.bohm_store.specs.Chains.{chain, declared_in};
+ghost use Rattle.bohm_store.specs.Chains.{chain};
 
 use crate::chain::Chain;
 use crate::chains::cell_of;
@@ -38,8 +38,8 @@ fn declared_once(alloc: Global, txns: &[Txn]) -> Result<Vec<Key>, NoMemory>
     Ok(keys)
 }
 
-/// Each key that the transactions declare, rising, with the cell of its newest version that begins at or
-/// below a timestamp.
+/// Each key that the transactions declare, rising, with the cell of its newest version that begins
+/// at or below a timestamp.
 pub fn base_at(
     chains: &IndexMap<Key, Chain>,
     alloc: Global,

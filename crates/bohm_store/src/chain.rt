@@ -1,8 +1,8 @@
 //! The versions of one key.
 
-ghost use Rattle.std.specs.Prelude.{◌≡◌, [], ◌∷◌, ◌++◌, false, is_ok, option_to_list, if◌then◌else◌};
+ghost use Rattle.std.specs.Prelude.{◌≡◌, [], ◌∷◌, false, is_ok, option_to_list, if◌then◌else◌};
 ghost use Rattle.bohm_tree.specs.declared.cell.Cell.TheVariants.{Absent};
-ghost use Rattle.bohm_store.specs.Chains.{items, shift, front};
+ghost use Rattle.bohm_store.specs.Chains.{IsExtended, items, shift, front};
 ghost use Rattle.bohm_store.specs.Versions.{cell_at};
 
 use crate::followers::Follower;
@@ -11,7 +11,8 @@ use bohm_txn::{Cell, NoMemory};
 use std::alloc::Global;
 use std::collections::VecDeque;
 
-/// The versions of one key, rising. It is never empty, and takes no memory of its own for the two oldest.
+/// The versions of one key, rising. It is never empty, and takes no memory of its own for the two
+/// oldest.
 #[derive(Drop)]
 pub struct Chain {
     first: Version,
@@ -41,8 +42,8 @@ impl Chain {
         }
     }
 
-    /// The cell of the newest version that begins at or below a timestamp, or absence. Its time grows
-    /// with how many versions are newer.
+    /// The cell of the newest version that begins at or below a timestamp, or absence. Its time
+    /// grows with how many versions are newer.
     pub fn cell_at(&self, ts: u32) -> Cell
         ensures { result ≡ cell_at ts (items self.now) Absent }
     {
@@ -65,8 +66,7 @@ impl Chain {
         begin: u32,
         cell: Cell,
     ) -> Result<(), NoMemory>
-        ensures items { items self.new ≡ (if is_ok result then items self.old ++ record { begin = begin; cell = cell } ∷ [] else items self.old) }
-        ensures followers { followers.new.items ≡ (if is_ok result then followers.old.items ++ record { begin = begin; place = place } ∷ [] else followers.old.items) }
+        ensures { IsExtended (is_ok result) self.old self.new followers.old.items followers.new.items place (record { begin = begin; cell = cell }) }
     {
         self.later.reserve(1)?;
         followers.push_back(Follower { begin, place })?;
@@ -82,8 +82,7 @@ impl Chain {
         begin: u32,
         cell: Cell,
     ) -> Result<(), NoMemory>
-        ensures items { items self.new ≡ (if is_ok result then items self.old ++ record { begin = begin; cell = cell } ∷ [] else items self.old) }
-        ensures followers { followers.new.items ≡ (if is_ok result then followers.old.items ++ record { begin = begin; place = place } ∷ [] else followers.old.items) }
+        ensures { IsExtended (is_ok result) self.old self.new followers.old.items followers.new.items place (record { begin = begin; cell = cell }) }
     {
         if self.second.is_some() || !self.later.is_empty() {
             return self.extend_later(followers, place, begin, cell);

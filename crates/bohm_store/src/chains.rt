@@ -49,22 +49,23 @@ fn push(
     chains: &mut IndexMap<Key, Chain>,
     followers: &mut VecDeque<Follower>,
     alloc: Global,
-    write: Write,
+    begin: u32,
+    key: &Key,
+    cell: Cell,
 ) -> Result<(), NoMemory>
-    ensures chains { (k : List ℕ) → chain chains.new k ≡ (if (is_ok result && bytes_eq write.key k) then chain chains.old k ++ record { begin = write.begin; cell = write.cell } ∷ [] else chain chains.old k) }
+    ensures chains { (k : List ℕ) → chain chains.new k ≡ (if (is_ok result && bytes_eq key.now k) then chain chains.old k ++ record { begin = begin; cell = cell } ∷ [] else chain chains.old k) }
     ensures keys { (more : List (List ℕ)) × (keys chains.new ≡ keys chains.old ++ more) }
     ensures waiting { ArePlaced (keys chains.old) followers.old.items → (k : List ℕ) → later_begins (chain chains.old k) ≡ waiting (keyed (keys chains.old) followers.old.items) k → later_begins (chain chains.new k) ≡ waiting (keyed (keys chains.new) followers.new.items) k }
     ensures placed { ArePlaced (keys chains.old) followers.old.items → ArePlaced (keys chains.new) followers.new.items }
-    ensures grows { (followers.new.items ≡ followers.old.items) ⊎ ((place : ℕ) × (followers.new.items ≡ followers.old.items ++ record { begin = write.begin; place = place } ∷ [])) }
+    ensures grows { (followers.new.items ≡ followers.old.items) ⊎ ((place : ℕ) × (followers.new.items ≡ followers.old.items ++ record { begin = begin; place = place } ∷ [])) }
 {
-    let Write { begin, key, cell } = write;
-    match chains.get_index_of(&key) {
+    match chains.get_index_of(key) {
         Some(place) => {
             let (_, chain) = chains.pair_mut(place);
             chain.extend(followers, place, begin, cell)
         }
         None => {
-            chains.insert(key, Chain::new(alloc, Version { begin, cell }))?;
+            chains.insert(*key, Chain::new(alloc, Version { begin, cell }))?;
             Ok(())
         }
     }
@@ -82,8 +83,8 @@ fn drop_later(chains: &mut IndexMap<Key, Chain>, key: &Key) -> bool
     }
 }
 
-// Lets the newest version of a key go, and the key itself with its only one. The keys before it keep their
-// places.
+// Lets the newest version of a key go, and the key itself with its only one. The keys before it
+// keep their places.
 fn retreat(chains: &mut IndexMap<Key, Chain>, key: &Key)
     ensures chains { (k : List ℕ) → chain chains.new k ≡ (if bytes_eq key.now k then front (chain chains.old k) else chain chains.old k) }
     ensures keys { (ks more : List (List ℕ)) → keys chains.old ≡ ks ++ more → (front (chain chains.old key.now) ≡ [] → is_among ks key.now ≡ false) → (rest : List (List ℕ)) × (keys chains.new ≡ ks ++ rest) }
@@ -93,16 +94,17 @@ fn retreat(chains: &mut IndexMap<Key, Chain>, key: &Key)
     }
 }
 
-// Lets the versions of these writes go again, which came last. The keys that had versions before them keep
-// their places.
-fn take_back(chains: &mut IndexMap<Key, Chain>, writes: &[Write])
+// Lets the versions of these writes go again, which came last. The keys that had versions before
+// them keep their places.
+fn take_back(chains: &mut IndexMap<Key, Chain>, writes: &[Write<'_>])
     ensures chains { (base : List ℕ → List Version) → ((k : List ℕ) → chain chains.old k ≡ base k ++ made writes.now k) → (k : List ℕ) → chain chains.new k ≡ base k }
     ensures keys { (base : List ℕ → List Version) (ks more : List (List ℕ)) → ((k : List ℕ) → chain chains.old k ≡ base k ++ made writes.now k) → keys chains.old ≡ ks ++ more → ((k : List ℕ) → base k ≡ [] → is_among ks k ≡ false) → (rest : List (List ℕ)) × (keys chains.new ≡ ks ++ rest) }
 {
     let mut i = writes.len();
     while i > 0 {
         i -= 1;
-        retreat(chains, &writes[i].key);
+        let write = &writes[i];
+        retreat(chains, write.key);
     }
 }
 
@@ -111,7 +113,7 @@ pub fn add(
     chains: &mut IndexMap<Key, Chain>,
     followers: &mut VecDeque<Follower>,
     alloc: Global,
-    writes: &[Write],
+    writes: &[Write<'_>],
 ) -> Result<(), NoMemory>
     ensures chains { (k : List ℕ) → chain chains.new k ≡ (if is_ok result then chain chains.old k ++ made writes.now k else chain chains.old k) }
     ensures keys { (more : List (List ℕ)) × (keys chains.new ≡ keys chains.old ++ more) }
@@ -122,7 +124,8 @@ pub fn add(
 {
     let before = followers.len();
     for i in 0..writes.len() {
-        if push(chains, followers, alloc, writes[i]).is_err() {
+        let write = &writes[i];
+        if push(chains, followers, alloc, write.begin, write.key, write.cell).is_err() {
             take_back(chains, &writes[..i]);
             followers.truncate(before);
             return Err(NoMemory);
@@ -141,8 +144,8 @@ fn advance(chains: &mut IndexMap<Key, Chain>, place: usize)
     chain.drop_oldest();
 }
 
-/// Keeps of each key the versions that begin above the floor and the newest one at or below it. Its time
-/// grows with how many versions go.
+/// Keeps of each key the versions that begin above the floor and the newest one at or below it. Its
+/// time grows with how many versions go.
 pub fn trim(chains: &mut IndexMap<Key, Chain>, followers: &mut VecDeque<Follower>, floor: u32)
     requires placed { ArePlaced (keys chains.old) followers.old.items }
     requires waiting { (k : List ℕ) → later_begins (chain chains.old k) ≡ waiting (keyed (keys chains.old) followers.old.items) k }

@@ -5,8 +5,8 @@ ghost use Rattle.bohm_store.specs.Chains.{IsNotDue};
 
 use std::collections::VecDeque;
 
-/// A version that follows another one of its key, by the place of that key among all. Once it is at or
-/// below the floor, the one before it is let go.
+/// A version that follows another one of its key, by the place of that key among all. Once it is at
+/// or below the floor, the one before it is let go.
 #[derive(Clone, Copy, Debug)]
 pub struct Follower {
     pub begin: u32,

@@ -1,7 +1,6 @@
 //! The history of a store.
 
-ghost use Rattle.std.specs.Prelude.{◌≡◌, ◌<◌, ◌≤◌, ◌+◌, ◌-◌, ◌++◌, ◌↔◌, ℕ, List, max, min, true, Contains, nat_lt, if◌then◌else◌, IfOk, OnOk, OnErr};
-ghost use Rattle.std.specs.Prelude.{Err, Ok, ◌^◌, All, length};
+ghost use Rattle.std.specs.Prelude.{◌≡◌, ◌<◌, ◌≤◌, ◌+◌, ◌-◌, ◌++◌, ◌↔◌, ◌^◌, ℕ, List, All, length, max, min, true, Contains, nat_lt, if◌then◌else◌, Err, Ok, IfOk, OnOk, OnErr};
 ghost use Rattle.std.specs.FinMap.{entries};
 ghost use Rattle.std.specs.List.{IsDistinct};
 ghost use Rattle.std.specs.Map.{keys_of};
@@ -37,10 +36,11 @@ use std::marker::Model;
 /// The versions of each key from a floor up to a top, which are timestamps.
 #[derive(Drop)]
 pub struct History {
-    // New keys go last, and only a refusal takes keys away again, the last ones: a key keeps its place.
+    // New keys go last, and only a refusal takes keys away again, the last ones: a key keeps its
+    // place.
     chains: IndexMap<Key, Chain>,
-    // The versions that follow another one of their key, in the order of their begins. Each has the place of
-    // its key, so that a trim looks up none.
+    // The versions that follow another one of their key, in the order of their begins. Each has the
+    // place of its key, so that a trim looks up none.
     followers: VecDeque<Follower>,
     floor: u32,
     top: u32,
@@ -58,8 +58,8 @@ impl Model for History {
 }
 
 impl History {
-    /// The history of a starting store, whose entries rise by their keys: one version for each. Its time
-    /// grows with their number.
+    /// The history of a starting store, whose entries rise by their keys: one version for each. Its
+    /// time grows with their number.
     pub fn open(alloc: Global, entries: &[(Key, Value)]) -> Result<History, NoMemory>
         requires { rising (names_of entries.now) ≡ true }
         ensures floor { IfOk result (λ h. h.floor ≡ 0) }
@@ -90,9 +90,10 @@ impl History {
         self.top
     }
 
-    /// What a key holds after the transaction with a timestamp: the cell of its version with the greatest
-    /// begin at or below it. `Trimmed` below the floor, `Future` above the top. Its time is that of one
-    /// look-up, and grows with how many versions of the key are newer. It takes no memory.
+    /// What a key holds after the transaction with a timestamp: the cell of its version with the
+    /// greatest begin at or below it. `Trimmed` below the floor, `Future` above the top. Its time
+    /// is that of one look-up, and grows with how many versions of the key are newer. It takes no
+    /// memory.
     pub fn value_at(&self, key: &Key, ts: u32) -> Result<Cell, PastFault>
         ensures trimmed { (result ≡ Err PastFault.Trimmed) ↔ (ts < self.now.floor) }
         ensures future { (result ≡ Err PastFault.Future) ↔ (self.now.top < ts) }
@@ -108,10 +109,10 @@ impl History {
         Ok(cell_of(&self.chains, key, ts))
     }
 
-    /// What each key holds after the transaction with a timestamp: the keys that have a value, rising, with
-    /// it. `Trimmed` below the floor and `Future` above the top, which are decided before any growth. It
-    /// goes over all keys: its time grows with their number n as n log n, and with how many versions are
-    /// newer.
+    /// What each key holds after the transaction with a timestamp: the keys that have a value,
+    /// rising, with it. `Trimmed` below the floor and `Future` above the top, which are decided
+    /// before any growth. It goes over all keys: its time grows with their number n as n log n, and
+    /// with how many versions are newer.
     pub fn store_at(&self, alloc: Global, ts: u32) -> Result<Vec<(Key, Value)>, StoreFault>
         ensures trimmed { (result ≡ Err StoreFault.Trimmed) ↔ (ts < self.now.floor) }
         ensures future { (result ≡ Err StoreFault.Future) ↔ (self.now.top < ts) }
@@ -134,8 +135,9 @@ impl History {
         }
     }
 
-    /// The number of kept versions, or the greatest number of 64 bits where there are more. Its time is
-    /// constant: each key has one version that follows no other, and the others stand in a queue.
+    /// The number of kept versions, or the greatest number of 64 bits where there are more. Its
+    /// time is constant: each key has one version that follows no other, and the others stand in a
+    /// queue.
     pub fn version_count(&self) -> u64
         ensures count { result ≡ min (total self.now.chains) 18446744073709551615 }
         ensures distinct { IsDistinct bytes_eq (keys_of self.now.chains) }
@@ -143,9 +145,9 @@ impl History {
         (self.chains.len() as u64).saturating_add(self.followers.len() as u64)
     }
 
-    /// The batch of these transactions that starts behind the top, with what their keys hold there. The
-    /// plan is given up on a refusal. The time grows with the number n of keys that the transactions
-    /// declare as n log n, whatever other keys there are.
+    /// The batch of these transactions that starts behind the top, with what their keys hold there.
+    /// The plan is given up on a refusal. The time grows with the number n of keys that the
+    /// transactions declare as n log n, whatever other keys there are.
     pub fn batch<'a>(
         &self,
         alloc: Global,
@@ -171,7 +173,7 @@ impl History {
         &mut self,
         alloc: Global,
         batch: &Batch<'_>,
-        writes: &[Write],
+        writes: &[Write<'_>],
     ) -> Result<(), NoMemory>
         requires next { IsNext self.old batch.now }
         requires writes { writes.now ≡ written_all (first_of batch.now) (base_of batch.now) (txns_of batch.now) }
@@ -187,12 +189,13 @@ impl History {
         }
     }
 
-    /// Adds a version for each declared write of each transaction of the batch, aborted ones included, and
-    /// moves the top to the batch's end. The batch is the next one of this history.
+    /// Adds a version for each declared write of each transaction of the batch, aborted ones
+    /// included, and moves the top to the batch's end. The batch is the next one of this history.
     ///
-    /// A refusal changes nothing that is seen: a key may be new, and how many versions it gets comes out
-    /// only on the way, so not all growth can come first; the versions that were added are let go again,
-    /// newest first. The time grows with the number of the batch's declared writes, on a refusal too.
+    /// A refusal changes nothing that is seen: a key may be new, and how many versions it gets
+    /// comes out only on the way, so not all growth can come first; the versions that were added
+    /// are let go again, newest first. The time grows with the number of the batch's declared
+    /// writes, on a refusal too.
     pub fn settle(&mut self, alloc: Global, finished: &Finished<'_>) -> Result<(), NoMemory>
         requires { IsNext self.old (batch_of_finished finished.now) }
         ensures err { OnErr result (IsSame self.old self.new) }
@@ -202,9 +205,10 @@ impl History {
         self.settle_writes(alloc, finished.batch(), &writes)
     }
 
-    /// Where the floor is above the present one it becomes the floor, and of each key there stay the
-    /// versions that begin above it and the newest one at or below it. Else nothing changes. Its time
-    /// grows with how many versions go, whatever keys and versions stay. It takes no memory.
+    /// Where the floor is above the present one it becomes the floor, and of each key there stay
+    /// the versions that begin above it and the newest one at or below it. Else nothing changes.
+    /// Its time grows with how many versions go, whatever keys and versions stay. It takes no
+    /// memory.
     pub fn trim(&mut self, floor: u32)
         requires { floor ≤ self.old.top }
         ensures floor { self.new.floor ≡ max self.old.floor floor }

@@ -12,8 +12,8 @@ ghost use Rattle.bohm_txn.specs.Serial.{state};
 ghost use Rattle.bohm_store.specs.declared.version.Version.{Version};
 ghost use Rattle.bohm_store.specs.Versions.{IsCellAt, IsKept, Rises, Timeline, cell_at, kept, produced, total, versions};
 
-/// Of versions that rise, the cell at a timestamp is that of the one with the greatest begin at or below
-/// it.
+/// Of versions that rise, the cell at a timestamp is that of the one with the greatest begin at or
+/// below it.
 pub fn cell_of_the_newest()
     ensures { (ts : ℕ) (vs : List Version) → Rises vs → IsCellAt ts vs (cell_at ts vs Absent) }
 {}
@@ -24,7 +24,8 @@ pub fn kept_members()
     ensures { (floor : ℕ) (vs : List Version) (v : Version) → Rises vs → Contains (kept floor vs) v ↔ IsKept floor vs v }
 {}
 
-/// The versions that transactions behind n produce say of each timestamp what their serial run leaves.
+/// The versions that transactions behind n produce say of each timestamp what their serial run
+/// leaves.
 pub fn produced_is_serial()
     ensures { (n ts : ℕ) (look : Look) (txns : List Txn) (k : List ℕ) → All IsWellFormedTxn txns → n ≤ ts → ts ≤ n + length txns → cell_at ts (produced (n + 1) look txns k) (look k) ≡ state look txns (ts - n) k }
 {}

@@ -12,11 +12,11 @@ use bohm_txn::{Key, NoMemory};
 use std::alloc::Global;
 
 // Lists the writes of one transaction.
-fn list_writes(
-    out: &mut Vec<Write>,
-    finished: &Finished<'_>,
+fn list_writes<'a>(
+    out: &mut Vec<Write<'a>>,
+    finished: &Finished<'a>,
     t: u32,
-    keys: &[Key],
+    keys: &'a [Key],
 ) -> Result<(), NoMemory>
     requires txn { IsIn (batch_of_finished finished.now) t }
     requires keys { IsTxnWriting (batch_of_finished finished.now) t keys.now }
@@ -26,7 +26,7 @@ fn list_writes(
         let cell = finished.cell(t, i as u32);
         out.push(Write {
             begin: t,
-            key: keys[i],
+            key: &keys[i],
             cell,
         })?;
     }
@@ -45,7 +45,7 @@ fn count_writes(finished: &Finished<'_>) -> usize {
 }
 
 /// The writes of all transactions, in log order.
-pub fn writes_of(alloc: Global, finished: &Finished<'_>) -> Result<Vec<Write>, NoMemory>
+pub fn writes_of<'a>(alloc: Global, finished: &Finished<'a>) -> Result<Vec<Write<'a>>, NoMemory>
     ensures { IfOk result (λ v. v.items ≡ written_all (first_of (batch_of_finished finished.now)) (base_of (batch_of_finished finished.now)) (txns_of (batch_of_finished finished.now))) }
 {
     let mut out = Vec::with_capacity(alloc, count_writes(finished))?;

@@ -323,7 +323,8 @@ fn third_log(rt: &impl Abort, alloc: Global) -> Result<Vec<Txn>, NoMemory> {
     Ok(vec![in alloc; put, removal]?)
 }
 
-// Runs the log as the next batch; after a refusal again, which must have changed nothing that is seen.
+// Runs the log as the next batch; after a refusal again, which must have changed nothing that is
+// seen.
 fn settle_surely<R: Abort + Threads + Sync>(
     rt: &R,
     alloc: Global,

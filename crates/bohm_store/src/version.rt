@@ -3,6 +3,7 @@
 ghost use Rattle.std.specs.Prelude.{◌≡◌, nat_le, if◌then◌else◌};
 
 use bohm_txn::{Cell, Key};
+use std::marker::Model;
 
 /// What a key holds from the transaction with a timestamp on, up to the next version of the key. A
 /// version that begins at 0 is of the starting store.
@@ -21,10 +22,18 @@ impl Version {
     }
 }
 
-/// A version of a key.
-#[derive(Clone, Copy, Debug)]
-pub struct Write {
+/// A version of a key. The key is that of the transaction, so that none is copied.
+#[derive(Drop)]
+pub struct Write<'a> {
     pub begin: u32,
-    pub key: Key,
+    pub key: &'a Key,
     pub cell: Cell,
+}
+
+impl<'a> Model for Write<'a> {
+    ghost use Rattle.bohm_store.specs.Versions.{KeyedVersion};
+
+    ghost Value = { KeyedVersion };
+
+    ghost view = { λ w. record { begin = w.begin; key = w.key.now; cell = w.cell } };
 }

@@ -5,6 +5,7 @@ use Rattle.std.specs.Option.{option_map}
 use Rattle.std.specs.List.{AllByRecursion}
 use Rattle.std.specs.Str.{bytes_eq}
 use Rattle.std.specs.Char.{is_ascii_digit}
+use Rattle.std.proofs.lemmas.Option.{same_Some}
 use Rattle.bohm_tree.specs.Name.{key_of}
 use Rattle.bohm_tree.specs.Shape.{is_term, term_of}
 use Rattle.bohm_tree.specs.declared.term.Atom.{Atom}
@@ -19,7 +20,7 @@ use Rattle.bohm_text.specs.Print.{Words}
 use Rattle.bohm_tree.specs.Sound.{IsName, IsAtom, IsTerm, IsSum, IsCond, IsStmt, IsNumber, IsEntry, IsTxn, IsDocument}
 use Rattle.bohm_tree.specs.Document.{Document}
 use Rattle.bohm_text.specs.Step.{Progress, Nothing, Between, Opened, Reading, Body, begun, head_of, with_entry, with_txn, next_entry, after_between, after_body, step, steps}
-use Rattle.bohm_text.proofs.Takes.{bind_some, map_some, chosen, if_some, same_some, key_takes, local_takes, whole_takes, after_takes, longer_some, at_end_takes}
+use Rattle.bohm_text.proofs.Takes.{bind_some, map_some, chosen, if_some, key_takes, local_takes, whole_takes, after_takes, longer_some, at_end_takes}
 
 key_sound : (w k : List ℕ) → key_of w ≡ Some k → IsName k
 key_sound w k e = let p = key_takes w k e in subst IsName p.0 p.1
@@ -38,7 +39,7 @@ atom_sound (c ∷ cs) a e =
     ]
 
 term_sound : (minus : Bool) (a : Atom) (t : Bool × Atom) → IsAtom a → term_of minus a ≡ Some t → IsTerm t
-term_sound minus a t sound e = let p = if_some (is_term minus a) (Some (minus, a)) t e in subst IsTerm (same_some (minus, a) t p.1) (p.0, sound)
+term_sound minus a t sound e = let p = if_some (is_term minus a) (Some (minus, a)) t e in subst IsTerm (same_Some (minus, a) t p.1) (p.0, sound)
 
 first_sound : (w : List ℕ) (t : Bool × Atom) → first_of w ≡ Some t → IsTerm t
 unfolding first_of
@@ -57,7 +58,7 @@ stopped_sound : (w : List ℕ) (words : Words) (p : Terms) → stopped w words �
 stopped_sound w words p e =
     let b = bind_some (stop_of w) (λ stop. Some ([], ending stop words)) p e in
     let P : Terms → Type 0 = λ (q : Terms). AllByRecursion IsTerm q.0 in
-    subst P (same_some ([], ending b.0 words) p b.2) tt
+    subst P (same_Some ([], ending b.0 words) p b.2) tt
 
 more_sound : (word : List ℕ) (minus : Bool) (ws : Words) (p : Terms) → ((q : Terms) → terms_of ws ≡ Some q → AllByRecursion IsTerm q.0) → (further_of minus word >>= λ term. longer term (terms_of ws)) ≡ Some p → AllByRecursion IsTerm p.0
 more_sound word minus ws p rest e =
@@ -68,7 +69,7 @@ more_sound word minus ws p rest e =
 
 terms_sound : (ws : Words) (p : Terms) → terms_of ws ≡ Some p → AllByRecursion IsTerm p.0
 unfolding terms_of
-terms_sound [] p e = let P : Terms → Type 0 = λ (q : Terms). AllByRecursion IsTerm q.0 in subst P (same_some ([], End) p e) tt
+terms_sound [] p e = let P : Terms → Type 0 = λ (q : Terms). AllByRecursion IsTerm q.0 in subst P (same_Some ([], End) p e) tt
 terms_sound (word ∷ []) p e = stopped_sound word [] p e
 terms_sound (sign ∷ word ∷ ws) p e =
     let P : Option Bool → Type 0 = λ (o : Option Bool). one_more o word (terms_of ws) (stopped sign (word ∷ ws)) ≡ Some p → AllByRecursion IsTerm p.0 in
@@ -100,7 +101,7 @@ right_sound (sum, When words) c sound e = absurd cc
 right_sound (sum, Compared cmp words) c sound e =
     let made : List (Bool × Atom) → Cond = λ (right : List (Bool × Atom)). record { left = sum; cmp = cmp; right = right } in
     let b = bind_some (last_sum words) (λ right. Some (made right)) c e in
-    subst IsCond (same_some (made b.0) c b.2) (sound, last_sound words b.0 b.1)
+    subst IsCond (same_Some (made b.0) c b.2) (sound, last_sound words b.0 b.1)
 
 cond_sound : (ws : Words) (c : Cond) → cond_of ws ≡ Some c → IsCond c
 unfolding cond_of
@@ -108,11 +109,11 @@ cond_sound ws c e = let b = bind_some (sum_from ws) right_side c e in right_soun
 
 pub names_sound : (ws ks : List (List ℕ)) → keys_of ws ≡ Some ks → AllByRecursion IsName ks
 unfolding keys_of
-names_sound [] ks e = subst (AllByRecursion IsName) (same_some [] ks e) tt
+names_sound [] ks e = subst (AllByRecursion IsName) (same_Some [] ks e) tt
 names_sound (word ∷ ws) ks e =
     let b1 = bind_some (key_of word) (λ key. keys_of ws >>= λ keys. Some (key ∷ keys)) ks e in
     let b2 = bind_some (keys_of ws) (λ keys. Some (b1.0 ∷ keys)) ks b1.2 in
-    subst (AllByRecursion IsName) (same_some (b1.0 ∷ b2.0) ks b2.2) (key_sound word b1.0 b1.1, names_sound ws b2.0 b2.1)
+    subst (AllByRecursion IsName) (same_Some (b1.0 ∷ b2.0) ks b2.2) (key_sound word b1.0 b1.1, names_sound ws b2.0 b2.1)
 
 bound_sound : (ws : Words) (sum : List (Bool × Atom)) → after (codes "=") last_sum ws ≡ Some sum → IsSum sum
 bound_sound ws sum e = let a = after_takes (codes "=") last_sum ws sum e in last_sound a.0 sum a.2
@@ -123,13 +124,13 @@ bind_sound [] s e = absurd cc
 bind_sound (word ∷ ws) s e =
     let b1 = bind_some (local_of word) (λ name. after (codes "=") last_sum ws >>= λ sum. Some (Bind name sum)) s e in
     let b2 = bind_some (after (codes "=") last_sum ws) (λ sum. Some (Bind b1.0 sum)) s b1.2 in
-    subst IsStmt (same_some (Bind b1.0 b2.0) s b2.2) ((local_takes word b1.0 b1.1).1, bound_sound ws b2.0 b2.1)
+    subst IsStmt (same_Some (Bind b1.0 b2.0) s b2.2) ((local_takes word b1.0 b1.1).1, bound_sound ws b2.0 b2.1)
 
 guarded_sound : (key : List ℕ) (p : Terms) (s : Stmt) → IsName key → IsSum p.0 → guarded key p ≡ Some s → IsStmt s
-guarded_sound key (sum, End) s name sound e = subst IsStmt (same_some (Put key sum None) s e) (name, sound, tt)
+guarded_sound key (sum, End) s name sound e = subst IsStmt (same_Some (Put key sum None) s e) (name, sound, tt)
 guarded_sound key (sum, When words) s name sound e =
     let b = bind_some (cond_of words) (λ c. Some (Put key sum (Some c))) s e in
-    subst IsStmt (same_some (Put key sum (Some b.0)) s b.2) (name, sound, cond_sound words b.0 b.1)
+    subst IsStmt (same_Some (Put key sum (Some b.0)) s b.2) (name, sound, cond_sound words b.0 b.1)
 guarded_sound key (sum, Compared cmp words) s name sound e = absurd cc
 
 put_sound : (ws : Words) (s : Stmt) → put_of ws ≡ Some s → IsStmt s
@@ -172,7 +173,7 @@ remove_sound (name ∷ w ∷ ws) s e = absurd cc
 
 fail_sound : (ws : Words) (s : Stmt) → fail_of ws ≡ Some s → IsStmt s
 unfolding fail_of
-fail_sound [] s e = subst IsStmt (same_some Fail s e) tt
+fail_sound [] s e = subst IsStmt (same_Some Fail s e) tt
 fail_sound (w ∷ ws) s e = absurd cc
 
 pub stmt_sound : (ws : Words) (s : Stmt) → stmt_of ws ≡ Some s → IsStmt s
@@ -216,7 +217,7 @@ number_sound (c ∷ cs) z e =
   where
     negated : (n : ℕ) (z : ℤ) → n ≤ 2 ^ 63 → negative n ≡ Some z → IsNumber z
     negated zero z within e = absurd cc
-    negated (suc n) z within e = let small : n < 2 ^ 63 = omega arith in subst IsNumber (same_some (negsuc n) z e) small
+    negated (suc n) z within e = let small : n < 2 ^ 63 = omega arith in subst IsNumber (same_Some (negsuc n) z e) small
 
 pub entry_sound : (ws : List (List ℕ)) (entry : List ℕ × ℤ) → entry_of ws ≡ Some entry → IsEntry entry
 unfolding entry_of
@@ -225,7 +226,7 @@ entry_sound (name ∷ []) entry e = absurd cc
 entry_sound (name ∷ digits ∷ []) entry e =
     let b1 = bind_some (key_of name) (λ key. number_of digits >>= λ number. Some (key, number)) entry e in
     let b2 = bind_some (number_of digits) (λ number. Some (b1.0, number)) entry b1.2 in
-    subst IsEntry (same_some (b1.0, b2.0) entry b2.2) (key_sound name b1.0 b1.1, number_sound digits b2.0 b2.1)
+    subst IsEntry (same_Some (b1.0, b2.0) entry b2.2) (key_sound name b1.0 b1.1, number_sound digits b2.0 b2.1)
 entry_sound (name ∷ digits ∷ w ∷ ws) entry e = absurd cc
 
 All-push : {A : Type 0} (P : A → Type 0) (xs : List A) (x : A) → AllByRecursion P xs → P x → AllByRecursion P (xs ++ x ∷ [])
@@ -244,19 +245,19 @@ IsSound (Body d reads writes body) = IsDocument d × AllByRecursion IsName reads
 head_sound : (q : Progress) (line : List ℕ) → (head_of line >>= λ edition. Some (begun edition)) ≡ Some q → IsSound q
 head_sound q line e =
     let b = bind_some (head_of line) (λ edition. Some (begun edition)) q e in
-    subst IsSound (same_some (begun b.0) q b.2) (record { store = tt; log = tt })
+    subst IsSound (same_Some (begun b.0) q b.2) (record { store = tt; log = tt })
 
 next_sound : (d : Document) (log : List Txn) (q : Progress) (words : List (List ℕ)) → IsDocument d → next_entry d log words ≡ Some q → IsSound q
 next_sound d [] q words sound e =
     let b = bind_some (entry_of words) (λ entry. Some (Between (with_entry d entry))) q e in
-    subst IsSound (same_some (Between (with_entry d b.0)) q b.2) (record { store = All-push IsEntry d.store b.0 sound.store (entry_sound words b.0 b.1); log = sound.log })
+    subst IsSound (same_Some (Between (with_entry d b.0)) q b.2) (record { store = All-push IsEntry d.store b.0 sound.store (entry_sound words b.0 b.1); log = sound.log })
 next_sound d (t ∷ ts) q words sound e = absurd cc
 
 between_sound : (d : Document) (q : Progress) (line : List ℕ) → IsDocument d → after_between d line ≡ Some q → IsSound q
 unfolding after_between
 between_sound d q line sound e =
     elim (chosen (bytes_eq line (codes "txn")) (Some (Opened d)) (next_entry d d.log (split 32 line)) (Some q) e) [
-      | inl p ↦ subst IsSound (same_some (Opened d) q p.1) sound
+      | inl p ↦ subst IsSound (same_Some (Opened d) q p.1) sound
       | inr p ↦ next_sound d d.log q (split 32 line) sound p.1
     ]
 
@@ -264,10 +265,10 @@ body_sound : (d : Document) (reads writes : List (List ℕ)) (body : List Stmt) 
 unfolding after_body
 body_sound d reads writes body q line sound e =
     elim (chosen (bytes_eq line (codes "end")) (Some (Between (with_txn d reads writes body))) (stmt_of (split 32 line) >>= λ s. Some (Body d reads writes (body ++ s ∷ []))) (Some q) e) [
-      | inl p ↦ subst IsSound (same_some (Between (with_txn d reads writes body)) q p.1) (record { store = sound.0.store; log = All-push (IsTxn d.edition) d.log (record { edition = d.edition; reads = reads; writes = writes; body = body }) sound.0.log (record { same = refl; reads = sound.1; writes = sound.2; body = sound.3 }) })
+      | inl p ↦ subst IsSound (same_Some (Between (with_txn d reads writes body)) q p.1) (record { store = sound.0.store; log = All-push (IsTxn d.edition) d.log (record { edition = d.edition; reads = reads; writes = writes; body = body }) sound.0.log (record { same = refl; reads = sound.1; writes = sound.2; body = sound.3 }) })
       | inr p ↦
           let b = bind_some (stmt_of (split 32 line)) (λ s. Some (Body d reads writes (body ++ s ∷ []))) q p.1 in
-          subst IsSound (same_some (Body d reads writes (body ++ b.0 ∷ [])) q b.2) (sound.0, sound.1, sound.2, All-push IsStmt body b.0 sound.3 (stmt_sound (split 32 line) b.0 b.1))
+          subst IsSound (same_Some (Body d reads writes (body ++ b.0 ∷ [])) q b.2) (sound.0, sound.1, sound.2, All-push IsStmt body b.0 sound.3 (stmt_sound (split 32 line) b.0 b.1))
     ]
 
 set_sound : (word : List ℕ) (words keys : List (List ℕ)) → after word keys_of words ≡ Some keys → AllByRecursion IsName keys
@@ -279,12 +280,12 @@ step_sound Nothing q line sound e = head_sound q line e
 step_sound (Between d) q line sound e = between_sound d q line sound e
 step_sound (Opened d) q line sound e =
     let b = bind_some (after (codes "reads") keys_of (split 32 line)) (λ reads. Some (Reading d reads)) q e in
-    subst IsSound (same_some (Reading d b.0) q b.2) (sound, set_sound (codes "reads") (split 32 line) b.0 b.1)
+    subst IsSound (same_Some (Reading d b.0) q b.2) (sound, set_sound (codes "reads") (split 32 line) b.0 b.1)
 step_sound (Reading d reads) q line sound e =
     let b = bind_some (after (codes "writes") keys_of (split 32 line)) (λ writes. Some (Body d reads writes [])) q e in
-    subst IsSound (same_some (Body d reads b.0 []) q b.2) (sound.0, sound.1, set_sound (codes "writes") (split 32 line) b.0 b.1, tt)
+    subst IsSound (same_Some (Body d reads b.0 []) q b.2) (sound.0, sound.1, set_sound (codes "writes") (split 32 line) b.0 b.1, tt)
 step_sound (Body d reads writes body) q line sound e = body_sound d reads writes body q line sound e
 
 pub steps_sound : (p q : Progress) (lines : List (List ℕ)) → IsSound p → steps p lines ≡ Some q → IsSound q
-steps_sound p q [] sound e = subst IsSound (same_some p q e) sound
+steps_sound p q [] sound e = subst IsSound (same_Some p q e) sound
 steps_sound p q (line ∷ lines) sound e = let b = bind_some (step p line) (λ next. steps next lines) q e in steps_sound b.0 q lines (step_sound p b.0 line sound b.1) b.2

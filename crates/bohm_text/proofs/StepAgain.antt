@@ -10,13 +10,13 @@ use Rattle.bohm_tree.specs.declared.stmt.Stmt.TheVariants.{Bind, Need, Has, Lack
 use Rattle.bohm_tree.specs.declared.txn.Txn.{Txn}
 use Rattle.bohm_tree.specs.declared.txn.Edition.{Edition}
 use Rattle.bohm_tree.specs.declared.txn.Edition.TheVariants.{One, Two}
+use Rattle.bohm_txn.proofs.Bodies.{same_key}
 use Rattle.bohm_text.specs.Print.{Words, line_text, stmt_words, store_words, txn_lines, head_words}
 use Rattle.bohm_text.specs.Cut.{split}
 use Rattle.bohm_text.specs.Reading.{keys_of, after}
 use Rattle.bohm_tree.specs.Sound.{IsName, IsStmt, IsEntry, IsTxn, IsDocument}
 use Rattle.bohm_text.specs.Step.{Progress, Nothing, Between, Opened, Reading, Body, begun, head_of, with_txn, after_between, after_body, step, steps}
 use Rattle.bohm_text.specs.Front.{text_lines}
-use Rattle.bohm_text.proofs.Takes.{same_bytes}
 use Rattle.bohm_text.proofs.Again.{keys_again, entry_again, stmt_again}
 use Rattle.bohm_text.proofs.Cutting.{split_again}
 use Rattle.bohm_text.proofs.WordLaws.{IsWord, words_lack, stmt_are_words, entry_are_words, names_are_words}
@@ -29,7 +29,7 @@ other_line : (line keyword : List ℕ) → (split 32 line ≡ split 32 keyword �
 other_line line keyword apart =
     let P : Bool → Type 0 = λ (t : Bool). bytes_eq line keyword ≡ t → t ≡ false in
     elim (bytes_eq line keyword) as P [
-      | true ↦ λ e. absurd (apart (ap (split 32) (same_bytes line keyword e)))
+      | true ↦ λ e. absurd (apart (ap (split 32) (same_key line keyword e)))
       | false ↦ λ e. refl
     ] refl
 

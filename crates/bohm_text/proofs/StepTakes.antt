@@ -5,18 +5,20 @@ use Rattle.std.specs.List.{flat_map}
 use Rattle.std.specs.Str.{bytes_eq}
 use Rattle.std.proofs.lemmas.Bool.{eqb-true}
 use Rattle.std.proofs.lemmas.List.{map_push, append-nil}
+use Rattle.std.proofs.lemmas.Option.{same_Some}
 use Rattle.bohm_tree.specs.declared.stmt.Stmt.{Stmt}
 use Rattle.bohm_tree.specs.declared.txn.Txn.{Txn}
 use Rattle.bohm_tree.specs.declared.txn.Edition.{Edition}
 use Rattle.bohm_tree.specs.declared.txn.Edition.TheVariants.{One, Two}
 use Rattle.bohm_tree.specs.Document.{Document}
+use Rattle.bohm_txn.proofs.Bodies.{same_key}
 use Rattle.bohm_text.specs.Print.{Words, line_text, spaced, stmt_words, store_words, txn_lines, head_words}
 use Rattle.bohm_text.specs.Cut.{onto_first, split}
 use Rattle.bohm_text.specs.Reading.{◌>>=◌, keys_of, after, stmt_of, entry_of}
 use Rattle.bohm_text.specs.Step.{Progress, Nothing, Between, Opened, Reading, Body, begun, head_of, with_entry, with_txn, next_entry, after_between, after_body, step, steps}
 use Rattle.bohm_text.specs.Front.{text_lines}
 use Rattle.bohm_text.proofs.Cutting.{split-some}
-use Rattle.bohm_text.proofs.Takes.{bind_some, chosen, if_some, same_some, same_bytes, keys_take, after_takes, stmt_takes, entry_takes}
+use Rattle.bohm_text.proofs.Takes.{bind_some, chosen, if_some, keys_take, after_takes, stmt_takes, entry_takes}
 
 spaced-some : (parts : List (List ℕ)) → 0 < length parts → spaced parts ≡ 32 ∷ line_text parts
 spaced-some [] some = absurd (omega arith)
@@ -82,14 +84,14 @@ head_takes : (line : List ℕ) (edition : Edition) → head_of line ≡ Some edi
 unfolding head_of
 head_takes line edition e =
     elim (chosen (bytes_eq line (codes "log 1")) (Some One) (cond (bytes_eq line (codes "log 2")) (Some Two) None) (Some edition) e) [
-      | inl p ↦ rw (← same_some One edition p.1) (same_bytes line (codes "log 1") p.0)
-      | inr p ↦ let r = if_some (bytes_eq line (codes "log 2")) (Some Two) edition p.1 in rw (← same_some Two edition r.1) (same_bytes line (codes "log 2") r.0)
+      | inl p ↦ rw (← same_Some One edition p.1) (same_key line (codes "log 1") p.0)
+      | inr p ↦ let r = if_some (bytes_eq line (codes "log 2")) (Some Two) edition p.1 in rw (← same_Some Two edition r.1) (same_key line (codes "log 2") r.0)
     ]
 
 head_adds : (q : Progress) (line : List ℕ) → (head_of line >>= λ edition. Some (begun edition)) ≡ Some q → progress_lines q ≡ line ∷ []
 head_adds q line e =
     let b = bind_some (head_of line) (λ edition. Some (begun edition)) q e in
-    subst (λ (r : Progress). progress_lines r ≡ line ∷ []) (same_some (begun b.0) q b.2) (ap (λ (l : List ℕ). l ∷ []) (sym (head_takes line b.0 b.1)))
+    subst (λ (r : Progress). progress_lines r ≡ line ∷ []) (same_Some (begun b.0) q b.2) (ap (λ (l : List ℕ). l ∷ []) (sym (head_takes line b.0 b.1)))
 
 words_line : (line : List ℕ) (ws : Words) → split 32 line ≡ ws → line_text ws ≡ line
 words_line line ws e = rw (← e) (split_takes line)
@@ -98,14 +100,14 @@ next_adds : (d : Document) (log : List Txn) (q : Progress) (line : List ℕ) →
 next_adds d [] q line none e =
     let b = bind_some (entry_of (split 32 line)) (λ entry. Some (Between (with_entry d entry))) q e in
     let same : line_text (store_words b.0) ≡ line = words_line line (store_words b.0) (entry_takes (split 32 line) b.0 b.1) in
-    subst (λ (r : Progress). progress_lines r ≡ text_lines d ++ line ∷ []) (same_some (Between (with_entry d b.0)) q b.2) (rw same at (entry_adds d b.0 none))
+    subst (λ (r : Progress). progress_lines r ≡ text_lines d ++ line ∷ []) (same_Some (Between (with_entry d b.0)) q b.2) (rw same at (entry_adds d b.0 none))
 next_adds d (t ∷ ts) q line none e = absurd cc
 
 between_adds : (d : Document) (q : Progress) (line : List ℕ) → after_between d line ≡ Some q → progress_lines q ≡ text_lines d ++ line ∷ []
 unfolding after_between
 between_adds d q line e =
     elim (chosen (bytes_eq line (codes "txn")) (Some (Opened d)) (next_entry d d.log (split 32 line)) (Some q) e) [
-      | inl p ↦ rw (← same_some (Opened d) q p.1) (ap (λ (l : List ℕ). text_lines d ++ l ∷ []) (sym (same_bytes line (codes "txn") p.0)))
+      | inl p ↦ rw (← same_Some (Opened d) q p.1) (ap (λ (l : List ℕ). text_lines d ++ l ∷ []) (sym (same_key line (codes "txn") p.0)))
       | inr p ↦ next_adds d d.log q line refl p.1
     ]
 
@@ -118,14 +120,14 @@ body_adds : (d : Document) (reads writes : List (List ℕ)) (body : List Stmt) (
 unfolding after_body Adds
 body_adds d reads writes body q line e =
     elim (chosen (bytes_eq line (codes "end")) (Some (Between (with_txn d reads writes body))) (stmt_of (split 32 line) >>= λ s. Some (Body d reads writes (body ++ s ∷ []))) (Some q) e) [
-      | inl p ↦ rw (← same_some (Between (with_txn d reads writes body)) q p.1) (txn_adds d reads writes body ∙ ap (λ (l : List ℕ). progress_lines (Body d reads writes body) ++ l ∷ []) (sym (same_bytes line (codes "end") p.0)))
+      | inl p ↦ rw (← same_Some (Between (with_txn d reads writes body)) q p.1) (txn_adds d reads writes body ∙ ap (λ (l : List ℕ). progress_lines (Body d reads writes body) ++ l ∷ []) (sym (same_key line (codes "end") p.0)))
       | inr p ↦
           let b = bind_some (stmt_of (split 32 line)) (λ s. Some (Body d reads writes (body ++ s ∷ []))) q p.1 in
           let same : line_text (stmt_words b.0) ≡ line = words_line line (stmt_words b.0) (stmt_takes (split 32 line) b.0 b.1) in
           let opened : List (List ℕ) → List (List ℕ) = λ (r : List (List ℕ)). codes "txn" ∷ line_text (codes "reads" ∷ reads) ∷ line_text (codes "writes" ∷ writes) ∷ r in
           let whole : progress_lines (Body d reads writes (body ++ b.0 ∷ [])) ≡ progress_lines (Body d reads writes body) ++ line ∷ [] =
           ap (λ (r : List (List ℕ)). text_lines d ++ opened r) (map_push (λ (s : Stmt). line_text (stmt_words s)) body b.0) ∙ (sym (append_assoc (text_lines d) (opened (map (λ (s : Stmt). line_text (stmt_words s)) body)) (line_text (stmt_words b.0) ∷ [])) ∙ ap (λ (l : List ℕ). progress_lines (Body d reads writes body) ++ l ∷ []) same) in
-          subst (λ (r : Progress). progress_lines r ≡ progress_lines (Body d reads writes body) ++ line ∷ []) (same_some (Body d reads writes (body ++ b.0 ∷ [])) q b.2) whole
+          subst (λ (r : Progress). progress_lines r ≡ progress_lines (Body d reads writes body) ++ line ∷ []) (same_Some (Body d reads writes (body ++ b.0 ∷ [])) q b.2) whole
     ]
 
 step_adds : (p q : Progress) (line : List ℕ) → step p line ≡ Some q → Adds p q line
@@ -135,17 +137,17 @@ step_adds (Between d) q line e = between_adds d q line e
 step_adds (Opened d) q line e =
     let b = bind_some (after (codes "reads") keys_of (split 32 line)) (λ reads. Some (Reading d reads)) q e in
     let whole : progress_lines (Reading d b.0) ≡ progress_lines (Opened d) ++ line ∷ [] = ap (λ (l : List ℕ). text_lines d ++ codes "txn" ∷ l ∷ []) (set_takes (codes "reads") line b.0 b.1) ∙ sym (append_assoc (text_lines d) (codes "txn" ∷ []) (line ∷ [])) in
-    subst (λ (r : Progress). progress_lines r ≡ progress_lines (Opened d) ++ line ∷ []) (same_some (Reading d b.0) q b.2) whole
+    subst (λ (r : Progress). progress_lines r ≡ progress_lines (Opened d) ++ line ∷ []) (same_Some (Reading d b.0) q b.2) whole
 step_adds (Reading d reads) q line e =
     let b = bind_some (after (codes "writes") keys_of (split 32 line)) (λ writes. Some (Body d reads writes [])) q e in
     let opened : List (List ℕ) = codes "txn" ∷ line_text (codes "reads" ∷ reads) ∷ [] in
     let whole : progress_lines (Body d reads b.0 []) ≡ progress_lines (Reading d reads) ++ line ∷ [] = ap (λ (l : List ℕ). text_lines d ++ (opened ++ l ∷ [])) (set_takes (codes "writes") line b.0 b.1) ∙ sym (append_assoc (text_lines d) opened (line ∷ [])) in
-    subst (λ (r : Progress). progress_lines r ≡ progress_lines (Reading d reads) ++ line ∷ []) (same_some (Body d reads b.0 []) q b.2) whole
+    subst (λ (r : Progress). progress_lines r ≡ progress_lines (Reading d reads) ++ line ∷ []) (same_Some (Body d reads b.0 []) q b.2) whole
 step_adds (Body d reads writes body) q line e = body_adds d reads writes body q line e
 
 pub steps_add : (p q : Progress) (lines : List (List ℕ)) → steps p lines ≡ Some q → progress_lines q ≡ progress_lines p ++ lines
 unfolding Adds
-steps_add p q [] e = rw (same_some p q e) (sym (append-nil (progress_lines q)))
+steps_add p q [] e = rw (same_Some p q e) (sym (append-nil (progress_lines q)))
 steps_add p q (line ∷ lines) e =
     let b = bind_some (step p line) (λ next. steps next lines) q e in
     steps_add b.0 q lines b.2 ∙ (ap (λ (r : List (List ℕ)). r ++ lines) (step_adds p b.0 line b.1) ∙ append_assoc (progress_lines p) (line ∷ []) lines)

@@ -10,7 +10,7 @@ use Rattle.std.specs.Char.{is_ascii_digit, digit_value}
 use Rattle.std.proofs.lemmas.List.{append-nil}
 use Rattle.std.proofs.lemmas.Bool.{and_parts, eqb-true, leb-true}
 use Rattle.std.proofs.lemmas.Bool.Decides.{nat_tests}
-use Rattle.std.proofs.lemmas.Slice.Eq.{bytes_eq-Decides}
+use Rattle.std.proofs.lemmas.Option.{same_Some}
 use Rattle.std.proofs.lemmas.Fmt.{decimal-digits_value}
 use Rattle.std.proofs.lemmas.Str.Parse.{numerals_by_value, tells_digits}
 use Rattle.bohm_tree.specs.Name.{is_name, key_of}
@@ -22,6 +22,7 @@ use Rattle.bohm_tree.specs.declared.stmt.Cmp.TheVariants.{Lt, Le, Eq, Ge, Gt}
 use Rattle.bohm_tree.specs.declared.stmt.Cond.{Cond}
 use Rattle.bohm_tree.specs.declared.stmt.Stmt.{Stmt}
 use Rattle.bohm_tree.specs.declared.stmt.Stmt.TheVariants.{Bind, Need, Has, Lacks, Put, Remove, Show, Fail}
+use Rattle.bohm_txn.proofs.Bodies.{same_key}
 use Rattle.bohm_text.specs.declared.sums.Stop.{Stop}
 use Rattle.bohm_text.specs.declared.sums.Stop.TheVariants as stops
 use Rattle.bohm_text.specs.Print.{Words, atom_word, first_word, further_words, sum_words, cmp_word, cond_words, stmt_words, store_words}
@@ -49,13 +50,10 @@ pub if_none : {A : Type 0} (b : Bool) (o : Option A) (y : A) → cond b None o �
 if_none true o y e = absurd cc
 if_none false o y e = (refl, e)
 
-pub same_some : {A : Type 0} (x y : A) → ◌≡◌ {A = Option A} (Some x) (Some y) → x ≡ y
-same_some x y e = cc
-
 -- ---- words
 
 pub key_takes : (w k : List ℕ) → key_of w ≡ Some k → (w ≡ k) × (is_name w ≡ true)
-key_takes w k e = let p = if_some (is_name w) (Some w) k e in (same_some w k p.1, p.0)
+key_takes w k e = let p = if_some (is_name w) (Some w) k e in (same_Some w k p.1, p.0)
 
 pub local_takes : (w x : List ℕ) → local_of w ≡ Some x → (w ≡ 36 ∷ x) × (is_name x ≡ true)
 local_takes [] x e = absurd cc
@@ -63,9 +61,6 @@ local_takes (c ∷ cs) x e =
     let p = if_some (c == 36) (key_of cs) x e in
     let k = key_takes cs x p.1 in
     (λ i. eqb-true c 36 p.0 i ∷ k.0 i, rw (← k.0) k.1)
-
-pub same_bytes : (a b : List ℕ) → bytes_eq a b ≡ true → a ≡ b
-same_bytes a b e = (bytes_eq-Decides a b).0 e
 
 digit_is : (c : ℕ) → is_ascii_digit c ≡ true → (48 ≤ c) × (c ≤ 57)
 digit_is c e = grind (arith, nat_tests)
@@ -75,7 +70,7 @@ value_is c low high = grind (arith, nat_tests)
 
 pub digits_take : (limit n : ℕ) (ds : List ℕ) (v : ℕ) → digits_of limit n ds ≡ Some v → n ≤ limit → AllDigits 10 ds × (digits_value_after 10 n ds ≡ v) × (v ≤ limit)
 unfolding digits_of
-digits_take limit n [] v e within = (tt, same_some n v e, let same : n ≡ v = same_some n v e in omega arith)
+digits_take limit n [] v e within = (tt, same_Some n v e, let same : n ≡ v = same_Some n v e in omega arith)
 digits_take limit n (c ∷ cs) v e within =
     let p = if_some (is_ascii_digit c && nat_le (n * 10 + (c - 48)) limit) (digits_of limit (n * 10 + (c - 48)) cs) v e in
     let q = and_parts (is_ascii_digit c) (nat_le (n * 10 + (c - 48)) limit) p.0 in
@@ -113,7 +108,7 @@ atom_takes (c ∷ cs) a e =
     ]
 
 term_takes : (minus : Bool) (a : Atom) (t : Bool × Atom) → term_of minus a ≡ Some t → (minus, a) ≡ t
-term_takes minus a t e = same_some (minus, a) t (if_some (is_term minus a) (Some (minus, a)) t e).1
+term_takes minus a t e = same_Some (minus, a) t (if_some (is_term minus a) (Some (minus, a)) t e).1
 
 pub first_takes : (w : List ℕ) (t : Bool × Atom) → first_of w ≡ Some t → w ≡ first_word t
 unfolding first_of
@@ -132,8 +127,8 @@ pub sign_takes : (w : List ℕ) (m : Bool) → sign_of w ≡ Some m → w ≡ co
 unfolding sign_of
 sign_takes w m e =
     elim (chosen (bytes_eq w (codes "-")) (Some true) (cond (bytes_eq w (codes "+")) (Some false) None) (Some m) e) [
-      | inl p ↦ rw (← same_some true m p.1) (same_bytes w (codes "-") p.0)
-      | inr p ↦ let q = if_some (bytes_eq w (codes "+")) (Some false) m p.1 in rw (← same_some false m q.1) (same_bytes w (codes "+") q.0)
+      | inl p ↦ rw (← same_Some true m p.1) (same_key w (codes "-") p.0)
+      | inr p ↦ let q = if_some (bytes_eq w (codes "+")) (Some false) m p.1 in rw (← same_Some false m q.1) (same_key w (codes "+") q.0)
     ]
 
 further_takes : (minus : Bool) (w : List ℕ) (t : Bool × Atom) → further_of minus w ≡ Some t → (t.0 ≡ minus) × (w ≡ atom_word t.1)
@@ -159,17 +154,17 @@ cmp_takes w cmp e =
     let rest2 : Option Cmp = cond (bytes_eq w (codes "=")) (Some Eq) rest3 in
     let rest1 : Option Cmp = cond (bytes_eq w (codes "<=")) (Some Le) rest2 in
     elim (chosen (bytes_eq w (codes "<")) (Some Lt) rest1 (Some cmp) e) [
-      | inl p ↦ rw (← same_some Lt cmp p.1) (same_bytes w (codes "<") p.0)
+      | inl p ↦ rw (← same_Some Lt cmp p.1) (same_key w (codes "<") p.0)
       | inr p ↦
           elim (chosen (bytes_eq w (codes "<=")) (Some Le) rest2 (Some cmp) p.1) [
-            | inl q ↦ rw (← same_some Le cmp q.1) (same_bytes w (codes "<=") q.0)
+            | inl q ↦ rw (← same_Some Le cmp q.1) (same_key w (codes "<=") q.0)
             | inr q ↦
                 elim (chosen (bytes_eq w (codes "=")) (Some Eq) rest3 (Some cmp) q.1) [
-                  | inl r ↦ rw (← same_some Eq cmp r.1) (same_bytes w (codes "=") r.0)
+                  | inl r ↦ rw (← same_Some Eq cmp r.1) (same_key w (codes "=") r.0)
                   | inr r ↦
                       elim (chosen (bytes_eq w (codes ">=")) (Some Ge) rest4 (Some cmp) r.1) [
-                        | inl t ↦ rw (← same_some Ge cmp t.1) (same_bytes w (codes ">=") t.0)
-                        | inr t ↦ let u = if_some (bytes_eq w (codes ">")) (Some Gt) cmp t.1 in rw (← same_some Gt cmp u.1) (same_bytes w (codes ">") u.0)
+                        | inl t ↦ rw (← same_Some Ge cmp t.1) (same_key w (codes ">=") t.0)
+                        | inr t ↦ let u = if_some (bytes_eq w (codes ">")) (Some Gt) cmp t.1 in rw (← same_Some Gt cmp u.1) (same_key w (codes ">") u.0)
                       ]
                 ]
           ]
@@ -179,7 +174,7 @@ stop_takes : (w : List ℕ) (stop : Stop) (words : Words) → stop_of w ≡ Some
 unfolding stop_of
 stop_takes w stop words e =
     elim (chosen (bytes_eq w (codes "when")) (Some stops.When) (option_map stops.Compared (cmp_of w)) (Some stop) e) [
-      | inl p ↦ subst (λ (s : Stop). w ∷ words ≡ ending_words (ending s words)) (same_some stops.When stop p.1) (ap (λ (v : List ℕ). v ∷ words) (same_bytes w (codes "when") p.0))
+      | inl p ↦ subst (λ (s : Stop). w ∷ words ≡ ending_words (ending s words)) (same_Some stops.When stop p.1) (ap (λ (v : List ℕ). v ∷ words) (same_key w (codes "when") p.0))
       | inr p ↦ let m = map_some stops.Compared (cmp_of w) stop p.1 in subst (λ (s : Stop). w ∷ words ≡ ending_words (ending s words)) m.2 (ap (λ (v : List ℕ). v ∷ words) (cmp_takes w m.0 m.1))
     ]
 
@@ -193,10 +188,10 @@ sum_text p = sum_words p.0 ++ ending_words p.1
 stopped_takes : (w : List ℕ) (words : Words) (p : Terms) → stopped w words ≡ Some p → w ∷ words ≡ further_text p
 stopped_takes w words p e =
     let b = bind_some (stop_of w) (λ stop. Some ([], ending stop words)) p e in
-    subst (λ (q : Terms). w ∷ words ≡ further_text q) (same_some ([], ending b.0 words) p b.2) (stop_takes w b.0 words b.1)
+    subst (λ (q : Terms). w ∷ words ≡ further_text q) (same_Some ([], ending b.0 words) p b.2) (stop_takes w b.0 words b.1)
 
 pub longer_some : (t : Bool × Atom) (read : Option Terms) (p : Terms) → longer t read ≡ Some p → (q : Terms) × (read ≡ Some q) × ((t ∷ q.0, q.1) ≡ p)
-longer_some t read p e = let b = bind_some read (λ q. Some (t ∷ q.0, q.1)) p e in (b.0, b.1, same_some (t ∷ b.0.0, b.0.1) p b.2)
+longer_some t read p e = let b = bind_some read (λ q. Some (t ∷ q.0, q.1)) p e in (b.0, b.1, same_Some (t ∷ b.0.0, b.0.1) p b.2)
 
 -- one term more, after a sign
 more_takes : (sign word : List ℕ) (minus : Bool) (ws : Words) (p : Terms) → sign_of sign ≡ Some minus → ((q : Terms) → terms_of ws ≡ Some q → ws ≡ further_text q)
@@ -211,7 +206,7 @@ more_takes sign word minus ws p s rest e =
 
 pub terms_take : (ws : Words) (p : Terms) → terms_of ws ≡ Some p → ws ≡ further_text p
 unfolding terms_of
-terms_take [] p e = subst (λ (q : Terms). [] ≡ further_text q) (same_some ([], End) p e) refl
+terms_take [] p e = subst (λ (q : Terms). [] ≡ further_text q) (same_Some ([], End) p e) refl
 terms_take (word ∷ []) p e = stopped_takes word [] p e
 terms_take (sign ∷ word ∷ ws) p e =
     let P : Option Bool → Type 0 = λ (o : Option Bool). sign_of sign ≡ o → one_more o word (terms_of ws) (stopped sign (word ∷ ws)) ≡ Some p → sign ∷ word ∷ ws ≡ further_text p in
@@ -230,7 +225,7 @@ sum_takes (word ∷ ws) p e =
     subst (λ (q : Terms). word ∷ ws ≡ sum_text q) l.2 whole
 
 pub at_end_takes : (p : Terms) (sum : List (Bool × Atom)) → at_end p ≡ Some sum → (sum, End) ≡ p
-at_end_takes (ts, End) sum e = let same : ts ≡ sum = same_some ts sum e in ap (λ (x : List (Bool × Atom)). (x, End)) (sym same)
+at_end_takes (ts, End) sum e = let same : ts ≡ sum = same_Some ts sum e in ap (λ (x : List (Bool × Atom)). (x, End)) (sym same)
 at_end_takes (ts, When words) sum e = absurd cc
 at_end_takes (ts, Compared cmp words) sum e = absurd cc
 
@@ -247,7 +242,7 @@ right_takes (sum, Compared cmp words) c e =
     let made : List (Bool × Atom) → Cond = λ (right : List (Bool × Atom)). record { left = sum; cmp = cmp; right = right } in
     let b = bind_some (last_sum words) (λ right. Some (made right)) c e in
     let whole : sum_words sum ++ cmp_word cmp ∷ words ≡ cond_words (made b.0) = ap (λ (r : Words). sum_words sum ++ cmp_word cmp ∷ r) (last_takes words b.0 b.1) in
-    subst (λ (x : Cond). sum_words sum ++ cmp_word cmp ∷ words ≡ cond_words x) (same_some (made b.0) c b.2) whole
+    subst (λ (x : Cond). sum_words sum ++ cmp_word cmp ∷ words ≡ cond_words x) (same_Some (made b.0) c b.2) whole
 
 pub cond_takes : (ws : Words) (c : Cond) → cond_of ws ≡ Some c → ws ≡ cond_words c
 unfolding cond_of
@@ -259,18 +254,18 @@ cond_takes ws c e =
 
 pub keys_take : (ws ks : List (List ℕ)) → keys_of ws ≡ Some ks → ws ≡ ks
 unfolding keys_of
-keys_take [] ks e = same_some [] ks e
+keys_take [] ks e = same_Some [] ks e
 keys_take (word ∷ ws) ks e =
     let b1 = bind_some (key_of word) (λ key. keys_of ws >>= λ keys. Some (key ∷ keys)) ks e in
     let b2 = bind_some (keys_of ws) (λ keys. Some (b1.0 ∷ keys)) ks b1.2 in
     let whole : word ∷ ws ≡ b1.0 ∷ b2.0 = λ i. (key_takes word b1.0 b1.1).0 i ∷ keys_take ws b2.0 b2.1 i in
-    whole ∙ same_some (b1.0 ∷ b2.0) ks b2.2
+    whole ∙ same_Some (b1.0 ∷ b2.0) ks b2.2
 
 pub after_takes : {X : Type 0} (word : List ℕ) (read : List (List ℕ) → Option X) (ws : List (List ℕ)) (x : X) → after word read ws ≡ Some x → (rest : List (List ℕ)) × (ws ≡ word ∷ rest) × (read rest ≡ Some x)
 after_takes word read [] x e = absurd cc
 after_takes word read (w ∷ ws) x e =
     let p = if_some (bytes_eq w word) (read ws) x e in
-    (ws, ap (λ (v : List ℕ). v ∷ ws) (same_bytes w word p.0), p.1)
+    (ws, ap (λ (v : List ℕ). v ∷ ws) (same_key w word p.0), p.1)
 
 bound_takes : (ws : Words) (sum : List (Bool × Atom)) → after (codes "=") last_sum ws ≡ Some sum → ws ≡ codes "=" ∷ sum_words sum
 bound_takes ws sum e =
@@ -284,14 +279,14 @@ bind_takes (word ∷ ws) s e =
     let b1 = bind_some (local_of word) (λ name. after (codes "=") last_sum ws >>= λ sum. Some (Bind name sum)) s e in
     let b2 = bind_some (after (codes "=") last_sum ws) (λ sum. Some (Bind b1.0 sum)) s b1.2 in
     let whole : codes "let" ∷ word ∷ ws ≡ stmt_words (Bind b1.0 b2.0) = λ i. codes "let" ∷ (local_takes word b1.0 b1.1).0 i ∷ bound_takes ws b2.0 b2.1 i in
-    subst (λ (t : Stmt). codes "let" ∷ word ∷ ws ≡ stmt_words t) (same_some (Bind b1.0 b2.0) s b2.2) whole
+    subst (λ (t : Stmt). codes "let" ∷ word ∷ ws ≡ stmt_words t) (same_Some (Bind b1.0 b2.0) s b2.2) whole
 
 guarded_takes : (key : List ℕ) (p : Terms) (s : Stmt) → guarded key p ≡ Some s → codes "set" ∷ key ∷ codes "=" ∷ sum_text p ≡ stmt_words s
-guarded_takes key (sum, End) s e = subst (λ (t : Stmt). codes "set" ∷ key ∷ codes "=" ∷ (sum_words sum ++ []) ≡ stmt_words t) (same_some (Put key sum None) s e) refl
+guarded_takes key (sum, End) s e = subst (λ (t : Stmt). codes "set" ∷ key ∷ codes "=" ∷ (sum_words sum ++ []) ≡ stmt_words t) (same_Some (Put key sum None) s e) refl
 guarded_takes key (sum, When words) s e =
     let b = bind_some (cond_of words) (λ c. Some (Put key sum (Some c))) s e in
     let whole : codes "set" ∷ key ∷ codes "=" ∷ (sum_words sum ++ codes "when" ∷ words) ≡ stmt_words (Put key sum (Some b.0)) = ap (λ (r : Words). codes "set" ∷ key ∷ codes "=" ∷ (sum_words sum ++ codes "when" ∷ r)) (cond_takes words b.0 b.1) in
-    subst (λ (t : Stmt). codes "set" ∷ key ∷ codes "=" ∷ (sum_words sum ++ codes "when" ∷ words) ≡ stmt_words t) (same_some (Put key sum (Some b.0)) s b.2) whole
+    subst (λ (t : Stmt). codes "set" ∷ key ∷ codes "=" ∷ (sum_words sum ++ codes "when" ∷ words) ≡ stmt_words t) (same_Some (Put key sum (Some b.0)) s b.2) whole
 guarded_takes key (sum, Compared cmp words) s e = absurd cc
 
 put_takes : (ws : Words) (s : Stmt) → put_of ws ≡ Some s → codes "set" ∷ ws ≡ stmt_words s
@@ -310,12 +305,12 @@ presence_takes word name s e =
     elim (chosen (bytes_eq word (codes "has")) (option_map Has (key_of name)) (cond (bytes_eq word (codes "no")) (option_map Lacks (key_of name)) None) (Some s) e) [
       | inl p ↦
           let m = map_some Has (key_of name) s p.1 in
-          let whole : codes "need" ∷ word ∷ name ∷ [] ≡ stmt_words (Has m.0) = λ i. codes "need" ∷ same_bytes word (codes "has") p.0 i ∷ (key_takes name m.0 m.1).0 i ∷ [] in
+          let whole : codes "need" ∷ word ∷ name ∷ [] ≡ stmt_words (Has m.0) = λ i. codes "need" ∷ same_key word (codes "has") p.0 i ∷ (key_takes name m.0 m.1).0 i ∷ [] in
           subst (λ (t : Stmt). codes "need" ∷ word ∷ name ∷ [] ≡ stmt_words t) m.2 whole
       | inr p ↦
           let q = if_some (bytes_eq word (codes "no")) (option_map Lacks (key_of name)) s p.1 in
           let m = map_some Lacks (key_of name) s q.1 in
-          let whole : codes "need" ∷ word ∷ name ∷ [] ≡ stmt_words (Lacks m.0) = λ i. codes "need" ∷ same_bytes word (codes "no") q.0 i ∷ (key_takes name m.0 m.1).0 i ∷ [] in
+          let whole : codes "need" ∷ word ∷ name ∷ [] ≡ stmt_words (Lacks m.0) = λ i. codes "need" ∷ same_key word (codes "no") q.0 i ∷ (key_takes name m.0 m.1).0 i ∷ [] in
           subst (λ (t : Stmt). codes "need" ∷ word ∷ name ∷ [] ≡ stmt_words t) m.2 whole
     ]
 
@@ -346,12 +341,12 @@ remove_takes (name ∷ w ∷ ws) s e = absurd cc
 
 fail_takes : (ws : Words) (s : Stmt) → fail_of ws ≡ Some s → codes "fail" ∷ ws ≡ stmt_words s
 unfolding fail_of
-fail_takes [] s e = subst (λ (t : Stmt). codes "fail" ∷ [] ≡ stmt_words t) (same_some Fail s e) refl
+fail_takes [] s e = subst (λ (t : Stmt). codes "fail" ∷ [] ≡ stmt_words t) (same_Some Fail s e) refl
 fail_takes (w ∷ ws) s e = absurd cc
 
 -- a line of this verb
 verb_takes : (word verb : List ℕ) (ws : Words) (s : Stmt) → bytes_eq verb word ≡ true → word ∷ ws ≡ stmt_words s → verb ∷ ws ≡ stmt_words s
-verb_takes word verb ws s same whole = ap (λ (v : List ℕ). v ∷ ws) (same_bytes verb word same) ∙ whole
+verb_takes word verb ws s same whole = ap (λ (v : List ℕ). v ∷ ws) (same_key verb word same) ∙ whole
 
 pub stmt_takes : (ws : Words) (s : Stmt) → stmt_of ws ≡ Some s → ws ≡ stmt_words s
 unfolding stmt_of
@@ -385,7 +380,7 @@ stmt_takes (verb ∷ ws) s e =
 
 negative_takes : (n : ℕ) (z : ℤ) → negative n ≡ Some z → 45 ∷ decimal n ≡ signed_decimal z
 negative_takes zero z e = absurd cc
-negative_takes (suc n) z e = subst (λ (y : ℤ). 45 ∷ decimal (suc n) ≡ signed_decimal y) (same_some (negsuc n) z e) refl
+negative_takes (suc n) z e = subst (λ (y : ℤ). 45 ∷ decimal (suc n) ≡ signed_decimal y) (same_Some (negsuc n) z e) refl
 
 pub number_takes : (w : List ℕ) (z : ℤ) → number_of w ≡ Some z → w ≡ signed_decimal z
 unfolding number_of
@@ -409,5 +404,5 @@ entry_takes (name ∷ digits ∷ []) entry e =
     let b1 = bind_some (key_of name) (λ key. number_of digits >>= λ number. Some (key, number)) entry e in
     let b2 = bind_some (number_of digits) (λ number. Some (b1.0, number)) entry b1.2 in
     let whole : name ∷ digits ∷ [] ≡ store_words (b1.0, b2.0) = λ i. (key_takes name b1.0 b1.1).0 i ∷ number_takes digits b2.0 b2.1 i ∷ [] in
-    subst (λ (x : List ℕ × ℤ). name ∷ digits ∷ [] ≡ store_words x) (same_some (b1.0, b2.0) entry b2.2) whole
+    subst (λ (x : List ℕ × ℤ). name ∷ digits ∷ [] ≡ store_words x) (same_Some (b1.0, b2.0) entry b2.2) whole
 entry_takes (name ∷ digits ∷ w ∷ ws) entry e = absurd cc

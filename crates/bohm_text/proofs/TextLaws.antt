@@ -3,6 +3,7 @@ use Rattle.std.proofs.Common.{◌≡◌, ℕ, ◌-◌, true, false, List, [], �
 use Rattle.std.specs.Prelude.{Option, codes, IsSome, ◌==◌}
 use Rattle.std.specs.List.{list_all, AllByRecursion}
 use Rattle.std.proofs.lemmas.List.{append-nil}
+use Rattle.std.proofs.lemmas.Option.{same_Some}
 use Rattle.bohm_tree.specs.Document.{Document, same_edition, in_edition, document_of}
 use Rattle.bohm_tree.specs.declared.stmt.Stmt.{Stmt}
 use Rattle.bohm_tree.specs.declared.txn.Txn.{Txn}
@@ -15,7 +16,6 @@ use Rattle.bohm_text.specs.Step.{Progress, Nothing, Between, Opened, Reading, Bo
 use Rattle.bohm_text.specs.Front.{text_lines, Front}
 use Rattle.bohm_text.specs.Faults.{IsFirstBadLine, IsShort}
 use Rattle.bohm_text.specs.Parse.{IsFirstFault, IsUnfinished}
-use Rattle.bohm_text.proofs.Takes.{same_some}
 use Rattle.bohm_text.proofs.Cutting.{IsWithout, lines_again}
 use Rattle.bohm_text.proofs.WordLaws.{All-append, All-map, IsLine, doc_are_lines, IsWord, word_lacks}
 use Rattle.bohm_text.proofs.Lines.{steps-append}
@@ -46,7 +46,7 @@ same_document d e h = cc
 
 pub one_text : (d e : Document) → IsDocument d → IsDocument e → print_doc d ≡ print_doc e → d ≡ e
 one_text d e sound_d sound_e same =
-    let read : Between d ≡ Between e = same_some (Between d) (Between e) (sym (text_steps d sound_d) ∙ (ap (λ (t : List ℕ). steps Nothing (whole_lines t)) same ∙ text_steps e sound_e)) in
+    let read : Between d ≡ Between e = same_Some (Between d) (Between e) (sym (text_steps d sound_d) ∙ (ap (λ (t : List ℕ). steps Nothing (whole_lines t)) same ∙ text_steps e sound_e)) in
     same_document d e read
 
 -- ---- beginnings
@@ -102,7 +102,7 @@ found text d e whole = (steps_sound Nothing (Between d) (whole_lines text) tt e,
 pub unfinished : (text : List ℕ) → IsUnfinished text → (d : Document) → IsDocument d → print_doc d ≡ text → ⊥
 unfinished text h d sound same =
     let read : steps Nothing (whole_lines text) ≡ Some (Between d) = ap (λ (t : List ℕ). steps Nothing (whole_lines t)) (sym same) ∙ text_steps d sound in
-    let progress : h.progress ≡ Between d = same_some h.progress (Between d) (sym h.read ∙ read) in
+    let progress : h.progress ≡ Between d = same_Some h.progress (Between d) (sym h.read ∙ read) in
     h.unfinished d progress (ap text_of (ap whole_lines (sym same) ∙ lines_again (text_lines d) (lines_lack d sound)) ∙ same)
 
 same_self : (e : Edition) → same_edition e e ≡ true

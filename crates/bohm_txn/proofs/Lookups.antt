@@ -26,7 +26,7 @@ turned Less e = refl
 turned Equal e = refl
 turned Greater e = cc
 
-no_fall : (a b : List ℕ) → is_lt (key_cmp a b) ≡ true → is_lt (key_cmp b a) ≡ false
+pub no_fall : (a b : List ℕ) → is_lt (key_cmp a b) ≡ true → is_lt (key_cmp b a) ≡ false
 no_fall a b e = subst (λ o. is_lt o ≡ false) (sym (nat_list_cmp_total.antisymm b a)) (turned (key_cmp a b) e)
 
 sorted : (keys : List (List ℕ)) → rising keys ≡ true → IsSortedBy (λ a b. is_lt (key_cmp a b)) keys
@@ -35,7 +35,7 @@ sorted (x ∷ xs) e = λ k d a l. subst (λ n. is_lt (key_cmp (get_or (x ∷ xs)
 
 -- ---- a key is there or not
 
-same_at : (a b : List ℕ) (o : Ordering) → key_cmp a b ≡ o → bytes_eq a b ≡ eq_by_cmp (λ x y. o) a b
+pub same_at : (a b : List ℕ) (o : Ordering) → key_cmp a b ≡ o → bytes_eq a b ≡ eq_by_cmp (λ x y. o) a b
 same_at a b o e = subst (λ r. bytes_eq a b ≡ eq_by_cmp (λ x y. r) a b) e (texts_ties a b)
 
 there : (keys : List (List ℕ)) (k : List ℕ) (i : ℕ) → i < length keys → ((d : List ℕ) → key_cmp (get_or keys i d) k ≡ Equal) → is_among keys k ≡ true

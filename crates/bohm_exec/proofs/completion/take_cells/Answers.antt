@@ -1,10 +1,11 @@
-use Rattle.std.proofs.Common.{◌≡◌, Some, false, true, arith, subst}
+use Rattle.std.proofs.Common.{◌≡◌, Some, arith, subst}
 use Rattle.std.specs.List.{slice_get}
+use Rattle.std.proofs.lemmas.Bool.{false≢true}
 use Rattle.bohm_board.specs.declared.batch.Batch.{Batch}
 use Rattle.bohm_board.specs.Closings.{batch_of_closed}
 use Rattle.bohm_board.proofs.Wanted.{IsEarlier, wanted_earlier}
 use Rattle.bohm_board.specs.Batches.{accesses_in}
-use Rattle.bohm_exec.proofs.Seen.{among, found_base, found_within, are_found}
+use Rattle.bohm_exec.proofs.Seen.{contains_at, found_base, found_within, are_found}
 use Rattle.bohm_exec.proofs.completion.take_cells.Goals as goal
 use Rattle.bohm_exec.proofs.completion.take_cells.Goals.{After-access-access, In-Within, in-Before, in-Within+in-Some}
 
@@ -15,11 +16,8 @@ earlier : (c : In-Within) → IsEarlier (batch_of_closed c.args.closed.now) c.ar
 earlier c =
     let b = batch_of_closed c.args.closed.now in
     let a = c.access-access.result in
-    let wanted = c.requires.wanted a (among (accesses_in c.args.set b c.args.t) c.loop-index.index a (at_index (goal.at.In-Within c).After-access-access)) in
+    let wanted = c.requires.wanted a (contains_at (accesses_in c.args.set b c.args.t) c.loop-index.index a (at_index (goal.at.In-Within c).After-access-access)) in
     wanted_earlier b c.args.t a c.in-Within.u c.requires.inside wanted c.in-Within.is
-
-nothing : false ≡ true → ⊥
-nothing e = cc
 
 pub loop-index-init : goal.loop-index-init
 loop-index-init c = λ j a u cell l at is here. absurd (omega arith)
@@ -31,7 +29,7 @@ pub unreachable-requires : goal.unreachable-requires
 unreachable-requires c =
     let e = earlier (goal.at.unreachable-requires c).In-Within in
     let none = c.in-None.ensures.whole (c.requires.before c.in-Within.u e.slot.txn e.below) in
-    absurd (nothing none)
+    absurd (false≢true none)
 
 pub loop-index-preserved : goal.loop-index-preserved
 loop-index-preserved c =

@@ -9,7 +9,7 @@ use Rattle.bohm_board.specs.Views.{Knows}
 use Rattle.bohm_board.proofs.Keeping.{keeps_same, keeps_along, keeps_looked, knows_looked}
 use Rattle.bohm_board.proofs.Wanted.{wanted_earlier}
 use Rattle.bohm_board.specs.Batches.{accesses_in}
-use Rattle.bohm_exec.proofs.Seen.{among, known_base, found_base, known_within, found_within, knows_all, are_found}
+use Rattle.bohm_exec.proofs.Seen.{contains_at, known_base, found_base, known_within, found_within, knows_all, are_found}
 use Rattle.bohm_exec.proofs.Viewed.{no_looks, one_look, unseen_undone}
 use Rattle.bohm_exec.proofs.finding.find.Goals as goal
 use Rattle.bohm_exec.proofs.finding.find.Goals.{After-access-access, In-Within, in-Before, in-Within+in-Some}
@@ -18,7 +18,7 @@ at_index : (c : After-access-access) → slice_get (accesses_in c.args.set (batc
 at_index c = subst (λ (b : Batch). slice_get (accesses_in c.args.set b c.args.t) c.loop-index.index ≡ Some c.access-access.result) c.batch-batch.ensures c.access-access.ensures
 
 wanted : (c : After-access-access) → Contains (wanted_at (batch_of c.args.board.now) c.args.t) c.access-access.result
-wanted c = c.requires.wanted c.access-access.result (among (accesses_in c.args.set (batch_of c.args.board.now) c.args.t) c.loop-index.index c.access-access.result (at_index c))
+wanted c = c.requires.wanted c.access-access.result (contains_at (accesses_in c.args.set (batch_of c.args.board.now) c.args.t) c.loop-index.index c.access-access.result (at_index c))
 
 slot_inside : (c : In-Within) → IsSlot (batch_of c.args.board.now) (slot_in c.in-Within.u c.access-access.result)
 slot_inside c = (wanted_earlier (batch_of c.args.board.now) c.args.t c.access-access.result c.in-Within.u c.requires.inside (wanted (goal.at.In-Within c).After-access-access) c.in-Within.is).slot

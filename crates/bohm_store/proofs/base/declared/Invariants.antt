@@ -1,5 +1,5 @@
 use Rattle.std.proofs.Common.{◌≡◌, ◌++◌, drop}
-use Rattle.bohm_store.specs.Chains.{declared_in}
+use Rattle.bohm_board.specs.Bases.{declared_in}
 use Rattle.bohm_store.proofs.base.declared.Given as goal
 
 abbrev pub invariant-loop-txn : goal.invariant-loop-txn

@@ -1,5 +1,6 @@
 use Rattle.std.proofs.Common.{arith, ◌≡◌, ◌<◌, ◌+◌, ◌∷◌, [], length, suc, subst, get_or, drop, drop-cons, sym, ap, ◌∙◌, add-one, is_ok, true, false, append-nil}
 use Rattle.std.proofs.lemmas.Grind.{common_steps}
+use Rattle.bohm_store.specs.Versions.{KeyedVersion}
 use Rattle.bohm_store.specs.Chains.{chain, Climb}
 use Rattle.bohm_store.proofs.Grows.{added_of, rises_higher, rises_grown, grown_more}
 use Rattle.std.specs.HashMap.{keys}
@@ -32,18 +33,18 @@ pub loop-i-preserved : goal.loop-i-preserved
 loop-i-preserved c =
     let ws = c.args.writes.now in
     let i = c.loop-i.i in
-    let w = c.index-writes-i.result in
-    let is : w ≡ get_or ws i w = c.index-writes-i.is in
+    let w : KeyedVersion = record { begin = c.write.inside.begin; key = c.write.inside.key.now; cell = c.write.inside.cell } in
+    let is : w ≡ get_or ws i c.index-writes-i.result = c.write.view_is ∙ c.index-writes-i.is in
     let inside : i < length ws = omega arith in
     let taken : is_ok c.push.result ≡ true = grind (arith, common_steps) in
     let more = c.push.ensures.grows in
     record {
-      chains = λ k. (let n = c.push.ensures.chains k in let n' = rw taken at n in added_of ws i w w k inside is (chain c.args.chains.now k) (chain c.loop-i.chains k) (chain c.push.new.chains k) (c.loop-i.invariant.chains k) n');
+      chains = λ k. (let n = c.push.ensures.chains k in let n' = rw taken at n in added_of ws i c.index-writes-i.result w k inside is (chain c.args.chains.now k) (chain c.loop-i.chains k) (chain c.push.new.chains k) (c.loop-i.invariant.chains k) n');
       named = longer_yet _ _ _ c.loop-i.invariant.named c.push.ensures.keys;
       placed = λ placed. c.push.ensures.placed (c.loop-i.invariant.placed placed);
       waits = λ placed h k. c.push.ensures.waiting (c.loop-i.invariant.placed placed) k (c.loop-i.invariant.waits placed h k);
       climbs = λ n top r h. (let m = c.loop-i.invariant.climbs n top r h in
-          let at : drop i ws ≡ w ∷ drop (i + 1) ws = rw add-one (drop-cons ws i w inside ∙ ap (λ x. x ∷ drop (suc i) ws) (sym is)) in
+          let at : drop i ws ≡ w ∷ drop (i + 1) ws = rw add-one (drop-cons ws i c.index-writes-i.result inside ∙ ap (λ x. x ∷ drop (suc i) ws) (sym is)) in
           let r' : Climb m.0 (w ∷ drop (i + 1) ws) top = subst (λ xs. Climb m.0 xs top) at m.2 in
           (w.begin, rises_grown m.0 w.begin c.loop-i.followers.items c.push.new.followers.items r'.0 m.1 more, r'.1));
       grown = grown_more w.begin c.args.followers.now.items c.loop-i.followers.items c.push.new.followers.items c.loop-i.invariant.grown more;

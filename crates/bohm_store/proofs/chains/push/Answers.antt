@@ -14,10 +14,10 @@ returns-in-Some-clause-chains c k =
     let m = c.args.chains.now in
     let pair = c.pair_mut-chain.ensures in
     let ok = is_ok c.extend.result in
-    let w : Version = record { begin = c.args.write.begin; cell = c.args.write.cell } in
-    let found : get_or (keys m) c.in-Some.place [] ≡ c.args.write.key = key_at_position c.args.write.key (keys m) c.in-Some.place c.in-Some.ensures.index in
-    let is = changed_at m c.in-Some.place _ _ c.extend.new.self (λ vs. if ok then vs ++ w ∷ [] else vs) k pair.unique pair.value c.extend.ensures.items in
-    rw found at is ∙ both ok (bytes_eq c.args.write.key k) (chain m k ++ w ∷ []) (chain m k)
+    let w : Version = record { begin = c.args.begin; cell = c.args.cell } in
+    let found : get_or (keys m) c.in-Some.place [] ≡ c.args.key.now = key_at_position c.args.key.now (keys m) c.in-Some.place c.in-Some.ensures.index in
+    let is = changed_at m c.in-Some.place _ _ c.extend.new.self (λ vs. if ok then vs ++ w ∷ [] else vs) k pair.unique pair.value c.extend.ensures.versions in
+    rw found at is ∙ both ok (bytes_eq c.args.key.now k) (chain m k ++ w ∷ []) (chain m k)
 
 pub returns-in-Some-clause-keys : goal.returns-in-Some-clause-keys
 returns-in-Some-clause-keys c = ([], keys-with_value_at c.args.chains.now c.in-Some.place c.extend.new.self ∙ sym (append-nil _))
@@ -25,7 +25,7 @@ returns-in-Some-clause-keys c = ([], keys-with_value_at c.args.chains.now c.in-S
 pub returns-in-Some-clause-placed : goal.returns-in-Some-clause-placed
 returns-in-Some-clause-placed c placed =
     let m = c.args.chains.now in
-    let f : Follower = record { begin = c.args.write.begin; place = c.in-Some.place } in
+    let f : Follower = record { begin = c.args.begin; place = c.in-Some.place } in
     let inside : c.in-Some.place < length (keys m) = omega (arith, c.in-Some.ensures.within, length_keys m.entries) in
     placed_extended (is_ok c.extend.result) (keys m) _ c.args.followers.now.items c.extend.new.followers.items f (keys-with_value_at m c.in-Some.place c.extend.new.self) c.extend.ensures.followers inside placed
 
@@ -33,9 +33,9 @@ pub returns-in-Some-clause-waiting : goal.returns-in-Some-clause-waiting
 returns-in-Some-clause-waiting c placed k h =
     let m = c.args.chains.now in
     let pair = c.pair_mut-chain.ensures in
-    let key = c.args.write.key in
-    let f : Follower = record { begin = c.args.write.begin; place = c.in-Some.place } in
-    let w : Version = record { begin = c.args.write.begin; cell = c.args.write.cell } in
+    let key = c.args.key.now in
+    let f : Follower = record { begin = c.args.begin; place = c.in-Some.place } in
+    let w : Version = record { begin = c.args.begin; cell = c.args.cell } in
     let found : get_or (keys m) c.in-Some.place [] ≡ key = key_at_position key (keys m) c.in-Some.place c.in-Some.ensures.index in
     let stored = sym (key_at m.entries c.in-Some.place _ _ pair.value) ∙ found in
     let there : bytes_eq key k ≡ true → (v : Version) × (vs : List Version) × (chain m k ≡ v ∷ vs) = λ e. filled_at m c.in-Some.place _ _ k pair.unique pair.value (ap (λ (x : List ℕ). bytes_eq x k) stored ∙ e) in
@@ -44,19 +44,19 @@ returns-in-Some-clause-waiting c placed k h =
 
 pub returns-in_ok-insert-in-None-clause-keys : goal.returns-in_ok-insert-in-None-clause-keys
 returns-in_ok-insert-in-None-clause-keys c =
-    let none = none_of (get bytes_eq c.args.chains.now c.args.write.key) c.in-None.ensures.found in
-    (c.args.write.key ∷ [], keys_added c.args.chains.now c.insert.new.self c.args.write.key c.new.result none c.in_ok-insert-in-None.ensures.entries)
+    let none = none_of (get bytes_eq c.args.chains.now c.args.key.now) c.in-None.ensures.found in
+    (c.args.key.now ∷ [], keys_added c.args.chains.now c.insert.new.self c.args.key.now c.new.result none c.in_ok-insert-in-None.ensures.entries)
 
 pub returns-in_ok-insert-in-None-clause-placed : goal.returns-in_ok-insert-in-None-clause-placed
 returns-in_ok-insert-in-None-clause-placed c placed =
-    let none = none_of (get bytes_eq c.args.chains.now c.args.write.key) c.in-None.ensures.found in
-    rw (keys_added c.args.chains.now c.insert.new.self c.args.write.key c.new.result none c.in_ok-insert-in-None.ensures.entries) (placed_longer (keys c.args.chains.now) (c.args.write.key ∷ []) c.args.followers.now.items placed)
+    let none = none_of (get bytes_eq c.args.chains.now c.args.key.now) c.in-None.ensures.found in
+    rw (keys_added c.args.chains.now c.insert.new.self c.args.key.now c.new.result none c.in_ok-insert-in-None.ensures.entries) (placed_longer (keys c.args.chains.now) (c.args.key.now ∷ []) c.args.followers.now.items placed)
 
 pub returns-in_ok-insert-in-None-clause-waiting : goal.returns-in_ok-insert-in-None-clause-waiting
 returns-in_ok-insert-in-None-clause-waiting c placed k h =
     let m = c.args.chains.now in
-    let key = c.args.write.key in
-    let v : Version = record { begin = c.args.write.begin; cell = c.args.write.cell } in
+    let key = c.args.key.now in
+    let v : Version = record { begin = c.args.begin; cell = c.args.cell } in
     let none = none_of (get bytes_eq m key) c.in-None.ensures.found in
     let grown = keys_added m c.insert.new.self key c.new.result none c.in_ok-insert-in-None.ensures.entries in
     alone (get bytes_eq m k) (get bytes_eq c.insert.new.self k) (bytes_eq key k) c.new.result v (c.in_ok-insert-in-None.ensures.updates.0 k) c.new.ensures (none_same m key k none)

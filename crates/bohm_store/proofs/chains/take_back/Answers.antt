@@ -1,4 +1,5 @@
-use Rattle.std.proofs.Common.{arith, ◌≡◌, ◌+◌, ◌-◌, ◌∙◌, append-nil, ◌++◌, get_or, take}
+use Rattle.std.proofs.Common.{arith, ap, ◌≡◌, ◌+◌, ◌-◌, ◌∙◌, append-nil, ◌++◌, get_or, take}
+use Rattle.bohm_store.specs.Versions.{KeyedVersion}
 use Rattle.bohm_store.specs.Chains.{chain, made}
 use Rattle.bohm_store.proofs.Grows.{base_empty, taken}
 use Rattle.bohm_store.proofs.chains.take_back.Goals as goal
@@ -9,13 +10,14 @@ loop-i-preserved c =
     let i = c.loop-i.i - 1 in
     let w = c.index-writes-i.result in
     let next : i + 1 ≡ c.loop-i.i = omega arith in
+    let key = (get_or ws i w).key in
+    let same : c.write.inside.key.now ≡ key = ap (λ (x : KeyedVersion). x.key) (c.write.view_is ∙ c.index-writes-i.is) in
     record {
       within = omega (arith, c.loop-i.invariant.within);
-      left = λ base h k. taken ws i w k (omega (arith, c.loop-i.invariant.within)) (chain c.loop-i.chains k) (chain c.retreat.new.chains k) (base k) (rw next (c.loop-i.invariant.left base h k)) (c.retreat.ensures.chains k);
+      left = λ base h k. taken ws i w k (omega (arith, c.loop-i.invariant.within)) (chain c.loop-i.chains k) (chain c.retreat.new.chains k) (base k) (rw next (c.loop-i.invariant.left base h k)) (rw same at (c.retreat.ensures.chains k));
       kept = λ base ks more h e none. (let (rest, at) = c.loop-i.invariant.kept base ks more h e none in
-          let key = (get_or ws i w).key in
           let left : chain c.loop-i.chains key ≡ base key ++ made (take (i + 1) ws) key = rw next (c.loop-i.invariant.left base h key) in
-          c.retreat.ensures.keys ks rest at (λ gone. none key (base_empty ws i w (omega (arith, c.loop-i.invariant.within)) (chain c.loop-i.chains key) (base key) left gone)));
+          c.retreat.ensures.keys ks rest at (λ gone. rw same (none key (base_empty ws i w (omega (arith, c.loop-i.invariant.within)) (chain c.loop-i.chains key) (base key) left (rw same at gone)))));
     }
 
 pub returns-clause-chains : goal.returns-clause-chains
