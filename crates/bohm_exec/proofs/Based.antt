@@ -9,13 +9,14 @@ use Rattle.bohm_tree.specs.declared.cell.Cell.{Cell}
 use Rattle.bohm_place.specs.declared.access.Access.{Access}
 use Rattle.bohm_place.specs.declared.access.Source.{Source}
 use Rattle.bohm_place.specs.declared.access.Source.TheVariants.{Before, Within}
+use Rattle.bohm_place.proofs.Lists.{set_same, set_other}
 use Rattle.bohm_board.specs.declared.batch.Batch.{Batch}
 use Rattle.bohm_board.specs.Batches.{IsRightCell, base_of, slot_in}
 use Rattle.bohm_board.specs.Inputs.{IsCellFrom, IsCellOf}
 use Rattle.bohm_board.specs.Serial.{show_cells}
 use Rattle.bohm_exec.specs.Handed.{AreFound}
 use Rattle.bohm_exec.specs.Moments.{shown}
-use Rattle.bohm_exec.proofs.Seen.{get_set_same, get_set_other, not_both}
+use Rattle.bohm_exec.proofs.Seen.{not_both}
 use Rattle.bohm_exec.proofs.Serials.{show_at}
 
 abbrev pub CellsBelow : Batch → List (List ℕ) → List Access → List Cell → ℕ → Type 0
@@ -40,14 +41,14 @@ cells_next b keys accesses old new n k a kept below at_key at here = λ j y x c 
 -- a cell of the base is put at its place
 pub base_put : (b : Batch) (keys : List (List ℕ)) (accesses : List Access) (cells : List Cell) (n : ℕ) (k : List ℕ) (a : Access) (c : Cell) → n < length cells → CellsBelow b keys accesses cells n → slice_get keys n ≡ Some k → slice_get accesses n ≡ Some a
     → a.source ≡ Before → c ≡ base_of b k → CellsBelow b keys accesses (set cells n c) (n + 1)
-base_put b keys accesses cells n k a c inside below at_key at is e = cells_next b keys accesses cells (set cells n c) n k a (λ j ne. get_set_other cells n j c ne) below at_key at
-    (λ d here. let same : c ≡ d = same_Some c d (sym (get_set_same cells n c inside) ∙ here) in from_base b k a.index a.source d is (sym same ∙ e))
+base_put b keys accesses cells n k a c inside below at_key at is e = cells_next b keys accesses cells (set cells n c) n k a (λ j ne. set_other cells n j c ne) below at_key at
+    (λ d here. let same : c ≡ d = same_Some c d (sym (set_same cells n c inside) ∙ here) in from_base b k a.index a.source d is (sym same ∙ e))
 
 pub found_stays : (b : Batch) (accesses : List Access) (cells : List Cell) (n : ℕ) (a : Access) (c : Cell) → AreFound b accesses cells → slice_get accesses n ≡ Some a → a.source ≡ Before → AreFound b accesses (set cells n c)
 found_stays b accesses cells n a c found at is = λ j x u d at_j source cell. dite (ℕ_discrete j n)
     (λ e. let same : a ≡ x = same_Some a x (sym at ∙ (ap (slice_get accesses) (sym e) ∙ at_j)) in
     absurd (not_both a.source u is (ap (λ (y : Access). y.source) same ∙ source)))
-    (λ ne. found j x u d at_j source (sym (get_set_other cells n j c ne) ∙ cell))
+    (λ ne. found j x u d at_j source (sym (set_other cells n j c ne) ∙ cell))
 
 -- a cell that is there already
 pub within_there : (b : Batch) (keys : List (List ℕ)) (accesses : List Access) (cells : List Cell) (n : ℕ) (k : List ℕ) (a : Access) (u : ℕ) → AreFound b accesses cells → CellsBelow b keys accesses cells n → slice_get keys n ≡ Some k → slice_get accesses n ≡ Some a → a.source ≡ Within u

@@ -9,6 +9,7 @@ use Rattle.bohm_tree.specs.declared.cell.Cell.{Cell}
 use Rattle.bohm_place.specs.declared.access.Access.{Access}
 use Rattle.bohm_place.specs.declared.access.Source.{Source}
 use Rattle.bohm_place.specs.declared.access.Source.TheVariants.{Before, Within}
+use Rattle.bohm_place.proofs.Lists.{set_same, set_other}
 use Rattle.bohm_board.specs.declared.batch.Batch.{Batch}
 use Rattle.bohm_board.specs.declared.view.View.{View}
 use Rattle.bohm_board.specs.Batches.{IsRightCell, slot_in}
@@ -17,18 +18,6 @@ use Rattle.bohm_board.proofs.Keeping.{still_known}
 use Rattle.bohm_exec.specs.Handed.{KnowsAll, AreFound}
 
 -- ---- lists
-
-pub get_set_same : {A : Type 0} (xs : List A) (i : ℕ) (x : A) → i < length xs → slice_get (set xs i x) i ≡ Some x
-get_set_same [] i x l = absurd (omega arith)
-get_set_same (y ∷ ys) zero x l = refl
-get_set_same (y ∷ ys) (suc i) x l = get_set_same ys i x (omega arith)
-
-pub get_set_other : {A : Type 0} (xs : List A) (i j : ℕ) (x : A) → j ≢ i → slice_get (set xs i x) j ≡ slice_get xs j
-get_set_other [] i j x ne = refl
-get_set_other (y ∷ ys) zero zero x ne = absurd (ne refl)
-get_set_other (y ∷ ys) zero (suc j) x ne = refl
-get_set_other (y ∷ ys) (suc i) zero x ne = refl
-get_set_other (y ∷ ys) (suc i) (suc j) x ne = get_set_other ys i j x (λ e. ne (ap suc e))
 
 pub contains_at : {A : Type 0} (xs : List A) (j : ℕ) (x : A) → slice_get xs j ≡ Some x → Contains xs x
 contains_at xs j x e = (j, slice_get_within xs j x e, get_or_from_slice_get xs j x x e)
@@ -76,9 +65,9 @@ known_within b v w accesses n a u keeps below at is here = known_next b v w acce
 
 pub found_within : (b : Batch) (accesses : List Access) (cells : List Cell) (n : ℕ) (a : Access) (u : ℕ) (c : Cell) → n < length cells → FoundBelow b accesses cells n → slice_get accesses n ≡ Some a → a.source ≡ Within u → IsRightCell b (slot_in u a) c
     → FoundBelow b accesses (set cells n c) (n + 1)
-found_within b accesses cells n a u c inside below at is right = found_next b accesses cells (set cells n c) n a (λ j ne. get_set_other cells n j c ne) below at
+found_within b accesses cells n a u c inside below at is right = found_next b accesses cells (set cells n c) n a (λ j ne. set_other cells n j c ne) below at
     (λ x d other cell.
-    let same : c ≡ d = same_Some c d (sym (get_set_same cells n c inside) ∙ cell) in
+    let same : c ≡ d = same_Some c d (sym (set_same cells n c inside) ∙ cell) in
     subst (λ (z : ℕ × Cell). IsRightCell b (slot_in z.0 a) z.1) (λ i. (same_within a.source u x is other i, same i)) right)
 
 pub knows_all : (b : Batch) (v : View) (accesses : List Access) (n : ℕ) → length accesses ≡ n → KnownBelow b v accesses n → KnowsAll b v accesses
