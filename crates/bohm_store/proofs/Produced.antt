@@ -1,5 +1,5 @@
 -- What transactions that run one after another produce: versions that rise, and say what each key holds after each of them.
-use Rattle.std.proofs.Common.{◌≡◌, ℕ, suc, ◌+◌, ◌-◌, ◌<◌, ◌≤◌, Bool, true, false, ◌||◌, List, [], ◌∷◌, ◌++◌, length, All, refl, sym, ap, ◌∙◌, arith, if◌then◌else◌, nat_le, ⊎_elim}
+use Rattle.std.proofs.Common.{◌≡◌, ℕ, suc, ◌+◌, ◌-◌, ◌<◌, ◌≤◌, Bool, true, false, List, [], ◌∷◌, ◌++◌, length, All, refl, sym, ap, ◌∙◌, arith, if◌then◌else◌, nat_le, ⊎_elim}
 use Rattle.std.specs.List.{list_any}
 use Rattle.std.proofs.lemmas.Bool.{cases_lt, or_left, or_right, true≢false}
 use Rattle.std.proofs.lemmas.Bool.Decides.{nat_tests}
