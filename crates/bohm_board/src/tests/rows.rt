@@ -28,9 +28,9 @@ fn counter(rt: &impl Abort, alloc: Global) -> Result<Txn, NoMemory>
     ensures { IfOk result (λ t. t ≡ counter) }
 {
     let key = key(rt);
+    let shown = Sum::from(Term::new(false, Atom::Read(key)).expect(rt, "a term"));
     let read = Term::new(false, Atom::Read(key)).expect(rt, "a term");
     let one = Term::new(false, Atom::Lit(1)).expect(rt, "a term");
-    let shown = Sum::new(vec![in alloc; read]?).expect(rt, "a sum");
     let next = Sum::new(vec![in alloc; read, one]?).expect(rt, "a sum");
     let put = Stmt::Put {
         key,
