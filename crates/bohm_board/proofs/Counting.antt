@@ -21,9 +21,10 @@ use Rattle.bohm_txn.specs.Serial.{after, over, state, outcome_of, writes_of, sho
 use Rattle.bohm_txn.specs.Sure.{is_sure}
 use Rattle.bohm_place.specs.declared.access.Access.{Access}
 use Rattle.bohm_board.specs.declared.batch.Batch.{Batch}
+use Rattle.bohm_board.specs.declared.slot.Slot.{Slot}
 use Rattle.bohm_board.specs.Bases.{IsBase, declares}
 use Rattle.bohm_board.specs.Serial.{own_cells, show_cells}
-use Rattle.bohm_board.specs.Batches.{txns_of, base_of, position, txn_at, width_at, reads_at, writes_at, wanted_at, is_sure_at, IsIn, IsSlot, IsRightCell, IsRightOutcome, number}
+use Rattle.bohm_board.specs.Batches.{txns_of, base_of, position, txn_at, width_at, reads_at, writes_at, wanted_at, is_sure_at, IsIn, IsSlot, IsRightCell, IsRightOutcome}
 use Rattle.bohm_board.specs.Samples.{name, counter, IsCounting}
 use Rattle.bohm_board.proofs.Inputs.{own_right, outcome_right}
 use Rattle.bohm_board.proofs.Numbers.{position_inside, txn_there, width_there}
@@ -193,9 +194,9 @@ wanted_two b c t r w a is at_read at_write in_it =
     (in_either (is_sure_at b t) (reads_at b t) (writes_at b t) a in_it)
 
 -- both of its slots
-pub both_filled : (b : Batch) → IsCounting b → (t : ℕ) (xs : List ℕ) → IsIn b t → xs ≡ number b (record { txn = t; index = 0 }) ∷ number b (record { txn = t; index = 1 }) ∷ [] → (j : ℕ) → j < width_at b t → Contains xs (number b (record { txn = t; index = j }))
-both_filled b c t xs is e zero h = subst (λ (ys : List ℕ). Contains ys (number b (record { txn = t; index = 0 }))) (sym e) (0, omega arith, refl)
-both_filled b c t xs is e (suc zero) h = subst (λ (ys : List ℕ). Contains ys (number b (record { txn = t; index = 1 }))) (sym e) (1, omega arith, refl)
+pub both_filled : (b : Batch) → IsCounting b → (t : ℕ) (xs : List Slot) → IsIn b t → xs ≡ record { txn = t; index = 0 } ∷ record { txn = t; index = 1 } ∷ [] → (j : ℕ) → j < width_at b t → Contains xs (record { txn = t; index = j })
+both_filled b c t xs is e zero h = subst (λ (ys : List Slot). Contains ys (record { txn = t; index = 0 })) (sym e) (0, omega arith, refl)
+both_filled b c t xs is e (suc zero) h = subst (λ (ys : List Slot). Contains ys (record { txn = t; index = 1 })) (sym e) (1, omega arith, refl)
 both_filled b c t xs is e (suc (suc j)) h = absurd (omega (arith, h, width_two b c t is))
 
 pub each_of_two : (b : Batch) → IsCounting b → (t : ℕ) → IsIn b t → (P : ℕ → Type 0) → P 0 → P 1 → (j : ℕ) → j < width_at b t → P j

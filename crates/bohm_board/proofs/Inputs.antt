@@ -1,5 +1,5 @@
 -- The cells that a position takes by its plan are those of the state before it.
-use Rattle.std.proofs.Common.{◌≡◌, ℕ, suc, ◌+◌, ◌-◌, ◌<◌, ◌≤◌, List, [], ◌∷◌, ◌++◌, map, length, Some, refl, ap, sym, ◌∙◌, subst, arith, true, false, Bool}
+use Rattle.std.proofs.Common.{◌≡◌, ℕ, suc, ◌+◌, ◌-◌, ◌<◌, ◌≤◌, List, [], ◌∷◌, map, length, Option, None, Some, refl, ap, sym, ◌∙◌, subst, arith, true, false, Bool}
 use Rattle.std.specs.Prelude.{Ok, Err, ◌||◌}
 use Rattle.std.specs.Option.{option_map}
 use Rattle.std.specs.List.{slice_get, list_any}
@@ -13,10 +13,9 @@ use Rattle.bohm_tree.specs.declared.cell.Cell.{Cell}
 use Rattle.bohm_tree.specs.declared.txn.Txn.{Txn}
 use Rattle.bohm_txn.specs.declared.outcome.Outcome.{Outcome}
 use Rattle.bohm_txn.specs.declared.outcome.Reason.{Reason}
-use Rattle.bohm_txn.specs.Declares.{IsAmong, shows_in}
+use Rattle.bohm_txn.specs.Declares.{IsAmong}
 use Rattle.bohm_txn.specs.Meaning.{Look, Ended, body, fresh}
-use Rattle.bohm_txn.specs.Serial.{after, state, outcome_of, shows_of}
-use Rattle.bohm_txn.proofs.Bodies.{same_reads, same_cells}
+use Rattle.bohm_txn.specs.Serial.{after, state, outcome_of}
 use Rattle.bohm_txn.proofs.States.{there, next}
 use Rattle.bohm_place.specs.declared.access.Access.{Access}
 use Rattle.bohm_place.specs.declared.access.Source.{Source}
@@ -24,9 +23,11 @@ use Rattle.bohm_place.specs.declared.access.Source.TheVariants.{Before, Within}
 use Rattle.bohm_place.specs.Plans.{IsRightPlan, IsRightAccess, AreRightAccesses, IsIndexOf, reads_of, writes_of}
 use Rattle.bohm_place.specs.Writers.{IsNewest, WritesAt}
 use Rattle.bohm_board.specs.declared.batch.Batch.{Batch}
-use Rattle.bohm_board.specs.Serial.{own_cells, show_cells, offset}
+use Rattle.bohm_board.specs.declared.view.RightSlot.{RightSlot}
+use Rattle.bohm_board.specs.declared.view.Rights.{Rights}
+use Rattle.bohm_board.specs.Serial.{own_cells, offset}
 use Rattle.bohm_board.specs.Batches.{base_of, txns_of, plan_of, first_of, rights_of, right_cell, number}
-use Rattle.bohm_board.specs.Inputs.{IsCellFrom, IsCellOf, AreCellsOf, IsInputOf, EndsAlike, AreRight}
+use Rattle.bohm_board.specs.Inputs.{IsCellFrom, IsCellOf, AreCellsOf, AreRight}
 use Rattle.bohm_board.proofs.Newest.{formed_at, newest_state}
 use Rattle.bohm_board.specs.Words.{stmt_of}
 use Rattle.bohm_board.proofs.Places.{outcomes_long}
@@ -35,7 +36,7 @@ use Rattle.bohm_board.proofs.SerialSlots.{slot_serial, own_write, outcome_serial
 -- what position i leaves in its slots is right
 pub own_right : (b : Batch) (i : ℕ) (x : Txn) → slice_get (txns_of b) i ≡ Some x → AreRight (rights_of b) (offset (txns_of b) i) (own_cells (state (base_of b) (txns_of b) i) x)
 unfolding rights_of
-own_right b i x e = λ j c own. ap (λ o. option_map (λ s. s.cell) o) (slot_serial 0 (base_of b) (txns_of b) i x j c e own)
+own_right b i x e = λ j c own. ap (λ o. option_map (λ s. s.cell) o) (slot_serial (first_of b) (base_of b) (txns_of b) i x j c e own)
 
 pub outcome_right : (b : Batch) (i : ℕ) (x : Txn) → slice_get (txns_of b) i ≡ Some x → slice_get (rights_of b).outcomes i ≡ Some (outcome_of (body (state (base_of b) (txns_of b) i) x))
 unfolding rights_of
@@ -112,14 +113,13 @@ among_place (x ∷ ks) k e =
       | false ↦ λ _ later. let (j, at) = among_place ks k later in (suc j, at)
     ] refl e
 
-pub over_input : (b : Batch) (i : ℕ) (x : Txn) (look : Look) → slice_get (txns_of b) i ≡ Some x → IsInputOf b i x look → EndsAlike look (state (base_of b) (txns_of b) i) x
-over_input b i x look at input =
-    let before : Look = state (base_of b) (txns_of b) i in
-    let reads : (k : List ℕ) → IsAmong x.reads k → look k ≡ before k = λ k among. let (j, at_key) = among_place x.reads k among in sym (read_before b i x j k (look k) at at_key (λ a. input.reads j k a at_key)) in
-    let writes : (k : List ℕ) → IsAmong x.writes k → look k ≡ before k = λ k among. let (j, at_key) = among_place x.writes k among in sym (write_before b i x j k (look k) at at_key (λ a. input.writes j k a at_key)) in
-    let bodies : body look x ≡ body before x = same_reads look before x (formed_at (txns_of b) b.formed i x at) reads in
-    let own : map (after look x) x.writes ≡ map (after before x) x.writes = same_cells look before x x.writes bodies writes in
-    record { bodies = bodies; cells = λ d. own d ++ show_cells (shows_in x.body) (shows_of (bodies d)) }
+mapped : (o : Option RightSlot) (c : Cell) → option_map (λ x. x.cell) o ≡ Some c → (x : RightSlot) × (o ≡ Some x)
+mapped None c e = absurd cc
+mapped (Some x) c e = (x, refl)
+
+-- a number at which there is a right cell is that of a slot
+pub right_within : (r : Rights) (k : ℕ) (c : Cell) → right_cell r k ≡ Some c → k < length r.slots
+right_within r k c e = let (x, at) = mapped (slice_get r.slots k) c e in slice_get_within r.slots k x at
 
 -- ---- right outcomes are short
 

@@ -2,6 +2,7 @@
 use Rattle.std.proofs.Common.{◌≡◌, ℕ, List, [], ◌∷◌, ◌++◌, Option, None, Some, refl, sym, ap, ◌∙◌, subst, ⊎_elim, append_assoc}
 use Rattle.std.specs.Prelude.{Contains}
 use Rattle.std.proofs.lemmas.List.Elements.{Contains-append_cases, Contains-append_left, Contains-append_right, Contains-push}
+use Rattle.std.proofs.lemmas.List.{append-nil}
 use Rattle.bohm_tree.specs.declared.cell.Cell.{Cell}
 use Rattle.bohm_tree.specs.declared.cell.Cell.TheVariants.{Absent, Present}
 use Rattle.bohm_board.specs.declared.batch.Batch.{Batch}
@@ -12,21 +13,17 @@ use Rattle.bohm_board.specs.declared.view.View.{View}
 use Rattle.bohm_board.specs.Passes.{Continues, Keeps, IsDone, IsBusy, IsKnown, KnowsWanted}
 use Rattle.bohm_board.specs.Views.{Knows, saw, claimed, looked, filled_with, finished, joined}
 
-pub same_on : (xs : List ℕ) → Continues xs xs
-same_on xs = ([], sym (append_nil xs))
-  where
-    append_nil : (xs : List ℕ) → xs ++ [] ≡ xs
-    append_nil [] = refl
-    append_nil (x ∷ xs) = ap (λ ys. x ∷ ys) (append_nil xs)
+pub same_on : {A : Type 0} (xs : List A) → Continues xs xs
+same_on xs = ([], sym (append-nil xs))
 
-pub one_more : (xs : List ℕ) (x : ℕ) → Continues xs (xs ++ x ∷ [])
+pub one_more : {A : Type 0} (xs : List A) (x : A) → Continues xs (xs ++ x ∷ [])
 one_more xs x = (x ∷ [], refl)
 
-pub further_on : (xs ys zs : List ℕ) → Continues xs ys → Continues ys zs → Continues xs zs
-further_on xs ys zs a b = (a.0 ++ b.0, b.1 ∙ (ap (λ (l : List ℕ). l ++ b.0) a.1 ∙ append_assoc xs a.0 b.0))
+pub further_on : {A : Type 0} (xs ys zs : List A) → Continues xs ys → Continues ys zs → Continues xs zs
+further_on {A} xs ys zs a b = (a.0 ++ b.0, b.1 ∙ (ap (λ (l : List A). l ++ b.0) a.1 ∙ append_assoc xs a.0 b.0))
 
-pub continues_contains : (xs ys : List ℕ) (x : ℕ) → Continues xs ys → Contains xs x → Contains ys x
-continues_contains xs ys x c h = subst (λ (l : List ℕ). Contains l x) (sym c.1) (Contains-append_left xs c.0 x h)
+pub continues_contains : {A : Type 0} (xs ys : List A) (x : A) → Continues xs ys → Contains xs x → Contains ys x
+continues_contains {A} xs ys x c h = subst (λ (l : List A). Contains l x) (sym c.1) (Contains-append_left xs c.0 x h)
 
 -- ---- views
 
@@ -56,12 +53,12 @@ keeps_claimed v i Open = record { right = refl; done = same_on v.done; busy = sa
 keeps_claimed v i Busy = keeps_saw v i Busy
 keeps_claimed v i Done = keeps_saw v i Done
 
-pub keeps_looked : (v : View) (k : ℕ) (answer : Option Cell) → Keeps v (looked v k answer)
+pub keeps_looked : (v : View) (k : Slot) (answer : Option Cell) → Keeps v (looked v k answer)
 keeps_looked v k None = keeps_same v
 keeps_looked v k (Some Absent) = record { right = refl; done = same_on v.done; busy = same_on v.busy; absent = one_more v.absent k; present = same_on v.present }
 keeps_looked v k (Some (Present z)) = record { right = refl; done = same_on v.done; busy = same_on v.busy; absent = same_on v.absent; present = one_more v.present k }
 
-pub keeps_filled : (v : View) (k : ℕ) (c : Cell) → Keeps v (filled_with v k c)
+pub keeps_filled : (v : View) (k : Slot) (c : Cell) → Keeps v (filled_with v k c)
 keeps_filled v k Absent = record { right = refl; done = same_on v.done; busy = same_on v.busy; absent = same_on v.absent; present = same_on v.present }
 keeps_filled v k (Present z) = record { right = refl; done = same_on v.done; busy = same_on v.busy; absent = same_on v.absent; present = same_on v.present }
 
@@ -79,7 +76,7 @@ still_done b v w t k h = continues_contains v.done w.done _ k.done h
 pub still_busy : (b : Batch) (v w : View) (t : ℕ) → Keeps v w → IsBusy b v t → IsBusy b w t
 still_busy b v w t k h = continues_contains v.busy w.busy _ k.busy h
 
-pub knows_on : (v w : View) (k : ℕ) → Keeps v w → Knows v k → Knows w k
+pub knows_on : (v w : View) (k : Slot) → Keeps v w → Knows v k → Knows w k
 knows_on v w k keeps h = ⊎_elim
     (λ (a : Contains v.absent k). Contains-append_left w.absent w.present k (continues_contains v.absent w.absent k keeps.absent a))
     (λ (p : Contains v.present k). Contains-append_right w.absent w.present k (continues_contains v.present w.present k keeps.present p))
@@ -92,7 +89,7 @@ pub still_wanted : (b : Batch) (v w : View) (t : ℕ) → Keeps v w → KnowsWan
 still_wanted b v w t keeps h = λ a u in_it is. knows_on v w _ keeps (h a u in_it is)
 
 -- a look that finds a cell knows the slot
-pub knows_looked : (v : View) (k : ℕ) (c : Cell) → Knows (looked v k (Some c)) k
+pub knows_looked : (v : View) (k : Slot) (c : Cell) → Knows (looked v k (Some c)) k
 knows_looked v k Absent = Contains-append_left (v.absent ++ k ∷ []) v.present k (Contains-append_right v.absent (k ∷ []) k (Contains-push [] k))
 knows_looked v k (Present z) = Contains-append_right v.absent (v.present ++ k ∷ []) k (Contains-append_right v.present (k ∷ []) k (Contains-push [] k))
 

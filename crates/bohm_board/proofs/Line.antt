@@ -5,7 +5,7 @@ use lib.ListN.{get_elem?}
 use mathlib.Core.Logic.{dite}
 use native.Mathlib.Decide.{ℕ_discrete}
 use Rattle.std.proofs.lemmas.List.{set-append_left, set-append_right, get_or_append_left, get_or-append_right}
-use Rattle.bohm_board.specs.Law.{Words, in_line}
+use Rattle.bohm_board.specs.Shown.{Words, in_line}
 
 -- by cases on whether the word that is read is the one that was written
 pub put_at : (P : ℕ → Type 0) (xs : List ℕ) (i x j : ℕ) → i < length xs → (j ≡ i → P x) → (j ≢ i → P (get_or xs j 0)) → P (get_or (set xs i x) j 0)
@@ -40,10 +40,10 @@ value_put w n m k x e d = set-append_right w.statuses (w.presences ++ w.values) 
     ∙ ap (λ (ys : List ℕ). w.statuses ++ ys) (ap (λ (z : ℕ). set (w.presences ++ w.values) z x) (less n (m + k))
     ∙ (set-append_right w.presences w.values m (m + k) x d (omega arith) ∙ ap (λ (z : ℕ). w.presences ++ set w.values z x) (less m k)))
 
-pub found_at : (xs : List ℕ) (i x : ℕ) → get_elem? xs i ≡ some x → get_or xs i 0 ≡ x
-found_at [] i x e = absurd (some-ne-none x (sym e))
-found_at (y ∷ ys) zero x e = some-injective y x e
-found_at (y ∷ ys) (suc i) x e = found_at ys i x e
+pub found_at : {A : Type 0} (xs : List A) (i : ℕ) (x d : A) → get_elem? xs i ≡ some x → (i < length xs) × (get_or xs i d ≡ x)
+found_at [] i x d e = absurd (some-ne-none x (sym e))
+found_at (y ∷ ys) zero x d e = (omega arith, some-injective y x e)
+found_at (y ∷ ys) (suc i) x d e = let found = found_at ys i x d e in let inside = found.0 in (omega arith, found.1)
 
 -- three lists that are the words of a line, each in its place
 pub same_words : (w : Words) (ws xs ps vs : List ℕ) → ws ≡ in_line w → length xs ≡ length w.statuses → length ps ≡ length w.presences → length vs ≡ length w.values

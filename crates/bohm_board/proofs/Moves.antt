@@ -1,224 +1,431 @@
--- Each step of a board keeps its rule.
-use Rattle.std.proofs.Common.{◌≡◌, ◌≢◌, ℕ, zero, suc, ◌+◌, ◌<◌, ◌≤◌, List, ◌∷◌, [], ◌++◌, length, get_or, set, sym, refl, ap, ◌∙◌, subst, arith, None, Some, length-set, eqb}
-use Rattle.std.specs.Prelude.{slice_get, Contains}
+-- Each step of a board is the event of its name, so it keeps the rule.
+use Rattle.std.proofs.Common.{◌≡◌, ◌≢◌, ℕ, zero, suc, ◌+◌, ◌*◌, ◌/◌, ◌%◌, ◌<◌, ◌≤◌, List, ◌∷◌, [], ◌++◌, length, get_or, set, sym, refl, ap, ◌∙◌, subst, ⊎_elim, arith, Option, None, Some, eqb, length-set}
+use Rattle.std.specs.Prelude.{Contains, ℤ, slice_get}
 use Rattle.std.proofs.lemmas.List.{replicate-append-replicate}
-use Rattle.std.proofs.lemmas.Option.{same_Some}
-use mathlib.Core.Option.{some, none, some-injective, some-ne-none}
+use Rattle.std.proofs.lemmas.List.Elements.{Contains-append_cases}
+use mathlib.Core.Option.{some, none}
 use lib.ListN.{get_elem?, replicate, length-replicate}
 use lib.Seq.{set-get_or}
 use prog.Atomic.{either}
-use Rattle.atomic_table.specs.Table.{State, Me, step, keeps, stepped, opening, Allows, Splits, Joins, Final, Seen}
+use Rattle.atomic_table.specs.Table.{State as Table, Me, step, keeps, stepped, opening, Allows, Splits, Joins}
 use Rattle.atomic_table.proofs.Lists.{exchanged, set_else}
-use Rattle.bohm_board.specs.declared.status.Status.TheVariants.{Open, Done}
-use Rattle.bohm_board.specs.declared.view.RightSlot.{RightSlot}
+use Rattle.bohm_tree.specs.declared.cell.Cell.{Cell}
+use Rattle.bohm_tree.specs.declared.cell.Cell.TheVariants as cells
+use Rattle.bohm_txn.specs.declared.outcome.Outcome.{Outcome}
+use Rattle.bohm_txn.specs.declared.outcome.Outcome.TheVariants.{Commit, Abort}
+use Rattle.bohm_txn.specs.declared.outcome.Reason.TheVariants as reasons
+use Rattle.bohm_board.specs.declared.batch.Batch.{Batch}
+use Rattle.bohm_board.specs.declared.slot.Slot.{Slot}
+use Rattle.bohm_board.specs.declared.status.Status.TheVariants as seen
+use Rattle.bohm_board.specs.declared.status.Claimed.TheVariants as won
 use Rattle.bohm_board.specs.declared.view.Rights.{Rights}
 use Rattle.bohm_board.specs.declared.view.View.{View}
-use Rattle.bohm_board.specs.Words.{status_of, outcome_at}
-use Rattle.bohm_board.specs.Law.{Words, in_line, IsSized, IsSound, IsUntouched, IsTrueOf, IsLawful, IsRuled}
-use Rattle.bohm_board.specs.Views.{newcomer, spent, saw, claimed, finished, joined, Recalls}
-use Rattle.bohm_board.specs.Steps.{MeetsStatus, MeetsClaim, MeetsFinish}
-use Rattle.bohm_board.proofs.Line.{put_at, status_in, status_put, same_words}
-use Rattle.bohm_board.proofs.Holding.{saw_held}
-use Rattle.bohm_board.proofs.Keeps.{Grows, still, moved, relearnt, arrived, more, both}
+use Rattle.bohm_board.specs.Batches.{position, number, timestamp, slot_numbered, right_cell, rights_of, IsIn, IsSlot, IsRightCell, IsRightOutcome}
+use Rattle.bohm_board.specs.Core.{Progress, Open, Claimed, Done, State, empty}
+use Rattle.bohm_board.specs.Events.{Event, LookPresence, LookValue, Status, Claim, FillValue, FillPresence, Finish, Split, Join, MayFill, put, seen_as, seeing, next}
+use Rattle.bohm_board.specs.Shown.{Words, in_line, Shows, IsRuled, IsStep}
+use Rattle.bohm_board.specs.Steps.{MeetsStatus, MeetsClaim, MeetsFinish, MeetsPresence, MeetsValue, MeetsStore, MeetsFill, IsFillable}
+use Rattle.bohm_board.specs.Views.{Presence, Absent, Present, presence_of, newcomer, spent, saw, claimed, learnt, stored, filled, finished, joined, Holds, HoldsNothing, HasStored, KnowsWanted, HasFilledAll, Recalls, IsUnseen}
+use Rattle.bohm_board.specs.Words.{status_of, won_at, found_by, word_of, stmt_of, outcome_in, outcome_at, progress_word, presence_word, presence_at, filled_word, value_at, present_at}
+use Rattle.bohm_board.proofs.EventsKeep.{held_learnt, right_learnt}
+use Rattle.bohm_board.proofs.Evaluated.{outcome_is_right, cell_is_right}
+use Rattle.bohm_board.proofs.Invariant.{IsTrueOf, IsInvariant, put_cases, wanted_filled}
+use Rattle.bohm_board.proofs.Line.{found_at, status_in, status_put, presence_in, presence_put, value_in, value_put}
+use Rattle.bohm_board.proofs.Numbers.{number_named, number_inside, position_inside, stamp_inside}
+use Rattle.bohm_board.proofs.Places.{outcomes_long}
+use Rattle.bohm_board.proofs.Runs.{reached_kept, reached_more}
+use Rattle.bohm_board.proofs.Showing.{same_shown, status_shown, presence_shown, value_shown, view_put, view_added, past_end}
+use Rattle.bohm_board.proofs.Sound.{IsSound, presence_right}
 
-abbrev St : Type 0
-St = State (Unit {0}) View
+abbrev T : Type 0
+T = Table (Unit {0}) View
 
 abbrev M : Type 0
 M = Me (Unit {0}) View
 
-is_done : (n : ℕ) → 2 ≤ n → status_of n ≡ Done
+-- ---- what words say of a state
+
+pub two_at_least : (o : Outcome) → 2 ≤ word_of o
+two_at_least Commit = omega arith
+two_at_least (Abort reasons.Need s) = omega arith
+two_at_least (Abort reasons.Fail s) = omega arith
+two_at_least (Abort reasons.Absent s) = omega arith
+two_at_least (Abort reasons.Range s) = omega arith
+
+is_done : (n : ℕ) → 2 ≤ n → status_of n ≡ seen.Done
 is_done zero h = absurd (omega arith)
 is_done (suc zero) h = absurd (omega arith)
 is_done (suc (suc n)) h = refl
 
-not_open : (n : ℕ) → n ≢ 0 → status_of n ≢ Open
-not_open zero h e = h refl
-not_open (suc zero) h e = cc
-not_open (suc (suc n)) h e = cc
+seen_word : (o : Progress) → status_of (progress_word o) ≡ seen_as o
+seen_word Open = refl
+seen_word (Claimed p) = refl
+seen_word (Done o) = is_done (word_of o) (two_at_least o)
 
-pub nothing_in : {A : Type 0} (x : A) → Contains [] x → ⊥
-nothing_in x c = let h : c.0 < 0 = c.1 in omega arith
+seen_presence : (k : Option Presence) → presence_at (presence_word k) ≡ k
+seen_presence None = refl
+seen_presence (Some Absent) = refl
+seen_presence (Some Present) = refl
 
-pub recalls : (r : Rights) (w : Words) (v : View) (t n : ℕ) → IsTrueOf r w v → n ≡ get_or w.statuses t 0 → Recalls v t (status_of n)
-recalls r w v t n k e = record {
-  done = λ c. is_done n (subst (λ (z : ℕ). 2 ≤ z) (sym e) (k.done t c));
-  busy = λ c. not_open n (λ z. k.busy t c (sym e ∙ z));
-}
+found_word : (n : ℕ) → found_by (won_at n) ≡ status_of n
+found_word zero = refl
+found_word (suc zero) = refl
+found_word (suc (suc n)) = refl
 
-knows_saw : (r : Rights) (w : Words) (v : View) (t n : ℕ) → IsTrueOf r w v → n ≡ get_or w.statuses t 0 → IsTrueOf r w (saw v t (status_of n))
-knows_saw r w v t zero k e = k
-knows_saw r w v t (suc zero) k e = record { done = k.done; busy = more (λ y. get_or w.statuses y 0 ≢ 0) v.busy t k.busy (λ z. omega arith); absent = k.absent; present = k.present; held = k.held; stored = k.stored; filled = k.filled }
-knows_saw r w v t (suc (suc n)) k e = record { done = more (λ y. 2 ≤ get_or w.statuses y 0) v.done t k.done (omega arith); busy = k.busy; absent = k.absent; present = k.present; held = k.held; stored = k.stored; filled = k.filled }
+-- an outcome's word has the outcome
+pub outcome_back : (o : Outcome) → stmt_of o < 1000 → outcome_at (word_of o) ≡ o
+outcome_back Commit few = refl
+outcome_back (Abort reasons.Need s) few = let d : (1000 * 1 + s) / 1000 ≡ 1 = omega arith in let m : (1000 * 1 + s) % 1000 ≡ s = omega arith in λ i. outcome_in (d i) (m i)
+outcome_back (Abort reasons.Fail s) few = let d : (1000 * 2 + s) / 1000 ≡ 2 = omega arith in let m : (1000 * 2 + s) % 1000 ≡ s = omega arith in λ i. outcome_in (d i) (m i)
+outcome_back (Abort reasons.Absent s) few = let d : (1000 * 3 + s) / 1000 ≡ 3 = omega arith in let m : (1000 * 3 + s) % 1000 ≡ s = omega arith in λ i. outcome_in (d i) (m i)
+outcome_back (Abort reasons.Range s) few = let d : (1000 * 4 + s) / 1000 ≡ 4 = omega arith in let m : (1000 * 4 + s) % 1000 ≡ s = omega arith in λ i. outcome_in (d i) (m i)
 
--- a load
-pub read : (r : Rights) (s : St) (rule : IsRuled r s) (i id : ℕ) (cs : List (ℕ × Unit {0})) (v v' : View) → get_elem? s.views id ≡ some v → IsTrueOf r rule.words v' → v'.held ≡ v.held
-    → IsRuled r (stepped s i (get_or s.words i 0) id cs v' keeps)
-read r s rule i id cs v v' at mine same = record {
-  words = rule.words;
-  line = set-get_or s.words i 0 ∙ rule.line;
-  lawful = relearnt r rule.words s.views id v v' rule.lawful at mine same;
-}
+-- ---- each step is the event of its name
 
-pub sees : (r : Rights) (slots id : ℕ) (me : M) (t : ℕ) → t < length r.outcomes → Allows (IsRuled r) slots id me t (λ n. n) (MeetsStatus (step slots t 0 0 none) me)
-sees r slots id me t inside s rule _ at _ =
-    let w = rule.words in
-    let n : ℕ = get_or s.words t 0 in
-    let k : IsTrueOf r w me.0 = rule.lawful.each id me.0 at in
-    let long = rule.lawful.sized.statuses in
-    let e : n ≡ get_or w.statuses t 0 = ap (λ (z : List ℕ). get_or z t 0) rule.line ∙ status_in w t (omega arith) in
-    let v' : View = saw me.0 t (status_of n) in
-    (v', keeps, tt, read r s rule t id me.1 me.0 v' at (knows_saw r w me.0 t n k e) (saw_held me.0 t (status_of n)), (refl, refl, recalls r w me.0 t n k e))
+module _ (b : Batch) (t : T) (s : State) (shows : Shows b t s) (p : ℕ) (v : View) (at : get_elem? t.views p ≡ some v) (own : v.right ≡ rights_of b) (c : List (ℕ × Unit {0})) where
+  pub mine : s.views p ≡ v
+  mine = shows.views p ∙ (found_at t.views p v (newcomer (rights_of b)) at).1
 
--- the status word of t becomes x
-module _ (r : Rights) (w : Words) (t x : ℕ) (sized : IsSized r w) (inside : t < length r.outcomes) where
-  abbrev pub turned : Words
-  turned = record w { statuses = set w.statuses t x }
+  named : (s.views p).right ≡ rights_of b
+  named = ap (λ (w : View). w.right) mine ∙ own
 
-  at_status : (P : ℕ → Type 0) (u : ℕ) → (u ≡ t → P x) → (u ≢ t → P (get_or w.statuses u 0)) → P (get_or (set w.statuses t x) u 0)
-  at_status P u = let long = sized.statuses in put_at P w.statuses t x u (omega arith)
+  views_put : (f : View → View) (q : ℕ) → put s.views p (f (s.views p)) q ≡ get_or (set t.views p (f v)) q (newcomer (rights_of b))
+  views_put f = view_put (newcomer (rights_of b)) t.views s.views p v (f (s.views p)) (f v) shows.views at (ap f mine)
 
-  turned_sized : IsSized r turned
-  turned_sized = record { statuses = length-set w.statuses t x ∙ sized.statuses; presences = sized.presences; values = sized.values }
-
-  turned_grows : (2 ≤ get_or w.statuses t 0 → 2 ≤ x) → x ≢ 0 → Grows r w turned
-  turned_grows up some_word = record {
-    done = λ u h. at_status (λ z. 2 ≤ z) u (λ e. up (subst (λ (z : ℕ). 2 ≤ get_or w.statuses z 0) e h)) (λ _. h);
-    busy = λ u h. at_status (λ z. z ≢ 0) u (λ _. some_word) (λ _. h);
-    filled = λ k h. refl;
-    stored = λ k y at h. h;
+  -- a load
+  read : (i n : ℕ) (f : View → View) → n ≡ get_or t.words i 0 → Shows b (stepped t i n p c (f v) keeps) (seeing s p (f (s.views p)))
+  read i n f e = record {
+    words = shows.words;
+    line = ap (λ (z : ℕ). set t.words i z) e ∙ (set-get_or t.words i 0 ∙ shows.line);
+    shown = same_shown b shows.words s (put s.views p (f (s.views p))) shows.shown;
+    views = views_put f;
   }
 
-  pub turned_sound : IsSound r w → (2 ≤ x → slice_get r.outcomes t ≡ Some (outcome_at x)) → x ≢ 0 → ((k : ℕ) (y : RightSlot) → slice_get r.slots k ≡ Some y → y.position ≡ t → 2 ≤ x → get_or w.presences k 0 ≢ 0) → IsSound r turned
-  turned_sound sound right some_word whole = record {
-    outcomes = λ u. at_status (λ z. 2 ≤ z → slice_get r.outcomes u ≡ Some (outcome_at z)) u (λ e h. ap (λ (z : ℕ). slice_get r.outcomes z) e ∙ right h) (λ _. sound.outcomes u);
-    slots = λ k y at. let old = sound.slots k y at in record {
-      whole = at_status (λ z. 2 ≤ z → get_or w.presences k 0 ≢ 0) y.position (λ e. whole k y at e) (λ _. old.whole);
-      right = old.right;
+  -- ---- status words
+
+  pub status_word : (u i : ℕ) → IsIn b u → i ≡ position b u → get_or t.words i 0 ≡ progress_word (s.positions u)
+  status_word u i is e =
+      let long = shows.shown.sized.statuses in
+      let inside : position b u < length shows.words.statuses = omega (arith, position_inside b u is, outcomes_long b) in
+      (λ d. get_or (shows.line d) (e d) 0) ∙ (status_in shows.words (position b u) inside ∙ shows.shown.positions u is)
+
+  put_status : (u i : ℕ) (o : Progress) (f : View → View) → IsIn b u → i ≡ position b u → Shows b (stepped t i (progress_word o) p c (f v) keeps) (record s { positions = put s.positions u o; views = put s.views p (f (s.views p)) })
+  put_status u i o f is e =
+      let long = shows.shown.sized.statuses in
+      let inside : position b u < length shows.words.statuses = omega (arith, position_inside b u is, outcomes_long b) in record {
+        words = record shows.words { statuses = set shows.words.statuses (position b u) (progress_word o) };
+        line = (λ d. set (shows.line d) (e d) (progress_word o)) ∙ status_put shows.words (position b u) (progress_word o) inside;
+        shown = status_shown b shows.words s (put s.views p (f (s.views p))) u o is shows.shown;
+        views = views_put f;
+      }
+
+  pub status_step : (u i : ℕ) → IsIn b u → i ≡ position b u → ¬ Holds b v u
+      → IsStep b s (Status p u (status_of (get_or t.words i 0))) (stepped t i (get_or t.words i 0) p c (saw v u (status_of (get_or t.words i 0))) keeps)
+  status_step u i is e apart = record {
+    allowed = (named, (is, (λ h. apart (sym (ap (λ (w : View). w.held) mine) ∙ h)), ap status_of (status_word u i is e) ∙ seen_word (s.positions u)));
+    shows = read i (get_or t.words i 0) (λ w. saw w u (status_of (get_or t.words i 0))) refl;
+  }
+
+  claim_shows : (u i n : ℕ) → IsIn b u → i ≡ position b u → n ≡ get_or t.words i 0 → Shows b (stepped t i (either (eqb n 0) 1 n) p c (claimed v u (status_of n)) keeps) (next s (Claim p u (won_at n)))
+  claim_shows u i zero is e found = put_status u i (Claimed p) (λ w. claimed w u seen.Open) is e
+  claim_shows u i (suc zero) is e found = read i 1 (λ w. claimed w u seen.Busy) found
+  claim_shows u i (suc (suc n)) is e found = exchanged (suc (suc n)) 0 1 (λ z. Shows b (stepped t i z p c (claimed v u seen.Done) keeps) (next s (Claim p u won.Done)))
+      (λ none. absurd (omega arith)) (λ _. read i (suc (suc n)) (λ w. claimed w u seen.Done) found)
+
+  pub claim_step : (u i : ℕ) → IsIn b u → i ≡ position b u → HoldsNothing v
+      → IsStep b s (Claim p u (won_at (get_or t.words i 0))) (stepped t i (either (eqb (get_or t.words i 0) 0) 1 (get_or t.words i 0)) p c (claimed v u (status_of (get_or t.words i 0))) keeps)
+  claim_step u i is e free = record {
+    allowed = (named, (is, ap (λ (w : View). w.held) mine ∙ free, found_word (get_or t.words i 0) ∙ (ap status_of (status_word u i is e) ∙ seen_word (s.positions u))));
+    shows = claim_shows u i (get_or t.words i 0) is e refl;
+  }
+
+  wanted : (kept : IsInvariant b s) (u : ℕ) → KnowsWanted b v u → KnowsWanted b (s.views p) u
+  wanted kept u knows = subst (λ (w : View). KnowsWanted b w u) (sym mine) knows
+
+  pub finish_step : (u i : ℕ) (o : Outcome) → IsInvariant b s → IsIn b u → i ≡ position b u → Holds b v u → HasFilledAll b v u → KnowsWanted b v u → IsRightOutcome b u o
+      → IsStep b s (Finish p u o) (stepped t i (word_of o) p c (finished v u) keeps)
+  finish_step u i o kept is e holds all knows right =
+      let k = kept.each p in
+      let want = wanted kept u knows in record {
+        allowed = (
+          named,
+          record {
+            position = is;
+            holds = ap (λ (w : View). w.held) mine ∙ holds;
+            filled = subst (λ (w : View). HasFilledAll b w u) (sym mine) all;
+            wanted = want;
+            outcome = outcome_is_right b s u kept.sound is (wanted_filled b s u (s.views p) k.absent k.present want) ∙ right;
+          },
+        );
+        shows = put_status u i (Done o) (λ w. finished w u) is e;
+      }
+
+  -- ---- the words of a slot
+
+  pub presence_is : (x : Slot) (i : ℕ) → IsSlot b x → i ≡ length (rights_of b).outcomes + number b x → get_or t.words i 0 ≡ presence_word (s.presences x)
+  presence_is x i is e =
+      let long = shows.shown.sized.presences in
+      let inside : number b x < length shows.words.presences = omega (arith, number_inside b x is) in
+      (λ d. get_or (shows.line d) (e d) 0) ∙ (presence_in shows.words (length (rights_of b).outcomes) (number b x) shows.shown.sized.statuses inside ∙ shows.shown.presences x is)
+
+  pub value_is : (x : Slot) (i : ℕ) → IsSlot b x → i ≡ length (rights_of b).outcomes + (length (rights_of b).slots + number b x) → value_at (get_or t.words i 0) ≡ s.values x
+  value_is x i is e =
+      ap value_at ((λ d. get_or (shows.line d) (e d) 0) ∙ value_in shows.words (length (rights_of b).outcomes) (length (rights_of b).slots) (number b x) shows.shown.sized.statuses shows.shown.sized.presences) ∙ shows.shown.values x is
+
+  pub presence_step : (x : Slot) (i : ℕ) → IsSlot b x → i ≡ length (rights_of b).outcomes + number b x
+      → IsStep b s (LookPresence p x (presence_at (get_or t.words i 0))) (stepped t i (get_or t.words i 0) p c (learnt v x (presence_at (get_or t.words i 0))) keeps)
+  presence_step x i is e = record {
+    allowed = (named, (is, ap presence_at (presence_is x i is e) ∙ seen_presence (s.presences x)));
+    shows = read i (get_or t.words i 0) (λ w. learnt w x (presence_at (get_or t.words i 0))) refl;
+  }
+
+  same_view : (f : ℕ → View) → f p ≡ v → ((q : ℕ) → f q ≡ get_or t.views q (newcomer (rights_of b))) → (q : ℕ) → f q ≡ get_or (set t.views p v) q (newcomer (rights_of b))
+  same_view f here all q = put_cases (λ w. w ≡ get_or (set t.views p v) q (newcomer (rights_of b)) → f q ≡ get_or (set t.views p v) q (newcomer (rights_of b))) f p v q
+      (λ e h. ap f e ∙ (here ∙ h)) (λ ne h. h) (view_put (newcomer (rights_of b)) t.views f p v v v all at refl q)
+
+  pub value_step : (x : Slot) (i : ℕ) → IsSlot b x → i ≡ length (rights_of b).outcomes + (length (rights_of b).slots + number b x) → Contains v.present x
+      → IsStep b s (LookValue p x (value_at (get_or t.words i 0))) (stepped t i (get_or t.words i 0) p c v keeps)
+  value_step x i is e known = record {
+    allowed = (named, (subst (λ (w : View). Contains w.present x) (sym mine) known, value_is x i is e));
+    shows = record { words = shows.words; line = set-get_or t.words i 0 ∙ shows.line; shown = shows.shown; views = same_view s.views mine shows.views };
+  }
+
+  may_fill : (x : Slot) (d : Cell) (kept : IsInvariant b s) (is : IsSlot b x) (may : IsFillable b v x) (right : IsRightCell b x d) → MayFill b s p x d
+  may_fill x d kept is may right =
+      let k = kept.each p in
+      let want = wanted kept x.txn may.wanted in record {
+        slot = is;
+        holds = ap (λ (w : View). w.held) mine ∙ may.holds;
+        unfilled = subst (λ (w : View). ¬ Contains w.filled x) (sym mine) may.unfilled;
+        wanted = want;
+        cell = cell_is_right b s x kept.sound is (wanted_filled b s x.txn (s.views p) k.absent k.present want) ∙ right;
+      }
+
+  pub store_step : (x : Slot) (i n : ℕ) → IsInvariant b s → IsSlot b x → i ≡ length (rights_of b).outcomes + (length (rights_of b).slots + number b x) → IsFillable b v x → ¬ Contains v.stored x → IsRightCell b x (present_at n)
+      → IsStep b s (FillValue p x (value_at n)) (stepped t i n p c (stored v x) keeps)
+  store_step x i n kept is e may once right = record {
+    allowed = (named, (may_fill x (present_at n) kept is may right, subst (λ (w : View). ¬ Contains w.stored x) (sym mine) once));
+    shows = record {
+      words = record shows.words { values = set shows.words.values (number b x) n };
+      line = (λ d. set (shows.line d) (e d) n) ∙ value_put shows.words (length (rights_of b).outcomes) (length (rights_of b).slots) (number b x) n shows.shown.sized.statuses shows.shown.sized.presences;
+      shown = value_shown b shows.words s (put s.views p (stored (s.views p) x)) x n is shows.shown;
+      views = views_put (λ w. stored w x);
     };
   }
 
-  turned_untouched : IsUntouched r w → x ≢ 0 → IsUntouched r turned
-  turned_untouched old some_word = record { slots = λ k y at. at_status (λ z. z ≡ 0 → get_or w.presences k 0 ≡ 0) y.position (λ _ h. absurd (some_word h)) (λ _. old.slots k y at) }
+  pub fill_step : (x : Slot) (i : ℕ) (d : Cell) → IsInvariant b s → IsSlot b x → i ≡ length (rights_of b).outcomes + number b x → IsFillable b v x → HasStored v x d → IsRightCell b x d
+      → IsStep b s (FillPresence p x d) (stepped t i (filled_word d) p c (filled v x) keeps)
+  fill_step x i d kept is e may has right =
+      let long = shows.shown.sized.presences in
+      let inside : number b x < length shows.words.presences = omega (arith, number_inside b x is) in record {
+        allowed = (named, (may_fill x d kept is may right, subst (λ (w : View). HasStored w x d) (sym mine) has));
+        shows = record {
+          words = record shows.words { presences = set shows.words.presences (number b x) (filled_word d) };
+          line = (λ j. set (shows.line j) (e j) (filled_word d)) ∙ presence_put shows.words (length (rights_of b).outcomes) (number b x) (filled_word d) shows.shown.sized.statuses inside;
+          shown = presence_shown b shows.words s (put s.views p (filled (s.views p) x)) x (Some (presence_of d)) is shows.shown;
+          views = views_put (λ w. filled w x);
+        };
+      }
 
-  turned_rule : (s : St) (rule : IsRuled r s) (id : ℕ) (cs : List (ℕ × Unit {0})) (v' : View) → rule.words ≡ w → IsLawful r turned (set s.views id v') → IsRuled r (stepped s t x id cs v' keeps)
-  turned_rule s rule id cs v' same f = let long = sized.statuses in record {
-    words = turned;
-    line = ap (λ (ws : List ℕ). set ws t x) (rule.line ∙ ap in_line same) ∙ status_put w t x (omega arith);
-    lawful = f;
-  }
+  -- ---- splits and joins
 
-claim_hit : (r : Rights) (s : St) (rule : IsRuled r s) (id : ℕ) (me : M) (t n : ℕ) → t < length r.outcomes → me.0.held ≡ None → get_elem? s.views id ≡ some me.0 → n ≡ get_or rule.words.statuses t 0
-    → n ≡ 0 → IsRuled r (stepped s t 1 id me.1 (claimed me.0 t (status_of n)) keeps)
-claim_hit r s rule id me t n inside free at e zero_word =
-    let w = rule.words in
-    let f = rule.lawful in
-    let k : IsTrueOf r w me.0 = f.each id me.0 at in
-    let v' : View = record me.0 { held = Some t; stored = []; filled = [] } in
-    let now : get_or w.statuses t 0 ≡ 0 = sym e ∙ zero_word in
-    let g : Grows r w (turned r w t 1 f.sized inside) = turned_grows r w t 1 f.sized inside (λ h. absurd (omega arith)) (λ h. omega arith) in
-    let mine : IsTrueOf r (turned r w t 1 f.sized inside) v' = record {
-      done = λ u c. g.done u (k.done u c);
-      busy = λ u c. g.busy u (k.busy u c);
-      absent = k.absent;
-      present = k.present;
-      held = λ u h. at_status r w t 1 f.sized inside (λ z. z ≡ 1) u (λ _. refl) (λ ne. absurd (ne (sym (same_Some t u h))));
-      stored = λ j y p c. absurd (nothing_in j c);
-      filled = λ j c. absurd (nothing_in j c);
-    } in
-    let fits = moved r w (turned r w t 1 f.sized inside) s.views id v' f g (turned_sized r w t 1 f.sized inside) (turned_sound r w t 1 f.sized inside f.sound (λ h. absurd (omega arith)) (λ h. omega arith) (λ _ _ _ _ h. absurd (omega arith))) (turned_untouched r w t 1 f.sized inside f.untouched (λ h. omega arith)) mine
-    (λ j u x ne p h. let busy : get_or w.statuses u 0 ≡ 1 = (f.each j x p).held u h in
-    (at_status r w t 1 f.sized inside (λ z. z ≡ 1) u (λ _. refl) (λ _. busy), λ hv. let same : t ≡ u = same_Some t u hv in let b : get_or w.statuses t 0 ≡ 1 = subst (λ (z : ℕ). get_or w.statuses z 0 ≡ 1) (sym same) busy in omega arith)) in
-    subst (λ (z : ℕ). IsRuled r (stepped s t 1 id me.1 (claimed me.0 t (status_of z)) keeps)) (sym zero_word) (turned_rule r w t 1 f.sized inside s rule id me.1 v' refl fits)
+  pub split_step : HoldsNothing v → IsStep b s (Split p (length t.views)) (record { words = t.words; homes = t.homes; views = set t.views p v ++ v ∷ [] })
+  split_step free =
+      let d : View = newcomer (rights_of b) in
+      let long : length (set t.views p v) ≡ length t.views = length-set t.views p v in record {
+        allowed = (named, (ap (λ (w : View). w.held) mine ∙ free, shows.views (length t.views) ∙ past_end t.views (length t.views) d (omega arith)));
+        shows = record {
+          words = shows.words;
+          line = shows.line;
+          shown = same_shown b shows.words s (put s.views (length t.views) (s.views p)) shows.shown;
+          views = λ q. (λ i. put s.views (sym long i) (mine i) q) ∙ view_added d (set t.views p v) s.views v (same_view s.views mine shows.views) q;
+        };
+      }
 
-claimed_saw : (v : View) (t n : ℕ) → n ≢ 0 → claimed v t (status_of n) ≡ saw v t (status_of n)
-claimed_saw v t zero ne = absurd (ne refl)
-claimed_saw v t (suc zero) ne = refl
-claimed_saw v t (suc (suc n)) ne = refl
+  pub join_step : (q : ℕ) (x : View) → HoldsNothing v → HoldsNothing x → q ≢ p → get_elem? t.views q ≡ some x
+      → IsStep b s (Join p q) (record { words = t.words; homes = t.homes; views = set (set t.views p (joined v x)) q spent })
+  join_step q x free free_too apart there =
+      let d : View = newcomer (rights_of b) in
+      let theirs : s.views q ≡ x = shows.views q ∙ (found_at t.views q x d there).1 in
+      let both : joined (s.views p) (s.views q) ≡ joined v x = λ i. joined (mine i) (theirs i) in record {
+        allowed = (named, (apart, ap (λ (w : View). w.held) mine ∙ free, ap (λ (w : View). w.held) theirs ∙ free_too));
+        shows = record {
+          words = shows.words;
+          line = shows.line;
+          shown = same_shown b shows.words s (next s (Join p q)).views shows.shown;
+          views = view_put d (set t.views p (joined v x)) (put s.views p (joined (s.views p) (s.views q))) q x spent spent
+              (view_put d t.views s.views p v (joined (s.views p) (s.views q)) (joined v x) shows.views at both)
+              (set_else t.views p q (joined v x) apart ∙ there) refl;
+        };
+      }
 
-claim_miss : (r : Rights) (s : St) (rule : IsRuled r s) (id : ℕ) (me : M) (t n : ℕ) → get_elem? s.views id ≡ some me.0 → n ≡ get_or rule.words.statuses t 0 → n ≡ get_or s.words t 0
-    → n ≢ 0 → IsRuled r (stepped s t n id me.1 (claimed me.0 t (status_of n)) keeps)
-claim_miss r s rule id me t n at e here ne =
-    let w = rule.words in
-    let k : IsTrueOf r w me.0 = rule.lawful.each id me.0 at in
-    subst (λ (z : ℕ × View). IsRuled r (stepped s t z.0 id me.1 z.1 keeps)) (λ i. (sym here i, sym (claimed_saw me.0 t n ne) i))
-    (read r s rule t id me.1 me.0 (saw me.0 t (status_of n)) at (knows_saw r w me.0 t n k e) (saw_held me.0 t (status_of n)))
+-- ---- so each step keeps the rule
 
-pub claims : (r : Rights) (slots id : ℕ) (me : M) (t : ℕ) → t < length r.outcomes → me.0.held ≡ None
-    → Allows (IsRuled r) slots id me t (λ n. either (eqb n 0) 1 n) (MeetsClaim (step slots t 0 1 none) me)
-claims r slots id me t inside free s rule homes at small =
-    let w = rule.words in
-    let f = rule.lawful in
-    let n : ℕ = get_or s.words t 0 in
-    let k : IsTrueOf r w me.0 = f.each id me.0 at in
-    let long = f.sized.statuses in
-    let e : n ≡ get_or w.statuses t 0 = ap (λ (z : List ℕ). get_or z t 0) rule.line ∙ status_in w t (omega arith) in
-    let v' : View = claimed me.0 t (status_of n) in
-    (v', keeps, tt, exchanged n 0 1 (λ x. IsRuled r (stepped s t x id me.1 v' keeps)) (claim_hit r s rule id me t n inside free at e) (claim_miss r s rule id me t n at e refl), (refl, refl, recalls r w me.0 t n k e))
+goes : (b : Batch) (t after : T) (rule : IsRuled b t) (e : Event) → IsStep b rule.state e after → IsRuled b after
+goes b t after rule e is = record { state = next rule.state e; shows = is.shows; reached = reached_more b rule.state e rule.reached is.allowed }
 
-pub finishes : (r : Rights) (slots id : ℕ) (me : M) (t x : ℕ) → t < length r.outcomes → me.0.held ≡ Some t → 2 ≤ x → slice_get r.outcomes t ≡ Some (outcome_at x)
-    → ((k : ℕ) (y : RightSlot) → slice_get r.slots k ≡ Some y → y.position ≡ t → Contains me.0.filled k)
-    → Allows (IsRuled r) slots id me t (λ _. x) (λ _. MeetsFinish (step slots t x 0 none) me x)
-finishes r slots id me t x inside mine_is full right all s rule homes at small =
-    let w = rule.words in
-    let f = rule.lawful in
-    let k : IsTrueOf r w me.0 = f.each id me.0 at in
-    let v' : View = finished me.0 t in
-    let g : Grows r w (turned r w t x f.sized inside) = turned_grows r w t x f.sized inside (λ h. omega arith) (λ h. omega arith) in
-    let now : (u : ℕ) → u ≡ t → 2 ≤ get_or (set w.statuses t x) u 0 = λ u e. at_status r w t x f.sized inside (λ z. 2 ≤ z) u (λ _. omega arith) (λ ne. absurd (ne e)) in
-    let mine : IsTrueOf r (turned r w t x f.sized inside) v' = record {
-      done = more (λ y. 2 ≤ get_or (set w.statuses t x) y 0) me.0.done t (λ u c. g.done u (k.done u c)) (now t refl);
-      busy = λ u c. g.busy u (k.busy u c);
-      absent = k.absent;
-      present = k.present;
-      held = λ u h. absurd (cc);
-      stored = λ j y p c. absurd (nothing_in j c);
-      filled = λ j c. absurd (nothing_in j c);
-    } in
-    let sound = turned_sound r w t x f.sized inside f.sound (λ _. right) (λ h. omega arith) (λ j y p e _. k.filled j (all j y p e)) in
-    let fits = moved r w (turned r w t x f.sized inside) s.views id v' f g (turned_sized r w t x f.sized inside) sound (turned_untouched r w t x f.sized inside f.untouched (λ h. omega arith)) mine
-    (λ j u y ne p h. (at_status r w t x f.sized inside (λ z. z ≡ 1) u (λ e. absurd (ne (f.alone j id u y me.0 p at h (mine_is ∙ ap Some (sym e))))) (λ _. (f.each j y p).held u h), λ hv. cc)) in
-    (v', keeps, tt, turned_rule r w t x f.sized inside s rule id me.1 v' refl fits, (refl, refl))
+pub true_of : (b : Batch) (t : T) (rule : IsRuled b t) (p : ℕ) (v : View) → get_elem? t.views p ≡ some v → v.right ≡ rights_of b → IsTrueOf b rule.state p v
+true_of b t rule p v at own = subst (λ (w : View). IsTrueOf b rule.state p w) (mine b t rule.state rule.shows p v at own []) ((reached_kept b rule.state rule.reached).each p)
 
--- a view that says nothing
-knows_none : (r q : Rights) (w : Words) → IsTrueOf r w (newcomer q)
-knows_none r q w = record {
-  done = λ t c. absurd (nothing_in t c);
-  busy = λ t c. absurd (nothing_in t c);
-  absent = λ k c. absurd (nothing_in k c);
-  present = λ k c. absurd (nothing_in k c);
-  held = λ t h. absurd (cc);
-  stored = λ k x at c. absurd (nothing_in k c);
-  filled = λ k c. absurd (nothing_in k c);
+recalls : (b : Batch) (s : State) (p : ℕ) (v : View) (u n : ℕ) → IsTrueOf b s p v → n ≡ progress_word (s.positions u) → Recalls v u (status_of n)
+recalls b s p v u n k e = record {
+  done = λ c. let (o, is) = k.done u c in ap status_of (e ∙ ap progress_word is) ∙ seen_word (Done o);
+  busy = λ c h. k.busy u c (opened (s.positions u) (sym (ap status_of e ∙ seen_word (s.positions u)) ∙ h));
 }
+  where
+    opened : (o : Progress) → seen_as o ≡ seen.Open → o ≡ Open
+    opened Open h = refl
+    opened (Claimed q) h = absurd cc
+    opened (Done o) h = absurd cc
 
-pub splits : (r : Rights) (id : ℕ) (v : View) → v.held ≡ None → Splits (IsRuled r) id v v v
-splits r id v free s rule at = let k = rule.lawful.each id v at in record {
-  words = rule.words;
-  line = rule.line;
-  lawful = arrived r rule.words (set s.views id v) v (relearnt r rule.words s.views id v v rule.lawful at k refl) k free;
-}
+pub sees : (b : Batch) (slots id : ℕ) (me : M) (i : ℕ) → i < length (rights_of b).outcomes → me.0.right ≡ rights_of b → me.0.held ≢ Some (timestamp me.0.right i)
+    → Allows (IsRuled b) slots id me i (λ n. n) (MeetsStatus (step slots i 0 0 none) me)
+sees b slots id me i inside own apart t rule homes at small =
+    let u : ℕ = timestamp me.0.right i in
+    let (is, place) = stamp_inside b me.0.right i own inside in
+    let n : ℕ = get_or t.words i 0 in
+    let word = status_word b t rule.state rule.shows id me.0 at own me.1 u i is (sym place) in
+    let e = status_step b t rule.state rule.shows id me.0 at own me.1 u i is (sym place) apart in
+    (saw me.0 u (status_of n), keeps, tt, goes b t _ rule (Status id u (status_of n)) e, (refl, refl, recalls b rule.state id me.0 u n (true_of b t rule id me.0 at own) word))
 
-pub joins : (r : Rights) (id : ℕ) (v : View) (other : ℕ) (x : View) → Joins (IsRuled r) id v other x (joined v x) spent
-joins r id v other x s rule at apart there =
-    let w = rule.words in
-    let k = rule.lawful.each id v at in
-    let k' : IsTrueOf r w x = rule.lawful.each other x (sym (set_else s.views id other (joined v x) apart) ∙ there) in
-    let mine : IsTrueOf r w (joined v x) = record {
-      done = both (λ t. 2 ≤ get_or w.statuses t 0) v.done x.done k.done k'.done;
-      busy = both (λ t. get_or w.statuses t 0 ≢ 0) v.busy x.busy k.busy k'.busy;
-      absent = both (λ j. get_or w.presences j 0 ≡ 1) v.absent x.absent k.absent k'.absent;
-      present = both (λ j. get_or w.presences j 0 ≡ 2) v.present x.present k.present k'.present;
-      held = k.held;
-      stored = k.stored;
-      filled = k.filled;
-    } in
-    let f = relearnt r w s.views id v (joined v x) rule.lawful at mine refl in record {
-      words = w;
-      line = rule.line;
-      lawful = moved r w w (set s.views id (joined v x)) other spent f (still r w) f.sized f.sound f.untouched (knows_none r spent.right w)
-          (λ j t u ne e h. ((f.each j u e).held t h, λ hv. cc));
+pub claims : (b : Batch) (slots id : ℕ) (me : M) (i : ℕ) → i < length (rights_of b).outcomes → me.0.right ≡ rights_of b → me.0.held ≡ None
+    → Allows (IsRuled b) slots id me i (λ n. either (eqb n 0) 1 n) (MeetsClaim (step slots i 0 1 none) me)
+claims b slots id me i inside own free t rule homes at small =
+    let u : ℕ = timestamp me.0.right i in
+    let (is, place) = stamp_inside b me.0.right i own inside in
+    let n : ℕ = get_or t.words i 0 in
+    let word = status_word b t rule.state rule.shows id me.0 at own me.1 u i is (sym place) in
+    let e = claim_step b t rule.state rule.shows id me.0 at own me.1 u i is (sym place) free in
+    (claimed me.0 u (status_of n), keeps, tt, goes b t _ rule (Claim id u (won_at n)) e, (refl, refl, recalls b rule.state id me.0 u n (true_of b t rule id me.0 at own) word))
+
+pub finishes : (b : Batch) (slots id : ℕ) (me : M) (i : ℕ) (o : Outcome) (x : ℕ) → x ≡ word_of o → i < length (rights_of b).outcomes → me.0.right ≡ rights_of b
+    → Holds b me.0 (timestamp me.0.right i) → HasFilledAll b me.0 (timestamp me.0.right i) → KnowsWanted b me.0 (timestamp me.0.right i) → slice_get (rights_of b).outcomes i ≡ Some o
+    → Allows (IsRuled b) slots id me i (λ _. x) (λ _. MeetsFinish (step slots i x 0 none) me x)
+finishes b slots id me i o x word inside own holds all knows right t rule homes at small =
+    let u : ℕ = timestamp me.0.right i in
+    let (is, place) = stamp_inside b me.0.right i own inside in
+    let kept = reached_kept b rule.state rule.reached in
+    let e = finish_step b t rule.state rule.shows id me.0 at own me.1 u i o kept is (sym place) holds all knows (ap (λ (z : ℕ). slice_get (rights_of b).outcomes z) place ∙ right) in
+    let ruled = goes b t _ rule (Finish id u o) e in
+    (finished me.0 u, keeps, tt, subst (λ (z : ℕ). IsRuled b (stepped t i z id me.1 (finished me.0 u) keeps)) (sym word) ruled, (refl, refl))
+
+-- ---- the words of a slot
+
+same_number : (q r : Rights) (i k j : ℕ) → q ≡ r → i ≡ length r.outcomes + k → i ≡ length q.outcomes + j → j ≡ k
+same_number q r i k j own place other = let long : length q.outcomes ≡ length r.outcomes = ap (λ (z : Rights). length z.outcomes) own in omega arith
+
+same_value : (q r : Rights) (i k j : ℕ) → q ≡ r → i ≡ length r.outcomes + (length r.slots + k) → i ≡ length q.outcomes + (length q.slots + j) → j ≡ k
+same_value q r i k j own place other =
+    let long : length q.outcomes ≡ length r.outcomes = ap (λ (z : Rights). length z.outcomes) own in
+    let wide : length q.slots ≡ length r.slots = ap (λ (z : Rights). length z.slots) own in omega arith
+
+pub presence_place : (q r : Rights) (i k : ℕ) → q ≡ r → i ≡ length r.outcomes + k → i ≡ length q.outcomes + k
+presence_place q r i k e p = p ∙ ap (λ (z : Rights). length z.outcomes + k) (sym e)
+
+pub value_place : (q r : Rights) (i k : ℕ) → q ≡ r → i ≡ length r.outcomes + (length r.slots + k) → i ≡ length q.outcomes + (length q.slots + k)
+value_place q r i k e p = p ∙ ap (λ (z : Rights). length z.outcomes + (length z.slots + k)) (sym e)
+
+-- the slot with the number k, by the rights of a view
+named_by : (b : Batch) (q : Rights) (k : ℕ) → q ≡ rights_of b → k < length (rights_of b).slots → IsSlot b (slot_numbered q k) × (number b (slot_numbered q k) ≡ k)
+named_by b q k own inside = subst (λ (r : Rights). IsSlot b (slot_numbered r k) × (number b (slot_numbered r k) ≡ k)) (sym own) (number_named b k inside)
+
+empty_slot : (k : Option Presence) → presence_word k ≡ 0 → k ≡ None
+empty_slot None e = refl
+empty_slot (Some Absent) e = absurd (omega arith)
+empty_slot (Some Present) e = absurd (omega arith)
+
+full_slot : (k : Option Presence) → presence_word k ≢ 0 → (w : Presence) × (k ≡ Some w)
+full_slot None ne = absurd (ne refl)
+full_slot (Some w) ne = (w, refl)
+
+-- nothing that a view says, where the slot is empty
+unseen : (b : Batch) (s : State) (p : ℕ) (v : View) (x : Slot) → IsSound b s → IsTrueOf b s p v → IsSlot b x → s.presences x ≡ None → IsUnseen v x
+unseen b s p v x sound k is none_there =
+    let no : (w : Presence) → s.presences x ≡ Some w → ⊥ = λ w h. let clash : None ≡ Some w = sym none_there ∙ h in cc in record {
+      known = λ c. ⊎_elim (λ (a : Contains v.absent x). no Absent (k.absent x a)) (λ (a : Contains v.present x). no Present (k.present x a)) (Contains-append_cases v.absent v.present x c);
+      filled = λ c. let full = k.filled x c in no full.0 full.1;
+      done = λ c. let (o, is_done) = k.done x.txn c in let full = sound.whole x o is is_done in no full.0 full.1;
     }
+
+-- the presence word of a filled slot is that of its right cell
+pub right_presence : (b : Batch) (s : State) (x : Slot) (c : Cell) → IsSound b s → IsRightCell b x c → presence_word (s.presences x) ≢ 0 → presence_word (s.presences x) ≡ filled_word c
+right_presence b s x c sound right ne =
+    let (w, is) = full_slot (s.presences x) ne in
+    ap presence_word (is ∙ ap Some (sym (presence_right b s x w c sound is right)))
+
+pub sees_presence : (b : Batch) (slots id : ℕ) (me : M) (i k : ℕ) → i ≡ length (rights_of b).outcomes + k → k < length (rights_of b).slots → me.0.right ≡ rights_of b
+    → Allows (IsRuled b) slots id me i (λ n. n) (MeetsPresence (step slots i 0 0 none) me)
+sees_presence b slots id me i k place inside own t rule homes at small =
+    let x : Slot = slot_numbered me.0.right k in
+    let (is, num) = named_by b me.0.right k own inside in
+    let here : i ≡ length (rights_of b).outcomes + number b x = place ∙ ap (λ (z : ℕ). length (rights_of b).outcomes + z) (sym num) in
+    let n : ℕ = get_or t.words i 0 in
+    let kept = reached_kept b rule.state rule.reached in
+    let word : n ≡ presence_word (rule.state.presences x) = presence_is b t rule.state rule.shows id me.0 at own me.1 x i is here in
+    let e = presence_step b t rule.state rule.shows id me.0 at own me.1 x i is here in
+    let right : (c : Cell) → right_cell me.0.right k ≡ Some c → n ≢ 0 → n ≡ filled_word c = λ c cell ne.
+    word ∙ right_presence b rule.state x c kept.sound (ap (right_cell (rights_of b)) num ∙ (ap (λ (z : Rights). right_cell z k) (sym own) ∙ cell)) (λ z. ne (word ∙ z)) in (
+      learnt me.0 x (presence_at n),
+      keeps,
+      tt,
+      goes b t _ rule (LookPresence id x (presence_at n)) e,
+      (
+        (refl, right_learnt me.0 x (presence_at n), held_learnt me.0 x (presence_at n)),
+        λ j q. let same : k ≡ j = sym (same_number me.0.right (rights_of b) i k j own place q) in record {
+          view = ap (λ (z : ℕ). learnt me.0 (slot_numbered me.0.right z) (presence_at n)) same;
+          empty = λ z. subst (λ (m : ℕ). IsUnseen me.0 (slot_numbered me.0.right m)) same (unseen b rule.state id me.0 x kept.sound (true_of b t rule id me.0 at own) is (empty_slot (rule.state.presences x) (sym word ∙ z)));
+          right = λ full c cell. right c (ap (right_cell me.0.right) same ∙ cell) full;
+        },
+      ),
+    )
+
+pub sees_value : (b : Batch) (slots id : ℕ) (me : M) (i k : ℕ) → i ≡ length (rights_of b).outcomes + (length (rights_of b).slots + k) → k < length (rights_of b).slots → me.0.right ≡ rights_of b → Contains me.0.present (slot_numbered me.0.right k)
+    → Allows (IsRuled b) slots id me i (λ n. n) (MeetsValue (step slots i 0 0 none) me)
+sees_value b slots id me i k place inside own known t rule homes at small =
+    let x : Slot = slot_numbered me.0.right k in
+    let (is, num) = named_by b me.0.right k own inside in
+    let here : i ≡ length (rights_of b).outcomes + (length (rights_of b).slots + number b x) = place ∙ ap (λ (z : ℕ). length (rights_of b).outcomes + (length (rights_of b).slots + z)) (sym num) in
+    let n : ℕ = get_or t.words i 0 in
+    let kept = reached_kept b rule.state rule.reached in
+    let e = value_step b t rule.state rule.shows id me.0 at own me.1 x i is here known in
+    let value : value_at n ≡ rule.state.values x = value_is b t rule.state rule.shows id me.0 at own me.1 x i is here in
+    let right : IsRightCell b x (cells.Present (rule.state.values x)) = kept.sound.present x ((true_of b t rule id me.0 at own).present x known) in
+    let found : right_cell me.0.right k ≡ Some (present_at n) = ap (λ (z : Rights). right_cell z k) own ∙ (ap (right_cell (rights_of b)) (sym num) ∙ (right ∙ ap (λ (z : ℤ). Some (cells.Present z)) (sym value))) in
+    (me.0, keeps, tt, goes b t _ rule (LookValue id x (value_at n)) e, (refl, λ j q. ap (right_cell me.0.right) (same_value me.0.right (rights_of b) i k j own place q) ∙ found))
+
+pub stores_value : (b : Batch) (slots id : ℕ) (me : M) (i k n : ℕ) → i ≡ length (rights_of b).outcomes + (length (rights_of b).slots + k) → k < length (rights_of b).slots → me.0.right ≡ rights_of b
+    → IsFillable b me.0 (slot_numbered me.0.right k) → ¬ Contains me.0.stored (slot_numbered me.0.right k) → right_cell (rights_of b) k ≡ Some (present_at n)
+    → Allows (IsRuled b) slots id me i (λ _. n) (λ _. MeetsStore (step slots i n 0 none) me n)
+stores_value b slots id me i k n place inside own may once right t rule homes at small =
+    let x : Slot = slot_numbered me.0.right k in
+    let (is, num) = named_by b me.0.right k own inside in
+    let here : i ≡ length (rights_of b).outcomes + (length (rights_of b).slots + number b x) = place ∙ ap (λ (z : ℕ). length (rights_of b).outcomes + (length (rights_of b).slots + z)) (sym num) in
+    let kept = reached_kept b rule.state rule.reached in
+    let e = store_step b t rule.state rule.shows id me.0 at own me.1 x i n kept is here may once (ap (right_cell (rights_of b)) num ∙ right) in
+    (stored me.0 x, keeps, tt, goes b t _ rule (FillValue id x (value_at n)) e, ((refl, refl, refl), λ j q. ap (λ (z : ℕ). stored me.0 (slot_numbered me.0.right z)) (sym (same_value me.0.right (rights_of b) i k j own place q))))
+
+pub fills : (b : Batch) (slots id : ℕ) (me : M) (i k : ℕ) (d : Cell) (n : ℕ) → n ≡ filled_word d → i ≡ length (rights_of b).outcomes + k → k < length (rights_of b).slots → me.0.right ≡ rights_of b
+    → IsFillable b me.0 (slot_numbered me.0.right k) → HasStored me.0 (slot_numbered me.0.right k) d → right_cell (rights_of b) k ≡ Some d
+    → Allows (IsRuled b) slots id me i (λ _. n) (λ _. MeetsFill (step slots i n 0 none) me n)
+fills b slots id me i k d n word place inside own may has right t rule homes at small =
+    let x : Slot = slot_numbered me.0.right k in
+    let (is, num) = named_by b me.0.right k own inside in
+    let here : i ≡ length (rights_of b).outcomes + number b x = place ∙ ap (λ (z : ℕ). length (rights_of b).outcomes + z) (sym num) in
+    let kept = reached_kept b rule.state rule.reached in
+    let e = fill_step b t rule.state rule.shows id me.0 at own me.1 x i d kept is here may has (ap (right_cell (rights_of b)) num ∙ right) in
+    let ruled = goes b t _ rule (FillPresence id x d) e in
+    (filled me.0 x, keeps, tt, subst (λ (z : ℕ). IsRuled b (stepped t i z id me.1 (filled me.0 x) keeps)) (sym word) ruled, ((refl, refl, refl), λ j q. ap (λ (z : ℕ). filled me.0 (slot_numbered me.0.right z)) (sym (same_number me.0.right (rights_of b) i k j own place q))))
+
+-- ---- passes
+
+pub splits : (b : Batch) (id : ℕ) (v : View) → v.right ≡ rights_of b → v.held ≡ None → Splits (IsRuled b) id v v v
+splits b id v own free t rule at = goes b t _ rule (Split id (length t.views)) (split_step b t rule.state rule.shows id v at own [] free)
+
+pub joins : (b : Batch) (id : ℕ) (v : View) (other : ℕ) (x : View) → v.right ≡ rights_of b → v.held ≡ None → x.held ≡ None → Joins (IsRuled b) id v other x (joined v x) spent
+joins b id v other x own free free_too t rule at apart there =
+    goes b t _ rule (Join id other) (join_step b t rule.state rule.shows id v at own [] other x free free_too apart (sym (set_else t.views id other (joined v x) apart) ∙ there))
+
+-- ---- the empty board
 
 zeros : (n t : ℕ) → ◌≡◌ {A = ℕ} (get_or (replicate n 0) t 0) 0
 zeros zero t = refl
@@ -228,44 +435,26 @@ zeros (suc n) (suc t) = zeros n t
 abbrev blank : Rights → Words
 blank r = record { statuses = replicate (length r.outcomes) 0; presences = replicate (length r.slots) 0; values = replicate (length r.slots) 0 }
 
-one_view : (v u : View) (i : ℕ) → get_elem? (v ∷ []) i ≡ some u → (i ≡ 0) × (v ≡ u)
-one_view v u zero e = (refl, some-injective v u e)
-one_view v u (suc i) e = absurd (some-ne-none u (sym e))
+one_view : (d : View) (q : ℕ) → d ≡ get_or (d ∷ []) q d
+one_view d zero = refl
+one_view d (suc q) = refl
 
-pub opens : (r : Rights) (ws : List ℕ) → ws ≡ in_line (blank r) → IsRuled r (opening ws [] (newcomer r))
-opens r ws line = record {
-  words = blank r;
-  line = line;
-  lawful = record {
-    sized = record { statuses = length-replicate (length r.outcomes) 0; presences = length-replicate (length r.slots) 0; values = length-replicate (length r.slots) 0 };
-    sound = record {
-      outcomes = λ t h. let z = zeros (length r.outcomes) t in absurd (omega arith);
-      slots = λ k x at. let p = zeros (length r.slots) k in let z = zeros (length r.outcomes) x.position in record {
-        whole = λ h. absurd (omega arith);
-        right = λ h. absurd (h p);
-      };
+pub opens : (b : Batch) (ws : List ℕ) → ws ≡ in_line (blank (rights_of b)) → IsRuled b (opening ws [] (newcomer (rights_of b)))
+opens b ws line = record {
+  state = empty b;
+  shows = record {
+    words = blank (rights_of b);
+    line = line;
+    shown = record {
+      sized = record { statuses = length-replicate (length (rights_of b).outcomes) 0; presences = length-replicate (length (rights_of b).slots) 0; values = length-replicate (length (rights_of b).slots) 0 };
+      positions = λ t is. zeros (length (rights_of b).outcomes) (position b t);
+      presences = λ x is. zeros (length (rights_of b).slots) (number b x);
+      values = λ x is. ap value_at (zeros (length (rights_of b).slots) (number b x));
     };
-    untouched = record { slots = λ k x at _. zeros (length r.slots) k };
-    each = λ i u e. subst (λ (z : View). IsTrueOf r (blank r) z) (one_view (newcomer r) u i e).1 (knows_none r r (blank r));
-    alone = λ i j t u x ei ej hi hj. (one_view (newcomer r) u i ei).0 ∙ sym (one_view (newcomer r) x j ej).0;
+    views = one_view (newcomer (rights_of b));
   };
+  reached = ([], tt {0}, refl);
 }
 
 pub blank_line : (r : Rights) (n : ℕ) → n ≡ length r.outcomes + (length r.slots + length r.slots) → replicate n 0 ≡ in_line (blank r)
 blank_line r n e = ap (λ (z : ℕ). replicate z 0) e ∙ (sym (replicate-append-replicate (length r.outcomes) (length r.slots + length r.slots) 0) ∙ ap (λ (ys : List ℕ). replicate (length r.outcomes) 0 ++ ys) (sym (replicate-append-replicate (length r.slots) (length r.slots) 0)))
-
--- three vectors with the last words, each in its place
-pub settles : (r : Rights) (id : ℕ) (v : View) (ws : List ℕ) (xs : List (Unit {0})) (c : Words) (n m : ℕ) → Final (Seen (IsRuled r) id v) ws xs → IsSized r c → n ≡ length r.outcomes → m ≡ n + length r.slots
-    → ((j : ℕ) → j < length c.statuses → get_or c.statuses j 0 ≡ get_or ws (0 + j) 0)
-    → ((j : ℕ) → j < length c.presences → get_or c.presences j 0 ≡ get_or ws (n + j) 0)
-    → ((j : ℕ) → j < length c.values → get_or c.values j 0 ≡ get_or ws (m + j) 0)
-    → IsSound r c × IsUntouched r c × IsTrueOf r c v
-settles r id v ws xs c n m final sized is_n is_m a b d =
-    let rule = final.1.0 in
-    let old = rule.lawful.sized in
-    let first : n ≡ length c.statuses = is_n ∙ sym sized.statuses in
-    let second : m ≡ length c.statuses + length c.presences = is_m ∙ (λ i. first i + sym sized.presences i) in
-    let same : rule.words ≡ c = same_words rule.words ws c.statuses c.presences c.values (sym final.2 ∙ rule.line) (sized.statuses ∙ sym old.statuses) (sized.presences ∙ sym old.presences) (sized.values ∙ sym old.values)
-    a (subst (λ (z : ℕ). (j : ℕ) → j < length c.presences → get_or c.presences j 0 ≡ get_or ws (z + j) 0) first b) (subst (λ (z : ℕ). (j : ℕ) → j < length c.values → get_or c.values j 0 ≡ get_or ws (z + j) 0) second d) in
-    let P : Words → Type 0 = λ w. IsSound r w × IsUntouched r w × IsTrueOf r w v in
-    subst P same (rule.lawful.sound, rule.lawful.untouched, rule.lawful.each id v final.1.1)

@@ -3,20 +3,20 @@ use Rattle.std.proofs.Common.{◌≡◌, ℕ, ◌+◌, ◌<◌, length, Some, ap
 use Rattle.std.specs.Prelude.{Option, unwrap_or}
 use Rattle.std.specs.Option.{option_map}
 use Rattle.std.specs.List.{slice_get}
-use Rattle.std.proofs.lemmas.Option.{same_Some}
+use Rattle.std.proofs.lemmas.Option.{slice_get_within}
+use Rattle.bohm_tree.specs.declared.cell.Cell.{Cell}
+use Rattle.bohm_tree.specs.declared.cell.Cell.TheVariants.{Absent, Present}
 use Rattle.bohm_tree.specs.declared.txn.Txn.{Txn}
 use Rattle.bohm_txn.specs.Serial.{state}
 use Rattle.bohm_txn.proofs.States.{there}
 use Rattle.bohm_board.specs.declared.batch.Batch.{Batch}
 use Rattle.bohm_board.specs.declared.slot.Slot.{Slot}
 use Rattle.bohm_board.specs.declared.view.RightSlot.{RightSlot}
-use Rattle.bohm_board.specs.declared.view.View.{View}
+use Rattle.bohm_board.specs.declared.view.Rights.{Rights}
 use Rattle.bohm_board.specs.Serial.{width, offset, own_cells, slot_at}
-use Rattle.bohm_board.specs.Batches.{txns_of, base_of, position, IsIn, IsSlot, txn_at, width_at, number, rights_of}
-use Rattle.bohm_board.specs.Passes.{Holds}
-use Rattle.bohm_board.specs.Steps.{IsHeldSlot}
-use Rattle.bohm_board.proofs.Fills.{slot_within}
-use Rattle.bohm_board.proofs.Places.{slots_long, slots_of_position}
+use Rattle.bohm_board.specs.Batches.{txns_of, base_of, first_of, position, timestamp, IsIn, IsSlot, txn_at, width_at, number, slot_numbered, rights_of, IsRightCell}
+use Rattle.bohm_board.specs.Words.{filled_word}
+use Rattle.bohm_board.proofs.Places.{first_right, outcomes_long, slots_long, slot_of_batch}
 use Rattle.bohm_board.proofs.SerialSlots.{length-own_cells, offset_inside, slot_serial}
 
 pub position_inside : (b : Batch) (t : ℕ) → IsIn b t → position b t < length (txns_of b)
@@ -39,34 +39,64 @@ number_inside b s is =
     let (x, at, below) = slot_there b s is in
     omega (arith, below, offset_inside (txns_of b) (position b s.txn) x at, slots_long b)
 
-right_there : (b : Batch) (i j : ℕ) (x : Txn) → slice_get (txns_of b) i ≡ Some x → j < width x → (y : RightSlot) × (slice_get (rights_of b).slots (offset (txns_of b) i + j) ≡ Some y) × (y.position ≡ i)
+-- there is a right cell at a slot's number, and it is that slot's
+pub right_at : (b : Batch) (x : Slot) → IsSlot b x → (y : RightSlot) × (slice_get (rights_of b).slots (number b x) ≡ Some y) × (y.slot ≡ x)
 unfolding rights_of
-right_there b i j x at below =
+right_at b x is =
+    let (txn, at, below) = slot_there b x is in
+    let i = position b x.txn in
     let before = state (base_of b) (txns_of b) i in
-    let (c, own) = there (own_cells before x) j (omega (arith, below, length-own_cells before x)) in
-    (slot_at (0 + i) c, slot_serial 0 (base_of b) (txns_of b) i x j c at own, omega arith)
+    let (c, own) = there (own_cells before txn) x.index (omega (arith, below, length-own_cells before txn)) in
+    let from = is.txn.from in
+    let back : first_of b + i ≡ x.txn = omega arith in
+    (slot_at (first_of b + i) x.index c, slot_serial (first_of b) (base_of b) (txns_of b) i txn x.index c at own, ap (λ (t : ℕ). record { txn = t; index = x.index }) back)
 
--- the right cell at a slot's number is of the slot's position
-pub slot_position : (b : Batch) (s : Slot) (y : RightSlot) → IsSlot b s → slice_get (rights_of b).slots (number b s) ≡ Some y → y.position ≡ position b s.txn
-slot_position b s y is e =
-    let (x, at, below) = slot_there b s is in
-    let (z, found, at_position) = right_there b (position b s.txn) s.index x at below in
-    ap (λ (u : RightSlot). u.position) (same_Some y z (sym e ∙ found)) ∙ at_position
+pub right_there : (b : Batch) (x : Slot) → IsSlot b x → (c : Cell) × IsRightCell b x c
+right_there b x is = let (y, at, e) = right_at b x is in (y.cell, ap (option_map (λ (z : RightSlot). z.cell)) at)
 
--- all slots of a position, by index, are all by number
-pub by_number : (P : ℕ → Type 0) (b : Batch) (t : ℕ) → ((j : ℕ) → j < width_at b t → P (number b (record { txn = t; index = j }))) → (k : ℕ) (y : RightSlot) → slice_get (rights_of b).slots k ≡ Some y → y.position ≡ position b t → P k
-by_number P b t all k y e is =
-    let (x, j, at, below, place) = slots_of_position b k y (position b t) e is in
-    subst P (sym place) (all j (omega (arith, below, width_there b t x at)))
+-- the right cell, where its presence word is 1
+pub right_by_word : (b : Batch) (x : Slot) (c : Cell) → IsRightCell b x c → filled_word c ≡ 1 → IsRightCell b x Absent
+right_by_word b x Absent right e = right
+right_by_word b x (Present z) right e = absurd (omega arith)
 
--- a slot whose position is held, by its number
-pub held_slot : (b : Batch) (v : View) (s : Slot) (k : ℕ) → IsSlot b s → k ≡ number b s → Holds b v s.txn → IsHeldSlot (rights_of b) v k
-held_slot b v s k is e held =
-    let x = slot_within (rights_of b) (number b s) (number_inside b s is) in
-    (x.0, ap (λ (z : ℕ). slice_get (rights_of b).slots z) e ∙ x.1, held ∙ ap Some (sym (slot_position b s x.0 is x.1)))
+-- so its number names it
+pub named_number : (b : Batch) (x : Slot) → IsSlot b x → slot_numbered (rights_of b) (number b x) ≡ x
+named_number b x is =
+    let (y, at, e) = right_at b x is in
+    ap (λ (o : Option RightSlot). unwrap_or (option_map (λ z. z.slot) o) (record { txn = 0; index = 0 })) at ∙ e
 
--- there is a right cell at a slot's number, and it is of the slot's position
-pub right_at : (b : Batch) (s : Slot) → IsSlot b s → (x : RightSlot) × (slice_get (rights_of b).slots (number b s) ≡ Some x) × (x.position ≡ position b s.txn)
-right_at b s is =
-    let x = slot_within (rights_of b) (number b s) (number_inside b s is) in
-    (x.0, x.1, slot_position b s x.0 is x.1)
+pub named_slot : (b : Batch) (r : Rights) (x : Slot) (k : ℕ) → r ≡ rights_of b → IsSlot b x → k ≡ number b x → slot_numbered r k ≡ x
+named_slot b r x k own is e = (λ i. slot_numbered (own i) (e i)) ∙ named_number b x is
+
+-- two slots with one number are one
+pub one_number : (b : Batch) (x y : Slot) → IsSlot b x → IsSlot b y → number b x ≡ number b y → x ≡ y
+one_number b x y is also e = sym (named_number b x is) ∙ (ap (slot_numbered (rights_of b)) e ∙ named_number b y also)
+
+-- each number below the number of slots is that of a slot
+pub number_named : (b : Batch) (k : ℕ) → k < length (rights_of b).slots → IsSlot b (slot_numbered (rights_of b) k) × (number b (slot_numbered (rights_of b) k) ≡ k)
+number_named b k inside =
+    let (y, at) = there (rights_of b).slots k inside in
+    let own = slot_of_batch b k y at in
+    let x : Slot = record { txn = first_of b + own.i; index = own.j } in
+    let here : slot_numbered (rights_of b) k ≡ x = ap (λ (o : Option RightSlot). unwrap_or (option_map (λ z. z.slot) o) (record { txn = 0; index = 0 })) at ∙ own.slot in
+    let place : position b x.txn ≡ own.i = omega arith in
+    let txn : txn_at b x.txn ≡ Some own.txn = ap (λ (i : ℕ). slice_get (txns_of b) i) place ∙ own.is_at in
+    let within = slice_get_within (txns_of b) own.i own.txn own.is_at in
+    let is : IsSlot b x = record { txn = record { from = omega arith; below = omega arith }; index = omega (arith, own.inside, width_there b x.txn own.txn txn) } in
+    let same : number b x ≡ k = ap (λ (i : ℕ). offset (txns_of b) i + own.j) place ∙ sym own.place in
+    subst (λ (z : Slot). IsSlot b z × (number b z ≡ k)) (sym here) (is, same)
+
+-- the timestamp at a position
+pub stamped : (b : Batch) (r : Rights) (t i : ℕ) → r ≡ rights_of b → IsIn b t → i ≡ position b t → timestamp r i ≡ t
+stamped b r t i own is e = omega (arith, ap (λ (z : Rights). z.first) own, first_right b, is.from, e)
+
+-- each position below the number of positions has a timestamp
+pub stamp_inside : (b : Batch) (r : Rights) (i : ℕ) → r ≡ rights_of b → i < length (rights_of b).outcomes → IsIn b (timestamp r i) × (position b (timestamp r i) ≡ i)
+stamp_inside b r i own inside =
+    let first : r.first ≡ first_of b = ap (λ (z : Rights). z.first) own ∙ first_right b in
+    let long = outcomes_long b in
+    (record { from = omega arith; below = omega arith }, omega arith)
+
+-- two timestamps at one position are one
+pub one_position : (b : Batch) (t u : ℕ) → IsIn b t → IsIn b u → position b t ≡ position b u → t ≡ u
+one_position b t u is also e = omega (arith, is.from, also.from, e)

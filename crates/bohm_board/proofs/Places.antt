@@ -1,8 +1,7 @@
 -- Every slot is one of some position.
-use Rattle.std.proofs.Common.{◌≡◌, ℕ, zero, suc, ◌+◌, ◌<◌, List, [], ◌∷◌, ◌++◌, map, length, Some, refl, ap, sym, ◌∙◌, subst, arith, inl, inr}
+use Rattle.std.proofs.Common.{◌≡◌, ℕ, zero, suc, ◌+◌, ◌<◌, List, [], ◌∷◌, ◌++◌, length, Some, refl, ap, sym, ◌∙◌, arith, inl, inr}
 use Rattle.std.specs.Prelude.{◌⊎◌}
 use Rattle.std.specs.List.{slice_get}
-use Rattle.std.proofs.lemmas.List.{length-map}
 use Rattle.std.proofs.lemmas.Option.{same_Some, slice_get_within}
 use Rattle.bohm_tree.specs.declared.cell.Cell.{Cell}
 use Rattle.bohm_tree.specs.declared.txn.Txn.{Txn}
@@ -10,9 +9,9 @@ use Rattle.bohm_txn.specs.Meaning.{Look}
 use Rattle.bohm_txn.specs.Serial.{after}
 use Rattle.bohm_board.specs.declared.batch.Batch.{Batch}
 use Rattle.bohm_board.specs.declared.view.RightSlot.{RightSlot}
-use Rattle.bohm_board.specs.Serial.{own_cells, slot_at, slots_from, width, offset}
-use Rattle.bohm_board.specs.Batches.{rights_of, base_of, txns_of}
-use Rattle.bohm_board.proofs.SerialSlots.{length-own_cells, length-outcomes, length-slots}
+use Rattle.bohm_board.specs.Serial.{own_cells, slot_at, slots_of, slots_from, width, offset}
+use Rattle.bohm_board.specs.Batches.{rights_of, base_of, txns_of, first_of}
+use Rattle.bohm_board.proofs.SerialSlots.{length-own_cells, length-outcomes, length-slots_of, length-slots}
 
 abbrev pub InSecond : {A : Type 0} → List A → List A → ℕ → A → Type 0
 InSecond xs ys p x = (m : ℕ) × (p ≡ length xs + m) × (slice_get ys m ≡ Some x)
@@ -25,10 +24,10 @@ in_either (y ∷ xs) ys (suc p) x e = elim (in_either xs ys p x e) as (λ _. (sl
   | inr (m, q, f) ↦ inr (m, omega (arith, q), f)
 ]
 
-same_position : (n : ℕ) (cs : List Cell) (p : ℕ) (x : RightSlot) → slice_get (map (slot_at n) cs) p ≡ Some x → x.position ≡ n
-same_position n [] p x e = absurd cc
-same_position n (c ∷ cs) zero x e = ap (λ (r : RightSlot). r.position) (sym (same_Some (slot_at n c) x e))
-same_position n (c ∷ cs) (suc p) x e = same_position n cs p x e
+own_slot : (t i : ℕ) (cs : List Cell) (p : ℕ) (x : RightSlot) → slice_get (slots_of t i cs) p ≡ Some x → x.slot ≡ record { txn = t; index = i + p }
+own_slot t i [] p x e = absurd cc
+own_slot t i (c ∷ cs) zero x e = ap (λ (r : RightSlot). r.slot) (sym (same_Some (slot_at t i c) x e)) ∙ ap (λ (j : ℕ). record { txn = t; index = j }) (omega arith)
+own_slot t i (c ∷ cs) (suc p) x e = own_slot t (suc i) cs p x e ∙ ap (λ (j : ℕ). record { txn = t; index = j }) (omega arith)
 
 -- slot p is the j-th of the i-th transaction
 pub record IsOwn (n : ℕ) (ts : List Txn) (p : ℕ) (x : RightSlot) : Type 0 where
@@ -37,19 +36,19 @@ pub record IsOwn (n : ℕ) (ts : List Txn) (p : ℕ) (x : RightSlot) : Type 0 wh
   pub txn : Txn
   pub is_at : slice_get ts i ≡ Some txn
   pub inside : j < width txn
-  pub position : x.position ≡ n + i
+  pub slot : x.slot ≡ record { txn = n + i; index = j }
   pub place : p ≡ offset ts i + j
 
 pub slot_place : (n : ℕ) (look : Look) (ts : List Txn) (p : ℕ) (x : RightSlot) → slice_get (slots_from n look ts) p ≡ Some x → IsOwn n ts p x
 slot_place n look [] p x e = absurd cc
-slot_place n look (t ∷ ts) p x e = elim (in_either (map (slot_at n) (own_cells look t)) (slots_from (n + 1) (after look t) ts) p x e) as (λ _. IsOwn n (t ∷ ts) p x) [
+slot_place n look (t ∷ ts) p x e = elim (in_either (slots_of n 0 (own_cells look t)) (slots_from (n + 1) (after look t) ts) p x e) as (λ _. IsOwn n (t ∷ ts) p x) [
   | inl h ↦ record {
     i = 0;
     j = p;
     txn = t;
     is_at = refl;
-    inside = omega (arith, slice_get_within (map (slot_at n) (own_cells look t)) p x h, length-map (own_cells look t) (slot_at n), length-own_cells look t);
-    position = omega (arith, same_position n (own_cells look t) p x h);
+    inside = omega (arith, slice_get_within (slots_of n 0 (own_cells look t)) p x h, length-slots_of n 0 (own_cells look t), length-own_cells look t);
+    slot = own_slot n 0 (own_cells look t) p x h ∙ (let same : n ≡ n + 0 = omega arith in let index : 0 + p ≡ p = omega arith in λ d. record { txn = same d; index = index d });
     place = omega arith;
   }
   | inr (m, q, f) ↦
@@ -60,14 +59,18 @@ slot_place n look (t ∷ ts) p x e = elim (in_either (map (slot_at n) (own_cells
         txn = r.txn;
         is_at = r.is_at;
         inside = r.inside;
-        position = omega (arith, r.position);
-        place = omega (arith, q, r.place, length-map (own_cells look t) (slot_at n), length-own_cells look t);
+        slot = r.slot ∙ (let same : (n + 1) + r.i ≡ n + suc r.i = omega arith in ap (λ (z : ℕ). record { txn = z; index = r.j }) same);
+        place = omega (arith, q, r.place, length-slots_of n 0 (own_cells look t), length-own_cells look t);
       }
 ]
 
-pub slot_of_batch : (b : Batch) (p : ℕ) (x : RightSlot) → slice_get (rights_of b).slots p ≡ Some x → IsOwn 0 (txns_of b) p x
+pub slot_of_batch : (b : Batch) (p : ℕ) (x : RightSlot) → slice_get (rights_of b).slots p ≡ Some x → IsOwn (first_of b) (txns_of b) p x
 unfolding rights_of
-slot_of_batch b p x e = slot_place 0 (base_of b) (txns_of b) p x e
+slot_of_batch b p x e = slot_place (first_of b) (base_of b) (txns_of b) p x e
+
+pub first_right : (b : Batch) → (rights_of b).first ≡ first_of b
+unfolding rights_of
+first_right b = refl
 
 pub outcomes_long : (b : Batch) → length (rights_of b).outcomes ≡ length (txns_of b)
 unfolding rights_of
@@ -75,16 +78,4 @@ outcomes_long b = length-outcomes (base_of b) (txns_of b)
 
 pub slots_long : (b : Batch) → length (rights_of b).slots ≡ offset (txns_of b) (length (txns_of b))
 unfolding rights_of
-slots_long b = length-slots 0 (base_of b) (txns_of b)
-
--- the slots of position i are those from its offset on, as many as its width
-pub slots_of_position : (b : Batch) (p : ℕ) (x : RightSlot) (i : ℕ) → slice_get (rights_of b).slots p ≡ Some x → x.position ≡ i → (y : Txn) × (j : ℕ) × (slice_get (txns_of b) i ≡ Some y) × (j < width y) × (p ≡ offset (txns_of b) i + j)
-slots_of_position b p x i e is =
-    let r = slot_of_batch b p x e in
-    let same : r.i ≡ i = omega (arith, r.position) in
-    (r.txn, r.j, subst (λ (u : ℕ). slice_get (txns_of b) u ≡ Some r.txn) same r.is_at, r.inside, r.place ∙ ap (λ u. offset (txns_of b) u + r.j) same)
-
-pub slot_inside : (b : Batch) (p : ℕ) (x : RightSlot) → slice_get (rights_of b).slots p ≡ Some x → x.position < length (rights_of b).outcomes
-slot_inside b p x e =
-    let r = slot_of_batch b p x e in
-    omega (arith, r.position, slice_get_within (txns_of b) r.i r.txn r.is_at, outcomes_long b)
+slots_long b = length-slots (first_of b) (base_of b) (txns_of b)

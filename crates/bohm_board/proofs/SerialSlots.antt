@@ -13,7 +13,7 @@ use Rattle.bohm_txn.specs.declared.outcome.Reason.{Reason}
 use Rattle.bohm_txn.specs.Declares.{shows_in}
 use Rattle.bohm_txn.specs.Meaning.{Look, Run, Ended, body, body_from, perform, seen, or_stop}
 use Rattle.bohm_txn.specs.Serial.{after, state, outcome_of, shows_of}
-use Rattle.bohm_board.specs.Serial.{show_cells, own_cells, slot_at, slots_from, outcomes, width, offset}
+use Rattle.bohm_board.specs.Serial.{show_cells, own_cells, slot_at, slots_of, slots_from, outcomes, width, offset}
 
 pub get_left : {A : Type 0} (xs ys : List A) (j : ℕ) (x : A) → slice_get xs j ≡ Some x → slice_get (xs ++ ys) j ≡ Some x
 get_left [] ys j x e = absurd cc
@@ -38,10 +38,19 @@ pub length-outcomes : (look : Look) (ts : List Txn) → length (outcomes look ts
 length-outcomes look [] = refl
 length-outcomes look (t ∷ ts) = omega (arith, length-outcomes (after look t) ts)
 
+pub length-slots_of : (t j : ℕ) (cs : List Cell) → length (slots_of t j cs) ≡ length cs
+length-slots_of t j [] = refl
+length-slots_of t j (c ∷ cs) = ap suc (length-slots_of t (suc j) cs)
+
 pub length-slots : (n : ℕ) (look : Look) (ts : List Txn) → length (slots_from n look ts) ≡ offset ts (length ts)
 length-slots n look [] = refl
 length-slots n look (t ∷ ts) =
-    omega (arith, length-append (map (slot_at n) (own_cells look t)) (slots_from (n + 1) (after look t) ts), length-map (own_cells look t) (slot_at n), length-own_cells look t, length-slots (n + 1) (after look t) ts)
+    omega (arith, length-append (slots_of n 0 (own_cells look t)) (slots_from (n + 1) (after look t) ts), length-slots_of n 0 (own_cells look t), length-own_cells look t, length-slots (n + 1) (after look t) ts)
+
+own_slot : (t i j : ℕ) (cs : List Cell) (c : Cell) → slice_get cs j ≡ Some c → slice_get (slots_of t i cs) j ≡ Some (slot_at t (i + j) c)
+own_slot t i j [] c e = absurd cc
+own_slot t i zero (d ∷ cs) c e = rw add-zero (ap (λ (y : Cell). Some (slot_at t i y)) (same_Some d c e))
+own_slot t i (suc j) (d ∷ cs) c e = let same : suc i + j ≡ i + suc j = omega arith in own_slot t (suc i) j cs c e ∙ ap (λ (m : ℕ). Some (slot_at t m c)) same
 
 pub outcome_serial : (look : Look) (ts : List Txn) (i : ℕ) (t : Txn) → slice_get ts i ≡ Some t → slice_get (outcomes look ts) i ≡ Some (outcome_of (body (state look ts i) t))
 outcome_serial look [] i t e = absurd cc
@@ -49,18 +58,18 @@ outcome_serial look (x ∷ xs) zero t e = ap (λ y. Some (outcome_of (body look 
 outcome_serial look (x ∷ xs) (suc i) t e = outcome_serial (after look x) xs i t e
 
 pub slot_serial : (n : ℕ) (look : Look) (ts : List Txn) (i : ℕ) (t : Txn) (j : ℕ) (c : Cell) → slice_get ts i ≡ Some t → slice_get (own_cells (state look ts i) t) j ≡ Some c
-    → slice_get (slots_from n look ts) (offset ts i + j) ≡ Some (slot_at (n + i) c)
+    → slice_get (slots_from n look ts) (offset ts i + j) ≡ Some (slot_at (n + i) j c)
 slot_serial n look [] i t j c e own = absurd cc
 slot_serial n look (x ∷ xs) zero t j c e own =
     let same : x ≡ t = same_Some x t e in
     let own' : slice_get (own_cells look x) j ≡ Some c = rw same own in
-    let here : slice_get (map (slot_at n) (own_cells look x)) j ≡ Some (slot_at n c) = slice_get-map (slot_at n) (own_cells look x) j ∙ ap (λ o. option_map (slot_at n) o) own' in
-    rw (zero-add, add-zero) (get_left (map (slot_at n) (own_cells look x)) (slots_from (n + 1) (after look x) xs) j (slot_at n c) here)
+    let here : slice_get (slots_of n 0 (own_cells look x)) j ≡ Some (slot_at n j c) = own_slot n 0 j (own_cells look x) c own' ∙ ap (λ m. Some (slot_at n m c)) (zero-add j) in
+    rw (zero-add, add-zero) (get_left (slots_of n 0 (own_cells look x)) (slots_from (n + 1) (after look x) xs) j (slot_at n j c) here)
 slot_serial n look (x ∷ xs) (suc i) t j c e own =
-    let long : length (map (slot_at n) (own_cells look x)) ≡ width x = length-map (own_cells look x) (slot_at n) ∙ length-own_cells look x in
-    let moved = get_right (map (slot_at n) (own_cells look x)) (slots_from (n + 1) (after look x) xs) ((width x + offset xs i) + j) (offset xs i + j) (omega (arith, long)) in
+    let long : length (slots_of n 0 (own_cells look x)) ≡ width x = length-slots_of n 0 (own_cells look x) ∙ length-own_cells look x in
+    let moved = get_right (slots_of n 0 (own_cells look x)) (slots_from (n + 1) (after look x) xs) ((width x + offset xs i) + j) (offset xs i + j) (omega (arith, long)) in
     let same : (n + 1) + i ≡ n + suc i = omega arith in
-    moved ∙ (slot_serial (n + 1) (after look x) xs i t j c e own ∙ ap (λ m. Some (slot_at m c)) same)
+    moved ∙ (slot_serial (n + 1) (after look x) xs i t j c e own ∙ ap (λ m. Some (slot_at m j c)) same)
 
 -- the right cell of declared write j of t is its key's cell after t
 pub own_write : (look : Look) (t : Txn) (j : ℕ) (k : List ℕ) → slice_get t.writes j ≡ Some k → slice_get (own_cells look t) j ≡ Some (after look t k)

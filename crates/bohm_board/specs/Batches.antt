@@ -63,10 +63,18 @@ number b s = offset (txns_of b) (position b s.txn) + s.index
 
 -- the outcomes and cells of the serial run over the base
 unfoldable pub rights_of : Batch → Rights
-rights_of b = record { outcomes = outcomes (base_of b) (txns_of b); slots = slots_from 0 (base_of b) (txns_of b) }
+rights_of b = record { first = first_of b; outcomes = outcomes (base_of b) (txns_of b); slots = slots_from (first_of b) (base_of b) (txns_of b) }
 
 abbrev pub right_cell : Rights → ℕ → Option Cell
 right_cell r k = option_map (λ x. x.cell) (slice_get r.slots k)
+
+-- the timestamp of a position
+abbrev pub timestamp : Rights → ℕ → ℕ
+timestamp r i = r.first + i
+
+-- the slot with a number
+abbrev pub slot_numbered : Rights → ℕ → Slot
+slot_numbered r k = unwrap_or (option_map (λ x. x.slot) (slice_get r.slots k)) (record { txn = 0; index = 0 })
 
 abbrev pub IsRightCell : Batch → Slot → Cell → Type 0
 IsRightCell b s c = right_cell (rights_of b) (number b s) ≡ Some c

@@ -4,6 +4,10 @@ use Rattle.bohm_board.specs.declared.batch.Batch.{Batch}
 use Rattle.bohm_board.specs.declared.closed.Closed.{Closed}
 use Rattle.bohm_board.specs.declared.slot.Slot.{Slot}
 use Rattle.bohm_board.specs.Batches.{position, number}
+use Rattle.bohm_board.specs.Core.{State}
+use Rattle.bohm_board.specs.Events.{Reached}
+use Rattle.bohm_board.specs.Law.{IsLawful}
+use Rattle.bohm_board.specs.Shown.{AreShown, words_of}
 
 abbrev pub batch_of_closed : Closed → Batch
 batch_of_closed c = c.batch
@@ -13,6 +17,13 @@ status_in c t = slice_index c.columns.statuses.items (position (batch_of_closed 
 
 abbrev pub presence_in : Closed → Slot → ℕ
 presence_in c s = slice_index c.columns.presences.items (number (batch_of_closed c) s)
+
+-- its words show a state that events of the core have led to, and that meets the board law
+pub record IsLeft (c : Closed) : Type 0 where
+  pub state : State
+  pub shown : AreShown (batch_of_closed c) (words_of c.columns) state
+  pub reached : Reached (batch_of_closed c) state
+  pub lawful : IsLawful (batch_of_closed c) state
 
 -- the position has an outcome
 abbrev pub IsFinished : Closed → ℕ → Type 0

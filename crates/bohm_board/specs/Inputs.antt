@@ -6,11 +6,10 @@ use Rattle.bohm_txn.specs.Meaning.{Look, body}
 use Rattle.bohm_place.specs.declared.access.Access.{Access}
 use Rattle.bohm_place.specs.declared.access.Source.{Source}
 use Rattle.bohm_place.specs.declared.access.Source.TheVariants.{Before, Within}
-use Rattle.bohm_place.specs.Plans.{reads_of, writes_of}
 use Rattle.bohm_board.specs.declared.batch.Batch.{Batch}
 use Rattle.bohm_board.specs.declared.view.Rights.{Rights}
 use Rattle.bohm_board.specs.Serial.{own_cells}
-use Rattle.bohm_board.specs.Batches.{base_of, plan_of, right_cell, IsRightCell}
+use Rattle.bohm_board.specs.Batches.{base_of, right_cell, IsRightCell}
 
 -- the cell is the one that this source has for the key
 abbrev pub IsCellFrom : Batch → List ℕ → ℕ → Cell → Source → Type 0
@@ -24,15 +23,6 @@ IsCellOf b k a c = IsCellFrom b k a.index c a.source
 pub record AreCellsOf (b : Batch) (keys : List (List ℕ)) (accesses : List Access) (cells : List Cell) : Type 0 where
   pub paired : length keys ≡ length cells
   pub each : (j : ℕ) (k : List ℕ) (a : Access) (c : Cell) → slice_get keys j ≡ Some k → slice_get accesses j ≡ Some a → slice_get cells j ≡ Some c → IsCellOf b k a c
-
--- the store has at each of these keys the cell of its access
-abbrev pub HasCellsOf : Batch → List (List ℕ) → List Access → Look → Type 0
-HasCellsOf b keys accesses look = (j : ℕ) (k : List ℕ) (a : Access) → slice_get keys j ≡ Some k → slice_get accesses j ≡ Some a → IsCellOf b k a (look k)
-
--- Input(t), of the transaction at position i: a store with these cells at its declared keys
-pub record IsInputOf (b : Batch) (i : ℕ) (x : Txn) (look : Look) : Type 0 where
-  pub reads : HasCellsOf b x.reads (reads_of (plan_of b) i) look
-  pub writes : HasCellsOf b x.writes (writes_of (plan_of b) i) look
 
 -- over these two stores a transaction ends alike and leaves the same cells
 pub record EndsAlike (look other : Look) (t : Txn) : Type 0 where

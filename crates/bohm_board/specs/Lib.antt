@@ -1,10 +1,13 @@
 pub mod Bases
-pub mod Words
 pub mod Serial
 pub mod Batches
 pub mod Inputs
 pub mod Views
+pub mod Core
+pub mod Words
+pub mod Events
 pub mod Law
+pub mod Shown
 pub mod Steps
 pub mod Layouts
 pub mod Passes

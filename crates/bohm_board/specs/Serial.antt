@@ -29,13 +29,18 @@ offset ts zero = 0
 offset [] (suc i) = 0
 offset (t ∷ ts) (suc i) = width t + offset ts i
 
-abbrev pub slot_at : ℕ → Cell → RightSlot
-slot_at n c = record { position = n; cell = c }
+abbrev pub slot_at : ℕ → ℕ → Cell → RightSlot
+slot_at t j c = record { slot = record { txn = t; index = j }; cell = c }
 
--- the slots of these transactions, the first of which is at position n
+-- the slots of the transaction with the timestamp t, from index j on
+abbrev pub slots_of : ℕ → ℕ → List Cell → List RightSlot
+slots_of t j [] = []
+slots_of t j (c ∷ cs) = slot_at t j c ∷ slots_of t (suc j) cs
+
+-- the slots of these transactions, the first of which has the timestamp t
 abbrev pub slots_from : ℕ → Look → List Txn → List RightSlot
-slots_from n look [] = []
-slots_from n look (t ∷ ts) = map (slot_at n) (own_cells look t) ++ slots_from (n + 1) (after look t) ts
+slots_from t look [] = []
+slots_from t look (x ∷ xs) = slots_of t 0 (own_cells look x) ++ slots_from (t + 1) (after look x) xs
 
 abbrev pub outcomes : Look → List Txn → List Outcome
 outcomes look [] = []

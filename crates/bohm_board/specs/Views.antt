@@ -1,12 +1,26 @@
 -- What passes know, and how their views change.
-use Rattle.std.specs.Prelude.{◌≡◌, ◌≢◌, ℕ, zero, suc, ◌+◌, ◌<◌, ◌^◌, [], ◌∷◌, ◌++◌, Contains, Option, None, Some, slice_get}
+use Rattle.std.specs.Prelude.{◌≡◌, ◌≢◌, ℕ, ◌+◌, ◌<◌, ◌^◌, List, [], ◌∷◌, ◌++◌, Contains, Option, None, Some}
+use Rattle.std.specs.Option.{option_map}
 use Rattle.bohm_tree.specs.declared.cell.Cell.{Cell}
-use Rattle.bohm_tree.specs.declared.cell.Cell.TheVariants.{Absent, Present}
+use Rattle.bohm_tree.specs.declared.cell.Cell.TheVariants as cells
+use Rattle.bohm_place.specs.declared.access.Access.{Access}
+use Rattle.bohm_place.specs.declared.access.Source.TheVariants.{Within}
+use Rattle.bohm_board.specs.declared.batch.Batch.{Batch}
+use Rattle.bohm_board.specs.declared.slot.Slot.{Slot}
 use Rattle.bohm_board.specs.declared.status.Status.{Status}
 use Rattle.bohm_board.specs.declared.status.Status.TheVariants.{Open, Busy, Done}
-use Rattle.bohm_board.specs.declared.view.RightSlot.{RightSlot}
 use Rattle.bohm_board.specs.declared.view.Rights.{Rights}
 use Rattle.bohm_board.specs.declared.view.View.{View}
+use Rattle.bohm_board.specs.Batches.{wanted_at, slot_in, width_at}
+
+-- what a filled slot is filled with
+pub data Presence : Type 0 where
+  Absent : Presence
+  Present : Presence
+
+abbrev pub presence_of : Cell → Presence
+presence_of cells.Absent = Absent
+presence_of (cells.Present z) = Present
 
 -- it knows what is right in its batch, and nothing else
 abbrev pub newcomer : Rights → View
@@ -14,71 +28,118 @@ newcomer r = record { right = r; done = []; busy = []; absent = []; present = []
 
 -- what a join leaves behind
 abbrev pub spent : View
-spent = newcomer (record { outcomes = []; slots = [] })
+spent = newcomer (record { first = 0; outcomes = []; slots = [] })
+
+-- ---- what steps change
 
 abbrev pub saw : View → ℕ → Status → View
-saw v i Open = v
-saw v i Busy = record v { busy = v.busy ++ i ∷ [] }
-saw v i Done = record v { done = v.done ++ i ∷ [] }
+saw v t Open = v
+saw v t Busy = record v { busy = v.busy ++ t ∷ [] }
+saw v t Done = record v { done = v.done ++ t ∷ [] }
 
 -- an open position is claimed; of another one the status was seen
 abbrev pub claimed : View → ℕ → Status → View
-claimed v i Open = record v { held = Some i; stored = []; filled = [] }
-claimed v i Busy = saw v i Busy
-claimed v i Done = saw v i Done
+claimed v t Open = record v { held = Some t; stored = []; filled = [] }
+claimed v t Busy = saw v t Busy
+claimed v t Done = saw v t Done
 
--- after a look that found this presence word; an empty slot tells nothing that lasts
-abbrev pub learnt : View → ℕ → ℕ → View
-learnt v k zero = v
-learnt v k (suc zero) = record v { absent = v.absent ++ k ∷ [] }
-learnt v k (suc (suc n)) = record v { present = v.present ++ k ∷ [] }
+-- an empty slot tells nothing that lasts
+abbrev pub learnt : View → Slot → Option Presence → View
+learnt v x None = v
+learnt v x (Some Absent) = record v { absent = v.absent ++ x ∷ [] }
+learnt v x (Some Present) = record v { present = v.present ++ x ∷ [] }
 
 -- after a look with this answer
-abbrev pub looked : View → ℕ → Option Cell → View
-looked v k None = v
-looked v k (Some Absent) = record v { absent = v.absent ++ k ∷ [] }
-looked v k (Some (Present z)) = record v { present = v.present ++ k ∷ [] }
+abbrev pub looked : View → Slot → Option Cell → View
+looked v x answer = learnt v x (option_map presence_of answer)
 
-abbrev pub stored : View → ℕ → View
-stored v k = record v { stored = v.stored ++ k ∷ [] }
+abbrev pub stored : View → Slot → View
+stored v x = record v { stored = v.stored ++ x ∷ [] }
 
-abbrev pub filled : View → ℕ → View
-filled v k = record v { filled = v.filled ++ k ∷ [] }
+abbrev pub filled : View → Slot → View
+filled v x = record v { filled = v.filled ++ x ∷ [] }
 
 -- after a fill: a value is stored first
-abbrev pub filled_with : View → ℕ → Cell → View
-filled_with v k Absent = filled v k
-filled_with v k (Present z) = filled (stored v k) k
+abbrev pub filled_with : View → Slot → Cell → View
+filled_with v x cells.Absent = filled v x
+filled_with v x (cells.Present z) = filled (stored v x) x
 
 abbrev pub finished : View → ℕ → View
-finished v i = record v { done = v.done ++ i ∷ []; held = None; stored = []; filled = [] }
+finished v t = record v { done = v.done ++ t ∷ []; held = None; stored = []; filled = [] }
 
 -- of passes that hold nothing
 abbrev pub joined : View → View → View
 joined v w = record v { done = v.done ++ w.done; busy = v.busy ++ w.busy; absent = v.absent ++ w.absent; present = v.present ++ w.present }
 
+-- ---- positions, by their timestamps
+
+-- the pass saw the position Done
+abbrev pub IsDone : Batch → View → ℕ → Type 0
+IsDone b v t = Contains v.done t
+
+-- the pass saw the position Busy
+abbrev pub IsBusy : Batch → View → ℕ → Type 0
+IsBusy b v t = Contains v.busy t
+
+abbrev pub Holds : Batch → View → ℕ → Type 0
+Holds b v t = v.held ≡ Some t
+
+abbrev pub HoldsNothing : View → Type 0
+HoldsNothing v = v.held ≡ None
+
+-- ---- slots
+
 -- the slot was seen filled
-abbrev pub Knows : View → ℕ → Type 0
-Knows v k = Contains (v.absent ++ v.present) k
+abbrev pub Knows : View → Slot → Type 0
+Knows v x = Contains (v.absent ++ v.present) x
+
+abbrev pub IsKnown : Batch → View → Slot → Type 0
+IsKnown b v x = Knows v x
+
+-- the pass filled the slot, of the position that it holds
+abbrev pub IsFilled : Batch → View → Slot → Type 0
+IsFilled b v x = Contains v.filled x
 
 -- the value of the cell was stored, if it has one
-abbrev pub HasStored : View → ℕ → Cell → Type 0
-HasStored v k Absent = Unit {0}
-HasStored v k (Present z) = Contains v.stored k
+abbrev pub HasStored : View → Slot → Cell → Type 0
+HasStored v x cells.Absent = Unit {0}
+HasStored v x (cells.Present z) = Contains v.stored x
+
+-- each slot that the position wants was seen filled
+abbrev pub KnowsWanted : Batch → View → ℕ → Type 0
+KnowsWanted b v t = (a : Access) (u : ℕ) → Contains (wanted_at b t) a → a.source ≡ Within u → IsKnown b v (slot_in u a)
+
+-- all slots of the position are filled
+abbrev pub HasFilledAll : Batch → View → ℕ → Type 0
+HasFilledAll b v t = (j : ℕ) → j < width_at b t → IsFilled b v (record { txn = t; index = j })
 
 -- nothing that the pass saw or did says that the slot is filled
-pub record IsUnseen (v : View) (k : ℕ) : Type 0 where
-  pub known : ¬ Knows v k
-  pub filled : ¬ Contains v.filled k
-  pub done : (x : RightSlot) → slice_get v.right.slots k ≡ Some x → ¬ Contains v.done x.position
+pub record IsUnseen (v : View) (x : Slot) : Type 0 where
+  pub known : ¬ Knows v x
+  pub filled : ¬ Contains v.filled x
+  pub done : ¬ Contains v.done x.txn
 
 -- a position that was seen Done is Done for good, and one that was seen Busy is never Open
-pub record Recalls (v : View) (i : ℕ) (status : Status) : Type 0 where
-  pub done : Contains v.done i → status ≡ Done
-  pub busy : Contains v.busy i → status ≢ Open
+pub record Recalls (v : View) (t : ℕ) (status : Status) : Type 0 where
+  pub done : Contains v.done t → status ≡ Done
+  pub busy : Contains v.busy t → status ≢ Open
+
+-- ---- from one view to a later one
+
+-- there are more behind
+abbrev pub Continues : {A : Type 0} → List A → List A → Type 0
+Continues {A} old new = (more : List A) × (new ≡ old ++ more)
+
+-- all that was seen stays seen
+pub record Keeps (old new : View) : Type 0 where
+  pub right : new.right ≡ old.right
+  pub done : Continues old.done new.done
+  pub busy : Continues old.busy new.busy
+  pub absent : Continues old.absent new.absent
+  pub present : Continues old.present new.present
 
 -- what a pass keeps of its view: the position that it holds, whose timestamp fits, and that of its slots it has stored the value of filled ones alone
 pub record IsKept (v : View) (first : ℕ) (held : Option ℕ) : Type 0 where
-  pub holds : v.held ≡ held
+  pub holds : v.held ≡ option_map (λ i. first + i) held
   pub timestamp : (i : ℕ) → held ≡ Some i → first + i < 2 ^ 32
-  pub whole : (k : ℕ) → ¬ Contains v.filled k → ¬ Contains v.stored k
+  pub whole : (x : Slot) → ¬ Contains v.filled x → ¬ Contains v.stored x

@@ -1,8 +1,8 @@
 -- What the words of a board mean.
-use Rattle.std.specs.Prelude.{ℕ, zero, suc, ◌+◌, ◌*◌, ◌/◌, ◌%◌}
-use Rattle.std.specs.Int.{cast_signed, cast_unsigned, w64}
+use Rattle.std.specs.Prelude.{ℕ, ℤ, zero, suc, ◌+◌, ◌*◌, ◌/◌, ◌%◌, Option, None, Some}
+use Rattle.std.specs.Int.{cast_signed, w64}
 use Rattle.bohm_tree.specs.declared.cell.Cell.{Cell}
-use Rattle.bohm_tree.specs.declared.cell.Cell.TheVariants.{Absent, Present}
+use Rattle.bohm_tree.specs.declared.cell.Cell.TheVariants.{Present}
 use Rattle.bohm_txn.specs.declared.outcome.Outcome.{Outcome}
 use Rattle.bohm_txn.specs.declared.outcome.Outcome.TheVariants.{Commit, Abort}
 use Rattle.bohm_txn.specs.declared.outcome.Reason.{Reason}
@@ -11,6 +11,8 @@ use Rattle.bohm_board.specs.declared.status.Status.{Status}
 use Rattle.bohm_board.specs.declared.status.Status.TheVariants.{Open, Busy, Done}
 use Rattle.bohm_board.specs.declared.status.Claimed.{Claimed}
 use Rattle.bohm_board.specs.declared.status.Claimed.TheVariants as claimed
+use Rattle.bohm_board.specs.Core as core
+use Rattle.bohm_board.specs.Views as views
 
 -- ---- status words
 
@@ -25,6 +27,12 @@ abbrev pub found_by : Claimed → Status
 found_by claimed.Mine = Open
 found_by claimed.Busy = Busy
 found_by claimed.Done = Done
+
+-- what an exchange answers that found this word
+abbrev pub won_at : ℕ → Claimed
+won_at zero = claimed.Mine
+won_at (suc zero) = claimed.Busy
+won_at (suc (suc n)) = claimed.Done
 
 abbrev pub thousands_of : Reason → ℕ
 thousands_of reasons.Need = 1
@@ -53,18 +61,33 @@ outcome_in (suc (suc (suc (suc n)))) stmt = Abort reasons.Range stmt
 abbrev pub outcome_at : ℕ → Outcome
 outcome_at word = outcome_in (word / 1000) (word % 1000)
 
+-- the status word of a position
+abbrev pub progress_word : core.Progress → ℕ
+progress_word core.Open = 0
+progress_word (core.Claimed p) = 1
+progress_word (core.Done o) = word_of o
+
 -- ---- the words of a slot
 
 -- 0 stands for no cell, 1 for `Absent` and 2 for `Present`
-abbrev pub presence_of : Cell → ℕ
-presence_of Absent = 1
-presence_of (Present z) = 2
+abbrev pub presence_word : Option views.Presence → ℕ
+presence_word None = 0
+presence_word (Some views.Absent) = 1
+presence_word (Some views.Present) = 2
 
--- a value modulo 2 ^ 64
-abbrev pub value_of : Cell → ℕ
-value_of Absent = 0
-value_of (Present z) = cast_unsigned w64 z
+abbrev pub presence_at : ℕ → Option views.Presence
+presence_at zero = None
+presence_at (suc zero) = Some views.Absent
+presence_at (suc (suc n)) = Some views.Present
+
+-- the presence word of a cell that is there
+abbrev pub filled_word : Cell → ℕ
+filled_word c = presence_word (Some (views.presence_of c))
+
+-- a value word has its value modulo 2 ^ 64
+abbrev pub value_at : ℕ → ℤ
+value_at word = cast_signed w64 word
 
 -- the cell of a value word whose presence word is 2
 abbrev pub present_at : ℕ → Cell
-present_at word = Present (cast_signed w64 word)
+present_at word = Present (value_at word)

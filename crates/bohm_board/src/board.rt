@@ -2,7 +2,7 @@
 
 ghost use Rattle.std.specs.Prelude.{◌≡◌, ◌+◌, length};
 ghost use Rattle.bohm_board.specs.Batches.{rights_of, txns_of};
-ghost use Rattle.bohm_board.specs.Law.{IsSized, words_of};
+ghost use Rattle.bohm_board.specs.Shown.{IsSized, words_of};
 ghost use Rattle.bohm_board.specs.Layouts.{IsLayoutOf};
 
 use crate::batch::Batch;
@@ -12,15 +12,15 @@ use crate::view::View;
 use atomic_table::{Table, TableRule};
 use std::alloc::Global;
 
-/// The law of a board.
+/// The rule of a board: its words and views show a state of the core.
 pub struct BoardRule;
 
 impl<'a> TableRule<(), View, Batch<'a>> for BoardRule {
     ghost use Rattle.bohm_board.specs.Batches.{rights_of};
-    ghost use Rattle.bohm_board.specs.Law.{IsRuled};
+    ghost use Rattle.bohm_board.specs.Shown.{IsRuled};
     ghost use Rattle.bohm_board.specs.Views.{newcomer};
 
-    ghost holds = { λ batch. IsRuled (rights_of batch) };
+    ghost holds = { IsRuled };
 
     ghost first = { λ batch. newcomer (rights_of batch) };
 }

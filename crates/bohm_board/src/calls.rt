@@ -1,8 +1,8 @@
 //! The calls of a board. None waits, and all but `open` allocate nothing.
 
 ghost use Rattle.std.specs.Prelude.{◌≡◌, ◌≢◌, ◌<◌, ℕ, Some, None, IfOk, IsSome, IsNone, IfSome, Contains, length, slice_get};
-ghost use Rattle.bohm_board.specs.Batches.{rights_of, first_of, position, number, IsIn, IsSlot, IsRightCell, IsRightOutcome};
-ghost use Rattle.bohm_board.specs.Closings.{IsFinished, IsUntaken, HasCell, batch_of_closed};
+ghost use Rattle.bohm_board.specs.Batches.{rights_of, IsIn, IsSlot, IsRightCell, IsRightOutcome};
+ghost use Rattle.bohm_board.specs.Closings.{IsFinished, IsUntaken, HasCell, IsLeft, batch_of_closed};
 ghost use Rattle.bohm_board.specs.declared.slot.Slot.{Slot};
 ghost use Rattle.bohm_board.specs.Passes.{IsPassOf, HoldsNothing, Holds, IsDone, IsFilled, KnowsWanted, HasFilledAll, held_by, batch_of, view};
 ghost use Rattle.bohm_board.specs.Views.{newcomer, saw, claimed, joined, looked, filled_with, finished, Recalls, IsUnseen};
@@ -114,8 +114,8 @@ impl<'a> Board<'a> {
         requires inside { IsIn (batch_of self.now) t }
         requires apart { ¬ Holds (batch_of self.now) (view pass.old) t }
         ensures own { IsPassOf self.now pass.new }
-        ensures view { view pass.new ≡ saw (view pass.old) (position (batch_of self.now) t) result }
-        ensures recalls { Recalls (view pass.old) (position (batch_of self.now) t) result }
+        ensures view { view pass.new ≡ saw (view pass.old) t result }
+        ensures recalls { Recalls (view pass.old) t result }
     {
         let position = self.batch.position(t);
         let word = self.see_status(&mut pass.seat, position);
@@ -129,8 +129,8 @@ impl<'a> Board<'a> {
         requires inside { IsIn (batch_of self.now) t }
         requires free { HoldsNothing (view pass.old) }
         ensures own { IsPassOf self.now pass.new }
-        ensures view { view pass.new ≡ claimed (view pass.old) (position (batch_of self.now) t) (found_by result) }
-        ensures recalls { Recalls (view pass.old) (position (batch_of self.now) t) (found_by result) }
+        ensures view { view pass.new ≡ claimed (view pass.old) t (found_by result) }
+        ensures recalls { Recalls (view pass.old) t (found_by result) }
     {
         let position = self.batch.position(t);
         let word = self.exchange_status(&mut pass.seat, position);
@@ -149,9 +149,9 @@ impl<'a> Board<'a> {
         requires own { IsPassOf self.now pass.old }
         requires inside { IsSlot (batch_of self.now) slot }
         ensures own { IsPassOf self.now pass.new }
-        ensures view { view pass.new ≡ looked (view pass.old) (number (batch_of self.now) slot) result }
+        ensures view { view pass.new ≡ looked (view pass.old) slot result }
         ensures right { IfSome result (IsRightCell (batch_of self.now) slot) }
-        ensures none { IsNone result → IsUnseen (view pass.old) (number (batch_of self.now) slot) }
+        ensures none { IsNone result → IsUnseen (view pass.old) slot }
     {
         let number = self.layout.number(&self.batch, slot);
         match self.see_presence(&mut pass.seat, number) {
@@ -173,7 +173,7 @@ impl<'a> Board<'a> {
         requires empty { ¬ IsFilled (batch_of self.now) (view pass.old) slot }
         requires right { IsRightCell (batch_of self.now) slot cell }
         ensures own { IsPassOf self.now pass.new }
-        ensures view { view pass.new ≡ filled_with (view pass.old) (number (batch_of self.now) slot) cell }
+        ensures view { view pass.new ≡ filled_with (view pass.old) slot cell }
     {
         let number = self.layout.number(&self.batch, slot);
         match cell {
@@ -194,19 +194,21 @@ impl<'a> Board<'a> {
         requires filled { HasFilledAll (batch_of self.now) (view pass.old) t }
         requires right { IsRightOutcome (batch_of self.now) t outcome }
         ensures own { IsPassOf self.now pass.new }
-        ensures view { view pass.new ≡ finished (view pass.old) (position (batch_of self.now) t) }
+        ensures view { view pass.new ≡ finished (view pass.old) t }
     {
         let position = self.batch.position(t);
         self.store_outcome(&mut pass.seat, position, outcome);
         pass.held = None;
     }
 
-    /// What the steps of all passes left. What the pass saw Done is finished there. The time grows with
+    /// What the steps of all passes left: the words of a state of the core, so of one that meets the
+    /// board law. What the pass saw Done is finished there. The time grows with
     /// the number of words.
     pub fn close(self, pass: Pass) -> Closed<'a>
         requires own { IsPassOf self pass }
         requires free { HoldsNothing (view pass) }
         ensures batch { batch_of_closed result ≡ batch_of self.entry }
+        ensures state { IsLeft result }
         ensures done { (t : ℕ) → IsDone (batch_of self.entry) (view pass) t → IsFinished result t }
         ensures untaken { (s : Slot) → IsSlot (batch_of self.entry) s → IsUntaken result s.txn → ¬ HasCell result s }
     {

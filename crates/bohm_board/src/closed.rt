@@ -3,7 +3,7 @@
 ghost use Rattle.std.specs.Prelude.{◌≡◌, ◌+◌, ◌<◌, ◌≤◌, ℕ, length, slice_index, vec_len};
 ghost use Rattle.std.specs.Slots.{slots_items, slots_len, IsFull};
 ghost use Rattle.bohm_board.specs.Batches.{rights_of, txns_of};
-ghost use Rattle.bohm_board.specs.Law.{IsSized, IsSound, words_of};
+ghost use Rattle.bohm_board.specs.Shown.{AreSound, IsSized, words_of};
 ghost use Rattle.bohm_board.specs.Layouts.{IsLayoutOf};
 
 use crate::batch::Batch;
@@ -20,7 +20,7 @@ pub struct Closed<'a> {
     ghost laid: { IsLayoutOf (txns_of batch) layout },
     ghost lengths: { (length (rights_of batch).outcomes ≡ layout.positions) × (length (rights_of batch).slots ≡ layout.slots) },
     ghost sized: { IsSized (rights_of batch) (words_of columns) },
-    ghost sound: { IsSound (rights_of batch) (words_of columns) },
+    ghost sound: { AreSound batch (words_of columns) },
 }
 
 /// Copies words from a place on into all of a vector.

@@ -1,12 +1,12 @@
 //! The seven atomic steps on the words of a board, each one step of its table.
 
-ghost use Rattle.std.specs.Prelude.{◌≡◌, ◌≢◌, ◌+◌, ◌<◌, ◌≤◌, ℕ, Some, None, length, slice_get, Contains};
-ghost use Rattle.bohm_board.specs.declared.view.RightSlot.{RightSlot};
-ghost use Rattle.bohm_board.specs.Batches.{rights_of, right_cell};
+ghost use Rattle.std.specs.Prelude.{◌≡◌, ◌≢◌, ◌+◌, ◌<◌, Some, None, length, slice_get, Contains};
+ghost use Rattle.bohm_tree.specs.declared.cell.Cell.{Cell};
+ghost use Rattle.bohm_board.specs.Batches.{rights_of, right_cell, slot_numbered, timestamp};
 ghost use Rattle.bohm_board.specs.Passes.{IsSeatOf, batch_of};
-ghost use Rattle.bohm_board.specs.Steps.{IsHeldSlot};
-ghost use Rattle.bohm_board.specs.Views.{saw, claimed, learnt, stored, filled, finished, Recalls, HasStored, IsUnseen};
-ghost use Rattle.bohm_board.specs.Words.{status_of, presence_of, present_at, outcome_at};
+ghost use Rattle.bohm_board.specs.Steps.{IsFillable};
+ghost use Rattle.bohm_board.specs.Views.{saw, claimed, learnt, stored, filled, finished, Recalls, HasStored, HasFilledAll, KnowsWanted, IsUnseen};
+ghost use Rattle.bohm_board.specs.Words.{status_of, presence_at, filled_word, present_at};
 
 use crate::board::Board;
 use crate::plays::{Claim, FillPresence, FillValue, Finish, LookPresence, LookValue, SeeStatus};
@@ -36,10 +36,10 @@ impl<'a> Board<'a> {
     pub(crate) fn see_status(&self, seat: &mut Seat<(), View>, position: usize) -> u64
         requires own { IsSeatOf self.now seat.old }
         requires inside { position < length (rights_of (batch_of self.now)).outcomes }
-        requires apart { seat.old.me.0.held ≢ Some position }
+        requires apart { seat.old.me.0.held ≢ Some (timestamp seat.old.me.0.right position) }
         ensures own { IsSeatOf self.now seat.new }
-        ensures view { seat.new.me.0 ≡ saw seat.old.me.0 position (status_of result) }
-        ensures recalls { Recalls seat.old.me.0 position (status_of result) }
+        ensures view { seat.new.me.0 ≡ saw seat.old.me.0 (timestamp seat.old.me.0.right position) (status_of result) }
+        ensures recalls { Recalls seat.old.me.0 (timestamp seat.old.me.0.right position) (status_of result) }
     {
         self.table.shared.load::<SeeStatus>(seat, position)
     }
@@ -50,8 +50,8 @@ impl<'a> Board<'a> {
         requires inside { position < length (rights_of (batch_of self.now)).outcomes }
         requires free { seat.old.me.0.held ≡ None }
         ensures own { IsSeatOf self.now seat.new }
-        ensures view { seat.new.me.0 ≡ claimed seat.old.me.0 position (status_of result) }
-        ensures recalls { Recalls seat.old.me.0 position (status_of result) }
+        ensures view { seat.new.me.0 ≡ claimed seat.old.me.0 (timestamp seat.old.me.0.right position) (status_of result) }
+        ensures recalls { Recalls seat.old.me.0 (timestamp seat.old.me.0.right position) (status_of result) }
     {
         self.table
             .shared
@@ -61,11 +61,12 @@ impl<'a> Board<'a> {
     /// Stores an outcome in the status word of the held position.
     pub(crate) fn store_outcome(&self, seat: &mut Seat<(), View>, position: usize, outcome: Outcome)
         requires own { IsSeatOf self.now seat.old }
-        requires held { seat.old.me.0.held ≡ Some position }
-        requires filled { (k : ℕ) (x : RightSlot) → slice_get (rights_of (batch_of self.now)).slots k ≡ Some x → x.position ≡ position → Contains seat.old.me.0.filled k }
+        requires held { seat.old.me.0.held ≡ Some (timestamp seat.old.me.0.right position) }
+        requires wanted { KnowsWanted (batch_of self.now) seat.old.me.0 (timestamp seat.old.me.0.right position) }
+        requires filled { HasFilledAll (batch_of self.now) seat.old.me.0 (timestamp seat.old.me.0.right position) }
         requires right { slice_get (rights_of (batch_of self.now)).outcomes position ≡ Some outcome }
         ensures own { IsSeatOf self.now seat.new }
-        ensures view { seat.new.me.0 ≡ finished seat.old.me.0 position }
+        ensures view { seat.new.me.0 ≡ finished seat.old.me.0 (timestamp seat.old.me.0.right position) }
     {
         let word = outcome_word(outcome);
         self.table.shared.store::<Finish>(seat, position, word);
@@ -76,9 +77,9 @@ impl<'a> Board<'a> {
         requires own { IsSeatOf self.now seat.old }
         requires inside { slot < length (rights_of (batch_of self.now)).slots }
         ensures own { IsSeatOf self.now seat.new }
-        ensures view { seat.new.me.0 ≡ learnt seat.old.me.0 slot result }
-        ensures empty { result ≡ 0 → IsUnseen seat.old.me.0 slot }
-        ensures right { result ≢ 0 → (x : RightSlot) → slice_get (rights_of (batch_of self.now)).slots slot ≡ Some x → result ≡ presence_of x.cell }
+        ensures view { seat.new.me.0 ≡ learnt seat.old.me.0 (slot_numbered seat.old.me.0.right slot) (presence_at result) }
+        ensures empty { result ≡ 0 → IsUnseen seat.old.me.0 (slot_numbered seat.old.me.0.right slot) }
+        ensures right { result ≢ 0 → (c : Cell) → right_cell (rights_of (batch_of self.now)) slot ≡ Some c → result ≡ filled_word c }
     {
         let at = self.presence_at(slot);
         self.table.shared.load::<LookPresence>(seat, at)
@@ -88,7 +89,7 @@ impl<'a> Board<'a> {
     pub(crate) fn see_value(&self, seat: &mut Seat<(), View>, slot: usize) -> u64
         requires own { IsSeatOf self.now seat.old }
         requires inside { slot < length (rights_of (batch_of self.now)).slots }
-        requires known { Contains seat.old.me.0.present slot }
+        requires known { Contains seat.old.me.0.present (slot_numbered seat.old.me.0.right slot) }
         ensures own { IsSeatOf self.now seat.new }
         ensures view { seat.new.me.0 ≡ seat.old.me.0 }
         ensures right { right_cell (rights_of (batch_of self.now)) slot ≡ Some (present_at result) }
@@ -100,12 +101,11 @@ impl<'a> Board<'a> {
     /// Stores the value word of a slot that isn't filled yet.
     pub(crate) fn store_value(&self, seat: &mut Seat<(), View>, slot: usize, value: Value)
         requires own { IsSeatOf self.now seat.old }
-        requires held { IsHeldSlot (rights_of (batch_of self.now)) seat.old.me.0 slot }
-        requires empty { ¬ Contains seat.old.me.0.filled slot }
-        requires once { ¬ Contains seat.old.me.0.stored slot }
+        requires fillable { IsFillable (batch_of self.now) seat.old.me.0 (slot_numbered seat.old.me.0.right slot) }
+        requires once { ¬ Contains seat.old.me.0.stored (slot_numbered seat.old.me.0.right slot) }
         requires right { right_cell (rights_of (batch_of self.now)) slot ≡ Some (Cell.Present value) }
         ensures own { IsSeatOf self.now seat.new }
-        ensures view { seat.new.me.0 ≡ stored seat.old.me.0 slot }
+        ensures view { seat.new.me.0 ≡ stored seat.old.me.0 (slot_numbered seat.old.me.0.right slot) }
     {
         let at = self.value_at(slot);
         let word = value_word(value);
@@ -115,12 +115,11 @@ impl<'a> Board<'a> {
     /// Stores the presence word of a slot, which fills it.
     pub(crate) fn store_presence(&self, seat: &mut Seat<(), View>, slot: usize, cell: Cell)
         requires own { IsSeatOf self.now seat.old }
-        requires held { IsHeldSlot (rights_of (batch_of self.now)) seat.old.me.0 slot }
-        requires empty { ¬ Contains seat.old.me.0.filled slot }
-        requires stored { HasStored seat.old.me.0 slot cell }
+        requires fillable { IsFillable (batch_of self.now) seat.old.me.0 (slot_numbered seat.old.me.0.right slot) }
+        requires stored { HasStored seat.old.me.0 (slot_numbered seat.old.me.0.right slot) cell }
         requires right { right_cell (rights_of (batch_of self.now)) slot ≡ Some cell }
         ensures own { IsSeatOf self.now seat.new }
-        ensures view { seat.new.me.0 ≡ filled seat.old.me.0 slot }
+        ensures view { seat.new.me.0 ≡ filled seat.old.me.0 (slot_numbered seat.old.me.0.right slot) }
     {
         let at = self.presence_at(slot);
         let word = presence_word(cell);

@@ -1,10 +1,10 @@
 //! What the words of a board mean.
 
-ghost use Rattle.std.specs.Prelude.{◌≡◌, ◌<◌, ◌≤◌};
+ghost use Rattle.std.specs.Prelude.{◌≡◌, ◌<◌};
 ghost use Rattle.std.specs.Int.{w64};
 ghost use Rattle.std.specs.Int.RustNames.{FitsSigned};
 ghost use Rattle.bohm_tree.specs.declared.cell.Cell.TheVariants.{Present};
-ghost use Rattle.bohm_board.specs.Words.{status_of, thousands_of, word_of, outcome_at, stmt_of, presence_of, value_of, present_at};
+ghost use Rattle.bohm_board.specs.Words.{status_of, thousands_of, word_of, outcome_at, stmt_of, filled_word, present_at};
 
 use crate::status::Status;
 use bohm_txn::{Cell, Outcome, Reason, Value};
@@ -33,8 +33,7 @@ fn thousands(reason: Reason) -> u64
 /// The status word of an outcome.
 pub(crate) fn outcome_word(outcome: Outcome) -> u64
     requires { stmt_of outcome < 1000 }
-    ensures done { 2 ≤ result }
-    ensures outcome { outcome_at result ≡ outcome }
+    ensures { result ≡ word_of outcome }
 {
     match outcome {
         Outcome::Commit => 2,
@@ -69,7 +68,7 @@ pub(crate) fn outcome_of_word(word: u64) -> Outcome
 }
 
 pub(crate) fn presence_word(cell: Cell) -> u64
-    ensures { result ≡ presence_of cell }
+    ensures { result ≡ filled_word cell }
 {
     match cell {
         Cell::Absent => 1,
@@ -86,8 +85,8 @@ pub(crate) fn value_word(value: Value) -> u64
 
 /// The presence and the value word of a cell, the second 0 where it has no value.
 pub(crate) fn slot_words(cell: Cell) -> (u64, u64)
-    ensures presence { result.0 ≡ presence_of cell }
-    ensures value { presence_of cell ≡ 2 → present_at result.1 ≡ cell }
+    ensures presence { result.0 ≡ filled_word cell }
+    ensures value { filled_word cell ≡ 2 → present_at result.1 ≡ cell }
 {
     match cell {
         Cell::Absent => (1, 0),

@@ -7,7 +7,6 @@ use native.Mathlib.Decide.{ℕ_discrete}
 use Rattle.std.proofs.lemmas.List.Elements.{Contains-push, Contains-append_left}
 use Rattle.bohm_board.specs.declared.batch.Batch.{Batch}
 use Rattle.bohm_board.specs.declared.view.View.{View}
-use Rattle.bohm_board.specs.Batches.{position}
 use Rattle.bohm_board.specs.Passes.{IsDone, Keeps}
 use Rattle.bohm_board.proofs.Keeping.{still_done}
 use Rattle.bohm_exec.specs.Asides.{Pairs, IsAccountedFor, IsPickedFrom, positions_in, busy_in}
@@ -36,11 +35,9 @@ next P share n all here i l = dite (ℕ_discrete i n) (λ e. subst (λ (z : ℕ)
 
 -- ---- what was seen Busy
 
-pub busy_more : (b : Batch) (old now new : List ℕ) (pairs : Pairs) (p : ℕ × ℕ) → now ≡ old ++ map (position b) (busy_in pairs) → new ≡ now ++ position b p.1 ∷ [] → new ≡ old ++ map (position b) (busy_in (pairs ++ p ∷ []))
-busy_more b old now new pairs p before e =
-    let seen : List ℕ = map (position b) (busy_in pairs) in
-    let grown : map (position b) (busy_in (pairs ++ p ∷ [])) ≡ seen ++ position b p.1 ∷ [] = ap (map (position b)) (busy_push pairs p) ∙ map-append (position b) (busy_in pairs) (p.1 ∷ []) in
-    e ∙ (ap (λ (xs : List ℕ). xs ++ position b p.1 ∷ []) before ∙ (append_assoc old seen (position b p.1 ∷ []) ∙ ap (λ (xs : List ℕ). old ++ xs) (sym grown)))
+pub busy_more : (old now new : List ℕ) (pairs : Pairs) (p : ℕ × ℕ) → now ≡ old ++ busy_in pairs → new ≡ now ++ p.1 ∷ [] → new ≡ old ++ busy_in (pairs ++ p ∷ [])
+busy_more old now new pairs p before e =
+    e ∙ (ap (λ (xs : List ℕ). xs ++ p.1 ∷ []) before ∙ (append_assoc old (busy_in pairs) (p.1 ∷ []) ∙ ap (λ (xs : List ℕ). old ++ xs) (sym (busy_push pairs p))))
 
 -- ---- the order
 

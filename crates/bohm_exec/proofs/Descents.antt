@@ -8,12 +8,16 @@ use Rattle.std.proofs.lemmas.Grind.{get_or_default_zero}
 use mathlib.Core.Logic.{dite}
 use native.Mathlib.Decide.{ℕ_discrete}
 use Rattle.bohm_board.specs.declared.batch.Batch.{Batch}
-use Rattle.bohm_board.specs.Batches.{IsIn, Wants, Leads, itself, further, position, txns_of}
+use Rattle.bohm_board.specs.Batches.{IsIn, Wants, Leads, itself, further, first_of, position, txns_of}
 use Rattle.bohm_board.proofs.Wanted.{wanted_earlier}
 
 -- how many positions the batch has
 abbrev pub count_of : Batch → ℕ
 count_of b = length (txns_of b)
+
+-- the first timestamp behind the batch
+abbrev pub end_of : Batch → ℕ
+end_of b = first_of b + length (txns_of b)
 
 -- the start leads to each position of the stack, they fall, and those above the start weren't seen Done
 pub record IsDescent (b : Batch) (start : ℕ) (done xs : List ℕ) : Type 0 where
@@ -22,7 +26,7 @@ pub record IsDescent (b : Batch) (start : ℕ) (done xs : List ℕ) : Type 0 whe
   pub below : (i : ℕ) → i < length xs → position b (get_or xs i 0) + i < count_of b
   pub leads : (i : ℕ) → i < length xs → Leads b start (get_or xs i 0)
   pub falls : (i j : ℕ) → i < j → j < length xs → get_or xs j 0 < get_or xs i 0
-  pub fresh : (i : ℕ) → 0 < i → i < length xs → ¬ Contains done (position b (get_or xs i 0))
+  pub fresh : (i : ℕ) → 0 < i → i < length xs → ¬ Contains done (get_or xs i 0)
   pub first : get_or xs 0 0 ≡ start
 
 abbrev pub top_of : List ℕ → ℕ
@@ -60,7 +64,7 @@ first_of_push xs u l = get_or_append_left xs (u ∷ []) 0 0 l
 pub wants_earlier : (b : Batch) (t u : ℕ) → IsIn b t → Wants b t u → (u < t) × IsIn b u
 wants_earlier b t u is wants = let e = wanted_earlier b t wants.0 u is wants.1 wants.2 in (e.below, e.slot.txn)
 
-pub pushed : (b : Batch) (start : ℕ) (done xs : List ℕ) (u : ℕ) → IsDescent b start done xs → Wants b (top_of xs) u → ¬ Contains done (position b u) → IsDescent b start done (xs ++ u ∷ [])
+pub pushed : (b : Batch) (start : ℕ) (done xs : List ℕ) (u : ℕ) → IsDescent b start done xs → Wants b (top_of xs) u → ¬ Contains done u → IsDescent b start done (xs ++ u ∷ [])
 pushed b start done xs u d wants new =
     let len = length xs in
     let long = length_push xs u in
@@ -79,11 +83,11 @@ pushed b start done xs u d wants new =
           let l' : i < len = omega arith in
           let at_i : get_or (xs ++ u ∷ []) i 0 ≡ get_or xs i 0 = get_or_append_left xs (u ∷ []) 0 i l' in
           subst (λ (z : ℕ). get_or (xs ++ u ∷ []) j 0 < z) (sym at_i) (at_push (λ k z. z < get_or xs i 0) xs u j m (λ m'. d.falls i j l m') (lower i l'));
-      fresh = λ i above l. at_push (λ j z. 0 < j → ¬ Contains done (position b z)) xs u i l (λ l' above'. d.fresh i above' l') (λ _. new) above;
+      fresh = λ i above l. at_push (λ j z. 0 < j → ¬ Contains done z) xs u i l (λ l' above'. d.fresh i above' l') (λ _. new) above;
       first = first_of_push xs u some ∙ d.first;
     }
 
-pub popped : (b : Batch) (start : ℕ) (done ys : List ℕ) (u : ℕ) → IsDescent b start done (ys ++ u ∷ []) → 0 < length ys → IsDescent b start (done ++ position b u ∷ []) ys
+pub popped : (b : Batch) (start : ℕ) (done ys : List ℕ) (u : ℕ) → IsDescent b start done (ys ++ u ∷ []) → 0 < length ys → IsDescent b start (done ++ u ∷ []) ys
 popped b start done ys u d some =
     let len = length ys in
     let long = length_push ys u in
@@ -94,12 +98,11 @@ popped b start done ys u d some =
       below = λ i l. subst (λ (z : ℕ). position b z + i < count_of b) (same i l) (d.below i (omega arith));
       leads = λ i l. subst (λ (z : ℕ). Leads b start z) (same i l) (d.leads i (omega arith));
       falls = λ i j l m. let e = same i (omega arith) in let e' = same j m in let f = d.falls i j l (omega arith) in omega arith;
-      fresh = λ i above l c. ⊎_elim (λ (old : Contains done (position b (get_or ys i 0))). d.fresh i above (omega arith) (subst (λ (z : ℕ). Contains done (position b z)) (sym (same i l)) old))
-          (λ (e : position b u ≡ position b (get_or ys i 0)).
+      fresh = λ i above l c. ⊎_elim (λ (old : Contains done (get_or ys i 0)). d.fresh i above (omega arith) (subst (λ (z : ℕ). Contains done z) (sym (same i l)) old))
+          (λ (e : u ≡ get_or ys i 0).
           let f = d.falls i len l (omega arith) in
           let s = same i l in
-          let from = (d.inside len (omega arith)).from in
-          omega arith) (Contains-push_cases done (position b u) (position b (get_or ys i 0)) c);
+          omega arith) (Contains-push_cases done u (get_or ys i 0) c);
       first = sym (first_of_push ys u some) ∙ d.first;
     }
 
@@ -160,7 +163,7 @@ lower a b n top top' l m = let more : suc a * (n + 1) ≤ b * (n + 1) = mul-le-m
 
 -- what falls: positions that weren't seen Done count most, and then the top's place
 abbrev pub left_to_do : Batch → List ℕ → List ℕ → ℕ
-left_to_do b done xs = undone done (count_of b) * (count_of b + 1) + position b (top_of xs)
+left_to_do b done xs = undone done (end_of b) * (count_of b + 1) + position b (top_of xs)
 
 pub top_is : (xs : List ℕ) (n x : ℕ) → 0 < length xs → n ≡ length xs → x ≡ get_or xs (n - 1) x → x ≡ top_of xs
 top_is xs n x some long is = is ∙ (ap (λ (z : ℕ). get_or xs (z - 1) x) long ∙ get_or_default_zero xs (length xs - 1) x (omega arith))
@@ -177,7 +180,7 @@ top_inside b start done xs d = let some = d.some in d.inside (length xs - 1) (om
 pub top_leads : (b : Batch) (start : ℕ) (done xs : List ℕ) → IsDescent b start done xs → Leads b start (top_of xs)
 top_leads b start done xs d = let some = d.some in d.leads (length xs - 1) (omega arith)
 
-pub pop_falls : (b : Batch) (start : ℕ) (done done' xs ys : List ℕ) (top : ℕ) → IsDescent b start done xs → xs ≡ ys ++ top_of xs ∷ [] → top ≡ top_of xs → done' ≡ done ++ position b top ∷ [] → 0 < length ys
+pub pop_falls : (b : Batch) (start : ℕ) (done done' xs ys : List ℕ) (top : ℕ) → IsDescent b start done xs → xs ≡ ys ++ top_of xs ∷ [] → top ≡ top_of xs → done' ≡ done ++ top ∷ [] → 0 < length ys
     → (left_to_do b done' ys < left_to_do b done xs) × IsDescent b start done' ys
 pop_falls b start done done' xs ys top d e is now some =
     let n : ℕ = count_of b in
@@ -185,11 +188,12 @@ pop_falls b start done done' xs ys top d e is now some =
     let long : length xs ≡ length ys + 1 = ap length e ∙ length_push ys u in
     let last : length xs - 1 < length xs = omega arith in
     let low = d.below (length xs - 1) last in
-    let now' : done' ≡ done ++ position b u ∷ [] = now ∙ ap (λ (z : ℕ). done ++ position b z ∷ []) is in
-    let d' : IsDescent b start (done ++ position b u ∷ []) ys = popped b start done ys u (subst (λ (z : List ℕ). IsDescent b start done z) e d) some in
+    let now' : done' ≡ done ++ u ∷ [] = now ∙ ap (λ (z : ℕ). done ++ z ∷ []) is in
+    let d' : IsDescent b start (done ++ u ∷ []) ys = popped b start done ys u (subst (λ (z : List ℕ). IsDescent b start done z) e d) some in
     let low' = d'.below (length ys - 1) (omega arith) in
-    let fewer : undone (done ++ position b u ∷ []) n < undone done n = undone_less done (position b u) n (omega arith) (d.fresh (length xs - 1) (omega arith) last) in
-    subst (λ (z : List ℕ). (left_to_do b z ys < left_to_do b done xs) × IsDescent b start z ys) (sym now') (lower (undone (done ++ position b u ∷ []) n) (undone done n) n (position b u) (position b (top_of ys)) fewer (omega arith), d')
+    let inside = (d.inside (length xs - 1) last).below in
+    let fewer : undone (done ++ u ∷ []) (end_of b) < undone done (end_of b) = undone_less done u (end_of b) (omega arith) (d.fresh (length xs - 1) (omega arith) last) in
+    subst (λ (z : List ℕ). (left_to_do b z ys < left_to_do b done xs) × IsDescent b start z ys) (sym now') (lower (undone (done ++ u ∷ []) (end_of b)) (undone done (end_of b)) n (position b u) (position b (top_of ys)) fewer (omega arith), d')
 
 pub push_falls : (b : Batch) (start : ℕ) (done done' xs xs' : List ℕ) (u : ℕ) → IsDescent b start done xs → xs' ≡ xs ++ u ∷ [] → Wants b (top_of xs) u → done' ≡ done → left_to_do b done' xs' < left_to_do b done xs
 push_falls b start done done' xs xs' u d e wants same =
@@ -198,9 +202,9 @@ push_falls b start done done' xs xs' u d e wants same =
     let long : length xs' ≡ length xs + 1 = ap length e ∙ length_push xs u in
     let back : length xs' - 1 ≡ length xs = omega arith in
     let top : top_of xs' ≡ u = (λ i. get_or (e i) (back i) 0) ∙ at_end xs u in
-    let k : undone done' (count_of b) * (count_of b + 1) ≡ undone done (count_of b) * (count_of b + 1) = ap (λ (z : List ℕ). undone z (count_of b) * (count_of b + 1)) same in
-    let p : ℕ = undone done' (count_of b) * (count_of b + 1) in
-    let q : ℕ = undone done (count_of b) * (count_of b + 1) in
+    let k : undone done' (end_of b) * (count_of b + 1) ≡ undone done (end_of b) * (count_of b + 1) = ap (λ (z : List ℕ). undone z (end_of b) * (count_of b + 1)) same in
+    let p : ℕ = undone done' (end_of b) * (count_of b + 1) in
+    let q : ℕ = undone done (end_of b) * (count_of b + 1) in
     let k' : p ≡ q = k in
     let shallower : position b (top_of xs') < position b (top_of xs) = rw top (omega (arith, is.from, top_in.from, less)) in
     let f : p + position b (top_of xs') < q + position b (top_of xs) = omega arith in f

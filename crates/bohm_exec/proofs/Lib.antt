@@ -5,10 +5,4 @@ pub mod Viewed
 pub mod Based
 pub mod Descents
 pub mod Accounts
-pub mod CoreSound
-pub mod CoreInput
-pub mod CoreAccess
-pub mod CoreKeeps
-pub mod CoreSteps
-pub mod CoreRuns
 pub mod Tested

@@ -19,9 +19,6 @@ use Rattle.bohm_exec.specs.Handed.{KnowsAll, AreFound}
 
 -- ---- lists
 
-pub contains_at : {A : Type 0} (xs : List A) (j : ℕ) (x : A) → slice_get xs j ≡ Some x → Contains xs x
-contains_at xs j x e = (j, slice_get_within xs j x e, get_or_from_slice_get xs j x x e)
-
 pub place : {A : Type 0} (xs : List A) (x : A) → Contains xs x → (j : ℕ) × (slice_get xs j ≡ Some x)
 place xs x c = (c.0, slice_get-get_or xs c.0 x c.1 ∙ ap Some c.2)
 

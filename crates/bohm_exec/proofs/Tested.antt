@@ -13,7 +13,7 @@ use Rattle.bohm_txn.specs.Faulty.{is_among, rising}
 use Rattle.bohm_board.specs.Bases.{IsBase, keys_of, declares}
 use Rattle.bohm_exec.specs.Asides.{Pairs, IsSetAside, positions_in}
 use Rattle.bohm_exec.specs.Samples.{Entries, has_entry, have_entries, are_declared, has_base, is_base, has_position, is_set_aside}
-use Rattle.bohm_exec.proofs.Seen.{contains_at}
+use Rattle.bohm_board.proofs.Evaluated.{contains_at}
 
 all_at : {A : Type 0} (p : A → Bool) (xs : List A) (j : ℕ) (x : A) → list_all p xs ≡ true → slice_get xs j ≡ Some x → p x ≡ true
 all_at p [] j x all e = absurd cc

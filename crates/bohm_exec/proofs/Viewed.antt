@@ -28,7 +28,7 @@ use Rattle.bohm_place.specs.declared.declared_set.DeclaredSet.{DeclaredSet}
 use Rattle.bohm_place.specs.declared.declared_set.DeclaredSet.TheVariants.{Reads, Writes}
 use Rattle.bohm_place.specs.Plans.{keys_in}
 use Rattle.bohm_board.specs.Batches.{accesses_in}
-use Rattle.bohm_exec.specs.Handed.{AreWanted, KnowsAll}
+use Rattle.bohm_exec.specs.Handed.{AreWanted, KnowsAll, slot_of}
 use Rattle.bohm_exec.specs.Turns.{LooksOnly, FillsOnly}
 
 -- ---- looks
@@ -36,23 +36,17 @@ use Rattle.bohm_exec.specs.Turns.{LooksOnly, FillsOnly}
 pub no_looks : (v : View) → LooksOnly v v
 no_looks v = record { keeps = keeps_same v; done = refl; busy = refl; held = refl; stored = refl; filled = refl }
 
-looks_on : (v w : View) (k : ℕ) (answer : Option Cell) → LooksOnly v w → LooksOnly v (looked w k answer)
+looks_on : (v w : View) (k : Slot) (answer : Option Cell) → LooksOnly v w → LooksOnly v (looked w k answer)
 looks_on v w k None l = l
 looks_on v w k (Some Absent) l = record { keeps = keeps_then v w (looked w k (Some Absent)) l.keeps (keeps_looked w k (Some Absent)); done = l.done; busy = l.busy; held = l.held; stored = l.stored; filled = l.filled }
 looks_on v w k (Some (Present z)) l = record { keeps = keeps_then v w (looked w k (Some (Present z))) l.keeps (keeps_looked w k (Some (Present z))); done = l.done; busy = l.busy; held = l.held; stored = l.stored; filled = l.filled }
 
 -- one more look
-pub one_look : (v w u : View) (k : ℕ) (answer : Option Cell) → LooksOnly v w → u ≡ looked w k answer → LooksOnly v u
+pub one_look : (v w u : View) (k : Slot) (answer : Option Cell) → LooksOnly v w → u ≡ looked w k answer → LooksOnly v u
 one_look v w u k answer l e = subst (λ (z : View). LooksOnly v z) (sym e) (looks_on v w k answer l)
 
 pub then_looks : (u v w : View) → LooksOnly u v → LooksOnly v w → LooksOnly u w
 then_looks u v w a b = record { keeps = keeps_then u v w a.keeps b.keeps; done = b.done ∙ a.done; busy = b.busy ∙ a.busy; held = b.held ∙ a.held; stored = b.stored ∙ a.stored; filled = b.filled ∙ a.filled }
-
--- an empty slot's position wasn't seen Done
-pub unseen_undone : (b : Batch) (v : View) (s : Slot) → v.right ≡ rights_of b → IsSlot b s → IsUnseen v (number b s) → ¬ IsDone b v s.txn
-unseen_undone b v s right is unseen = λ done.
-    let x = right_at b s is in
-    unseen.done x.0 (subst (λ (r : Rights). slice_get r.slots (number b s) ≡ Some x.0) (sym right) x.1) (subst (λ (i : ℕ). Contains v.done i) (sym x.2) done)
 
 -- ---- what is wanted
 
@@ -90,8 +84,8 @@ knows_wanted b v t reads writes = λ a u in_it is. ⊎_elim
     (λ (c : (is_sure_at b t ≡ false) × Contains (writes_at b t) a). writes c.0 a u c.1 is)
     (in_either (is_sure_at b t) (reads_at b t) (writes_at b t) a in_it)
 
-pub knows_later : (b : Batch) (v w : View) (accesses : List Access) → ((k : ℕ) → Knows v k → Knows w k) → KnowsAll b v accesses → KnowsAll b w accesses
-knows_later b v w accesses later all = λ a u in_it is. later (number b (slot_in u a)) (all a u in_it is)
+pub knows_later : (b : Batch) (v w : View) (accesses : List Access) → ((x : Slot) → Knows v x → Knows w x) → KnowsAll b v accesses → KnowsAll b w accesses
+knows_later b v w accesses later all = λ a u in_it is. later (slot_in u a) (all a u in_it is)
 
 pub keys_paired : (set : DeclaredSet) (b : Batch) (t : ℕ) (x : Txn) → txn_at b t ≡ Some x → length (keys_in set x) ≡ length (accesses_in set b t)
 keys_paired Reads b t x at = reads_paired b t x at
@@ -116,25 +110,25 @@ well_formed b t x at = subst IsWellFormedTxn (get_or_from_slice_get (txns_of b) 
 pub no_fills : (v : View) → FillsOnly v v
 no_fills v = record { right = refl; done = refl; busy = refl; absent = refl; present = refl; held = refl }
 
-fills_on : (v w : View) (k : ℕ) (c : Cell) → FillsOnly v w → FillsOnly v (filled_with w k c) × ((filled_with w k c).filled ≡ w.filled ++ k ∷ [])
+fills_on : (v w : View) (k : Slot) (c : Cell) → FillsOnly v w → FillsOnly v (filled_with w k c) × ((filled_with w k c).filled ≡ w.filled ++ k ∷ [])
 fills_on v w k Absent f = (record { right = f.right; done = f.done; busy = f.busy; absent = f.absent; present = f.present; held = f.held }, refl)
 fills_on v w k (Present z) f = (record { right = f.right; done = f.done; busy = f.busy; absent = f.absent; present = f.present; held = f.held }, refl)
 
 -- one more fill
-pub one_fill : (v w u : View) (k : ℕ) (c : Cell) → FillsOnly v w → u ≡ filled_with w k c → FillsOnly v u × (u.filled ≡ w.filled ++ k ∷ [])
+pub one_fill : (v w u : View) (k : Slot) (c : Cell) → FillsOnly v w → u ≡ filled_with w k c → FillsOnly v u × (u.filled ≡ w.filled ++ k ∷ [])
 one_fill v w u k c f e = subst (λ (z : View). FillsOnly v z × (z.filled ≡ w.filled ++ k ∷ [])) (sym e) (fills_on v w k c f)
 
 -- a position's known slots stay known while it is filled
 pub wanted_stays : (b : Batch) (v w : View) (t : ℕ) → w.absent ≡ v.absent → w.present ≡ v.present → KnowsWanted b v t → KnowsWanted b w t
 wanted_stays b v w t absent present knows = λ a u in_it is.
-    let P : List ℕ → Type 0 = λ xs. Contains xs (number b (slot_in u a)) in
+    let P : List Slot → Type 0 = λ xs. Contains xs (slot_in u a) in
     subst P (λ i. sym absent i ++ sym present i) (knows a u in_it is)
 
 -- the slots of t below the j-th, and the j-th
-pub below_fill : (xs : List ℕ) (start j : ℕ) → ((k : ℕ) → Contains xs k → k < start + j) → (k : ℕ) → Contains (xs ++ (start + j) ∷ []) k → k < start + (j + 1)
-below_fill xs start j all k c = ⊎_elim (λ (h : Contains xs k). let l : k < start + j = all k h in omega arith) (λ (e : start + j ≡ k). omega arith) (Contains-push_cases xs (start + j) k c)
+pub below_fill : (xs : List Slot) (t j : ℕ) → ((x : Slot) → Contains xs x → x.index < j) → (x : Slot) → Contains (xs ++ slot_of t j ∷ []) x → x.index < j + 1
+below_fill xs t j all x c = ⊎_elim (λ (h : Contains xs x). let l = all x h in omega arith) (λ (e : slot_of t j ≡ x). let same : j ≡ x.index = ap (λ (z : Slot). z.index) e in omega arith) (Contains-push_cases xs (slot_of t j) x c)
 
-pub all_fill : (xs : List ℕ) (start n : ℕ) → ((j : ℕ) → j < n → Contains xs (start + j)) → (j : ℕ) → j < n + 1 → Contains (xs ++ (start + n) ∷ []) (start + j)
-all_fill xs start n all j l = dite (ℕ_discrete j n)
-    (λ e. subst (λ (z : ℕ). Contains (xs ++ (start + n) ∷ []) (start + z)) (sym e) (Contains-push xs (start + n)))
-    (λ ne. Contains-append_left xs ((start + n) ∷ []) (start + j) (all j (omega arith)))
+pub all_fill : (xs : List Slot) (t n : ℕ) → ((j : ℕ) → j < n → Contains xs (slot_of t j)) → (j : ℕ) → j < n + 1 → Contains (xs ++ slot_of t n ∷ []) (slot_of t j)
+all_fill xs t n all j l = dite (ℕ_discrete j n)
+    (λ e. subst (λ (z : ℕ). Contains (xs ++ slot_of t n ∷ []) (slot_of t z)) (sym e) (Contains-push xs (slot_of t n)))
+    (λ ne. Contains-append_left xs (slot_of t n ∷ []) (slot_of t j) (all j (omega arith)))

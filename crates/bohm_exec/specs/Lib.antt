@@ -4,6 +4,3 @@ pub mod Moments
 pub mod Turns
 pub mod Answers
 pub mod Samples
-pub mod Core
-pub mod CoreEvents
-pub mod CoreLaw

@@ -6,7 +6,7 @@ use Rattle.bohm_board.specs.declared.pass.Pass.{Pass}
 use Rattle.bohm_board.specs.declared.status.Claimed.{Claimed}
 use Rattle.bohm_board.specs.declared.status.Claimed.TheVariants as claimed
 use Rattle.bohm_board.specs.declared.view.View.{View}
-use Rattle.bohm_board.specs.Batches.{position, Wants}
+use Rattle.bohm_board.specs.Batches.{Wants}
 use Rattle.bohm_board.specs.Passes.{IsPassOf, HoldsNothing, IsDone, Keeps, view}
 use Rattle.bohm_exec.specs.declared.turns.Turned.{Turned}
 use Rattle.bohm_exec.specs.declared.turns.Turned.TheVariants.{Done, Busy, Needs}
@@ -36,13 +36,13 @@ pub record FillsOnly (v w : View) : Type 0 where
 
 -- the position was seen Done, and nothing Busy
 pub record SeesDone (b : Batch) (v : View) (t : ℕ) (w : View) : Type 0 where
-  pub done : w.done ≡ v.done ++ position b t ∷ []
+  pub done : w.done ≡ v.done ++ t ∷ []
   pub busy : w.busy ≡ v.busy
 
 -- the position was seen Busy, and nothing Done
 pub record SeesBusy (b : Batch) (v : View) (t : ℕ) (w : View) : Type 0 where
   pub done : w.done ≡ v.done
-  pub busy : w.busy ≡ v.busy ++ position b t ∷ []
+  pub busy : w.busy ≡ v.busy ++ t ∷ []
 
 -- it wants u, which wasn't seen Done
 pub record SeesNeed (b : Batch) (v : View) (t u : ℕ) (w : View) : Type 0 where

@@ -9,9 +9,10 @@ ghost use Rattle.bohm_place.specs.declared.access.Access.{Access};
 ghost use Rattle.bohm_board.specs.declared.batch.Batch.{Batch};
 ghost use Rattle.bohm_board.specs.declared.slot.Slot.{Slot};
 ghost use Rattle.bohm_board.specs.Batches.{txn_at, reads_at, writes_at, wanted_at, IsIn, IsSlot, IsRightCell, IsRightOutcome};
-ghost use Rattle.bohm_exec.specs.Core.{State, empty, HasWanted, KnowsWanted, HasFilledAll, Holds, input, cell_at, cell_over, outcome_over};
-ghost use Rattle.bohm_exec.specs.CoreEvents.{Event, IsRun, leave, Reached, MayFill, MayFinish, wins, finishes};
-ghost use Rattle.bohm_exec.specs.CoreLaw.{IsLawful, Stays};
+ghost use Rattle.bohm_board.specs.Core.{State, empty, HasWanted, input, cell_at, cell_over, outcome_over};
+ghost use Rattle.bohm_board.specs.Events.{Event, IsRun, leave, Reached, MayFill, MayFinish, wins, finishes};
+ghost use Rattle.bohm_board.specs.Law.{IsLawful, Stays};
+ghost use Rattle.bohm_board.specs.Views.{Holds, HasFilledAll, KnowsWanted};
 
 // ---- of lists of events
 
@@ -22,8 +23,8 @@ pub fn reached_is_lawful()
 
 /// In a list of events each position has at most one claim that is answered Mine, and at most one finish.
 pub fn claimed_and_finished_once()
-    ensures claim { (b : Batch) (es : List Event) (t : ℕ) → IsRun b empty es → count_by (wins t) es ≤ 1 }
-    ensures finish { (b : Batch) (es : List Event) (t : ℕ) → IsRun b empty es → count_by (finishes t) es ≤ 1 }
+    ensures claim { (b : Batch) (es : List Event) (t : ℕ) → IsRun b (empty b) es → count_by (wins t) es ≤ 1 }
+    ensures finish { (b : Batch) (es : List Event) (t : ℕ) → IsRun b (empty b) es → count_by (finishes t) es ≤ 1 }
 {}
 
 /// Whatever events follow, presences, outcomes, and the values of slots that are `Present` stay.
@@ -54,6 +55,6 @@ pub fn sure_wants_its_reads()
 /// So where a pass knows the wanted slots of the position that it holds, to fill one of its slots with
 /// the right cell, or to finish it with the right outcome, is what the core allows.
 pub fn right_steps_are_the_cores()
-    ensures fill { (b : Batch) (s : State) (p : ℕ) (x : Slot) (c : Cell) → IsLawful b s → IsSlot b x → Holds (s.views p) x.txn → ¬ Contains (s.views p).filled x → KnowsWanted b (s.views p) x.txn → IsRightCell b x c → MayFill b s p x c }
-    ensures finish { (b : Batch) (s : State) (p t : ℕ) (o : Outcome) → IsLawful b s → IsIn b t → Holds (s.views p) t → HasFilledAll b (s.views p) t → KnowsWanted b (s.views p) t → IsRightOutcome b t o → MayFinish b s p t o }
+    ensures fill { (b : Batch) (s : State) (p : ℕ) (x : Slot) (c : Cell) → IsLawful b s → IsSlot b x → Holds b (s.views p) x.txn → ¬ Contains (s.views p).filled x → KnowsWanted b (s.views p) x.txn → IsRightCell b x c → MayFill b s p x c }
+    ensures finish { (b : Batch) (s : State) (p t : ℕ) (o : Outcome) → IsLawful b s → IsIn b t → Holds b (s.views p) t → HasFilledAll b (s.views p) t → KnowsWanted b (s.views p) t → IsRightOutcome b t o → MayFinish b s p t o }
 {}

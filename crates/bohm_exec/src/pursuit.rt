@@ -1,7 +1,7 @@
 //! How a pass brings one position about.
 
 ghost use Rattle.std.specs.Prelude.{◌≡◌, ◌≤◌, ◌∷◌, [], ◌++◌, MatchOption, length, vec_capacity};
-ghost use Rattle.bohm_board.specs.Batches.{IsIn, Leads, position, txns_of};
+ghost use Rattle.bohm_board.specs.Batches.{IsIn, Leads, txns_of};
 ghost use Rattle.bohm_board.specs.Passes.{IsDone, Keeps, batch_of, view};
 ghost use Rattle.bohm_exec.specs.Turns.{IsFree};
 
@@ -31,7 +31,7 @@ pub(crate) fn pursue<G: Gate>(
     ensures room { vec_capacity stack.old ≤ vec_capacity stack.new }
     ensures keeps { Keeps (view pass.old) (view pass.new) }
     ensures done { MatchOption result (IsDone (batch_of board.now) (view pass.new) start) (Leads (batch_of board.now) start) }
-    ensures busy { MatchOption result ((view pass.new).busy ≡ (view pass.old).busy) (λ v. (view pass.new).busy ≡ (view pass.old).busy ++ position (batch_of board.now) v ∷ []) }
+    ensures busy { MatchOption result ((view pass.new).busy ≡ (view pass.old).busy) (λ v. (view pass.new).busy ≡ (view pass.old).busy ++ v ∷ []) }
 {
     let Ok(()) = stack.push(start) else {
         unreachable!()

@@ -1,7 +1,7 @@
 //! A sweep of a share of the positions.
 
-ghost use Rattle.std.specs.Prelude.{◌≡◌, ◌++◌, All, IfOk, OnErr, map};
-ghost use Rattle.bohm_board.specs.Batches.{IsIn, Leads, position};
+ghost use Rattle.std.specs.Prelude.{◌≡◌, ◌++◌, All, IfOk, OnErr};
+ghost use Rattle.bohm_board.specs.Batches.{IsIn, Leads};
 ghost use Rattle.bohm_board.specs.Passes.{IsPassOf, HoldsNothing, Keeps, batch_of, view};
 ghost use Rattle.bohm_exec.specs.Asides.{IsAccountedFor, IsPickedFrom, positions_in, busy_in};
 
@@ -32,7 +32,7 @@ pub fn sweep<G: Gate>(
     ensures keeps { Keeps (view pass.old) (view pass.new) }
     ensures each { IfOk result (λ aside. All (IsAccountedFor (batch_of board.now) (view pass.new) aside) share.now) }
     ensures leads { IfOk result (λ aside. All (λ p. Leads (batch_of board.now) p.0 p.1) aside) }
-    ensures busy { IfOk result (λ aside. (view pass.new).busy ≡ (view pass.old).busy ++ map (position (batch_of board.now)) (busy_in aside)) }
+    ensures busy { IfOk result (λ aside. (view pass.new).busy ≡ (view pass.old).busy ++ busy_in aside) }
     ensures order { IfOk result (λ aside. IsPickedFrom (positions_in aside) share.now) }
 {
     let mut stack = Vec::with_capacity(alloc, board.batch().len() as usize)?;

@@ -9,6 +9,6 @@ loop-j-preserved c = record {
   each = λ k h.
       let items = slots_items c.args.words.now.words in
       put_at (λ z. z ≡ get_or items (c.args.from + k) 0) c.loop-j.into.items c.loop-j.j c.word.result k (search rules)
-      (λ e. sym (ap (λ (z : ℕ). get_or items (c.args.from + z) 0) e ∙ found_at items (c.args.from + c.loop-j.j) c.word.result c.word.ensures))
+      (λ e. sym (ap (λ (z : ℕ). get_or items (c.args.from + z) 0) e ∙ (found_at items (c.args.from + c.loop-j.j) c.word.result 0 c.word.ensures).1))
       (λ ne. c.loop-j.invariant.each k (omega arith));
 }

@@ -2,7 +2,6 @@ use Rattle.std.proofs.Common.{refl, arith, ap, sym, subst, length-take}
 use Rattle.bohm_board.specs.declared.batch.Batch.{Batch}
 use Rattle.bohm_board.specs.declared.status.Status.TheVariants.{Open}
 use Rattle.bohm_board.specs.declared.view.View.{View}
-use Rattle.bohm_board.specs.Batches.{position}
 use Rattle.bohm_board.specs.Passes.{batch_of, view}
 use Rattle.bohm_board.proofs.Keeping.{keeps_then, keeps_along, keeps_claimed}
 use Rattle.bohm_exec.specs.Handed.{ArePaired}
@@ -50,5 +49,5 @@ pub returns-in-Mine-clause-keeps : goal.returns-in-Mine-clause-keeps
 returns-in-Mine-clause-keeps g c =
     let v = view c.find_wanted.new.pass in
     let w = view c.claim.new.pass in
-    let claims = keeps_along v _ w c.in-Mine.ensures.view (keeps_claimed v (position (batch_of c.args.board.now) c.args.t) Open) in
+    let claims = keeps_along v _ w c.in-Mine.ensures.view (keeps_claimed v c.args.t Open) in
     keeps_then (view c.args.pass.now) v (view c.settle.new.pass) c.find_wanted.ensures.view.keeps (keeps_then v w (view c.settle.new.pass) claims c.settle.ensures.keeps)

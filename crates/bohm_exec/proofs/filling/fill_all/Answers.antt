@@ -1,25 +1,24 @@
 use Rattle.std.proofs.Common.{ℕ, ◌+◌, List, [], arith, sym, subst}
 use Rattle.std.specs.Prelude.{Contains}
-use Rattle.bohm_board.specs.Batches.{txns_of, position, number}
+use Rattle.bohm_board.specs.declared.slot.Slot.{Slot}
 use Rattle.bohm_board.specs.Passes.{batch_of, view}
-use Rattle.bohm_board.specs.Serial.{offset}
 use Rattle.bohm_exec.specs.Handed.{slot_of}
 use Rattle.bohm_exec.proofs.Viewed.{no_fills, one_fill, wanted_stays, below_fill, all_fill}
 use Rattle.bohm_exec.proofs.filling.fill_all.Goals as goal
 
-none_in : (k : ℕ) → ¬ Contains [] k
+none_in : (k : Slot) → ¬ Contains [] k
 none_in k c = let l = c.1 in absurd (omega arith)
 
 pub loop-index-init : goal.loop-index-init
 loop-index-init c = record {
   own = c.requires.own;
   fills = no_fills (view c.args.pass.now);
-  below = λ k h. absurd (none_in k (subst (λ (xs : List ℕ). Contains xs k) c.requires.empty h));
+  below = λ k h. absurd (none_in k (subst (λ (xs : List Slot). Contains xs k) c.requires.empty h));
   all = λ j l. absurd (omega arith);
 }
 
 pub fill-requires-clause-empty : goal.fill-requires-clause-empty
-fill-requires-clause-empty c = λ h. let b = batch_of c.args.board.now in let l = c.loop-index.invariant.below (number b (slot_of c.args.t c.loop-index.index)) h in omega arith
+fill-requires-clause-empty c = λ h. let l = c.loop-index.invariant.below (slot_of c.args.t c.loop-index.index) h in omega arith
 
 pub fill-requires-clause-wanted : goal.fill-requires-clause-wanted
 fill-requires-clause-wanted c =
@@ -28,15 +27,14 @@ fill-requires-clause-wanted c =
 
 pub loop-index-preserved : goal.loop-index-preserved
 loop-index-preserved c =
-    let b = batch_of c.args.board.now in
     let v = view c.loop-index.pass in
-    let start : ℕ = offset (txns_of b) (position b c.args.t) in
     let n = c.loop-index.index in
+    let x = slot_of c.args.t n in
     let inv = c.loop-index.invariant in
-    let both = one_fill (view c.args.pass.now) v (view c.fill.new.pass) (number b (slot_of c.args.t n)) c.slot_cell.result inv.fills c.fill.ensures.view in
+    let both = one_fill (view c.args.pass.now) v (view c.fill.new.pass) x c.slot_cell.result inv.fills c.fill.ensures.view in
     record {
       own = c.fill.ensures.own;
       fills = both.0;
-      below = λ k h. below_fill v.filled start n inv.below k (subst (λ (xs : List ℕ). Contains xs k) both.1 h);
-      all = λ j l. subst (λ (xs : List ℕ). Contains xs (start + j)) (sym both.1) (all_fill v.filled start n inv.all j l);
+      below = λ y h. below_fill v.filled c.args.t n inv.below y (subst (λ (xs : List Slot). Contains xs y) both.1 h);
+      all = λ j l. subst (λ (xs : List Slot). Contains xs (slot_of c.args.t j)) (sym both.1) (all_fill v.filled c.args.t n inv.all j l);
     }

@@ -1,8 +1,7 @@
-use Rattle.std.proofs.Common.{ℕ, ◌+◌, ◌<◌}
+use Rattle.std.proofs.Common.{ℕ, ◌<◌}
 use Rattle.std.specs.Prelude.{Contains}
-use Rattle.bohm_board.specs.Batches.{txns_of, position}
+use Rattle.bohm_board.specs.declared.slot.Slot.{Slot}
 use Rattle.bohm_board.specs.Passes.{IsPassOf, IsFilled, batch_of, view}
-use Rattle.bohm_board.specs.Serial.{offset}
 use Rattle.bohm_exec.specs.Handed.{slot_of}
 use Rattle.bohm_exec.specs.Turns.{FillsOnly}
 use Rattle.bohm_exec.proofs.filling.fill_all.Given as goal
@@ -11,6 +10,6 @@ abbrev pub invariant-loop-index : goal.invariant-loop-index
 invariant-loop-index l = record {
   own : IsPassOf l.board l.pass;
   fills : FillsOnly (view l.fn.pass) (view l.pass);
-  below : (k : ℕ) → Contains (view l.pass).filled k → k < offset (txns_of (batch_of l.board)) (position (batch_of l.board) l.t) + l.index;
+  below : (x : Slot) → Contains (view l.pass).filled x → x.index < l.index;
   all : (j : ℕ) → j < l.index → IsFilled (batch_of l.board) (view l.pass) (slot_of l.t j);
 }

@@ -3,14 +3,15 @@ use Rattle.std.specs.Prelude.{Contains}
 use Rattle.std.specs.List.{slice_get}
 use Rattle.bohm_board.specs.declared.batch.Batch.{Batch}
 use Rattle.bohm_board.specs.declared.view.View.{View}
-use Rattle.bohm_board.specs.Batches.{position, number, slot_in, IsSlot, wanted_at}
+use Rattle.bohm_board.specs.Batches.{slot_in, IsSlot, wanted_at}
 use Rattle.bohm_board.specs.Passes.{batch_of, view}
 use Rattle.bohm_board.specs.Views.{Knows}
 use Rattle.bohm_board.proofs.Keeping.{keeps_same, keeps_along, keeps_looked, knows_looked}
 use Rattle.bohm_board.proofs.Wanted.{wanted_earlier}
 use Rattle.bohm_board.specs.Batches.{accesses_in}
-use Rattle.bohm_exec.proofs.Seen.{contains_at, known_base, found_base, known_within, found_within, knows_all, are_found}
-use Rattle.bohm_exec.proofs.Viewed.{no_looks, one_look, unseen_undone}
+use Rattle.bohm_board.proofs.Evaluated.{contains_at}
+use Rattle.bohm_exec.proofs.Seen.{known_base, found_base, known_within, found_within, knows_all, are_found}
+use Rattle.bohm_exec.proofs.Viewed.{no_looks, one_look}
 use Rattle.bohm_exec.proofs.finding.find.Goals as goal
 use Rattle.bohm_exec.proofs.finding.find.Goals.{After-access-access, In-Within, in-Before, in-Within+in-Some}
 
@@ -35,16 +36,13 @@ pub look-requires-clause-inside : goal.look-requires-clause-inside
 look-requires-clause-inside c = slot_inside (goal.at.look-requires-clause-inside c).In-Within
 
 pub returns-in-None-clause-view : goal.returns-in-None-clause-view
-returns-in-None-clause-view c = one_look (view c.args.pass.now) (view c.loop-index.pass) (view c.look.new.pass) (number (batch_of c.args.board.now) (slot_in c.in-Within.u c.access-access.result)) None c.loop-index.invariant.looks c.in-None.ensures.view
+returns-in-None-clause-view c = one_look (view c.args.pass.now) (view c.loop-index.pass) (view c.look.new.pass) (slot_in c.in-Within.u c.access-access.result) None c.loop-index.invariant.looks c.in-None.ensures.view
 
 pub returns-in-None-clause-missing : goal.returns-in-None-clause-missing
 returns-in-None-clause-missing c =
-    let b = batch_of c.args.board.now in
     let a = c.access-access.result in
     let u = c.in-Within.u in
-    let before = (goal.at.returns-in-None-clause-missing c).In-Within in
-    let undone = unseen_undone b (view c.loop-index.pass) (slot_in u a) c.loop-index.invariant.own.seat.right (slot_inside before) (c.in-None.ensures.none refl) in
-    ((a, wanted (goal.at.returns-in-None-clause-missing c).After-access-access, c.in-Within.is), λ done. undone (subst (λ xs. Contains xs (position b u)) (sym c.loop-index.invariant.looks.done) done))
+    ((a, wanted (goal.at.returns-in-None-clause-missing c).After-access-access, c.in-Within.is), λ done. (c.in-None.ensures.none refl).done (subst (λ xs. Contains xs u) (sym c.loop-index.invariant.looks.done) done))
 
 pub loop-index-preserved : goal.loop-index-preserved
 loop-index-preserved c =
@@ -65,7 +63,7 @@ loop-index-preserved c =
       | in-Within+in-Some w ↦
           let u = w.in-Within.u in
           let cell = w.in-Some.cell in
-          let k = number b (slot_in u a) in
+          let k = slot_in u a in
           let now = w.in-Some.ensures.view in
           let new = view w.look.new.pass in
           record {

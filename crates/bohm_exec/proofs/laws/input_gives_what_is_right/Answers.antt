@@ -1,6 +1,6 @@
 use Rattle.std.proofs.Common.{◌∙◌, sym}
-use Rattle.bohm_exec.proofs.CoreSound.{sound_of}
-use Rattle.bohm_exec.proofs.CoreInput.{outcome_is_right, cell_is_right}
+use Rattle.bohm_board.proofs.Sound.{sound_of}
+use Rattle.bohm_board.proofs.Evaluated.{outcome_is_right, cell_is_right}
 use Rattle.bohm_exec.proofs.laws.input_gives_what_is_right.Goals as goal
 
 pub returns-clause-outcome : goal.returns-clause-outcome

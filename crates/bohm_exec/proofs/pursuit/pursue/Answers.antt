@@ -1,7 +1,7 @@
 use Rattle.std.proofs.Common.{rules, arith, ◌≡◌, ℕ, ◌<◌, List, ◌∷◌, [], ◌++◌, length, sym, refl, ap, ◌∙◌, subst, vec_len}
 use Rattle.std.specs.Prelude.{Contains}
 use Rattle.std.proofs.lemmas.List.Elements.{Contains-push}
-use Rattle.bohm_board.specs.Batches.{Wants, position}
+use Rattle.bohm_board.specs.Batches.{Wants}
 use Rattle.bohm_board.specs.Passes.{batch_of, view}
 use Rattle.bohm_board.proofs.Keeping.{keeps_same, keeps_then}
 use Rattle.bohm_exec.proofs.Descents.{shorter, IsDescent, starts, pushed, last_of, top_is, only, pop_falls, push_falls, fits_below}
@@ -32,8 +32,8 @@ returns-then-is_empty-clause-done g c =
     let top = top_is c.descent.stack.items c.len.result c.index-top.result.now c.descent.invariant.stack.some (search rules) c.index-top.ensures in
     let none : length ys ≡ 0 = search rules in
     let first = only b c.args.start done xs ys d e none in
-    let here : Contains (done ++ position b c.index-top.result.now ∷ []) (position b c.args.start) = subst (λ (z : ℕ). Contains (done ++ position b c.index-top.result.now ∷ []) (position b z)) (top ∙ first) (Contains-push _ _) in
-    subst (λ (z : List ℕ). Contains z (position b c.args.start)) (sym c.in-Done.ensures.turn.done) here
+    let here : Contains (done ++ c.index-top.result.now ∷ []) c.args.start = subst (λ (z : ℕ). Contains (done ++ c.index-top.result.now ∷ []) z) (top ∙ first) (Contains-push _ _) in
+    subst (λ (z : List ℕ). Contains z c.args.start) (sym c.in-Done.ensures.turn.done) here
 
 pub descent-smaller-else-is_empty : goal.descent-smaller-else-is_empty
 descent-smaller-else-is_empty g c =

@@ -39,7 +39,7 @@ loop-start-preserved g c =
             count = rw w.pairs-is (omega (arith, inv.count, long));
             keeps = all;
             leads = rw grown (All-push (λ (q : ℕ × ℕ). Leads b q.0 q.1) pairs p inv.leads w.in-Some.ensures.done);
-            busy = rw grown (busy_more b (view c.args.pass.now).busy old.busy new.busy pairs p inv.busy w.in-Some.ensures.busy);
+            busy = rw grown (busy_more (view c.args.pass.now).busy old.busy new.busy pairs p inv.busy w.in-Some.ensures.busy);
             each = rw grown (next (IsAccountedFor b new (pairs ++ p ∷ [])) share n
                 (λ i l. accounted_pushed b new pairs p (get_or share i 0) (accounted_later b old new pairs (get_or share i 0) keeps (inv.each i l))) (accounted_here b new pairs p));
             order = rw grown (rw front (picked_pair pairs p (take n share) inv.order));

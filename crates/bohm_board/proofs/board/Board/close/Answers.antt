@@ -1,38 +1,43 @@
-use Rattle.std.proofs.Common.{rules, ℕ, ◌+◌, ◌<◌, ◌∙◌, ap, get_or, subst}
+use Rattle.std.proofs.Common.{rules, ℕ, ◌+◌, ◌<◌, ◌≤◌, ◌∙◌, sym, ap, subst}
 use Rattle.bohm_board.specs.Passes.{view}
-use Rattle.bohm_board.specs.Batches.{rights_of, position, number}
-use Rattle.bohm_board.proofs.Moves.{settles}
-use Rattle.bohm_board.proofs.Numbers.{right_at}
+use Rattle.bohm_board.specs.Words.{progress_word, presence_word}
+use Rattle.bohm_board.proofs.Invariant.{lawful}
+use Rattle.bohm_board.proofs.Left.{IsEnd, settles, left_sound, open_word}
+use Rattle.bohm_board.proofs.Moves.{two_at_least}
+use Rattle.bohm_board.proofs.Runs.{reached_kept}
 use Rattle.bohm_board.proofs.board.Board.close.Goals as goal
+use Rattle.bohm_board.proofs.board.Board.close.Goals.{After-copy_words-3}
+
+end : (c : After-copy_words-3) → IsEnd c.args.self.batch (record { statuses = c.copy_words.new.into.items; presences = c.copy_words-2.new.into.items; values = c.copy_words-3.new.into.items }) c.args.pass.seat.id (view c.args.pass)
+end c = settles c.args.self.batch c.args.pass.seat.id (view c.args.pass) _ _
+    (record { statuses = c.copy_words.new.into.items; presences = c.copy_words-2.new.into.items; values = c.copy_words-3.new.into.items }) c.args.self.layout.positions (c.args.self.layout.positions + c.args.self.layout.slots)
+    c.requires.own.seat.right
+    (rw c.args.self.keyed at c.close_with-words.ensures.values.2)
+    (record { statuses = c.copy_words.ensures.len ∙ c.args.self.room.statuses; presences = c.copy_words-2.ensures.len ∙ c.args.self.room.presences; values = c.copy_words-3.ensures.len ∙ c.args.self.room.values })
+    (search rules) (search rules)
+    (λ j h. c.copy_words.ensures.each j (subst (λ (z : ℕ). j < z) c.copy_words.ensures.len h))
+    (λ j h. c.copy_words-2.ensures.each j (subst (λ (z : ℕ). j < z) c.copy_words-2.ensures.len h))
+    (λ j h. c.copy_words-3.ensures.each j (subst (λ (z : ℕ). j < z) c.copy_words-3.ensures.len h))
 
 pub invariant_of-result-clause-sound : goal.invariant_of-result-clause-sound
-invariant_of-result-clause-sound c = (settles (rights_of c.args.self.batch) c.args.pass.seat.id (view c.args.pass) _ _
-    (record { statuses = c.copy_words.new.into.items; presences = c.copy_words-2.new.into.items; values = c.copy_words-3.new.into.items }) c.args.self.layout.positions (c.args.self.layout.positions + c.args.self.layout.slots)
-    (rw c.args.self.keyed at c.close_with-words.ensures.values.2)
-    (record { statuses = c.copy_words.ensures.len ∙ c.args.self.room.statuses; presences = c.copy_words-2.ensures.len ∙ c.args.self.room.presences; values = c.copy_words-3.ensures.len ∙ c.args.self.room.values })
-    (search rules) (search rules)
-    (λ j h. c.copy_words.ensures.each j (subst (λ (z : ℕ). j < z) c.copy_words.ensures.len h))
-    (λ j h. c.copy_words-2.ensures.each j (subst (λ (z : ℕ). j < z) c.copy_words-2.ensures.len h))
-    (λ j h. c.copy_words-3.ensures.each j (subst (λ (z : ℕ). j < z) c.copy_words-3.ensures.len h))).0
+invariant_of-result-clause-sound c =
+    let e = end (goal.at.invariant_of-result-clause-sound c).After-copy_words-3 in
+    left_sound c.args.self.batch _ e.state (reached_kept c.args.self.batch e.state e.reached).sound e.shown
+
+pub returns-clause-state : goal.returns-clause-state
+returns-clause-state c =
+    let e = end (goal.at.returns-clause-state c).After-copy_words-3 in
+    record { state = e.state; shown = e.shown; reached = e.reached; lawful = lawful c.args.self.batch e.state (reached_kept c.args.self.batch e.state e.reached) }
 
 pub returns-clause-done : goal.returns-clause-done
-returns-clause-done c t saw = (settles (rights_of c.args.self.batch) c.args.pass.seat.id (view c.args.pass) _ _
-    (record { statuses = c.copy_words.new.into.items; presences = c.copy_words-2.new.into.items; values = c.copy_words-3.new.into.items }) c.args.self.layout.positions (c.args.self.layout.positions + c.args.self.layout.slots)
-    (rw c.args.self.keyed at c.close_with-words.ensures.values.2)
-    (record { statuses = c.copy_words.ensures.len ∙ c.args.self.room.statuses; presences = c.copy_words-2.ensures.len ∙ c.args.self.room.presences; values = c.copy_words-3.ensures.len ∙ c.args.self.room.values })
-    (search rules) (search rules)
-    (λ j h. c.copy_words.ensures.each j (subst (λ (z : ℕ). j < z) c.copy_words.ensures.len h))
-    (λ j h. c.copy_words-2.ensures.each j (subst (λ (z : ℕ). j < z) c.copy_words-2.ensures.len h))
-    (λ j h. c.copy_words-3.ensures.each j (subst (λ (z : ℕ). j < z) c.copy_words-3.ensures.len h))).2.done (position c.args.self.batch t) saw
+returns-clause-done c t saw =
+    let e = end (goal.at.returns-clause-done c).After-copy_words-3 in
+    let (o, is) = e.saw.done t saw in
+    let inside = (reached_kept c.args.self.batch e.state e.reached).sound.inside t o is in
+    subst (λ (n : ℕ). 2 ≤ n) (sym (e.shown.positions t inside ∙ ap progress_word is)) (two_at_least o)
 
 pub returns-clause-untaken : goal.returns-clause-untaken
 returns-clause-untaken c s is untaken cell =
-    let (x, at, status) = right_at c.args.self.batch s is in
-    cell ((settles (rights_of c.args.self.batch) c.args.pass.seat.id (view c.args.pass) _ _
-    (record { statuses = c.copy_words.new.into.items; presences = c.copy_words-2.new.into.items; values = c.copy_words-3.new.into.items }) c.args.self.layout.positions (c.args.self.layout.positions + c.args.self.layout.slots)
-    (rw c.args.self.keyed at c.close_with-words.ensures.values.2)
-    (record { statuses = c.copy_words.ensures.len ∙ c.args.self.room.statuses; presences = c.copy_words-2.ensures.len ∙ c.args.self.room.presences; values = c.copy_words-3.ensures.len ∙ c.args.self.room.values })
-    (search rules) (search rules)
-    (λ j h. c.copy_words.ensures.each j (subst (λ (z : ℕ). j < z) c.copy_words.ensures.len h))
-    (λ j h. c.copy_words-2.ensures.each j (subst (λ (z : ℕ). j < z) c.copy_words-2.ensures.len h))
-    (λ j h. c.copy_words-3.ensures.each j (subst (λ (z : ℕ). j < z) c.copy_words-3.ensures.len h))).1.slots (number c.args.self.batch s) x at (ap (λ (z : ℕ). get_or c.copy_words.new.into.items z 0) status ∙ untaken))
+    let e = end (goal.at.returns-clause-untaken c).After-copy_words-3 in
+    let open_there = open_word (e.state.positions s.txn) (sym (e.shown.positions s.txn is.txn) ∙ untaken) in
+    cell (e.shown.presences s is ∙ ap presence_word ((reached_kept c.args.self.batch e.state e.reached).sound.untouched s open_there))

@@ -1,4 +1,5 @@
 use Rattle.std.proofs.Common.{rules, arith, sym, ◌∙◌}
+use Rattle.bohm_board.specs.Batches.{rights_of}
 use Rattle.bohm_board.proofs.Moves.{opens, blank_line}
 use Rattle.bohm_board.proofs.Starts.{layout_lengths}
 use Rattle.bohm_board.proofs.board.Board.open.Goals as goal
@@ -6,7 +7,7 @@ use Rattle.bohm_board.proofs.board.Board.open.Goals as goal
 pub of_words-requires : goal.of_words-requires
 of_words-requires c =
     let lengths = layout_lengths c.args.batch c.in_ok-layout.layout (rw c.txns.ensures at c.in_ok-layout.ensures) in
-    opens _ _ (c.as_slice.ensures.value ∙ (c.in_ok-words.ensures.items_if_clones_equal (search rules) ∙ blank_line _ _ (let a = lengths.0 in let b = lengths.1 in omega arith)))
+    opens _ _ (c.as_slice.ensures.value ∙ (c.in_ok-words.ensures.items_if_clones_equal (search rules) ∙ blank_line (rights_of c.args.batch) _ (let a = lengths.0 in let b = lengths.1 in omega arith)))
 
 pub invariant_of-board-clause-lengths : goal.invariant_of-board-clause-lengths
 invariant_of-board-clause-lengths c = layout_lengths c.args.batch c.in_ok-layout.layout (rw c.txns.ensures at c.in_ok-layout.ensures)

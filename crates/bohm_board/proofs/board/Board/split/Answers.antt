@@ -9,7 +9,7 @@ split_seat-other-requires c =
     let words = c.args.self.now.sized in
     let positions = c.args.self.now.laid.positions in
     let some = c.args.self.now.batch.some in
-    (c.requires.own.seat.table, omega arith, splits _ _ _ c.requires.free)
+    (c.requires.own.seat.table, omega arith, splits _ _ _ (rw c.args.self.now.keyed c.requires.own.seat.right) c.requires.free)
 
 pub invariant_of-left : goal.invariant_of-left
 invariant_of-left c = record {

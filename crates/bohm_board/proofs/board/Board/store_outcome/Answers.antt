@@ -1,4 +1,4 @@
-use Rattle.std.proofs.Common.{rules, arith, Some, ap, sym, ◌∙◌, ◌<◌, length}
+use Rattle.std.proofs.Common.{rules, arith, ◌<◌, length}
 use Rattle.std.proofs.lemmas.Option.{slice_get_within}
 use Rattle.bohm_board.specs.Batches.{rights_of}
 use Rattle.bohm_board.proofs.Inputs.{short_outcome}
@@ -15,5 +15,6 @@ store-requires c =
     let lengths = c.args.self.now.lengths in (
       search rules,
       omega arith,
-      finishes _ _ _ _ _ _ (rw c.args.self.now.keyed inside) c.requires.held c.outcome_word-word.ensures.done (rw c.args.self.now.keyed (c.requires.right ∙ ap Some (sym c.outcome_word-word.ensures.outcome))) (rw c.args.self.now.keyed c.requires.filled),
+      finishes _ _ _ _ _ c.args.outcome _ c.outcome_word-word.ensures (rw c.args.self.now.keyed inside) (rw c.args.self.now.keyed c.requires.own.right) c.requires.held
+          (rw c.args.self.now.keyed c.requires.filled) (rw c.args.self.now.keyed c.requires.wanted) (rw c.args.self.now.keyed c.requires.right),
     )

@@ -1,18 +1,18 @@
-use Rattle.std.proofs.Common.{rules, sym, ◌∙◌}
-use Rattle.std.proofs.lemmas.Option.{slice_get_within}
-use Rattle.bohm_tree.specs.declared.cell.Cell.TheVariants.{Present}
+use Rattle.std.proofs.Common.{rules, sym, ap, ◌∙◌, Some}
 use Rattle.bohm_board.specs.Batches.{rights_of}
-use Rattle.bohm_board.proofs.Fills.{stores_value, value_place, slot_of}
+use Rattle.bohm_board.proofs.Inputs.{right_within}
+use Rattle.bohm_board.proofs.Moves.{stores_value, value_place}
 use Rattle.bohm_board.proofs.board.Board.store_value.Goals as goal
 
 pub value_at-at-requires : goal.value_at-at-requires
-value_at-at-requires c = let x = slot_of (rights_of c.args.self.now.batch) c.args.slot (Present c.args.value) c.requires.right in slice_get_within _ _ _ x.1
+value_at-at-requires c = right_within (rights_of c.args.self.now.batch) _ _ c.requires.right
 
 pub store-requires : goal.store-requires
-store-requires c = let x = slot_of (rights_of c.args.self.now.batch) c.args.slot (Present c.args.value) c.requires.right in (
+store-requires c = (
   search rules,
   search rules,
-  stores_value _ _ _ _ _ c.args.slot x.0 _ (rw c.args.self.now.keyed (search rules)) (rw c.args.self.now.keyed x.1) (rw c.args.self.now.keyed (slice_get_within _ _ _ x.1)) (c.value_word-word.ensures ∙ sym x.2) (rw c.args.self.now.keyed c.requires.own.right),
+  stores_value _ _ _ _ _ c.args.slot _ (rw c.args.self.now.keyed (search rules)) (rw c.args.self.now.keyed (right_within (rights_of c.args.self.now.batch) _ _ c.requires.right)) (rw c.args.self.now.keyed c.requires.own.right)
+      (rw c.args.self.now.keyed c.requires.fillable) c.requires.once (rw c.args.self.now.keyed (c.requires.right ∙ ap Some (sym c.value_word-word.ensures))),
 )
 
 pub returns-clause-view : goal.returns-clause-view

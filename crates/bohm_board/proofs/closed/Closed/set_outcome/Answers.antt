@@ -1,10 +1,8 @@
-use Rattle.std.proofs.Common.{arith, ℕ, ◌≢◌, ◌∙◌, sym, ap, get_or, Some, length-set}
-use Rattle.std.specs.List.{slice_get}
-use Rattle.bohm_board.specs.Batches.{rights_of}
-use Rattle.bohm_board.specs.Law.{words_of}
+use Rattle.std.proofs.Common.{ℕ, ◌≢◌, ◌<◌, get_or, sym, ◌∙◌, subst, set, length-set}
+use Rattle.bohm_board.specs.Shown.{AreSound, words_of}
+use Rattle.bohm_board.specs.Batches.{number, width_at}
 use Rattle.bohm_board.proofs.Inputs.{short_outcome}
-use Rattle.bohm_board.proofs.Moves.{turned_sound}
-use Rattle.bohm_board.proofs.Numbers.{by_number}
+use Rattle.bohm_board.proofs.Left.{outcome_put}
 use Rattle.bohm_board.proofs.closed.Closed.set_outcome.Goals as goal
 
 pub outcome_word-requires : goal.outcome_word-requires
@@ -12,13 +10,12 @@ outcome_word-requires c = short_outcome c.args.self.now.batch _ c.args.outcome c
 
 pub invariant_of-self-clause-sound : goal.invariant_of-self-clause-sound
 invariant_of-self-clause-sound c =
-    let r = rights_of c.args.self.now.batch in
-    let i = c.position-position.result in
-    let place = c.position-position.ensures.position in
-    let full = c.outcome_word.ensures.done in
-    turned_sound r (words_of c.args.self.now.columns) i c.outcome_word.result c.args.self.now.sized c.position-position.ensures.inside c.args.self.now.sound
-    (λ _. ap (λ (z : ℕ). slice_get r.outcomes z) place ∙ (c.requires.right ∙ ap Some (sym c.outcome_word.ensures.outcome))) (λ h. omega arith)
-    (λ k y at e _. by_number (λ (z : ℕ). get_or (words_of c.args.self.now.columns).presences z 0 ≢ 0) c.args.self.now.batch c.args.t c.requires.filled k y at (e ∙ place))
+    let b = c.args.self.now.batch in
+    let w = words_of c.args.self.now.columns in
+    let x = c.outcome_word.result in
+    let sound = outcome_put b w c.args.t c.args.outcome x c.args.self.now.sized c.args.self.now.sound c.requires.inside c.requires.right c.outcome_word.ensures
+    (λ y is e. subst (λ (u : ℕ). get_or w.presences (number b (record { txn = u; index = y.index })) 0 ≢ 0) (sym e) (c.requires.filled y.index (subst (λ (u : ℕ). y.index < width_at b u) e is.index))) in
+    subst (λ (i : ℕ). AreSound b (record w { statuses = set w.statuses i x })) (sym c.position-position.ensures.position) sound
 
 pub invariant_of-self-clause-sized : goal.invariant_of-self-clause-sized
 invariant_of-self-clause-sized c =

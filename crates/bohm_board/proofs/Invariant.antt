@@ -1,6 +1,6 @@
 -- What holds of a core between any two events, and what a change of its words leaves of it.
-use Rattle.std.proofs.Common.{◌≡◌, ◌≢◌, ℕ, List, [], ◌∷◌, ◌++◌, Bool, true, false, cond, Some, refl, ap, sym, ◌∙◌, subst, ⊎_elim, inl, inr}
-use Rattle.std.specs.Prelude.{Contains, ℤ, ◌⊎◌, ◌==◌, ◌&&◌}
+use Rattle.std.proofs.Common.{◌≡◌, ◌≢◌, ℕ, List, [], ◌∷◌, ◌++◌, Bool, true, false, cond, Some, refl, ap, sym, ◌∙◌, subst, ⊎_elim, inl, inr, arith}
+use Rattle.std.specs.Prelude.{Contains, ℤ, ◌⊎◌, ◌<◌, ◌==◌, ◌&&◌}
 use Rattle.std.proofs.lemmas.Bool.Decides.{eqb_tells}
 use Rattle.std.proofs.lemmas.List.Elements.{Contains-push_cases, Contains-append_cases}
 use Rattle.std.proofs.lemmas.Option.{same_Some}
@@ -8,25 +8,30 @@ use Rattle.bohm_tree.specs.declared.cell.Cell.TheVariants as cells
 use Rattle.bohm_txn.specs.declared.outcome.Outcome.{Outcome}
 use Rattle.bohm_board.specs.declared.batch.Batch.{Batch}
 use Rattle.bohm_board.specs.declared.slot.Slot.{Slot}
-use Rattle.bohm_board.specs.Batches.{IsRightCell}
-use Rattle.bohm_board.proofs.Moves.{nothing_in}
-use Rattle.bohm_exec.specs.Core.{Progress, Open, Claimed, Done, Presence, View, State, Holds, IsFilled, HasWanted, KnowsWanted, newcomer}
-use Rattle.bohm_exec.specs.CoreEvents.{put, put_slot, is_slot}
-use Rattle.bohm_exec.specs.CoreLaw.{IsLawful, Stays}
-use Rattle.bohm_exec.proofs.CoreSound.{IsSound}
+use Rattle.bohm_board.specs.declared.view.Rights.{Rights}
+use Rattle.bohm_board.specs.declared.view.View.{View}
+use Rattle.bohm_board.specs.Batches.{IsRightCell, rights_of, slot_in}
+use Rattle.bohm_board.specs.Core.{Progress, Open, Claimed, Done, State, IsFull, HasWanted}
+use Rattle.bohm_board.specs.Events.{put, put_slot, is_slot}
+use Rattle.bohm_board.specs.Law.{IsLawful, Stays}
+use Rattle.bohm_board.specs.Views.{Presence, Absent, Present, Holds, KnowsWanted, newcomer, spent}
+use Rattle.bohm_board.proofs.Sound.{IsSound}
 
--- what a view of the pass p says is so; what it stored is right, too
+-- what a view of the pass p says is so
 pub record IsTrueOf (b : Batch) (s : State) (p : ℕ) (v : View) : Type 0 where
   pub done : (t : ℕ) → Contains v.done t → (o : Outcome) × (s.positions t ≡ Done o)
   pub busy : (t : ℕ) → Contains v.busy t → s.positions t ≢ Open
-  pub known : (x : Slot) (k : Presence) → Contains v.known (x, k) → s.presences x ≡ Some k
-  pub held : (t : ℕ) → Holds v t → s.positions t ≡ Claimed p
-  pub stored : (x : Slot) (z : ℤ) → Contains v.stored (x, z) → IsRightCell b x (cells.Present z) × (s.values x ≡ z)
-  pub filled : (x : Slot) → Contains v.filled x → IsFilled s x
+  pub absent : (x : Slot) → Contains v.absent x → s.presences x ≡ Some Absent
+  pub present : (x : Slot) → Contains v.present x → s.presences x ≡ Some Present
+  pub held : (t : ℕ) → Holds b v t → s.positions t ≡ Claimed p
+  pub stored : (x : Slot) → Contains v.stored x → IsRightCell b x (cells.Present (s.values x))
+  pub filled : (x : Slot) → Contains v.filled x → IsFull s x
+  pub named : (v ≡ spent) ⊎ (v.right ≡ rights_of b)
 
-pub record IsKept (b : Batch) (s : State) : Type 0 where
+pub record IsInvariant (b : Batch) (s : State) : Type 0 where
   pub sound : IsSound b s
   pub each : (p : ℕ) → IsTrueOf b s p (s.views p)
+  pub held : (p t : ℕ) → s.positions t ≡ Claimed p → Holds b (s.views p) t
 
 abbrev holder : Progress → ℕ
 holder Open = 0
@@ -36,26 +41,33 @@ holder (Done o) = 0
 pub one_holder : (p q : ℕ) → Claimed p ≡ Claimed q → p ≡ q
 one_holder p q e = ap holder e
 
-pub lawful : (b : Batch) (s : State) → IsKept b s → IsLawful b s
+pub lawful : (b : Batch) (s : State) → IsInvariant b s → IsLawful b s
 lawful b s k = record {
   absent = k.sound.absent;
   present = k.sound.present;
+  inside = k.sound.inside;
   outcomes = k.sound.outcomes;
   whole = k.sound.whole;
   untouched = k.sound.untouched;
   alone = λ p q t h g. one_holder p q (sym ((k.each p).held t h) ∙ (k.each q).held t g);
   single = λ p t u h g. same_Some t u (sym h ∙ g);
   claimed = λ p. (k.each p).held;
+  held = k.held;
   filled = λ p. (k.each p).filled;
-  stored = λ p x z c. ((k.each p).stored x z c).1;
+  stored = λ p. (k.each p).stored;
   done = λ p. (k.each p).done;
   busy = λ p. (k.each p).busy;
-  known = λ p. (k.each p).known;
+  known_absent = λ p. (k.each p).absent;
+  known_present = λ p. (k.each p).present;
+  named = λ p. (k.each p).named;
 }
 
 -- where a pass knows what a position wants, it is filled
-pub wanted_filled : (b : Batch) (s : State) (t : ℕ) (v : View) → ((x : Slot) (k : Presence) → Contains v.known (x, k) → s.presences x ≡ Some k) → KnowsWanted b v t → HasWanted b s t
-wanted_filled b s t v known wanted = λ a u in_it e. let (k, c) = wanted a u in_it e in (k, known (record { txn = u; index = a.index }) k c)
+pub wanted_filled : (b : Batch) (s : State) (t : ℕ) (v : View) → ((x : Slot) → Contains v.absent x → s.presences x ≡ Some Absent) → ((x : Slot) → Contains v.present x → s.presences x ≡ Some Present) → KnowsWanted b v t → HasWanted b s t
+wanted_filled b s t v absent present wanted = λ a u in_it e. ⊎_elim
+    (λ (c : Contains v.absent (slot_in u a)). (Absent, absent (slot_in u a) c))
+    (λ (c : Contains v.present (slot_in u a)). (Present, present (slot_in u a) c))
+    (Contains-append_cases v.absent v.present (slot_in u a) (wanted a u in_it e))
 
 -- ---- words that don't go back
 
@@ -72,14 +84,16 @@ still b s views = record { done = λ t o h. h; busy = λ t h. h; filled = λ x k
 pub stays : (b : Batch) (s s' : State) → IsSound b s → Grows b s s' → Stays s s'
 stays b s s' sound g = record { presences = g.filled; outcomes = g.done; values = λ x e. g.stored x (s.values x) (sound.present x e) refl }
 
-pub true_on : (b : Batch) (s s' : State) (p : ℕ) (v : View) → Grows b s s' → ((t : ℕ) → Holds v t → s'.positions t ≡ Claimed p) → IsTrueOf b s p v → IsTrueOf b s' p v
+pub true_on : (b : Batch) (s s' : State) (p : ℕ) (v : View) → Grows b s s' → ((t : ℕ) → Holds b v t → s'.positions t ≡ Claimed p) → IsTrueOf b s p v → IsTrueOf b s' p v
 true_on b s s' p v g held k = record {
   done = λ t c. let (o, e) = k.done t c in (o, g.done t o e);
   busy = λ t c. g.busy t (k.busy t c);
-  known = λ x w c. g.filled x w (k.known x w c);
+  absent = λ x c. g.filled x Absent (k.absent x c);
+  present = λ x c. g.filled x Present (k.present x c);
   held = held;
-  stored = λ x z c. let (right, e) = k.stored x z c in (right, g.stored x z right e);
+  stored = λ x c. let right = k.stored x c in subst (λ (z : ℤ). IsRightCell b x (cells.Present z)) (sym (g.stored x (s.values x) right refl)) right;
   filled = λ x c. let (w, e) = k.filled x c in (w, g.filled x w e);
+  named = k.named;
 }
 
 -- ---- one place of a function
@@ -108,21 +122,27 @@ slot_cases P f x a y here other = ⊎_elim
 -- ---- one pass moves
 
 -- its view becomes v, and what the others hold stays theirs
-pub moved : (b : Batch) (s s' : State) (p : ℕ) (v : View) → IsKept b s → Grows b s s' → IsSound b s' → IsTrueOf b s' p v → ((q t : ℕ) → q ≢ p → s.positions t ≡ Claimed q → s'.positions t ≡ Claimed q)
-    → IsKept b (record s' { views = put s.views p v })
-moved b s s' p v kept g sound mine others = record {
-  sound = record { absent = sound.absent; present = sound.present; outcomes = sound.outcomes; whole = sound.whole; untouched = sound.untouched };
+pub moved : (b : Batch) (s s' : State) (p : ℕ) (v : View) → IsInvariant b s → Grows b s s' → IsSound b s' → IsTrueOf b s' p v
+    → ((q t : ℕ) → q ≢ p → s.positions t ≡ Claimed q → s'.positions t ≡ Claimed q)
+    → ((q t : ℕ) → q ≢ p → s'.positions t ≡ Claimed q → s.positions t ≡ Claimed q)
+    → ((t : ℕ) → s'.positions t ≡ Claimed p → Holds b v t)
+    → IsInvariant b (record s' { views = put s.views p v })
+moved b s s' p v kept g sound mine others back holds = record {
+  sound = record { absent = sound.absent; present = sound.present; inside = sound.inside; outcomes = sound.outcomes; whole = sound.whole; untouched = sound.untouched };
   each = λ q. put_cases (λ (w : View). IsTrueOf b (record s' { views = put s.views p v }) q w) s.views p v q
       (λ e. seen s' (put s.views p v) q v (subst (λ (r : ℕ). IsTrueOf b s' r v) (sym e) mine))
       (λ ne. seen s' (put s.views p v) q (s.views q) (true_on b s s' q (s.views q) g (λ t h. others q t ne ((kept.each q).held t h)) (kept.each q)));
+  held = λ q t h. put_cases (λ (w : View). Holds b w t) s.views p v q
+      (λ e. holds t (subst (λ (r : ℕ). s'.positions t ≡ Claimed r) e h))
+      (λ ne. kept.held q t (back q t ne h));
 }
   where
     seen : (r : State) (views : ℕ → View) (q : ℕ) (w : View) → IsTrueOf b r q w → IsTrueOf b (record r { views = views }) q w
-    seen r views q w k = record { done = k.done; busy = k.busy; known = k.known; held = k.held; stored = k.stored; filled = k.filled }
+    seen r views q w k = record { done = k.done; busy = k.busy; absent = k.absent; present = k.present; held = k.held; stored = k.stored; filled = k.filled; named = k.named }
 
--- the words stay
-pub relearnt : (b : Batch) (s : State) (p : ℕ) (v : View) → IsKept b s → IsTrueOf b s p v → IsKept b (record s { views = put s.views p v })
-relearnt b s p v kept mine = moved b s s p v kept (still b s s.views) kept.sound mine (λ q t ne h. h)
+-- the words stay, and so does what the pass holds
+pub relearnt : (b : Batch) (s : State) (p : ℕ) (v : View) → IsInvariant b s → IsTrueOf b s p v → v.held ≡ (s.views p).held → IsInvariant b (record s { views = put s.views p v })
+relearnt b s p v kept mine same = moved b s s p v kept (still b s s.views) kept.sound mine (λ q t ne h. h) (λ q t ne h. h) (λ t h. same ∙ kept.held p t h)
 
 -- a fact on what a list contains, and one more
 pub more : {A : Type 0} (P : A → Type 0) (xs : List A) (x : A) → ((y : A) → Contains xs y → P y) → P x → (y : A) → Contains (xs ++ x ∷ []) y → P y
@@ -131,13 +151,18 @@ more P xs x all here y c = ⊎_elim (all y) (λ (e : x ≡ y). subst P e here) (
 pub both : {A : Type 0} (P : A → Type 0) (xs ys : List A) → ((y : A) → Contains xs y → P y) → ((y : A) → Contains ys y → P y) → (y : A) → Contains (xs ++ ys) y → P y
 both P xs ys left right y c = ⊎_elim (left y) (right y) (Contains-append_cases xs ys y c)
 
+pub nothing_in : {A : Type 0} (x : A) → Contains [] x → ⊥
+nothing_in x c = let h : c.0 < 0 = c.1 in omega arith
+
 -- a view that says nothing
-pub true_of_newcomer : (b : Batch) (s : State) (p : ℕ) → IsTrueOf b s p newcomer
-true_of_newcomer b s p = record {
+pub true_of_newcomer : (b : Batch) (s : State) (p : ℕ) (r : Rights) → (newcomer r ≡ spent) ⊎ (r ≡ rights_of b) → IsTrueOf b s p (newcomer r)
+true_of_newcomer b s p r named = record {
   done = λ t c. absurd (nothing_in t c);
   busy = λ t c. absurd (nothing_in t c);
-  known = λ x k c. absurd (nothing_in (x, k) c);
+  absent = λ x c. absurd (nothing_in x c);
+  present = λ x c. absurd (nothing_in x c);
   held = λ t h. absurd cc;
-  stored = λ x z c. absurd (nothing_in (x, z) c);
+  stored = λ x c. absurd (nothing_in x c);
   filled = λ x c. absurd (nothing_in x c);
+  named = named;
 }

@@ -1,5 +1,5 @@
 -- What the passes of a core do: where it is allowed, and what it changes.
-use Rattle.std.specs.Prelude.{◌≡◌, ℕ, ℤ, List, [], ◌∷◌, ◌++◌, Contains, Bool, false, ◌&&◌, ◌==◌, if◌then◌else◌, Option, None, Some}
+use Rattle.std.specs.Prelude.{◌≡◌, ◌≢◌, ℕ, ℤ, List, [], ◌∷◌, Contains, Bool, false, ◌&&◌, ◌==◌, if◌then◌else◌, Option, Some}
 use Rattle.bohm_tree.specs.declared.cell.Cell.{Cell}
 use Rattle.bohm_tree.specs.declared.cell.Cell.TheVariants as cells
 use Rattle.bohm_txn.specs.declared.outcome.Outcome.{Outcome}
@@ -9,8 +9,11 @@ use Rattle.bohm_board.specs.declared.status.Status.{Status as Seen}
 use Rattle.bohm_board.specs.declared.status.Status.TheVariants as seen
 use Rattle.bohm_board.specs.declared.status.Claimed.{Claimed as Won}
 use Rattle.bohm_board.specs.declared.status.Claimed.TheVariants as won
-use Rattle.bohm_board.specs.Batches.{IsIn, IsSlot}
-use Rattle.bohm_exec.specs.Core.{Progress, Open, Claimed, Done, Presence, Absent, Present, View, State, newcomer, empty, Holds, HoldsNothing, KnowsWanted, HasFilledAll, outcome_over, cell_over}
+use Rattle.bohm_board.specs.declared.view.View.{View}
+use Rattle.bohm_board.specs.Batches.{IsIn, IsSlot, rights_of}
+use Rattle.bohm_board.specs.Core.{Progress, Open, Claimed, Done, State, empty, outcome_over, cell_over}
+use Rattle.bohm_board.specs.Views.{Presence, presence_of, newcomer, spent, saw, claimed, learnt, stored, filled, finished, joined, Holds, HoldsNothing, HasStored, KnowsWanted, HasFilledAll}
+use Rattle.bohm_board.specs.Words.{found_by}
 
 -- an event of the pass p (and of q), with what it was answered or what it put
 pub data Event : Type 0 where
@@ -24,82 +27,57 @@ pub data Event : Type 0 where
   Split : (p q : ℕ) → Event
   Join : (p q : ℕ) → Event
 
+abbrev pub pass_of : Event → ℕ
+pass_of (LookPresence p x answer) = p
+pass_of (LookValue p x answer) = p
+pass_of (Status p t answer) = p
+pass_of (Claim p t answer) = p
+pass_of (FillValue p x z) = p
+pass_of (FillPresence p x c) = p
+pass_of (Finish p t o) = p
+pass_of (Split p q) = p
+pass_of (Join p q) = p
+
 -- ---- where an event is allowed
 
-abbrev pub status_of : Progress → Seen
-status_of Open = seen.Open
-status_of (Claimed p) = seen.Busy
-status_of (Done o) = seen.Done
-
-abbrev pub claim_of : Progress → Won
-claim_of Open = won.Mine
-claim_of (Claimed p) = won.Busy
-claim_of (Done o) = won.Done
+abbrev pub seen_as : Progress → Seen
+seen_as Open = seen.Open
+seen_as (Claimed p) = seen.Busy
+seen_as (Done o) = seen.Done
 
 -- the pass may fill the slot, and the cell is the one for it
 pub record MayFill (b : Batch) (s : State) (p : ℕ) (x : Slot) (c : Cell) : Type 0 where
   pub slot : IsSlot b x
-  pub holds : Holds (s.views p) x.txn
+  pub holds : Holds b (s.views p) x.txn
   pub unfilled : ¬ Contains (s.views p).filled x
   pub wanted : KnowsWanted b (s.views p) x.txn
   pub cell : cell_over b s x ≡ Some c
 
--- the pass has stored the slot's value
-abbrev pub HasStored : View → Slot → Type 0
-HasStored v x = (z : ℤ) × Contains v.stored (x, z)
-
--- where the cell has a value, the pass has stored one
-abbrev pub HasStoredFor : View → Slot → Cell → Type 0
-HasStoredFor v x cells.Absent = Unit {0}
-HasStoredFor v x (cells.Present z) = HasStored v x
-
 -- the pass may finish the position, and the outcome is the one of it
 pub record MayFinish (b : Batch) (s : State) (p t : ℕ) (o : Outcome) : Type 0 where
   pub position : IsIn b t
-  pub holds : Holds (s.views p) t
+  pub holds : Holds b (s.views p) t
   pub filled : HasFilledAll b (s.views p) t
   pub wanted : KnowsWanted b (s.views p) t
   pub outcome : outcome_over b s t ≡ Some o
 
 -- a fill or a finish asks that the pass holds the position and knows what it wants; a split makes the new pass q, and a join appends what q has seen
+abbrev pub May : Batch → State → Event → Type 0
+May b s (LookPresence p x answer) = IsSlot b x × (answer ≡ s.presences x)
+May b s (LookValue p x answer) = Contains (s.views p).present x × (answer ≡ s.values x)
+May b s (Status p t answer) = IsIn b t × ¬ Holds b (s.views p) t × (answer ≡ seen_as (s.positions t))
+May b s (Claim p t answer) = IsIn b t × HoldsNothing (s.views p) × (found_by answer ≡ seen_as (s.positions t))
+May b s (FillValue p x z) = MayFill b s p x (cells.Present z) × ¬ Contains (s.views p).stored x
+May b s (FillPresence p x c) = MayFill b s p x c × HasStored (s.views p) x c
+May b s (Finish p t o) = MayFinish b s p t o
+May b s (Split p q) = HoldsNothing (s.views p) × (s.views q ≡ newcomer (rights_of b))
+May b s (Join p q) = (q ≢ p) × HoldsNothing (s.views p) × HoldsNothing (s.views q)
+
+-- the pass is of this batch: what a join left behind does nothing more
 abbrev pub IsAllowed : Batch → State → Event → Type 0
-IsAllowed b s (LookPresence p x answer) = IsSlot b x × (answer ≡ s.presences x)
-IsAllowed b s (LookValue p x answer) = Contains (s.views p).known (x, Present) × (answer ≡ s.values x)
-IsAllowed b s (Status p t answer) = IsIn b t × ¬ Holds (s.views p) t × (answer ≡ status_of (s.positions t))
-IsAllowed b s (Claim p t answer) = IsIn b t × HoldsNothing (s.views p) × (answer ≡ claim_of (s.positions t))
-IsAllowed b s (FillValue p x z) = MayFill b s p x (cells.Present z) × ¬ HasStored (s.views p) x
-IsAllowed b s (FillPresence p x c) = MayFill b s p x c × HasStoredFor (s.views p) x c
-IsAllowed b s (Finish p t o) = MayFinish b s p t o
-IsAllowed b s (Split p q) = HoldsNothing (s.views p) × (s.views q ≡ newcomer)
-IsAllowed b s (Join p q) = HoldsNothing (s.views p) × HoldsNothing (s.views q)
+IsAllowed b s e = ((s.views (pass_of e)).right ≡ rights_of b) × May b s e
 
--- ---- what it changes in the view of its pass
-
-abbrev pub learnt : View → Slot → Option Presence → View
-learnt v x None = v
-learnt v x (Some presence) = record v { known = v.known ++ (x, presence) ∷ [] }
-
-abbrev pub saw : View → ℕ → Seen → View
-saw v t seen.Open = v
-saw v t seen.Busy = record v { busy = v.busy ++ t ∷ [] }
-saw v t seen.Done = record v { done = v.done ++ t ∷ [] }
-
-abbrev pub holding : View → ℕ → View
-holding v t = record v { held = Some t }
-
-abbrev pub stored : View → Slot → ℤ → View
-stored v x z = record v { stored = v.stored ++ (x, z) ∷ [] }
-
-abbrev pub filled : View → Slot → View
-filled v x = record v { filled = v.filled ++ x ∷ [] }
-
-abbrev pub finished : View → ℕ → View
-finished v t = record v { done = v.done ++ t ∷ []; held = None; stored = []; filled = [] }
-
-abbrev pub joined : View → View → View
-joined v w = record v { done = v.done ++ w.done; busy = v.busy ++ w.busy; known = v.known ++ w.known }
-
--- ---- and in the state
+-- ---- what it changes
 
 -- the same but at t
 abbrev pub put : {A : Type 0} → (ℕ → A) → ℕ → A → ℕ → A
@@ -112,10 +90,6 @@ is_slot x y = (y.txn == x.txn) && (y.index == x.index)
 abbrev pub put_slot : {A : Type 0} → (Slot → A) → Slot → A → Slot → A
 put_slot f x a = λ y. if is_slot x y then a else f y
 
-abbrev pub presence_of : Cell → Presence
-presence_of cells.Absent = Absent
-presence_of (cells.Present z) = Present
-
 -- the words stay, and the view of p becomes v
 abbrev pub seeing : State → ℕ → View → State
 seeing s p v = record s { views = put s.views p v }
@@ -125,14 +99,14 @@ abbrev pub next : State → Event → State
 next s (LookPresence p x answer) = seeing s p (learnt (s.views p) x answer)
 next s (LookValue p x answer) = s
 next s (Status p t answer) = seeing s p (saw (s.views p) t answer)
-next s (Claim p t won.Mine) = record s { positions = put s.positions t (Claimed p); views = put s.views p (holding (s.views p) t) }
-next s (Claim p t won.Busy) = seeing s p (saw (s.views p) t seen.Busy)
-next s (Claim p t won.Done) = seeing s p (saw (s.views p) t seen.Done)
-next s (FillValue p x z) = record s { values = put_slot s.values x z; views = put s.views p (stored (s.views p) x z) }
+next s (Claim p t won.Mine) = record s { positions = put s.positions t (Claimed p); views = put s.views p (claimed (s.views p) t seen.Open) }
+next s (Claim p t won.Busy) = seeing s p (claimed (s.views p) t seen.Busy)
+next s (Claim p t won.Done) = seeing s p (claimed (s.views p) t seen.Done)
+next s (FillValue p x z) = record s { values = put_slot s.values x z; views = put s.views p (stored (s.views p) x) }
 next s (FillPresence p x c) = record s { presences = put_slot s.presences x (Some (presence_of c)); views = put s.views p (filled (s.views p) x) }
 next s (Finish p t o) = record s { positions = put s.positions t (Done o); views = put s.views p (finished (s.views p) t) }
 next s (Split p q) = seeing s q (s.views p)
-next s (Join p q) = seeing s p (joined (s.views p) (s.views q))
+next s (Join p q) = seeing (seeing s p (joined (s.views p) (s.views q))) q spent
 
 -- ---- lists of events
 
@@ -148,7 +122,7 @@ leave s (e ∷ es) = leave (next s e) es
 
 -- events lead from the empty board to the state
 abbrev pub Reached : Batch → State → Type 0
-Reached b s = (es : List Event) × IsRun b empty es × (leave empty es ≡ s)
+Reached b s = (es : List Event) × IsRun b (empty b) es × (leave (empty b) es ≡ s)
 
 -- a claim of t that is answered Mine
 abbrev pub wins : ℕ → Event → Bool

@@ -7,28 +7,29 @@ use Rattle.bohm_tree.specs.declared.cell.Cell.TheVariants as cells
 use Rattle.bohm_txn.specs.declared.outcome.Outcome.{Outcome}
 use Rattle.bohm_board.specs.declared.batch.Batch.{Batch}
 use Rattle.bohm_board.specs.declared.slot.Slot.{Slot}
-use Rattle.bohm_board.specs.Batches.{IsSlot, IsRightCell, IsRightOutcome}
-use Rattle.bohm_exec.specs.Core.{Open, Done, Presence, Absent, Present, State, IsFilled, cell_by, cell_in}
-use Rattle.bohm_exec.specs.CoreEvents.{presence_of}
-use Rattle.bohm_exec.specs.CoreLaw.{IsLawful}
+use Rattle.bohm_board.specs.Batches.{IsIn, IsSlot, IsRightCell, IsRightOutcome}
+use Rattle.bohm_board.specs.Core.{Open, Done, State, IsFull, cell_by, cell_in}
+use Rattle.bohm_board.specs.Law.{IsLawful}
+use Rattle.bohm_board.specs.Views.{Presence, Absent, Present, presence_of}
 
 -- (a), (b) and (c)
 pub record IsSound (b : Batch) (s : State) : Type 0 where
   pub absent : (x : Slot) → s.presences x ≡ Some Absent → IsRightCell b x cells.Absent
   pub present : (x : Slot) → s.presences x ≡ Some Present → IsRightCell b x (cells.Present (s.values x))
+  pub inside : (t : ℕ) (o : Outcome) → s.positions t ≡ Done o → IsIn b t
   pub outcomes : (t : ℕ) (o : Outcome) → s.positions t ≡ Done o → IsRightOutcome b t o
-  pub whole : (x : Slot) (o : Outcome) → IsSlot b x → s.positions x.txn ≡ Done o → IsFilled s x
+  pub whole : (x : Slot) (o : Outcome) → IsSlot b x → s.positions x.txn ≡ Done o → IsFull s x
   pub untouched : (x : Slot) → s.positions x.txn ≡ Open → s.presences x ≡ None
 
 pub sound_of : (b : Batch) (s : State) → IsLawful b s → IsSound b s
-sound_of b s law = record { absent = law.absent; present = law.present; outcomes = law.outcomes; whole = law.whole; untouched = law.untouched }
+sound_of b s law = record { absent = law.absent; present = law.present; inside = law.inside; outcomes = law.outcomes; whole = law.whole; untouched = law.untouched }
 
 filled_as : (b : Batch) (s : State) (x : Slot) (k : Presence) → IsSound b s → s.presences x ≡ Some k → IsRightCell b x (cell_in s x) × (presence_of (cell_in s x) ≡ k)
 filled_as b s x Absent sound e = subst (λ (o : Option Presence). IsRightCell b x (cell_by o (s.values x)) × (presence_of (cell_by o (s.values x)) ≡ Absent)) (sym e) (sound.absent x e, refl)
 filled_as b s x Present sound e = subst (λ (o : Option Presence). IsRightCell b x (cell_by o (s.values x)) × (presence_of (cell_by o (s.values x)) ≡ Present)) (sym e) (sound.present x e, refl)
 
 -- the cell of a filled slot is right
-pub filled_right : (b : Batch) (s : State) (x : Slot) → IsSound b s → IsFilled s x → IsRightCell b x (cell_in s x)
+pub filled_right : (b : Batch) (s : State) (x : Slot) → IsSound b s → IsFull s x → IsRightCell b x (cell_in s x)
 filled_right b s x sound filled = (filled_as b s x filled.0 sound filled.1).0
 
 -- there is one right cell

@@ -22,8 +22,8 @@ use Rattle.bohm_board.specs.Batches.{txns_of, plan_of, first_of, position, txn_a
 use Rattle.bohm_board.proofs.Inputs.{cell_planned}
 use Rattle.bohm_board.proofs.Places.{in_either}
 use Rattle.bohm_board.proofs.SerialSlots.{get_left, get_right}
-use Rattle.bohm_exec.specs.Core.{State, cell_at, cell_from, cell_in, entries, input}
-use Rattle.bohm_exec.proofs.CoreInput.{entry_of, entry_at, newest_among}
+use Rattle.bohm_board.specs.Core.{State, cell_at, cell_from, cell_in, entries, input}
+use Rattle.bohm_board.proofs.Evaluated.{entry_of, entry_at, newest_among}
 
 -- ---- one right access
 

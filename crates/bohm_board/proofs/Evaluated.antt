@@ -4,7 +4,7 @@ use Rattle.std.specs.Prelude.{Option, Contains, unwrap_or, if◌then◌else◌}
 use Rattle.std.specs.Option.{option_map}
 use Rattle.std.specs.List.{slice_get}
 use Rattle.std.specs.Str.{bytes_eq}
-use Rattle.std.proofs.lemmas.Option.{same_Some, slice_get_within}
+use Rattle.std.proofs.lemmas.Option.{same_Some, slice_get_within, get_or_from_slice_get}
 use Rattle.std.proofs.lemmas.List.{append-nil}
 use Rattle.std.proofs.lemmas.List.Elements.{Contains-append_left, Contains-append_right}
 use Rattle.bohm_tree.specs.declared.cell.Cell.{Cell}
@@ -31,9 +31,11 @@ use Rattle.bohm_board.proofs.Numbers.{txn_there, slot_there}
 use Rattle.bohm_board.proofs.SerialSlots.{get_left, get_right, length-own_cells}
 use Rattle.bohm_board.proofs.Places.{in_either}
 use Rattle.bohm_board.proofs.Wanted.{reads_paired, writes_paired}
-use Rattle.bohm_exec.specs.Core.{State, IsFilled, HasWanted, cell_from, cell_at, entries, input, outcome_over, cell_over}
-use Rattle.bohm_exec.proofs.CoreSound.{IsSound, filled_right}
-use Rattle.bohm_exec.proofs.Seen.{contains_at}
+use Rattle.bohm_board.specs.Core.{State, IsFull, HasWanted, cell_from, cell_at, entries, input, outcome_over, cell_over}
+use Rattle.bohm_board.proofs.Sound.{IsSound, filled_right}
+
+pub contains_at : {A : Type 0} (xs : List A) (j : ℕ) (x : A) → slice_get xs j ≡ Some x → Contains xs x
+contains_at xs j x e = (j, slice_get_within xs j x e, get_or_from_slice_get xs j x x e)
 
 -- ---- what a fold of entries finds
 
@@ -88,7 +90,7 @@ entry_at b s (x ∷ ks) (y ∷ more) (suc j) k a at_key at_access = entry_at b s
 
 -- ---- Body(t, Input(t)) is Body(t, S(t - 1))
 
-source_right : (b : Batch) (s : State) (k : List ℕ) (index : ℕ) (o : Source) → IsSound b s → ((u : ℕ) → o ≡ Within u → IsFilled s (record { txn = u; index = index })) → IsCellFrom b k index (cell_from b s k index o) o
+source_right : (b : Batch) (s : State) (k : List ℕ) (index : ℕ) (o : Source) → IsSound b s → ((u : ℕ) → o ≡ Within u → IsFull s (record { txn = u; index = index })) → IsCellFrom b k index (cell_from b s k index o) o
 source_right b s k index Before sound filled = refl
 source_right b s k index (Within u) sound filled = filled_right b s (record { txn = u; index = index }) sound (filled u refl)
 

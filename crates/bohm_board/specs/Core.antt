@@ -1,5 +1,5 @@
 -- The core: what the board of a batch holds and what its passes know, with no words, steps or threads.
-use Rattle.std.specs.Prelude.{◌≡◌, ℕ, ℤ, pos, List, [], ◌++◌, map, zip, Contains, Option, None, Some, slice_get}
+use Rattle.std.specs.Prelude.{◌≡◌, ℕ, ℤ, pos, List, ◌++◌, map, zip, Contains, Option, None, Some, slice_get}
 use Rattle.std.specs.Option.{option_map}
 use Rattle.bohm_tree.specs.declared.cell.Cell.{Cell}
 use Rattle.bohm_tree.specs.declared.cell.Cell.TheVariants as cells
@@ -12,8 +12,10 @@ use Rattle.bohm_place.specs.declared.access.Source.{Source}
 use Rattle.bohm_place.specs.declared.access.Source.TheVariants.{Before, Within}
 use Rattle.bohm_board.specs.declared.batch.Batch.{Batch}
 use Rattle.bohm_board.specs.declared.slot.Slot.{Slot}
+use Rattle.bohm_board.specs.declared.view.View.{View}
 use Rattle.bohm_board.specs.Serial.{own_cells}
-use Rattle.bohm_board.specs.Batches.{base_of, txn_at, reads_at, writes_at, wanted_at, slot_in, IsSlot}
+use Rattle.bohm_board.specs.Batches.{base_of, rights_of, txn_at, reads_at, writes_at, wanted_at, slot_in}
+use Rattle.bohm_board.specs.Views.{Presence, Absent, Present, newcomer}
 
 -- ---- states
 
@@ -23,66 +25,23 @@ pub data Progress : Type 0 where
   Claimed : (pass : ℕ) → Progress
   Done : (outcome : Outcome) → Progress
 
--- what a filled slot is filled with
-pub data Presence : Type 0 where
-  Absent : Presence
-  Present : Presence
-
--- what a pass has seen and done, in the order in which it did. Positions are timestamps
-pub record View : Type 0 where
-  -- positions that it saw Done
-  pub done : List ℕ
-  -- positions that it saw Busy
-  pub busy : List ℕ
-  -- slots that it knows, and as what
-  pub known : List (Slot × Presence)
-  -- the position that it holds
-  pub held : Option ℕ
-  -- slots of that position whose value it stored, and with what
-  pub stored : List (Slot × ℤ)
-  -- slots of that position that it filled
-  pub filled : List Slot
-
--- passes have numbers
+-- positions have timestamps, and passes numbers
 pub record State : Type 0 where
   pub positions : ℕ → Progress
   pub presences : Slot → Option Presence
   pub values : Slot → ℤ
   pub views : ℕ → View
 
--- it knows and holds nothing
-abbrev pub newcomer : View
-newcomer = record { done = []; busy = []; known = []; held = None; stored = []; filled = [] }
-
 -- the empty board
-abbrev pub empty : State
-empty = record { positions = λ t. Open; presences = λ x. None; values = λ x. pos 0; views = λ p. newcomer }
+abbrev pub empty : Batch → State
+empty b = record { positions = λ t. Open; presences = λ x. None; values = λ x. pos 0; views = λ p. newcomer (rights_of b) }
 
--- ---- what is filled and known
-
-abbrev pub IsFilled : State → Slot → Type 0
-IsFilled s x = (presence : Presence) × (s.presences x ≡ Some presence)
+abbrev pub IsFull : State → Slot → Type 0
+IsFull s x = (presence : Presence) × (s.presences x ≡ Some presence)
 
 -- each slot that the position wants is filled
 abbrev pub HasWanted : Batch → State → ℕ → Type 0
-HasWanted b s t = (a : Access) (u : ℕ) → Contains (wanted_at b t) a → a.source ≡ Within u → IsFilled s (slot_in u a)
-
-abbrev pub Holds : View → ℕ → Type 0
-Holds v t = v.held ≡ Some t
-
-abbrev pub HoldsNothing : View → Type 0
-HoldsNothing v = v.held ≡ None
-
-abbrev pub Knows : View → Slot → Type 0
-Knows v x = (presence : Presence) × Contains v.known (x, presence)
-
--- each slot that the position wants is known
-abbrev pub KnowsWanted : Batch → View → ℕ → Type 0
-KnowsWanted b v t = (a : Access) (u : ℕ) → Contains (wanted_at b t) a → a.source ≡ Within u → Knows v (slot_in u a)
-
--- each slot of the position was filled by this pass
-abbrev pub HasFilledAll : Batch → View → ℕ → Type 0
-HasFilledAll b v t = (x : Slot) → IsSlot b x → x.txn ≡ t → Contains v.filled x
+HasWanted b s t = (a : Access) (u : ℕ) → Contains (wanted_at b t) a → a.source ≡ Within u → IsFull s (slot_in u a)
 
 -- ---- Input(t), and what the transaction does over it
 

@@ -1,38 +1,53 @@
 -- Lists of events.
-use Rattle.std.proofs.Common.{◌≡◌, ◌≢◌, ℕ, ◌≤◌, List, [], ◌∷◌, Bool, true, false, cond, refl, ap, sym, ◌∙◌, subst, arith}
+use Rattle.std.proofs.Common.{◌≡◌, ◌≢◌, ℕ, ◌≤◌, List, [], ◌∷◌, ◌++◌, Bool, true, false, cond, refl, ap, sym, ◌∙◌, subst, inr, arith}
 use Rattle.std.specs.Prelude.{count_by}
 use Rattle.std.proofs.lemmas.Bool.{eqb-true, false_from_ne_true}
 use Rattle.std.proofs.lemmas.List.Sums.{sum_by-cons}
 use Rattle.bohm_txn.specs.declared.outcome.Outcome.{Outcome}
 use Rattle.bohm_board.specs.declared.status.Claimed.TheVariants as won
 use Rattle.bohm_board.specs.declared.batch.Batch.{Batch}
-use Rattle.bohm_exec.specs.Core.{State, Open, Claimed, Done, empty}
-use Rattle.bohm_exec.specs.CoreEvents.{Event, LookPresence, LookValue, Status, Claim, FillValue, FillPresence, Finish, Split, Join, IsAllowed, IsRun, Reached, leave, next, wins, finishes}
-use Rattle.bohm_exec.specs.CoreLaw.{IsLawful, Stays}
-use Rattle.bohm_exec.proofs.CoreKeeps.{IsKept, Grows, lawful, still, stays, put_cases, true_of_newcomer}
-use Rattle.bohm_exec.proofs.CoreSteps.{keeps, grows, won_mine}
+use Rattle.bohm_board.specs.Batches.{rights_of}
+use Rattle.bohm_board.specs.Core.{State, Open, Claimed, Done, empty}
+use Rattle.bohm_board.specs.Events.{Event, LookPresence, LookValue, Status, Claim, FillValue, FillPresence, Finish, Split, Join, IsAllowed, IsRun, Reached, leave, next, wins, finishes}
+use Rattle.bohm_board.specs.Law.{IsLawful, Stays}
+use Rattle.bohm_board.proofs.Invariant.{IsInvariant, Grows, lawful, still, stays, put_cases, true_of_newcomer}
+use Rattle.bohm_board.proofs.EventsKeep.{keeps, grows, won_mine}
 
-starts : (b : Batch) → IsKept b empty
+pub starts : (b : Batch) → IsInvariant b (empty b)
 starts b = record {
   sound = record {
     absent = λ x h. absurd cc;
     present = λ x h. absurd cc;
+    inside = λ t o h. absurd cc;
     outcomes = λ t o h. absurd cc;
     whole = λ x o is h. absurd cc;
     untouched = λ x h. refl;
   };
-  each = λ p. true_of_newcomer b empty p;
+  each = λ p. true_of_newcomer b (empty b) p (rights_of b) (inr refl);
+  held = λ p t h. absurd cc;
 }
 
-pub keeps_on : (b : Batch) (s : State) (es : List Event) → IsKept b s → IsRun b s es → IsKept b (leave s es)
+pub keeps_on : (b : Batch) (s : State) (es : List Event) → IsInvariant b s → IsRun b s es → IsInvariant b (leave s es)
 keeps_on b s [] kept run = kept
 keeps_on b s (e ∷ es) kept run = keeps_on b (next s e) es (keeps b s e kept run.0) run.1
 
-pub reached_kept : (b : Batch) (s : State) → Reached b s → IsKept b s
-reached_kept b s r = subst (IsKept b) r.2 (keeps_on b empty r.0 (starts b) r.1)
+pub reached_kept : (b : Batch) (s : State) → Reached b s → IsInvariant b s
+reached_kept b s r = subst (IsInvariant b) r.2 (keeps_on b (empty b) r.0 (starts b) r.1)
 
 pub reached_lawful : (b : Batch) (s : State) → Reached b s → IsLawful b s
 reached_lawful b s r = lawful b s (reached_kept b s r)
+
+-- one more event
+run_more : (b : Batch) (s : State) (es : List Event) (e : Event) → IsRun b s es → IsAllowed b (leave s es) e → IsRun b s (es ++ e ∷ [])
+run_more b s [] e run may = (may, tt {0})
+run_more b s (f ∷ es) e run may = (run.0, run_more b (next s f) es e run.1 may)
+
+leave_more : (s : State) (es : List Event) (e : Event) → leave s (es ++ e ∷ []) ≡ next (leave s es) e
+leave_more s [] e = refl
+leave_more s (f ∷ es) e = leave_more (next s f) es e
+
+pub reached_more : (b : Batch) (s : State) (e : Event) → Reached b s → IsAllowed b s e → Reached b (next s e)
+reached_more b s e r may = (r.0 ++ e ∷ [], run_more b (empty b) r.0 e r.1 (subst (λ (z : State). IsAllowed b z e) (sym r.2) may), leave_more (empty b) r.0 e ∙ ap (λ (z : State). next z e) r.2)
 
 grows_more : (b : Batch) (s r q : State) → Grows b s r → Grows b r q → Grows b s q
 grows_more b s r q g h = record {
@@ -42,7 +57,7 @@ grows_more b s r q g h = record {
   stored = λ x z right e. h.stored x z right (g.stored x z right e);
 }
 
-grows_on : (b : Batch) (s : State) (es : List Event) → IsKept b s → IsRun b s es → Grows b s (leave s es)
+grows_on : (b : Batch) (s : State) (es : List Event) → IsInvariant b s → IsRun b s es → Grows b s (leave s es)
 grows_on b s [] kept run = still b s s.views
 grows_on b s (e ∷ es) kept run = grows_more b s (next s e) (leave (next s e) es) (grows b s e kept run.0) (grows_on b (next s e) es (keeps b s e kept run.0) run.1)
 
@@ -53,17 +68,17 @@ reached_stays b s es r run = let kept = reached_kept b s r in stays b s (leave s
 
 -- where a test never passes in states with Q, and what passes it leads there for good, at most one event passes
 module _ (b : Batch) (test : Event → Bool) (Q : State → Type 0)
-    (off : (s : State) (e : Event) → IsKept b s → IsAllowed b s e → Q s → test e ≡ false)
-    (sets : (s : State) (e : Event) → IsKept b s → IsAllowed b s e → test e ≡ true → Q (next s e))
-    (lasts : (s : State) (e : Event) → IsKept b s → IsAllowed b s e → Q s → Q (next s e)) where
-  none_passes : (s : State) (es : List Event) → IsKept b s → IsRun b s es → Q s → count_by test es ≡ 0
+    (off : (s : State) (e : Event) → IsInvariant b s → IsAllowed b s e → Q s → test e ≡ false)
+    (sets : (s : State) (e : Event) → IsInvariant b s → IsAllowed b s e → test e ≡ true → Q (next s e))
+    (lasts : (s : State) (e : Event) → IsInvariant b s → IsAllowed b s e → Q s → Q (next s e)) where
+  none_passes : (s : State) (es : List Event) → IsInvariant b s → IsRun b s es → Q s → count_by test es ≡ 0
   none_passes s [] kept run q = refl
   none_passes s (e ∷ es) kept run q =
       let rest = none_passes (next s e) es (keeps b s e kept run.0) run.1 (lasts s e kept run.0 q) in
       let now : ◌≡◌ {A = ℕ} (cond (test e) 1 0) 0 = ap (λ (v : Bool). cond v 1 0) (off s e kept run.0 q) in
       omega (arith, sum_by-cons (λ x. cond (test x) 1 0) e es, now, rest)
 
-  one_passes : (s : State) (es : List Event) → IsKept b s → IsRun b s es → count_by test es ≤ 1
+  one_passes : (s : State) (es : List Event) → IsInvariant b s → IsRun b s es → count_by test es ≤ 1
   one_passes s [] kept run = omega arith
   one_passes s (e ∷ es) kept run =
       let kept' = keeps b s e kept run.0 in
@@ -78,7 +93,7 @@ module _ (b : Batch) (test : Event → Bool) (Q : State → Type 0)
 -- ---- claims
 
 wins_open : (b : Batch) (s : State) (t : ℕ) (e : Event) → IsAllowed b s e → wins t e ≡ true → s.positions t ≡ Open
-wins_open b s t (Claim p u won.Mine) may h = ap s.positions (sym (eqb-true u t h)) ∙ won_mine (s.positions u) may.2
+wins_open b s t (Claim p u won.Mine) may h = ap s.positions (sym (eqb-true u t h)) ∙ won_mine (s.positions u) may.1.2
 wins_open b s t (Claim p u won.Busy) may h = absurd cc
 wins_open b s t (Claim p u won.Done) may h = absurd cc
 wins_open b s t (LookPresence p x answer) may h = absurd cc
@@ -103,21 +118,21 @@ wins_closes s t (Finish p u o) h = absurd cc
 wins_closes s t (Split p q) h = absurd cc
 wins_closes s t (Join p q) h = absurd cc
 
-pub claimed_once : (b : Batch) (es : List Event) (t : ℕ) → IsRun b empty es → count_by (wins t) es ≤ 1
+pub claimed_once : (b : Batch) (es : List Event) (t : ℕ) → IsRun b (empty b) es → count_by (wins t) es ≤ 1
 claimed_once b es t run = one_passes b (wins t) (λ s. s.positions t ≢ Open)
     (λ s e kept may closed. false_from_ne_true (wins t e) (λ h. closed (wins_open b s t e may h)))
     (λ s e kept may h. wins_closes s t e h)
     (λ s e kept may closed. (grows b s e kept may).busy t closed)
-    empty es (starts b) run
+    (empty b) es (starts b) run
 
 -- ---- finishes
 
 abbrev IsDoneAt : ℕ → State → Type 0
 IsDoneAt t s = (o : Outcome) × (s.positions t ≡ Done o)
 
-finishes_claimed : (b : Batch) (s : State) (t : ℕ) (e : Event) → IsKept b s → IsAllowed b s e → finishes t e ≡ true → IsDoneAt t s → ⊥
+finishes_claimed : (b : Batch) (s : State) (t : ℕ) (e : Event) → IsInvariant b s → IsAllowed b s e → finishes t e ≡ true → IsDoneAt t s → ⊥
 finishes_claimed b s t (Finish p u o) kept may h done =
-    let here : s.positions u ≡ Claimed p = (kept.each p).held u may.holds in
+    let here : s.positions u ≡ Claimed p = (kept.each p).held u may.1.holds in
     let no : Claimed p ≡ Done done.0 = sym here ∙ (ap s.positions (eqb-true u t h) ∙ done.1) in
     cc
 finishes_claimed b s t (Claim p u answer) kept may h done = cc
@@ -140,9 +155,9 @@ finishes_ends s t (FillPresence p x c) h = absurd cc
 finishes_ends s t (Split p q) h = absurd cc
 finishes_ends s t (Join p q) h = absurd cc
 
-pub finished_once : (b : Batch) (es : List Event) (t : ℕ) → IsRun b empty es → count_by (finishes t) es ≤ 1
+pub finished_once : (b : Batch) (es : List Event) (t : ℕ) → IsRun b (empty b) es → count_by (finishes t) es ≤ 1
 finished_once b es t run = one_passes b (finishes t) (IsDoneAt t)
     (λ s e kept may done. false_from_ne_true (finishes t e) (λ h. finishes_claimed b s t e kept may h done))
     (λ s e kept may h. finishes_ends s t e h)
     (λ s e kept may done. (done.0, (grows b s e kept may).done t done.0 done.1))
-    empty es (starts b) run
+    (empty b) es (starts b) run

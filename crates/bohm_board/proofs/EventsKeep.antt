@@ -1,0 +1,307 @@
+-- Each event keeps what holds between any two, and no word goes back.
+use Rattle.std.proofs.Common.{◌≡◌, ◌≢◌, ℕ, ◌<◌, Some, None, refl, ap, sym, ◌∙◌, subst, inl, inr}
+use Rattle.std.specs.Prelude.{Option, ℤ, Contains}
+use Rattle.std.proofs.lemmas.Option.{same_Some}
+use Rattle.bohm_tree.specs.declared.cell.Cell.{Cell}
+use Rattle.bohm_tree.specs.declared.cell.Cell.TheVariants as cells
+use Rattle.bohm_txn.specs.declared.outcome.Outcome.{Outcome}
+use Rattle.bohm_board.specs.declared.batch.Batch.{Batch}
+use Rattle.bohm_board.specs.declared.slot.Slot.{Slot}
+use Rattle.bohm_board.specs.declared.status.Status.{Status as Seen}
+use Rattle.bohm_board.specs.declared.status.Status.TheVariants as seen
+use Rattle.bohm_board.specs.declared.status.Claimed.TheVariants as won
+use Rattle.bohm_board.specs.Batches.{IsIn, IsSlot, IsRightCell, IsRightOutcome, rights_of, width_at}
+use Rattle.bohm_board.specs.declared.view.View.{View}
+use Rattle.bohm_board.specs.Core.{Progress, Open, Claimed, Done, State, IsFull}
+use Rattle.bohm_board.specs.Events.{Event, LookPresence, LookValue, Status, Claim, FillValue, FillPresence, Finish, Split, Join, MayFill, MayFinish, IsAllowed, put, put_slot, seen_as, next}
+use Rattle.bohm_board.specs.Views.{Presence, Absent, Present, Holds, HasStored, HasFilledAll, presence_of, spent, learnt, saw, claimed, stored, filled, finished, joined}
+use Rattle.bohm_board.proofs.Sound.{IsSound, one_cell, presence_right}
+use Rattle.bohm_board.proofs.Evaluated.{outcome_is_right, cell_is_right}
+use Rattle.bohm_board.proofs.Invariant.{IsTrueOf, IsInvariant, Grows, one_holder, wanted_filled, still, true_on, put_cases, slot_cases, moved, relearnt, more, both, nothing_in, true_of_newcomer}
+
+-- ---- answers
+
+busy_of : (o : Progress) → seen.Busy ≡ seen_as o → o ≢ Open
+busy_of Open e = absurd cc
+busy_of (Claimed p) e = λ h. cc
+busy_of (Done r) e = λ h. cc
+
+done_of : (o : Progress) → seen.Done ≡ seen_as o → (r : Outcome) × (o ≡ Done r)
+done_of Open e = absurd cc
+done_of (Claimed p) e = absurd cc
+done_of (Done r) e = (r, refl)
+
+pub won_mine : (o : Progress) → seen.Open ≡ seen_as o → o ≡ Open
+won_mine Open e = refl
+won_mine (Claimed p) e = absurd cc
+won_mine (Done r) e = absurd cc
+
+true_learnt : (b : Batch) (s : State) (p : ℕ) (v : View) (x : Slot) (answer : Option Presence) → answer ≡ s.presences x → v.right ≡ rights_of b → IsTrueOf b s p v → IsTrueOf b s p (learnt v x answer)
+true_learnt b s p v x None e own k = k
+true_learnt b s p v x (Some Absent) e own k =
+    record { done = k.done; busy = k.busy; absent = more (λ y. s.presences y ≡ Some Absent) v.absent x k.absent (sym e); present = k.present; held = k.held; stored = k.stored; filled = k.filled; named = inr own }
+true_learnt b s p v x (Some Present) e own k =
+    record { done = k.done; busy = k.busy; absent = k.absent; present = more (λ y. s.presences y ≡ Some Present) v.present x k.present (sym e); held = k.held; stored = k.stored; filled = k.filled; named = inr own }
+
+pub held_learnt : (v : View) (x : Slot) (answer : Option Presence) → (learnt v x answer).held ≡ v.held
+held_learnt v x None = refl
+held_learnt v x (Some Absent) = refl
+held_learnt v x (Some Present) = refl
+
+pub right_learnt : (v : View) (x : Slot) (answer : Option Presence) → (learnt v x answer).right ≡ v.right
+right_learnt v x None = refl
+right_learnt v x (Some Absent) = refl
+right_learnt v x (Some Present) = refl
+
+true_saw : (b : Batch) (s : State) (p : ℕ) (v : View) (t : ℕ) (answer : Seen) → answer ≡ seen_as (s.positions t) → v.right ≡ rights_of b → IsTrueOf b s p v → IsTrueOf b s p (saw v t answer)
+true_saw b s p v t seen.Open e own k = k
+true_saw b s p v t seen.Busy e own k =
+    record { done = k.done; busy = more (λ u. s.positions u ≢ Open) v.busy t k.busy (busy_of (s.positions t) e); absent = k.absent; present = k.present; held = k.held; stored = k.stored; filled = k.filled; named = inr own }
+true_saw b s p v t seen.Done e own k =
+    record { done = more (λ u. (o : Outcome) × (s.positions u ≡ Done o)) v.done t k.done (done_of (s.positions t) e); busy = k.busy; absent = k.absent; present = k.present; held = k.held; stored = k.stored; filled = k.filled; named = inr own }
+
+pub held_saw : (v : View) (t : ℕ) (answer : Seen) → (saw v t answer).held ≡ v.held
+held_saw v t seen.Open = refl
+held_saw v t seen.Busy = refl
+held_saw v t seen.Done = refl
+
+-- ---- a position's state becomes o
+
+module _ (b : Batch) (s : State) (t : ℕ) (o : Progress) (not_open : o ≢ Open) where
+  abbrev pub turned : State
+  turned = record s { positions = put s.positions t o }
+
+  turned_grows : ((r : Outcome) → s.positions t ≢ Done r) → Grows b s turned
+  turned_grows not_done = record {
+    done = λ u r h. put_cases (λ w. w ≡ Done r) s.positions t o u (λ e. absurd (not_done r (ap s.positions (sym e) ∙ h))) (λ _. h);
+    busy = λ u h. put_cases (λ w. w ≢ Open) s.positions t o u (λ _. not_open) (λ _. h);
+    filled = λ x k h. h;
+    stored = λ x z r h. h;
+  }
+
+  turned_sound : IsSound b s → IsIn b t → ((r : Outcome) → o ≡ Done r → IsRightOutcome b t r) → ((x : Slot) (r : Outcome) → IsSlot b x → x.txn ≡ t → o ≡ Done r → IsFull s x) → IsSound b turned
+  turned_sound sound inside right whole = record {
+    absent = sound.absent;
+    present = sound.present;
+    inside = λ u r. put_cases (λ w. w ≡ Done r → IsIn b u) s.positions t o u (λ e h. subst (IsIn b) (sym e) inside) (λ _. sound.inside u r);
+    outcomes = λ u r. put_cases (λ w. w ≡ Done r → IsRightOutcome b u r) s.positions t o u (λ e h. subst (λ (v : ℕ). IsRightOutcome b v r) (sym e) (right r h)) (λ _. sound.outcomes u r);
+    whole = λ x r is. put_cases (λ w. w ≡ Done r → IsFull s x) s.positions t o x.txn (λ e h. whole x r is e h) (λ _. sound.whole x r is);
+    untouched = λ x. put_cases (λ w. w ≡ Open → s.presences x ≡ None) s.positions t o x.txn (λ _ h. absurd (not_open h)) (λ _. sound.untouched x);
+  }
+
+claimed_not_open : (p : ℕ) → Claimed p ≢ Open
+claimed_not_open p = λ h. cc
+
+done_not_open : (o : Outcome) → Done o ≢ Open
+done_not_open o = λ h. cc
+
+claim_grows : (b : Batch) (s : State) (p t : ℕ) → s.positions t ≡ Open → Grows b s (turned b s t (Claimed p) (claimed_not_open p))
+claim_grows b s p t free = turned_grows b s t (Claimed p) (claimed_not_open p) (λ r h. let no : Open ≡ Done r = sym free ∙ h in cc)
+
+claim_keeps : (b : Batch) (s : State) (p t : ℕ) → IsInvariant b s → (s.views p).right ≡ rights_of b → IsIn b t → (s.views p).held ≡ None → s.positions t ≡ Open → IsInvariant b (next s (Claim p t won.Mine))
+claim_keeps b s p t kept own inside nothing free =
+    let k = kept.each p in
+    let v' : View = claimed (s.views p) t seen.Open in
+    let s' : State = turned b s t (Claimed p) (claimed_not_open p) in
+    let g : Grows b s s' = claim_grows b s p t free in
+    let sound : IsSound b s' = turned_sound b s t (Claimed p) (claimed_not_open p) kept.sound inside (λ r h. absurd cc) (λ x r is e h. absurd cc) in
+    let mine : IsTrueOf b s' p v' = record {
+      done = λ u c. let (o, e) = k.done u c in (o, g.done u o e);
+      busy = λ u c. g.busy u (k.busy u c);
+      absent = k.absent;
+      present = k.present;
+      held = λ u h. put_cases (λ w. w ≡ Claimed p) s.positions t (Claimed p) u (λ _. refl) (λ ne. absurd (ne (sym (same_Some t u h))));
+      stored = λ x c. absurd (nothing_in x c);
+      filled = λ x c. absurd (nothing_in x c);
+      named = inr own;
+    } in
+    moved b s s' p v' kept g sound mine
+    (λ q u ne h. put_cases (λ w. w ≡ Claimed q) s.positions t (Claimed p) u (λ e. let no : Open ≡ Claimed q = sym free ∙ (ap s.positions (sym e) ∙ h) in absurd cc) (λ _. h))
+    (λ q u ne. put_cases (λ w. w ≡ Claimed q → s.positions u ≡ Claimed q) s.positions t (Claimed p) u (λ e h. absurd (ne (sym (one_holder p q h)))) (λ _ h. h))
+    (λ u. put_cases (λ w. w ≡ Claimed p → Holds b v' u) s.positions t (Claimed p) u (λ e h. ap Some (sym e)) (λ _ h. let no : None ≡ Some u = sym nothing ∙ kept.held p u h in absurd cc))
+
+finish_grows : (b : Batch) (s : State) (p t : ℕ) (o : Outcome) → s.positions t ≡ Claimed p → Grows b s (turned b s t (Done o) (done_not_open o))
+finish_grows b s p t o mine = turned_grows b s t (Done o) (done_not_open o) (λ r h. let no : Claimed p ≡ Done r = sym mine ∙ h in cc)
+
+one_outcome : (o r : Outcome) → Done o ≡ Done r → o ≡ r
+one_outcome o r e = ap of e
+  where
+    of : Progress → Outcome
+    of Open = o
+    of (Claimed p) = o
+    of (Done w) = w
+
+-- all slots of a position, by index, are all of them
+all_slots : (b : Batch) (v : View) (t : ℕ) → HasFilledAll b v t → (x : Slot) → IsSlot b x → x.txn ≡ t → Contains v.filled x
+all_slots b v t all x is e = subst (λ (u : ℕ). Contains v.filled (record { txn = u; index = x.index })) (sym e) (all x.index (subst (λ (u : ℕ). x.index < width_at b u) e is.index))
+
+finish_keeps : (b : Batch) (s : State) (p t : ℕ) (o : Outcome) → IsInvariant b s → (s.views p).right ≡ rights_of b → MayFinish b s p t o → IsInvariant b (next s (Finish p t o))
+finish_keeps b s p t o kept own may =
+    let k = kept.each p in
+    let s' : State = turned b s t (Done o) (done_not_open o) in
+    let here : s.positions t ≡ Claimed p = k.held t may.holds in
+    let right : IsRightOutcome b t o = sym (outcome_is_right b s t kept.sound may.position (wanted_filled b s t (s.views p) k.absent k.present may.wanted)) ∙ may.outcome in
+    let g : Grows b s s' = finish_grows b s p t o here in
+    let sound : IsSound b s' = turned_sound b s t (Done o) (done_not_open o) kept.sound may.position (λ r h. subst (IsRightOutcome b t) (one_outcome o r h) right) (λ x r is e h. k.filled x (all_slots b (s.views p) t may.filled x is e)) in
+    let now : s'.positions t ≡ Done o = put_cases (λ w. w ≡ Done o) s.positions t (Done o) t (λ _. refl) (λ ne. absurd (ne refl)) in
+    let mine : IsTrueOf b s' p (finished (s.views p) t) = record {
+      done = more (λ u. (r : Outcome) × (s'.positions u ≡ Done r)) (s.views p).done t (λ u c. let (r, e) = k.done u c in (r, g.done u r e)) (o, now);
+      busy = λ u c. g.busy u (k.busy u c);
+      absent = k.absent;
+      present = k.present;
+      held = λ u h. absurd cc;
+      stored = λ x c. absurd (nothing_in x c);
+      filled = λ x c. absurd (nothing_in x c);
+      named = inr own;
+    } in
+    moved b s s' p (finished (s.views p) t) kept g sound mine
+    (λ q u ne h. put_cases (λ w. w ≡ Claimed q) s.positions t (Done o) u (λ e. absurd (ne (sym (one_holder p q (sym here ∙ (ap s.positions (sym e) ∙ h)))))) (λ _. h))
+    (λ q u ne. put_cases (λ w. w ≡ Claimed q → s.positions u ≡ Claimed q) s.positions t (Done o) u (λ e h. absurd cc) (λ _ h. h))
+    (λ u. put_cases (λ w. w ≡ Claimed p → Holds b (finished (s.views p) t) u) s.positions t (Done o) u (λ e h. absurd cc) (λ ne h. absurd (ne (sym (same_Some t u (sym may.holds ∙ kept.held p u h))))))
+
+-- ---- the words of a slot
+
+fill_right : (b : Batch) (s : State) (p : ℕ) (x : Slot) (c : Cell) → IsInvariant b s → MayFill b s p x c → IsRightCell b x c
+fill_right b s p x c kept may = sym (cell_is_right b s x kept.sound may.slot (wanted_filled b s x.txn (s.views p) (kept.each p).absent (kept.each p).present may.wanted)) ∙ may.cell
+
+one_value : (z w : ℤ) → cells.Present z ≡ cells.Present w → z ≡ w
+one_value z w e = ap of e
+  where
+    of : Cell → ℤ
+    of cells.Absent = z
+    of (cells.Present v) = v
+
+value_grows : (b : Batch) (s : State) (x : Slot) (z : ℤ) → IsRightCell b x (cells.Present z) → Grows b s (record s { values = put_slot s.values x z })
+value_grows b s x z right = record {
+  done = λ t o h. h;
+  busy = λ t h. h;
+  filled = λ y k h. h;
+  stored = λ y w r h. slot_cases (λ v. v ≡ w) s.values x z y (λ e. one_value z w (one_cell b x (cells.Present z) (cells.Present w) right (subst (λ (u : Slot). IsRightCell b u (cells.Present w)) e r))) (λ _. h);
+}
+
+value_keeps : (b : Batch) (s : State) (p : ℕ) (x : Slot) (z : ℤ) → IsInvariant b s → (s.views p).right ≡ rights_of b → MayFill b s p x (cells.Present z) → IsInvariant b (next s (FillValue p x z))
+value_keeps b s p x z kept own may =
+    let k = kept.each p in
+    let s' : State = record s { values = put_slot s.values x z } in
+    let right : IsRightCell b x (cells.Present z) = fill_right b s p x (cells.Present z) kept may in
+    let g : Grows b s s' = value_grows b s x z right in
+    let sound : IsSound b s' = record {
+      absent = kept.sound.absent;
+      present = λ y h. slot_cases (λ v. IsRightCell b y (cells.Present v)) s.values x z y (λ e. subst (λ (u : Slot). IsRightCell b u (cells.Present z)) (sym e) right) (λ _. kept.sound.present y h);
+      inside = kept.sound.inside;
+      outcomes = kept.sound.outcomes;
+      whole = kept.sound.whole;
+      untouched = kept.sound.untouched;
+    } in
+    let here : s'.values x ≡ z = slot_cases (λ v. v ≡ z) s.values x z x (λ _. refl) (λ ne. absurd (ne refl)) in
+    let old : IsTrueOf b s' p (s.views p) = true_on b s s' p (s.views p) g k.held k in
+    let mine : IsTrueOf b s' p (stored (s.views p) x) = record {
+      done = old.done;
+      busy = old.busy;
+      absent = old.absent;
+      present = old.present;
+      held = old.held;
+      stored = more (λ (y : Slot). IsRightCell b y (cells.Present (s'.values y))) (s.views p).stored x old.stored (subst (λ (w : ℤ). IsRightCell b x (cells.Present w)) (sym here) right);
+      filled = old.filled;
+      named = inr own;
+    } in
+    moved b s s' p (stored (s.views p) x) kept g sound mine (λ q t ne h. h) (λ q t ne h. h) (kept.held p)
+
+presence_grows : (b : Batch) (s : State) (x : Slot) (c : Cell) → IsSound b s → IsRightCell b x c → Grows b s (record s { presences = put_slot s.presences x (Some (presence_of c)) })
+presence_grows b s x c sound right = record {
+  done = λ t o h. h;
+  busy = λ t h. h;
+  filled = λ y k h. slot_cases (λ v. v ≡ Some k) s.presences x (Some (presence_of c)) y (λ e. ap Some (presence_right b s x k c sound (ap s.presences (sym e) ∙ h) right)) (λ _. h);
+  stored = λ y z r h. h;
+}
+
+-- the cell that the slot shows from now on is right
+shows_absent : (b : Batch) (x : Slot) (c : Cell) → IsRightCell b x c → presence_of c ≡ Absent → IsRightCell b x cells.Absent
+shows_absent b x cells.Absent right e = right
+shows_absent b x (cells.Present z) right e = absurd cc
+
+shows_present : (b : Batch) (s : State) (p : ℕ) (x : Slot) (c : Cell) → IsTrueOf b s p (s.views p) → HasStored (s.views p) x c → presence_of c ≡ Present → IsRightCell b x (cells.Present (s.values x))
+shows_present b s p x cells.Absent k has e = absurd cc
+shows_present b s p x (cells.Present z) k has e = k.stored x has
+
+presence_keeps : (b : Batch) (s : State) (p : ℕ) (x : Slot) (c : Cell) → IsInvariant b s → (s.views p).right ≡ rights_of b → MayFill b s p x c → HasStored (s.views p) x c → IsInvariant b (next s (FillPresence p x c))
+presence_keeps b s p x c kept own may has =
+    let k = kept.each p in
+    let w : Option Presence = Some (presence_of c) in
+    let s' : State = record s { presences = put_slot s.presences x w } in
+    let right : IsRightCell b x c = fill_right b s p x c kept may in
+    let busy : s.positions x.txn ≡ Claimed p = k.held x.txn may.holds in
+    let g : Grows b s s' = presence_grows b s x c kept.sound right in
+    let sound : IsSound b s' = record {
+      absent = λ y. slot_cases (λ v. v ≡ Some Absent → IsRightCell b y cells.Absent) s.presences x w y (λ e h. subst (λ (u : Slot). IsRightCell b u cells.Absent) (sym e) (shows_absent b x c right (same_Some (presence_of c) Absent h))) (λ _. kept.sound.absent y);
+      present = λ y. slot_cases (λ v. v ≡ Some Present → IsRightCell b y (cells.Present (s.values y))) s.presences x w y (λ e h. subst (λ (u : Slot). IsRightCell b u (cells.Present (s.values u))) (sym e) (shows_present b s p x c k has (same_Some (presence_of c) Present h))) (λ _. kept.sound.present y);
+      inside = kept.sound.inside;
+      outcomes = kept.sound.outcomes;
+      whole = λ y o is h. let (j, e) = kept.sound.whole y o is h in (j, g.filled y j e);
+      untouched = λ y h. slot_cases (λ v. v ≡ None) s.presences x w y (λ e. let no : Open ≡ Claimed p = sym h ∙ (ap (λ (u : Slot). s.positions u.txn) e ∙ busy) in absurd cc) (λ _. kept.sound.untouched y h);
+    } in
+    let here : s'.presences x ≡ w = slot_cases (λ v. v ≡ w) s.presences x w x (λ _. refl) (λ ne. absurd (ne refl)) in
+    let old : IsTrueOf b s' p (s.views p) = true_on b s s' p (s.views p) g k.held k in
+    let mine : IsTrueOf b s' p (filled (s.views p) x) = record {
+      done = old.done;
+      busy = old.busy;
+      absent = old.absent;
+      present = old.present;
+      held = old.held;
+      stored = old.stored;
+      filled = more (IsFull s') (s.views p).filled x old.filled (presence_of c, here);
+      named = inr own;
+    } in
+    moved b s s' p (filled (s.views p) x) kept g sound mine (λ q t ne h. h) (λ q t ne h. h) (kept.held p)
+
+-- ---- views of passes that hold nothing
+
+true_copied : (b : Batch) (s : State) (p q : ℕ) (v : View) → v.held ≡ None → IsTrueOf b s p v → IsTrueOf b s q v
+true_copied b s p q v free k = record { done = k.done; busy = k.busy; absent = k.absent; present = k.present; held = λ t h. let no : None ≡ Some t = sym free ∙ h in absurd cc; stored = k.stored; filled = k.filled; named = k.named }
+
+true_joined : (b : Batch) (s : State) (p q : ℕ) (v w : View) → v.right ≡ rights_of b → IsTrueOf b s p v → IsTrueOf b s q w → IsTrueOf b s p (joined v w)
+true_joined b s p q v w own k j = record {
+  done = both (λ t. (o : Outcome) × (s.positions t ≡ Done o)) v.done w.done k.done j.done;
+  busy = both (λ t. s.positions t ≢ Open) v.busy w.busy k.busy j.busy;
+  absent = both (λ x. s.presences x ≡ Some Absent) v.absent w.absent k.absent j.absent;
+  present = both (λ x. s.presences x ≡ Some Present) v.present w.present k.present j.present;
+  held = k.held;
+  stored = k.stored;
+  filled = k.filled;
+  named = inr own;
+}
+
+-- ---- all events
+
+pub keeps : (b : Batch) (s : State) (e : Event) → IsInvariant b s → IsAllowed b s e → IsInvariant b (next s e)
+keeps b s (LookPresence p x answer) kept (own, may) = relearnt b s p (learnt (s.views p) x answer) kept (true_learnt b s p (s.views p) x answer may.1 own (kept.each p)) (held_learnt (s.views p) x answer)
+keeps b s (LookValue p x answer) kept (own, may) = kept
+keeps b s (Status p t answer) kept (own, may) = relearnt b s p (saw (s.views p) t answer) kept (true_saw b s p (s.views p) t answer may.2 own (kept.each p)) (held_saw (s.views p) t answer)
+keeps b s (Claim p t won.Mine) kept (own, may) = claim_keeps b s p t kept own may.0 may.1 (won_mine (s.positions t) may.2)
+keeps b s (Claim p t won.Busy) kept (own, may) = relearnt b s p (saw (s.views p) t seen.Busy) kept (true_saw b s p (s.views p) t seen.Busy may.2 own (kept.each p)) refl
+keeps b s (Claim p t won.Done) kept (own, may) = relearnt b s p (saw (s.views p) t seen.Done) kept (true_saw b s p (s.views p) t seen.Done may.2 own (kept.each p)) refl
+keeps b s (FillValue p x z) kept (own, may) = value_keeps b s p x z kept own may.0
+keeps b s (FillPresence p x c) kept (own, may) = presence_keeps b s p x c kept own may.0 may.1
+keeps b s (Finish p t o) kept (own, may) = finish_keeps b s p t o kept own may
+keeps b s (Split p q) kept (own, may) = relearnt b s q (s.views p) kept (true_copied b s p q (s.views p) may.0 (kept.each p)) (may.0 ∙ sym (ap (λ (v : View). v.held) may.1))
+keeps b s (Join p q) kept (own, may) =
+    let v' : View = joined (s.views p) (s.views q) in
+    let s' : State = record s { views = put s.views p v' } in
+    relearnt b s' q spent (relearnt b s p v' kept (true_joined b s p q (s.views p) (s.views q) own (kept.each p) (kept.each q)) refl) (true_of_newcomer b s' q spent.right (inl refl))
+    (sym (put_cases (λ (w : View). w.held ≡ None) s.views p v' q (λ e. absurd (may.0 e)) (λ _. may.2)))
+
+seen_on : (b : Batch) (s s' : State) (views : ℕ → View) → Grows b s s' → Grows b s (record s' { views = views })
+seen_on b s s' views g = record { done = g.done; busy = g.busy; filled = g.filled; stored = g.stored }
+
+pub grows : (b : Batch) (s : State) (e : Event) → IsInvariant b s → IsAllowed b s e → Grows b s (next s e)
+grows b s (LookPresence p x answer) kept may = still b s (put s.views p (learnt (s.views p) x answer))
+grows b s (LookValue p x answer) kept may = still b s s.views
+grows b s (Status p t answer) kept may = still b s (put s.views p (saw (s.views p) t answer))
+grows b s (Claim p t won.Mine) kept may = seen_on b s (turned b s t (Claimed p) (claimed_not_open p)) (put s.views p (claimed (s.views p) t seen.Open)) (claim_grows b s p t (won_mine (s.positions t) may.1.2))
+grows b s (Claim p t won.Busy) kept may = still b s (put s.views p (saw (s.views p) t seen.Busy))
+grows b s (Claim p t won.Done) kept may = still b s (put s.views p (saw (s.views p) t seen.Done))
+grows b s (FillValue p x z) kept may = seen_on b s (record s { values = put_slot s.values x z }) (put s.views p (stored (s.views p) x)) (value_grows b s x z (fill_right b s p x (cells.Present z) kept may.1.0))
+grows b s (FillPresence p x c) kept may = seen_on b s (record s { presences = put_slot s.presences x (Some (presence_of c)) }) (put s.views p (filled (s.views p) x)) (presence_grows b s x c kept.sound (fill_right b s p x c kept may.1.0))
+grows b s (Finish p t o) kept may = seen_on b s (turned b s t (Done o) (done_not_open o)) (put s.views p (finished (s.views p) t)) (finish_grows b s p t o ((kept.each p).held t may.1.holds))
+grows b s (Split p q) kept may = still b s (put s.views q (s.views p))
+grows b s (Join p q) kept may = still b s (put (put s.views p (joined (s.views p) (s.views q))) q spent)

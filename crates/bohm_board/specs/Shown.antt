@@ -1,0 +1,65 @@
+-- How the words and views of a table show a state of the core, and the rule of a board's table.
+use Rattle.std.specs.Prelude.{◌≡◌, ◌≢◌, ◌≤◌, ℕ, List, ◌++◌, length, slice_index}
+use Rattle.std.specs.List.{slice_index_or}
+use Rattle.atomic_table.specs.Table.{State as Table}
+use Rattle.bohm_tree.specs.declared.cell.Cell.{Cell}
+use Rattle.bohm_board.specs.declared.batch.Batch.{Batch}
+use Rattle.bohm_board.specs.declared.columns.Columns.{Columns}
+use Rattle.bohm_board.specs.declared.slot.Slot.{Slot}
+use Rattle.bohm_board.specs.declared.view.Rights.{Rights}
+use Rattle.bohm_board.specs.declared.view.View.{View}
+use Rattle.bohm_board.specs.Batches.{rights_of, position, number, IsIn, IsSlot, IsRightCell, IsRightOutcome}
+use Rattle.bohm_board.specs.Core.{State}
+use Rattle.bohm_board.specs.Events.{Event, IsAllowed, Reached, next}
+use Rattle.bohm_board.specs.Views.{newcomer}
+use Rattle.bohm_board.specs.Words.{progress_word, presence_word, filled_word, value_at, present_at, outcome_at}
+
+-- a status word for each position, and a presence and a value word for each slot
+pub record Words : Type 0 where
+  pub statuses : List ℕ
+  pub presences : List ℕ
+  pub values : List ℕ
+
+-- how they lie in one list
+abbrev pub in_line : Words → List ℕ
+in_line w = w.statuses ++ (w.presences ++ w.values)
+
+abbrev pub words_of : Columns → Words
+words_of c = record { statuses = c.statuses.items; presences = c.presences.items; values = c.values.items }
+
+pub record IsSized (r : Rights) (w : Words) : Type 0 where
+  pub statuses : length w.statuses ≡ length r.outcomes
+  pub presences : length w.presences ≡ length r.slots
+  pub values : length w.values ≡ length r.slots
+
+-- each status word is that of its position, each presence word that of its slot, and each value word has its slot's value
+pub record AreShown (b : Batch) (w : Words) (s : State) : Type 0 where
+  pub sized : IsSized (rights_of b) w
+  pub positions : (t : ℕ) → IsIn b t → slice_index w.statuses (position b t) ≡ progress_word (s.positions t)
+  pub presences : (x : Slot) → IsSlot b x → slice_index w.presences (number b x) ≡ presence_word (s.presences x)
+  pub values : (x : Slot) → IsSlot b x → value_at (slice_index w.values (number b x)) ≡ s.values x
+
+-- the table shows the state: the view of each pass, by its number, and a newcomer's where there is no such pass yet
+pub record Shows (b : Batch) (t : Table (Unit {0}) View) (s : State) : Type 0 where
+  pub words : Words
+  pub line : t.words ≡ in_line words
+  pub shown : AreShown b words s
+  pub views : (p : ℕ) → s.views p ≡ slice_index_or t.views p (newcomer (rights_of b))
+
+-- the rule: the words and views show a state that events of the core have led to from the empty board
+pub record IsRuled (b : Batch) (t : Table (Unit {0}) View) : Type 0 where
+  pub state : State
+  pub shows : Shows b t state
+  pub reached : Reached b state
+
+-- a step that leads from a table that shows the state to this one is the event: it is allowed there, and the table shows what it leaves
+pub record IsStep (b : Batch) (s : State) (e : Event) (after : Table (Unit {0}) View) : Type 0 where
+  pub allowed : IsAllowed b s e
+  pub shows : Shows b after (next s e)
+
+-- of words that no table has any more: each outcome and cell that is there is right, and where a position has an outcome all its cells are there
+pub record AreSound (b : Batch) (w : Words) : Type 0 where
+  pub outcomes : (t : ℕ) → IsIn b t → 2 ≤ slice_index w.statuses (position b t) → IsRightOutcome b t (outcome_at (slice_index w.statuses (position b t)))
+  pub presences : (x : Slot) (c : Cell) → IsSlot b x → IsRightCell b x c → slice_index w.presences (number b x) ≢ 0 → slice_index w.presences (number b x) ≡ filled_word c
+  pub values : (x : Slot) → IsSlot b x → slice_index w.presences (number b x) ≡ 2 → IsRightCell b x (present_at (slice_index w.values (number b x)))
+  pub whole : (x : Slot) → IsSlot b x → 2 ≤ slice_index w.statuses (position b x.txn) → slice_index w.presences (number b x) ≢ 0
