@@ -2,7 +2,6 @@
 use Rattle.std.proofs.Common.{◌≡◌, ℕ, ◌+◌, ◌<◌, ◌≤◌, List, [], ◌∷◌, ◌++◌, length, Bool, true, false, Option, None, Some, refl, sym, ap, ◌∙◌, subst, ⊎_elim, inl, inr, arith}
 use Rattle.std.specs.Prelude.{Contains, ◌⊎◌, if◌then◌else◌, unwrap_or}
 use Rattle.std.specs.Option.{option_map}
-use Rattle.std.specs.List.{slice_get}
 use Rattle.std.proofs.lemmas.List.Elements.{Contains-append_cases, Contains-append_left, Contains-append_right, Contains-push, Contains-push_cases}
 use Rattle.std.proofs.lemmas.Option.{slice_get_within, get_or_from_slice_get}
 use mathlib.Core.Logic.{dite}
@@ -15,14 +14,13 @@ use Rattle.bohm_txn.specs.Sure.{is_sure}
 use Rattle.bohm_place.specs.declared.access.Access.{Access}
 use Rattle.bohm_board.specs.declared.batch.Batch.{Batch}
 use Rattle.bohm_board.specs.declared.slot.Slot.{Slot}
-use Rattle.bohm_board.specs.declared.view.Rights.{Rights}
 use Rattle.bohm_board.specs.declared.view.View.{View}
-use Rattle.bohm_board.specs.Batches.{position, number, rights_of, txns_of, txn_at, IsIn, IsSlot, reads_at, writes_at, is_sure_at, slot_in}
-use Rattle.bohm_board.specs.Passes.{IsDone, KnowsWanted}
-use Rattle.bohm_board.specs.Views.{Knows, looked, filled_with, IsUnseen}
+use Rattle.bohm_board.specs.Batches.{position, txns_of, txn_at, IsIn, reads_at, writes_at, is_sure_at, slot_in}
+use Rattle.bohm_board.specs.Passes.{KnowsWanted}
+use Rattle.bohm_board.specs.Views.{Knows, looked, filled_with}
 use Rattle.bohm_board.proofs.Keeping.{keeps_same, keeps_then, keeps_looked}
 use Rattle.bohm_board.proofs.Newest.{formed_at}
-use Rattle.bohm_board.proofs.Numbers.{right_at, txn_there}
+use Rattle.bohm_board.proofs.Numbers.{txn_there}
 use Rattle.bohm_board.proofs.Wanted.{reads_paired, writes_paired}
 use Rattle.bohm_place.specs.declared.declared_set.DeclaredSet.{DeclaredSet}
 use Rattle.bohm_place.specs.declared.declared_set.DeclaredSet.TheVariants.{Reads, Writes}

@@ -1,4 +1,4 @@
-use Rattle.std.proofs.Common.{ℕ, ◌+◌, List, [], arith, sym, subst}
+use Rattle.std.proofs.Common.{List, [], arith, sym, subst}
 use Rattle.std.specs.Prelude.{Contains}
 use Rattle.bohm_board.specs.declared.slot.Slot.{Slot}
 use Rattle.bohm_board.specs.Passes.{batch_of, view}
