@@ -274,21 +274,21 @@ true_joined b s p q v w own k j = record {
 -- ---- all events
 
 pub keeps : (b : Batch) (s : State) (e : Event) → IsInvariant b s → IsAllowed b s e → IsInvariant b (next s e)
-keeps b s (LookPresence p x answer) kept (own, may) = relearnt b s p (learnt (s.views p) x answer) kept (true_learnt b s p (s.views p) x answer may.1 own (kept.each p)) (held_learnt (s.views p) x answer)
-keeps b s (LookValue p x answer) kept (own, may) = kept
-keeps b s (Status p t answer) kept (own, may) = relearnt b s p (saw (s.views p) t answer) kept (true_saw b s p (s.views p) t answer may.2 own (kept.each p)) (held_saw (s.views p) t answer)
-keeps b s (Claim p t won.Mine) kept (own, may) = claim_keeps b s p t kept own may.0 may.1 (won_mine (s.positions t) may.2)
-keeps b s (Claim p t won.Busy) kept (own, may) = relearnt b s p (saw (s.views p) t seen.Busy) kept (true_saw b s p (s.views p) t seen.Busy may.2 own (kept.each p)) refl
-keeps b s (Claim p t won.Done) kept (own, may) = relearnt b s p (saw (s.views p) t seen.Done) kept (true_saw b s p (s.views p) t seen.Done may.2 own (kept.each p)) refl
-keeps b s (FillValue p x z) kept (own, may) = value_keeps b s p x z kept own may.0
-keeps b s (FillPresence p x c) kept (own, may) = presence_keeps b s p x c kept own may.0 may.1
-keeps b s (Finish p t o) kept (own, may) = finish_keeps b s p t o kept own may
-keeps b s (Split p q) kept (own, may) = relearnt b s q (s.views p) kept (true_copied b s p q (s.views p) may.0 (kept.each p)) (may.0 ∙ sym (ap (λ (v : View). v.held) may.1))
-keeps b s (Join p q) kept (own, may) =
+keeps b s (LookPresence p x answer) kept may = relearnt b s p (learnt (s.views p) x answer) kept (true_learnt b s p (s.views p) x answer may.2 may.0 (kept.each p)) (held_learnt (s.views p) x answer)
+keeps b s (LookValue p x answer) kept may = kept
+keeps b s (Status p t answer) kept may = relearnt b s p (saw (s.views p) t answer) kept (true_saw b s p (s.views p) t answer may.3 may.0 (kept.each p)) (held_saw (s.views p) t answer)
+keeps b s (Claim p t won.Mine) kept may = claim_keeps b s p t kept may.0 may.1 may.2 (won_mine (s.positions t) may.3)
+keeps b s (Claim p t won.Busy) kept may = relearnt b s p (saw (s.views p) t seen.Busy) kept (true_saw b s p (s.views p) t seen.Busy may.3 may.0 (kept.each p)) refl
+keeps b s (Claim p t won.Done) kept may = relearnt b s p (saw (s.views p) t seen.Done) kept (true_saw b s p (s.views p) t seen.Done may.3 may.0 (kept.each p)) refl
+keeps b s (FillValue p x z) kept may = value_keeps b s p x z kept may.0 may.1
+keeps b s (FillPresence p x c) kept may = presence_keeps b s p x c kept may.0 may.1 may.2
+keeps b s (Finish p t o) kept may = finish_keeps b s p t o kept may.0 may.1
+keeps b s (Split p q) kept may = relearnt b s q (s.views p) kept (true_copied b s p q (s.views p) may.1 (kept.each p)) (may.1 ∙ sym (ap (λ (v : View). v.held) may.2))
+keeps b s (Join p q) kept may =
     let v' : View = joined (s.views p) (s.views q) in
     let s' : State = record s { views = put s.views p v' } in
-    relearnt b s' q spent (relearnt b s p v' kept (true_joined b s p q (s.views p) (s.views q) own (kept.each p) (kept.each q)) refl) (true_of_newcomer b s' q spent.right (inl refl))
-    (sym (put_cases (λ (w : View). w.held ≡ None) s.views p v' q (λ e. absurd (may.0 e)) (λ _. may.2)))
+    relearnt b s' q spent (relearnt b s p v' kept (true_joined b s p q (s.views p) (s.views q) may.0 (kept.each p) (kept.each q)) refl) (true_of_newcomer b s' q spent.right (inl refl))
+    (sym (put_cases (λ (w : View). w.held ≡ None) s.views p v' q (λ e. absurd (may.1 e)) (λ _. may.3)))
 
 seen_on : (b : Batch) (s s' : State) (views : ℕ → View) → Grows b s s' → Grows b s (record s' { views = views })
 seen_on b s s' views g = record { done = g.done; busy = g.busy; filled = g.filled; stored = g.stored }
@@ -297,11 +297,11 @@ pub grows : (b : Batch) (s : State) (e : Event) → IsInvariant b s → IsAllowe
 grows b s (LookPresence p x answer) kept may = still b s (put s.views p (learnt (s.views p) x answer))
 grows b s (LookValue p x answer) kept may = still b s s.views
 grows b s (Status p t answer) kept may = still b s (put s.views p (saw (s.views p) t answer))
-grows b s (Claim p t won.Mine) kept may = seen_on b s (turned b s t (Claimed p) (claimed_not_open p)) (put s.views p (claimed (s.views p) t seen.Open)) (claim_grows b s p t (won_mine (s.positions t) may.1.2))
+grows b s (Claim p t won.Mine) kept may = seen_on b s (turned b s t (Claimed p) (claimed_not_open p)) (put s.views p (claimed (s.views p) t seen.Open)) (claim_grows b s p t (won_mine (s.positions t) may.3))
 grows b s (Claim p t won.Busy) kept may = still b s (put s.views p (saw (s.views p) t seen.Busy))
 grows b s (Claim p t won.Done) kept may = still b s (put s.views p (saw (s.views p) t seen.Done))
-grows b s (FillValue p x z) kept may = seen_on b s (record s { values = put_slot s.values x z }) (put s.views p (stored (s.views p) x)) (value_grows b s x z (fill_right b s p x (cells.Present z) kept may.1.0))
-grows b s (FillPresence p x c) kept may = seen_on b s (record s { presences = put_slot s.presences x (Some (presence_of c)) }) (put s.views p (filled (s.views p) x)) (presence_grows b s x c kept.sound (fill_right b s p x c kept may.1.0))
+grows b s (FillValue p x z) kept may = seen_on b s (record s { values = put_slot s.values x z }) (put s.views p (stored (s.views p) x)) (value_grows b s x z (fill_right b s p x (cells.Present z) kept may.1))
+grows b s (FillPresence p x c) kept may = seen_on b s (record s { presences = put_slot s.presences x (Some (presence_of c)) }) (put s.views p (filled (s.views p) x)) (presence_grows b s x c kept.sound (fill_right b s p x c kept may.1))
 grows b s (Finish p t o) kept may = seen_on b s (turned b s t (Done o) (done_not_open o)) (put s.views p (finished (s.views p) t)) (finish_grows b s p t o ((kept.each p).held t may.1.holds))
 grows b s (Split p q) kept may = still b s (put s.views q (s.views p))
 grows b s (Join p q) kept may = still b s (put (put s.views p (joined (s.views p) (s.views q))) q spent)

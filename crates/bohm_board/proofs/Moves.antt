@@ -21,9 +21,9 @@ use Rattle.bohm_board.specs.declared.status.Claimed.TheVariants as won
 use Rattle.bohm_board.specs.declared.view.Rights.{Rights}
 use Rattle.bohm_board.specs.declared.view.View.{View}
 use Rattle.bohm_board.specs.Batches.{position, number, timestamp, slot_numbered, right_cell, rights_of, IsIn, IsSlot, IsRightCell, IsRightOutcome}
-use Rattle.bohm_board.specs.Core.{Progress, Open, Claimed, Done, State, empty}
+use Rattle.bohm_board.specs.Core.{Progress, Open, Claimed, Done, State, HasWanted, empty}
 use Rattle.bohm_board.specs.Events.{Event, LookPresence, LookValue, Status, Claim, FillValue, FillPresence, Finish, Split, Join, MayFill, put, seen_as, seeing, next}
-use Rattle.bohm_board.specs.Shown.{Words, in_line, Shows, IsRuled, IsStep}
+use Rattle.bohm_board.specs.Shown.{Words, in_line, Shows, IsRuled, IsBefore, IsStep, stepped_to, presence_place, value_place}
 use Rattle.bohm_board.specs.Steps.{MeetsStatus, MeetsClaim, MeetsFinish, MeetsPresence, MeetsValue, MeetsStore, MeetsFill, IsFillable}
 use Rattle.bohm_board.specs.Views.{Presence, Absent, Present, presence_of, newcomer, spent, saw, claimed, learnt, stored, filled, finished, joined, Holds, HoldsNothing, HasStored, KnowsWanted, HasFilledAll, Recalls, IsUnseen}
 use Rattle.bohm_board.specs.Words.{status_of, won_at, found_by, word_of, stmt_of, outcome_in, outcome_at, progress_word, presence_word, presence_at, filled_word, value_at, present_at}
@@ -82,22 +82,22 @@ outcome_back (Abort reasons.Range s) few = let d : (1000 * 4 + s) / 1000 ≡ 4 =
 
 -- ---- each step is the event of its name
 
-module _ (b : Batch) (t : T) (s : State) (shows : Shows b t s) (p : ℕ) (v : View) (at : get_elem? t.views p ≡ some v) (own : v.right ≡ rights_of b) (c : List (ℕ × Unit {0})) where
+module _ (b : Batch) (t : T) (s : State) (p : ℕ) (v : View) (here : IsBefore b t s p v) where
   pub mine : s.views p ≡ v
-  mine = shows.views p ∙ (found_at t.views p v (newcomer (rights_of b)) at).1
+  mine = here.shows.views p ∙ (found_at t.views p v (newcomer (rights_of b)) here.view).1
 
   named : (s.views p).right ≡ rights_of b
-  named = ap (λ (w : View). w.right) mine ∙ own
+  named = ap (λ (w : View). w.right) mine ∙ here.right
 
   views_put : (f : View → View) (q : ℕ) → put s.views p (f (s.views p)) q ≡ get_or (set t.views p (f v)) q (newcomer (rights_of b))
-  views_put f = view_put (newcomer (rights_of b)) t.views s.views p v (f (s.views p)) (f v) shows.views at (ap f mine)
+  views_put f = view_put (newcomer (rights_of b)) t.views s.views p v (f (s.views p)) (f v) here.shows.views here.view (ap f mine)
 
   -- a load
-  read : (i n : ℕ) (f : View → View) → n ≡ get_or t.words i 0 → Shows b (stepped t i n p c (f v) keeps) (seeing s p (f (s.views p)))
+  read : (i n : ℕ) (f : View → View) → n ≡ get_or t.words i 0 → Shows b (stepped_to t i n p (f v)) (seeing s p (f (s.views p)))
   read i n f e = record {
-    words = shows.words;
-    line = ap (λ (z : ℕ). set t.words i z) e ∙ (set-get_or t.words i 0 ∙ shows.line);
-    shown = same_shown b shows.words s (put s.views p (f (s.views p))) shows.shown;
+    words = here.shows.words;
+    line = ap (λ (z : ℕ). set t.words i z) e ∙ (set-get_or t.words i 0 ∙ here.shows.line);
+    shown = same_shown b here.shows.words s (put s.views p (f (s.views p))) here.shows.shown;
     views = views_put f;
   }
 
@@ -105,48 +105,47 @@ module _ (b : Batch) (t : T) (s : State) (shows : Shows b t s) (p : ℕ) (v : Vi
 
   pub status_word : (u i : ℕ) → IsIn b u → i ≡ position b u → get_or t.words i 0 ≡ progress_word (s.positions u)
   status_word u i is e =
-      let long = shows.shown.sized.statuses in
-      let inside : position b u < length shows.words.statuses = omega (arith, position_inside b u is, outcomes_long b) in
-      (λ d. get_or (shows.line d) (e d) 0) ∙ (status_in shows.words (position b u) inside ∙ shows.shown.positions u is)
+      let long = here.shows.shown.sized.statuses in
+      let inside : position b u < length here.shows.words.statuses = omega (arith, position_inside b u is, outcomes_long b) in
+      (λ d. get_or (here.shows.line d) (e d) 0) ∙ (status_in here.shows.words (position b u) inside ∙ here.shows.shown.positions u is)
 
-  put_status : (u i : ℕ) (o : Progress) (f : View → View) → IsIn b u → i ≡ position b u → Shows b (stepped t i (progress_word o) p c (f v) keeps) (record s { positions = put s.positions u o; views = put s.views p (f (s.views p)) })
+  put_status : (u i : ℕ) (o : Progress) (f : View → View) → IsIn b u → i ≡ position b u → Shows b (stepped_to t i (progress_word o) p (f v)) (record s { positions = put s.positions u o; views = put s.views p (f (s.views p)) })
   put_status u i o f is e =
-      let long = shows.shown.sized.statuses in
-      let inside : position b u < length shows.words.statuses = omega (arith, position_inside b u is, outcomes_long b) in record {
-        words = record shows.words { statuses = set shows.words.statuses (position b u) (progress_word o) };
-        line = (λ d. set (shows.line d) (e d) (progress_word o)) ∙ status_put shows.words (position b u) (progress_word o) inside;
-        shown = status_shown b shows.words s (put s.views p (f (s.views p))) u o is shows.shown;
+      let long = here.shows.shown.sized.statuses in
+      let inside : position b u < length here.shows.words.statuses = omega (arith, position_inside b u is, outcomes_long b) in record {
+        words = record here.shows.words { statuses = set here.shows.words.statuses (position b u) (progress_word o) };
+        line = (λ d. set (here.shows.line d) (e d) (progress_word o)) ∙ status_put here.shows.words (position b u) (progress_word o) inside;
+        shown = status_shown b here.shows.words s (put s.views p (f (s.views p))) u o is here.shows.shown;
         views = views_put f;
       }
 
-  pub status_step : (u i : ℕ) → IsIn b u → i ≡ position b u → ¬ Holds b v u
-      → IsStep b s (Status p u (status_of (get_or t.words i 0))) (stepped t i (get_or t.words i 0) p c (saw v u (status_of (get_or t.words i 0))) keeps)
-  status_step u i is e apart = record {
-    allowed = (named, (is, (λ h. apart (sym (ap (λ (w : View). w.held) mine) ∙ h)), ap status_of (status_word u i is e) ∙ seen_word (s.positions u)));
-    shows = read i (get_or t.words i 0) (λ w. saw w u (status_of (get_or t.words i 0))) refl;
+  pub status_step : (u i n : ℕ) → IsIn b u → i ≡ position b u → n ≡ get_or t.words i 0 → ¬ Holds b v u → IsStep b s (Status p u (status_of n)) (stepped_to t i n p (saw v u (status_of n)))
+  status_step u i n is e found apart = record {
+    allowed = (named, is, (λ h. apart (sym (ap (λ (w : View). w.held) mine) ∙ h)), ap status_of (found ∙ status_word u i is e) ∙ seen_word (s.positions u));
+    shows = read i n (λ w. saw w u (status_of n)) found;
   }
 
-  claim_shows : (u i n : ℕ) → IsIn b u → i ≡ position b u → n ≡ get_or t.words i 0 → Shows b (stepped t i (either (eqb n 0) 1 n) p c (claimed v u (status_of n)) keeps) (next s (Claim p u (won_at n)))
+  claim_shows : (u i n : ℕ) → IsIn b u → i ≡ position b u → n ≡ get_or t.words i 0 → Shows b (stepped_to t i (either (eqb n 0) 1 n) p (claimed v u (status_of n))) (next s (Claim p u (won_at n)))
   claim_shows u i zero is e found = put_status u i (Claimed p) (λ w. claimed w u seen.Open) is e
   claim_shows u i (suc zero) is e found = read i 1 (λ w. claimed w u seen.Busy) found
-  claim_shows u i (suc (suc n)) is e found = exchanged (suc (suc n)) 0 1 (λ z. Shows b (stepped t i z p c (claimed v u seen.Done) keeps) (next s (Claim p u won.Done)))
+  claim_shows u i (suc (suc n)) is e found = exchanged (suc (suc n)) 0 1 (λ z. Shows b (stepped_to t i z p (claimed v u seen.Done)) (next s (Claim p u won.Done)))
       (λ none. absurd (omega arith)) (λ _. read i (suc (suc n)) (λ w. claimed w u seen.Done) found)
 
-  pub claim_step : (u i : ℕ) → IsIn b u → i ≡ position b u → HoldsNothing v
-      → IsStep b s (Claim p u (won_at (get_or t.words i 0))) (stepped t i (either (eqb (get_or t.words i 0) 0) 1 (get_or t.words i 0)) p c (claimed v u (status_of (get_or t.words i 0))) keeps)
-  claim_step u i is e free = record {
-    allowed = (named, (is, ap (λ (w : View). w.held) mine ∙ free, found_word (get_or t.words i 0) ∙ (ap status_of (status_word u i is e) ∙ seen_word (s.positions u))));
-    shows = claim_shows u i (get_or t.words i 0) is e refl;
+  pub claim_step : (u i n : ℕ) → IsIn b u → i ≡ position b u → n ≡ get_or t.words i 0 → HoldsNothing v → IsStep b s (Claim p u (won_at n)) (stepped_to t i (either (eqb n 0) 1 n) p (claimed v u (status_of n)))
+  claim_step u i n is e found free = record {
+    allowed = (named, is, ap (λ (w : View). w.held) mine ∙ free, found_word n ∙ (ap status_of (found ∙ status_word u i is e) ∙ seen_word (s.positions u)));
+    shows = claim_shows u i n is e found;
   }
 
-  wanted : (kept : IsInvariant b s) (u : ℕ) → KnowsWanted b v u → KnowsWanted b (s.views p) u
-  wanted kept u knows = subst (λ (w : View). KnowsWanted b w u) (sym mine) knows
+  kept : IsInvariant b s
+  kept = reached_kept b s here.reached
 
-  pub finish_step : (u i : ℕ) (o : Outcome) → IsInvariant b s → IsIn b u → i ≡ position b u → Holds b v u → HasFilledAll b v u → KnowsWanted b v u → IsRightOutcome b u o
-      → IsStep b s (Finish p u o) (stepped t i (word_of o) p c (finished v u) keeps)
-  finish_step u i o kept is e holds all knows right =
-      let k = kept.each p in
-      let want = wanted kept u knows in record {
+  filled_for : (u : ℕ) → KnowsWanted b (s.views p) u → HasWanted b s u
+  filled_for u = wanted_filled b s u (s.views p) (kept.each p).absent (kept.each p).present
+
+  pub finish_step : (u i : ℕ) (o : Outcome) → IsIn b u → i ≡ position b u → Holds b v u → HasFilledAll b v u → KnowsWanted b v u → IsRightOutcome b u o → IsStep b s (Finish p u o) (stepped_to t i (word_of o) p (finished v u))
+  finish_step u i o is e holds all knows right =
+      let want = subst (λ (w : View). KnowsWanted b w u) (sym mine) knows in record {
         allowed = (
           named,
           record {
@@ -154,7 +153,7 @@ module _ (b : Batch) (t : T) (s : State) (shows : Shows b t s) (p : ℕ) (v : Vi
             holds = ap (λ (w : View). w.held) mine ∙ holds;
             filled = subst (λ (w : View). HasFilledAll b w u) (sym mine) all;
             wanted = want;
-            outcome = outcome_is_right b s u kept.sound is (wanted_filled b s u (s.views p) k.absent k.present want) ∙ right;
+            outcome = outcome_is_right b s u kept.sound is (filled_for u want) ∙ right;
           },
         );
         shows = put_status u i (Done o) (λ w. finished w u) is e;
@@ -162,67 +161,64 @@ module _ (b : Batch) (t : T) (s : State) (shows : Shows b t s) (p : ℕ) (v : Vi
 
   -- ---- the words of a slot
 
-  pub presence_is : (x : Slot) (i : ℕ) → IsSlot b x → i ≡ length (rights_of b).outcomes + number b x → get_or t.words i 0 ≡ presence_word (s.presences x)
+  pub presence_is : (x : Slot) (i : ℕ) → IsSlot b x → i ≡ presence_place b x → get_or t.words i 0 ≡ presence_word (s.presences x)
   presence_is x i is e =
-      let long = shows.shown.sized.presences in
-      let inside : number b x < length shows.words.presences = omega (arith, number_inside b x is) in
-      (λ d. get_or (shows.line d) (e d) 0) ∙ (presence_in shows.words (length (rights_of b).outcomes) (number b x) shows.shown.sized.statuses inside ∙ shows.shown.presences x is)
+      let long = here.shows.shown.sized.presences in
+      let inside : number b x < length here.shows.words.presences = omega (arith, number_inside b x is) in
+      (λ d. get_or (here.shows.line d) (e d) 0) ∙ (presence_in here.shows.words (length (rights_of b).outcomes) (number b x) here.shows.shown.sized.statuses inside ∙ here.shows.shown.presences x is)
 
-  pub value_is : (x : Slot) (i : ℕ) → IsSlot b x → i ≡ length (rights_of b).outcomes + (length (rights_of b).slots + number b x) → value_at (get_or t.words i 0) ≡ s.values x
+  pub value_is : (x : Slot) (i : ℕ) → IsSlot b x → i ≡ value_place b x → value_at (get_or t.words i 0) ≡ s.values x
   value_is x i is e =
-      ap value_at ((λ d. get_or (shows.line d) (e d) 0) ∙ value_in shows.words (length (rights_of b).outcomes) (length (rights_of b).slots) (number b x) shows.shown.sized.statuses shows.shown.sized.presences) ∙ shows.shown.values x is
+      ap value_at ((λ d. get_or (here.shows.line d) (e d) 0) ∙ value_in here.shows.words (length (rights_of b).outcomes) (length (rights_of b).slots) (number b x) here.shows.shown.sized.statuses here.shows.shown.sized.presences) ∙ here.shows.shown.values x is
 
-  pub presence_step : (x : Slot) (i : ℕ) → IsSlot b x → i ≡ length (rights_of b).outcomes + number b x
-      → IsStep b s (LookPresence p x (presence_at (get_or t.words i 0))) (stepped t i (get_or t.words i 0) p c (learnt v x (presence_at (get_or t.words i 0))) keeps)
-  presence_step x i is e = record {
-    allowed = (named, (is, ap presence_at (presence_is x i is e) ∙ seen_presence (s.presences x)));
-    shows = read i (get_or t.words i 0) (λ w. learnt w x (presence_at (get_or t.words i 0))) refl;
+  pub presence_step : (x : Slot) (i n : ℕ) → IsSlot b x → i ≡ presence_place b x → n ≡ get_or t.words i 0 → IsStep b s (LookPresence p x (presence_at n)) (stepped_to t i n p (learnt v x (presence_at n)))
+  presence_step x i n is e found = record {
+    allowed = (named, is, ap presence_at (found ∙ presence_is x i is e) ∙ seen_presence (s.presences x));
+    shows = read i n (λ w. learnt w x (presence_at n)) found;
   }
 
   same_view : (f : ℕ → View) → f p ≡ v → ((q : ℕ) → f q ≡ get_or t.views q (newcomer (rights_of b))) → (q : ℕ) → f q ≡ get_or (set t.views p v) q (newcomer (rights_of b))
-  same_view f here all q = put_cases (λ w. w ≡ get_or (set t.views p v) q (newcomer (rights_of b)) → f q ≡ get_or (set t.views p v) q (newcomer (rights_of b))) f p v q
-      (λ e h. ap f e ∙ (here ∙ h)) (λ ne h. h) (view_put (newcomer (rights_of b)) t.views f p v v v all at refl q)
+  same_view f mine_is all q = put_cases (λ w. w ≡ get_or (set t.views p v) q (newcomer (rights_of b)) → f q ≡ get_or (set t.views p v) q (newcomer (rights_of b))) f p v q
+      (λ e h. ap f e ∙ (mine_is ∙ h)) (λ ne h. h) (view_put (newcomer (rights_of b)) t.views f p v v v all here.view refl q)
 
-  pub value_step : (x : Slot) (i : ℕ) → IsSlot b x → i ≡ length (rights_of b).outcomes + (length (rights_of b).slots + number b x) → Contains v.present x
-      → IsStep b s (LookValue p x (value_at (get_or t.words i 0))) (stepped t i (get_or t.words i 0) p c v keeps)
-  value_step x i is e known = record {
-    allowed = (named, (subst (λ (w : View). Contains w.present x) (sym mine) known, value_is x i is e));
-    shows = record { words = shows.words; line = set-get_or t.words i 0 ∙ shows.line; shown = shows.shown; views = same_view s.views mine shows.views };
+  pub value_step : (x : Slot) (i n : ℕ) → IsSlot b x → i ≡ value_place b x → n ≡ get_or t.words i 0 → Contains v.present x → IsStep b s (LookValue p x (value_at n)) (stepped_to t i n p v)
+  value_step x i n is e found known = record {
+    allowed = (named, subst (λ (w : View). Contains w.present x) (sym mine) known, ap value_at found ∙ value_is x i is e);
+    shows = record { words = here.shows.words; line = ap (λ (z : ℕ). set t.words i z) found ∙ (set-get_or t.words i 0 ∙ here.shows.line); shown = here.shows.shown; views = same_view s.views mine here.shows.views };
   }
 
-  may_fill : (x : Slot) (d : Cell) (kept : IsInvariant b s) (is : IsSlot b x) (may : IsFillable b v x) (right : IsRightCell b x d) → MayFill b s p x d
-  may_fill x d kept is may right =
-      let k = kept.each p in
-      let want = wanted kept x.txn may.wanted in record {
+  may_fill : (x : Slot) (d : Cell) → IsSlot b x → IsFillable b v x → IsRightCell b x d → MayFill b s p x d
+  may_fill x d is may right =
+      let want = subst (λ (w : View). KnowsWanted b w x.txn) (sym mine) may.wanted in record {
         slot = is;
         holds = ap (λ (w : View). w.held) mine ∙ may.holds;
         unfilled = subst (λ (w : View). ¬ Contains w.filled x) (sym mine) may.unfilled;
         wanted = want;
-        cell = cell_is_right b s x kept.sound is (wanted_filled b s x.txn (s.views p) k.absent k.present want) ∙ right;
+        cell = cell_is_right b s x kept.sound is (filled_for x.txn want) ∙ right;
       }
 
-  pub store_step : (x : Slot) (i n : ℕ) → IsInvariant b s → IsSlot b x → i ≡ length (rights_of b).outcomes + (length (rights_of b).slots + number b x) → IsFillable b v x → ¬ Contains v.stored x → IsRightCell b x (present_at n)
-      → IsStep b s (FillValue p x (value_at n)) (stepped t i n p c (stored v x) keeps)
-  store_step x i n kept is e may once right = record {
-    allowed = (named, (may_fill x (present_at n) kept is may right, subst (λ (w : View). ¬ Contains w.stored x) (sym mine) once));
+  pub store_step : (x : Slot) (i n : ℕ) → IsSlot b x → i ≡ value_place b x → IsFillable b v x → ¬ Contains v.stored x → IsRightCell b x (present_at n)
+      → IsStep b s (FillValue p x (value_at n)) (stepped_to t i n p (stored v x))
+  store_step x i n is e may once right = record {
+    allowed = (named, may_fill x (present_at n) is may right, subst (λ (w : View). ¬ Contains w.stored x) (sym mine) once);
     shows = record {
-      words = record shows.words { values = set shows.words.values (number b x) n };
-      line = (λ d. set (shows.line d) (e d) n) ∙ value_put shows.words (length (rights_of b).outcomes) (length (rights_of b).slots) (number b x) n shows.shown.sized.statuses shows.shown.sized.presences;
-      shown = value_shown b shows.words s (put s.views p (stored (s.views p) x)) x n is shows.shown;
+      words = record here.shows.words { values = set here.shows.words.values (number b x) n };
+      line = (λ d. set (here.shows.line d) (e d) n) ∙ value_put here.shows.words (length (rights_of b).outcomes) (length (rights_of b).slots) (number b x) n here.shows.shown.sized.statuses here.shows.shown.sized.presences;
+      shown = value_shown b here.shows.words s (put s.views p (stored (s.views p) x)) x n is here.shows.shown;
       views = views_put (λ w. stored w x);
     };
   }
 
-  pub fill_step : (x : Slot) (i : ℕ) (d : Cell) → IsInvariant b s → IsSlot b x → i ≡ length (rights_of b).outcomes + number b x → IsFillable b v x → HasStored v x d → IsRightCell b x d
-      → IsStep b s (FillPresence p x d) (stepped t i (filled_word d) p c (filled v x) keeps)
-  fill_step x i d kept is e may has right =
-      let long = shows.shown.sized.presences in
-      let inside : number b x < length shows.words.presences = omega (arith, number_inside b x is) in record {
-        allowed = (named, (may_fill x d kept is may right, subst (λ (w : View). HasStored w x d) (sym mine) has));
+  pub fill_step : (x : Slot) (i : ℕ) (d : Cell) → IsSlot b x → i ≡ presence_place b x → IsFillable b v x → HasStored v x d → IsRightCell b x d
+      → IsStep b s (FillPresence p x d) (stepped_to t i (filled_word d) p (filled v x))
+  fill_step x i d is e may has right =
+      let long = here.shows.shown.sized.presences in
+      let inside : number b x < length here.shows.words.presences = omega (arith, number_inside b x is) in record {
+        allowed = (named, may_fill x d is may right, subst (λ (w : View). HasStored w x d) (sym mine) has);
         shows = record {
-          words = record shows.words { presences = set shows.words.presences (number b x) (filled_word d) };
-          line = (λ j. set (shows.line j) (e j) (filled_word d)) ∙ presence_put shows.words (length (rights_of b).outcomes) (number b x) (filled_word d) shows.shown.sized.statuses inside;
-          shown = presence_shown b shows.words s (put s.views p (filled (s.views p) x)) x (Some (presence_of d)) is shows.shown;
+          words = record here.shows.words { presences = set here.shows.words.presences (number b x) (filled_word d) };
+          line = (λ j. set (here.shows.line j) (e j) (filled_word d)) ∙ presence_put here.shows.words (length (rights_of b).outcomes) (number b x) (filled_word d) here.shows.shown.sized.statuses inside;
+          shown = presence_shown b here.shows.words s (put s.views p (filled (s.views p) x)) x (Some (presence_of d)) is here.shows.shown;
           views = views_put (λ w. filled w x);
         };
       }
@@ -233,12 +229,12 @@ module _ (b : Batch) (t : T) (s : State) (shows : Shows b t s) (p : ℕ) (v : Vi
   split_step free =
       let d : View = newcomer (rights_of b) in
       let long : length (set t.views p v) ≡ length t.views = length-set t.views p v in record {
-        allowed = (named, (ap (λ (w : View). w.held) mine ∙ free, shows.views (length t.views) ∙ past_end t.views (length t.views) d (omega arith)));
+        allowed = (named, ap (λ (w : View). w.held) mine ∙ free, here.shows.views (length t.views) ∙ past_end t.views (length t.views) d (omega arith));
         shows = record {
-          words = shows.words;
-          line = shows.line;
-          shown = same_shown b shows.words s (put s.views (length t.views) (s.views p)) shows.shown;
-          views = λ q. (λ i. put s.views (sym long i) (mine i) q) ∙ view_added d (set t.views p v) s.views v (same_view s.views mine shows.views) q;
+          words = here.shows.words;
+          line = here.shows.line;
+          shown = same_shown b here.shows.words s (put s.views (length t.views) (s.views p)) here.shows.shown;
+          views = λ q. (λ i. put s.views (sym long i) (mine i) q) ∙ view_added d (set t.views p v) s.views v (same_view s.views mine here.shows.views) q;
         };
       }
 
@@ -246,15 +242,15 @@ module _ (b : Batch) (t : T) (s : State) (shows : Shows b t s) (p : ℕ) (v : Vi
       → IsStep b s (Join p q) (record { words = t.words; homes = t.homes; views = set (set t.views p (joined v x)) q spent })
   join_step q x free free_too apart there =
       let d : View = newcomer (rights_of b) in
-      let theirs : s.views q ≡ x = shows.views q ∙ (found_at t.views q x d there).1 in
+      let theirs : s.views q ≡ x = here.shows.views q ∙ (found_at t.views q x d there).1 in
       let both : joined (s.views p) (s.views q) ≡ joined v x = λ i. joined (mine i) (theirs i) in record {
-        allowed = (named, (apart, ap (λ (w : View). w.held) mine ∙ free, ap (λ (w : View). w.held) theirs ∙ free_too));
+        allowed = (named, apart, ap (λ (w : View). w.held) mine ∙ free, ap (λ (w : View). w.held) theirs ∙ free_too);
         shows = record {
-          words = shows.words;
-          line = shows.line;
-          shown = same_shown b shows.words s (next s (Join p q)).views shows.shown;
+          words = here.shows.words;
+          line = here.shows.line;
+          shown = same_shown b here.shows.words s (next s (Join p q)).views here.shows.shown;
           views = view_put d (set t.views p (joined v x)) (put s.views p (joined (s.views p) (s.views q))) q x spent spent
-              (view_put d t.views s.views p v (joined (s.views p) (s.views q)) (joined v x) shows.views at both)
+              (view_put d t.views s.views p v (joined (s.views p) (s.views q)) (joined v x) here.shows.views here.view both)
               (set_else t.views p q (joined v x) apart ∙ there) refl;
         };
       }
@@ -264,8 +260,11 @@ module _ (b : Batch) (t : T) (s : State) (shows : Shows b t s) (p : ℕ) (v : Vi
 goes : (b : Batch) (t after : T) (rule : IsRuled b t) (e : Event) → IsStep b rule.state e after → IsRuled b after
 goes b t after rule e is = record { state = next rule.state e; shows = is.shows; reached = reached_more b rule.state e rule.reached is.allowed }
 
+before : (b : Batch) (t : T) (rule : IsRuled b t) (p : ℕ) (v : View) → get_elem? t.views p ≡ some v → v.right ≡ rights_of b → IsBefore b t rule.state p v
+before b t rule p v at own = record { shows = rule.shows; reached = rule.reached; view = at; right = own }
+
 pub true_of : (b : Batch) (t : T) (rule : IsRuled b t) (p : ℕ) (v : View) → get_elem? t.views p ≡ some v → v.right ≡ rights_of b → IsTrueOf b rule.state p v
-true_of b t rule p v at own = subst (λ (w : View). IsTrueOf b rule.state p w) (mine b t rule.state rule.shows p v at own []) ((reached_kept b rule.state rule.reached).each p)
+true_of b t rule p v at own = subst (λ (w : View). IsTrueOf b rule.state p w) (mine b t rule.state p v (before b t rule p v at own)) ((reached_kept b rule.state rule.reached).each p)
 
 recalls : (b : Batch) (s : State) (p : ℕ) (v : View) (u n : ℕ) → IsTrueOf b s p v → n ≡ progress_word (s.positions u) → Recalls v u (status_of n)
 recalls b s p v u n k e = record {
@@ -284,8 +283,8 @@ sees b slots id me i inside own apart t rule homes at small =
     let u : ℕ = timestamp me.0.right i in
     let (is, place) = stamp_inside b me.0.right i own inside in
     let n : ℕ = get_or t.words i 0 in
-    let word = status_word b t rule.state rule.shows id me.0 at own me.1 u i is (sym place) in
-    let e = status_step b t rule.state rule.shows id me.0 at own me.1 u i is (sym place) apart in
+    let word = status_word b t rule.state id me.0 (before b t rule id me.0 at own) u i is (sym place) in
+    let e = status_step b t rule.state id me.0 (before b t rule id me.0 at own) u i n is (sym place) refl apart in
     (saw me.0 u (status_of n), keeps, tt, goes b t _ rule (Status id u (status_of n)) e, (refl, refl, recalls b rule.state id me.0 u n (true_of b t rule id me.0 at own) word))
 
 pub claims : (b : Batch) (slots id : ℕ) (me : M) (i : ℕ) → i < length (rights_of b).outcomes → me.0.right ≡ rights_of b → me.0.held ≡ None
@@ -294,8 +293,8 @@ claims b slots id me i inside own free t rule homes at small =
     let u : ℕ = timestamp me.0.right i in
     let (is, place) = stamp_inside b me.0.right i own inside in
     let n : ℕ = get_or t.words i 0 in
-    let word = status_word b t rule.state rule.shows id me.0 at own me.1 u i is (sym place) in
-    let e = claim_step b t rule.state rule.shows id me.0 at own me.1 u i is (sym place) free in
+    let word = status_word b t rule.state id me.0 (before b t rule id me.0 at own) u i is (sym place) in
+    let e = claim_step b t rule.state id me.0 (before b t rule id me.0 at own) u i n is (sym place) refl free in
     (claimed me.0 u (status_of n), keeps, tt, goes b t _ rule (Claim id u (won_at n)) e, (refl, refl, recalls b rule.state id me.0 u n (true_of b t rule id me.0 at own) word))
 
 pub finishes : (b : Batch) (slots id : ℕ) (me : M) (i : ℕ) (o : Outcome) (x : ℕ) → x ≡ word_of o → i < length (rights_of b).outcomes → me.0.right ≡ rights_of b
@@ -304,8 +303,7 @@ pub finishes : (b : Batch) (slots id : ℕ) (me : M) (i : ℕ) (o : Outcome) (x 
 finishes b slots id me i o x word inside own holds all knows right t rule homes at small =
     let u : ℕ = timestamp me.0.right i in
     let (is, place) = stamp_inside b me.0.right i own inside in
-    let kept = reached_kept b rule.state rule.reached in
-    let e = finish_step b t rule.state rule.shows id me.0 at own me.1 u i o kept is (sym place) holds all knows (ap (λ (z : ℕ). slice_get (rights_of b).outcomes z) place ∙ right) in
+    let e = finish_step b t rule.state id me.0 (before b t rule id me.0 at own) u i o is (sym place) holds all knows (ap (λ (z : ℕ). slice_get (rights_of b).outcomes z) place ∙ right) in
     let ruled = goes b t _ rule (Finish id u o) e in
     (finished me.0 u, keeps, tt, subst (λ (z : ℕ). IsRuled b (stepped t i z id me.1 (finished me.0 u) keeps)) (sym word) ruled, (refl, refl))
 
@@ -319,11 +317,11 @@ same_value q r i k j own place other =
     let long : length q.outcomes ≡ length r.outcomes = ap (λ (z : Rights). length z.outcomes) own in
     let wide : length q.slots ≡ length r.slots = ap (λ (z : Rights). length z.slots) own in omega arith
 
-pub presence_place : (q r : Rights) (i k : ℕ) → q ≡ r → i ≡ length r.outcomes + k → i ≡ length q.outcomes + k
-presence_place q r i k e p = p ∙ ap (λ (z : Rights). length z.outcomes + k) (sym e)
+pub presence_at_view : (q r : Rights) (i k : ℕ) → q ≡ r → i ≡ length r.outcomes + k → i ≡ length q.outcomes + k
+presence_at_view q r i k e p = p ∙ ap (λ (z : Rights). length z.outcomes + k) (sym e)
 
-pub value_place : (q r : Rights) (i k : ℕ) → q ≡ r → i ≡ length r.outcomes + (length r.slots + k) → i ≡ length q.outcomes + (length q.slots + k)
-value_place q r i k e p = p ∙ ap (λ (z : Rights). length z.outcomes + (length z.slots + k)) (sym e)
+pub value_at_view : (q r : Rights) (i k : ℕ) → q ≡ r → i ≡ length r.outcomes + (length r.slots + k) → i ≡ length q.outcomes + (length q.slots + k)
+value_at_view q r i k e p = p ∙ ap (λ (z : Rights). length z.outcomes + (length z.slots + k)) (sym e)
 
 -- the slot with the number k, by the rights of a view
 named_by : (b : Batch) (q : Rights) (k : ℕ) → q ≡ rights_of b → k < length (rights_of b).slots → IsSlot b (slot_numbered q k) × (number b (slot_numbered q k) ≡ k)
@@ -358,11 +356,11 @@ pub sees_presence : (b : Batch) (slots id : ℕ) (me : M) (i k : ℕ) → i ≡ 
 sees_presence b slots id me i k place inside own t rule homes at small =
     let x : Slot = slot_numbered me.0.right k in
     let (is, num) = named_by b me.0.right k own inside in
-    let here : i ≡ length (rights_of b).outcomes + number b x = place ∙ ap (λ (z : ℕ). length (rights_of b).outcomes + z) (sym num) in
+    let here : i ≡ presence_place b x = place ∙ ap (λ (z : ℕ). length (rights_of b).outcomes + z) (sym num) in
     let n : ℕ = get_or t.words i 0 in
     let kept = reached_kept b rule.state rule.reached in
-    let word : n ≡ presence_word (rule.state.presences x) = presence_is b t rule.state rule.shows id me.0 at own me.1 x i is here in
-    let e = presence_step b t rule.state rule.shows id me.0 at own me.1 x i is here in
+    let word : n ≡ presence_word (rule.state.presences x) = presence_is b t rule.state id me.0 (before b t rule id me.0 at own) x i is here in
+    let e = presence_step b t rule.state id me.0 (before b t rule id me.0 at own) x i n is here refl in
     let right : (c : Cell) → right_cell me.0.right k ≡ Some c → n ≢ 0 → n ≡ filled_word c = λ c cell ne.
     word ∙ right_presence b rule.state x c kept.sound (ap (right_cell (rights_of b)) num ∙ (ap (λ (z : Rights). right_cell z k) (sym own) ∙ cell)) (λ z. ne (word ∙ z)) in (
       learnt me.0 x (presence_at n),
@@ -384,11 +382,11 @@ pub sees_value : (b : Batch) (slots id : ℕ) (me : M) (i k : ℕ) → i ≡ len
 sees_value b slots id me i k place inside own known t rule homes at small =
     let x : Slot = slot_numbered me.0.right k in
     let (is, num) = named_by b me.0.right k own inside in
-    let here : i ≡ length (rights_of b).outcomes + (length (rights_of b).slots + number b x) = place ∙ ap (λ (z : ℕ). length (rights_of b).outcomes + (length (rights_of b).slots + z)) (sym num) in
+    let here : i ≡ value_place b x = place ∙ ap (λ (z : ℕ). length (rights_of b).outcomes + (length (rights_of b).slots + z)) (sym num) in
     let n : ℕ = get_or t.words i 0 in
     let kept = reached_kept b rule.state rule.reached in
-    let e = value_step b t rule.state rule.shows id me.0 at own me.1 x i is here known in
-    let value : value_at n ≡ rule.state.values x = value_is b t rule.state rule.shows id me.0 at own me.1 x i is here in
+    let e = value_step b t rule.state id me.0 (before b t rule id me.0 at own) x i n is here refl known in
+    let value : value_at n ≡ rule.state.values x = value_is b t rule.state id me.0 (before b t rule id me.0 at own) x i is here in
     let right : IsRightCell b x (cells.Present (rule.state.values x)) = kept.sound.present x ((true_of b t rule id me.0 at own).present x known) in
     let found : right_cell me.0.right k ≡ Some (present_at n) = ap (λ (z : Rights). right_cell z k) own ∙ (ap (right_cell (rights_of b)) (sym num) ∙ (right ∙ ap (λ (z : ℤ). Some (cells.Present z)) (sym value))) in
     (me.0, keeps, tt, goes b t _ rule (LookValue id x (value_at n)) e, (refl, λ j q. ap (right_cell me.0.right) (same_value me.0.right (rights_of b) i k j own place q) ∙ found))
@@ -399,9 +397,8 @@ pub stores_value : (b : Batch) (slots id : ℕ) (me : M) (i k n : ℕ) → i ≡
 stores_value b slots id me i k n place inside own may once right t rule homes at small =
     let x : Slot = slot_numbered me.0.right k in
     let (is, num) = named_by b me.0.right k own inside in
-    let here : i ≡ length (rights_of b).outcomes + (length (rights_of b).slots + number b x) = place ∙ ap (λ (z : ℕ). length (rights_of b).outcomes + (length (rights_of b).slots + z)) (sym num) in
-    let kept = reached_kept b rule.state rule.reached in
-    let e = store_step b t rule.state rule.shows id me.0 at own me.1 x i n kept is here may once (ap (right_cell (rights_of b)) num ∙ right) in
+    let here : i ≡ value_place b x = place ∙ ap (λ (z : ℕ). length (rights_of b).outcomes + (length (rights_of b).slots + z)) (sym num) in
+    let e = store_step b t rule.state id me.0 (before b t rule id me.0 at own) x i n is here may once (ap (right_cell (rights_of b)) num ∙ right) in
     (stored me.0 x, keeps, tt, goes b t _ rule (FillValue id x (value_at n)) e, ((refl, refl, refl), λ j q. ap (λ (z : ℕ). stored me.0 (slot_numbered me.0.right z)) (sym (same_value me.0.right (rights_of b) i k j own place q))))
 
 pub fills : (b : Batch) (slots id : ℕ) (me : M) (i k : ℕ) (d : Cell) (n : ℕ) → n ≡ filled_word d → i ≡ length (rights_of b).outcomes + k → k < length (rights_of b).slots → me.0.right ≡ rights_of b
@@ -410,20 +407,19 @@ pub fills : (b : Batch) (slots id : ℕ) (me : M) (i k : ℕ) (d : Cell) (n : �
 fills b slots id me i k d n word place inside own may has right t rule homes at small =
     let x : Slot = slot_numbered me.0.right k in
     let (is, num) = named_by b me.0.right k own inside in
-    let here : i ≡ length (rights_of b).outcomes + number b x = place ∙ ap (λ (z : ℕ). length (rights_of b).outcomes + z) (sym num) in
-    let kept = reached_kept b rule.state rule.reached in
-    let e = fill_step b t rule.state rule.shows id me.0 at own me.1 x i d kept is here may has (ap (right_cell (rights_of b)) num ∙ right) in
+    let here : i ≡ presence_place b x = place ∙ ap (λ (z : ℕ). length (rights_of b).outcomes + z) (sym num) in
+    let e = fill_step b t rule.state id me.0 (before b t rule id me.0 at own) x i d is here may has (ap (right_cell (rights_of b)) num ∙ right) in
     let ruled = goes b t _ rule (FillPresence id x d) e in
     (filled me.0 x, keeps, tt, subst (λ (z : ℕ). IsRuled b (stepped t i z id me.1 (filled me.0 x) keeps)) (sym word) ruled, ((refl, refl, refl), λ j q. ap (λ (z : ℕ). filled me.0 (slot_numbered me.0.right z)) (sym (same_number me.0.right (rights_of b) i k j own place q))))
 
 -- ---- passes
 
 pub splits : (b : Batch) (id : ℕ) (v : View) → v.right ≡ rights_of b → v.held ≡ None → Splits (IsRuled b) id v v v
-splits b id v own free t rule at = goes b t _ rule (Split id (length t.views)) (split_step b t rule.state rule.shows id v at own [] free)
+splits b id v own free t rule at = goes b t _ rule (Split id (length t.views)) (split_step b t rule.state id v (before b t rule id v at own) free)
 
 pub joins : (b : Batch) (id : ℕ) (v : View) (other : ℕ) (x : View) → v.right ≡ rights_of b → v.held ≡ None → x.held ≡ None → Joins (IsRuled b) id v other x (joined v x) spent
 joins b id v other x own free free_too t rule at apart there =
-    goes b t _ rule (Join id other) (join_step b t rule.state rule.shows id v at own [] other x free free_too apart (sym (set_else t.views id other (joined v x) apart) ∙ there))
+    goes b t _ rule (Join id other) (join_step b t rule.state id v (before b t rule id v at own) other x free free_too apart (sym (set_else t.views id other (joined v x) apart) ∙ there))
 
 -- ---- the empty board
 

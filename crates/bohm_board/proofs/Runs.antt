@@ -93,7 +93,7 @@ module _ (b : Batch) (test : Event → Bool) (Q : State → Type 0)
 -- ---- claims
 
 wins_open : (b : Batch) (s : State) (t : ℕ) (e : Event) → IsAllowed b s e → wins t e ≡ true → s.positions t ≡ Open
-wins_open b s t (Claim p u won.Mine) may h = ap s.positions (sym (eqb-true u t h)) ∙ won_mine (s.positions u) may.1.2
+wins_open b s t (Claim p u won.Mine) may h = ap s.positions (sym (eqb-true u t h)) ∙ won_mine (s.positions u) may.3
 wins_open b s t (Claim p u won.Busy) may h = absurd cc
 wins_open b s t (Claim p u won.Done) may h = absurd cc
 wins_open b s t (LookPresence p x answer) may h = absurd cc

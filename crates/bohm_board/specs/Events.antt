@@ -27,17 +27,6 @@ pub data Event : Type 0 where
   Split : (p q : ℕ) → Event
   Join : (p q : ℕ) → Event
 
-abbrev pub pass_of : Event → ℕ
-pass_of (LookPresence p x answer) = p
-pass_of (LookValue p x answer) = p
-pass_of (Status p t answer) = p
-pass_of (Claim p t answer) = p
-pass_of (FillValue p x z) = p
-pass_of (FillPresence p x c) = p
-pass_of (Finish p t o) = p
-pass_of (Split p q) = p
-pass_of (Join p q) = p
-
 -- ---- where an event is allowed
 
 abbrev pub seen_as : Progress → Seen
@@ -61,21 +50,21 @@ pub record MayFinish (b : Batch) (s : State) (p t : ℕ) (o : Outcome) : Type 0 
   pub wanted : KnowsWanted b (s.views p) t
   pub outcome : outcome_over b s t ≡ Some o
 
--- a fill or a finish asks that the pass holds the position and knows what it wants; a split makes the new pass q, and a join appends what q has seen
-abbrev pub May : Batch → State → Event → Type 0
-May b s (LookPresence p x answer) = IsSlot b x × (answer ≡ s.presences x)
-May b s (LookValue p x answer) = Contains (s.views p).present x × (answer ≡ s.values x)
-May b s (Status p t answer) = IsIn b t × ¬ Holds b (s.views p) t × (answer ≡ seen_as (s.positions t))
-May b s (Claim p t answer) = IsIn b t × HoldsNothing (s.views p) × (found_by answer ≡ seen_as (s.positions t))
-May b s (FillValue p x z) = MayFill b s p x (cells.Present z) × ¬ Contains (s.views p).stored x
-May b s (FillPresence p x c) = MayFill b s p x c × HasStored (s.views p) x c
-May b s (Finish p t o) = MayFinish b s p t o
-May b s (Split p q) = HoldsNothing (s.views p) × (s.views q ≡ newcomer (rights_of b))
-May b s (Join p q) = (q ≢ p) × HoldsNothing (s.views p) × HoldsNothing (s.views q)
+-- the pass is one of this batch: what a join left behind does nothing more
+abbrev pub IsOf : Batch → State → ℕ → Type 0
+IsOf b s p = (s.views p).right ≡ rights_of b
 
--- the pass is of this batch: what a join left behind does nothing more
+-- a fill or a finish asks that the pass holds the position and knows what it wants; a split makes the new pass q, and a join appends what q has seen
 abbrev pub IsAllowed : Batch → State → Event → Type 0
-IsAllowed b s e = ((s.views (pass_of e)).right ≡ rights_of b) × May b s e
+IsAllowed b s (LookPresence p x answer) = IsOf b s p × IsSlot b x × (answer ≡ s.presences x)
+IsAllowed b s (LookValue p x answer) = IsOf b s p × Contains (s.views p).present x × (answer ≡ s.values x)
+IsAllowed b s (Status p t answer) = IsOf b s p × IsIn b t × ¬ Holds b (s.views p) t × (answer ≡ seen_as (s.positions t))
+IsAllowed b s (Claim p t answer) = IsOf b s p × IsIn b t × HoldsNothing (s.views p) × (found_by answer ≡ seen_as (s.positions t))
+IsAllowed b s (FillValue p x z) = IsOf b s p × MayFill b s p x (cells.Present z) × ¬ Contains (s.views p).stored x
+IsAllowed b s (FillPresence p x c) = IsOf b s p × MayFill b s p x c × HasStored (s.views p) x c
+IsAllowed b s (Finish p t o) = IsOf b s p × MayFinish b s p t o
+IsAllowed b s (Split p q) = IsOf b s p × HoldsNothing (s.views p) × (s.views q ≡ newcomer (rights_of b))
+IsAllowed b s (Join p q) = IsOf b s p × (q ≢ p) × HoldsNothing (s.views p) × HoldsNothing (s.views q)
 
 -- ---- what it changes
 

@@ -1,6 +1,8 @@
 -- How the words and views of a table show a state of the core, and the rule of a board's table.
-use Rattle.std.specs.Prelude.{◌≡◌, ◌≢◌, ◌≤◌, ℕ, List, ◌++◌, length, slice_index}
-use Rattle.std.specs.List.{slice_index_or}
+use Rattle.std.specs.Prelude.{◌≡◌, ◌≢◌, ◌≤◌, ℕ, ◌+◌, List, ◌++◌, length, slice_index}
+use Rattle.std.specs.List.{slice_index_or, slice_set}
+use mathlib.Core.Option.{some}
+use lib.ListN.{get_elem?}
 use Rattle.atomic_table.specs.Table.{State as Table}
 use Rattle.bohm_tree.specs.declared.cell.Cell.{Cell}
 use Rattle.bohm_board.specs.declared.batch.Batch.{Batch}
@@ -52,10 +54,28 @@ pub record IsRuled (b : Batch) (t : Table (Unit {0}) View) : Type 0 where
   pub shows : Shows b t state
   pub reached : Reached b state
 
--- a step that leads from a table that shows the state to this one is the event: it is allowed there, and the table shows what it leaves
+-- a table that shows a reached state, and a pass of the batch, which has this view
+pub record IsBefore (b : Batch) (t : Table (Unit {0}) View) (s : State) (p : ℕ) (v : View) : Type 0 where
+  pub shows : Shows b t s
+  pub reached : Reached b s
+  pub view : get_elem? t.views p ≡ some v
+  pub right : v.right ≡ rights_of b
+
+-- the step that leads from a table that shows the state to this one is the event: it is allowed, and the table shows what it leaves
 pub record IsStep (b : Batch) (s : State) (e : Event) (after : Table (Unit {0}) View) : Type 0 where
   pub allowed : IsAllowed b s e
   pub shows : Shows b after (next s e)
+
+-- the word i is n now, and the view of p is v
+abbrev pub stepped_to : Table (Unit {0}) View → ℕ → ℕ → ℕ → View → Table (Unit {0}) View
+stepped_to t i n p v = record { words = slice_set t.words i n; homes = t.homes; views = slice_set t.views p v }
+
+-- where the words of a slot lie
+abbrev pub presence_place : Batch → Slot → ℕ
+presence_place b x = length (rights_of b).outcomes + number b x
+
+abbrev pub value_place : Batch → Slot → ℕ
+value_place b x = length (rights_of b).outcomes + (length (rights_of b).slots + number b x)
 
 -- of words that no table has any more: each outcome and cell that is there is right, and where a position has an outcome all its cells are there
 pub record AreSound (b : Batch) (w : Words) : Type 0 where

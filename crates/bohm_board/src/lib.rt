@@ -9,6 +9,7 @@ mod calls;
 mod closed;
 mod columns;
 mod finals;
+pub mod laws;
 mod layout;
 mod noting;
 mod pass;

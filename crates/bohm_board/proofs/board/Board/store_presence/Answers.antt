@@ -1,7 +1,7 @@
 use Rattle.std.proofs.Common.{rules}
 use Rattle.bohm_board.specs.Batches.{rights_of}
 use Rattle.bohm_board.proofs.Inputs.{right_within}
-use Rattle.bohm_board.proofs.Moves.{fills, presence_place}
+use Rattle.bohm_board.proofs.Moves.{fills, presence_at_view}
 use Rattle.bohm_board.proofs.board.Board.store_presence.Goals as goal
 
 pub presence_at-at-requires : goal.presence_at-at-requires
@@ -16,4 +16,4 @@ store-requires c = (
 )
 
 pub returns-clause-view : goal.returns-clause-view
-returns-clause-view c = c.store.ensures.2.1 c.args.slot (presence_place _ _ _ _ c.requires.own.right (search rules))
+returns-clause-view c = c.store.ensures.2.1 c.args.slot (presence_at_view _ _ _ _ c.requires.own.right (search rules))

@@ -1,7 +1,7 @@
 use Rattle.std.proofs.Common.{rules, sym, ap, ◌∙◌, Some}
 use Rattle.bohm_board.specs.Batches.{rights_of}
 use Rattle.bohm_board.proofs.Inputs.{right_within}
-use Rattle.bohm_board.proofs.Moves.{stores_value, value_place}
+use Rattle.bohm_board.proofs.Moves.{stores_value, value_at_view}
 use Rattle.bohm_board.proofs.board.Board.store_value.Goals as goal
 
 pub value_at-at-requires : goal.value_at-at-requires
@@ -16,4 +16,4 @@ store-requires c = (
 )
 
 pub returns-clause-view : goal.returns-clause-view
-returns-clause-view c = c.store.ensures.2.1 c.args.slot (value_place _ _ _ _ c.requires.own.right (search rules))
+returns-clause-view c = c.store.ensures.2.1 c.args.slot (value_at_view _ _ _ _ c.requires.own.right (search rules))
