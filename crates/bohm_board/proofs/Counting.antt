@@ -1,6 +1,16 @@
--- Logs that count up one key, for tests.
-use Rattle.std.proofs.Common.{◌≡◌, ℕ, zero, suc, pos, ◌+◌, ◌-◌, ◌<◌, ◌≤◌, List, [], ◌∷◌, ◌++◌, map, Bool, true, false, length, Some, refl, sym, ap, ◌∙◌, subst, ⊎_elim, inl, inr, arith, zero-add}
-use Rattle.std.specs.Prelude.{Ok, Option, unwrap_or, Contains, ◌⊎◌, All}
+-- Logs that count up one key, and what passes fill in them, for tests.
+use Rattle.std.proofs.Common.{◌≡◌, ℕ, [], ◌∷◌, ◌++◌, Option, None, Some, refl, sym, subst, zero, suc, pos, ◌+◌, ◌-◌, ◌<◌, ◌≤◌, List, map, Bool, true, false, length, ap, ◌∙◌, ⊎_elim, inl, inr, arith, zero-add}
+use Rattle.std.specs.Prelude.{IsTrue, is_some, Ok, Option, unwrap_or, Contains, ◌⊎◌, All}
+use Rattle.bohm_tree.specs.declared.cell.Cell.{Cell}
+use Rattle.bohm_tree.specs.declared.cell.Cell.TheVariants.{Absent, Present}
+use Rattle.bohm_place.specs.declared.access.Access.{Access}
+use Rattle.bohm_place.specs.declared.access.Source.TheVariants.{Within}
+use Rattle.bohm_board.specs.declared.batch.Batch.{Batch}
+use Rattle.bohm_board.specs.declared.slot.Slot.{Slot}
+use Rattle.bohm_board.specs.declared.view.View.{View}
+use Rattle.bohm_board.specs.Batches.{slot_in, txns_of, base_of, position, txn_at, width_at, reads_at, writes_at, wanted_at, is_sure_at, IsIn, IsSlot, IsRightCell, IsRightOutcome}
+use Rattle.bohm_board.specs.Views.{Knows, looked, filled_with}
+use Rattle.bohm_board.proofs.Keeping.{knows_looked}
 use Rattle.std.specs.List.{slice_get, list_any}
 use Rattle.std.specs.Option.{option_map}
 use Rattle.std.specs.Str.{bytes_eq}
@@ -8,8 +18,6 @@ use Rattle.std.proofs.lemmas.Bool.{false≢true}
 use Rattle.std.proofs.lemmas.Bool.Decides.{nat_tests}
 use Rattle.std.proofs.lemmas.List.Elements.{All-head, All-tail, All-weaker, Contains-append_left, Contains-append_right}
 use Rattle.std.proofs.lemmas.Option.{same_Some, slice_get_within, slice_get-get_or, get_or_from_slice_get}
-use Rattle.bohm_tree.specs.declared.cell.Cell.{Cell}
-use Rattle.bohm_tree.specs.declared.cell.Cell.TheVariants.{Present}
 use Rattle.bohm_tree.specs.declared.term.Atom.TheVariants.{Lit, Read}
 use Rattle.bohm_tree.specs.declared.txn.Txn.{Txn}
 use Rattle.bohm_txn.specs.declared.fault.CheckKind.{CheckKind}
@@ -19,16 +27,30 @@ use Rattle.bohm_txn.specs.Faulty.{faulty, alone, IsWellFormedTxn, is_among}
 use Rattle.bohm_txn.specs.Meaning.{Look, Ended, body, fits, sum_value}
 use Rattle.bohm_txn.specs.Serial.{after, over, state, outcome_of, writes_of, shows_of}
 use Rattle.bohm_txn.specs.Sure.{is_sure}
-use Rattle.bohm_place.specs.declared.access.Access.{Access}
-use Rattle.bohm_board.specs.declared.batch.Batch.{Batch}
-use Rattle.bohm_board.specs.declared.slot.Slot.{Slot}
 use Rattle.bohm_board.specs.Bases.{IsBase, declares}
 use Rattle.bohm_board.specs.Serial.{own_cells, show_cells}
-use Rattle.bohm_board.specs.Batches.{txns_of, base_of, position, txn_at, width_at, reads_at, writes_at, wanted_at, is_sure_at, IsIn, IsSlot, IsRightCell, IsRightOutcome}
 use Rattle.bohm_board.specs.Samples.{name, counter, IsCounting}
 use Rattle.bohm_board.proofs.Inputs.{own_right, outcome_right}
 use Rattle.bohm_board.proofs.Numbers.{position_inside, txn_there, width_there}
 use Rattle.bohm_board.proofs.Wanted.{reads_paired, writes_paired, in_either}
+
+pub filled_list : (v : View) (x : Slot) (c : Cell) → (filled_with v x c).filled ≡ v.filled ++ x ∷ []
+filled_list v x Absent = refl
+filled_list v x (Present z) = refl
+
+-- a look that found a cell knows the slot
+pub knows_found : (v : View) (x : Slot) (answer : Option Cell) → IsTrue (is_some answer) → Knows (looked v x answer) x
+knows_found v x None found = absurd cc
+knows_found v x (Some c) found = knows_looked v x c
+
+pub knows_source : (b : Batch) (v w : View) (a : Access) (t u : ℕ) (answer : Option Cell) → a.source ≡ Within t → a.source ≡ Within u → w ≡ looked v (slot_in t a) answer → IsTrue (is_some answer) → Knows w (slot_in u a)
+knows_source b v w a t u answer one other e found =
+    let same : t ≡ u = cc in
+    let known = knows_found v (slot_in t a) answer found in
+    let here : Knows w (slot_in t a) = subst (λ (z : View). Knows z (slot_in t a)) (sym e) known in
+    subst (λ (s : ℕ). Knows w (slot_in s a)) same here
+
+-- ---- logs that count up one key, for tests
 
 abbrev AreCounters : List Txn → Type 0
 AreCounters ts = All (λ t. t ≡ counter) ts

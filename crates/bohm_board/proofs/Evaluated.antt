@@ -1,8 +1,8 @@
--- Over its input a position whose wanted slots are filled ends as in the serial run.
-use Rattle.std.proofs.Common.{◌≡◌, ℕ, zero, suc, ◌+◌, List, [], ◌∷◌, ◌++◌, map, length, Bool, true, false, cond, Some, refl, ap, sym, ◌∙◌, subst, inl, inr, arith}
-use Rattle.std.specs.Prelude.{Option, Contains, unwrap_or, if◌then◌else◌}
+-- The input of a position has at each declared key the cell by its access, and where its wanted slots are filled the position ends over it as in the serial run.
+use Rattle.std.proofs.Common.{◌≡◌, ℕ, zero, suc, ◌+◌, List, [], ◌∷◌, ◌++◌, map, length, Bool, true, false, cond, Some, refl, ap, sym, ◌∙◌, subst, inl, inr, arith, ◌<◌, ◌≤◌, ⊎_elim}
+use Rattle.std.specs.Prelude.{Option, Contains, unwrap_or, if◌then◌else◌, true}
 use Rattle.std.specs.Option.{option_map}
-use Rattle.std.specs.List.{slice_get}
+use Rattle.std.specs.List.{slice_get, All}
 use Rattle.std.specs.Str.{bytes_eq}
 use Rattle.std.proofs.lemmas.Option.{same_Some, slice_get_within, get_or_from_slice_get}
 use Rattle.std.proofs.lemmas.List.{append-nil}
@@ -14,7 +14,7 @@ use Rattle.bohm_txn.specs.Declares.{IsAmong, shows_in}
 use Rattle.bohm_txn.specs.Meaning.{Look, Ended, newest, body, ◌>>=◌}
 use Rattle.bohm_txn.specs.Serial.{after, state, shows_of, outcome_of}
 use Rattle.bohm_txn.specs.Sure.{is_sure, IsSure}
-use Rattle.bohm_txn.proofs.Bodies.{same_key, key_itself, same_reads, same_cells}
+use Rattle.bohm_txn.proofs.Bodies.{same_key, key_itself, same_reads, same_cells, among_at}
 use Rattle.bohm_txn.proofs.States.{there}
 use Rattle.bohm_txn.proofs.SureLaws.{sure_body, sure_after}
 use Rattle.bohm_place.specs.declared.access.Access.{Access}
@@ -23,16 +23,24 @@ use Rattle.bohm_place.specs.declared.access.Source.TheVariants.{Before, Within}
 use Rattle.bohm_board.specs.declared.batch.Batch.{Batch}
 use Rattle.bohm_board.specs.declared.slot.Slot.{Slot}
 use Rattle.bohm_board.specs.Serial.{own_cells, show_cells}
-use Rattle.bohm_board.specs.Batches.{txns_of, base_of, position, number, rights_of, right_cell, IsIn, IsSlot, txn_at, reads_at, writes_at, wanted_at, is_sure_at}
+use Rattle.bohm_board.specs.Batches.{txns_of, base_of, position, number, rights_of, right_cell, IsIn, IsSlot, txn_at, reads_at, writes_at, wanted_at, is_sure_at, plan_of, first_of}
 use Rattle.bohm_board.specs.Inputs.{IsCellFrom, IsCellOf, EndsAlike}
 use Rattle.bohm_board.proofs.Newest.{formed_at}
-use Rattle.bohm_board.proofs.Inputs.{among_place, own_right, outcome_right, read_before, write_before}
+use Rattle.bohm_board.proofs.Inputs.{among_place, own_right, outcome_right, read_before, write_before, cell_planned}
 use Rattle.bohm_board.proofs.Numbers.{txn_there, slot_there}
 use Rattle.bohm_board.proofs.SerialSlots.{get_left, get_right, length-own_cells}
 use Rattle.bohm_board.proofs.Places.{in_either}
 use Rattle.bohm_board.proofs.Wanted.{reads_paired, writes_paired}
-use Rattle.bohm_board.specs.Core.{State, IsFull, HasWanted, cell_from, cell_at, entries, input, outcome_over, cell_over}
-use Rattle.bohm_board.proofs.Sound.{IsSound, filled_right}
+use Rattle.bohm_board.specs.Core.{State, IsFull, HasWanted, cell_from, cell_at, entries, input, outcome_over, cell_over, cell_in}
+use Rattle.std.proofs.lemmas.Bool.{cases_lt}
+use Rattle.bohm_txn.specs.Faulty.{IsWellFormedTxn, is_among}
+use Rattle.bohm_txn.proofs.UseLaws.{rising_writes}
+use Rattle.bohm_place.specs.Plans.{IsRightAccess, IsRightPlan, IsIndexOf}
+use Rattle.bohm_place.specs.Shares.{AreDistinct}
+use Rattle.bohm_place.specs.Writers.{IsNewest, WritesAt}
+use Rattle.bohm_place.proofs.Distinct.{AreDistinct-rising}
+use Rattle.bohm_board.specs.Law.{IsSound}
+use Rattle.bohm_board.proofs.Lawful.{filled_right}
 
 pub contains_at : {A : Type 0} (xs : List A) (j : ℕ) (x : A) → slice_get xs j ≡ Some x → Contains xs x
 contains_at xs j x e = (j, slice_get_within xs j x e, get_or_from_slice_get xs j x x e)
@@ -88,6 +96,100 @@ entry_at b s (x ∷ ks) (y ∷ more) zero k a at_key at_access =
     λ i. Some (key i, cell_at b s (key i) (access i))
 entry_at b s (x ∷ ks) (y ∷ more) (suc j) k a at_key at_access = entry_at b s ks more j k a at_key at_access
 
+-- ---- one right access
+
+same_place : (ks : List (List ℕ)) (i j : ℕ) (k : List ℕ) → AreDistinct ks → slice_get ks i ≡ Some k → slice_get ks j ≡ Some k → i ≡ j
+same_place [] i j k d e f = absurd cc
+same_place (x ∷ ks) zero zero k d e f = refl
+same_place (x ∷ ks) zero (suc j) k d e f =
+    let first : x ≡ k = same_Some x k e in
+    let there : is_among ks k ≡ true = among_at ks j k f in
+    let none_there : is_among ks k ≡ false = subst (λ (y : List ℕ). is_among ks y ≡ false) first d.0 in
+    let no : false ≡ true = sym none_there ∙ there in
+    absurd cc
+same_place (x ∷ ks) (suc i) zero k d e f =
+    let first : x ≡ k = same_Some x k f in
+    let there : is_among ks k ≡ true = among_at ks i k e in
+    let none_there : is_among ks k ≡ false = subst (λ (y : List ℕ). is_among ks y ≡ false) first d.0 in
+    let no : false ≡ true = sym none_there ∙ there in
+    absurd cc
+same_place (x ∷ ks) (suc i) (suc j) k d e f = ap suc (same_place ks i j k d.1 e f)
+
+same_source : (first : ℕ) (txns : List Txn) (k : List ℕ) (t : ℕ) (o r : Source) → IsNewest first txns k t o → IsNewest first txns k t r → o ≡ r
+same_source first txns k t Before Before n m = refl
+same_source first txns k t Before (Within u) n m = absurd (n u m.below m.holds)
+same_source first txns k t (Within u) Before n m = absurd (m u n.below n.holds)
+same_source first txns k t (Within u) (Within v) n m = ⊎_elim
+    (λ (low : u < v). absurd (n.none_between v low m.below m.holds))
+    (λ (high : v ≤ u). ⊎_elim
+    (λ (low : v < u). absurd (m.none_between u low n.below n.holds))
+    (λ (not_low : u ≤ v). let same : u ≡ v = omega arith in ap Within same)
+    (cases_lt v u))
+    (cases_lt u v)
+
+same_index : (first : ℕ) (txns : List Txn) (k : List ℕ) (u i j : ℕ) → All IsWellFormedTxn txns → WritesAt first txns k u i → WritesAt first txns k u j → i ≡ j
+same_index first txns k u i j all n m =
+    let stamp : u ≡ first + n.there.place = n.there.timestamp in
+    let other : u ≡ first + m.there.place = m.there.timestamp in
+    let place : m.there.place ≡ n.there.place = omega arith in
+    let same : m.txn ≡ n.txn = same_Some m.txn n.txn (sym m.there.is_at ∙ (ap (slice_get txns) place ∙ n.there.is_at)) in
+    let formed : IsWellFormedTxn n.txn = subst IsWellFormedTxn (get_or_from_slice_get txns n.there.place n.txn n.txn n.there.is_at) (all n.there.place n.txn (slice_get_within txns n.there.place n.txn n.there.is_at)) in
+    same_place n.txn.writes i j k (AreDistinct-rising n.txn.writes (rising_writes n.txn formed)) n.declared (subst (λ (x : Txn). slice_get x.writes j ≡ Some k) same m.declared)
+
+-- ---- each entry of a key has the same cell
+
+module _ (b : Batch) (s : State) (t : ℕ) (x : Txn) (at : txn_at b t ≡ Some x) (plan : IsRightPlan (txns_of b) (plan_of b)) where
+  abbrev Right : List ℕ → Access → Type 0
+  Right k a = IsRightAccess (first_of b) (txns_of b) (first_of b + position b t) k a
+
+  same_cell_by : (k : List ℕ) (i j : ℕ) (o : Source) → IsIndexOf (first_of b) (txns_of b) k i o → IsIndexOf (first_of b) (txns_of b) k j o → cell_from b s k i o ≡ cell_from b s k j o
+  same_cell_by k i j Before n m = refl
+  same_cell_by k i j (Within u) n m = ap (λ (index : ℕ). cell_in s (record { txn = u; index = index })) (same_index (first_of b) (txns_of b) k u i j b.formed n m)
+
+  same_cell : (k : List ℕ) (a d : Access) → Right k a → Right k d → cell_at b s k a ≡ cell_at b s k d
+  same_cell k a d n m =
+      let source : a.source ≡ d.source = same_source (first_of b) (txns_of b) k (first_of b + position b t) a.source d.source n.newest m.newest in
+      ap (cell_from b s k a.index) source ∙ same_cell_by k a.index d.index d.source (subst (IsIndexOf (first_of b) (txns_of b) k a.index) source n.write) m.write
+
+  read_entry : (m : ℕ) (e : List ℕ × Cell) (k : List ℕ) (a : Access) → Right k a → slice_get (entries b s x.reads (reads_at b t)) m ≡ Some e → e.0 ≡ k → e.1 ≡ cell_at b s k a
+  read_entry m e k a right at_m key =
+      let is = entry_of b s x.reads (reads_at b t) m e at_m in
+      let here : Right e.0 is.access = (plan.reads (position b t) x at).each m e.0 is.access is.key_at is.access_at in
+      is.cell ∙ (λ i. cell_at b s (key i) is.access) ∙ same_cell k is.access a (subst (λ (y : List ℕ). Right y is.access) key here) right
+
+  write_entry : (m : ℕ) (e : List ℕ × Cell) (k : List ℕ) (a : Access) → Right k a → slice_get (entries b s x.writes (writes_at b t)) m ≡ Some e → e.0 ≡ k → e.1 ≡ cell_at b s k a
+  write_entry m e k a right at_m key =
+      let is = entry_of b s x.writes (writes_at b t) m e at_m in
+      let here : Right e.0 is.access = (plan.writes (position b t) x at).each m e.0 is.access is.key_at is.access_at in
+      is.cell ∙ (λ i. cell_at b s (key i) is.access) ∙ same_cell k is.access a (subst (λ (y : List ℕ). Right y is.access) key here) right
+
+  abbrev all_entries : List (List ℕ × Cell)
+  all_entries = entries b s x.reads (reads_at b t) ++ entries b s x.writes (writes_at b t)
+
+  each_entry : (k : List ℕ) (a : Access) → Right k a → (m : ℕ) (e : List ℕ × Cell) → slice_get all_entries m ≡ Some e → e.0 ≡ k → e.1 ≡ cell_at b s k a
+  each_entry k a right m e at_m key = elim (in_either (entries b s x.reads (reads_at b t)) (entries b s x.writes (writes_at b t)) m e at_m) as (λ _. e.1 ≡ cell_at b s k a) [
+    | inl h ↦ read_entry m e k a right h key
+    | inr (n, _, h) ↦ write_entry n e k a right h key
+  ]
+
+  found : (k : List ℕ) (a : Access) (m : ℕ) → Right k a → slice_get all_entries m ≡ Some (k, cell_at b s k a) → input b s t x k ≡ cell_at b s k a
+  found k a m right at_m = newest_among (λ c. c ≡ cell_at b s k a) all_entries k cells.Absent m (k, cell_at b s k a) at_m refl (each_entry k a right)
+
+  read_found : (j : ℕ) (k : List ℕ) (a : Access) → slice_get x.reads j ≡ Some k → slice_get (reads_at b t) j ≡ Some a → input b s t x k ≡ cell_at b s k a
+  read_found j k a at_key at_access =
+      found k a j ((plan.reads (position b t) x at).each j k a at_key at_access) (get_left (entries b s x.reads (reads_at b t)) (entries b s x.writes (writes_at b t)) j (k, cell_at b s k a) (entry_at b s x.reads (reads_at b t) j k a at_key at_access))
+
+  write_found : (j : ℕ) (k : List ℕ) (a : Access) → slice_get x.writes j ≡ Some k → slice_get (writes_at b t) j ≡ Some a → input b s t x k ≡ cell_at b s k a
+  write_found j k a at_key at_access =
+      let first : List (List ℕ × Cell) = entries b s x.reads (reads_at b t) in
+      found k a (length first + j) ((plan.writes (position b t) x at).each j k a at_key at_access) (get_right first (entries b s x.writes (writes_at b t)) (length first + j) j refl ∙ entry_at b s x.writes (writes_at b t) j k a at_key at_access)
+
+pub read_by_access : (b : Batch) (s : State) (t j : ℕ) (x : Txn) (k : List ℕ) (a : Access) → txn_at b t ≡ Some x → slice_get x.reads j ≡ Some k → slice_get (reads_at b t) j ≡ Some a → input b s t x k ≡ cell_at b s k a
+read_by_access b s t j x k a at at_key at_access = cell_planned b k (input b s t x) (cell_at b s k a) (λ plan. read_found b s t x at plan j k a at_key at_access)
+
+pub write_by_access : (b : Batch) (s : State) (t j : ℕ) (x : Txn) (k : List ℕ) (a : Access) → txn_at b t ≡ Some x → slice_get x.writes j ≡ Some k → slice_get (writes_at b t) j ≡ Some a → input b s t x k ≡ cell_at b s k a
+write_by_access b s t j x k a at at_key at_access = cell_planned b k (input b s t x) (cell_at b s k a) (λ plan. write_found b s t x at plan j k a at_key at_access)
+
 -- ---- Body(t, Input(t)) is Body(t, S(t - 1))
 
 source_right : (b : Batch) (s : State) (k : List ℕ) (index : ℕ) (o : Source) → IsSound b s → ((u : ℕ) → o ≡ Within u → IsFull s (record { txn = u; index = index })) → IsCellFrom b k index (cell_from b s k index o) o
@@ -112,39 +214,22 @@ module _ (b : Batch) (s : State) (t : ℕ) (x : Txn) (at : txn_at b t ≡ Some x
   write_wanted : (a : Access) → Contains (writes_at b t) a → Contains (wanted_at b t) a
   write_wanted a c = subst (λ (w : List Access). Contains w a) (sym (unsure_wants b t unsure)) (Contains-append_right (reads_at b t) (writes_at b t) a c)
 
-  read_entry : (m : ℕ) (e : List ℕ × Cell) → slice_get (entries b s x.reads (reads_at b t)) m ≡ Some e → before e.0 ≡ e.1
-  read_entry m e at_m =
-      let is = entry_of b s x.reads (reads_at b t) m e at_m in
-      read_before b (position b t) x m e.0 e.1 at is.key_at (λ a at_a. let same : is.access ≡ a = same_Some is.access a (sym is.access_at ∙ at_a) in
-      subst (λ (y : Access). IsCellOf b e.0 y e.1) same (subst (λ (c : Cell). IsCellOf b e.0 is.access c) (sym is.cell) (wanted_right b s t e.0 is.access sound filled (read_wanted is.access (contains_at (reads_at b t) m is.access is.access_at)))))
-
-  write_entry : (m : ℕ) (e : List ℕ × Cell) → slice_get (entries b s x.writes (writes_at b t)) m ≡ Some e → before e.0 ≡ e.1
-  write_entry m e at_m =
-      let is = entry_of b s x.writes (writes_at b t) m e at_m in
-      write_before b (position b t) x m e.0 e.1 at is.key_at (λ a at_a. let same : is.access ≡ a = same_Some is.access a (sym is.access_at ∙ at_a) in
-      subst (λ (y : Access). IsCellOf b e.0 y e.1) same (subst (λ (c : Cell). IsCellOf b e.0 is.access c) (sym is.cell) (wanted_right b s t e.0 is.access sound filled (write_wanted is.access (contains_at (writes_at b t) m is.access is.access_at)))))
-
-  each_entry : (k : List ℕ) (m : ℕ) (e : List ℕ × Cell) → slice_get (entries b s x.reads (reads_at b t) ++ entries b s x.writes (writes_at b t)) m ≡ Some e → e.0 ≡ k → e.1 ≡ before k
-  each_entry k m e at_m key = elim (in_either (entries b s x.reads (reads_at b t)) (entries b s x.writes (writes_at b t)) m e at_m) as (λ _. e.1 ≡ before k) [
-    | inl h ↦ sym (read_entry m e h) ∙ ap before key
-    | inr (n, _, h) ↦ sym (write_entry n e h) ∙ ap before key
-  ]
-
-  unsure_key : (k : List ℕ) (m : ℕ) (e : List ℕ × Cell) → slice_get (entries b s x.reads (reads_at b t) ++ entries b s x.writes (writes_at b t)) m ≡ Some e → e.0 ≡ k → input b s t x k ≡ before k
-  unsure_key k m e at_m key = newest_among (λ c. c ≡ before k) (entries b s x.reads (reads_at b t) ++ entries b s x.writes (writes_at b t)) k cells.Absent m e at_m key (each_entry k)
-
+  -- the input has the cell of a wanted access, and that is the one before t
   unsure_read : (k : List ℕ) → IsAmong x.reads k → input b s t x k ≡ before k
   unsure_read k among =
       let (j, at_key) = among_place x.reads k among in
       let (a, at_access) = there (reads_at b t) j (omega (arith, slice_get_within x.reads j k at_key, reads_paired b t x at)) in
-      unsure_key k j (k, cell_at b s k a) (get_left (entries b s x.reads (reads_at b t)) (entries b s x.writes (writes_at b t)) j (k, cell_at b s k a) (entry_at b s x.reads (reads_at b t) j k a at_key at_access)) refl
+      let right = wanted_right b s t k a sound filled (read_wanted a (contains_at (reads_at b t) j a at_access)) in
+      read_by_access b s t j x k a at at_key at_access
+      ∙ sym (read_before b (position b t) x j k (cell_at b s k a) at at_key (λ d at_d. subst (λ (y : Access). IsCellOf b k y (cell_at b s k a)) (same_Some a d (sym at_access ∙ at_d)) right))
 
   unsure_write : (k : List ℕ) → IsAmong x.writes k → input b s t x k ≡ before k
   unsure_write k among =
       let (j, at_key) = among_place x.writes k among in
       let (a, at_access) = there (writes_at b t) j (omega (arith, slice_get_within x.writes j k at_key, writes_paired b t x at)) in
-      let first : List (List ℕ × Cell) = entries b s x.reads (reads_at b t) in
-      unsure_key k (length first + j) (k, cell_at b s k a) (get_right first (entries b s x.writes (writes_at b t)) (length first + j) j refl ∙ entry_at b s x.writes (writes_at b t) j k a at_key at_access) refl
+      let right = wanted_right b s t k a sound filled (write_wanted a (contains_at (writes_at b t) j a at_access)) in
+      write_by_access b s t j x k a at at_key at_access
+      ∙ sym (write_before b (position b t) x j k (cell_at b s k a) at at_key (λ d at_d. subst (λ (y : Access). IsCellOf b k y (cell_at b s k a)) (same_Some a d (sym at_access ∙ at_d)) right))
 
   unsure_alike : EndsAlike (input b s t x) before x
   unsure_alike =

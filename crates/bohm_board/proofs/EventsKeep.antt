@@ -15,9 +15,9 @@ use Rattle.bohm_board.specs.declared.view.View.{View}
 use Rattle.bohm_board.specs.Core.{Progress, Open, Claimed, Done, State, IsFull}
 use Rattle.bohm_board.specs.Events.{Event, LookPresence, LookValue, Status, Claim, FillValue, FillPresence, Finish, Split, Join, MayFill, MayFinish, IsAllowed, put, put_slot, seen_as, next}
 use Rattle.bohm_board.specs.Views.{Presence, Absent, Present, Holds, HasStored, HasFilledAll, presence_of, spent, learnt, saw, claimed, stored, filled, finished, joined}
-use Rattle.bohm_board.proofs.Sound.{IsSound, one_cell, presence_right}
+use Rattle.bohm_board.specs.Law.{IsSound, IsTrueOf, IsLawful}
+use Rattle.bohm_board.proofs.Lawful.{one_cell, presence_right, Grows, one_holder, wanted_filled, still, true_on, put_cases, slot_cases, moved, relearnt, more, both, nothing_in, true_of_newcomer}
 use Rattle.bohm_board.proofs.Evaluated.{outcome_is_right, cell_is_right}
-use Rattle.bohm_board.proofs.Invariant.{IsTrueOf, IsInvariant, Grows, one_holder, wanted_filled, still, true_on, put_cases, slot_cases, moved, relearnt, more, both, nothing_in, true_of_newcomer}
 
 -- ---- answers
 
@@ -98,7 +98,7 @@ done_not_open o = λ h. cc
 claim_grows : (b : Batch) (s : State) (p t : ℕ) → s.positions t ≡ Open → Grows b s (turned b s t (Claimed p) (claimed_not_open p))
 claim_grows b s p t free = turned_grows b s t (Claimed p) (claimed_not_open p) (λ r h. let no : Open ≡ Done r = sym free ∙ h in cc)
 
-claim_keeps : (b : Batch) (s : State) (p t : ℕ) → IsInvariant b s → (s.views p).right ≡ rights_of b → IsIn b t → (s.views p).held ≡ None → s.positions t ≡ Open → IsInvariant b (next s (Claim p t won.Mine))
+claim_keeps : (b : Batch) (s : State) (p t : ℕ) → IsLawful b s → (s.views p).right ≡ rights_of b → IsIn b t → (s.views p).held ≡ None → s.positions t ≡ Open → IsLawful b (next s (Claim p t won.Mine))
 claim_keeps b s p t kept own inside nothing free =
     let k = kept.each p in
     let v' : View = claimed (s.views p) t seen.Open in
@@ -135,7 +135,7 @@ one_outcome o r e = ap of e
 all_slots : (b : Batch) (v : View) (t : ℕ) → HasFilledAll b v t → (x : Slot) → IsSlot b x → x.txn ≡ t → Contains v.filled x
 all_slots b v t all x is e = subst (λ (u : ℕ). Contains v.filled (record { txn = u; index = x.index })) (sym e) (all x.index (subst (λ (u : ℕ). x.index < width_at b u) e is.index))
 
-finish_keeps : (b : Batch) (s : State) (p t : ℕ) (o : Outcome) → IsInvariant b s → (s.views p).right ≡ rights_of b → MayFinish b s p t o → IsInvariant b (next s (Finish p t o))
+finish_keeps : (b : Batch) (s : State) (p t : ℕ) (o : Outcome) → IsLawful b s → (s.views p).right ≡ rights_of b → MayFinish b s p t o → IsLawful b (next s (Finish p t o))
 finish_keeps b s p t o kept own may =
     let k = kept.each p in
     let s' : State = turned b s t (Done o) (done_not_open o) in
@@ -161,7 +161,7 @@ finish_keeps b s p t o kept own may =
 
 -- ---- the words of a slot
 
-fill_right : (b : Batch) (s : State) (p : ℕ) (x : Slot) (c : Cell) → IsInvariant b s → MayFill b s p x c → IsRightCell b x c
+fill_right : (b : Batch) (s : State) (p : ℕ) (x : Slot) (c : Cell) → IsLawful b s → MayFill b s p x c → IsRightCell b x c
 fill_right b s p x c kept may = sym (cell_is_right b s x kept.sound may.slot (wanted_filled b s x.txn (s.views p) (kept.each p).absent (kept.each p).present may.wanted)) ∙ may.cell
 
 one_value : (z w : ℤ) → cells.Present z ≡ cells.Present w → z ≡ w
@@ -179,7 +179,7 @@ value_grows b s x z right = record {
   stored = λ y w r h. slot_cases (λ v. v ≡ w) s.values x z y (λ e. one_value z w (one_cell b x (cells.Present z) (cells.Present w) right (subst (λ (u : Slot). IsRightCell b u (cells.Present w)) e r))) (λ _. h);
 }
 
-value_keeps : (b : Batch) (s : State) (p : ℕ) (x : Slot) (z : ℤ) → IsInvariant b s → (s.views p).right ≡ rights_of b → MayFill b s p x (cells.Present z) → IsInvariant b (next s (FillValue p x z))
+value_keeps : (b : Batch) (s : State) (p : ℕ) (x : Slot) (z : ℤ) → IsLawful b s → (s.views p).right ≡ rights_of b → MayFill b s p x (cells.Present z) → IsLawful b (next s (FillValue p x z))
 value_keeps b s p x z kept own may =
     let k = kept.each p in
     let s' : State = record s { values = put_slot s.values x z } in
@@ -224,7 +224,7 @@ shows_present : (b : Batch) (s : State) (p : ℕ) (x : Slot) (c : Cell) → IsTr
 shows_present b s p x cells.Absent k has e = absurd cc
 shows_present b s p x (cells.Present z) k has e = k.stored x has
 
-presence_keeps : (b : Batch) (s : State) (p : ℕ) (x : Slot) (c : Cell) → IsInvariant b s → (s.views p).right ≡ rights_of b → MayFill b s p x c → HasStored (s.views p) x c → IsInvariant b (next s (FillPresence p x c))
+presence_keeps : (b : Batch) (s : State) (p : ℕ) (x : Slot) (c : Cell) → IsLawful b s → (s.views p).right ≡ rights_of b → MayFill b s p x c → HasStored (s.views p) x c → IsLawful b (next s (FillPresence p x c))
 presence_keeps b s p x c kept own may has =
     let k = kept.each p in
     let w : Option Presence = Some (presence_of c) in
@@ -273,7 +273,7 @@ true_joined b s p q v w own k j = record {
 
 -- ---- all events
 
-pub keeps : (b : Batch) (s : State) (e : Event) → IsInvariant b s → IsAllowed b s e → IsInvariant b (next s e)
+pub keeps : (b : Batch) (s : State) (e : Event) → IsLawful b s → IsAllowed b s e → IsLawful b (next s e)
 keeps b s (LookPresence p x answer) kept may = relearnt b s p (learnt (s.views p) x answer) kept (true_learnt b s p (s.views p) x answer may.2 may.0 (kept.each p)) (held_learnt (s.views p) x answer)
 keeps b s (LookValue p x answer) kept may = kept
 keeps b s (Status p t answer) kept may = relearnt b s p (saw (s.views p) t answer) kept (true_saw b s p (s.views p) t answer may.3 may.0 (kept.each p)) (held_saw (s.views p) t answer)
@@ -293,7 +293,7 @@ keeps b s (Join p q) kept may =
 seen_on : (b : Batch) (s s' : State) (views : ℕ → View) → Grows b s s' → Grows b s (record s' { views = views })
 seen_on b s s' views g = record { done = g.done; busy = g.busy; filled = g.filled; stored = g.stored }
 
-pub grows : (b : Batch) (s : State) (e : Event) → IsInvariant b s → IsAllowed b s e → Grows b s (next s e)
+pub grows : (b : Batch) (s : State) (e : Event) → IsLawful b s → IsAllowed b s e → Grows b s (next s e)
 grows b s (LookPresence p x answer) kept may = still b s (put s.views p (learnt (s.views p) x answer))
 grows b s (LookValue p x answer) kept may = still b s s.views
 grows b s (Status p t answer) kept may = still b s (put s.views p (saw (s.views p) t answer))

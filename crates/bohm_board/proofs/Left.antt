@@ -15,12 +15,12 @@ use Rattle.bohm_board.specs.Shown.{Words, IsSized, AreShown, AreSound, IsRuled}
 use Rattle.bohm_board.specs.Views.{Presence, Absent, Present}
 use Rattle.bohm_board.specs.Words.{word_of, outcome_at, progress_word, presence_word, filled_word, present_at}
 use Rattle.bohm_board.proofs.Inputs.{short_outcome}
-use Rattle.bohm_board.proofs.Invariant.{IsTrueOf}
-use Rattle.bohm_board.proofs.Line.{put_at, same_words}
+use Rattle.bohm_board.specs.Law.{IsTrueOf, IsSound}
+use Rattle.bohm_board.proofs.Showing.{put_at, same_words}
 use Rattle.bohm_board.proofs.Moves.{outcome_back, two_at_least, true_of, right_presence}
 use Rattle.bohm_board.proofs.Numbers.{number_inside, one_number, one_position, position_inside}
 use Rattle.bohm_board.proofs.Places.{outcomes_long}
-use Rattle.bohm_board.proofs.Sound.{IsSound, one_cell}
+use Rattle.bohm_board.proofs.Lawful.{one_cell}
 
 finished_at : (o : Progress) → 2 ≤ progress_word o → (r : Outcome) × (o ≡ Done r)
 finished_at Open two = absurd (omega arith)

@@ -29,13 +29,12 @@ use Rattle.bohm_board.specs.Views.{Presence, Absent, Present, presence_of, newco
 use Rattle.bohm_board.specs.Words.{status_of, won_at, found_by, word_of, stmt_of, outcome_in, outcome_at, progress_word, presence_word, presence_at, filled_word, value_at, present_at}
 use Rattle.bohm_board.proofs.EventsKeep.{held_learnt, right_learnt}
 use Rattle.bohm_board.proofs.Evaluated.{outcome_is_right, cell_is_right}
-use Rattle.bohm_board.proofs.Invariant.{IsTrueOf, IsInvariant, put_cases, wanted_filled}
-use Rattle.bohm_board.proofs.Line.{found_at, status_in, status_put, presence_in, presence_put, value_in, value_put}
+use Rattle.bohm_board.specs.Law.{IsTrueOf, IsLawful, IsSound}
+use Rattle.bohm_board.proofs.Lawful.{put_cases, wanted_filled, presence_right}
+use Rattle.bohm_board.proofs.Showing.{found_at, status_in, status_put, presence_in, presence_put, value_in, value_put, same_shown, status_shown, presence_shown, value_shown, view_put, view_added, past_end}
 use Rattle.bohm_board.proofs.Numbers.{number_named, number_inside, position_inside, stamp_inside}
 use Rattle.bohm_board.proofs.Places.{outcomes_long}
-use Rattle.bohm_board.proofs.Runs.{reached_kept, reached_more}
-use Rattle.bohm_board.proofs.Showing.{same_shown, status_shown, presence_shown, value_shown, view_put, view_added, past_end}
-use Rattle.bohm_board.proofs.Sound.{IsSound, presence_right}
+use Rattle.bohm_board.proofs.Runs.{reached_lawful, reached_more}
 
 abbrev T : Type 0
 T = Table (Unit {0}) View
@@ -132,13 +131,10 @@ module _ (b : Batch) (t : T) (s : State) (p : ℕ) (v : View) (here : IsBefore b
       (λ none. absurd (omega arith)) (λ _. read i (suc (suc n)) (λ w. claimed w u seen.Done) found)
 
   pub claim_step : (u i n : ℕ) → IsIn b u → i ≡ position b u → n ≡ get_or t.words i 0 → HoldsNothing v → IsStep b s (Claim p u (won_at n)) (stepped_to t i (either (eqb n 0) 1 n) p (claimed v u (status_of n)))
-  claim_step u i n is e found free = record {
-    allowed = (named, is, ap (λ (w : View). w.held) mine ∙ free, found_word n ∙ (ap status_of (found ∙ status_word u i is e) ∙ seen_word (s.positions u)));
-    shows = claim_shows u i n is e found;
-  }
+  claim_step u i n is e found free = record { allowed = (named, is, ap (λ (w : View). w.held) mine ∙ free, found_word n ∙ (ap status_of (found ∙ status_word u i is e) ∙ seen_word (s.positions u))); shows = claim_shows u i n is e found }
 
-  kept : IsInvariant b s
-  kept = reached_kept b s here.reached
+  kept : IsLawful b s
+  kept = reached_lawful b s here.reached
 
   filled_for : (u : ℕ) → KnowsWanted b (s.views p) u → HasWanted b s u
   filled_for u = wanted_filled b s u (s.views p) (kept.each p).absent (kept.each p).present
@@ -148,13 +144,7 @@ module _ (b : Batch) (t : T) (s : State) (p : ℕ) (v : View) (here : IsBefore b
       let want = subst (λ (w : View). KnowsWanted b w u) (sym mine) knows in record {
         allowed = (
           named,
-          record {
-            position = is;
-            holds = ap (λ (w : View). w.held) mine ∙ holds;
-            filled = subst (λ (w : View). HasFilledAll b w u) (sym mine) all;
-            wanted = want;
-            outcome = outcome_is_right b s u kept.sound is (filled_for u want) ∙ right;
-          },
+          record { position = is; holds = ap (λ (w : View). w.held) mine ∙ holds; filled = subst (λ (w : View). HasFilledAll b w u) (sym mine) all; wanted = want; outcome = outcome_is_right b s u kept.sound is (filled_for u want) ∙ right },
         );
         shows = put_status u i (Done o) (λ w. finished w u) is e;
       }
@@ -172,10 +162,7 @@ module _ (b : Batch) (t : T) (s : State) (p : ℕ) (v : View) (here : IsBefore b
       ap value_at ((λ d. get_or (here.shows.line d) (e d) 0) ∙ value_in here.shows.words (length (rights_of b).outcomes) (length (rights_of b).slots) (number b x) here.shows.shown.sized.statuses here.shows.shown.sized.presences) ∙ here.shows.shown.values x is
 
   pub presence_step : (x : Slot) (i n : ℕ) → IsSlot b x → i ≡ presence_place b x → n ≡ get_or t.words i 0 → IsStep b s (LookPresence p x (presence_at n)) (stepped_to t i n p (learnt v x (presence_at n)))
-  presence_step x i n is e found = record {
-    allowed = (named, is, ap presence_at (found ∙ presence_is x i is e) ∙ seen_presence (s.presences x));
-    shows = read i n (λ w. learnt w x (presence_at n)) found;
-  }
+  presence_step x i n is e found = record { allowed = (named, is, ap presence_at (found ∙ presence_is x i is e) ∙ seen_presence (s.presences x)); shows = read i n (λ w. learnt w x (presence_at n)) found }
 
   same_view : (f : ℕ → View) → f p ≡ v → ((q : ℕ) → f q ≡ get_or t.views q (newcomer (rights_of b))) → (q : ℕ) → f q ≡ get_or (set t.views p v) q (newcomer (rights_of b))
   same_view f mine_is all q = put_cases (λ w. w ≡ get_or (set t.views p v) q (newcomer (rights_of b)) → f q ≡ get_or (set t.views p v) q (newcomer (rights_of b))) f p v q
@@ -264,7 +251,7 @@ before : (b : Batch) (t : T) (rule : IsRuled b t) (p : ℕ) (v : View) → get_e
 before b t rule p v at own = record { shows = rule.shows; reached = rule.reached; view = at; right = own }
 
 pub true_of : (b : Batch) (t : T) (rule : IsRuled b t) (p : ℕ) (v : View) → get_elem? t.views p ≡ some v → v.right ≡ rights_of b → IsTrueOf b rule.state p v
-true_of b t rule p v at own = subst (λ (w : View). IsTrueOf b rule.state p w) (mine b t rule.state p v (before b t rule p v at own)) ((reached_kept b rule.state rule.reached).each p)
+true_of b t rule p v at own = subst (λ (w : View). IsTrueOf b rule.state p w) (mine b t rule.state p v (before b t rule p v at own)) ((reached_lawful b rule.state rule.reached).each p)
 
 recalls : (b : Batch) (s : State) (p : ℕ) (v : View) (u n : ℕ) → IsTrueOf b s p v → n ≡ progress_word (s.positions u) → Recalls v u (status_of n)
 recalls b s p v u n k e = record {
@@ -358,7 +345,7 @@ sees_presence b slots id me i k place inside own t rule homes at small =
     let (is, num) = named_by b me.0.right k own inside in
     let here : i ≡ presence_place b x = place ∙ ap (λ (z : ℕ). length (rights_of b).outcomes + z) (sym num) in
     let n : ℕ = get_or t.words i 0 in
-    let kept = reached_kept b rule.state rule.reached in
+    let kept = reached_lawful b rule.state rule.reached in
     let word : n ≡ presence_word (rule.state.presences x) = presence_is b t rule.state id me.0 (before b t rule id me.0 at own) x i is here in
     let e = presence_step b t rule.state id me.0 (before b t rule id me.0 at own) x i n is here refl in
     let right : (c : Cell) → right_cell me.0.right k ≡ Some c → n ≢ 0 → n ≡ filled_word c = λ c cell ne.
@@ -384,7 +371,7 @@ sees_value b slots id me i k place inside own known t rule homes at small =
     let (is, num) = named_by b me.0.right k own inside in
     let here : i ≡ value_place b x = place ∙ ap (λ (z : ℕ). length (rights_of b).outcomes + (length (rights_of b).slots + z)) (sym num) in
     let n : ℕ = get_or t.words i 0 in
-    let kept = reached_kept b rule.state rule.reached in
+    let kept = reached_lawful b rule.state rule.reached in
     let e = value_step b t rule.state id me.0 (before b t rule id me.0 at own) x i n is here refl known in
     let value : value_at n ≡ rule.state.values x = value_is b t rule.state id me.0 (before b t rule id me.0 at own) x i is here in
     let right : IsRightCell b x (cells.Present (rule.state.values x)) = kept.sound.present x ((true_of b t rule id me.0 at own).present x known) in

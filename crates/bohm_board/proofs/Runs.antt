@@ -7,13 +7,13 @@ use Rattle.bohm_txn.specs.declared.outcome.Outcome.{Outcome}
 use Rattle.bohm_board.specs.declared.status.Claimed.TheVariants as won
 use Rattle.bohm_board.specs.declared.batch.Batch.{Batch}
 use Rattle.bohm_board.specs.Batches.{rights_of}
-use Rattle.bohm_board.specs.Core.{State, Open, Claimed, Done, empty}
+use Rattle.bohm_board.specs.Core.{Progress, State, Open, Claimed, Done, empty}
 use Rattle.bohm_board.specs.Events.{Event, LookPresence, LookValue, Status, Claim, FillValue, FillPresence, Finish, Split, Join, IsAllowed, IsRun, Reached, leave, next, wins, finishes}
 use Rattle.bohm_board.specs.Law.{IsLawful, Stays}
-use Rattle.bohm_board.proofs.Invariant.{IsInvariant, Grows, lawful, still, stays, put_cases, true_of_newcomer}
+use Rattle.bohm_board.proofs.Lawful.{Grows, still, stays, put_cases, true_of_newcomer}
 use Rattle.bohm_board.proofs.EventsKeep.{keeps, grows, won_mine}
 
-pub starts : (b : Batch) → IsInvariant b (empty b)
+pub starts : (b : Batch) → IsLawful b (empty b)
 starts b = record {
   sound = record {
     absent = λ x h. absurd cc;
@@ -27,15 +27,12 @@ starts b = record {
   held = λ p t h. absurd cc;
 }
 
-pub keeps_on : (b : Batch) (s : State) (es : List Event) → IsInvariant b s → IsRun b s es → IsInvariant b (leave s es)
+pub keeps_on : (b : Batch) (s : State) (es : List Event) → IsLawful b s → IsRun b s es → IsLawful b (leave s es)
 keeps_on b s [] kept run = kept
 keeps_on b s (e ∷ es) kept run = keeps_on b (next s e) es (keeps b s e kept run.0) run.1
 
-pub reached_kept : (b : Batch) (s : State) → Reached b s → IsInvariant b s
-reached_kept b s r = subst (IsInvariant b) r.2 (keeps_on b (empty b) r.0 (starts b) r.1)
-
 pub reached_lawful : (b : Batch) (s : State) → Reached b s → IsLawful b s
-reached_lawful b s r = lawful b s (reached_kept b s r)
+reached_lawful b s r = subst (IsLawful b) r.2 (keeps_on b (empty b) r.0 (starts b) r.1)
 
 -- one more event
 run_more : (b : Batch) (s : State) (es : List Event) (e : Event) → IsRun b s es → IsAllowed b (leave s es) e → IsRun b s (es ++ e ∷ [])
@@ -57,28 +54,28 @@ grows_more b s r q g h = record {
   stored = λ x z right e. h.stored x z right (g.stored x z right e);
 }
 
-grows_on : (b : Batch) (s : State) (es : List Event) → IsInvariant b s → IsRun b s es → Grows b s (leave s es)
+grows_on : (b : Batch) (s : State) (es : List Event) → IsLawful b s → IsRun b s es → Grows b s (leave s es)
 grows_on b s [] kept run = still b s s.views
 grows_on b s (e ∷ es) kept run = grows_more b s (next s e) (leave (next s e) es) (grows b s e kept run.0) (grows_on b (next s e) es (keeps b s e kept run.0) run.1)
 
 pub reached_stays : (b : Batch) (s : State) (es : List Event) → Reached b s → IsRun b s es → Stays s (leave s es)
-reached_stays b s es r run = let kept = reached_kept b s r in stays b s (leave s es) kept.sound (grows_on b s es kept run)
+reached_stays b s es r run = let kept = reached_lawful b s r in stays b s (leave s es) kept.sound (grows_on b s es kept run)
 
 -- ---- an event that happens once
 
 -- where a test never passes in states with Q, and what passes it leads there for good, at most one event passes
 module _ (b : Batch) (test : Event → Bool) (Q : State → Type 0)
-    (off : (s : State) (e : Event) → IsInvariant b s → IsAllowed b s e → Q s → test e ≡ false)
-    (sets : (s : State) (e : Event) → IsInvariant b s → IsAllowed b s e → test e ≡ true → Q (next s e))
-    (lasts : (s : State) (e : Event) → IsInvariant b s → IsAllowed b s e → Q s → Q (next s e)) where
-  none_passes : (s : State) (es : List Event) → IsInvariant b s → IsRun b s es → Q s → count_by test es ≡ 0
+    (off : (s : State) (e : Event) → IsLawful b s → IsAllowed b s e → Q s → test e ≡ false)
+    (sets : (s : State) (e : Event) → IsLawful b s → IsAllowed b s e → test e ≡ true → Q (next s e))
+    (lasts : (s : State) (e : Event) → IsLawful b s → IsAllowed b s e → Q s → Q (next s e)) where
+  none_passes : (s : State) (es : List Event) → IsLawful b s → IsRun b s es → Q s → count_by test es ≡ 0
   none_passes s [] kept run q = refl
   none_passes s (e ∷ es) kept run q =
       let rest = none_passes (next s e) es (keeps b s e kept run.0) run.1 (lasts s e kept run.0 q) in
       let now : ◌≡◌ {A = ℕ} (cond (test e) 1 0) 0 = ap (λ (v : Bool). cond v 1 0) (off s e kept run.0 q) in
       omega (arith, sum_by-cons (λ x. cond (test x) 1 0) e es, now, rest)
 
-  one_passes : (s : State) (es : List Event) → IsInvariant b s → IsRun b s es → count_by test es ≤ 1
+  one_passes : (s : State) (es : List Event) → IsLawful b s → IsRun b s es → count_by test es ≤ 1
   one_passes s [] kept run = omega arith
   one_passes s (e ∷ es) kept run =
       let kept' = keeps b s e kept run.0 in
@@ -92,36 +89,23 @@ module _ (b : Batch) (test : Event → Bool) (Q : State → Type 0)
 
 -- ---- claims
 
-wins_open : (b : Batch) (s : State) (t : ℕ) (e : Event) → IsAllowed b s e → wins t e ≡ true → s.positions t ≡ Open
-wins_open b s t (Claim p u won.Mine) may h = ap s.positions (sym (eqb-true u t h)) ∙ won_mine (s.positions u) may.3
-wins_open b s t (Claim p u won.Busy) may h = absurd cc
-wins_open b s t (Claim p u won.Done) may h = absurd cc
-wins_open b s t (LookPresence p x answer) may h = absurd cc
-wins_open b s t (LookValue p x answer) may h = absurd cc
-wins_open b s t (Status p u answer) may h = absurd cc
-wins_open b s t (FillValue p x z) may h = absurd cc
-wins_open b s t (FillPresence p x c) may h = absurd cc
-wins_open b s t (Finish p u o) may h = absurd cc
-wins_open b s t (Split p q) may h = absurd cc
-wins_open b s t (Join p q) may h = absurd cc
-
-wins_closes : (s : State) (t : ℕ) (e : Event) → wins t e ≡ true → (next s e).positions t ≢ Open
-wins_closes s t (Claim p u won.Mine) h = put_cases (λ w. w ≢ Open) s.positions u (Claimed p) t (λ _ g. cc) (λ ne. absurd (ne (sym (eqb-true u t h))))
-wins_closes s t (Claim p u won.Busy) h = absurd cc
-wins_closes s t (Claim p u won.Done) h = absurd cc
-wins_closes s t (LookPresence p x answer) h = absurd cc
-wins_closes s t (LookValue p x answer) h = absurd cc
-wins_closes s t (Status p u answer) h = absurd cc
-wins_closes s t (FillValue p x z) h = absurd cc
-wins_closes s t (FillPresence p x c) h = absurd cc
-wins_closes s t (Finish p u o) h = absurd cc
-wins_closes s t (Split p q) h = absurd cc
-wins_closes s t (Join p q) h = absurd cc
+claim_of : (t : ℕ) (e : Event) → wins t e ≡ true → (p : ℕ) × (e ≡ Claim p t won.Mine)
+claim_of t (Claim p u won.Mine) h = (p, ap (λ (z : ℕ). Claim p z won.Mine) (eqb-true u t h))
+claim_of t (Claim p u won.Busy) h = absurd cc
+claim_of t (Claim p u won.Done) h = absurd cc
+claim_of t (LookPresence p x answer) h = absurd cc
+claim_of t (LookValue p x answer) h = absurd cc
+claim_of t (Status p u answer) h = absurd cc
+claim_of t (FillValue p x z) h = absurd cc
+claim_of t (FillPresence p x c) h = absurd cc
+claim_of t (Finish p u o) h = absurd cc
+claim_of t (Split p q) h = absurd cc
+claim_of t (Join p q) h = absurd cc
 
 pub claimed_once : (b : Batch) (es : List Event) (t : ℕ) → IsRun b (empty b) es → count_by (wins t) es ≤ 1
 claimed_once b es t run = one_passes b (wins t) (λ s. s.positions t ≢ Open)
-    (λ s e kept may closed. false_from_ne_true (wins t e) (λ h. closed (wins_open b s t e may h)))
-    (λ s e kept may h. wins_closes s t e h)
+    (λ s e kept may closed. false_from_ne_true (wins t e) (λ h. let (p, is) = claim_of t e h in closed (won_mine (s.positions t) (subst (λ (z : Event). IsAllowed b s z) is may).3)))
+    (λ s e kept may h. let (p, is) = claim_of t e h in subst (λ (z : Event). (next s z).positions t ≢ Open) (sym is) (put_cases (λ w. w ≢ Open) s.positions t (Claimed p) t (λ _ g. cc) (λ ne. absurd (ne refl))))
     (λ s e kept may closed. (grows b s e kept may).busy t closed)
     (empty b) es (starts b) run
 
@@ -130,34 +114,23 @@ claimed_once b es t run = one_passes b (wins t) (λ s. s.positions t ≢ Open)
 abbrev IsDoneAt : ℕ → State → Type 0
 IsDoneAt t s = (o : Outcome) × (s.positions t ≡ Done o)
 
-finishes_claimed : (b : Batch) (s : State) (t : ℕ) (e : Event) → IsInvariant b s → IsAllowed b s e → finishes t e ≡ true → IsDoneAt t s → ⊥
-finishes_claimed b s t (Finish p u o) kept may h done =
-    let here : s.positions u ≡ Claimed p = (kept.each p).held u may.1.holds in
-    let no : Claimed p ≡ Done done.0 = sym here ∙ (ap s.positions (eqb-true u t h) ∙ done.1) in
-    cc
-finishes_claimed b s t (Claim p u answer) kept may h done = cc
-finishes_claimed b s t (LookPresence p x answer) kept may h done = cc
-finishes_claimed b s t (LookValue p x answer) kept may h done = cc
-finishes_claimed b s t (Status p u answer) kept may h done = cc
-finishes_claimed b s t (FillValue p x z) kept may h done = cc
-finishes_claimed b s t (FillPresence p x c) kept may h done = cc
-finishes_claimed b s t (Split p q) kept may h done = cc
-finishes_claimed b s t (Join p q) kept may h done = cc
+ended : (t : ℕ) (e : Event) → finishes t e ≡ true → (p : ℕ) × (o : Outcome) × (e ≡ Finish p t o)
+ended t (Finish p u o) h = (p, o, ap (λ (z : ℕ). Finish p z o) (eqb-true u t h))
+ended t (Claim p u answer) h = absurd cc
+ended t (LookPresence p x answer) h = absurd cc
+ended t (LookValue p x answer) h = absurd cc
+ended t (Status p u answer) h = absurd cc
+ended t (FillValue p x z) h = absurd cc
+ended t (FillPresence p x c) h = absurd cc
+ended t (Split p q) h = absurd cc
+ended t (Join p q) h = absurd cc
 
-finishes_ends : (s : State) (t : ℕ) (e : Event) → finishes t e ≡ true → IsDoneAt t (next s e)
-finishes_ends s t (Finish p u o) h = (o, put_cases (λ w. w ≡ Done o) s.positions u (Done o) t (λ _. refl) (λ ne. absurd (ne (sym (eqb-true u t h)))))
-finishes_ends s t (Claim p u answer) h = absurd cc
-finishes_ends s t (LookPresence p x answer) h = absurd cc
-finishes_ends s t (LookValue p x answer) h = absurd cc
-finishes_ends s t (Status p u answer) h = absurd cc
-finishes_ends s t (FillValue p x z) h = absurd cc
-finishes_ends s t (FillPresence p x c) h = absurd cc
-finishes_ends s t (Split p q) h = absurd cc
-finishes_ends s t (Join p q) h = absurd cc
+not_both : (p : ℕ) (o : Outcome) (w : Progress) → w ≡ Claimed p → w ≡ Done o → ⊥
+not_both p o w e f = cc
 
 pub finished_once : (b : Batch) (es : List Event) (t : ℕ) → IsRun b (empty b) es → count_by (finishes t) es ≤ 1
 finished_once b es t run = one_passes b (finishes t) (IsDoneAt t)
-    (λ s e kept may done. false_from_ne_true (finishes t e) (λ h. finishes_claimed b s t e kept may h done))
-    (λ s e kept may h. finishes_ends s t e h)
+    (λ s e kept may done. false_from_ne_true (finishes t e) (λ h. let (p, o, is) = ended t e h in not_both p done.0 (s.positions t) ((kept.each p).held t (subst (λ (z : Event). IsAllowed b s z) is may).1.holds) done.1))
+    (λ s e kept may h. let (p, o, is) = ended t e h in subst (λ (z : Event). IsDoneAt t (next s z)) (sym is) (o, put_cases (λ w. w ≡ Done o) s.positions t (Done o) t (λ _. refl) (λ ne. absurd (ne refl))))
     (λ s e kept may done. (done.0, (grows b s e kept may).done t done.0 done.1))
     (empty b) es (starts b) run

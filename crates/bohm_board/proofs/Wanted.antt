@@ -15,7 +15,7 @@ use Rattle.bohm_place.specs.Plans.{IsRightAccess, AreRightAccesses, IsIndexOf}
 use Rattle.bohm_place.specs.Writers.{IsNewest}
 use Rattle.bohm_board.specs.declared.batch.Batch.{Batch}
 use Rattle.bohm_board.specs.Batches.{txns_of, first_of, position, IsIn, IsSlot, txn_at, reads_at, writes_at, wanted_at, is_sure_at, slot_in}
-use Rattle.bohm_board.proofs.Invariant.{nothing_in}
+use Rattle.bohm_board.proofs.Lawful.{nothing_in}
 use Rattle.bohm_board.proofs.Numbers.{txn_there, width_there}
 
 -- there is an access for each declared read

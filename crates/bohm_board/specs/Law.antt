@@ -4,35 +4,43 @@ use Rattle.bohm_tree.specs.declared.cell.Cell.TheVariants as cells
 use Rattle.bohm_txn.specs.declared.outcome.Outcome.{Outcome}
 use Rattle.bohm_board.specs.declared.batch.Batch.{Batch}
 use Rattle.bohm_board.specs.declared.slot.Slot.{Slot}
+use Rattle.bohm_board.specs.declared.view.View.{View}
 use Rattle.bohm_board.specs.Batches.{IsIn, IsSlot, IsRightCell, IsRightOutcome, rights_of}
 use Rattle.bohm_board.specs.Core.{Open, Claimed, Done, State, IsFull}
 use Rattle.bohm_board.specs.Views.{Presence, Absent, Present, Holds, spent}
 
-pub record IsLawful (b : Batch) (s : State) : Type 0 where
-  -- (a): each presence is that of the right cell, and where that has a value, it stands there
+-- (a), (b) and (c): of what is there
+pub record IsSound (b : Batch) (s : State) : Type 0 where
+  -- each presence is that of the right cell, and where that has a value, it stands there
   pub absent : (x : Slot) → s.presences x ≡ Some Absent → IsRightCell b x cells.Absent
   pub present : (x : Slot) → s.presences x ≡ Some Present → IsRightCell b x (cells.Present (s.values x))
-  -- (b): a Done position is one of the batch and has its right outcome, and all its slots are filled
+  -- a Done position is one of the batch and has its right outcome, and all its slots are filled
   pub inside : (t : ℕ) (o : Outcome) → s.positions t ≡ Done o → IsIn b t
   pub outcomes : (t : ℕ) (o : Outcome) → s.positions t ≡ Done o → IsRightOutcome b t o
   pub whole : (x : Slot) (o : Outcome) → IsSlot b x → s.positions x.txn ≡ Done o → IsFull s x
-  -- (c): no slot of an Open position has a presence
+  -- no slot of an Open position has a presence
   pub untouched : (x : Slot) → s.positions x.txn ≡ Open → s.presences x ≡ None
-  -- (d): no two passes hold one position, and none holds two; what a pass holds is claimed by it, and nothing else is; what it filled and stored is so
-  pub alone : (p q t : ℕ) → Holds b (s.views p) t → Holds b (s.views q) t → p ≡ q
-  pub single : (p t u : ℕ) → Holds b (s.views p) t → Holds b (s.views p) u → t ≡ u
-  pub claimed : (p t : ℕ) → Holds b (s.views p) t → s.positions t ≡ Claimed p
+
+-- (d), (e) and (f): of what the view of the pass p says
+pub record IsTrueOf (b : Batch) (s : State) (p : ℕ) (v : View) : Type 0 where
+  -- what it holds is claimed by it; what it filled is filled, and what it stored is the right value
+  pub held : (t : ℕ) → Holds b v t → s.positions t ≡ Claimed p
+  pub filled : (x : Slot) → Contains v.filled x → IsFull s x
+  pub stored : (x : Slot) → Contains v.stored x → IsRightCell b x (cells.Present (s.values x))
+  -- what it saw Done is Done, and what it saw Busy isn't Open
+  pub done : (t : ℕ) → Contains v.done t → (o : Outcome) × (s.positions t ≡ Done o)
+  pub busy : (t : ℕ) → Contains v.busy t → s.positions t ≢ Open
+  -- what it knows of a slot is what its presence is
+  pub absent : (x : Slot) → Contains v.absent x → s.presences x ≡ Some Absent
+  pub present : (x : Slot) → Contains v.present x → s.presences x ≡ Some Present
+  -- it names the batch, or is what a join left behind
+  pub named : (v ≡ spent) ⊎ (v.right ≡ rights_of b)
+
+-- a position is claimed by the pass that holds it, and by no other; so no two passes hold one
+pub record IsLawful (b : Batch) (s : State) : Type 0 where
+  pub sound : IsSound b s
+  pub each : (p : ℕ) → IsTrueOf b s p (s.views p)
   pub held : (p t : ℕ) → s.positions t ≡ Claimed p → Holds b (s.views p) t
-  pub filled : (p : ℕ) (x : Slot) → Contains (s.views p).filled x → IsFull s x
-  pub stored : (p : ℕ) (x : Slot) → Contains (s.views p).stored x → IsRightCell b x (cells.Present (s.values x))
-  -- (e): what a pass saw Done is Done, and what it saw Busy isn't Open
-  pub done : (p t : ℕ) → Contains (s.views p).done t → (o : Outcome) × (s.positions t ≡ Done o)
-  pub busy : (p t : ℕ) → Contains (s.views p).busy t → s.positions t ≢ Open
-  -- (f): what a pass knows of a slot is what its presence is
-  pub known_absent : (p : ℕ) (x : Slot) → Contains (s.views p).absent x → s.presences x ≡ Some Absent
-  pub known_present : (p : ℕ) (x : Slot) → Contains (s.views p).present x → s.presences x ≡ Some Present
-  -- every view names the batch, but for what a join left behind
-  pub named : (p : ℕ) → (s.views p ≡ spent) ⊎ ((s.views p).right ≡ rights_of b)
 
 -- what is there for good: presences, outcomes, and the values of slots that are `Present`
 pub record Stays (s later : State) : Type 0 where

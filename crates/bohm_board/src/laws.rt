@@ -21,9 +21,11 @@ ghost use Rattle.bohm_board.specs.Steps.{IsFillable};
 ghost use Rattle.bohm_board.specs.Views.{Holds, HoldsNothing, HasFilledAll, HasStored, KnowsWanted, saw, claimed, learnt, stored, filled, finished, joined, spent};
 ghost use Rattle.bohm_board.specs.Words.{status_of, won_at, word_of, presence_at, filled_word, value_at, present_at};
 
-/// A table that meets the rule shows a state that meets the board law.
+/// A table that meets the rule shows a state that meets the board law, so that no two passes hold one
+/// position.
 pub fn ruled_is_lawful()
-    ensures { (b : Batch) (t : Table (Unit {0}) View) (rule : IsRuled b t) → Shows b t rule.state × IsLawful b rule.state }
+    ensures alone { (b : Batch) (s : State) (p q u : ℕ) → IsLawful b s → Holds b (s.views p) u → Holds b (s.views q) u → p ≡ q }
+    ensures lawful { (b : Batch) (t : Table (Unit {0}) View) (rule : IsRuled b t) → Shows b t rule.state × IsLawful b rule.state }
 {}
 
 /// A step on a status word is the event of its name: a load is a `Status`, an exchange of 0 for 1 a

@@ -15,7 +15,7 @@ use Rattle.bohm_place.specs.declared.access.Access.{Access}
 use Rattle.bohm_board.specs.declared.batch.Batch.{Batch}
 use Rattle.bohm_board.specs.declared.slot.Slot.{Slot}
 use Rattle.bohm_board.specs.declared.view.View.{View}
-use Rattle.bohm_board.specs.Batches.{position, txns_of, txn_at, IsIn, reads_at, writes_at, is_sure_at, slot_in}
+use Rattle.bohm_board.specs.Batches.{position, txns_of, txn_at, IsIn, reads_at, writes_at, is_sure_at, slot_in, accesses_in}
 use Rattle.bohm_board.specs.Passes.{KnowsWanted}
 use Rattle.bohm_board.specs.Views.{Knows, looked, filled_with}
 use Rattle.bohm_board.proofs.Keeping.{keeps_same, keeps_then, keeps_looked}
@@ -25,7 +25,6 @@ use Rattle.bohm_board.proofs.Wanted.{reads_paired, writes_paired}
 use Rattle.bohm_place.specs.declared.declared_set.DeclaredSet.{DeclaredSet}
 use Rattle.bohm_place.specs.declared.declared_set.DeclaredSet.TheVariants.{Reads, Writes}
 use Rattle.bohm_place.specs.Plans.{keys_in}
-use Rattle.bohm_board.specs.Batches.{accesses_in}
 use Rattle.bohm_exec.specs.Handed.{AreWanted, KnowsAll, slot_of}
 use Rattle.bohm_exec.specs.Turns.{LooksOnly, FillsOnly}
 

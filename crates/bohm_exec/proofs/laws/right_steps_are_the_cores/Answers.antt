@@ -1,7 +1,6 @@
 use Rattle.std.proofs.Common.{◌∙◌}
-use Rattle.bohm_board.proofs.Sound.{sound_of}
 use Rattle.bohm_board.proofs.Evaluated.{outcome_is_right, cell_is_right}
-use Rattle.bohm_board.proofs.Invariant.{wanted_filled}
+use Rattle.bohm_board.proofs.Lawful.{wanted_filled}
 use Rattle.bohm_exec.proofs.laws.right_steps_are_the_cores.Goals as goal
 
 pub returns-clause-fill : goal.returns-clause-fill
@@ -10,7 +9,7 @@ returns-clause-fill c = λ b s p x d law is holds unfilled wanted right. record 
   holds = holds;
   unfilled = unfilled;
   wanted = wanted;
-  cell = cell_is_right b s x (sound_of b s law) is (wanted_filled b s x.txn (s.views p) (law.known_absent p) (law.known_present p) wanted) ∙ right;
+  cell = cell_is_right b s x law.sound is (wanted_filled b s x.txn (s.views p) (law.each p).absent (law.each p).present wanted) ∙ right;
 }
 
 pub returns-clause-finish : goal.returns-clause-finish
@@ -19,5 +18,5 @@ returns-clause-finish c = λ b s p t o law inside holds filled wanted right. rec
   holds = holds;
   filled = filled;
   wanted = wanted;
-  outcome = outcome_is_right b s t (sound_of b s law) inside (wanted_filled b s t (s.views p) (law.known_absent p) (law.known_present p) wanted) ∙ right;
+  outcome = outcome_is_right b s t law.sound inside (wanted_filled b s t (s.views p) (law.each p).absent (law.each p).present wanted) ∙ right;
 }

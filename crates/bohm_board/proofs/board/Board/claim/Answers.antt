@@ -3,7 +3,7 @@ use Rattle.bohm_board.specs.declared.status.Status.{Status}
 use Rattle.bohm_board.specs.declared.status.Status.TheVariants.{Busy, Done}
 use Rattle.bohm_board.specs.Batches.{timestamp}
 use Rattle.bohm_board.specs.Views.{claimed, Recalls}
-use Rattle.bohm_board.proofs.Kept.{kept_along, kept_claimed, kept_saw}
+use Rattle.bohm_board.proofs.Keeping.{kept_along, kept_claimed, kept_saw}
 use Rattle.bohm_board.proofs.Numbers.{stamped}
 use Rattle.bohm_board.proofs.board.Board.claim.Goals as goal
 use Rattle.bohm_board.proofs.board.Board.claim.Goals.{After-position-position}

@@ -1,10 +1,9 @@
 use Rattle.std.proofs.Common.{rules, ℕ, ◌+◌, ◌<◌, ◌≤◌, ◌∙◌, sym, ap, subst}
 use Rattle.bohm_board.specs.Passes.{view}
 use Rattle.bohm_board.specs.Words.{progress_word, presence_word}
-use Rattle.bohm_board.proofs.Invariant.{lawful}
 use Rattle.bohm_board.proofs.Left.{IsEnd, settles, left_sound, open_word}
 use Rattle.bohm_board.proofs.Moves.{two_at_least}
-use Rattle.bohm_board.proofs.Runs.{reached_kept}
+use Rattle.bohm_board.proofs.Runs.{reached_lawful}
 use Rattle.bohm_board.proofs.board.Board.close.Goals as goal
 use Rattle.bohm_board.proofs.board.Board.close.Goals.{After-copy_words-3}
 
@@ -22,22 +21,22 @@ end c = settles c.args.self.batch c.args.pass.seat.id (view c.args.pass) _ _
 pub invariant_of-result-clause-sound : goal.invariant_of-result-clause-sound
 invariant_of-result-clause-sound c =
     let e = end (goal.at.invariant_of-result-clause-sound c).After-copy_words-3 in
-    left_sound c.args.self.batch _ e.state (reached_kept c.args.self.batch e.state e.reached).sound e.shown
+    left_sound c.args.self.batch _ e.state (reached_lawful c.args.self.batch e.state e.reached).sound e.shown
 
 pub returns-clause-state : goal.returns-clause-state
 returns-clause-state c =
     let e = end (goal.at.returns-clause-state c).After-copy_words-3 in
-    record { state = e.state; shown = e.shown; reached = e.reached; lawful = lawful c.args.self.batch e.state (reached_kept c.args.self.batch e.state e.reached) }
+    record { state = e.state; shown = e.shown; reached = e.reached; lawful = reached_lawful c.args.self.batch e.state e.reached }
 
 pub returns-clause-done : goal.returns-clause-done
 returns-clause-done c t saw =
     let e = end (goal.at.returns-clause-done c).After-copy_words-3 in
     let (o, is) = e.saw.done t saw in
-    let inside = (reached_kept c.args.self.batch e.state e.reached).sound.inside t o is in
+    let inside = (reached_lawful c.args.self.batch e.state e.reached).sound.inside t o is in
     subst (λ (n : ℕ). 2 ≤ n) (sym (e.shown.positions t inside ∙ ap progress_word is)) (two_at_least o)
 
 pub returns-clause-untaken : goal.returns-clause-untaken
 returns-clause-untaken c s is untaken cell =
     let e = end (goal.at.returns-clause-untaken c).After-copy_words-3 in
     let open_there = open_word (e.state.positions s.txn) (sym (e.shown.positions s.txn is.txn) ∙ untaken) in
-    cell (e.shown.presences s is ∙ ap presence_word ((reached_kept c.args.self.batch e.state e.reached).sound.untouched s open_there))
+    cell (e.shown.presences s is ∙ ap presence_word ((reached_lawful c.args.self.batch e.state e.reached).sound.untouched s open_there))

@@ -7,7 +7,7 @@ use Rattle.bohm_board.specs.declared.view.View.{View}
 use Rattle.bohm_board.specs.Batches.{slot_numbered}
 use Rattle.bohm_board.specs.Steps.{IsFillable}
 use Rattle.bohm_board.specs.Views.{stored, filled, filled_with}
-use Rattle.bohm_board.proofs.Kept.{kept_along, kept_filled}
+use Rattle.bohm_board.proofs.Keeping.{kept_along, kept_filled}
 use Rattle.bohm_board.proofs.Numbers.{named_slot}
 use Rattle.bohm_board.proofs.board.Board.fill.Goals as goal
 use Rattle.bohm_board.proofs.board.Board.fill.Goals.{After-number-number}
@@ -43,10 +43,7 @@ store_presence-requires-in-Present-clause-stored c =
     subst P (sym c.store_value.ensures.view) (Contains-push v.stored (slot_numbered v.right k))
 
 pub invariant_of-pass : goal.invariant_of-pass
-invariant_of-pass c = record {
-  bare = c.store_presence.ensures.own.bare;
-  fits = kept_along _ _ _ _ c.store_presence.ensures.view (kept_filled c.args.pass.now.seat.me.0 _ Absent _ _ c.args.pass.now.fits);
-}
+invariant_of-pass c = record { bare = c.store_presence.ensures.own.bare; fits = kept_along _ _ _ _ c.store_presence.ensures.view (kept_filled c.args.pass.now.seat.me.0 _ Absent _ _ c.args.pass.now.fits) }
 
 pub invariant_of-pass-in-Present : goal.invariant_of-pass-in-Present
 invariant_of-pass-in-Present c =

@@ -1,7 +1,7 @@
 use Rattle.std.proofs.Common.{arith, ap, ◌∙◌}
 use Rattle.bohm_board.specs.Steps.{Sitting}
 use Rattle.bohm_board.proofs.Moves.{joins}
-use Rattle.bohm_board.proofs.Kept.{kept_along, kept_joined}
+use Rattle.bohm_board.proofs.Keeping.{kept_along, kept_joined}
 use Rattle.bohm_board.proofs.board.Board.join.Goals as goal
 
 pub join_seat-requires : goal.join_seat-requires

@@ -7,7 +7,7 @@ use Rattle.bohm_board.specs.Batches.{slot_numbered}
 use Rattle.bohm_board.specs.Views.{learnt, looked, IsUnseen}
 use Rattle.bohm_board.specs.Words.{presence_at}
 use Rattle.bohm_board.proofs.EventsKeep.{right_learnt}
-use Rattle.bohm_board.proofs.Kept.{kept_along, kept_learnt, learnt_present, present_from}
+use Rattle.bohm_board.proofs.Keeping.{kept_along, kept_learnt, learnt_present, present_from}
 use Rattle.bohm_board.proofs.Numbers.{named_slot, right_there, right_by_word}
 use Rattle.bohm_board.proofs.board.Board.look.Goals as goal
 use Rattle.bohm_board.proofs.board.Board.look.Goals.{After-number-number}
@@ -16,16 +16,10 @@ here : (c : After-number-number) → slot_numbered c.args.pass.now.seat.me.0.rig
 here c = named_slot c.args.self.now.batch _ c.args.slot _ c.requires.own.seat.right c.requires.inside c.number-number.ensures.number
 
 pub invariant_of-pass : goal.invariant_of-pass
-invariant_of-pass c = record {
-  bare = c.see_presence.ensures.own.bare;
-  fits = kept_along _ _ _ _ c.see_presence.ensures.view (kept_learnt _ _ _ _ _ c.args.pass.now.fits);
-}
+invariant_of-pass c = record { bare = c.see_presence.ensures.own.bare; fits = kept_along _ _ _ _ c.see_presence.ensures.view (kept_learnt _ _ _ _ _ c.args.pass.now.fits) }
 
 pub invariant_of-pass-in-1 : goal.invariant_of-pass-in-1
-invariant_of-pass-in-1 c = record {
-  bare = c.see_presence.ensures.own.bare;
-  fits = kept_along _ _ _ _ c.see_presence.ensures.view (kept_learnt _ _ _ _ _ c.args.pass.now.fits);
-}
+invariant_of-pass-in-1 c = record { bare = c.see_presence.ensures.own.bare; fits = kept_along _ _ _ _ c.see_presence.ensures.view (kept_learnt _ _ _ _ _ c.args.pass.now.fits) }
 
 pub see_value-value-requires-clause-known : goal.see_value-value-requires-clause-known
 see_value-value-requires-clause-known c =
@@ -38,10 +32,7 @@ see_value-value-requires-clause-known c =
     subst P (sym c.see_presence.ensures.view) (subst (λ (r : Rights). Contains w.present (slot_numbered r k)) (sym (right_learnt v x (presence_at c.see_presence.result))) known)
 
 pub invariant_of-pass-in_default : goal.invariant_of-pass-in_default
-invariant_of-pass-in_default c = record {
-  bare = c.see_value-value.ensures.own.bare;
-  fits = kept_along _ _ _ _ (c.see_value-value.ensures.view ∙ c.see_presence.ensures.view) (kept_learnt _ _ _ _ _ c.args.pass.now.fits);
-}
+invariant_of-pass-in_default c = record { bare = c.see_value-value.ensures.own.bare; fits = kept_along _ _ _ _ (c.see_value-value.ensures.view ∙ c.see_presence.ensures.view) (kept_learnt _ _ _ _ _ c.args.pass.now.fits) }
 
 pub returns-in-0-clause-none : goal.returns-in-0-clause-none
 returns-in-0-clause-none c = λ _. subst (IsUnseen c.args.pass.now.seat.me.0) (here (goal.at.returns-in-0-clause-none c).After-number-number) (c.see_presence.ensures.empty c.in-0.is)

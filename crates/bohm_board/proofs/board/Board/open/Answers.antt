@@ -1,7 +1,7 @@
 use Rattle.std.proofs.Common.{rules, arith, sym, ◌∙◌}
 use Rattle.bohm_board.specs.Batches.{rights_of}
 use Rattle.bohm_board.proofs.Moves.{opens, blank_line}
-use Rattle.bohm_board.proofs.Starts.{layout_lengths}
+use Rattle.bohm_board.proofs.Places.{layout_lengths}
 use Rattle.bohm_board.proofs.board.Board.open.Goals as goal
 
 pub of_words-requires : goal.of_words-requires

@@ -1,7 +1,7 @@
 use Rattle.std.proofs.Common.{◌≡◌, Some, sym, ap, ◌∙◌}
 use Rattle.bohm_board.specs.Batches.{timestamp}
 use Rattle.bohm_board.specs.Views.{saw}
-use Rattle.bohm_board.proofs.Kept.{kept_along, kept_saw}
+use Rattle.bohm_board.proofs.Keeping.{kept_along, kept_saw}
 use Rattle.bohm_board.proofs.Numbers.{stamped}
 use Rattle.bohm_board.proofs.board.Board.status.Goals as goal
 use Rattle.bohm_board.proofs.board.Board.status.Goals.{After-position-position}
@@ -13,10 +13,7 @@ pub see_status-word-requires-clause-apart : goal.see_status-word-requires-clause
 see_status-word-requires-clause-apart c = λ h. c.requires.apart (h ∙ ap Some (here (goal.at.see_status-word-requires-clause-apart c).After-position-position))
 
 pub invariant_of-pass : goal.invariant_of-pass
-invariant_of-pass c = record {
-  bare = c.see_status-word.ensures.own.bare;
-  fits = kept_along _ _ _ _ c.see_status-word.ensures.view (kept_saw _ _ _ _ _ c.args.pass.now.fits);
-}
+invariant_of-pass c = record { bare = c.see_status-word.ensures.own.bare; fits = kept_along _ _ _ _ c.see_status-word.ensures.view (kept_saw _ _ _ _ _ c.args.pass.now.fits) }
 
 pub returns-clause-view : goal.returns-clause-view
 returns-clause-view c =

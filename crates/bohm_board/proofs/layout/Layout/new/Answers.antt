@@ -2,7 +2,7 @@ use Rattle.std.proofs.Common.{rules, arith, ◌≡◌, ◌+◌, refl, length, So
 use Rattle.std.specs.List.{slice_get}
 use Rattle.std.proofs.lemmas.Option.{slice_get_read}
 use Rattle.bohm_board.specs.Layouts.{AreStarts}
-use Rattle.bohm_board.proofs.Starts.{next_offset, one_start}
+use Rattle.bohm_board.proofs.Places.{next_offset, one_start}
 use Rattle.bohm_board.proofs.layout.Layout.new.Goals as goal
 
 pub loop-txn-preserved : goal.loop-txn-preserved

@@ -1,5 +1,5 @@
 use Rattle.std.specs.Prelude.{IsTrue, is_some}
-use Rattle.bohm_board.proofs.Holding.{knows_source}
+use Rattle.bohm_board.proofs.Counting.{knows_source}
 use Rattle.bohm_board.proofs.tests.rows.learn.Goals as goal
 
 pub look-requires-clause-inside : goal.look-requires-clause-inside

@@ -1,8 +1,7 @@
 use Rattle.std.proofs.Common.{arith, ◌≡◌, ℕ, List, [], ◌∷◌, ◌++◌, Some, sym, ap, ◌∙◌}
 use Rattle.bohm_board.specs.declared.view.View.{View}
 use Rattle.bohm_board.specs.declared.slot.Slot.{Slot}
-use Rattle.bohm_board.proofs.Counting.{right_count, right_commit, two_slots, both_filled}
-use Rattle.bohm_board.proofs.Holding.{filled_list}
+use Rattle.bohm_board.proofs.Counting.{right_count, right_commit, two_slots, both_filled, filled_list}
 use Rattle.bohm_board.proofs.Keeping.{still_wanted, keeps_filled, keeps_along, keeps_then}
 use Rattle.bohm_board.proofs.tests.rows.settle.Goals as goal
 

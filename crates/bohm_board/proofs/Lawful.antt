@@ -1,9 +1,10 @@
--- What holds of a core between any two events, and what a change of its words leaves of it.
+-- What the board law says of a state, and what a change of its words leaves of it.
 use Rattle.std.proofs.Common.{◌≡◌, ◌≢◌, ℕ, List, [], ◌∷◌, ◌++◌, Bool, true, false, cond, Some, refl, ap, sym, ◌∙◌, subst, ⊎_elim, inl, inr, arith}
-use Rattle.std.specs.Prelude.{Contains, ℤ, ◌⊎◌, ◌<◌, ◌==◌, ◌&&◌}
+use Rattle.std.specs.Prelude.{Option, Contains, ℤ, ◌⊎◌, ◌<◌, ◌==◌, ◌&&◌}
 use Rattle.std.proofs.lemmas.Bool.Decides.{eqb_tells}
 use Rattle.std.proofs.lemmas.List.Elements.{Contains-push_cases, Contains-append_cases}
 use Rattle.std.proofs.lemmas.Option.{same_Some}
+use Rattle.bohm_tree.specs.declared.cell.Cell.{Cell}
 use Rattle.bohm_tree.specs.declared.cell.Cell.TheVariants as cells
 use Rattle.bohm_txn.specs.declared.outcome.Outcome.{Outcome}
 use Rattle.bohm_board.specs.declared.batch.Batch.{Batch}
@@ -11,27 +12,30 @@ use Rattle.bohm_board.specs.declared.slot.Slot.{Slot}
 use Rattle.bohm_board.specs.declared.view.Rights.{Rights}
 use Rattle.bohm_board.specs.declared.view.View.{View}
 use Rattle.bohm_board.specs.Batches.{IsRightCell, rights_of, slot_in}
-use Rattle.bohm_board.specs.Core.{Progress, Open, Claimed, Done, State, IsFull, HasWanted}
+use Rattle.bohm_board.specs.Core.{Progress, Open, Claimed, Done, State, IsFull, HasWanted, cell_by, cell_in}
 use Rattle.bohm_board.specs.Events.{put, put_slot, is_slot}
-use Rattle.bohm_board.specs.Law.{IsLawful, Stays}
-use Rattle.bohm_board.specs.Views.{Presence, Absent, Present, Holds, KnowsWanted, newcomer, spent}
-use Rattle.bohm_board.proofs.Sound.{IsSound}
+use Rattle.bohm_board.specs.Law.{IsSound, IsTrueOf, IsLawful, Stays}
+use Rattle.bohm_board.specs.Views.{Presence, Absent, Present, Holds, KnowsWanted, presence_of, newcomer, spent}
 
--- what a view of the pass p says is so
-pub record IsTrueOf (b : Batch) (s : State) (p : ℕ) (v : View) : Type 0 where
-  pub done : (t : ℕ) → Contains v.done t → (o : Outcome) × (s.positions t ≡ Done o)
-  pub busy : (t : ℕ) → Contains v.busy t → s.positions t ≢ Open
-  pub absent : (x : Slot) → Contains v.absent x → s.presences x ≡ Some Absent
-  pub present : (x : Slot) → Contains v.present x → s.presences x ≡ Some Present
-  pub held : (t : ℕ) → Holds b v t → s.positions t ≡ Claimed p
-  pub stored : (x : Slot) → Contains v.stored x → IsRightCell b x (cells.Present (s.values x))
-  pub filled : (x : Slot) → Contains v.filled x → IsFull s x
-  pub named : (v ≡ spent) ⊎ (v.right ≡ rights_of b)
+-- ---- what is there
 
-pub record IsInvariant (b : Batch) (s : State) : Type 0 where
-  pub sound : IsSound b s
-  pub each : (p : ℕ) → IsTrueOf b s p (s.views p)
-  pub held : (p t : ℕ) → s.positions t ≡ Claimed p → Holds b (s.views p) t
+filled_as : (b : Batch) (s : State) (x : Slot) (k : Presence) → IsSound b s → s.presences x ≡ Some k → IsRightCell b x (cell_in s x) × (presence_of (cell_in s x) ≡ k)
+filled_as b s x Absent sound e = subst (λ (o : Option Presence). IsRightCell b x (cell_by o (s.values x)) × (presence_of (cell_by o (s.values x)) ≡ Absent)) (sym e) (sound.absent x e, refl)
+filled_as b s x Present sound e = subst (λ (o : Option Presence). IsRightCell b x (cell_by o (s.values x)) × (presence_of (cell_by o (s.values x)) ≡ Present)) (sym e) (sound.present x e, refl)
+
+-- the cell of a filled slot is right
+pub filled_right : (b : Batch) (s : State) (x : Slot) → IsSound b s → IsFull s x → IsRightCell b x (cell_in s x)
+filled_right b s x sound filled = (filled_as b s x filled.0 sound filled.1).0
+
+-- there is one right cell
+pub one_cell : (b : Batch) (x : Slot) (c d : Cell) → IsRightCell b x c → IsRightCell b x d → c ≡ d
+one_cell b x c d e f = same_Some c d (sym e ∙ f)
+
+-- the presence of a filled slot is the right cell's
+pub presence_right : (b : Batch) (s : State) (x : Slot) (k : Presence) (c : Cell) → IsSound b s → s.presences x ≡ Some k → IsRightCell b x c → presence_of c ≡ k
+presence_right b s x k c sound e right =
+    let (is, same) = filled_as b s x k sound e in
+    ap presence_of (one_cell b x c (cell_in s x) right is) ∙ same
 
 abbrev holder : Progress → ℕ
 holder Open = 0
@@ -40,27 +44,6 @@ holder (Done o) = 0
 
 pub one_holder : (p q : ℕ) → Claimed p ≡ Claimed q → p ≡ q
 one_holder p q e = ap holder e
-
-pub lawful : (b : Batch) (s : State) → IsInvariant b s → IsLawful b s
-lawful b s k = record {
-  absent = k.sound.absent;
-  present = k.sound.present;
-  inside = k.sound.inside;
-  outcomes = k.sound.outcomes;
-  whole = k.sound.whole;
-  untouched = k.sound.untouched;
-  alone = λ p q t h g. one_holder p q (sym ((k.each p).held t h) ∙ (k.each q).held t g);
-  single = λ p t u h g. same_Some t u (sym h ∙ g);
-  claimed = λ p. (k.each p).held;
-  held = k.held;
-  filled = λ p. (k.each p).filled;
-  stored = λ p. (k.each p).stored;
-  done = λ p. (k.each p).done;
-  busy = λ p. (k.each p).busy;
-  known_absent = λ p. (k.each p).absent;
-  known_present = λ p. (k.each p).present;
-  named = λ p. (k.each p).named;
-}
 
 -- where a pass knows what a position wants, it is filled
 pub wanted_filled : (b : Batch) (s : State) (t : ℕ) (v : View) → ((x : Slot) → Contains v.absent x → s.presences x ≡ Some Absent) → ((x : Slot) → Contains v.present x → s.presences x ≡ Some Present) → KnowsWanted b v t → HasWanted b s t
@@ -122,11 +105,11 @@ slot_cases P f x a y here other = ⊎_elim
 -- ---- one pass moves
 
 -- its view becomes v, and what the others hold stays theirs
-pub moved : (b : Batch) (s s' : State) (p : ℕ) (v : View) → IsInvariant b s → Grows b s s' → IsSound b s' → IsTrueOf b s' p v
+pub moved : (b : Batch) (s s' : State) (p : ℕ) (v : View) → IsLawful b s → Grows b s s' → IsSound b s' → IsTrueOf b s' p v
     → ((q t : ℕ) → q ≢ p → s.positions t ≡ Claimed q → s'.positions t ≡ Claimed q)
     → ((q t : ℕ) → q ≢ p → s'.positions t ≡ Claimed q → s.positions t ≡ Claimed q)
     → ((t : ℕ) → s'.positions t ≡ Claimed p → Holds b v t)
-    → IsInvariant b (record s' { views = put s.views p v })
+    → IsLawful b (record s' { views = put s.views p v })
 moved b s s' p v kept g sound mine others back holds = record {
   sound = record { absent = sound.absent; present = sound.present; inside = sound.inside; outcomes = sound.outcomes; whole = sound.whole; untouched = sound.untouched };
   each = λ q. put_cases (λ (w : View). IsTrueOf b (record s' { views = put s.views p v }) q w) s.views p v q
@@ -141,7 +124,7 @@ moved b s s' p v kept g sound mine others back holds = record {
     seen r views q w k = record { done = k.done; busy = k.busy; absent = k.absent; present = k.present; held = k.held; stored = k.stored; filled = k.filled; named = k.named }
 
 -- the words stay, and so does what the pass holds
-pub relearnt : (b : Batch) (s : State) (p : ℕ) (v : View) → IsInvariant b s → IsTrueOf b s p v → v.held ≡ (s.views p).held → IsInvariant b (record s { views = put s.views p v })
+pub relearnt : (b : Batch) (s : State) (p : ℕ) (v : View) → IsLawful b s → IsTrueOf b s p v → v.held ≡ (s.views p).held → IsLawful b (record s { views = put s.views p v })
 relearnt b s p v kept mine same = moved b s s p v kept (still b s s.views) kept.sound mine (λ q t ne h. h) (λ q t ne h. h) (λ t h. same ∙ kept.held p t h)
 
 -- a fact on what a list contains, and one more
