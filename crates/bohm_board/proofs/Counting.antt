@@ -21,7 +21,6 @@ use Rattle.std.proofs.lemmas.Option.{same_Some, slice_get_within, slice_get-get_
 use Rattle.bohm_tree.specs.declared.term.Atom.TheVariants.{Lit, Read}
 use Rattle.bohm_tree.specs.declared.txn.Txn.{Txn}
 use Rattle.bohm_txn.specs.declared.fault.CheckKind.{CheckKind}
-use Rattle.bohm_txn.specs.declared.fault.CheckKind.TheVariants.{Order, Unread, Unwritten, Local, Limit}
 use Rattle.bohm_txn.specs.declared.outcome.Outcome.TheVariants.{Commit}
 use Rattle.bohm_txn.specs.Faulty.{faulty, alone, IsWellFormedTxn, is_among}
 use Rattle.bohm_txn.specs.Meaning.{Look, Ended, body, fits, sum_value}
@@ -30,6 +29,8 @@ use Rattle.bohm_txn.specs.Sure.{is_sure}
 use Rattle.bohm_board.specs.Bases.{IsBase, declares}
 use Rattle.bohm_board.specs.Serial.{own_cells, show_cells}
 use Rattle.bohm_board.specs.Samples.{name, counter, IsCounting}
+use Rattle.bohm_board.proofs.Evaluated.{contains_at}
+use Rattle.bohm_board.proofs.Idling.{each_kind}
 use Rattle.bohm_board.proofs.Inputs.{own_right, outcome_right}
 use Rattle.bohm_board.proofs.Numbers.{position_inside, txn_there, width_there}
 use Rattle.bohm_board.proofs.Wanted.{reads_paired, writes_paired, in_either}
@@ -58,27 +59,11 @@ AreCounters ts = All (λ t. t ≡ counter) ts
 -- ---- such a transaction is well formed
 
 counter_formed : (n s : ℕ) (kind : CheckKind) → ¬ (faulty (alone counter) n s kind ≡ true)
-counter_formed zero zero Order = false≢true
-counter_formed zero zero Unread = false≢true
-counter_formed zero zero Unwritten = false≢true
-counter_formed zero zero Local = false≢true
-counter_formed zero zero Limit = false≢true
+counter_formed zero zero kind = each_kind (λ k. ¬ (faulty (alone counter) zero zero k ≡ true)) false≢true false≢true false≢true false≢true false≢true kind
 counter_formed zero (suc s) kind = false≢true
-counter_formed (suc zero) zero Order = false≢true
-counter_formed (suc zero) zero Unread = false≢true
-counter_formed (suc zero) zero Unwritten = false≢true
-counter_formed (suc zero) zero Local = false≢true
-counter_formed (suc zero) zero Limit = false≢true
-counter_formed (suc zero) (suc zero) Order = false≢true
-counter_formed (suc zero) (suc zero) Unread = false≢true
-counter_formed (suc zero) (suc zero) Unwritten = false≢true
-counter_formed (suc zero) (suc zero) Local = false≢true
-counter_formed (suc zero) (suc zero) Limit = false≢true
-counter_formed (suc zero) (suc (suc zero)) Order = false≢true
-counter_formed (suc zero) (suc (suc zero)) Unread = false≢true
-counter_formed (suc zero) (suc (suc zero)) Unwritten = false≢true
-counter_formed (suc zero) (suc (suc zero)) Local = false≢true
-counter_formed (suc zero) (suc (suc zero)) Limit = false≢true
+counter_formed (suc zero) zero kind = each_kind (λ k. ¬ (faulty (alone counter) (suc zero) zero k ≡ true)) false≢true false≢true false≢true false≢true false≢true kind
+counter_formed (suc zero) (suc zero) kind = each_kind (λ k. ¬ (faulty (alone counter) (suc zero) (suc zero) k ≡ true)) false≢true false≢true false≢true false≢true false≢true kind
+counter_formed (suc zero) (suc (suc zero)) kind = each_kind (λ k. ¬ (faulty (alone counter) (suc zero) (suc (suc zero)) k ≡ true)) false≢true false≢true false≢true false≢true false≢true kind
 counter_formed (suc zero) (suc (suc (suc s))) kind = false≢true
 counter_formed (suc (suc n)) s kind = false≢true
 
@@ -196,23 +181,20 @@ only xs x y one at in_it =
     let here : slice_get xs in_it.0 ≡ Some y = slice_get-get_or xs in_it.0 y in_it.1 ∙ ap Some in_it.2 in
     same_Some y x (sym here ∙ (ap (λ (j : ℕ). slice_get xs j) first ∙ at))
 
-at_place : (xs : List Access) (j : ℕ) (x : Access) → slice_get xs j ≡ Some x → Contains xs x
-at_place xs j x e = (j, slice_get_within xs j x e, get_or_from_slice_get xs j x x e)
-
 pub read_wanted : (b : Batch) (t : ℕ) (a : Access) → slice_get (reads_at b t) 0 ≡ Some a → Contains (wanted_at b t) a
-read_wanted b t a e = Contains-append_left (reads_at b t) _ a (at_place (reads_at b t) 0 a e)
+read_wanted b t a e = Contains-append_left (reads_at b t) _ a (contains_at (reads_at b t) 0 a e)
 
 pub write_wanted : (b : Batch) → IsCounting b → (t : ℕ) (a : Access) → IsIn b t → slice_get (writes_at b t) 0 ≡ Some a → Contains (wanted_at b t) a
 write_wanted b c t a is e =
     let unsure : is_sure_at b t ≡ false = ap (λ (o : Option Txn). unwrap_or (option_map is_sure o) false) (counter_at b c t is) in
-    rw unsure (Contains-append_right (reads_at b t) (writes_at b t) a (at_place (writes_at b t) 0 a e))
+    rw unsure (Contains-append_right (reads_at b t) (writes_at b t) a (contains_at (writes_at b t) 0 a e))
 
 -- it wants the accesses of its read and of its write alone
 pub wanted_two : (b : Batch) → IsCounting b → (t : ℕ) (r w a : Access) → IsIn b t → slice_get (reads_at b t) 0 ≡ Some r → slice_get (writes_at b t) 0 ≡ Some w → Contains (wanted_at b t) a → (a ≡ r) ⊎ (a ≡ w)
 wanted_two b c t r w a is at_read at_write in_it =
     ⊎_elim
     (λ (h : Contains (reads_at b t) a). inl (only (reads_at b t) r a (one_read b c t is) at_read h))
-    (λ (h : Contains (writes_at b t) a). inr (only (writes_at b t) w a (one_write b c t is) at_write h))
+    (λ (h : (is_sure_at b t ≡ false) × Contains (writes_at b t) a). inr (only (writes_at b t) w a (one_write b c t is) at_write h.1))
     (in_either (is_sure_at b t) (reads_at b t) (writes_at b t) a in_it)
 
 -- both of its slots

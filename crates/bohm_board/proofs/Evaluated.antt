@@ -35,7 +35,7 @@ use Rattle.bohm_board.specs.Core.{State, IsFull, HasWanted, cell_from, cell_at, 
 use Rattle.std.proofs.lemmas.Bool.{cases_lt}
 use Rattle.bohm_txn.specs.Faulty.{IsWellFormedTxn, is_among}
 use Rattle.bohm_txn.proofs.UseLaws.{rising_writes}
-use Rattle.bohm_place.specs.Plans.{IsRightAccess, IsRightPlan, IsIndexOf}
+use Rattle.bohm_place.specs.Plans.{IsRightAccess, AreRightAccesses, IsRightPlan, IsIndexOf}
 use Rattle.bohm_place.specs.Shares.{AreDistinct}
 use Rattle.bohm_place.specs.Writers.{IsNewest, WritesAt}
 use Rattle.bohm_place.proofs.Distinct.{AreDistinct-rising}
@@ -151,16 +151,10 @@ module _ (b : Batch) (s : State) (t : ℕ) (x : Txn) (at : txn_at b t ≡ Some x
       let source : a.source ≡ d.source = same_source (first_of b) (txns_of b) k (first_of b + position b t) a.source d.source n.newest m.newest in
       ap (cell_from b s k a.index) source ∙ same_cell_by k a.index d.index d.source (subst (IsIndexOf (first_of b) (txns_of b) k a.index) source n.write) m.write
 
-  read_entry : (m : ℕ) (e : List ℕ × Cell) (k : List ℕ) (a : Access) → Right k a → slice_get (entries b s x.reads (reads_at b t)) m ≡ Some e → e.0 ≡ k → e.1 ≡ cell_at b s k a
-  read_entry m e k a right at_m key =
-      let is = entry_of b s x.reads (reads_at b t) m e at_m in
-      let here : Right e.0 is.access = (plan.reads (position b t) x at).each m e.0 is.access is.key_at is.access_at in
-      is.cell ∙ (λ i. cell_at b s (key i) is.access) ∙ same_cell k is.access a (subst (λ (y : List ℕ). Right y is.access) key here) right
-
-  write_entry : (m : ℕ) (e : List ℕ × Cell) (k : List ℕ) (a : Access) → Right k a → slice_get (entries b s x.writes (writes_at b t)) m ≡ Some e → e.0 ≡ k → e.1 ≡ cell_at b s k a
-  write_entry m e k a right at_m key =
-      let is = entry_of b s x.writes (writes_at b t) m e at_m in
-      let here : Right e.0 is.access = (plan.writes (position b t) x at).each m e.0 is.access is.key_at is.access_at in
+  own_entry : (keys : List (List ℕ)) (accesses : List Access) → AreRightAccesses (first_of b) (txns_of b) (first_of b + position b t) keys accesses → (m : ℕ) (e : List ℕ × Cell) (k : List ℕ) (a : Access) → Right k a → slice_get (entries b s keys accesses) m ≡ Some e → e.0 ≡ k → e.1 ≡ cell_at b s k a
+  own_entry keys accesses are m e k a right at_m key =
+      let is = entry_of b s keys accesses m e at_m in
+      let here : Right e.0 is.access = are.each m e.0 is.access is.key_at is.access_at in
       is.cell ∙ (λ i. cell_at b s (key i) is.access) ∙ same_cell k is.access a (subst (λ (y : List ℕ). Right y is.access) key here) right
 
   abbrev all_entries : List (List ℕ × Cell)
@@ -168,8 +162,8 @@ module _ (b : Batch) (s : State) (t : ℕ) (x : Txn) (at : txn_at b t ≡ Some x
 
   each_entry : (k : List ℕ) (a : Access) → Right k a → (m : ℕ) (e : List ℕ × Cell) → slice_get all_entries m ≡ Some e → e.0 ≡ k → e.1 ≡ cell_at b s k a
   each_entry k a right m e at_m key = elim (in_either (entries b s x.reads (reads_at b t)) (entries b s x.writes (writes_at b t)) m e at_m) as (λ _. e.1 ≡ cell_at b s k a) [
-    | inl h ↦ read_entry m e k a right h key
-    | inr (n, _, h) ↦ write_entry n e k a right h key
+    | inl h ↦ own_entry x.reads (reads_at b t) (plan.reads (position b t) x at) m e k a right h key
+    | inr (n, _, h) ↦ own_entry x.writes (writes_at b t) (plan.writes (position b t) x at) n e k a right h key
   ]
 
   found : (k : List ℕ) (a : Access) (m : ℕ) → Right k a → slice_get all_entries m ≡ Some (k, cell_at b s k a) → input b s t x k ≡ cell_at b s k a

@@ -16,7 +16,7 @@ use Rattle.bohm_board.specs.Core.{Progress, Open, Claimed, Done, State, IsFull}
 use Rattle.bohm_board.specs.Events.{Event, LookPresence, LookValue, Status, Claim, FillValue, FillPresence, Finish, Split, Join, MayFill, MayFinish, IsAllowed, put, put_slot, seen_as, next}
 use Rattle.bohm_board.specs.Views.{Presence, Absent, Present, Holds, HasStored, HasFilledAll, presence_of, spent, learnt, saw, claimed, stored, filled, finished, joined}
 use Rattle.bohm_board.specs.Law.{IsSound, IsTrueOf, IsLawful}
-use Rattle.bohm_board.proofs.Lawful.{one_cell, presence_right, Grows, one_holder, wanted_filled, still, true_on, put_cases, slot_cases, moved, relearnt, more, both, nothing_in, true_of_newcomer}
+use Rattle.bohm_board.proofs.Lawful.{one_cell, presence_right, Grows, one_holder, wanted_filled, still, Advances, true_on, put_cases, slot_cases, moved, relearnt, more, both, nothing_in, true_of_newcomer}
 use Rattle.bohm_board.proofs.Evaluated.{outcome_is_right, cell_is_right}
 
 -- ---- answers
@@ -98,7 +98,7 @@ done_not_open o = λ h. cc
 claim_grows : (b : Batch) (s : State) (p t : ℕ) → s.positions t ≡ Open → Grows b s (turned b s t (Claimed p) (claimed_not_open p))
 claim_grows b s p t free = turned_grows b s t (Claimed p) (claimed_not_open p) (λ r h. let no : Open ≡ Done r = sym free ∙ h in cc)
 
-claim_keeps : (b : Batch) (s : State) (p t : ℕ) → IsLawful b s → (s.views p).right ≡ rights_of b → IsIn b t → (s.views p).held ≡ None → s.positions t ≡ Open → IsLawful b (next s (Claim p t won.Mine))
+claim_keeps : (b : Batch) (s : State) (p t : ℕ) → IsLawful b s → (s.views p).right ≡ rights_of b → IsIn b t → (s.views p).held ≡ None → s.positions t ≡ Open → Advances b s (next s (Claim p t won.Mine))
 claim_keeps b s p t kept own inside nothing free =
     let k = kept.each p in
     let v' : View = claimed (s.views p) t seen.Open in
@@ -135,7 +135,7 @@ one_outcome o r e = ap of e
 all_slots : (b : Batch) (v : View) (t : ℕ) → HasFilledAll b v t → (x : Slot) → IsSlot b x → x.txn ≡ t → Contains v.filled x
 all_slots b v t all x is e = subst (λ (u : ℕ). Contains v.filled (record { txn = u; index = x.index })) (sym e) (all x.index (subst (λ (u : ℕ). x.index < width_at b u) e is.index))
 
-finish_keeps : (b : Batch) (s : State) (p t : ℕ) (o : Outcome) → IsLawful b s → (s.views p).right ≡ rights_of b → MayFinish b s p t o → IsLawful b (next s (Finish p t o))
+finish_keeps : (b : Batch) (s : State) (p t : ℕ) (o : Outcome) → IsLawful b s → (s.views p).right ≡ rights_of b → MayFinish b s p t o → Advances b s (next s (Finish p t o))
 finish_keeps b s p t o kept own may =
     let k = kept.each p in
     let s' : State = turned b s t (Done o) (done_not_open o) in
@@ -179,7 +179,7 @@ value_grows b s x z right = record {
   stored = λ y w r h. slot_cases (λ v. v ≡ w) s.values x z y (λ e. one_value z w (one_cell b x (cells.Present z) (cells.Present w) right (subst (λ (u : Slot). IsRightCell b u (cells.Present w)) e r))) (λ _. h);
 }
 
-value_keeps : (b : Batch) (s : State) (p : ℕ) (x : Slot) (z : ℤ) → IsLawful b s → (s.views p).right ≡ rights_of b → MayFill b s p x (cells.Present z) → IsLawful b (next s (FillValue p x z))
+value_keeps : (b : Batch) (s : State) (p : ℕ) (x : Slot) (z : ℤ) → IsLawful b s → (s.views p).right ≡ rights_of b → MayFill b s p x (cells.Present z) → Advances b s (next s (FillValue p x z))
 value_keeps b s p x z kept own may =
     let k = kept.each p in
     let s' : State = record s { values = put_slot s.values x z } in
@@ -224,7 +224,7 @@ shows_present : (b : Batch) (s : State) (p : ℕ) (x : Slot) (c : Cell) → IsTr
 shows_present b s p x cells.Absent k has e = absurd cc
 shows_present b s p x (cells.Present z) k has e = k.stored x has
 
-presence_keeps : (b : Batch) (s : State) (p : ℕ) (x : Slot) (c : Cell) → IsLawful b s → (s.views p).right ≡ rights_of b → MayFill b s p x c → HasStored (s.views p) x c → IsLawful b (next s (FillPresence p x c))
+presence_keeps : (b : Batch) (s : State) (p : ℕ) (x : Slot) (c : Cell) → IsLawful b s → (s.views p).right ≡ rights_of b → MayFill b s p x c → HasStored (s.views p) x c → Advances b s (next s (FillPresence p x c))
 presence_keeps b s p x c kept own may has =
     let k = kept.each p in
     let w : Option Presence = Some (presence_of c) in
@@ -273,35 +273,20 @@ true_joined b s p q v w own k j = record {
 
 -- ---- all events
 
-pub keeps : (b : Batch) (s : State) (e : Event) → IsLawful b s → IsAllowed b s e → IsLawful b (next s e)
-keeps b s (LookPresence p x answer) kept may = relearnt b s p (learnt (s.views p) x answer) kept (true_learnt b s p (s.views p) x answer may.2 may.0 (kept.each p)) (held_learnt (s.views p) x answer)
-keeps b s (LookValue p x answer) kept may = kept
-keeps b s (Status p t answer) kept may = relearnt b s p (saw (s.views p) t answer) kept (true_saw b s p (s.views p) t answer may.3 may.0 (kept.each p)) (held_saw (s.views p) t answer)
-keeps b s (Claim p t won.Mine) kept may = claim_keeps b s p t kept may.0 may.1 may.2 (won_mine (s.positions t) may.3)
-keeps b s (Claim p t won.Busy) kept may = relearnt b s p (saw (s.views p) t seen.Busy) kept (true_saw b s p (s.views p) t seen.Busy may.3 may.0 (kept.each p)) refl
-keeps b s (Claim p t won.Done) kept may = relearnt b s p (saw (s.views p) t seen.Done) kept (true_saw b s p (s.views p) t seen.Done may.3 may.0 (kept.each p)) refl
-keeps b s (FillValue p x z) kept may = value_keeps b s p x z kept may.0 may.1
-keeps b s (FillPresence p x c) kept may = presence_keeps b s p x c kept may.0 may.1 may.2
-keeps b s (Finish p t o) kept may = finish_keeps b s p t o kept may.0 may.1
-keeps b s (Split p q) kept may = relearnt b s q (s.views p) kept (true_copied b s p q (s.views p) may.1 (kept.each p)) (may.1 ∙ sym (ap (λ (v : View). v.held) may.2))
-keeps b s (Join p q) kept may =
+pub advances : (b : Batch) (s : State) (e : Event) → IsLawful b s → IsAllowed b s e → Advances b s (next s e)
+advances b s (LookPresence p x answer) kept may = relearnt b s p (learnt (s.views p) x answer) kept (true_learnt b s p (s.views p) x answer may.2 may.0 (kept.each p)) (held_learnt (s.views p) x answer)
+advances b s (LookValue p x answer) kept may = record { lawful = kept; grows = still b s s.views }
+advances b s (Status p t answer) kept may = relearnt b s p (saw (s.views p) t answer) kept (true_saw b s p (s.views p) t answer may.3 may.0 (kept.each p)) (held_saw (s.views p) t answer)
+advances b s (Claim p t won.Mine) kept may = claim_keeps b s p t kept may.0 may.1 may.2 (won_mine (s.positions t) may.3)
+advances b s (Claim p t won.Busy) kept may = relearnt b s p (saw (s.views p) t seen.Busy) kept (true_saw b s p (s.views p) t seen.Busy may.3 may.0 (kept.each p)) refl
+advances b s (Claim p t won.Done) kept may = relearnt b s p (saw (s.views p) t seen.Done) kept (true_saw b s p (s.views p) t seen.Done may.3 may.0 (kept.each p)) refl
+advances b s (FillValue p x z) kept may = value_keeps b s p x z kept may.0 may.1
+advances b s (FillPresence p x c) kept may = presence_keeps b s p x c kept may.0 may.1 may.2
+advances b s (Finish p t o) kept may = finish_keeps b s p t o kept may.0 may.1
+advances b s (Split p q) kept may = relearnt b s q (s.views p) kept (true_copied b s p q (s.views p) may.1 (kept.each p)) (may.1 ∙ sym (ap (λ (v : View). v.held) may.2))
+advances b s (Join p q) kept may =
     let v' : View = joined (s.views p) (s.views q) in
     let s' : State = record s { views = put s.views p v' } in
-    relearnt b s' q spent (relearnt b s p v' kept (true_joined b s p q (s.views p) (s.views q) may.0 (kept.each p) (kept.each q)) refl) (true_of_newcomer b s' q spent.right (inl refl))
-    (sym (put_cases (λ (w : View). w.held ≡ None) s.views p v' q (λ e. absurd (may.1 e)) (λ _. may.3)))
-
-seen_on : (b : Batch) (s s' : State) (views : ℕ → View) → Grows b s s' → Grows b s (record s' { views = views })
-seen_on b s s' views g = record { done = g.done; busy = g.busy; filled = g.filled; stored = g.stored }
-
-pub grows : (b : Batch) (s : State) (e : Event) → IsLawful b s → IsAllowed b s e → Grows b s (next s e)
-grows b s (LookPresence p x answer) kept may = still b s (put s.views p (learnt (s.views p) x answer))
-grows b s (LookValue p x answer) kept may = still b s s.views
-grows b s (Status p t answer) kept may = still b s (put s.views p (saw (s.views p) t answer))
-grows b s (Claim p t won.Mine) kept may = seen_on b s (turned b s t (Claimed p) (claimed_not_open p)) (put s.views p (claimed (s.views p) t seen.Open)) (claim_grows b s p t (won_mine (s.positions t) may.3))
-grows b s (Claim p t won.Busy) kept may = still b s (put s.views p (saw (s.views p) t seen.Busy))
-grows b s (Claim p t won.Done) kept may = still b s (put s.views p (saw (s.views p) t seen.Done))
-grows b s (FillValue p x z) kept may = seen_on b s (record s { values = put_slot s.values x z }) (put s.views p (stored (s.views p) x)) (value_grows b s x z (fill_right b s p x (cells.Present z) kept may.1))
-grows b s (FillPresence p x c) kept may = seen_on b s (record s { presences = put_slot s.presences x (Some (presence_of c)) }) (put s.views p (filled (s.views p) x)) (presence_grows b s x c kept.sound (fill_right b s p x c kept may.1))
-grows b s (Finish p t o) kept may = seen_on b s (turned b s t (Done o) (done_not_open o)) (put s.views p (finished (s.views p) t)) (finish_grows b s p t o ((kept.each p).held t may.1.holds))
-grows b s (Split p q) kept may = still b s (put s.views q (s.views p))
-grows b s (Join p q) kept may = still b s (put (put s.views p (joined (s.views p) (s.views q))) q spent)
+    let first = relearnt b s p v' kept (true_joined b s p q (s.views p) (s.views q) may.0 (kept.each p) (kept.each q)) refl in
+    let there : spent.held ≡ (s'.views q).held = sym (put_cases (λ (w : View). w.held ≡ None) s.views p v' q (λ e. absurd (may.1 e)) (λ _. may.3)) in
+    record { lawful = (relearnt b s' q spent first.lawful (true_of_newcomer b s' q spent.right (inl refl)) there).lawful; grows = still b s (put s'.views q spent) }

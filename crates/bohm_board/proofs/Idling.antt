@@ -28,18 +28,17 @@ blank e = record { edition = e; reads = []; writes = []; body = [] }
 as_blank : (t : Txn) → IsIdle t → t ≡ blank t.edition
 as_blank t i = λ d. record { edition = t.edition; reads = i.reads d; writes = i.writes d; body = i.body d }
 
+pub each_kind : (P : CheckKind → Type 0) → P Order → P Unread → P Unwritten → P Local → P Limit → (kind : CheckKind) → P kind
+each_kind P a b c d e Order = a
+each_kind P a b c d e Unread = b
+each_kind P a b c d e Unwritten = c
+each_kind P a b c d e Local = d
+each_kind P a b c d e Limit = e
+
 blank_formed : (e : Edition) (n s : ℕ) (kind : CheckKind) → ¬ (faulty (alone (blank e)) n s kind ≡ true)
-blank_formed e zero zero Order = false≢true
-blank_formed e zero zero Unread = false≢true
-blank_formed e zero zero Unwritten = false≢true
-blank_formed e zero zero Local = false≢true
-blank_formed e zero zero Limit = false≢true
+blank_formed e zero zero kind = each_kind (λ k. ¬ (faulty (alone (blank e)) zero zero k ≡ true)) false≢true false≢true false≢true false≢true false≢true kind
 blank_formed e zero (suc s) kind = false≢true
-blank_formed e (suc zero) zero Order = false≢true
-blank_formed e (suc zero) zero Unread = false≢true
-blank_formed e (suc zero) zero Unwritten = false≢true
-blank_formed e (suc zero) zero Local = false≢true
-blank_formed e (suc zero) zero Limit = false≢true
+blank_formed e (suc zero) zero kind = each_kind (λ k. ¬ (faulty (alone (blank e)) (suc zero) zero k ≡ true)) false≢true false≢true false≢true false≢true false≢true kind
 blank_formed e (suc zero) (suc s) kind = false≢true
 blank_formed e (suc (suc n)) s kind = false≢true
 
@@ -74,7 +73,7 @@ wants_nothing b all v t is =
     let (e, at) = idle_at b all t is in
     λ a u in_it _. ⊎_elim
     (λ (h : Contains (reads_at b t) a). absurd (nothing_among (reads_at b t) a (reads_paired b t (blank e) at) h))
-    (λ (h : Contains (writes_at b t) a). absurd (nothing_among (writes_at b t) a (writes_paired b t (blank e) at) h))
+    (λ (h : (is_sure_at b t ≡ false) × Contains (writes_at b t) a). absurd (nothing_among (writes_at b t) a (writes_paired b t (blank e) at) h.1))
     (in_either (is_sure_at b t) (reads_at b t) (writes_at b t) a in_it)
 
 pub fills_nothing : (b : Batch) → All IsIdle (txns_of b) → (v : View) (t : ℕ) → IsIn b t → HasFilledAll b v t

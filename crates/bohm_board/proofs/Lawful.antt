@@ -104,27 +104,33 @@ slot_cases P f x a y here other = ⊎_elim
 
 -- ---- one pass moves
 
+-- the law holds of the later state too, and no word went back
+pub record Advances (b : Batch) (s s' : State) : Type 0 where
+  pub lawful : IsLawful b s'
+  pub grows : Grows b s s'
+
 -- its view becomes v, and what the others hold stays theirs
 pub moved : (b : Batch) (s s' : State) (p : ℕ) (v : View) → IsLawful b s → Grows b s s' → IsSound b s' → IsTrueOf b s' p v
     → ((q t : ℕ) → q ≢ p → s.positions t ≡ Claimed q → s'.positions t ≡ Claimed q)
     → ((q t : ℕ) → q ≢ p → s'.positions t ≡ Claimed q → s.positions t ≡ Claimed q)
     → ((t : ℕ) → s'.positions t ≡ Claimed p → Holds b v t)
-    → IsLawful b (record s' { views = put s.views p v })
+    → Advances b s (record s' { views = put s.views p v })
 moved b s s' p v kept g sound mine others back holds = record {
-  sound = record { absent = sound.absent; present = sound.present; inside = sound.inside; outcomes = sound.outcomes; whole = sound.whole; untouched = sound.untouched };
-  each = λ q. put_cases (λ (w : View). IsTrueOf b (record s' { views = put s.views p v }) q w) s.views p v q
-      (λ e. seen s' (put s.views p v) q v (subst (λ (r : ℕ). IsTrueOf b s' r v) (sym e) mine))
-      (λ ne. seen s' (put s.views p v) q (s.views q) (true_on b s s' q (s.views q) g (λ t h. others q t ne ((kept.each q).held t h)) (kept.each q)));
-  held = λ q t h. put_cases (λ (w : View). Holds b w t) s.views p v q
-      (λ e. holds t (subst (λ (r : ℕ). s'.positions t ≡ Claimed r) e h))
-      (λ ne. kept.held q t (back q t ne h));
+  lawful = record {
+    sound = record { absent = sound.absent; present = sound.present; inside = sound.inside; outcomes = sound.outcomes; whole = sound.whole; untouched = sound.untouched };
+    each = λ q. put_cases (λ (w : View). IsTrueOf b (record s' { views = put s.views p v }) q w) s.views p v q
+        (λ e. seen s' (put s.views p v) q v (subst (λ (r : ℕ). IsTrueOf b s' r v) (sym e) mine))
+        (λ ne. seen s' (put s.views p v) q (s.views q) (true_on b s s' q (s.views q) g (λ t h. others q t ne ((kept.each q).held t h)) (kept.each q)));
+    held = λ q t h. put_cases (λ (w : View). Holds b w t) s.views p v q (λ e. holds t (subst (λ (r : ℕ). s'.positions t ≡ Claimed r) e h)) (λ ne. kept.held q t (back q t ne h));
+  };
+  grows = record { done = g.done; busy = g.busy; filled = g.filled; stored = g.stored };
 }
   where
     seen : (r : State) (views : ℕ → View) (q : ℕ) (w : View) → IsTrueOf b r q w → IsTrueOf b (record r { views = views }) q w
     seen r views q w k = record { done = k.done; busy = k.busy; absent = k.absent; present = k.present; held = k.held; stored = k.stored; filled = k.filled; named = k.named }
 
 -- the words stay, and so does what the pass holds
-pub relearnt : (b : Batch) (s : State) (p : ℕ) (v : View) → IsLawful b s → IsTrueOf b s p v → v.held ≡ (s.views p).held → IsLawful b (record s { views = put s.views p v })
+pub relearnt : (b : Batch) (s : State) (p : ℕ) (v : View) → IsLawful b s → IsTrueOf b s p v → v.held ≡ (s.views p).held → Advances b s (record s { views = put s.views p v })
 relearnt b s p v kept mine same = moved b s s p v kept (still b s s.views) kept.sound mine (λ q t ne h. h) (λ q t ne h. h) (λ t h. same ∙ kept.held p t h)
 
 -- a fact on what a list contains, and one more

@@ -93,12 +93,7 @@ module _ (b : Batch) (t : T) (s : State) (p : ℕ) (v : View) (here : IsBefore b
 
   -- a load
   read : (i n : ℕ) (f : View → View) → n ≡ get_or t.words i 0 → Shows b (stepped_to t i n p (f v)) (seeing s p (f (s.views p)))
-  read i n f e = record {
-    words = here.shows.words;
-    line = ap (λ (z : ℕ). set t.words i z) e ∙ (set-get_or t.words i 0 ∙ here.shows.line);
-    shown = same_shown b here.shows.words s (put s.views p (f (s.views p))) here.shows.shown;
-    views = views_put f;
-  }
+  read i n f e = record { words = here.shows.words; line = ap (λ (z : ℕ). set t.words i z) e ∙ (set-get_or t.words i 0 ∙ here.shows.line); shown = same_shown b here.shows.words s (put s.views p (f (s.views p))) here.shows.shown; views = views_put f }
 
   -- ---- status words
 
@@ -119,10 +114,7 @@ module _ (b : Batch) (t : T) (s : State) (p : ℕ) (v : View) (here : IsBefore b
       }
 
   pub status_step : (u i n : ℕ) → IsIn b u → i ≡ position b u → n ≡ get_or t.words i 0 → ¬ Holds b v u → IsStep b s (Status p u (status_of n)) (stepped_to t i n p (saw v u (status_of n)))
-  status_step u i n is e found apart = record {
-    allowed = (named, is, (λ h. apart (sym (ap (λ (w : View). w.held) mine) ∙ h)), ap status_of (found ∙ status_word u i is e) ∙ seen_word (s.positions u));
-    shows = read i n (λ w. saw w u (status_of n)) found;
-  }
+  status_step u i n is e found apart = record { allowed = (named, is, (λ h. apart (sym (ap (λ (w : View). w.held) mine) ∙ h)), ap status_of (found ∙ status_word u i is e) ∙ seen_word (s.positions u)); shows = read i n (λ w. saw w u (status_of n)) found }
 
   claim_shows : (u i n : ℕ) → IsIn b u → i ≡ position b u → n ≡ get_or t.words i 0 → Shows b (stepped_to t i (either (eqb n 0) 1 n) p (claimed v u (status_of n))) (next s (Claim p u (won_at n)))
   claim_shows u i zero is e found = put_status u i (Claimed p) (λ w. claimed w u seen.Open) is e
@@ -142,10 +134,7 @@ module _ (b : Batch) (t : T) (s : State) (p : ℕ) (v : View) (here : IsBefore b
   pub finish_step : (u i : ℕ) (o : Outcome) → IsIn b u → i ≡ position b u → Holds b v u → HasFilledAll b v u → KnowsWanted b v u → IsRightOutcome b u o → IsStep b s (Finish p u o) (stepped_to t i (word_of o) p (finished v u))
   finish_step u i o is e holds all knows right =
       let want = subst (λ (w : View). KnowsWanted b w u) (sym mine) knows in record {
-        allowed = (
-          named,
-          record { position = is; holds = ap (λ (w : View). w.held) mine ∙ holds; filled = subst (λ (w : View). HasFilledAll b w u) (sym mine) all; wanted = want; outcome = outcome_is_right b s u kept.sound is (filled_for u want) ∙ right },
-        );
+        allowed = (named, record { position = is; holds = ap (λ (w : View). w.held) mine ∙ holds; filled = subst (λ (w : View). HasFilledAll b w u) (sym mine) all; wanted = want; outcome = outcome_is_right b s u kept.sound is (filled_for u want) ∙ right });
         shows = put_status u i (Done o) (λ w. finished w u) is e;
       }
 
@@ -254,10 +243,7 @@ pub true_of : (b : Batch) (t : T) (rule : IsRuled b t) (p : ℕ) (v : View) → 
 true_of b t rule p v at own = subst (λ (w : View). IsTrueOf b rule.state p w) (mine b t rule.state p v (before b t rule p v at own)) ((reached_lawful b rule.state rule.reached).each p)
 
 recalls : (b : Batch) (s : State) (p : ℕ) (v : View) (u n : ℕ) → IsTrueOf b s p v → n ≡ progress_word (s.positions u) → Recalls v u (status_of n)
-recalls b s p v u n k e = record {
-  done = λ c. let (o, is) = k.done u c in ap status_of (e ∙ ap progress_word is) ∙ seen_word (Done o);
-  busy = λ c h. k.busy u c (opened (s.positions u) (sym (ap status_of e ∙ seen_word (s.positions u)) ∙ h));
-}
+recalls b s p v u n k e = record { done = λ c. let (o, is) = k.done u c in ap status_of (e ∙ ap progress_word is) ∙ seen_word (Done o); busy = λ c h. k.busy u c (opened (s.positions u) (sym (ap status_of e ∙ seen_word (s.positions u)) ∙ h)) }
   where
     opened : (o : Progress) → seen_as o ≡ seen.Open → o ≡ Open
     opened Open h = refl

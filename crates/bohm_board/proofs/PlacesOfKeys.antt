@@ -6,7 +6,6 @@ use Rattle.std.specs.Cmp.Lexicographic.{nat_list_eq_equiv}
 use Rattle.std.proofs.lemmas.Bool.{cases_lt, false_from_ne_true, or_right}
 use Rattle.std.proofs.lemmas.List.{length-map}
 use Rattle.std.proofs.lemmas.List.Folds.{list_any-append}
-use Rattle.std.proofs.lemmas.Map.Keys.{any_passes_from_place}
 use Rattle.std.proofs.lemmas.Map.Made.{length-le_from_is_member}
 use Rattle.std.proofs.lemmas.Option.{same_Some, slice_get-get_or, slice_get_within}
 use Rattle.bohm_tree.specs.declared.cell.Cell.{Cell}
@@ -67,9 +66,6 @@ few_entries ts entries base formed =
 declares_in : (set : DeclaredSet) (x : Txn) (k : List ℕ) → IsAmong (keys_in set x) k → declares k x ≡ true
 declares_in Reads x k among = rw among refl
 declares_in Writes x k among = or_right (is_among x.reads k) (is_among x.writes k) among
-
-pub keys_there : (ts : List Txn) (entries : Entries) (set : DeclaredSet) (i : ℕ) (x : Txn) → IsBase ts entries → slice_get ts i ≡ Some x → (k : List ℕ) → IsAmong (keys_in set x) k → IsAmong (keys_of entries) k
-keys_there ts entries set i x base at k among = base.keys k ∙ any_passes_from_place (declares k) ts i x at (declares_in set x k among)
 
 -- ---- one declared set
 

@@ -11,25 +11,18 @@ use Rattle.bohm_board.specs.Core.{Progress, State, Open, Claimed, Done, empty}
 use Rattle.bohm_board.specs.Events.{Event, LookPresence, LookValue, Status, Claim, FillValue, FillPresence, Finish, Split, Join, IsAllowed, IsRun, Reached, leave, next, wins, finishes}
 use Rattle.bohm_board.specs.Law.{IsLawful, Stays}
 use Rattle.bohm_board.proofs.Lawful.{Grows, still, stays, put_cases, true_of_newcomer}
-use Rattle.bohm_board.proofs.EventsKeep.{keeps, grows, won_mine}
+use Rattle.bohm_board.proofs.EventsKeep.{advances, won_mine}
 
 pub starts : (b : Batch) → IsLawful b (empty b)
 starts b = record {
-  sound = record {
-    absent = λ x h. absurd cc;
-    present = λ x h. absurd cc;
-    inside = λ t o h. absurd cc;
-    outcomes = λ t o h. absurd cc;
-    whole = λ x o is h. absurd cc;
-    untouched = λ x h. refl;
-  };
+  sound = record { absent = λ x h. absurd cc; present = λ x h. absurd cc; inside = λ t o h. absurd cc; outcomes = λ t o h. absurd cc; whole = λ x o is h. absurd cc; untouched = λ x h. refl };
   each = λ p. true_of_newcomer b (empty b) p (rights_of b) (inr refl);
   held = λ p t h. absurd cc;
 }
 
 pub keeps_on : (b : Batch) (s : State) (es : List Event) → IsLawful b s → IsRun b s es → IsLawful b (leave s es)
 keeps_on b s [] kept run = kept
-keeps_on b s (e ∷ es) kept run = keeps_on b (next s e) es (keeps b s e kept run.0) run.1
+keeps_on b s (e ∷ es) kept run = keeps_on b (next s e) es (advances b s e kept run.0).lawful run.1
 
 pub reached_lawful : (b : Batch) (s : State) → Reached b s → IsLawful b s
 reached_lawful b s r = subst (IsLawful b) r.2 (keeps_on b (empty b) r.0 (starts b) r.1)
@@ -47,16 +40,11 @@ pub reached_more : (b : Batch) (s : State) (e : Event) → Reached b s → IsAll
 reached_more b s e r may = (r.0 ++ e ∷ [], run_more b (empty b) r.0 e r.1 (subst (λ (z : State). IsAllowed b z e) (sym r.2) may), leave_more (empty b) r.0 e ∙ ap (λ (z : State). next z e) r.2)
 
 grows_more : (b : Batch) (s r q : State) → Grows b s r → Grows b r q → Grows b s q
-grows_more b s r q g h = record {
-  done = λ t o e. h.done t o (g.done t o e);
-  busy = λ t e. h.busy t (g.busy t e);
-  filled = λ x k e. h.filled x k (g.filled x k e);
-  stored = λ x z right e. h.stored x z right (g.stored x z right e);
-}
+grows_more b s r q g h = record { done = λ t o e. h.done t o (g.done t o e); busy = λ t e. h.busy t (g.busy t e); filled = λ x k e. h.filled x k (g.filled x k e); stored = λ x z right e. h.stored x z right (g.stored x z right e) }
 
 grows_on : (b : Batch) (s : State) (es : List Event) → IsLawful b s → IsRun b s es → Grows b s (leave s es)
 grows_on b s [] kept run = still b s s.views
-grows_on b s (e ∷ es) kept run = grows_more b s (next s e) (leave (next s e) es) (grows b s e kept run.0) (grows_on b (next s e) es (keeps b s e kept run.0) run.1)
+grows_on b s (e ∷ es) kept run = grows_more b s (next s e) (leave (next s e) es) (advances b s e kept run.0).grows (grows_on b (next s e) es (advances b s e kept run.0).lawful run.1)
 
 pub reached_stays : (b : Batch) (s : State) (es : List Event) → Reached b s → IsRun b s es → Stays s (leave s es)
 reached_stays b s es r run = let kept = reached_lawful b s r in stays b s (leave s es) kept.sound (grows_on b s es kept run)
@@ -71,14 +59,14 @@ module _ (b : Batch) (test : Event → Bool) (Q : State → Type 0)
   none_passes : (s : State) (es : List Event) → IsLawful b s → IsRun b s es → Q s → count_by test es ≡ 0
   none_passes s [] kept run q = refl
   none_passes s (e ∷ es) kept run q =
-      let rest = none_passes (next s e) es (keeps b s e kept run.0) run.1 (lasts s e kept run.0 q) in
+      let rest = none_passes (next s e) es (advances b s e kept run.0).lawful run.1 (lasts s e kept run.0 q) in
       let now : ◌≡◌ {A = ℕ} (cond (test e) 1 0) 0 = ap (λ (v : Bool). cond v 1 0) (off s e kept run.0 q) in
       omega (arith, sum_by-cons (λ x. cond (test x) 1 0) e es, now, rest)
 
   one_passes : (s : State) (es : List Event) → IsLawful b s → IsRun b s es → count_by test es ≤ 1
   one_passes s [] kept run = omega arith
   one_passes s (e ∷ es) kept run =
-      let kept' = keeps b s e kept run.0 in
+      let kept' = (advances b s e kept run.0).lawful in
       let rest = one_passes (next s e) es kept' run.1 in
       elim (test e) as (λ (v : Bool). test e ≡ v → count_by test (e ∷ es) ≤ 1) [
         | true ↦ λ h. let now : ◌≡◌ {A = ℕ} (cond (test e) 1 0) 1 = ap (λ (v : Bool). cond v 1 0) h in
@@ -106,7 +94,7 @@ pub claimed_once : (b : Batch) (es : List Event) (t : ℕ) → IsRun b (empty b)
 claimed_once b es t run = one_passes b (wins t) (λ s. s.positions t ≢ Open)
     (λ s e kept may closed. false_from_ne_true (wins t e) (λ h. let (p, is) = claim_of t e h in closed (won_mine (s.positions t) (subst (λ (z : Event). IsAllowed b s z) is may).3)))
     (λ s e kept may h. let (p, is) = claim_of t e h in subst (λ (z : Event). (next s z).positions t ≢ Open) (sym is) (put_cases (λ w. w ≢ Open) s.positions t (Claimed p) t (λ _ g. cc) (λ ne. absurd (ne refl))))
-    (λ s e kept may closed. (grows b s e kept may).busy t closed)
+    (λ s e kept may closed. (advances b s e kept may).grows.busy t closed)
     (empty b) es (starts b) run
 
 -- ---- finishes
@@ -132,5 +120,5 @@ pub finished_once : (b : Batch) (es : List Event) (t : ℕ) → IsRun b (empty b
 finished_once b es t run = one_passes b (finishes t) (IsDoneAt t)
     (λ s e kept may done. false_from_ne_true (finishes t e) (λ h. let (p, o, is) = ended t e h in not_both p done.0 (s.positions t) ((kept.each p).held t (subst (λ (z : Event). IsAllowed b s z) is may).1.holds) done.1))
     (λ s e kept may h. let (p, o, is) = ended t e h in subst (λ (z : Event). IsDoneAt t (next s z)) (sym is) (o, put_cases (λ w. w ≡ Done o) s.positions t (Done o) t (λ _. refl) (λ ne. absurd (ne refl))))
-    (λ s e kept may done. (done.0, (grows b s e kept may).done t done.0 done.1))
+    (λ s e kept may done. (done.0, (advances b s e kept may).grows.done t done.0 done.1))
     (empty b) es (starts b) run

@@ -1,5 +1,5 @@
 -- What a position wants is of an earlier one, for the crates above.
-use Rattle.std.proofs.Common.{◌≡◌, ℕ, ◌+◌, ◌<◌, List, [], ◌++◌, length, Bool, true, false, Some, ap, ◌∙◌, subst, ⊎_elim, inl, arith}
+use Rattle.std.proofs.Common.{◌≡◌, ℕ, ◌+◌, ◌<◌, List, [], ◌++◌, length, Bool, true, false, Some, ap, ◌∙◌, subst, ⊎_elim, inl, inr, refl, arith}
 use Rattle.std.specs.Prelude.{Contains, ◌⊎◌, if◌then◌else◌}
 use Rattle.std.specs.List.{slice_get}
 use Rattle.std.proofs.Math.Logic.{∥∥₁_elim}
@@ -61,9 +61,9 @@ among_right b t keys accesses a u inside are in_it e =
     let (k, at_key) = there keys j (omega (arith, within, are.paired)) in
     right_earlier b t k a u inside (are.each j k a at_key at) e
 
-pub in_either : (b : Bool) (xs ys : List Access) (a : Access) → Contains (xs ++ (if b then [] else ys)) a → Contains xs a ⊎ Contains ys a
+pub in_either : (b : Bool) (xs ys : List Access) (a : Access) → Contains (xs ++ (if b then [] else ys)) a → Contains xs a ⊎ ((b ≡ false) × Contains ys a)
 in_either true xs ys a h = ⊎_elim (λ c. inl c) (λ (c : Contains [] a). absurd (nothing_in a c)) (Contains-append_cases xs [] a h)
-in_either false xs ys a h = Contains-append_cases xs ys a h
+in_either false xs ys a h = ⊎_elim (λ c. inl c) (λ (c : Contains ys a). inr (refl, c)) (Contains-append_cases xs ys a h)
 
 -- a wanted source is an earlier position, with a slot for the key
 pub wanted_earlier : (b : Batch) (t : ℕ) (a : Access) (u : ℕ) → IsIn b t → Contains (wanted_at b t) a → a.source ≡ Within u → IsEarlier b t a u
@@ -71,5 +71,5 @@ wanted_earlier b t a u inside in_it e =
     let (x, at) = txn_there b t inside in
     ∥∥₁_elim b.right (earlier_prop b t a u) (λ plan. ⊎_elim
     (λ (h : Contains (reads_at b t) a). among_right b t x.reads (reads_at b t) a u inside (plan.reads (position b t) x at) h e)
-    (λ (h : Contains (writes_at b t) a). among_right b t x.writes (writes_at b t) a u inside (plan.writes (position b t) x at) h e)
+    (λ (h : (is_sure_at b t ≡ false) × Contains (writes_at b t) a). among_right b t x.writes (writes_at b t) a u inside (plan.writes (position b t) x at) h.1 e)
     (in_either (is_sure_at b t) (reads_at b t) (writes_at b t) a in_it))

@@ -28,17 +28,13 @@ pub fn ruled_is_lawful()
     ensures lawful { (b : Batch) (t : Table (Unit {0}) View) (rule : IsRuled b t) → Shows b t rule.state × IsLawful b rule.state }
 {}
 
-/// A step on a status word is the event of its name: a load is a `Status`, an exchange of 0 for 1 a
-/// `Claim`, and the store of an outcome a `Finish`.
-pub fn status_steps_are_events()
+/// Each step on a word is the event of its name. Of a status word a load is a `Status`, an exchange of 0
+/// for 1 a `Claim`, and the store of an outcome a `Finish`; of a slot's words loads are a `LookPresence`
+/// and a `LookValue`, and stores a `FillValue` and a `FillPresence`.
+pub fn steps_are_events()
     ensures status { (b : Batch) (t : Table (Unit {0}) View) (s : State) (p : ℕ) (v : View) (u n : ℕ) → IsBefore b t s p v → IsIn b u → n ≡ slice_index t.words (position b u) → ¬ Holds b v u → IsStep b s (Status p u (status_of n)) (stepped_to t (position b u) n p (saw v u (status_of n))) }
     ensures claim { (b : Batch) (t : Table (Unit {0}) View) (s : State) (p : ℕ) (v : View) (u n : ℕ) → IsBefore b t s p v → IsIn b u → n ≡ slice_index t.words (position b u) → HoldsNothing v → IsStep b s (Claim p u (won_at n)) (stepped_to t (position b u) (either (n == 0) 1 n) p (claimed v u (status_of n))) }
     ensures finish { (b : Batch) (t : Table (Unit {0}) View) (s : State) (p : ℕ) (v : View) (u : ℕ) (o : Outcome) → IsBefore b t s p v → IsIn b u → Holds b v u → HasFilledAll b v u → KnowsWanted b v u → IsRightOutcome b u o → IsStep b s (Finish p u o) (stepped_to t (position b u) (word_of o) p (finished v u)) }
-{}
-
-/// And so is a step on a word of a slot: loads are a `LookPresence` and a `LookValue`, stores a
-/// `FillValue` and a `FillPresence`.
-pub fn slot_steps_are_events()
     ensures look_presence { (b : Batch) (t : Table (Unit {0}) View) (s : State) (p : ℕ) (v : View) (x : Slot) (n : ℕ) → IsBefore b t s p v → IsSlot b x → n ≡ slice_index t.words (presence_place b x) → IsStep b s (LookPresence p x (presence_at n)) (stepped_to t (presence_place b x) n p (learnt v x (presence_at n))) }
     ensures look_value { (b : Batch) (t : Table (Unit {0}) View) (s : State) (p : ℕ) (v : View) (x : Slot) (n : ℕ) → IsBefore b t s p v → IsSlot b x → n ≡ slice_index t.words (value_place b x) → Contains v.present x → IsStep b s (LookValue p x (value_at n)) (stepped_to t (value_place b x) n p v) }
     ensures fill_value { (b : Batch) (t : Table (Unit {0}) View) (s : State) (p : ℕ) (v : View) (x : Slot) (n : ℕ) → IsBefore b t s p v → IsSlot b x → IsFillable b v x → ¬ Contains v.stored x → IsRightCell b x (present_at n) → IsStep b s (FillValue p x (value_at n)) (stepped_to t (value_place b x) n p (stored v x)) }

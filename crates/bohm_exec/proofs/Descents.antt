@@ -177,9 +177,6 @@ only b start done xs ys d e none =
 pub top_inside : (b : Batch) (start : ℕ) (done xs : List ℕ) → IsDescent b start done xs → IsIn b (top_of xs)
 top_inside b start done xs d = let some = d.some in d.inside (length xs - 1) (omega arith)
 
-pub top_leads : (b : Batch) (start : ℕ) (done xs : List ℕ) → IsDescent b start done xs → Leads b start (top_of xs)
-top_leads b start done xs d = let some = d.some in d.leads (length xs - 1) (omega arith)
-
 pub pop_falls : (b : Batch) (start : ℕ) (done done' xs ys : List ℕ) (top : ℕ) → IsDescent b start done xs → xs ≡ ys ++ top_of xs ∷ [] → top ≡ top_of xs → done' ≡ done ++ top ∷ [] → 0 < length ys
     → (left_to_do b done' ys < left_to_do b done xs) × IsDescent b start done' ys
 pop_falls b start done done' xs ys top d e is now some =

@@ -65,10 +65,7 @@ pub tested_base : (ts : List Txn) (es : Entries) → is_base ts es ≡ true → 
 tested_base ts es sound =
     let first = and_parts (rising (keys_of es)) (are_declared ts es && has_base es ts) sound in
     let second = and_parts (are_declared ts es) (has_base es ts) first.1 in
-    record {
-      rises = first.0;
-      keys = λ k. among_entries es k ∙ both_ways (has_entry es k) (list_any (declares k) ts) (entry_declared ts es k second.0) (declared_entered ts es k second.1);
-    }
+    record { rises = first.0; keys = λ k. among_entries es k ∙ both_ways (has_entry es k) (list_any (declares k) ts) (entry_declared ts es k second.0) (declared_entered ts es k second.1) }
 
 -- ---- what was set aside
 

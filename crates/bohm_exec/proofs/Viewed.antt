@@ -21,7 +21,7 @@ use Rattle.bohm_board.specs.Views.{Knows, looked, filled_with}
 use Rattle.bohm_board.proofs.Keeping.{keeps_same, keeps_then, keeps_looked}
 use Rattle.bohm_board.proofs.Newest.{formed_at}
 use Rattle.bohm_board.proofs.Numbers.{txn_there}
-use Rattle.bohm_board.proofs.Wanted.{reads_paired, writes_paired}
+use Rattle.bohm_board.proofs.Wanted.{reads_paired, writes_paired, in_either}
 use Rattle.bohm_place.specs.declared.declared_set.DeclaredSet.{DeclaredSet}
 use Rattle.bohm_place.specs.declared.declared_set.DeclaredSet.TheVariants.{Reads, Writes}
 use Rattle.bohm_place.specs.Plans.{keys_in}
@@ -66,13 +66,6 @@ pub writes_wanted : (b : Batch) (t : ℕ) → is_sure_at b t ≡ false → AreWa
 writes_wanted b t unsure = λ a in_it.
     let P : Bool → Type 0 = λ s. Contains (reads_at b t ++ (if s then [] else writes_at b t)) a in
     subst P (sym unsure) (Contains-append_right (reads_at b t) (writes_at b t) a in_it)
-
-nothing : (a : Access) → ¬ Contains [] a
-nothing a c = let l = c.1 in absurd (omega arith)
-
-in_either : (s : Bool) (xs ys : List Access) (a : Access) → Contains (xs ++ (if s then [] else ys)) a → Contains xs a ⊎ ((s ≡ false) × Contains ys a)
-in_either true xs ys a h = ⊎_elim (λ (c : Contains xs a). inl c) (λ (c : Contains [] a). absurd (nothing a c)) (Contains-append_cases xs [] a h)
-in_either false xs ys a h = ⊎_elim (λ (c : Contains xs a). inl c) (λ (c : Contains ys a). inr (refl, c)) (Contains-append_cases xs ys a h)
 
 -- the versions of the reads are known and, unless it is sure, those of the writes
 pub knows_wanted : (b : Batch) (v : View) (t : ℕ) → KnowsAll b v (reads_at b t) → (is_sure_at b t ≡ false → KnowsAll b v (writes_at b t)) → KnowsWanted b v t

@@ -51,7 +51,4 @@ returns c = λ x is.
     let b = c.args.batch.now in
     let keys = keys_in c.args.set x in
     let even = keys_paired c.args.set b c.args.t x is in
-    record {
-      paired = omega (arith, even, c.requires.paired, c.loop-index.auto.cells);
-      each = λ j k a cell at_key at here. let within = slice_get_within keys j k at_key in c.loop-index.invariant.cells x is j k a cell (omega arith) at_key at here;
-    }
+    record { paired = omega (arith, even, c.requires.paired, c.loop-index.auto.cells); each = λ j k a cell at_key at here. let within = slice_get_within keys j k at_key in c.loop-index.invariant.cells x is j k a cell (omega arith) at_key at here }

@@ -24,12 +24,7 @@ slot_inside : (c : In-Within) → IsSlot (batch_of c.args.board.now) (slot_in c.
 slot_inside c = (wanted_earlier (batch_of c.args.board.now) c.args.t c.access-access.result c.in-Within.u c.requires.inside (wanted (goal.at.In-Within c).After-access-access) c.in-Within.is).slot
 
 pub loop-index-init : goal.loop-index-init
-loop-index-init c = record {
-  own = c.requires.own;
-  looks = no_looks (view c.args.pass.now);
-  known = λ j a u l at is. absurd (omega arith);
-  found = λ j a u cell l at is here. absurd (omega arith);
-}
+loop-index-init c = record { own = c.requires.own; looks = no_looks (view c.args.pass.now); known = λ j a u l at is. absurd (omega arith); found = λ j a u cell l at is here. absurd (omega arith) }
 
 pub look-requires-clause-inside : goal.look-requires-clause-inside
 look-requires-clause-inside c = slot_inside (goal.at.look-requires-clause-inside c).In-Within

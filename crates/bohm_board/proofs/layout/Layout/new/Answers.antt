@@ -14,8 +14,4 @@ loop-txn-preserved c =
     let wide = c.width-slots.ensures.width in
     let few = c.width-slots.ensures.few in
     let before = c.loop-txn.invariant.slots in
-    record {
-      slots = omega arith;
-      few = omega arith;
-      starts = subst (λ (xs : List ℕ). AreStarts ts (i + 1) xs) (sym c.in_ok-push.ensures.items) (one_start ts i c.loop-txn.starts.items c.loop-txn.slots c.loop-txn.invariant.starts before);
-    }
+    record { slots = omega arith; few = omega arith; starts = subst (λ (xs : List ℕ). AreStarts ts (i + 1) xs) (sym c.in_ok-push.ensures.items) (one_start ts i c.loop-txn.starts.items c.loop-txn.slots c.loop-txn.invariant.starts before) }
