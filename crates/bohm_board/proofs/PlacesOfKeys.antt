@@ -3,6 +3,8 @@ use Rattle.std.proofs.Common.{◌≡◌, ℕ, suc, ◌+◌, ◌*◌, ◌<◌, �
 use Rattle.std.specs.List.{list_any, AllByRecursion, IsDistinct}
 use Rattle.std.specs.Str.{bytes_eq}
 use Rattle.std.specs.Cmp.Lexicographic.{nat_list_eq_equiv}
+use Rattle.std.proofs.Math.Logic.{∥∥₁_elim}
+use Rattle.std.proofs.Props.{props}
 use Rattle.std.proofs.lemmas.Bool.{cases_lt, false_from_ne_true, or_right}
 use Rattle.std.proofs.lemmas.List.{length-map}
 use Rattle.std.proofs.lemmas.List.Folds.{list_any-append}
@@ -148,8 +150,8 @@ next_row txns p q r entries i x at noted reads writes set m n y a low at_y at_a 
         (writes.each Reads i n a at_a)
     new Writes n a at_a before k at_k = writes.done n a (slice_get_within x.writes n k at_k) at_a before k at_k
 
-pub row_paired : (txns : List Txn) (p : Planned) (set : DeclaredSet) (i : ℕ) (x : Txn) → IsRightPlan txns p → slice_get txns i ≡ Some x → length (keys_in set x) ≡ length (planned_in set p i)
-row_paired txns p set i x right at = (rights_of_plan txns p set i x right at).paired
+pub row_paired : (txns : List Txn) (p : Planned) (set : DeclaredSet) (i : ℕ) (x : Txn) → ∥ IsRightPlan txns p ∥₁ → slice_get txns i ≡ Some x → length (keys_in set x) ≡ length (planned_in set p i)
+row_paired txns p set i x right at = ∥∥₁_elim right (hlevel props) (λ plan. (rights_of_plan txns p set i x plan at).paired)
 
 pub few_keys : (txns : List Txn) (set : DeclaredSet) (i : ℕ) (x : Txn) → All IsWellFormedTxn txns → slice_get txns i ≡ Some x → length (keys_in set x) ≤ 16
 few_keys txns Reads i x formed at = (formed_at txns formed i x at).few_reads

@@ -40,7 +40,7 @@ impl<'a> Batch<'a> {
         requires timestamps { first + length txns.now ≤ 2 ^ 32 }
         requires formed { All IsWellFormedTxn txns.now }
         requires first { plan.first ≡ first }
-        requires right { IsRightPlan txns.now plan }
+        requires right { ∥ IsRightPlan txns.now plan ∥₁ }
         requires base { IsBase txns.now base.items }
         ensures first { first_of result ≡ first }
         ensures txns { txns_of result ≡ txns.entry.now }

@@ -53,10 +53,10 @@ pub fn note_places(plan: &mut Plan, txns: &[Txn], entries: &[(Key, Cell)])
     requires few { length txns.now ≤ 4096 }
     requires timestamps { plan.old.first + length txns.now ≤ 2 ^ 32 }
     requires formed { All IsWellFormedTxn txns.now }
-    requires right { IsRightPlan txns.now plan.old }
+    requires right { ∥ IsRightPlan txns.now plan.old ∥₁ }
     requires base { IsBase txns.now entries.now }
     ensures sources { HasSourcesOf plan.old plan.new }
-    ensures right { IsRightPlan txns.now plan.new }
+    ensures right { ∥ IsRightPlan txns.now plan.new ∥₁ }
     ensures noted { AreNoted txns.now plan.new entries.now }
 {
     let first = plan.first();

@@ -1,26 +1,32 @@
--- What a command without options says of words.
-use Rattle.std.proofs.Common.{◌≡◌, ℕ, true, List, ◌∷◌, codes, refl, sym, subst, inl, inr}
+-- What the command says of the words is said of a line that begins with the program's name.
+use Rattle.std.proofs.Common.{◌≡◌, ◌∙◌, ap, true, List, ◌∷◌, codes, refl, sym, subst, inl, inr}
 use Rattle.clap.specs.Values.{kind_of}
-use Rattle.clap.specs.Words.{App, Kinds, HasKind, IsAmong, new_app, takes, fault_of, is_simple_and_free}
+use Rattle.clap.specs.Words.{App, Kinds, HasKind, IsAmong, Row, Text, is_simple, is_simple_and_free, matches_of, takes, fault_of}
 use Rattle.clap.specs.declared.error.Error.{Error}
 use Rattle.clap.specs.declared.error.kind.ErrorKind.{ErrorKind}
 use Rattle.clap.specs.declared.error.kind.ErrorKind.TheVariants.{OutOfMemory}
-use Rattle.bohm_cli.specs.Taken.{AreTaken, faults_in}
+use Rattle.bohm_cli.specs.Options.{bohm, given_in}
+use Rattle.bohm_cli.specs.Taken.{AreTaken, faults_in, settings_in}
 use Rattle.bohm_cli.specs.Faults.{IsNoMemory, IsOfKind, IsFoundAmong}
 use Rattle.bohm_cli.specs.declared.words.WordFault.{WordFault}
 use Rattle.bohm_cli.specs.declared.words.WordFault.TheVariants.{Bad, Help, NoMemory}
 
-pub takes_line : (command : App) (line words : List (List ℕ)) → command ≡ new_app (codes "bohm") → line ≡ codes "bohm" ∷ words → AreTaken words → takes command line ≡ true
-unfolding AreTaken
-takes_line command line words e f taken = subst (λ (p : App × List (List ℕ)). takes p.0 p.1 ≡ true) (λ i. (sym e i, sym f i)) taken
+module _ (command : App) (line words : List Text) (is : command ≡ bohm) (whole : line ≡ codes "bohm" ∷ words) where
+  pub takes_line : AreTaken words → takes command line ≡ true
+  unfolding AreTaken
+  takes_line taken = subst (λ (p : App × List Text). takes p.0 p.1 ≡ true) (λ i. (sym is i, sym whole i)) taken
 
--- such a command has no rule that would leave its faults open
-pub simple : (command : App) → command ≡ new_app (codes "bohm") → is_simple_and_free command ≡ true
-simple command e = subst (λ (c : App). is_simple_and_free c ≡ true) (sym e) refl
+  pub same_faults : fault_of command line ≡ faults_in words
+  unfolding faults_in
+  same_faults = λ i. fault_of (is i) (whole i)
 
-pub same_faults : (command : App) (line words : List (List ℕ)) → command ≡ new_app (codes "bohm") → line ≡ codes "bohm" ∷ words → fault_of command line ≡ faults_in words
-unfolding faults_in
-same_faults command line words e f = λ i. fault_of (e i) (f i)
+  pub same_settings : (rows : List Row) → (is_simple command ≡ true → rows ≡ matches_of command line) → given_in rows ≡ settings_in words
+  unfolding settings_in
+  same_settings rows has = ap given_in (has (subst (λ (c : App). is_simple c ≡ true) (sym is) refl) ∙ λ i. matches_of (is i) (whole i))
+
+-- the command has no rule that would leave its faults open
+pub simple : (command : App) → command ≡ bohm → is_simple_and_free command ≡ true
+simple command is = subst (λ (c : App). is_simple_and_free c ≡ true) (sym is) refl
 
 pub no_memory : (kind : ErrorKind) (fault : WordFault) → IsOfKind kind fault → kind ≡ OutOfMemory → IsNoMemory fault
 no_memory kind (Bad text) said is = absurd (said.0 is)

@@ -1,2 +1,4 @@
-pub mod Faults
+pub mod Options
 pub mod Taken
+pub mod Faults
+pub mod Endings

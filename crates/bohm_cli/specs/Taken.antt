@@ -1,11 +1,17 @@
--- Words that clap's rule for simple commands takes.
-use Rattle.std.specs.Prelude.{◌≡◌, ℕ, true, List, ◌∷◌, codes}
-use Rattle.clap.specs.Words.{Kinds, new_app, takes, fault_of}
+-- What clap makes of the words after the program's name.
+use Rattle.std.specs.Prelude.{◌≡◌, true, List, ◌∷◌, codes}
+use Rattle.clap.specs.Words.{Kinds, Text, takes, fault_of, matches_of}
+use Rattle.bohm_run.specs.Given.{Given}
+use Rattle.bohm_cli.specs.Options.{bohm, given_in}
 
--- the words after the program's name are those of a command without options
-unfoldable pub AreTaken : List (List ℕ) → Type 0
-AreTaken words = takes (new_app (codes "bohm")) (codes "bohm" ∷ words) ≡ true
+-- clap's rule for simple commands takes them
+unfoldable pub AreTaken : List Text → Type 0
+AreTaken words = takes bohm (codes "bohm" ∷ words) ≡ true
 
--- the kinds of fault that such a command finds in the words: none where it takes them
-unfoldable pub faults_in : List (List ℕ) → Kinds
-faults_in words = fault_of (new_app (codes "bohm")) (codes "bohm" ∷ words)
+-- the kinds of fault that clap finds in them: none where it takes them
+unfoldable pub faults_in : List Text → Kinds
+faults_in words = fault_of bohm (codes "bohm" ∷ words)
+
+-- the settings that clap reads in them
+unfoldable pub settings_in : List Text → Given
+settings_in words = given_in (matches_of bohm (codes "bohm" ∷ words))

@@ -1,25 +1,15 @@
 //! The program: a log on standard input, its answer on standard output.
 #![tactic(auto)]
 
-ghost use Rattle.std.specs.Prelude.{◌≡◌};
-ghost use Rattle.std.specs.Process.{exit_status};
-
+mod ending;
+mod options;
 mod words;
 
-use bohm_run::{RunFault, Settings, print_fault, run_text};
-use std::io::Write;
+use bohm_run::{Settings, run_text};
+use ending::{NoAnswer, exit_code, tell};
 use std::process::ExitCode;
 use std::{env, io};
 use words::{WordFault, read_words};
-
-/// The line of a refusal for want of memory, where there is none to make the line with.
-const NO_MEMORY: &str = "refused: memory\n";
-
-/// The exit status where the run was refused.
-const REFUSED: u8 = 1;
-
-/// The exit status where the words were refused.
-const BAD_WORDS: u8 = 2;
 
 /// The settings that the program was started with.
 fn settings_given(rt: &HostRuntime) -> Result<Settings, WordFault> {
@@ -40,32 +30,20 @@ fn settings_given(rt: &HostRuntime) -> Result<Settings, WordFault> {
     read_words(rt.alloc(), words.as_slice())
 }
 
-/// Says on standard error why the run was refused.
-fn refuse(rt: &HostRuntime, fault: &RunFault) -> ExitCode
-    ensures { exit_status result ≡ REFUSED }
-{
-    let _ = match print_fault(rt.alloc(), fault) {
-        Ok(line) => rt.stderr().write_all(line.as_slice()),
-        Err(_) => rt.eprint(NO_MEMORY),
-    };
-    ExitCode::from(REFUSED)
-}
-
 fn main(rt: HostRuntime) -> ExitCode {
-    let settings = match settings_given(&rt) {
-        Ok(settings) => settings,
-        Err(WordFault::Help(text)) => {
-            let _ = rt.print(text);
-            return ExitCode::SUCCESS;
-        }
-        Err(WordFault::Bad(text)) => {
-            let _ = rt.eprint(text);
-            return ExitCode::from(BAD_WORDS);
-        }
-        Err(WordFault::NoMemory) => return refuse(&rt, &RunFault::NoMemory),
+    let answered = match settings_given(&rt) {
+        Ok(settings) => run_text(
+            &rt,
+            rt.alloc(),
+            &mut rt.reader(),
+            &mut io::writer(&rt),
+            settings,
+        )
+        .map_err(NoAnswer::from),
+        Err(fault) => Err(NoAnswer::from(fault)),
     };
-    match run_text(rt.alloc(), &mut rt.reader(), &mut io::writer(&rt), settings) {
-        Ok(()) => ExitCode::SUCCESS,
-        Err(fault) => refuse(&rt, &fault),
+    if let Err(reason) = &answered {
+        let _ = tell(rt.alloc(), &mut rt.stdout(), &mut rt.stderr(), reason);
     }
+    exit_code(&answered)
 }

@@ -1,15 +1,15 @@
 //! The words that the program is started with.
 
 ghost use Rattle.std.specs.Prelude.{◌≡◌, [], ◌∷◌, map, codes, string_bytes, IfOk, IfErr};
-ghost use Rattle.bohm_cli.specs.Taken.{AreTaken, faults_in};
+ghost use Rattle.bohm_cli.specs.Taken.{AreTaken, faults_in, settings_in};
 ghost use Rattle.bohm_cli.specs.Faults.{IsNoMemory, IsOfKind, IsFoundAmong};
 ghost use Rattle.bohm_cli.specs.declared.words.WordFault.TheVariants.{NoMemory};
 ghost use Rattle.clap.specs.Words.{kind_of};
-ghost use Rattle.bohm_run.specs.Given.{plain};
 
+use crate::options::command;
 use bohm_run::Settings;
+use clap::Error;
 use clap::error::ErrorKind;
-use clap::{Command, Error};
 use std::alloc::{AllocError, AllocFailed, Global};
 
 /// Why there are no settings.
@@ -56,7 +56,8 @@ fn fault_of(alloc: Global, error: Error) -> WordFault
 
 /// The program's name and the words.
 fn command_line<'a>(alloc: Global, words: &'a [String]) -> Result<Vec<&'a str>, AllocError>
-    ensures { IfOk result (λ line. map (λ word. word.now) line.items ≡ codes "bohm" ∷ map string_bytes words.entry.now) }
+    ensures { IfOk result (λ line. map (λ word. word.now) line.items
+        ≡ codes "bohm" ∷ map string_bytes words.entry.now) }
 {
     let mut line = Vec::new(alloc);
     line.push("bohm")?;
@@ -66,17 +67,28 @@ fn command_line<'a>(alloc: Global, words: &'a [String]) -> Result<Vec<&'a str>, 
     Ok(line)
 }
 
-/// The settings that the words after the program's name give. There are no options: the settings
-/// are the defaults.
+/// The settings that the words after the program's name give, each option that they don't name at
+/// its default. Words that clap doesn't take are refused with its text.
 pub fn read_words(alloc: Global, words: &[String]) -> Result<Settings, WordFault>
-    ensures ok { IfOk result (λ settings. settings ≡ plain) }
+    ensures ok { IfOk result (λ settings. settings ≡ settings_in (map string_bytes words.now)) }
     ensures faultless { IfOk result (λ _. faults_in (map string_bytes words.now) ≡ []) }
     ensures taken { AreTaken (map string_bytes words.now) → IfErr result IsNoMemory }
     ensures found { IfErr result (IsFoundAmong (faults_in (map string_bytes words.now))) }
 {
     let line = command_line(alloc, words)?;
-    match Command::new(alloc, "bohm").try_get_matches_from(line.as_slice()) {
-        Ok(_) => Ok(Settings::new(1, 1, 1, 4096, 0, None).unwrap()),
+    match command(alloc)?.try_get_matches_from(line.as_slice()) {
+        Ok(matches) => {
+            let defaults = Settings::default();
+            let settings = Settings::new(
+                matches.get_one("cc").unwrap_or(defaults.cc()),
+                matches.get_one("exec").unwrap_or(defaults.exec()),
+                matches.get_one("parts").unwrap_or(defaults.parts()),
+                matches.get_one("batch").unwrap_or(defaults.batch()),
+                matches.get_one("keep").unwrap_or(defaults.keep()),
+                matches.get_one("at"),
+            );
+            Ok(settings.unwrap())
+        }
         Err(error) => Err(fault_of(alloc, error)),
     }
 }

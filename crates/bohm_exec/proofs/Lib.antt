@@ -6,3 +6,4 @@ pub mod Based
 pub mod Descents
 pub mod Accounts
 pub mod Tested
+pub mod Coverage

@@ -4,3 +4,4 @@ pub mod Moments
 pub mod Turns
 pub mod Answers
 pub mod Samples
+pub mod Shares

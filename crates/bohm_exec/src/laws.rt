@@ -1,6 +1,6 @@
 //! Laws of the core, over the definitions alone. No running call uses them.
 
-ghost use Rattle.std.specs.Prelude.{◌≡◌, ℕ, ◌≤◌, List, Contains, count_by, Some, ◌↔◌, slice_get};
+ghost use Rattle.std.specs.Prelude.{◌≡◌, ℕ, ◌+◌, ◌-◌, ◌%◌, ◌<◌, ◌≤◌, List, All, Contains, count_by, Some, ◌↔◌, slice_get};
 ghost use Rattle.bohm_tree.specs.declared.cell.Cell.{Cell};
 ghost use Rattle.bohm_tree.specs.declared.txn.Txn.{Txn};
 ghost use Rattle.bohm_txn.specs.declared.outcome.Outcome.{Outcome};
@@ -13,6 +13,8 @@ ghost use Rattle.bohm_board.specs.Core.{State, empty, HasWanted, input, cell_at,
 ghost use Rattle.bohm_board.specs.Events.{Event, IsRun, leave, Reached, MayFill, MayFinish, wins, finishes};
 ghost use Rattle.bohm_board.specs.Law.{IsLawful, Stays};
 ghost use Rattle.bohm_board.specs.Views.{Holds, HasFilledAll, KnowsWanted};
+ghost use Rattle.bohm_exec.specs.Asides.{IsPickedFrom};
+ghost use Rattle.bohm_exec.specs.Shares.{share};
 
 // ---- of lists of events
 
@@ -57,4 +59,18 @@ pub fn sure_wants_its_reads()
 pub fn right_steps_are_the_cores()
     ensures fill { (b : Batch) (s : State) (p : ℕ) (x : Slot) (c : Cell) → IsLawful b s → IsSlot b x → Holds b (s.views p) x.txn → ¬ Contains (s.views p).filled x → KnowsWanted b (s.views p) x.txn → IsRightCell b x c → MayFill b s p x c }
     ensures finish { (b : Batch) (s : State) (p t : ℕ) (o : Outcome) → IsLawful b s → IsIn b t → Holds b (s.views p) t → HasFilledAll b (s.views p) t → KnowsWanted b (s.views p) t → IsRightOutcome b t o → MayFinish b s p t o }
+{}
+
+// ---- of shares
+
+/// Each position of a batch stands in the share of the worker whose number is its distance from the
+/// first, modulo the number of workers; and a share has positions of the batch alone.
+pub fn shares_cover_the_batch()
+    ensures covers { (first len workers t : ℕ) → first ≤ t → t < first + len → Contains (share first len ((t - first) % workers) workers) t }
+    ensures inside { (first len worker workers : ℕ) → All (λ t. (first ≤ t) × (t < first + len)) (share first len worker workers) }
+{}
+
+/// What is set aside of a share is of the share.
+pub fn set_aside_is_of_the_share()
+    ensures { (xs ys : List ℕ) (t : ℕ) → IsPickedFrom xs ys → Contains xs t → Contains ys t }
 {}

@@ -1,2 +1,9 @@
 pub mod Sending
 pub mod Refusals
+pub mod Moves
+pub mod Sizes
+pub mod Going
+pub mod Walks
+pub mod Replying
+pub mod Swept
+pub mod TestPlans

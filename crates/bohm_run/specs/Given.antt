@@ -1,5 +1,6 @@
--- Settings.
-use Rattle.std.specs.Prelude.{ℕ, Bool, ◌&&◌, ◌==◌, Option, Some, None, is_none, if◌then◌else◌}
+-- Settings, their ranges and their defaults.
+use Rattle.std.specs.Prelude.{ℕ, ◌≤◌, Option, None}
+use Rattle.bohm_run.specs.declared.settings.TheConstants.{MOST_WORKERS, MOST_PARTS, LARGEST_BATCH, MOST_KEPT}
 
 pub record Given : Type 0 where
   pub cc : ℕ
@@ -9,14 +10,16 @@ pub record Given : Type 0 where
   pub keep : ℕ
   pub at : Option ℕ
 
--- the plain executor has the defaults alone
-abbrev pub are_settings : ℕ → ℕ → ℕ → ℕ → ℕ → Option ℕ → Bool
-are_settings cc exec parts batch keep at = cc == 1 && exec == 1 && parts == 1 && batch == 4096 && keep == 0 && is_none at
+abbrev pub IsBetween : ℕ → ℕ → ℕ → Type 0
+IsBetween least most n = (least ≤ n) × (n ≤ most)
 
-abbrev pub settings_of : ℕ → ℕ → ℕ → ℕ → ℕ → Option ℕ → Option Given
-settings_of cc exec parts batch keep at =
-    if are_settings cc exec parts batch keep at then Some (record { cc = cc; exec = exec; parts = parts; batch = batch; keep = keep; at = at }) else None
+-- each number lies in its range
+pub record AreInRange (given : Given) : Type 0 where
+  pub cc : IsBetween 1 MOST_WORKERS given.cc
+  pub exec : IsBetween 1 MOST_WORKERS given.exec
+  pub parts : IsBetween 1 MOST_PARTS given.parts
+  pub batch : IsBetween 1 LARGEST_BATCH given.batch
+  pub keep : given.keep ≤ MOST_KEPT
 
--- the defaults
-abbrev pub plain : Given
-plain = record { cc = 1; exec = 1; parts = 1; batch = 4096; keep = 0; at = None }
+abbrev pub defaults : Given
+defaults = record { cc = 1; exec = 1; parts = 1; batch = LARGEST_BATCH; keep = 0; at = None }

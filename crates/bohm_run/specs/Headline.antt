@@ -1,5 +1,5 @@
 -- What a run over bytes reads, answers and refuses.
-use Rattle.std.specs.Prelude.{ℕ, ◌<◌, List, length, Option}
+use Rattle.std.specs.Prelude.{ℕ, ◌-◌, ◌<◌, ◌≤◌, List, length, take, Option, unwrap_or}
 use Rattle.std.specs.FinMap.{entries}
 use Rattle.std.specs.Io.KnownBytes.{Consumes, Appends}
 use Rattle.bohm_tree.specs.Document.{Document}
@@ -12,14 +12,24 @@ use Rattle.bohm_text.specs.Faults.{IsFirstBadLine, IsShort}
 use Rattle.bohm_text.specs.Print.{print_doc, print_answer}
 use Rattle.bohm_text.specs.declared.fault.TextFault.TheVariants as texts
 use Rattle.bohm_run.specs.Bytes.{ReadsAll, Sends}
+use Rattle.bohm_run.specs.Given.{Given}
 use Rattle.bohm_run.specs.declared.fault.RunFault.{RunFault}
 use Rattle.bohm_run.specs.declared.fault.RunFault.TheVariants.{Read, TooLong, Text, Check, Trimmed, Future, NoMemory, Write}
 
--- the text of the serial run's replies and of the store that it leaves
-abbrev pub answer_of : Document → List ℕ
-answer_of d =
+-- the timestamp whose store is printed: the one that is asked for, or the log's length
+abbrev pub time_of : Given → Document → ℕ
+time_of given d = unwrap_or given.at (length d.log)
+
+-- that timestamp is none above the log's length, and none below the final floor
+pub record IsReadable (given : Given) (d : Document) : Type 0 where
+  pub there : time_of given d ≤ length d.log
+  pub kept : length d.log - given.keep ≤ time_of given d
+
+-- the text of the serial run's replies and of the store that the transactions up to a timestamp leave
+abbrev pub answer_of : Document → ℕ → List ℕ
+answer_of d ts =
     let start = store_of d.store in
-    print_answer (replies (cell_in start) d.log) (entries (store_after start d.log))
+    print_answer (replies (cell_in start) d.log) (entries (store_after start (take ts d.log)))
 
 -- all that was read is the text of this well-formed document
 pub record ReadsDocument (unread unread' : Option (List ℕ)) (document : Document) : Type 0 where
@@ -28,16 +38,24 @@ pub record ReadsDocument (unread unread' : Option (List ℕ)) (document : Docume
   pub read : ReadsAll unread unread' (print_doc document)
 
 -- a well-formed document was read to the reader's end, and its answer was written and nothing else
-pub record Answers (unread unread' written written' : Option (List ℕ)) : Type 0 where
+pub record Answers (given : Given) (unread unread' written written' : Option (List ℕ)) : Type 0 where
   pub document : Document
   pub read : ReadsDocument unread unread' document
-  pub wrote : Appends written written' (answer_of document)
+  pub readable : IsReadable given document
+  pub wrote : Appends written written' (answer_of document (time_of given document))
 
 -- a well-formed document was read to the reader's end, and the first bytes of its answer were written
-pub record StopsWriting (unread unread' written written' : Option (List ℕ)) (sent : ℕ) : Type 0 where
+pub record StopsWriting (given : Given) (unread unread' written written' : Option (List ℕ)) (sent : ℕ) : Type 0 where
   pub document : Document
   pub read : ReadsDocument unread unread' document
-  pub wrote : Sends written written' (answer_of document) sent
+  pub readable : IsReadable given document
+  pub wrote : Sends written written' (answer_of document (time_of given document)) sent
+
+-- a well-formed document was read to the reader's end, of which this holds
+pub record ReadsLog (unread unread' : Option (List ℕ)) (P : Document → Type 0) : Type 0 where
+  pub document : Document
+  pub read : ReadsDocument unread unread' document
+  pub is : P document
 
 -- more bytes came than a text may have
 pub record ReadsTooMuch (unread unread' : Option (List ℕ)) : Type 0 where
@@ -59,17 +77,17 @@ pub record ReadsFaulty (unread unread' : Option (List ℕ)) (P : Document → Ty
   pub is : P document
 
 -- what each refusal says
-abbrev pub Refuses : Option (List ℕ) → Option (List ℕ) → Option (List ℕ) → Option (List ℕ) → RunFault → Type 0
-Refuses unread unread' written written' Read = Unit {0}
-Refuses unread unread' written written' TooLong = ReadsTooMuch unread unread'
-Refuses unread unread' written written' (Text (texts.Line n)) = ReadsText unread unread' (λ text. IsFirstBadLine (whole_lines text) n)
-Refuses unread unread' written written' (Text texts.Short) = ReadsText unread unread' IsShort
-Refuses unread unread' written written' (Text texts.NoMemory) = ⊥
-Refuses unread unread' written written' (Check fault) = ReadsFaulty unread unread' (λ document. IsFirstFault document fault)
-Refuses unread unread' written written' Trimmed = ⊥
-Refuses unread unread' written written' Future = ⊥
-Refuses unread unread' written written' NoMemory = Unit {0}
-Refuses unread unread' written written' (Write sent) = StopsWriting unread unread' written written' sent
+abbrev pub Refuses : Given → Option (List ℕ) → Option (List ℕ) → Option (List ℕ) → Option (List ℕ) → RunFault → Type 0
+Refuses given unread unread' written written' Read = Unit {0}
+Refuses given unread unread' written written' TooLong = ReadsTooMuch unread unread'
+Refuses given unread unread' written written' (Text (texts.Line n)) = ReadsText unread unread' (λ text. IsFirstBadLine (whole_lines text) n)
+Refuses given unread unread' written written' (Text texts.Short) = ReadsText unread unread' IsShort
+Refuses given unread unread' written written' (Text texts.NoMemory) = ⊥
+Refuses given unread unread' written written' (Check fault) = ReadsFaulty unread unread' (λ document. IsFirstFault document fault)
+Refuses given unread unread' written written' Trimmed = ReadsLog unread unread' (λ document. time_of given document < length document.log - given.keep)
+Refuses given unread unread' written written' Future = ReadsLog unread unread' (λ document. length document.log < time_of given document)
+Refuses given unread unread' written written' NoMemory = Unit {0}
+Refuses given unread unread' written written' (Write sent) = StopsWriting given unread unread' written written' sent
 
 -- a refusal before the writing
 abbrev pub IsBeforeWriting : RunFault → Type 0

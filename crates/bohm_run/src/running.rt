@@ -1,72 +1,68 @@
-//! A log from bytes to bytes.
+//! A whole run of a checked log.
 
-ghost use Rattle.std.specs.Prelude.{◌≡◌, None, IfOk, OnOk, IfErr};
-ghost use Rattle.std.specs.FinMap.{entries};
-ghost use Rattle.bohm_tree.specs.Document.{Document};
+ghost use Rattle.std.specs.Prelude.{◌≡◌, ◌<◌, length, IfOk};
+ghost use Rattle.std.specs.List.{sum};
 ghost use Rattle.bohm_txn.specs.Serial.{replies};
-ghost use Rattle.bohm_txn.specs.Stores.{store_of, store_after, cell_in};
-ghost use Rattle.bohm_text.specs.Print.{print_answer};
-ghost use Rattle.bohm_run.specs.Bytes.{ReadsAll};
-ghost use Rattle.bohm_run.specs.Headline.{answer_of, Answers, Refuses, ReadsDocument, IsBeforeWriting};
+ghost use Rattle.bohm_txn.specs.Stores.{cell_in, store_of};
+ghost use Rattle.bohm_run.specs.Runs.{IsHistoryOf};
 
-use crate::bytes::{read_all, write_all};
-use crate::fault::RunFault;
-use crate::settings::Settings;
-use bohm_serial::{Answer, run};
-use bohm_text::{parse, print_replies, print_store};
-use bohm_txn::{Checked, NoMemory, check};
+use crate::applying::{Applied, apply};
+use crate::cuts::Cuts;
+use bohm_exec::Gate;
+use bohm_place::Partition;
+use bohm_store::History;
+use bohm_txn::{Checked, Items, NoMemory, Reply};
 use std::alloc::Global;
-use std::io::{Read, Write};
+use std::sync::Wait;
+use std::thread::Threads;
 
-/// The log that the reader holds. Its text is let go.
-fn read_log<R: Read>(alloc: Global, reader: &mut R) -> Result<Checked, RunFault>
-    ensures ok { IfOk result (ReadsDocument (R.remaining reader.old) (R.remaining reader.new)) }
-    ensures err { IfErr result (Refuses (R.remaining reader.old) (R.remaining reader.new) None None) }
-    ensures before { IfErr result IsBeforeWriting }
-{
-    let text = read_all(alloc, reader)?;
-    let doc = parse(alloc, text.as_slice())?;
-    Ok(check(doc)?)
+/// What a run answers: the replies in log order, and the history that it leaves.
+#[derive(Drop)]
+pub struct Answer {
+    pub replies: Items<Reply>,
+    pub history: History,
 }
 
-/// What the log answers. The log is let go.
-fn executed(alloc: Global, checked: Checked) -> Result<Answer, NoMemory>
-    ensures replies { IfOk result (λ answer. answer.replies ≡ replies (cell_in (store_of checked.store)) checked.log) }
-    ensures store { IfOk result (λ answer. answer.store ≡ entries (store_after (store_of checked.store) checked.log)) }
-{
-    run(alloc, &checked)
-}
-
-/// The text of the answer.
-fn answer(alloc: Global, checked: Checked) -> Result<Vec<u8>, NoMemory>
-    ensures { IfOk result (λ text. text.items ≡ answer_of checked) }
-{
-    let Answer { replies, store } = executed(alloc, checked)?;
-    let mut text = print_replies(alloc, replies.as_slice())?;
-    let last = print_store(alloc, store.as_slice())?;
-    text.extend_from_slice(last.as_slice())?;
-    Ok(text)
-}
-
-/// Reads a log to the reader's end, runs it, and writes the text of its answer and nothing else.
-/// The whole answer is made before the first byte is written. Every failure of a reader or a writer
-/// counts, an interrupted call too.
+/// Runs a checked log over its starting store, in batches of this cutting: opens the history of the
+/// store, and applies the log. For every number of workers, partition, cutting and gate the replies and
+/// the past, from the floor to the top, are those of running the transactions one after another in log
+/// order.
 ///
-/// The time grows with the text and with the number of the store's keys k as k log k. The memory
-/// grows with the text.
-pub fn run_text<R: Read, W: Write>(
+/// The workers are those of `apply`; `keep` is how many timestamps below the last batch's end stay
+/// readable. The time grows with the terms of the log, spread over the executing workers where bodies
+/// don't wait for one another, and with the keys that the transactions declare, spread over the planning
+/// workers as the partition spreads them.
+pub fn run<P: Partition, G: Gate, R: Threads + Wait + Sync>(
+    rt: &R,
     alloc: Global,
-    reader: &mut R,
-    writer: &mut W,
-    _settings: Settings,
-) -> Result<(), RunFault>
-    ensures ok { OnOk result (Answers (R.remaining reader.old) (R.remaining reader.new) (W.contents writer.old) (W.contents writer.new)) }
-    ensures err { IfErr result (Refuses (R.remaining reader.old) (R.remaining reader.new) (W.contents writer.old) (W.contents writer.new)) }
-
-    // Before all faults but those of the writing the writer isn't touched.
-    ensures untouched { IfErr result (λ e. IsBeforeWriting e → writer.new ≡ writer.old) }
+    checked: &Checked,
+    cuts: &Cuts,
+    cc: u32,
+    exec: u32,
+    keep: u32,
+    partition: &P,
+    gate: &G,
+) -> Result<Answer, NoMemory>
+    requires planners { 0 < cc }
+    requires executors { 0 < exec }
+    requires total { sum cuts.now ≡ length checked.now.log }
+    ensures replies { IfOk result (λ a. a.replies ≡ replies (cell_in (store_of checked.now.store)) checked.now.log) }
+    ensures history { IfOk result (λ a. IsHistoryOf (cell_in (store_of checked.now.store)) checked.now.log keep a.history) }
 {
-    let checked = read_log(alloc, reader)?;
-    let text = answer(alloc, checked)?;
-    write_all(writer, text.as_slice())
+    let mut history = History::open(alloc, checked.store())?;
+    let log = checked.log();
+    let Applied { replies, end } = apply(
+        rt,
+        alloc,
+        &mut history,
+        log,
+        cuts,
+        cc,
+        exec,
+        keep,
+        partition,
+        gate,
+    );
+    end?;
+    Ok(Answer { replies, history })
 }

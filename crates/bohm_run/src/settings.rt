@@ -1,9 +1,22 @@
 //! How a run is carried out.
 
-ghost use Rattle.std.specs.Prelude.{◌≡◌};
-ghost use Rattle.bohm_run.specs.Given.{settings_of};
+ghost use Rattle.std.specs.Prelude.{◌≡◌, ◌≤◌};
+ghost use Rattle.std.specs.Option.{SomeIff};
+ghost use Rattle.bohm_run.specs.Given.{Given, AreInRange, IsBetween, defaults};
 
 use std::marker::Model;
+
+/// The most planning workers, and the most executing workers.
+pub const MOST_WORKERS: u32 = 16;
+
+/// The most partitions of the keys.
+pub const MOST_PARTS: u32 = 64;
+
+/// The most transactions of a batch.
+pub const LARGEST_BATCH: u32 = 4096;
+
+/// The most timestamps below the last batch's end that stay readable.
+pub const MOST_KEPT: u32 = 4096;
 
 /// The numbers of planning and executing workers, of partitions of the keys and of transactions in
 /// a batch, how many timestamps below the last batch's end stay readable, and the timestamp whose
@@ -19,18 +32,19 @@ pub struct Settings {
 }
 
 impl Model for Settings {
-    ghost use Rattle.bohm_run.specs.Given.{Given};
+    ghost use Rattle.bohm_run.specs.Given.{Given, AreInRange};
 
     ghost Value = { Given };
 
     ghost view = { λ s. record { cc = s.cc; exec = s.exec; parts = s.parts; batch = s.batch; keep = s.keep; at = s.at } };
 
+    ghost invariant = { λ s. AreInRange (record { cc = s.cc; exec = s.exec; parts = s.parts; batch = s.batch; keep = s.keep; at = s.at }) };
+
     ghost inverse = { λ g. record { cc = g.cc; exec = g.exec; parts = g.parts; batch = g.batch; keep = g.keep; at = g.at } };
 }
 
 impl Settings {
-    /// These settings. The plain executor has one worker of each kind, one partition and one size of
-    /// batch, and keeps the last store alone: so there are the defaults alone.
+    /// These settings, if each number lies in its range.
     pub fn new(
         cc: u32,
         exec: u32,
@@ -39,15 +53,19 @@ impl Settings {
         keep: u32,
         at: Option<u32>,
     ) -> Option<Settings>
-        ensures { result ≡ settings_of cc exec parts batch keep at }
+        ensures { let given : Given
+            = record { cc = cc; exec = exec; parts = parts; batch = batch; keep = keep; at = at }
+            in SomeIff result (AreInRange given) given }
     {
-        let is_plain = cc == 1
-            && exec == 1
-            && parts == 1
-            && batch == 4096
-            && keep == 0
-            && at.is_none();
-        is_plain.then_some(Settings {
+        let in_range = (1..=MOST_WORKERS).contains(&cc)
+            && (1..=MOST_WORKERS).contains(&exec)
+            && (1..=MOST_PARTS).contains(&parts)
+            && (1..=LARGEST_BATCH).contains(&batch)
+            && keep <= MOST_KEPT;
+        if !in_range {
+            return None;
+        }
+        Some(Settings {
             cc,
             exec,
             parts,
@@ -59,35 +77,40 @@ impl Settings {
 
     /// Planning workers.
     pub fn cc(&self) -> u32
-        ensures { result ≡ self.now.cc }
+        ensures value { result ≡ self.now.cc }
+        ensures in_range { IsBetween 1 MOST_WORKERS result }
     {
         self.cc
     }
 
     /// Executing workers.
     pub fn exec(&self) -> u32
-        ensures { result ≡ self.now.exec }
+        ensures value { result ≡ self.now.exec }
+        ensures in_range { IsBetween 1 MOST_WORKERS result }
     {
         self.exec
     }
 
     /// Partitions of the keys.
     pub fn parts(&self) -> u32
-        ensures { result ≡ self.now.parts }
+        ensures value { result ≡ self.now.parts }
+        ensures in_range { IsBetween 1 MOST_PARTS result }
     {
         self.parts
     }
 
     /// Transactions of a batch.
     pub fn batch(&self) -> u32
-        ensures { result ≡ self.now.batch }
+        ensures value { result ≡ self.now.batch }
+        ensures in_range { IsBetween 1 LARGEST_BATCH result }
     {
         self.batch
     }
 
     /// How many timestamps below the last batch's end stay readable.
     pub fn keep(&self) -> u32
-        ensures { result ≡ self.now.keep }
+        ensures value { result ≡ self.now.keep }
+        ensures in_range { result ≤ MOST_KEPT }
     {
         self.keep
     }
@@ -97,5 +120,22 @@ impl Settings {
         ensures { result ≡ self.now.at }
     {
         self.at
+    }
+}
+
+/// One worker of each kind, one partition, the largest batches, no timestamp below the last batch's
+/// end, and the store at the log's length.
+impl Default for Settings {
+    ghost is_default = { λ settings. settings ≡ defaults };
+
+    fn default() -> Settings {
+        Settings {
+            cc: 1,
+            exec: 1,
+            parts: 1,
+            batch: LARGEST_BATCH,
+            keep: 0,
+            at: None,
+        }
     }
 }

@@ -7,14 +7,16 @@ use Rattle.std.proofs.lemmas.List.Elements.{All-head, All-tail, All-nil, All-con
 use Rattle.bohm_tree.specs.declared.cell.Cell.{Cell}
 use Rattle.bohm_tree.specs.declared.txn.Txn.{Txn}
 use Rattle.bohm_txn.specs.Faulty.{is_among, IsWellFormedTxn}
-use Rattle.bohm_txn.specs.Meaning.{Look}
-use Rattle.bohm_txn.specs.Serial.{after, state}
+use Rattle.bohm_txn.specs.Meaning.{Look, body}
+use Rattle.bohm_txn.specs.Serial.{after, replies, reply_of, state}
 use Rattle.bohm_txn.proofs.Bodies.{kept, same_reads, same_after}
 use Rattle.bohm_txn.proofs.UseLaws.{usable}
+use Rattle.bohm_board.specs.declared.batch.Batch.{Batch}
 use Rattle.bohm_board.specs.Bases.{declares}
+use Rattle.bohm_board.specs.Batches.{base_of, txns_of}
 use Rattle.bohm_store.specs.declared.version.Version.{Version}
-use Rattle.bohm_store.specs.Versions.{Rises, cell_at, produced}
-use Rattle.bohm_store.specs.Nexts.{Agree}
+use Rattle.bohm_store.specs.Versions.{Rises, Timeline, cell_at, past, produced}
+use Rattle.bohm_store.specs.Nexts.{Agree, IsNext}
 use Rattle.bohm_store.specs.Chains.{Above, UpTo}
 use Rattle.bohm_store.proofs.Past.{cell_at-above, cell_at-append}
 
@@ -96,3 +98,15 @@ produced_same u look other (t ∷ txns) k well same =
     both (one (is_among t.writes k) u (after look t k)) (produced (u + 1) (after look t) txns k) (one (is_among t.writes k) u (after other t k)) (produced (u + 1) (after other t) txns k)
     (one_same (is_among t.writes k) u (after look t k) (after other t k) (λ among. next k (or_left (declares k t) (list_any (declares k) txns) (or_right (is_among t.reads k) (is_among t.writes k) among))))
     (produced_same (u + 1) (after look t) (after other t) txns k (All-tail IsWellFormedTxn t txns well) (λ j declared. next j (or_right (declares j t) (list_any (declares j) txns) declared)))
+
+pub replies_same : (look other : Look) (txns : List Txn) → All IsWellFormedTxn txns → Agree txns look other → replies look txns ≡ replies other txns
+replies_same look other [] well same = refl
+replies_same look other (t ∷ txns) well same =
+    let next = agree_after look other t txns (All-head IsWellFormedTxn t txns well) same in
+    let here : body look t ≡ body other t = same_reads look other t (usable t (All-head IsWellFormedTxn t txns well)) (λ j among. same j (or_left (declares j t) (list_any (declares j) txns) (or_left (is_among t.reads j) (is_among t.writes j) among))) in
+    let rest = replies_same (after look t) (after other t) txns (All-tail IsWellFormedTxn t txns well) (λ j declared. next j (or_right (declares j t) (list_any (declares j) txns) declared)) in
+    λ i. reply_of (here i) ∷ rest i
+
+-- so the next batch answers over its base what it answers over the past at the top
+pub next_replies : (t : Timeline) (b : Batch) → IsNext t b → replies (base_of b) (txns_of b) ≡ replies (past t t.top) (txns_of b)
+next_replies t b next = replies_same (base_of b) (past t t.top) (txns_of b) b.formed next.base

@@ -1,6 +1,6 @@
 //! The history of a store.
 
-ghost use Rattle.std.specs.Prelude.{◌≡◌, ◌<◌, ◌≤◌, ◌+◌, ◌-◌, ◌++◌, ◌↔◌, ◌^◌, ℕ, List, All, length, max, min, true, Contains, nat_lt, if◌then◌else◌, Err, Ok, IfOk, OnOk, OnErr};
+ghost use Rattle.std.specs.Prelude.{◌≡◌, ◌<◌, ◌≤◌, ◌+◌, ◌-◌, ◌++◌, ◌↔◌, ◌^◌, ℕ, List, [], All, length, max, min, true, Contains, nat_lt, if◌then◌else◌, Err, Ok, IfOk, OnOk, OnErr};
 ghost use Rattle.std.specs.FinMap.{entries};
 ghost use Rattle.std.specs.List.{IsDistinct};
 ghost use Rattle.std.specs.Map.{keys_of};
@@ -76,6 +76,20 @@ impl History {
         })
     }
 
+    /// The history of the empty store. It takes no memory.
+    pub fn empty(alloc: Global) -> History
+        ensures floor { result.floor ≡ 0 }
+        ensures top { result.top ≡ 0 }
+        ensures versions { (k : List ℕ) → versions result k ≡ [] }
+    {
+        History {
+            chains: IndexMap::new(alloc),
+            followers: VecDeque::new(alloc),
+            floor: 0,
+            top: 0,
+        }
+    }
+
     /// The least timestamp of which the past is kept.
     pub fn floor(&self) -> u32
         ensures { result ≡ self.now.floor }
@@ -85,7 +99,8 @@ impl History {
 
     /// The timestamp of the last transaction, or 0.
     pub fn top(&self) -> u32
-        ensures { result ≡ self.now.top }
+        ensures top { result ≡ self.now.top }
+        ensures ordered { self.now.floor ≤ result }
     {
         self.top
     }
@@ -159,7 +174,7 @@ impl History {
         requires timestamps { self.now.top + 1 + length txns.now ≤ 2 ^ 32 }
         requires formed { All IsWellFormedTxn txns.now }
         requires first { plan.first ≡ self.now.top + 1 }
-        requires right { IsRightPlan txns.now plan }
+        requires right { ∥ IsRightPlan txns.now plan ∥₁ }
         ensures txns { IfOk result (λ b. txns_of b ≡ txns.entry.now) }
         ensures plan { IfOk result (λ b. HasSourcesOf plan (plan_of b)) }
         ensures next { IfOk result (IsNext self.now) }

@@ -8,9 +8,12 @@ ghost use Rattle.bohm_tree.specs.declared.cell.Cell.TheVariants.{Absent};
 ghost use Rattle.bohm_tree.specs.declared.txn.Txn.{Txn};
 ghost use Rattle.bohm_txn.specs.Faulty.{IsWellFormedTxn};
 ghost use Rattle.bohm_txn.specs.Meaning.{Look};
-ghost use Rattle.bohm_txn.specs.Serial.{state};
+ghost use Rattle.bohm_txn.specs.Serial.{replies, state};
+ghost use Rattle.bohm_board.specs.declared.batch.Batch.{Batch};
+ghost use Rattle.bohm_board.specs.Batches.{base_of, txns_of};
+ghost use Rattle.bohm_store.specs.Nexts.{IsNext};
 ghost use Rattle.bohm_store.specs.declared.version.Version.{Version};
-ghost use Rattle.bohm_store.specs.Versions.{IsCellAt, IsKept, Rises, Timeline, cell_at, kept, produced, total, versions};
+ghost use Rattle.bohm_store.specs.Versions.{IsCellAt, IsKept, Rises, Timeline, cell_at, kept, past, produced, total, versions};
 
 /// Of versions that rise, the cell at a timestamp is that of the one with the greatest begin at or
 /// below it.
@@ -33,4 +36,9 @@ pub fn produced_is_serial()
 /// Two histories in which each key has the same versions have as many versions.
 pub fn same_versions_same_count()
     ensures { (t r : Timeline) → IsDistinct bytes_eq (keys_of t.chains) → IsDistinct bytes_eq (keys_of r.chains) → ((k : List ℕ) → versions t k ≡ versions r k) → total t.chains ≡ total r.chains }
+{}
+
+/// A history's next batch answers over its base what it answers over the past at the top.
+pub fn next_replies()
+    ensures { (t : Timeline) (b : Batch) → IsNext t b → replies (base_of b) (txns_of b) ≡ replies (past t t.top) (txns_of b) }
 {}

@@ -277,7 +277,7 @@ fn sets_are_checked(rt: HostRuntime) -> Result<(), Fail> {
 }
 
 /// The text, and behind it the part as often as this.
-fn repeated(alloc: Global, text: &str, part: &str, count: u32) -> Result<String, Fail> {
+pub fn repeated(alloc: Global, text: &str, part: &str, count: u32) -> Result<String, Fail> {
     let mut whole = String::from_str(alloc, text)?;
     for _ in 0..count {
         whole.push_str(part)?;

@@ -4,7 +4,9 @@ use super::fakes::{Failure, FakeReader, FakeWriter};
 use crate::{RunFault, Settings, print_fault, run_text};
 use std::io::{ErrorKind, Read};
 use std::process::Abort;
+use std::sync::Wait;
 use std::test::Fail;
+use std::thread::Threads;
 
 /// It has 56 bytes.
 const LOG: &[u8] = b"log 1\na 5\ntxn\nreads a\nwrites a\nset a = a + 1\nshow a\nend\n";
@@ -13,17 +15,19 @@ const LOG: &[u8] = b"log 1\na 5\ntxn\nreads a\nwrites a\nset a = a + 1\nshow a\n
 const ANSWER: &[u8] = b"1 commit 5\n--\na 6\n";
 
 /// What the log is refused for, with this reader and this writer.
-fn fault<R: AllocGlobal, S: Read>(
+fn fault<R: AllocGlobal + Threads + Wait + Sync, S: Read>(
     rt: &R,
     reader: &mut S,
     writer: &mut FakeWriter,
-) -> Result<Option<RunFault>, Fail> {
-    let settings = Settings::new(1, 1, 1, 4096, 0, None).ok_or("the defaults")?;
-    Ok(run_text(rt.alloc(), reader, writer, settings).err())
+) -> Option<RunFault> {
+    run_text(rt, rt.alloc(), reader, writer, Settings::default()).err()
 }
 
 /// What the log is refused for where this writer takes the answer.
-fn fault_at<R: AllocGlobal>(rt: &R, writer: &mut FakeWriter) -> Result<Option<RunFault>, Fail> {
+fn fault_at<R: AllocGlobal + Threads + Wait + Sync>(
+    rt: &R,
+    writer: &mut FakeWriter,
+) -> Option<RunFault> {
     let mut unread = LOG;
     fault(rt, &mut unread, writer)
 }
@@ -39,7 +43,7 @@ fn readers_fail_at_each_call(rt: HostRuntime) -> Result<(), Fail> {
                 failure: Failure::after(calls, kind),
             };
             let mut writer = FakeWriter::new(rt.alloc(), 64);
-            let found = fault(&rt, &mut reader, &mut writer)?;
+            let found = fault(&rt, &mut reader, &mut writer);
             if calls < 57 {
                 assert_eq!(rt; found, Some(RunFault::Read), "{kind:?} after {calls} calls");
                 assert!(rt; writer.taken.is_empty(), "{kind:?} after {calls} calls");
@@ -62,7 +66,7 @@ fn readers_and_writers_take_parts(rt: HostRuntime) -> Result<(), Fail> {
             failure: Failure::never(),
         };
         let mut writer = FakeWriter::new(rt.alloc(), most);
-        let found = fault(&rt, &mut reader, &mut writer)?;
+        let found = fault(&rt, &mut reader, &mut writer);
         assert_eq!(rt; found, None, "{most} bytes a call");
         assert_eq!(rt; writer.taken.as_slice(), ANSWER, "{most} bytes a call");
         assert_eq!(rt; writer.flushes, 1, "{most} bytes a call");
@@ -77,7 +81,7 @@ fn writers_fail_at_each_call(rt: HostRuntime) -> Result<(), Fail> {
         for calls in 0..18u32 {
             let mut writer = FakeWriter::new(rt.alloc(), 1);
             writer.failure = Failure::after(calls, kind);
-            let found = fault_at(&rt, &mut writer)?;
+            let found = fault_at(&rt, &mut writer);
             let sent = u64::from(calls);
             assert_eq!(rt; found, Some(RunFault::Write { sent }), "{kind:?}");
             assert_eq!(rt;
@@ -95,7 +99,7 @@ fn flushes_fail(rt: HostRuntime) -> Result<(), Fail> {
     for kind in [ErrorKind::Other, ErrorKind::Interrupted] {
         let mut writer = FakeWriter::new(rt.alloc(), 64);
         writer.flush_failure = Failure::after(0, kind);
-        let found = fault_at(&rt, &mut writer)?;
+        let found = fault_at(&rt, &mut writer);
         assert_eq!(rt; found, Some(RunFault::Write { sent: 18 }), "{kind:?}");
         assert_eq!(rt; writer.taken.as_slice(), ANSWER, "{kind:?}");
     }
@@ -105,7 +109,7 @@ fn flushes_fail(rt: HostRuntime) -> Result<(), Fail> {
 #[test]
 fn writers_take_nothing(rt: HostRuntime) -> Result<(), Fail> {
     let mut writer = FakeWriter::new(rt.alloc(), 0);
-    let found = fault_at(&rt, &mut writer)?;
+    let found = fault_at(&rt, &mut writer);
     assert_eq!(rt; found, Some(RunFault::Write { sent: 0 }));
     assert!(rt; writer.taken.is_empty());
     Ok(())
@@ -115,7 +119,7 @@ fn writers_take_nothing(rt: HostRuntime) -> Result<(), Fail> {
 fn writers_fail_after_three_bytes(rt: HostRuntime) -> Result<(), Fail> {
     let mut writer = FakeWriter::new(rt.alloc(), 3);
     writer.failure = Failure::after(1, ErrorKind::Other);
-    let found = fault_at(&rt, &mut writer)?.ok_or("a refusal")?;
+    let found = fault_at(&rt, &mut writer).ok_or("a refusal")?;
     assert_eq!(rt; found, RunFault::Write { sent: 3 });
     assert_eq!(rt; writer.taken.as_slice(), b"1 c".as_slice());
     assert_line(&rt, found, "refused: write 3\n")

@@ -4,7 +4,9 @@ use crate::{RunFault, Settings, print_fault, run_text};
 use bohm_text::TextFault;
 use bohm_txn::{CheckFault, CheckKind};
 use std::process::Abort;
+use std::sync::Wait;
 use std::test::Fail;
+use std::thread::Threads;
 
 /// Logs and their answers: `@` stands between the two, and `#` before the next log.
 const LOGS: &str = "\
@@ -343,7 +345,95 @@ end
 a 3
 ";
 
-/// Refused logs, each with the line of its fault.
+/// Settings under which each log has the same answer.
+const EVERYWHERE: [&str; 4] = [
+    "",
+    "cc 2 exec 2 parts 2 batch 1",
+    "exec 3 batch 2 keep 1",
+    "exec 2 batch 1",
+];
+
+/// Three times `a` is shown and counted up.
+const COUNTERS: &str = "\
+log 1
+a 0
+txn
+reads a
+writes a
+show a
+set a = a + 1
+end
+txn
+reads a
+writes a
+show a
+set a = a + 1
+end
+txn
+reads a
+writes a
+show a
+set a = a + 1
+end
+";
+
+/// What it answers with these settings.
+const COUNTED: &str = "\
+exec 2@1 commit 0
+2 commit 1
+3 commit 2
+--
+a 3
+#cc 16 parts 64@1 commit 0
+2 commit 1
+3 commit 2
+--
+a 3
+#cc 2 exec 2 parts 2 batch 2 keep 1@1 commit 0
+2 commit 1
+3 commit 2
+--
+a 3
+#cc 16 exec 16 parts 1 batch 1 keep 4096@1 commit 0
+2 commit 1
+3 commit 2
+--
+a 3
+#batch 1 keep 1 at 2@1 commit 0
+2 commit 1
+3 commit 2
+--
+a 2
+#batch 1 keep 1 at 1@refused: trimmed
+#batch 1 keep 1 at 4@refused: future
+#batch 1 keep 1 at 4294967295@refused: future
+#batch 1 keep 4096 at 0@1 commit 0
+2 commit 1
+3 commit 2
+--
+a 0
+#batch 2 keep 2 at 1@1 commit 0
+2 commit 1
+3 commit 2
+--
+a 1
+#at 2@refused: trimmed
+#at 3@1 commit 0
+2 commit 1
+3 commit 2
+--
+a 3
+";
+
+/// What a log with neither entries nor transactions answers.
+const EMPTY: &str = "\
+@--
+#at 0@--
+#at 1@refused: future
+#keep 4096 batch 1 at 0@--
+";
+
+/// Refused logs, each with the line of its fault, and one with a name of 32 bytes.
 const REFUSED: &str = "\
 @refused: short
 #log 1@refused: short
@@ -359,6 +449,43 @@ a  5
 #log 1
 a 05
 @refused: line 2
+#log 1
+a -0
+@refused: line 2
+#log 1
+ 5
+@refused: line 2
+#log 1
+
+@refused: line 2
+#log 1
+end
+@refused: line 2
+#log 1
+a 9223372036854775808
+@refused: line 2
+#log 1
+a -9223372036854775809
+@refused: line 2
+#log 1
+txn
+reads
+writes a
+set a = -9223372036854775808
+@refused: line 5
+#log 1\r
+@refused: line 1
+#log 1
+aaaaaaaaaaaaaaaaaaaaaaaaaaaaaaaaa 1
+@refused: line 2
+#log 1
+aaaaaaaaaaaaaaaaaaaaaaaaaaaaaaaa 1
+@--
+aaaaaaaaaaaaaaaaaaaaaaaaaaaaaaaa 1
+#log 1
+txn
+reads a
+@refused: short
 #log 3
 @refused: line 1
 #log 1
@@ -414,12 +541,34 @@ end
 @refused: check limit 1 1
 ";
 
+/// The number behind a name among these words.
+fn named(words: &str, name: &str) -> Option<u32> {
+    let (_, rest) = words.split_once(name)?;
+    rest.split(' ').next()?.parse::<u32>().ok()
+}
+
+/// The settings that the words name, as `exec 2 batch 1`; the others are the defaults.
+fn settings(words: &str) -> Result<Settings, Fail> {
+    let settings = Settings::new(
+        named(words, "cc ").unwrap_or(1),
+        named(words, "exec ").unwrap_or(1),
+        named(words, "parts ").unwrap_or(1),
+        named(words, "batch ").unwrap_or(4096),
+        named(words, "keep ").unwrap_or(0),
+        named(words, "at "),
+    );
+    Ok(settings.ok_or("settings")?)
+}
+
 /// What a run writes; or, where it is refused, the line of its fault, and nothing was written.
-fn said<R: Abort + AllocGlobal>(rt: &R, log: &[u8]) -> Result<Vec<u8>, Fail> {
+fn said<R: Abort + AllocGlobal + Threads + Wait + Sync>(
+    rt: &R,
+    log: &[u8],
+    settings: Settings,
+) -> Result<Vec<u8>, Fail> {
     let mut unread = log;
     let mut written = Vec::new(rt.alloc());
-    let settings = Settings::new(1, 1, 1, 4096, 0, None).ok_or("the defaults")?;
-    match run_text(rt.alloc(), &mut unread, &mut written, settings) {
+    match run_text(rt, rt.alloc(), &mut unread, &mut written, settings) {
         Ok(()) => Ok(written),
         Err(fault) => {
             assert!(rt; written.is_empty(), "a refused run wrote");
@@ -429,32 +578,70 @@ fn said<R: Abort + AllocGlobal>(rt: &R, log: &[u8]) -> Result<Vec<u8>, Fail> {
 }
 
 /// The fault of a refused run.
-fn fault_of<R: Abort + AllocGlobal>(rt: &R, log: &[u8]) -> Result<RunFault, Fail> {
+fn fault_of<R: Abort + AllocGlobal + Threads + Wait + Sync>(
+    rt: &R,
+    log: &[u8],
+) -> Result<RunFault, Fail> {
     let mut unread = log;
     let mut written = Vec::new(rt.alloc());
-    let settings = Settings::new(1, 1, 1, 4096, 0, None).ok_or("the defaults")?;
-    let fault = run_text(rt.alloc(), &mut unread, &mut written, settings)
-        .err()
-        .ok_or("a refusal")?;
+    let fault = run_text(
+        rt,
+        rt.alloc(),
+        &mut unread,
+        &mut written,
+        Settings::default(),
+    )
+    .err()
+    .ok_or("a refusal")?;
     assert!(rt; written.is_empty(), "a refused run wrote");
     Ok(fault)
 }
 
-fn answers_so<R: Abort + AllocGlobal>(rt: &R, rows: &str) -> Result<(), Fail> {
+/// Each log of the table has its answer with these settings.
+fn answers_so<R: Abort + AllocGlobal + Threads + Wait + Sync>(
+    rt: &R,
+    rows: &str,
+    words: &str,
+) -> Result<(), Fail> {
+    let settings = settings(words)?;
     for row in rows.split('#') {
         let (log, answer) = row.split_once('@').ok_or("a log and its answer")?;
-        let written = said(rt, log.as_bytes())?;
-        assert_eq!(rt; written.as_slice(), answer.as_bytes(), "{row}");
+        let written = said(rt, log.as_bytes(), settings)?;
+        assert_eq!(rt; written.as_slice(), answer.as_bytes(), "{words}: {row}");
+    }
+    Ok(())
+}
+
+/// The log has each answer of the table with the settings of its row.
+fn answers_under<R: Abort + AllocGlobal + Threads + Wait + Sync>(
+    rt: &R,
+    log: &str,
+    rows: &str,
+) -> Result<(), Fail> {
+    for row in rows.split('#') {
+        let (words, answer) = row.split_once('@').ok_or("settings and an answer")?;
+        let written = said(rt, log.as_bytes(), settings(words)?)?;
+        assert_eq!(rt; written.as_slice(), answer.as_bytes(), "{words}");
     }
     Ok(())
 }
 
 #[test]
 fn whole_logs(rt: HostRuntime) -> Result<(), Fail> {
-    answers_so(&rt, LOGS)?;
-    answers_so(&rt, ENDS_OF_THE_RANGE)?;
-    answers_so(&rt, EDITIONS)?;
-    answers_so(&rt, REFUSED)
+    for words in EVERYWHERE {
+        answers_so(&rt, LOGS, words)?;
+        answers_so(&rt, ENDS_OF_THE_RANGE, words)?;
+        answers_so(&rt, EDITIONS, words)?;
+        answers_so(&rt, REFUSED, words)?;
+    }
+    Ok(())
+}
+
+#[test]
+fn settings_of_logs(rt: HostRuntime) -> Result<(), Fail> {
+    answers_under(&rt, COUNTERS, COUNTED)?;
+    answers_under(&rt, "log 1\n", EMPTY)?;
+    answers_under(&rt, "log 2\n", EMPTY)
 }
 
 #[test]
@@ -468,7 +655,7 @@ fn counts_of_statements(rt: HostRuntime) -> Result<(), Fail> {
             log.extend_from_slice(b"fail\n")?;
         }
         log.extend_from_slice(b"end\n")?;
-        let written = said(&rt, log.as_slice())?;
+        let written = said(&rt, log.as_slice(), Settings::default())?;
         assert_eq!(rt; written.as_slice(), line, "{count} statements");
     }
     Ok(())
@@ -480,7 +667,7 @@ fn beginnings(rt: HostRuntime) -> Result<(), Fail> {
         b"log 1\na 1\ntxn\nreads b\nwrites a\nset a = 4\ndrop a\nset a = b when 1 < 0\nend\n".as_slice();
     assert_eq!(rt; log.len(), 73);
     for count in 0..73 {
-        let written = said(&rt, &log[..count])?;
+        let written = said(&rt, &log[..count], Settings::default())?;
         let wanted = match count {
             6 => b"--\n".as_slice(),
             10 => b"--\na 1\n",
@@ -563,13 +750,25 @@ fn long_words(rt: HostRuntime) -> Result<(), Fail> {
 
 #[test]
 fn settings_are_given_back(rt: HostRuntime) -> Result<(), Fail> {
-    let settings = Settings::new(1, 1, 1, 4096, 0, None).ok_or("the defaults")?;
-    assert_eq!(rt; settings.cc(), 1);
-    assert_eq!(rt; settings.exec(), 1);
-    assert_eq!(rt; settings.parts(), 1);
-    assert_eq!(rt; settings.batch(), 4096);
-    assert_eq!(rt; settings.keep(), 0);
-    assert_eq!(rt; settings.at(), None);
+    let settings = Settings::new(16, 2, 64, 7, 4096, Some(0)).ok_or("settings")?;
+    assert_eq!(rt; settings.cc(), 16);
+    assert_eq!(rt; settings.exec(), 2);
+    assert_eq!(rt; settings.parts(), 64);
+    assert_eq!(rt; settings.batch(), 7);
+    assert_eq!(rt; settings.keep(), 4096);
+    assert_eq!(rt; settings.at(), Some(0));
+    Ok(())
+}
+
+#[test]
+fn defaults(rt: HostRuntime) -> Result<(), Fail> {
+    let settings = Settings::new(1, 1, 1, 4096, 0, None);
+    assert_eq!(rt; settings, Some(Settings::default()));
+    Ok(())
+}
+
+#[test]
+fn settings_out_of_range(rt: HostRuntime) -> Result<(), Fail> {
     assert_eq!(rt; Settings::new(17, 1, 1, 1, 0, None), None);
     assert_eq!(rt; Settings::new(1, 1, 1, 1, 4097, None), None);
     Ok(())

@@ -1,4 +1,5 @@
 use Rattle.std.proofs.Common.{◌≡◌, ℕ, ◌+◌, ◌-◌, ◌<◌, length, slice_get, Some, refl, arith, sym, subst}
+use Rattle.std.proofs.Math.Logic.{∥∥₁_map}
 use Rattle.std.proofs.lemmas.Option.{slice_get_read, slice_get_within}
 use Rattle.bohm_place.specs.declared.declared_set.DeclaredSet.TheVariants.{Reads, Writes}
 use Rattle.bohm_place.specs.Plans.{keys_in, planned_in, IsRightPlan}
@@ -21,8 +22,8 @@ row c = omega (arith, c.first-first.ensures, c.loop-i.invariant.sources.first)
 row_then : (c : After-note_set) → ((c.first-first.result + c.loop-i.i) - c.note_set.new.plan.first) ≡ c.loop-i.i
 row_then c = omega (arith, c.first-first.ensures, c.loop-i.invariant.sources.first, c.note_set.ensures.sources.first)
 
-right_then : (c : After-note_set) → IsRightPlan c.args.txns.now c.note_set.new.plan
-right_then c = c.note_set.ensures.right c.args.txns.now c.loop-i.invariant.right
+right_then : (c : After-note_set) → ∥ IsRightPlan c.args.txns.now c.note_set.new.plan ∥₁
+right_then c = ∥∥₁_map c.loop-i.invariant.right (c.note_set.ensures.right c.args.txns.now)
 
 few : (c : After-index-txns-i) → length c.args.entries.now < 4294967296
 few c = omega (arith, few_entries c.args.txns.now c.args.entries.now c.requires.base c.requires.formed, c.requires.few)
@@ -67,7 +68,7 @@ loop-i-preserved c =
     let writes = subst (λ (n : ℕ). IsSetNoted q r Writes n x.writes entries (length x.writes)) (row_then here.After-note_set) c.note_set-in-loop-i.ensures in
     record {
       sources = sources_twice c.args.plan.now q r (sources_twice c.args.plan.now p q c.loop-i.invariant.sources reads.sources) writes.sources;
-      right = writes.right c.args.txns.now (right_then here.After-note_set);
+      right = ∥∥₁_map (right_then here.After-note_set) (writes.right c.args.txns.now);
       noted = next_row c.args.txns.now p q r entries c.loop-i.i x (at_i here.After-index-txns-i) c.loop-i.invariant.noted reads writes;
     }
 

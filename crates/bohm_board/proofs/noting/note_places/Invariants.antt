@@ -5,6 +5,6 @@ use Rattle.bohm_board.proofs.noting.note_places.Given as goal
 abbrev pub invariant-loop-i : goal.invariant-loop-i
 invariant-loop-i l = record {
   sources : HasSourcesOf l.initial.plan l.plan;
-  right : IsRightPlan l.txns l.plan;
+  right : ∥ IsRightPlan l.txns l.plan ∥₁;
   noted : AreNotedBelow l.txns l.plan l.entries l.i;
 }

@@ -1,0 +1,77 @@
+//! The command and its options.
+
+ghost use Rattle.std.specs.Prelude.{◌≡◌, false, IfOk};
+ghost use Rattle.clap.specs.Words.{app_of, rule_of};
+ghost use Rattle.bohm_cli.specs.Options.{bohm, number_rule};
+
+use bohm_run::{LARGEST_BATCH, MOST_KEPT, MOST_PARTS, MOST_WORKERS};
+use clap::{Arg, Command};
+use std::alloc::{AllocError, Global};
+
+/// What help says above the options.
+const ABOUT: &str = "\
+Runs the log of transactions on standard input, and prints the replies and the
+store. Workers, partitions and batches change the speed, never the answer.";
+
+const CC: &str = "\
+Planning workers, 1 to 16 [default: 1]. More pay where
+transactions declare many keys over many partitions";
+
+const EXEC: &str = "\
+Executing workers, 1 to 16 [default: 1]. More pay where
+bodies are long and touch different keys";
+
+const PARTS: &str = "\
+Partitions of the keys, 1 to 64 [default: 1]. A planning
+worker without a partition is idle";
+
+const BATCH: &str = "\
+Transactions in a batch, 1 to 4096 [default: 4096]. Smaller
+batches mean less waiting memory, larger ones more to overlap";
+
+const KEEP: &str = "\
+How many timestamps below the log's length stay readable,
+0 to 4096 [default: 0]";
+
+const AT: &str = "\
+Print the store as this transaction left it (0: the starting
+store), 0 to 4294967295 [default: the log's length]. A
+timestamp below the log's length needs --keep";
+
+/// What help says below the options.
+const AFTER_HELP: &str = "\
+Example:
+  bohm --cc 2 --exec 4 --parts 8 --keep 10 --at 95 < bank.log
+
+Exit status:
+  0  the answer was printed, or this help
+  1  the run was refused: standard error has the fault's line
+  2  the words were refused: standard error says why";
+
+/// An option that takes one number in this range.
+fn number<'a>(alloc: Global, name: &'a str, least: u32, most: u32, help: &'a str) -> Arg<'a>
+    ensures rule { rule_of result ≡ number_rule name.entry.now least most }
+    ensures local { result.global ≡ false }
+{
+    let numbers = clap::value_parser!(u32).range(i64::from(least)..=i64::from(most));
+    Arg::new(alloc, name)
+        .long(name)
+        .value_name("N")
+        .value_parser(numbers)
+        .help(help)
+}
+
+/// The command.
+pub fn command<'a>(alloc: Global) -> Result<Command<'a>, AllocError>
+    ensures { IfOk result (λ command. app_of command ≡ bohm) }
+{
+    Command::new(alloc, "bohm")
+        .about(ABOUT)
+        .after_help(AFTER_HELP)
+        .arg(number(alloc, "cc", 1, MOST_WORKERS, CC))?
+        .arg(number(alloc, "exec", 1, MOST_WORKERS, EXEC))?
+        .arg(number(alloc, "parts", 1, MOST_PARTS, PARTS))?
+        .arg(number(alloc, "batch", 1, LARGEST_BATCH, BATCH))?
+        .arg(number(alloc, "keep", 0, MOST_KEPT, KEEP))?
+        .arg(number(alloc, "at", 0, u32::MAX, AT))
+}

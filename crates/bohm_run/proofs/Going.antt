@@ -1,0 +1,92 @@
+-- A history that went on by some transactions and then by others went on by both.
+use Rattle.std.proofs.Common.{◌≡◌, ℕ, zero, suc, [], ◌∷◌, ◌+◌, ◌-◌, ◌<◌, ◌≤◌, ◌++◌, List, length, length-append, max, refl, ap, sym, ◌∙◌, arith, ⊎_elim}
+use Rattle.std.proofs.lemmas.Bool.{cases_lt}
+use Rattle.bohm_tree.specs.declared.txn.Txn.{Txn}
+use Rattle.bohm_txn.specs.declared.outcome.Reply.{Reply}
+use Rattle.bohm_txn.specs.Meaning.{Look}
+use Rattle.bohm_txn.specs.Serial.{state, replies}
+use Rattle.bohm_txn.proofs.States.{state-append, state-front, replies-append}
+use Rattle.bohm_tree.specs.declared.cell.Cell.TheVariants.{Absent}
+use Rattle.bohm_store.specs.Versions.{Timeline, past, cell_at}
+use Rattle.bohm_store.specs.Nexts.{IsSame, IsSettled}
+use Rattle.bohm_run.specs.Runs.{floor_after, IsApplied}
+
+-- a floor of that kind lies between the old one and the top
+pub floor_low : (was now : Timeline) (keep n : ℕ) → was.floor ≤ was.top → now.floor ≡ floor_after was keep n → now.top ≡ was.top + n → now.floor ≤ now.top
+floor_low was now keep zero ordered floor top = omega (arith, ordered, floor, top)
+floor_low was now keep (suc n) ordered floor top = omega (arith, ordered, floor, top)
+
+floor_high : (was : Timeline) (keep n : ℕ) → was.floor ≤ floor_after was keep n
+floor_high was keep zero = omega arith
+floor_high was keep (suc n) = omega arith
+
+-- the floor behind both
+floors : (was mid now : Timeline) (keep m n : ℕ) → mid.floor ≡ floor_after was keep m → mid.top ≡ was.top + m → now.floor ≡ floor_after mid keep n → now.floor ≡ floor_after was keep (m + n)
+floors was mid now keep zero zero first top second = second ∙ first
+floors was mid now keep zero (suc n) first top second =
+    let f : mid.floor ≡ was.floor = first in
+    let t : mid.top ≡ was.top = omega (arith, top) in
+    let e : 0 + suc n ≡ suc n = omega arith in
+    rw e (second ∙ (λ i. max (f i) ((t i + suc n) - keep)))
+floors was mid now keep (suc m) zero first top second = let e : suc m + 0 ≡ suc m = omega arith in rw e (second ∙ first)
+floors was mid now keep (suc m) (suc n) first top second =
+    let f : mid.floor ≡ max was.floor ((was.top + suc m) - keep) = first in
+    let s : now.floor ≡ max mid.floor ((mid.top + suc n) - keep) = second in
+    let e : suc m + suc n ≡ suc (m + suc n) = omega arith in
+    let goal : now.floor ≡ max was.floor ((was.top + suc (m + suc n)) - keep) = omega (arith, f, top, s) in
+    rw e goal
+
+pub went_on : (was mid now : Timeline) (xs ys : List Txn) (keep : ℕ) (a b : List Reply) → was.floor ≤ was.top → IsApplied was mid xs keep a → IsApplied mid now ys keep b → IsApplied was now (xs ++ ys) keep (a ++ b)
+went_on was mid now xs ys keep a b ordered h g =
+    let look : Look = past was was.top in
+    let len : length (xs ++ ys) ≡ length xs + length ys = length-append xs ys in
+    let low : mid.floor ≤ mid.top = floor_low was mid keep (length xs) ordered h.floor h.top in
+    let all : mid.top - was.top ≡ length xs = omega (arith, h.top) in
+    let there : past mid mid.top ≡ state look xs (length xs) = h.later mid.top low (omega (arith, h.top)) (omega arith) ∙ ap (state look xs) all in
+    let sunk : mid.floor ≤ now.floor = omega (arith, g.floor, floor_high mid keep (length ys)) in
+    record {
+      replies = rw (h.replies, g.replies, there) (sym (replies-append look xs ys));
+      top = omega (arith, h.top, g.top, len);
+      floor = rw len (floors was mid now keep (length xs) (length ys) h.floor h.top g.floor);
+      earlier = λ ts above below. g.earlier ts above (omega (arith, h.top, below)) ∙ h.earlier ts (omega (arith, sunk, above)) below;
+      later = λ ts above from below. ⊎_elim
+          (λ (c : ts < mid.top). g.earlier ts above (omega (arith, c)) ∙ h.later ts (omega (arith, sunk, above)) from (omega (arith, c)) ∙ sym (state-front look xs ys (ts - was.top) (omega (arith, c, h.top, from))))
+          (λ (c : mid.top ≤ ts). g.later ts above c below ∙ ap (λ (l : Look). state l ys (ts - mid.top)) there ∙ sym (state-append look xs ys (ts - was.top) (ts - mid.top) (omega (arith, c, h.top, from))))
+          (cases_lt ts mid.top);
+    }
+
+floor_behind : (was : Timeline) (txns : List Txn) (keep floor top : ℕ) → 0 < length txns → floor ≡ max was.floor (top - keep) → top ≡ was.top + length txns → floor ≡ floor_after was keep (length txns)
+floor_behind was [] keep floor top some f t = absurd (omega (arith, some))
+floor_behind was (x ∷ xs) keep floor top some f t = rw t at f
+
+-- to settle transactions and then to trim goes on by them
+pub settled_on : (was next now : Timeline) (txns : List Txn) (keep : ℕ) → 0 < length txns → IsSettled was next txns → now.floor ≡ max next.floor (next.top - keep) → now.top ≡ next.top → ((ts : ℕ) → now.floor ≤ ts → past now ts ≡ past next ts) → IsApplied was now txns keep (replies (past was was.top) txns)
+settled_on was next now txns keep some h floor top same = record {
+  replies = refl;
+  top = top ∙ h.top;
+  floor = floor_behind was txns keep now.floor next.top some (rw h.floor at floor) h.top;
+  earlier = λ ts above below. same ts above ∙ h.earlier ts below;
+  later = λ ts above from below. same ts above ∙ h.later ts from (omega (arith, below, top));
+}
+
+-- where nothing that is seen changes, a history went on by what it went on by
+pub stayed : (was mid now : Timeline) (txns : List Txn) (keep : ℕ) (a : List Reply) → IsSame mid now → IsApplied was mid txns keep a → IsApplied was now txns keep a
+stayed was mid now txns keep a same h =
+    let alike : (ts : ℕ) → past now ts ≡ past mid ts = λ ts i k. cell_at ts (same.versions k i) Absent in
+    record {
+      replies = h.replies;
+      top = same.top ∙ h.top;
+      floor = same.floor ∙ h.floor;
+      earlier = λ ts above below. alike ts ∙ h.earlier ts (omega (arith, above, same.floor)) below;
+      later = λ ts above from below. alike ts ∙ h.later ts (omega (arith, above, same.floor)) from (omega (arith, below, same.top));
+    }
+
+-- before the first transaction
+pub at_rest : (was : Timeline) (keep : ℕ) → IsApplied was was [] keep []
+at_rest was keep = record {
+  replies = refl;
+  top = omega arith;
+  floor = refl;
+  earlier = λ ts above below. refl;
+  later = λ ts above from below. let e : ts ≡ was.top = omega (arith, from, below) in rw e (let z : was.top - was.top ≡ 0 = omega arith in rw z refl);
+}

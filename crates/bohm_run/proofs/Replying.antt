@@ -1,0 +1,74 @@
+-- The replies of a batch, one transaction after another.
+use Rattle.std.proofs.Common.{◌≡◌, ℕ, ◌+◌, ◌<◌, ◌≤◌, List, [], ◌∷◌, ◌++◌, length, take, drop, get_or, Some, None, Ok, Err, refl, sym, ap, ◌∙◌, add-one, append_assoc, arith, ⊎_elim}
+use Rattle.std.specs.Prelude.{ℤ, Option, Result, OnOk, OnErr}
+use Rattle.std.specs.List.{slice_get}
+use Rattle.std.proofs.lemmas.List.{take_all, take_more}
+use Rattle.std.proofs.lemmas.Option.{get_or_from_slice_get, slice_get_cases, slice_get_within}
+use Rattle.bohm_tree.specs.declared.cell.Cell.TheVariants.{Absent, Present}
+use Rattle.bohm_tree.specs.declared.txn.Txn.{Txn}
+use Rattle.bohm_txn.specs.declared.outcome.Reply.{Reply}
+use Rattle.bohm_txn.specs.Declares.{shows_in}
+use Rattle.bohm_txn.specs.Meaning.{Look, Ended, body}
+use Rattle.bohm_txn.specs.Serial.{after, replies, reply_of, shows_of, state}
+use Rattle.bohm_txn.specs.Stores.{cell_of}
+use Rattle.bohm_txn.proofs.Bodies.{shows_counted}
+use Rattle.bohm_txn.proofs.Lists.{drop_at}
+use Rattle.bohm_txn.proofs.States.{next}
+use Rattle.bohm_exec.specs.Moments.{shown}
+
+-- ---- the shows of one transaction
+
+some_shown : (o : Option ℤ) (z : ℤ) → cell_of o ≡ Present z → o ≡ Some z
+some_shown None z e = cc
+some_shown (Some y) z e = cc
+
+none_shown : (o : Option ℤ) → cell_of o ≡ Absent → o ≡ None
+none_shown None e = refl
+none_shown (Some y) e = cc
+
+-- one value more
+pub show_more : (zs : List ℤ) (i : ℕ) (z : ℤ) → shown zs i ≡ Present z → take i zs ++ z ∷ [] ≡ take (i + 1) zs
+show_more zs i z e =
+    let here : slice_get zs i ≡ Some z = some_shown (slice_get zs i) z e in
+    sym (take_more zs i z (slice_get_within zs i z here) ∙ ap (λ y. take i zs ++ y ∷ []) (get_or_from_slice_get zs i z z here))
+
+-- none is left
+pub show_ended : (zs : List ℤ) (i : ℕ) → shown zs i ≡ Absent → take i zs ≡ take (i + 1) zs
+show_ended zs i e = ⊎_elim
+    (λ (found : (z : ℤ) × (i < length zs) × (slice_get zs i ≡ Some z) × (get_or zs i z ≡ z)). absurd (some_there found.0 (sym found.2 ∙ none_shown (slice_get zs i) e)))
+    (λ (past : (length zs ≤ i) × (slice_get zs i ≡ None)). take_all i zs past.0 ∙ sym (take_all (i + 1) zs (omega (arith, past.0))))
+    ((slice_get_cases zs i).1)
+  where
+    some_there : (z : ℤ) → Some z ≡ None → ⊥
+    some_there z p = cc
+
+-- there are no more than the body has statements for
+pub shows_few : (look : Look) (t : Txn) → length (shows_of (body look t)) ≤ shows_in t.body
+shows_few look t = elim (body look t) as (λ (e : Ended). body look t ≡ e → length (shows_of e) ≤ shows_in t.body) [
+  | Ok run ↦ λ is. (let same = shows_counted look t run is in omega arith)
+  | Err fault ↦ λ is. omega arith
+] refl
+
+-- ---- the replies
+
+-- one transaction more
+pub reply_step : (base : Look) (txns : List Txn) (i : ℕ) (x : Txn) (r : Reply) (out whole : List Reply) → slice_get txns i ≡ Some x → reply_of (body (state base txns i) x) ≡ r
+    → out ++ replies (state base txns i) (drop i txns) ≡ whole → (out ++ r ∷ []) ++ replies (state base txns (i + 1)) (drop (i + 1) txns) ≡ whole
+reply_step base txns i x r out whole here is h =
+    let after_it : state base txns (i + 1) ≡ after (state base txns i) x = rw add-one (next base txns i x here) in
+    let more = rw (drop_at txns i x here) at h in
+    rw (after_it, append_assoc, sym is) more
+
+-- the list goes on
+pub longer : (old mid new : List Reply) (r : Reply) → ((more : List Reply) × (mid ≡ old ++ more)) → new ≡ mid ++ r ∷ [] → (more : List Reply) × (new ≡ old ++ more)
+longer old mid new r (more, before) now = (more ++ r ∷ [], now ∙ (ap (λ (rs : List Reply). rs ++ r ∷ []) before ∙ append_assoc old more (r ∷ [])))
+
+-- ---- what is so whatever was answered
+
+pub on_ok : {A E P : Type 0} (r : Result A E) → P → OnOk r P
+on_ok (Ok x) p = p
+on_ok (Err e) p = tt
+
+pub on_err : {A E P : Type 0} (r : Result A E) → P → OnErr r P
+on_err (Ok x) p = tt
+on_err (Err e) p = p

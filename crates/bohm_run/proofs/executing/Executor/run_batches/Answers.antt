@@ -1,0 +1,64 @@
+use Rattle.std.proofs.Common.{rules, arith, ◌≡◌, ◌+◌, ◌∷◌, [], length, length-append, IsSome, ap, sym, ◌∙◌, take, true, false}
+use Rattle.std.proofs.lemmas.List.Elements.{All-push}
+use Rattle.std.proofs.lemmas.List.{length-take-le}
+use Rattle.bohm_place.specs.Plans.{Planned}
+use Rattle.bohm_run.specs.CutLogs.{cutting_of}
+use Rattle.bohm_run.specs.Cuttings.{IsPlanAt}
+use Rattle.bohm_run.specs.declared.line.note.PlanNote.{PlanNote}
+use Rattle.bohm_run.proofs.Going.{stayed}
+use Rattle.bohm_run.proofs.Walks.{walked_on, walk_ends, inside}
+use Rattle.bohm_run.proofs.executing.Executor.run_batches.Goals as goal
+
+pub returns-in_default : goal.returns-in_default
+returns-in_default g c =
+    let h = c.loop-place.invariant in
+    walk_ends c.args.progress.history c.loop-place.progress.history (cutting_of c.args.log) c.loop-place.place c.loop-place.start c.args.self.keep c.loop-place.progress.replies.items false c.args.log.whole h.2 (λ t. absurd cc) (rw h.3 at h.4)
+
+pub run_batch-requires-clause-first : goal.run_batch-requires-clause-first
+run_batch-requires-clause-first g c κs within =
+    let h = c.loop-place.invariant in
+    let log = cutting_of c.args.log in
+    let at : IsPlanAt log c.loop-place.place c.in-Some.plan = rw (c.requires.cutting, h.0) at c.take-note.ensures.note.plan c.in-Some.plan c.in-Some.is in
+    let run : length (take c.loop-place.start log.log) ≡ c.loop-place.start = length-take-le c.loop-place.start log.log (inside log c.loop-place.place c.loop-place.start c.args.log.whole h.2) in
+    let first : c.in-Some.plan.first ≡ c.loop-place.progress.history.top + 1 = omega (arith, at.first, c.requires.first, h.2, h.4.top, run) in
+    ap (λ (p : Planned). p.first) c.in-Some.plan-is ∙ first
+
+pub run_batch-requires-clause-right : goal.run_batch-requires-clause-right
+run_batch-requires-clause-right g c κs within =
+    let h = c.loop-place.invariant in
+    let log = cutting_of c.args.log in
+    let at : IsPlanAt log c.loop-place.place c.in-Some.plan = rw (c.requires.cutting, h.0) at c.take-note.ensures.note.plan c.in-Some.plan c.in-Some.is in
+    rw (c.batch-txns.ensures.txns, c.in-Some.plan-is) at.right
+
+pub drain-requires-clause-open : goal.drain-requires-clause-open
+drain-requires-clause-open g c =
+    let there : IsSome c.take-note.result.plan = search rules in
+    rw c.take-note.ensures.taken (All-push (λ (x : PlanNote). IsSome x.plan) c.loop-place.receiver c.take-note.result c.loop-place.invariant.1 there)
+
+pub returns-in-Err : goal.returns-in-Err
+returns-in-Err g c =
+    let h = c.loop-place.invariant in
+    let same = c.in-Err.ensures.err in
+    let log = cutting_of c.args.log in
+    let on = stayed c.args.progress.history c.loop-place.progress.history c.run_batch.new.progress.history (take c.loop-place.start log.log) c.args.self.keep c.loop-place.progress.replies.items same.history (rw h.3 at h.4) in
+    walk_ends c.args.progress.history c.run_batch.new.progress.history log c.loop-place.place c.loop-place.start c.args.self.keep c.run_batch.new.progress.replies.items false c.args.log.whole h.2 (λ t. absurd cc) (rw same.replies on)
+
+pub loop-place-preserved : goal.loop-place-preserved
+loop-place-preserved g c =
+    let h = c.loop-place.invariant in
+    let log = cutting_of c.args.log in
+    let there : IsSome c.take-note.result.plan = search rules in
+    let goes = c.in_default-run_batch.ensures.ok in
+    let next = c.batch-txns.ensures in
+    let on = walked_on c.args.progress.history c.loop-place.progress.history c.run_batch.new.progress.history log c.loop-place.place c.loop-place.start c.args.self.keep c.loop-place.progress.replies.items c.batch-txns.result.now c.requires.ordered (search rules) h.2 next.txns next.ahead (rw h.3 at h.4) (rw h.3 at goes.applied) in (
+      omega (arith, ap length c.take-note.ensures.taken, length-append c.loop-place.receiver (c.take-note.result ∷ []), h.0),
+      rw c.take-note.ensures.taken (All-push (λ (x : PlanNote). IsSome x.plan) c.loop-place.receiver c.take-note.result h.1 there),
+      sym next.ahead,
+      c.run_batch.ensures.keep ∙ h.3,
+      rw (c.run_batch.ensures.keep ∙ h.3, goes.replies) on,
+    )
+
+pub returns : goal.returns
+returns g c =
+    let h = c.loop-place.invariant in
+    walk_ends c.args.progress.history c.loop-place.progress.history (cutting_of c.args.log) c.loop-place.place c.loop-place.start c.args.self.keep c.loop-place.progress.replies.items true c.args.log.whole h.2 (λ t. search rules) (rw h.3 at h.4)

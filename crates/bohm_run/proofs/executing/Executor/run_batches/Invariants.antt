@@ -1,0 +1,10 @@
+use Rattle.std.proofs.Common.{◌≡◌, length, take, All, IsSome}
+use Rattle.bohm_run.specs.CutLogs.{cutting_of}
+use Rattle.bohm_run.specs.Cuttings.{ahead}
+use Rattle.bohm_run.specs.Runs.{IsApplied}
+use Rattle.bohm_run.proofs.executing.Executor.run_batches.Given as goal
+
+abbrev pub invariant-loop-place : goal.invariant-loop-place
+invariant-loop-place g l =
+    (length l.receiver ≡ l.place) × All (λ taken. IsSome taken.plan) l.receiver × (l.start ≡ ahead (cutting_of l.log).sizes l.place) × (l.self.keep ≡ l.initial.self.keep)
+    × IsApplied l.initial.progress.history l.progress.history (take l.start (cutting_of l.log).log) l.self.keep l.progress.replies.items

@@ -1,0 +1,9 @@
+use Rattle.std.proofs.Common.{◌++◌, ◌∙◌, List, ap}
+use Rattle.bohm_txn.specs.declared.outcome.Reply.{Reply}
+use Rattle.bohm_store.proofs.Produced.{next_replies}
+use Rattle.bohm_exec.specs.Answers.{batch_of_finished}
+use Rattle.bohm_run.proofs.Replying.{on_ok}
+use Rattle.bohm_run.proofs.replies.settle_batch.Goals as goal
+
+pub returns-else-is_err-clause-replies : goal.returns-else-is_err-clause-replies
+returns-else-is_err-clause-replies c = on_ok _ (c.in_ok-push_replies.ensures.ok ∙ ap (λ (rs : List Reply). c.args.replies.now.items ++ rs) (next_replies c.args.history.now (batch_of_finished c.args.finished.now) c.requires))

@@ -1,0 +1,28 @@
+-- What batches and their transactions answer.
+use Rattle.std.specs.Prelude.{◌≡◌, ℕ, ℤ, List, Some}
+use Rattle.bohm_tree.specs.declared.txn.Txn.{Txn}
+use Rattle.bohm_txn.specs.declared.outcome.Reply.{Reply}
+use Rattle.bohm_txn.specs.Meaning.{body}
+use Rattle.bohm_txn.specs.Serial.{replies, reply_of, shows_of}
+use Rattle.bohm_board.specs.declared.batch.Batch.{Batch}
+use Rattle.bohm_board.specs.Batches.{base_of, txn_at, txns_of}
+use Rattle.bohm_exec.specs.declared.finished.Finished.{Finished}
+use Rattle.bohm_exec.specs.Answers.{batch_of_finished}
+use Rattle.bohm_exec.specs.Moments.{state_before}
+use Rattle.bohm_store.specs.Versions.{Timeline, past}
+
+-- what a finished batch answers over its base
+abbrev pub replies_of : Finished → List Reply
+replies_of f = replies (base_of (batch_of_finished f)) (txns_of (batch_of_finished f))
+
+-- what its transactions answer behind the top of a history
+abbrev pub replies_behind : Timeline → Finished → List Reply
+replies_behind t f = replies (past t t.top) (txns_of (batch_of_finished f))
+
+-- ---- of the transaction with the timestamp t, in the serial run
+
+abbrev pub AreSerialShows : Batch → ℕ → List ℤ → Type 0
+AreSerialShows b t zs = (x : Txn) → txn_at b t ≡ Some x → shows_of (body (state_before b t) x) ≡ zs
+
+abbrev pub IsSerialReply : Batch → ℕ → Reply → Type 0
+IsSerialReply b t r = (x : Txn) → txn_at b t ≡ Some x → reply_of (body (state_before b t) x) ≡ r

@@ -1,0 +1,41 @@
+-- What running a log upon a history comes to.
+use Rattle.std.specs.Prelude.{◌≡◌, ℕ, zero, suc, ◌+◌, ◌-◌, ◌≤◌, List, length, max, take, Bool, true}
+use Rattle.bohm_tree.specs.declared.txn.Txn.{Txn}
+use Rattle.bohm_txn.specs.declared.outcome.Reply.{Reply}
+use Rattle.bohm_txn.specs.Meaning.{Look}
+use Rattle.bohm_txn.specs.Serial.{state, replies}
+use Rattle.bohm_store.specs.Versions.{Timeline, past}
+use Rattle.bohm_run.specs.Cuttings.{Cutting, ahead}
+
+-- the floor behind so many transactions: that many timestamps below the top stay readable, and the floor never goes down
+abbrev pub floor_after : Timeline → ℕ → ℕ → ℕ
+floor_after was keep zero = was.floor
+floor_after was keep (suc n) = max was.floor ((was.top + suc n) - keep)
+
+-- the history went on by these transactions, one after another, and these are their replies
+pub record IsApplied (was now : Timeline) (txns : List Txn) (keep : ℕ) (answered : List Reply) : Type 0 where
+  pub replies : answered ≡ replies (past was was.top) txns
+  pub top : now.top ≡ was.top + length txns
+  pub floor : now.floor ≡ floor_after was keep (length txns)
+  pub earlier : (ts : ℕ) → now.floor ≤ ts → ts ≤ was.top → past now ts ≡ past was ts
+  pub later : (ts : ℕ) → now.floor ≤ ts → was.top ≤ ts → ts ≤ now.top → past now ts ≡ state (past was was.top) txns (ts - was.top)
+
+-- these transactions behind the top of a history, in batches of these sizes
+abbrev pub cutting_behind : Timeline → List Txn → List ℕ → Cutting
+cutting_behind t txns sizes = record { first = t.top + 1; log = txns; sizes = sizes }
+
+-- so many transactions are whole batches
+abbrev pub IsEndOfBatch : List ℕ → ℕ → Type 0
+IsEndOfBatch sizes n = (batches : ℕ) × (n ≡ ahead sizes batches)
+
+-- from the floor to the top, which is the log's length, the history's past is the serial run of the log
+pub record IsHistoryOf (start : Look) (log : List Txn) (keep : ℕ) (t : Timeline) : Type 0 where
+  pub top : t.top ≡ length log
+  pub floor : t.floor ≡ length log - keep
+  pub past : (ts : ℕ) → t.floor ≤ ts → ts ≤ t.top → past t ts ≡ state start log ts
+
+-- a walk over a cut log settled whole batches from its first on, and all of them where it ended well
+pub record IsWalked (was now : Timeline) (c : Cutting) (keep : ℕ) (answered : List Reply) (ended : Bool) : Type 0 where
+  pub applied : IsApplied was now (take (length answered) c.log) keep answered
+  pub batches : IsEndOfBatch c.sizes (length answered)
+  pub whole : ended ≡ true → length answered ≡ length c.log

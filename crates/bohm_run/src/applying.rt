@@ -1,0 +1,196 @@
+//! A log upon a history: planning in a thread of its own, ahead of execution.
+
+ghost use Rattle.std.specs.Prelude.{◌≡◌, ℕ, List, ◌+◌, ◌<◌, ◌≤◌, ◌^◌, [], All, length, take, true, is_ok, IfOk};
+ghost use Rattle.std.specs.List.{sum};
+ghost use denote.Param.Send.{IsSend, IsSync};
+ghost use Rattle.bohm_txn.specs.Faulty.{IsWellFormedTxn};
+ghost use Rattle.bohm_place.specs.Chains.{chain_in};
+ghost use Rattle.bohm_run.specs.CutLogs.{cutting_of};
+ghost use Rattle.bohm_run.specs.Progresses.{IsWalkOf};
+ghost use Rattle.bohm_run.specs.Runs.{cutting_behind, IsApplied, IsEndOfBatch};
+ghost use Rattle.bohm_run.specs.Sides.{CanExecute, CanPlan};
+
+use crate::cut_log::CutLog;
+use crate::cuts::Cuts;
+use crate::executing::{Executor, Progress};
+use crate::line::{Line, PlanReceiver, PlanSender, plan_line};
+use crate::planning_side::plan_ahead;
+use crate::workers::Crew;
+use bohm_exec::Gate;
+use bohm_place::{Partition, Shards};
+use bohm_store::History;
+use bohm_txn::{Items, NoMemory, Reply, Txn};
+use std::alloc::Global;
+use std::marker::Brand;
+use std::sync::Wait;
+use std::thread::Threads;
+use std::{mem, thread};
+
+/// What running a log upon a history answers.
+#[derive(Drop)]
+pub struct Applied {
+    /// The replies of the transactions that were settled, in log order.
+    pub replies: Items<Reply>,
+    /// Whether all of them were settled, or the rest was refused for want of memory.
+    pub end: Result<(), NoMemory>,
+}
+
+/// What both sides of a run start with.
+#[derive(Drop)]
+struct Sides<L: Line> {
+    executor: Executor,
+    shards: Shards,
+    sender: PlanSender<L>,
+    receiver: PlanReceiver<L>,
+}
+
+fn set_up<L: Line, P: Partition>(
+    alloc: Global,
+    executors: u32,
+    keep: u32,
+    partition: &P,
+) -> Result<Sides<L>, NoMemory>
+    requires executors { 0 < executors }
+    ensures keep { IfOk result (λ s. s.executor.keep ≡ keep) }
+    ensures parts { IfOk result (λ s. length s.shards ≡ P.count partition.now) }
+    ensures empty { IfOk result (λ s. (k : List ℕ) → chain_in (P.part_of partition.now) s.shards k ≡ []) }
+    ensures unsent { IfOk result (λ s. s.sender ≡ []) }
+    ensures untaken { IfOk result (λ s. s.receiver ≡ []) }
+{
+    let crew = Crew::new(alloc, executors)?;
+    let shards = Shards::new(alloc, partition.parts())?;
+    let (sender, receiver) = plan_line::<L>(alloc)?;
+    Ok(Sides {
+        executor: Executor { crew, keep },
+        shards,
+        sender,
+        receiver,
+    })
+}
+
+/// Goes through the log, with the planning side in a thread of its own.
+fn walk<L: Line + Send + Sync, P: Partition, G: Gate, R: Threads + Wait + Sync>(
+    rt: &R,
+    alloc: Global,
+    sides: Sides<L>,
+    progress: Progress,
+    log: CutLog<'_>,
+    planners: u32,
+    partition: &P,
+    gate: &G,
+) -> (Progress, Result<(), NoMemory>)
+    requires plans { CanPlan L.cutting (cutting_of log) sides.sender (P.part_of partition.now) (P.count partition.now) sides.shards planners }
+    requires executes { CanExecute L.cutting (cutting_of log) sides.receiver progress }
+    ensures { IsWalkOf progress.history (cutting_of log.entry) sides.executor.keep result }
+{
+    let Sides {
+        executor,
+        shards,
+        sender,
+        receiver,
+    } = sides;
+    thread::scope(
+        thread::scope_env(),
+        rt,
+        move |scope| -> (Progress, Result<(), NoMemory>)
+            requires { IsSync R.row × IsSync P.row × IsSync G.row × IsSend L.row
+                × CanPlan L.cutting (cutting_of log) sender (P.part_of partition.now) (P.count partition.now) shards planners
+                × CanExecute L.cutting (cutting_of log) receiver progress }
+            ensures { IsWalkOf progress.history (cutting_of log.entry) executor.keep result }
+        {
+            let planning = scope.spawn(
+                move ||
+                    requires { IsSync R.row × IsSync P.row × IsSync G.row × IsSend L.row
+                        × CanPlan L.cutting (cutting_of log) sender (P.part_of partition.now) (P.count partition.now) shards planners }
+                {
+                    plan_ahead(rt, alloc, sender, shards, log, planners, partition, gate);
+                },
+            );
+            if planning.is_err() {
+                return (progress, Err(NoMemory));
+            }
+            executor.run_batches(rt, alloc, receiver, progress, log, gate)
+        },
+    )
+}
+
+/// Goes through some transactions, whose cutting the line of plans is for.
+fn apply_on<L: Line + Send + Sync, P: Partition, G: Gate, R: Threads + Wait + Sync>(
+    rt: &R,
+    alloc: Global,
+    history: History,
+    txns: &[Txn],
+    cuts: &Cuts,
+    planners: u32,
+    executors: u32,
+    keep: u32,
+    partition: &P,
+    gate: &G,
+) -> (Progress, Result<(), NoMemory>)
+    requires cutting { L.cutting ≡ cutting_behind history txns.now cuts.now }
+    requires planners { 0 < planners }
+    requires executors { 0 < executors }
+    requires some { 0 < length txns.now }
+    requires total { sum cuts.now ≡ length txns.now }
+    requires timestamps { history.top + length txns.now < 2 ^ 32 }
+    requires formed { All IsWellFormedTxn txns.now }
+    ensures { IsWalkOf history (cutting_behind history txns.entry.now cuts.entry.now) keep result }
+{
+    let log = CutLog::new(history.top() + 1, txns, cuts);
+    let progress = Progress {
+        history,
+        replies: Vec::new(alloc),
+    };
+    match set_up(alloc, executors, keep, partition) {
+        Ok(sides) => walk::<L, P, G, R>(rt, alloc, sides, progress, log, planners, partition, gate),
+        Err(refusal) => (progress, Err(refusal)),
+    }
+}
+
+/// Runs the transactions upon a history, in batches of this cutting, the first of which starts behind
+/// the top.
+///
+/// A planning side in a thread of its own plans batch after batch, with `cc` workers, and is up to three
+/// batches ahead; of each batch that it has planned `exec` workers sweep their shares at the same time.
+/// After a batch that ends at e the floor becomes `e - keep`, or stays where it is above that. Both
+/// numbers of workers may be larger than there is work for: no worker starts that has none.
+///
+/// Where it is refused memory or the planning side's thread, the history stands at the end of a batch,
+/// and the replies up to there are answered: nothing is lost, and the rest can be applied again.
+pub fn apply<P: Partition, G: Gate, R: Threads + Wait + Sync>(
+    rt: &R,
+    alloc: Global,
+    history: &mut History,
+    txns: &[Txn],
+    cuts: &Cuts,
+    cc: u32,
+    exec: u32,
+    keep: u32,
+    partition: &P,
+    gate: &G,
+) -> Applied
+    requires planners { 0 < cc }
+    requires executors { 0 < exec }
+    requires total { sum cuts.now ≡ length txns.now }
+    requires timestamps { history.old.top + length txns.now < 2 ^ 32 }
+    requires formed { All IsWellFormedTxn txns.now }
+    ensures applied { IsApplied history.old history.new (take (length result.replies) txns.now) keep result.replies }
+    ensures batches { IsEndOfBatch cuts.now (length result.replies) }
+    ensures whole { is_ok result.end ≡ true → length result.replies ≡ length txns.now }
+{
+    if txns.is_empty() {
+        return Applied {
+            replies: Items::new(alloc),
+            end: Ok(()),
+        };
+    }
+    let taken = mem::replace(history, History::empty(alloc));
+    let (progress, end) = apply_on::<Brand, P, G, R>(
+        rt, alloc, taken, txns, cuts, cc, exec, keep, partition, gate,
+    );
+    *history = progress.history;
+    Applied {
+        replies: Items::from(progress.replies),
+        end,
+    }
+}

@@ -1,0 +1,111 @@
+//! The executing side: batch after batch, as their plans come.
+
+ghost use Rattle.std.specs.Prelude.{◌≡◌, ◌+◌, ◌<◌, ◌≤◌, ◌^◌, [], All, length, is_ok, IsSome, OnOk, OnErr};
+ghost use Rattle.bohm_txn.specs.Faulty.{IsWellFormedTxn};
+ghost use Rattle.bohm_place.specs.Plans.{IsRightPlan};
+ghost use Rattle.bohm_run.specs.CutLogs.{cutting_of};
+ghost use Rattle.bohm_run.specs.Progresses.{GoesOn, IsWalkOf, StaysPut};
+ghost use Rattle.bohm_run.specs.Sides.{CanExecute};
+
+use crate::cut_log::CutLog;
+use crate::line::{Line, PlanReceiver};
+use crate::replies::settle_batch;
+use crate::workers::{Crew, finish_batch};
+use bohm_exec::Gate;
+use bohm_place::Plan;
+use bohm_store::History;
+use bohm_txn::{NoMemory, Reply, Txn};
+use std::alloc::Global;
+use std::sync::Wait;
+use std::thread::Threads;
+
+/// A history that goes on, and the replies of the transactions that it went on by.
+#[derive(Drop)]
+pub(crate) struct Progress {
+    pub(crate) history: History,
+    pub(crate) replies: Vec<Reply>,
+}
+
+/// What executes batches: the workers, and how many timestamps below a batch's end stay readable.
+#[derive(Drop)]
+pub(crate) struct Executor {
+    pub(crate) crew: Crew,
+    pub(crate) keep: u32,
+}
+
+impl Executor {
+    /// Runs the batch that follows the history's top.
+    fn run_batch<G: Gate, R: Threads + Sync>(
+        &mut self,
+        rt: &R,
+        alloc: Global,
+        progress: &mut Progress,
+        txns: &[Txn],
+        plan: Plan,
+        gate: &G,
+    ) -> Result<(), NoMemory>
+        requires some { 0 < length txns.now }
+        requires few { length txns.now ≤ 4096 }
+        requires timestamps { progress.old.history.top + 1 + length txns.now ≤ 2 ^ 32 }
+        requires formed { All IsWellFormedTxn txns.now }
+        requires first { plan.first ≡ progress.old.history.top + 1 }
+        requires right { ∥ IsRightPlan txns.now plan ∥₁ }
+        ensures keep { self.new.keep ≡ self.old.keep }
+        ensures ok { OnOk result (GoesOn progress.old progress.new txns.now self.old.keep) }
+        ensures err { OnErr result (StaysPut progress.old progress.new) }
+    {
+        let batch = progress.history.batch(alloc, txns, plan)?;
+        let finished = finish_batch(rt, alloc, batch, &mut self.crew, gate)?;
+        settle_batch(
+            alloc,
+            &mut progress.history,
+            &mut progress.replies,
+            &finished,
+        )?;
+        let floor = progress.history.top().saturating_sub(self.keep);
+        progress.history.trim(floor);
+        Ok(())
+    }
+
+    /// Runs the batches of a log, each once its plan has come. After a refusal it executes nothing
+    /// more; after one of its own it takes what planning still sends, so that the planning side ends.
+    pub(crate) fn run_batches<L: Line, G: Gate, R: Threads + Wait + Sync>(
+        mut self,
+        rt: &R,
+        alloc: Global,
+        mut receiver: PlanReceiver<L>,
+        mut progress: Progress,
+        log: CutLog<'_>,
+        gate: &G,
+    ) -> (Progress, Result<(), NoMemory>)
+        requires { CanExecute L.cutting (cutting_of log) receiver progress }
+        ensures { IsWalkOf progress.history (cutting_of log.entry) self.keep result }
+    {
+        let mut start = 0usize;
+        for place in 0..log.batches() {
+            let note = receiver.take(rt);
+            let Some(plan) = note.plan else {
+                return (progress, Err(NoMemory));
+            };
+            let txns = log.batch(place, start);
+            if let Err(refusal) = self.run_batch(rt, alloc, &mut progress, txns, plan, gate) {
+                drain(rt, receiver, log.batches() - place - 1);
+                return (progress, Err(refusal));
+            }
+            start += txns.len();
+        }
+        (progress, Ok(()))
+    }
+}
+
+/// Takes what is left, up to this many notes.
+fn drain<L: Line, R: Wait>(rt: &R, mut receiver: PlanReceiver<L>, left: u32)
+    requires batches { length receiver + left ≤ length L.cutting.sizes }
+    requires open { All (λ taken. IsSome taken.plan) receiver }
+{
+    for _ in 0..left {
+        if receiver.take(rt).plan.is_none() {
+            return;
+        }
+    }
+}

@@ -1,0 +1,73 @@
+//! A crew: what the workers of a run evaluate with.
+
+ghost use Rattle.std.specs.Prelude.{◌≡◌, ◌+◌, ◌<◌, ◌≤◌, IfOk, OnOk, vec_len};
+
+use bohm_txn::{NoMemory, Scratch};
+use std::alloc::Global;
+
+/// The scratches of a number of workers, which are made once and go through all batches of a run. A
+/// batch of fewer transactions takes no more than it has.
+#[derive(Drop)]
+pub struct Crew {
+    count: u32,
+    // As many as a batch has needed; those that were lost with a batch that was refused are made anew.
+    scratches: Vec<Scratch>,
+    // For what the workers leave.
+    pub(crate) last: Scratch,
+    ghost some: { 0 < count },
+}
+
+impl Crew {
+    ghost use Rattle.bohm_run.specs.Sweeps.{workers_of};
+
+    /// Of as many workers.
+    pub fn new(alloc: Global, count: u32) -> Result<Crew, NoMemory>
+        requires { 0 < count }
+        ensures { IfOk result (λ crew. workers_of crew ≡ count) }
+    {
+        Ok(Crew {
+            count,
+            scratches: Vec::new(alloc),
+            last: Scratch::new(alloc)?,
+        })
+    }
+
+    /// The number of workers.
+    pub fn workers(&self) -> u32
+        ensures count { result ≡ workers_of self.now }
+        ensures some { 0 < result }
+    {
+        self.count
+    }
+
+    /// Makes the scratches that so many workers lack.
+    pub(crate) fn fill(&mut self, alloc: Global, workers: u32) -> Result<(), NoMemory>
+        ensures count { workers_of self.new ≡ workers_of self.old }
+        ensures full { OnOk result (workers ≤ vec_len self.new.scratches) }
+    {
+        while self.scratches.len() < workers as usize {
+            self.scratches.push(Scratch::new(alloc)?)?;
+        }
+        Ok(())
+    }
+
+    /// Takes the scratch of one worker out.
+    pub(crate) fn take(&mut self) -> Scratch
+        requires { 0 < vec_len self.old.scratches }
+        ensures count { workers_of self.new ≡ workers_of self.old }
+        ensures rest { vec_len self.new.scratches + 1 ≡ vec_len self.old.scratches }
+    {
+        match self.scratches.pop() {
+            Some(scratch) => scratch,
+            None => unreachable!(),
+        }
+    }
+
+    /// Takes it back.
+    pub(crate) fn give_back(&mut self, scratch: Scratch) -> Result<(), NoMemory>
+        ensures count { workers_of self.new ≡ workers_of self.old }
+    {
+        self.scratches.push(scratch)?;
+        Ok(())
+    }
+}

@@ -1,0 +1,5 @@
+use Rattle.bohm_store.proofs.Produced.{next_replies}
+use Rattle.bohm_store.proofs.laws.next_replies.Goals as goal
+
+pub returns : goal.returns
+returns c = next_replies
