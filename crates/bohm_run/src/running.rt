@@ -29,9 +29,12 @@ pub struct Answer {
 /// order.
 ///
 /// The workers are those of `apply`; `keep` is how many timestamps below the last batch's end stay
-/// readable. The time grows with the terms of the log, spread over the executing workers where bodies
-/// don't wait for one another, and with the keys that the transactions declare, spread over the planning
-/// workers as the partition spreads them.
+/// readable. `NoMemory` where a growth or the planning side's thread was refused.
+///
+/// The time grows with the keys of the starting store and with the terms of the log, these spread over
+/// the executing workers where bodies don't wait for one another. On the executing side's one thread it
+/// grows besides with the number n of keys that a batch declares as n log n, and with a start of threads
+/// for each batch where there are several workers.
 pub fn run<P: Partition, G: Gate, R: Threads + Wait + Sync>(
     rt: &R,
     alloc: Global,
