@@ -1,19 +1,21 @@
 #!/usr/bin/env python3
 """Makes a log on standard output; the same words give the same bytes.
 
-    logs.py transfers [--n 100000] [--keys 10000] [--seed 1]   moves an amount between two keys, if there is that much
+    logs.py transfers [--n 100000] [--keys 10000] [--seed 1] [--two]   moves an amount between two keys, if there
+                                                               is that much
     logs.py counters  ..                                       adds one to one of the keys, and shows it
+    logs.py adds      ..                                       adds an amount to one of the keys by way of a local
     logs.py hot       ..                                       adds one to the first key, and shows it
     logs.py blind     ..                                       sets two keys to literals
     logs.py long      ..                                       1,024 terms over 16 keys, two of which it writes
 
-Names are as short as the number of keys allows, so that many transactions fit into the longest text.
+With --two the log is of edition 2. Names are as short as the number of keys allows, so that many transactions fit into the longest text.
 """
 import argparse
 import random
 import sys
 
-KINDS = ["transfers", "counters", "hot", "blind", "long"]
+KINDS = ["transfers", "counters", "adds", "hot", "blind", "long"]
 DIGITS = "0123456789abcdefghijklmnopqrstuvwxyz"
 
 
@@ -43,6 +45,10 @@ def count(key):
     return f"txn\nreads {key}\nwrites {key}\nset {key} = {key} + 1\nshow {key}\nend\n"
 
 
+def add(rng, key):
+    return f"txn\nreads {key}\nwrites {key}\nlet $old = {key}\nset {key} = $old + {rng.randrange(1, 9)}\nshow $old\nend\n"
+
+
 def blind(rng, keys):
     a, b = sorted(rng.sample(keys, 2))
     return f"txn\nreads\nwrites {a} {b}\nset {a} = {rng.randrange(1000)}\nset {b} = {rng.randrange(1000)}\nend\n"
@@ -62,14 +68,15 @@ def long_body(rng, keys):
     return "".join(lines)
 
 
-def write_log(out, kind, n, keys, seed):
+def write_log(out, kind, n, keys, seed, edition):
     rng = random.Random(seed)
     names = names_of(keys)
-    out.write("log 1\n")
+    out.write(f"log {edition}\n")
     out.writelines(f"{name} {rng.randrange(200)}\n" for name in names)
     make = {
         "transfers": lambda: transfer(rng, names),
         "counters": lambda: count(rng.choice(names)),
+        "adds": lambda: add(rng, rng.choice(names)),
         "hot": lambda: count(names[0]),
         "blind": lambda: blind(rng, names),
         "long": lambda: long_body(rng, names),
@@ -84,5 +91,6 @@ if __name__ == "__main__":
     words.add_argument("--n", type=int, default=100_000)
     words.add_argument("--keys", type=int, default=10_000)
     words.add_argument("--seed", type=int, default=1)
+    words.add_argument("--two", action="store_true")
     said = words.parse_args()
-    write_log(sys.stdout, said.kind, said.n, said.keys, said.seed)
+    write_log(sys.stdout, said.kind, said.n, said.keys, said.seed, 2 if said.two else 1)

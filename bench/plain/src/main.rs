@@ -1,40 +1,117 @@
-//! The same job in plain Rust, to measure with: it reads a log into the same tree, runs it one
-//! transaction after another over a hash map, and prints the answer.
+//! The same job in plain Rust, to measure with. Each engine reads a log on standard input, and prints its
+//! answer.
 //!
-//!     plain run < LOG      prints the answer, and on standard error how long each part took
-//!     plain parse < LOG    reads the tree alone
+//!     plain tree        a tree of small objects, without a check, over a hash map by name
+//!     plain tree-parse  the reading of that tree alone
+//!     plain serial      flat columns and dense key numbers, one transaction after another
+//!     plain bohm [--cc 1] [--exec 1] [--parts 1] [--batch 4096]
+//!                       the same log by BOHM's steps, on so many planning and executing threads
+//!
+//! With --times each says on standard error how many seconds its parts took, as JSON.
 
+mod board;
+mod bohm;
+mod check;
+mod draft;
+mod fault;
+mod log;
+mod names;
 mod parse;
+mod plan;
+mod print;
 mod run;
+mod settle;
+mod sweep;
+mod text;
+mod times;
 mod tree;
 
-use std::io::{Read, Write};
+use bohm::Settings;
+use fault::Fault;
+use log::Log;
+use run::Answer;
 use std::process::ExitCode;
 use std::time::Instant;
+use text::Text;
+use times::Times;
+
+/// An engine over the flat log.
+fn flat(times: &mut Times, run: impl FnOnce(&Log, &mut Times) -> Answer) -> Result<(), Fault> {
+    let mut text = Text::open()?;
+    let start = Instant::now();
+    let log = parse::parse(&mut text)?;
+    times.note("read", text.reading);
+    times.note("parse", start.elapsed() - text.reading);
+    times.take("check", || check::check(&log))?;
+    let answer = times.take_with("execute", |times| run(&log, times));
+    let out = times.take("print", || print::print(&log, &answer));
+    let written = times.take("write", || text::write(&out));
+    // The process ends, which gives all back at once.
+    std::mem::forget((log, answer, out));
+    written
+}
+
+fn tree(times: &mut Times, parses_alone: bool) -> Result<(), Fault> {
+    let text = times.take("read", text::read_all)?;
+    let doc = times.take("parse", || tree::parse::parse(&text)).map_err(Fault::Line)?;
+    if parses_alone {
+        println!("{}", doc.log.len());
+        return Ok(());
+    }
+    let (replies, store) = times.take("execute", || tree::run::run(&doc));
+    let out = times.take("print", || tree::run::print(&replies, &store));
+    times.take("write", || text::write(&out))
+}
+
+/// The words behind the engine's name.
+fn settings(words: impl Iterator<Item = String>) -> Option<(Settings, bool)> {
+    let mut settings = Settings { planners: 1, executors: 1, parts: 1, batch: 4096 };
+    let (mut tells, mut words) = (false, words);
+    while let Some(word) = words.next() {
+        let number = match word.as_str() {
+            "--cc" => &mut settings.planners,
+            "--exec" => &mut settings.executors,
+            "--parts" => &mut settings.parts,
+            "--batch" => &mut settings.batch,
+            "--times" => {
+                tells = true;
+                continue;
+            }
+            _ => return None,
+        };
+        *number = words.next()?.parse().ok().filter(|number| *number > 0)?;
+    }
+    Some((settings, tells))
+}
 
 fn main() -> ExitCode {
-    let job = std::env::args().nth(1).unwrap_or_else(|| "run".to_string());
-    let mut text = Vec::new();
-    std::io::stdin().read_to_end(&mut text).expect("a log on standard input");
-    let start = Instant::now();
-    let doc = match parse::parse(&text) {
-        Ok(doc) => doc,
-        Err(line) => {
-            eprintln!("refused: line {line}");
-            return ExitCode::FAILURE;
+    let mut words = std::env::args().skip(1);
+    let engine = words.next().unwrap_or_default();
+    let Some((settings, tells)) = settings(words) else {
+        eprintln!(
+            "plain: tree, tree-parse, serial or bohm, then --cc, --exec, --parts, --batch N or --times"
+        );
+        return ExitCode::from(2);
+    };
+    let mut times = Times::new();
+    let done = match engine.as_str() {
+        "tree" => tree(&mut times, false),
+        "tree-parse" => tree(&mut times, true),
+        "serial" => flat(&mut times, |log, _| run::serial(log)),
+        "bohm" => flat(&mut times, |log, times| bohm::run(log, &settings, times)),
+        _ => {
+            eprintln!("plain: no engine {engine}");
+            return ExitCode::from(2);
         }
     };
-    eprintln!("parse {:?}", start.elapsed());
-    if job == "parse" {
-        println!("{}", doc.log.len());
-        return ExitCode::SUCCESS;
+    if tells {
+        times.tell();
     }
-    let start = Instant::now();
-    let (replies, store) = run::run(&doc);
-    eprintln!("run {:?}", start.elapsed());
-    let start = Instant::now();
-    let answer = run::print(&replies, &store);
-    eprintln!("print {:?}", start.elapsed());
-    std::io::stdout().write_all(&answer).expect("standard output");
-    ExitCode::SUCCESS
+    match done {
+        Ok(()) => ExitCode::SUCCESS,
+        Err(fault) => {
+            eprintln!("{fault}");
+            ExitCode::FAILURE
+        }
+    }
 }

@@ -1,221 +1,357 @@
-//! The log's text into its tree, in one pass. An error is the number of the line.
+//! The text into a log, in one pass, with the exact first bad line.
 
-use crate::tree::{Atom, Cmp, Cond, Doc, Key, Stmt, Sum, Term, Txn};
+use crate::draft::Draft;
+use crate::fault::Fault;
+use crate::log::{Act, Comparison, Edition, Log};
+use crate::names::Name;
+use crate::text::Text;
 
-struct Words<'a> {
-    rest: Option<&'a [u8]>,
+const fn four(word: &[u8; 4]) -> u32 {
+    u32::from_be_bytes(*word)
+}
+const TXN: u32 = four(b"txn\n");
+const END: u32 = four(b"end\n");
+const SET: u32 = four(b"set ");
+const NEED: u32 = four(b"need");
+const SHOW: u32 = four(b"show");
+const LET: u32 = four(b"let ");
+const DROP: u32 = four(b"drop");
+const FAIL: u32 = four(b"fail");
+
+/// What ends a sum.
+enum Stop {
+    Line,
+    When,
+    Compare(Comparison),
 }
 
-impl<'a> Iterator for Words<'a> {
-    type Item = &'a [u8];
-
-    fn next(&mut self) -> Option<&'a [u8]> {
-        let rest = self.rest?;
-        match rest.iter().position(|b| *b == b' ') {
-            None => {
-                self.rest = None;
-                Some(rest)
-            }
-            Some(at) => {
-                self.rest = Some(&rest[at + 1..]);
-                Some(&rest[..at])
-            }
-        }
-    }
+struct Parser<'a> {
+    text: &'a mut Text,
+    at: usize,
+    /// Where the line begins that is being read.
+    line: usize,
+    draft: Draft,
 }
 
-struct Lines<'a> {
-    rest: &'a [u8],
-    count: u64,
-}
-
-impl<'a> Lines<'a> {
-    fn next(&mut self) -> Option<&'a [u8]> {
-        let at = self.rest.iter().position(|b| *b == b'\n')?;
-        let line = &self.rest[..at];
-        self.rest = &self.rest[at + 1..];
-        self.count += 1;
-        Some(line)
-    }
-}
-
-fn whole(limit: u64, word: &[u8]) -> Option<u64> {
-    if word.is_empty() || word.len() > 1 && word[0] == b'0' {
-        return None;
-    }
-    let mut number: u64 = 0;
-    for byte in word {
-        if !byte.is_ascii_digit() {
-            return None;
-        }
-        number = number.checked_mul(10)?.checked_add(u64::from(byte - b'0'))?;
-        if number > limit {
-            return None;
-        }
-    }
-    Some(number)
-}
-
-fn number(word: &[u8]) -> Option<i64> {
-    match word {
-        [b'-', digits @ ..] => match whole(1 << 63, digits)? {
-            0 => None,
-            n => Some((n as i128).wrapping_neg() as i64),
-        },
-        _ => Some(whole(i64::MAX as u64, word)? as i64),
-    }
-}
-
-fn atom(word: &[u8]) -> Option<Atom> {
-    match word {
-        [b'$', name @ ..] => Some(Atom::Local(Key::new(name)?)),
-        [b'0'..=b'9', ..] => Some(Atom::Lit(whole(i64::MAX as u64, word)?)),
-        _ => Some(Atom::Read(Key::new(word)?)),
-    }
-}
-
-fn term(minus: bool, atom: Atom) -> Option<Term> {
-    match atom {
-        Atom::Lit(0) if minus => None,
-        _ => Some(Term { minus, atom }),
-    }
-}
-
-/// A sum, and the word behind it, if there is one.
-fn sum<'a>(words: &mut Words<'a>) -> Option<(Sum, Option<&'a [u8]>)> {
-    let first = match words.next()? {
-        [b'-', name @ ..] => term(true, atom(name)?)?,
-        word => term(false, atom(word)?)?,
-    };
-    let mut terms = Vec::with_capacity(1);
-    terms.push(first);
+/// The whole log. The window is read line by line of the head and the store, then transaction by
+/// transaction; what it breaks off in is read again when more has come.
+pub fn parse(text: &mut Text) -> Result<Log, Fault> {
+    let mut parser = Parser { text, at: 0, line: 0, draft: Draft::new() };
+    let mut log = Log::new();
     loop {
-        let minus = match words.next() {
-            Some(b"+") => false,
-            Some(b"-") => true,
-            other => {
-                terms.shrink_to_fit();
-                return Some((Sum { terms }, other));
-            }
-        };
-        terms.push(term(minus, atom(words.next()?)?)?);
-    }
-}
-
-/// A sum to the end of the line.
-fn last_sum(words: &mut Words) -> Option<Sum> {
-    let (sum, next) = sum(words)?;
-    next.is_none().then_some(sum)
-}
-
-fn last_cond(words: &mut Words) -> Option<Cond> {
-    let (left, cmp) = sum(words)?;
-    let cmp = match cmp? {
-        b"<" => Cmp::Lt,
-        b"<=" => Cmp::Le,
-        b"=" => Cmp::Eq,
-        b">=" => Cmp::Ge,
-        b">" => Cmp::Gt,
-        _ => return None,
-    };
-    Some(Cond { left, cmp, right: last_sum(words)? })
-}
-
-fn last_key(words: &mut Words) -> Option<Key> {
-    let key = Key::new(words.next()?)?;
-    words.next().is_none().then_some(key)
-}
-
-fn need(words: &mut Words) -> Option<Stmt> {
-    let mut ahead = Words { rest: words.rest };
-    let first = ahead.next()?;
-    let second = ahead.next();
-    match (first, second) {
-        (b"has", Some(word)) if Key::new(word).is_some() => Some(Stmt::Has(last_key(&mut Words { rest: words.rest.map(|r| &r[4..]) })?)),
-        (b"no", Some(word)) if Key::new(word).is_some() => Some(Stmt::Lacks(last_key(&mut Words { rest: words.rest.map(|r| &r[3..]) })?)),
-        _ => Some(Stmt::Need(last_cond(words)?)),
-    }
-}
-
-fn stmt(line: &[u8]) -> Option<Stmt> {
-    let mut words = Words { rest: Some(line) };
-    match words.next()? {
-        b"let" => {
-            let name = match words.next()? {
-                [b'$', name @ ..] => Key::new(name)?,
-                _ => return None,
-            };
-            (words.next()? == b"=").then_some(())?;
-            Some(Stmt::Bind { name, sum: last_sum(&mut words)? })
-        }
-        b"need" => need(&mut words),
-        b"set" => {
-            let key = Key::new(words.next()?)?;
-            (words.next()? == b"=").then_some(())?;
-            let (sum, next) = sum(&mut words)?;
-            let guard = match next {
-                None => None,
-                Some(b"when") => Some(last_cond(&mut words)?),
-                Some(_) => return None,
-            };
-            Some(Stmt::Put { key, sum, guard })
-        }
-        b"drop" => Some(Stmt::Remove(last_key(&mut words)?)),
-        b"show" => Some(Stmt::Show(last_sum(&mut words)?)),
-        b"fail" => words.next().is_none().then_some(Stmt::Fail),
-        _ => None,
-    }
-}
-
-fn keys(word: &[u8], line: &[u8]) -> Option<Vec<Key>> {
-    let mut words = Words { rest: Some(line) };
-    (words.next()? == word).then_some(())?;
-    let mut keys = words.map(Key::new).collect::<Option<Vec<_>>>()?;
-    keys.shrink_to_fit();
-    Some(keys)
-}
-
-fn entry(line: &[u8]) -> Option<(Key, i64)> {
-    let mut words = Words { rest: Some(line) };
-    let entry = (Key::new(words.next()?)?, number(words.next()?)?);
-    words.next().is_none().then_some(entry)
-}
-
-fn txn(lines: &mut Lines) -> Option<Txn> {
-    let reads = keys(b"reads", lines.next()?)?;
-    let writes = keys(b"writes", lines.next()?)?;
-    let mut body = Vec::new();
-    loop {
-        let line = lines.next()?;
-        if line == b"end" {
-            body.shrink_to_fit();
-            return Some(Txn { reads, writes, body });
-        }
-        body.push(stmt(line)?);
-    }
-}
-
-pub fn parse(text: &[u8]) -> Result<Doc, u64> {
-    let mut lines = Lines { rest: text, count: 0 };
-    parse_lines(&mut lines).ok_or(lines.count)
-}
-
-fn parse_lines(lines: &mut Lines) -> Option<Doc> {
-    let sees_writes = match lines.next()? {
-        b"log 1" => false,
-        b"log 2" => true,
-        _ => return None,
-    };
-    let mut store = Vec::new();
-    let mut log = Vec::new();
-    while let Some(line) = lines.next() {
-        if line == b"txn" {
-            log.push(txn(lines)?);
-        } else if log.is_empty() {
-            store.push(entry(line)?);
+        let from = parser.parts(&mut log);
+        if parser.text.read_on(from)? > 0 {
+            log.reopen();
+            (parser.at, parser.line) = (0, 0);
+        } else if parser.text.len() == 0 && log.lines() > 0 {
+            return Ok(log);
         } else {
-            return None;
+            parser.line -= from;
+            return Err(parser.fault(&log));
         }
     }
-    lines.rest.is_empty().then_some(Doc { sees_writes, store, log })
+}
+
+impl Parser<'_> {
+    /// All parts that stand whole in the window; answers where the first other one begins.
+    fn parts(&mut self, log: &mut Log) -> usize {
+        let mut from = self.at;
+        while from < self.text.len() && self.part(log).is_some() {
+            from = self.at;
+        }
+        from
+    }
+
+    /// The head, a line of the store, or a transaction.
+    #[inline(always)]
+    fn part(&mut self, log: &mut Log) -> Option<()> {
+        self.line = self.at;
+        if log.len() > 0 || log.lines() > 0 && self.next_four() == TXN {
+            self.txn(log)
+        } else if log.lines() > 0 {
+            self.entry(log)
+        } else {
+            self.head(log)
+        }
+    }
+
+    /// The fault of a text that breaks off in the part that the window begins with, or can't go on as the
+    /// line of it does that is being read.
+    fn fault(&self, log: &Log) -> Fault {
+        let bytes = self.text.bytes();
+        if !bytes[self.line..].contains(&b'\n') {
+            return Fault::Short;
+        }
+        Fault::Line(log.lines() + bytes[..self.line].iter().filter(|byte| **byte == b'\n').count() + 1)
+    }
+
+    #[inline(always)]
+    fn byte(&self) -> u8 {
+        self.text.byte(self.at)
+    }
+
+    #[inline(always)]
+    fn next_four(&self) -> u32 {
+        (self.text.word(self.at) >> 32) as u32
+    }
+
+    #[inline(always)]
+    fn eat(&mut self, byte: u8) -> Option<()> {
+        (self.byte() == byte).then(|| self.at += 1)
+    }
+
+    /// These bytes, of which there are at most eight.
+    #[inline(always)]
+    fn eat_all<const N: usize>(&mut self, bytes: &[u8; N]) -> Option<()> {
+        let wanted = bytes.iter().fold(0u64, |word, byte| word << 8 | u64::from(*byte));
+        (self.text.word(self.at) >> (64 - 8 * N) == wanted).then(|| self.at += N)
+    }
+
+    #[inline(always)]
+    fn name(&mut self) -> Option<Name> {
+        let (name, end) = Name::scan(self.text, self.at)?;
+        self.at = end;
+        Some(name)
+    }
+
+    /// A number of digits, without leading zeros.
+    #[inline(always)]
+    fn whole(&mut self, limit: u64) -> Option<u64> {
+        let from = self.at;
+        let mut number = 0u64;
+        loop {
+            let digit = self.byte().wrapping_sub(b'0');
+            if digit > 9 {
+                break;
+            }
+            // Of more than 19 digits the number is refused below.
+            number = number.wrapping_mul(10).wrapping_add(u64::from(digit));
+            self.at += 1;
+        }
+        let sound = match self.at - from {
+            0 => false,
+            1 => true,
+            count => count <= 19 && self.text.byte(from) != b'0' && number <= limit,
+        };
+        sound.then_some(number)
+    }
+
+    #[inline(always)]
+    fn term(&mut self, log: &mut Log, minus: bool) -> Option<()> {
+        let first = self.byte();
+        if first.is_ascii_digit() {
+            let number = self.whole(i64::MAX as u64)?;
+            if minus && number == 0 {
+                return None;
+            }
+            self.draft.literal(log, minus, number);
+        } else if first == b'$' {
+            self.at = self.draft.local(log, minus, self.text, self.at + 1)?;
+        } else {
+            self.at = self.draft.read(log, minus, self.text, self.at)?;
+        }
+        Some(())
+    }
+
+    #[inline(always)]
+    fn sum(&mut self, log: &mut Log) -> Option<Stop> {
+        self.draft.open_sum();
+        let stop = self.terms(log)?;
+        self.draft.close_sum();
+        Some(stop)
+    }
+
+    #[inline(always)]
+    fn terms(&mut self, log: &mut Log) -> Option<Stop> {
+        let minus = self.eat(b'-').is_some();
+        self.term(log, minus)?;
+        loop {
+            let [first, sign, second, ..] = self.text.word(self.at).to_be_bytes();
+            if first == b'\n' {
+                self.at += 1;
+                return Some(Stop::Line);
+            }
+            // Which of the two signs it is decides no branch, since none could tell it beforehand.
+            if !matches!(sign, b'+' | b'-') || first != b' ' || second != b' ' {
+                return self.stop();
+            }
+            self.at += 3;
+            self.term(log, sign == b'-')?;
+        }
+    }
+
+    /// A comparison or `when`, with the spaces around it.
+    #[inline]
+    fn stop(&mut self) -> Option<Stop> {
+        self.eat(b' ')?;
+        let first = self.byte();
+        if first == b'w' {
+            self.eat_all(b"when ")?;
+            return Some(Stop::When);
+        }
+        self.at += 1;
+        let wide = first != b'=' && self.eat(b'=').is_some();
+        self.eat(b' ')?;
+        Some(Stop::Compare(match (first, wide) {
+            (b'<', false) => Comparison::Less,
+            (b'<', true) => Comparison::AtMost,
+            (b'=', _) => Comparison::Equal,
+            (b'>', true) => Comparison::AtLeast,
+            (b'>', false) => Comparison::More,
+            _ => return None,
+        }))
+    }
+
+    /// A sum to the end of the line.
+    #[inline(always)]
+    fn last_sum(&mut self, log: &mut Log) -> Option<()> {
+        matches!(self.sum(log)?, Stop::Line).then_some(())
+    }
+
+    /// A comparison to the end of the line.
+    #[inline(always)]
+    fn condition(&mut self, log: &mut Log) -> Option<()> {
+        let Stop::Compare(comparison) = self.sum(log)? else {
+            return None;
+        };
+        self.draft.compare(comparison);
+        self.last_sum(log)
+    }
+
+    #[inline(always)]
+    fn set(&mut self, log: &mut Log) -> Option<()> {
+        self.at = self.draft.target(Act::Put, self.text, self.at)?;
+        self.eat_all(b" = ")?;
+        match self.sum(log)? {
+            Stop::Line => Some(()),
+            Stop::When => {
+                self.draft.guard();
+                self.condition(log)
+            }
+            Stop::Compare(_) => None,
+        }
+    }
+
+    /// A `need` behind its first word.
+    #[inline(always)]
+    fn need(&mut self, log: &mut Log) -> Option<()> {
+        let word = self.text.word(self.at);
+        let has = (word >> 32) as u32 == four(b"has ");
+        if has || word >> 40 == u64::from(four(b"\0no ")) {
+            // A key before the line's end; else `has` and `no` are keys themselves.
+            let from = self.at + if has { 4 } else { 3 };
+            if let Some((name, end)) = Name::scan(self.text, from)
+                && self.text.byte(end) == b'\n'
+            {
+                self.at = end + 1;
+                self.draft.test(if has { Act::Has } else { Act::Lacks }, &name);
+                return Some(());
+            }
+        }
+        self.draft.open(Act::Need);
+        self.condition(log)
+    }
+
+    fn bind(&mut self, log: &mut Log) -> Option<()> {
+        self.eat(b'$')?;
+        let from = self.at;
+        let name = self.name()?;
+        let size = self.at - from;
+        self.eat_all(b" = ")?;
+        self.draft.open(Act::Bind);
+        self.last_sum(log)?;
+        // Its own sum doesn't see the local.
+        self.draft.bind(name, size);
+        Some(())
+    }
+
+    /// A line of the body; false for its `end`.
+    #[inline(always)]
+    fn statement(&mut self, log: &mut Log) -> Option<bool> {
+        let word = self.next_four();
+        self.at += 4;
+        match word {
+            SET => self.set(log)?,
+            END => return Some(false),
+            NEED => {
+                self.eat(b' ')?;
+                self.need(log)?;
+            }
+            SHOW => {
+                self.eat(b' ')?;
+                self.draft.open(Act::Show);
+                self.last_sum(log)?;
+            }
+            LET => self.bind(log)?,
+            DROP => {
+                self.eat(b' ')?;
+                self.at = self.draft.target(Act::Drop, self.text, self.at)?;
+                self.eat(b'\n')?;
+            }
+            FAIL => {
+                self.eat(b'\n')?;
+                self.draft.open(Act::Fail);
+            }
+            _ => return None,
+        }
+        self.draft.close_statement(log);
+        Some(true)
+    }
+
+    #[inline(always)]
+    fn txn(&mut self, log: &mut Log) -> Option<()> {
+        self.draft.clear();
+        self.eat_all(b"txn\n")?;
+        self.line = self.at;
+        self.eat_all(b"reads")?;
+        while self.eat(b' ').is_some() {
+            let from = self.at;
+            let name = self.name()?;
+            self.draft.declare_read(name, self.at - from);
+        }
+        self.eat(b'\n')?;
+        self.line = self.at;
+        self.eat_all(b"writes")?;
+        while self.eat(b' ').is_some() {
+            let from = self.at;
+            let name = self.name()?;
+            self.draft.declare_write(name, self.at - from);
+        }
+        self.eat(b'\n')?;
+        self.draft.match_writes();
+        self.line = self.at;
+        while self.statement(log)? {
+            self.line = self.at;
+        }
+        self.draft.close(log);
+        Some(())
+    }
+
+    fn entry(&mut self, log: &mut Log) -> Option<()> {
+        let name = self.name()?;
+        self.eat(b' ')?;
+        let minus = self.eat(b'-').is_some();
+        let number = self.whole(i64::MAX as u64 + u64::from(minus))?;
+        if minus && number == 0 {
+            return None;
+        }
+        self.eat(b'\n')?;
+        let value = if minus { (number as i64).wrapping_neg() } else { number as i64 };
+        let key = log.names.number(&name);
+        log.store.push((key, value));
+        Some(())
+    }
+
+    fn head(&mut self, log: &mut Log) -> Option<()> {
+        self.eat_all(b"log ")?;
+        let edition = self.byte();
+        self.at += 1;
+        self.eat(b'\n')?;
+        log.edition = match edition {
+            b'1' => Some(Edition::One),
+            b'2' => Some(Edition::Two),
+            _ => return None,
+        };
+        Some(())
+    }
 }

@@ -1,10 +1,9 @@
-//! The log one transaction after another, over a hash map, and the answer's text.
+//! What a transaction does, and the log one transaction after another.
 
-use crate::tree::{Atom, Cmp, Cond, Doc, Key, Stmt, Sum, Txn};
-use std::collections::HashMap;
-use std::io::Write;
+use crate::log::{Act, Comparison, Log, MOST_KEYS, NOWHERE, REGISTERS, Source, Statement, Term, Txn};
 
 #[derive(Clone, Copy)]
+#[repr(u8)]
 pub enum Reason {
     Need,
     Fail,
@@ -12,160 +11,235 @@ pub enum Reason {
     Range,
 }
 
+#[derive(Clone, Copy)]
 pub enum Reply {
-    Commit(Vec<i64>),
-    Abort(Reason, usize),
+    /// What it shows stands where its log says.
+    Commit,
+    /// The reason, and the statement from 1.
+    Abort(Reason, u8),
 }
 
-struct Seen<'a> {
-    store: &'a HashMap<Key, i64>,
-    sees_writes: bool,
-    locals: Vec<(Key, i64)>,
-    writes: Vec<(Key, Option<i64>)>,
-    shows: Vec<i64>,
+#[derive(Clone, Copy, Default)]
+pub struct Cell {
+    pub value: i64,
+    pub present: bool,
 }
 
-impl Seen<'_> {
-    fn cell(&self, key: &Key) -> Option<i64> {
-        if self.sees_writes {
-            if let Some((_, cell)) = self.writes.iter().rev().find(|w| w.0 == *key) {
-                return *cell;
+/// Evaluates one transaction at a time.
+pub struct Machine {
+    registers: [i64; REGISTERS],
+    /// The reads that are missing, a bit for each.
+    missing: u32,
+    /// The cells that were set or dropped, and which ones, a bit for each.
+    cells: [Cell; MOST_KEYS],
+    performed: u32,
+    shows: [i64; MOST_KEYS],
+    shown: usize,
+}
+
+impl Machine {
+    pub fn new() -> Machine {
+        Machine {
+            registers: [0; REGISTERS],
+            missing: 0,
+            cells: [Cell::default(); MOST_KEYS],
+            performed: 0,
+            shows: [0; MOST_KEYS],
+            shown: 0,
+        }
+    }
+
+    /// Before the reads of a transaction.
+    #[inline(always)]
+    pub fn clear(&mut self) {
+        self.missing = 0;
+    }
+
+    #[inline(always)]
+    pub fn read(&mut self, place: usize, cell: Cell) {
+        self.registers[place] = cell.value;
+        self.missing |= u32::from(!cell.present) << place;
+    }
+
+    /// The cell of a read that was handed in.
+    #[inline(always)]
+    pub fn cell(&self, place: usize) -> Cell {
+        Cell { value: self.registers[place], present: self.missing >> place & 1 == 0 }
+    }
+
+    /// The cell that the transaction leaves at a write, unless that wasn't performed.
+    #[inline(always)]
+    pub fn written(&self, place: usize) -> Option<Cell> {
+        (self.performed >> place & 1 == 1).then(|| self.cells[place])
+    }
+
+    pub fn shows(&self) -> &[i64] {
+        &self.shows[..self.shown]
+    }
+
+    /// Runs the body over the reads that were handed in.
+    #[inline(always)]
+    pub fn run(&mut self, txn: &Txn, sees_writes: bool) -> Reply {
+        self.performed = 0;
+        self.shown = 0;
+        let mut terms = txn.terms;
+        for (index, statement) in txn.body.iter().enumerate() {
+            if let Err(reason) = self.perform(statement, &mut terms, txn, sees_writes) {
+                return Reply::Abort(reason, index as u8 + 1);
             }
         }
-        self.store.get(key).copied()
+        Reply::Commit
     }
 
-    fn sum(&self, sum: &Sum) -> Result<i64, Reason> {
-        let mut total: i128 = 0;
-        for term in &sum.terms {
-            let value = match &term.atom {
-                Atom::Lit(n) => i128::from(*n),
-                Atom::Read(key) => i128::from(self.cell(key).ok_or(Reason::Absent)?),
-                Atom::Local(name) => i128::from(self.locals.iter().find(|l| l.0 == *name).map_or(0, |l| l.1)),
-            };
-            total += if term.minus { -value } else { value };
-        }
-        i64::try_from(total).map_err(|_| Reason::Range)
-    }
-
-    fn holds(&self, cond: &Cond) -> Result<bool, Reason> {
-        let left = self.sum(&cond.left)?;
-        let right = self.sum(&cond.right)?;
-        Ok(match cond.cmp {
-            Cmp::Lt => left < right,
-            Cmp::Le => left <= right,
-            Cmp::Eq => left == right,
-            Cmp::Ge => left >= right,
-            Cmp::Gt => left > right,
-        })
-    }
-
-    fn perform(&mut self, stmt: &Stmt) -> Result<(), Reason> {
-        match stmt {
-            Stmt::Bind { name, sum } => {
-                let value = self.sum(sum)?;
-                self.locals.push((*name, value));
+    #[inline(always)]
+    fn perform(
+        &mut self,
+        statement: &Statement,
+        terms: &mut &[Term],
+        txn: &Txn,
+        sees_writes: bool,
+    ) -> Result<(), Reason> {
+        let place = usize::from(statement.place);
+        match statement.act {
+            Act::Put => {
+                let value = self.sum(take(terms, statement.terms[0]), txn.large)?;
+                self.write(place, Cell { value, present: true }, txn, sees_writes);
             }
-            Stmt::Need(cond) => {
-                if !self.holds(cond)? {
+            Act::Need => {
+                if !self.holds(statement, terms, txn.large)? {
                     return Err(Reason::Need);
                 }
             }
-            Stmt::Has(key) => {
-                if self.cell(key).is_none() {
+            Act::Bind => self.registers[place] = self.sum(take(terms, statement.terms[0]), txn.large)?,
+            Act::Show => {
+                self.shows[self.shown] = self.sum(take(terms, statement.terms[0]), txn.large)?;
+                self.shown += 1;
+            }
+            Act::PutWhen => {
+                let sum = take(terms, statement.terms[0]);
+                if self.holds(statement, terms, txn.large)? {
+                    let value = self.sum(sum, txn.large)?;
+                    self.write(place, Cell { value, present: true }, txn, sees_writes);
+                }
+            }
+            Act::Drop => self.write(place, Cell::default(), txn, sees_writes),
+            Act::Has | Act::Lacks => {
+                if self.cell(place).present != (statement.act == Act::Has) {
                     return Err(Reason::Need);
                 }
             }
-            Stmt::Lacks(key) => {
-                if self.cell(key).is_some() {
-                    return Err(Reason::Need);
-                }
-            }
-            Stmt::Put { key, sum, guard } => {
-                let performed = match guard {
-                    None => true,
-                    Some(cond) => self.holds(cond)?,
-                };
-                if performed {
-                    let value = self.sum(sum)?;
-                    self.writes.push((*key, Some(value)));
-                }
-            }
-            Stmt::Remove(key) => self.writes.push((*key, None)),
-            Stmt::Show(sum) => {
-                let value = self.sum(sum)?;
-                self.shows.push(value);
-            }
-            Stmt::Fail => return Err(Reason::Fail),
+            Act::Fail => return Err(Reason::Fail),
         }
         Ok(())
     }
-}
 
-/// What a transaction leaves: its writes, or its abort; the lists come back for the next one.
-fn body(seen: &mut Seen, txn: &Txn) -> Result<(), (Reason, usize)> {
-    for (i, stmt) in txn.body.iter().enumerate() {
-        seen.perform(stmt).map_err(|reason| (reason, i + 1))?;
-    }
-    Ok(())
-}
-
-pub fn run(doc: &Doc) -> (Vec<Reply>, Vec<(Key, i64)>) {
-    let mut store: HashMap<Key, i64> = doc.store.iter().copied().collect();
-    let mut replies = Vec::with_capacity(doc.log.len());
-    let (mut locals, mut writes, mut shows) = (Vec::new(), Vec::new(), Vec::new());
-    for txn in &doc.log {
-        let mut seen = Seen { store: &store, sees_writes: doc.sees_writes, locals, writes, shows };
-        let ended = body(&mut seen, txn);
-        (locals, writes, shows) = (seen.locals, seen.writes, seen.shows);
-        match ended {
-            Ok(()) => {
-                for (key, cell) in &writes {
-                    match cell {
-                        Some(value) => store.insert(*key, *value),
-                        None => store.remove(key),
-                    };
-                }
-                replies.push(Reply::Commit(shows.clone()));
-            }
-            Err((reason, stmt)) => replies.push(Reply::Abort(reason, stmt)),
-        }
-        locals.clear();
-        writes.clear();
-        shows.clear();
-    }
-    let mut entries: Vec<(Key, i64)> = store.into_iter().collect();
-    entries.sort_unstable_by(|a, b| a.0.bytes().cmp(b.0.bytes()));
-    (replies, entries)
-}
-
-pub fn print(replies: &[Reply], store: &[(Key, i64)]) -> Vec<u8> {
-    let mut out = Vec::new();
-    for (i, reply) in replies.iter().enumerate() {
-        let n = i + 1;
-        match reply {
-            Reply::Commit(shows) => {
-                write!(out, "{n} commit").expect("memory");
-                for value in shows {
-                    write!(out, " {value}").expect("memory");
-                }
-                out.push(b'\n');
-            }
-            Reply::Abort(reason, stmt) => {
-                let word = match reason {
-                    Reason::Need => "need",
-                    Reason::Fail => "fail",
-                    Reason::Absent => "absent",
-                    Reason::Range => "range",
-                };
-                writeln!(out, "{n} abort {word} {stmt}").expect("memory");
-            }
+    #[inline(always)]
+    fn write(&mut self, place: usize, cell: Cell, txn: &Txn, sees_writes: bool) {
+        self.cells[place] = cell;
+        self.performed |= 1 << place;
+        if sees_writes && txn.own[place] != NOWHERE {
+            let read = usize::from(txn.own[place]);
+            self.missing &= !(1 << read);
+            self.read(read, cell);
         }
     }
-    out.extend_from_slice(b"--\n");
-    for (key, value) in store {
-        out.extend_from_slice(key.bytes());
-        writeln!(out, " {value}").expect("memory");
+
+    #[inline(always)]
+    fn holds(&self, statement: &Statement, terms: &mut &[Term], large: &[u64]) -> Result<bool, Reason> {
+        let left = self.sum(take(terms, statement.terms[1]), large)?;
+        let right = self.sum(take(terms, statement.terms[2]), large)?;
+        Ok(match statement.comparison {
+            Comparison::Less => left < right,
+            Comparison::AtMost => left <= right,
+            Comparison::Equal => left == right,
+            Comparison::AtLeast => left >= right,
+            Comparison::More => left > right,
+        })
     }
-    out
+
+    #[inline(always)]
+    fn sum(&self, terms: &[Term], large: &[u64]) -> Result<i64, Reason> {
+        let is_missing = |term: &Term| term.source == Source::Read && self.missing >> term.value & 1 == 1;
+        if self.missing != 0 && terms.iter().any(is_missing) {
+            return Err(Reason::Absent);
+        }
+        let total = terms.iter().fold(0i128, |total, term| {
+            let value = match term.source {
+                Source::Small => i64::from(term.value),
+                Source::Large => large[usize::from(term.value)] as i64,
+                _ => self.registers[usize::from(term.value)],
+            };
+            let value = i128::from(value);
+            total + if term.minus { -value } else { value }
+        });
+        i64::try_from(total).map_err(|_| Reason::Range)
+    }
+}
+
+/// The first `count` of the terms, which are taken from them.
+#[inline(always)]
+fn take<'a>(terms: &mut &'a [Term], count: u8) -> &'a [Term] {
+    let (first, others) = terms.split_at(usize::from(count));
+    *terms = others;
+    first
+}
+
+/// Whether the transaction commits over every store, with the same cells.
+pub fn is_sure(txn: &Txn) -> bool {
+    let (mut terms, mut targets) = (txn.terms, 0u32);
+    let machine = Machine::new();
+    for statement in txn.body {
+        match statement.act {
+            Act::Put | Act::Drop => targets |= 1 << statement.place,
+            Act::Show => {}
+            _ => return false,
+        }
+        let sum = take(&mut terms, statement.terms[0]);
+        if sum.iter().any(|term| term.source > Source::Large) || machine.sum(sum, txn.large).is_err() {
+            return false;
+        }
+    }
+    targets.count_ones() as usize == txn.writes.len()
+}
+
+/// What a log leaves: the replies, the shown values where the log says, and a cell for each key.
+pub struct Answer {
+    pub replies: Vec<Reply>,
+    pub shows: Vec<i64>,
+    pub cells: Vec<Cell>,
+}
+
+/// A cell for each key, as the starting store has them.
+pub fn starting_cells(log: &Log) -> Vec<Cell> {
+    let mut cells = vec![Cell::default(); log.names.all().len()];
+    for (key, value) in &log.store {
+        cells[*key as usize] = Cell { value: *value, present: true };
+    }
+    cells
+}
+
+pub fn serial(log: &Log) -> Answer {
+    let mut cells = starting_cells(log);
+    let mut shows = vec![0; log.shows(log.len())];
+    let mut machine = Machine::new();
+    let replies = (0..log.len())
+        .map(|index| {
+            let txn = log.txn(index);
+            machine.clear();
+            for (place, key) in txn.reads.iter().enumerate() {
+                machine.read(place, cells[*key as usize]);
+            }
+            let reply = machine.run(&txn, log.sees_writes());
+            if let Reply::Commit = reply {
+                for (place, key) in txn.writes.iter().enumerate() {
+                    if let Some(cell) = machine.written(place) {
+                        cells[*key as usize] = cell;
+                    }
+                }
+                shows[log.shows(index)..log.shows(index + 1)].copy_from_slice(machine.shows());
+            }
+            reply
+        })
+        .collect();
+    Answer { replies, shows, cells }
 }

@@ -1,0 +1,221 @@
+//! Names as four words, and numbers for them.
+
+use crate::text::Text;
+use std::hash::{BuildHasher, RandomState};
+
+/// A name of up to 32 bytes, big-endian with zeros behind it: names are ordered as their words.
+#[derive(Clone, Copy, Default, Eq, PartialOrd, Ord)]
+pub struct Name([u64; 4]);
+
+impl PartialEq for Name {
+    #[inline(always)]
+    fn eq(&self, other: &Name) -> bool {
+        // A first word that ends in a zero is the whole name.
+        self.0[0] == other.0[0] && (self.0[0] & 255 == 0 || self.0[1..] == other.0[1..])
+    }
+}
+
+const LOW: u64 = 0x0101_0101_0101_0101;
+const HIGH: u64 = 0x8080_8080_8080_8080;
+
+/// The top bit of each byte that stands in no name.
+#[inline(always)]
+fn strange(word: u64) -> u64 {
+    let seven = word & !HIGH;
+    let from = |first: u8| seven + LOW * (0x80 - u64::from(first));
+    let letter = from(b'a') & !from(b'z' + 1);
+    let digit = from(b'0') & !from(b'9' + 1);
+    let line = from(b'_') & !from(b'_' + 1);
+    (!(letter | digit | line) | word) & HIGH
+}
+
+/// The first `count` bytes of a word, of which it has at least one.
+#[inline(always)]
+fn front(word: u64, count: usize) -> u64 {
+    word & (u64::MAX << (64 - 8 * count))
+}
+
+impl Name {
+    /// The name that begins at `at`, and where it ends.
+    #[inline(always)]
+    pub fn scan(text: &Text, at: usize) -> Option<(Name, usize)> {
+        let word = text.word(at);
+        if !((word >> 56) as u8).is_ascii_lowercase() {
+            return None;
+        }
+        let others = strange(word);
+        if others == 0 {
+            return Name::scan_on(text, at);
+        }
+        let count = others.leading_zeros() as usize / 8;
+        Some((Name([front(word, count), 0, 0, 0]), at + count))
+    }
+
+    /// The same for a name of eight bytes at least.
+    fn scan_on(text: &Text, at: usize) -> Option<(Name, usize)> {
+        let mut words = [0; 4];
+        for (number, place) in words.iter_mut().enumerate() {
+            let word = text.word(at + 8 * number);
+            let count = strange(word).leading_zeros() as usize / 8;
+            if count == 0 {
+                return Some((Name(words), at + 8 * number));
+            }
+            *place = front(word, count);
+            if count < 8 {
+                return Some((Name(words), at + 8 * number + count));
+            }
+        }
+        (strange(text.word(at + 32)) >> 63 == 1).then_some((Name(words), at + 32))
+    }
+
+    #[inline(always)]
+    pub fn first_word(&self) -> u64 {
+        self.0[0]
+    }
+
+    /// A number below 256 that is the same for names with the same first word.
+    #[inline(always)]
+    pub fn glance(first_word: u64) -> usize {
+        (first_word.wrapping_mul(0x9e37_79b9_7f4a_7c15) >> 56) as usize
+    }
+
+    pub fn bytes(&self) -> ([u8; 32], usize) {
+        let mut bytes = [0; 32];
+        for (number, word) in self.0.iter().enumerate() {
+            bytes[8 * number..8 * number + 8].copy_from_slice(&word.to_be_bytes());
+        }
+        let size = bytes.iter().position(|byte| *byte == 0).unwrap_or(32);
+        (bytes, size)
+    }
+}
+
+/// A name that may come again, with its size: told in the text without making a name of what stands there.
+#[derive(Clone, Copy)]
+pub struct Known {
+    pub name: Name,
+    pub size: usize,
+}
+
+impl Known {
+    /// Whether the name stands at `at`, with a space or a newline behind it.
+    #[inline(always)]
+    pub fn stands(&self, text: &Text, at: usize) -> bool {
+        if self.size <= 8 {
+            (text.word(at) ^ self.name.0[0]) >> (64 - 8 * self.size) == 0 && text.byte(at + self.size) <= b' '
+        } else {
+            self.stands_on(text, at)
+        }
+    }
+
+    fn stands_on(&self, text: &Text, at: usize) -> bool {
+        let differs = |number: usize| {
+            let count = self.size.saturating_sub(8 * number).min(8);
+            count > 0 && (text.word(at + 8 * number) ^ self.name.0[number]) >> (64 - 8 * count) != 0
+        };
+        !(0..4).any(differs) && text.byte(at + self.size) <= b' '
+    }
+}
+
+/// What stands before the next space or newline, if that is less than eight bytes: as the first word of a
+/// name, and its size. It may be no name, but then it is the first word of none.
+#[inline(always)]
+pub fn glimpse(text: &Text, at: usize) -> Option<(u64, usize)> {
+    let word = text.word(at);
+    // The top bit of each byte up to a space; a byte before one may be taken for one as well, if no name
+    // has it.
+    let ends = word.wrapping_sub(LOW * 0x21) & !word & HIGH;
+    let bits = ends.leading_zeros();
+    (bits < 64).then(|| (word & !(u64::MAX >> bits), bits as usize / 8))
+}
+
+#[derive(Clone, Copy)]
+struct Slot {
+    first: u64,
+    number: u32,
+}
+
+const FREE: Slot = Slot { first: 0, number: 0 };
+
+/// Names, and for each its number, by order of coming: a table of open addressing, at most half full. Its
+/// hash is seeded anew in each run, so that no log can choose names that collide.
+pub struct Names {
+    table: Vec<Slot>,
+    shift: u32,
+    seed: u64,
+    names: Vec<Name>,
+}
+
+impl Names {
+    pub fn new() -> Names {
+        let bits = 12;
+        Names {
+            table: vec![FREE; 1 << bits],
+            shift: 64 - bits,
+            seed: RandomState::new().hash_one(0u64),
+            names: Vec::new(),
+        }
+    }
+
+    pub fn all(&self) -> &[Name] {
+        &self.names
+    }
+
+    #[inline(always)]
+    fn home(&self, name: &Name) -> usize {
+        let mut hash = fold(self.seed, name.0[0]);
+        if name.0[1] != 0 {
+            hash = fold(fold(fold(hash, name.0[1]), name.0[2]), name.0[3]);
+        }
+        (hash >> self.shift) as usize
+    }
+
+    /// The name's number; a new name gets the next one.
+    #[inline(always)]
+    pub fn number(&mut self, name: &Name) -> u32 {
+        let mask = self.table.len() - 1;
+        let mut at = self.home(name);
+        loop {
+            let slot = self.table[at & mask];
+            if slot.first == name.0[0] && (slot.first & 255 == 0 || self.names[slot.number as usize] == *name)
+            {
+                return slot.number;
+            }
+            // A name's first word is no 0.
+            if slot.first == 0 {
+                return self.add(at & mask, name);
+            }
+            at += 1;
+        }
+    }
+
+    #[inline(never)]
+    fn add(&mut self, at: usize, name: &Name) -> u32 {
+        let number = self.names.len() as u32;
+        self.table[at] = Slot { first: name.0[0], number };
+        self.names.push(*name);
+        if self.names.len() * 2 > self.table.len() {
+            self.grow();
+        }
+        number
+    }
+
+    fn grow(&mut self) {
+        self.shift -= 1;
+        self.table = vec![FREE; self.table.len() * 2];
+        let mask = self.table.len() - 1;
+        for (number, name) in self.names.iter().enumerate() {
+            let mut at = self.home(name);
+            while self.table[at & mask].first != 0 {
+                at += 1;
+            }
+            self.table[at & mask] = Slot { first: name.0[0], number: number as u32 };
+        }
+    }
+}
+
+/// Both halves of the product, folded together.
+#[inline(always)]
+fn fold(hash: u64, word: u64) -> u64 {
+    let product = u128::from(hash ^ word) * 0x9e37_79b9_7f4a_7c15;
+    product as u64 ^ (product >> 64) as u64
+}
