@@ -14,9 +14,7 @@ use Rattle.bohm_txn.specs.Declares.{IsAmong, shows_in}
 use Rattle.bohm_txn.specs.Meaning.{Look, Ended, newest, body, ◌>>=◌}
 use Rattle.bohm_txn.specs.Serial.{after, state, shows_of, outcome_of}
 use Rattle.bohm_txn.specs.Sure.{is_sure, IsSure}
-use Rattle.bohm_txn.proofs.Bodies.{same_key, key_itself, same_reads, same_cells, among_at}
-use Rattle.bohm_txn.proofs.States.{there}
-use Rattle.bohm_txn.proofs.SureLaws.{sure_body, sure_after}
+use Rattle.bohm_txn.proofs.ForCallers.{same_key, key_itself, same_reads, same_cells, among_at, there, sure_body, sure_after, rising_writes}
 use Rattle.bohm_place.specs.declared.access.Access.{Access}
 use Rattle.bohm_place.specs.declared.access.Source.{Source}
 use Rattle.bohm_place.specs.declared.access.Source.TheVariants.{Before, Within}
@@ -25,7 +23,6 @@ use Rattle.bohm_board.specs.declared.slot.Slot.{Slot}
 use Rattle.bohm_board.specs.Serial.{own_cells, show_cells}
 use Rattle.bohm_board.specs.Batches.{txns_of, base_of, position, number, rights_of, right_cell, IsIn, IsSlot, txn_at, reads_at, writes_at, wanted_at, is_sure_at, plan_of, first_of}
 use Rattle.bohm_board.specs.Inputs.{IsCellFrom, IsCellOf, EndsAlike}
-use Rattle.bohm_board.proofs.Newest.{formed_at}
 use Rattle.bohm_board.proofs.Inputs.{among_place, own_right, outcome_right, read_before, write_before, cell_planned}
 use Rattle.bohm_board.proofs.Numbers.{txn_there, slot_there}
 use Rattle.bohm_board.proofs.SerialSlots.{get_left, get_right, length-own_cells}
@@ -34,11 +31,10 @@ use Rattle.bohm_board.proofs.Wanted.{reads_paired, writes_paired}
 use Rattle.bohm_board.specs.Core.{State, IsFull, HasWanted, cell_from, cell_at, entries, input, outcome_over, cell_over, cell_in}
 use Rattle.std.proofs.lemmas.Bool.{cases_lt}
 use Rattle.bohm_txn.specs.Faulty.{IsWellFormedTxn, is_among}
-use Rattle.bohm_txn.proofs.UseLaws.{rising_writes}
 use Rattle.bohm_place.specs.Plans.{IsRightAccess, AreRightAccesses, IsRightPlan, IsIndexOf}
 use Rattle.bohm_place.specs.Shares.{AreDistinct}
 use Rattle.bohm_place.specs.Writers.{IsNewest, WritesAt}
-use Rattle.bohm_place.proofs.Distinct.{AreDistinct-rising}
+use Rattle.bohm_place.proofs.ForCallers.{AreDistinct-rising, usable_at}
 use Rattle.bohm_board.specs.Law.{IsSound}
 use Rattle.bohm_board.proofs.Lawful.{filled_right}
 
@@ -227,7 +223,7 @@ module _ (b : Batch) (s : State) (t : ℕ) (x : Txn) (at : txn_at b t ≡ Some x
 
   unsure_alike : EndsAlike (input b s t x) before x
   unsure_alike =
-      let bodies : body (input b s t x) x ≡ body before x = same_reads (input b s t x) before x (formed_at (txns_of b) b.formed (position b t) x at) unsure_read in
+      let bodies : body (input b s t x) x ≡ body before x = same_reads (input b s t x) before x (usable_at (txns_of b) b.formed (position b t) x at) unsure_read in
       let own : map (after (input b s t x) x) x.writes ≡ map (after before x) x.writes = same_cells (input b s t x) before x x.writes bodies unsure_write in
       record { bodies = bodies; cells = λ d. own d ++ show_cells (shows_in x.body) (shows_of (bodies d)) }
 

@@ -16,7 +16,7 @@ use Rattle.bohm_txn.specs.declared.outcome.Reason.{Reason}
 use Rattle.bohm_txn.specs.Declares.{IsAmong}
 use Rattle.bohm_txn.specs.Meaning.{Look, Ended, body, fresh}
 use Rattle.bohm_txn.specs.Serial.{after, state, outcome_of}
-use Rattle.bohm_txn.proofs.States.{there, next}
+use Rattle.bohm_txn.proofs.ForCallers.{there, next}
 use Rattle.bohm_place.specs.declared.access.Access.{Access}
 use Rattle.bohm_place.specs.declared.access.Source.{Source}
 use Rattle.bohm_place.specs.declared.access.Source.TheVariants.{Before, Within}
@@ -28,7 +28,7 @@ use Rattle.bohm_board.specs.declared.view.Rights.{Rights}
 use Rattle.bohm_board.specs.Serial.{own_cells, offset}
 use Rattle.bohm_board.specs.Batches.{base_of, txns_of, plan_of, first_of, rights_of, right_cell, number}
 use Rattle.bohm_board.specs.Inputs.{IsCellFrom, IsCellOf, AreCellsOf, AreRight}
-use Rattle.bohm_board.proofs.Newest.{formed_at, newest_state}
+use Rattle.bohm_place.proofs.ForCallers.{usable_at, newest_state_by}
 use Rattle.bohm_board.specs.Words.{stmt_of}
 use Rattle.bohm_board.proofs.Places.{outcomes_long}
 use Rattle.bohm_board.proofs.SerialSlots.{slot_serial, own_write, outcome_serial, fault_within}
@@ -54,9 +54,9 @@ slot_right b k u index w =
 
 -- the cell of the right access is the key's cell before the position
 pub cell_before : (b : Batch) (i : ℕ) (k : List ℕ) (index : ℕ) (c : Cell) (s : Source) → i ≤ length (txns_of b) → IsNewest (first_of b) (txns_of b) k (first_of b + i) s → IsIndexOf (first_of b) (txns_of b) k index s → IsCellFrom b k index c s → state (base_of b) (txns_of b) i k ≡ c
-cell_before b i k index c Before inside n w is = newest_state (base_of b) (first_of b) (txns_of b) i k Before b.formed inside n ∙ sym is
+cell_before b i k index c Before inside n w is = newest_state_by (base_of b) (txns_of b) (first_of b) i k Before b.formed inside n ∙ sym is
 cell_before b i k index c (Within u) inside n w is =
-    newest_state (base_of b) (first_of b) (txns_of b) i k (Within u) b.formed inside n ∙ same_Some (state (base_of b) (txns_of b) ((u + 1) - first_of b) k) c (sym (slot_right b k u index w) ∙ is)
+    newest_state_by (base_of b) (txns_of b) (first_of b) i k (Within u) b.formed inside n ∙ same_Some (state (base_of b) (txns_of b) ((u + 1) - first_of b) k) c (sym (slot_right b k u index w) ∙ is)
 
 access_before : (b : Batch) (i : ℕ) (k : List ℕ) (a : Access) (c : Cell) → i ≤ length (txns_of b) → IsRightAccess (first_of b) (txns_of b) (first_of b + i) k a → IsCellOf b k a c → state (base_of b) (txns_of b) i k ≡ c
 access_before b i k a c inside r is = cell_before b i k a.index c a.source inside r.newest r.write is
@@ -132,7 +132,7 @@ short_outcome b i o e =
     let within = slice_get_within (rights_of b).outcomes i o e in
     let long = outcomes_long b in
     let (x, at) = there (txns_of b) i (omega arith) in
-    let keeps = formed_at (txns_of b) b.formed i x at in
+    let keeps = usable_at (txns_of b) b.formed i x at in
     let before : Look = state (base_of b) (txns_of b) i in
     let same : outcome_of (body before x) ≡ o = same_Some (outcome_of (body before x)) o (sym (outcome_right b i x at) ∙ e) in
     subst (λ (z : Outcome). stmt_of z < 1000) same (few_of x (body before x) (λ fault h. let few = keeps.few_stmts in omega (arith, fault_within x.edition before fresh 1 x.body fault h)))

@@ -1,4 +1,4 @@
--- What passes have seen stays seen, for the crates above, and what a pass keeps of its view.
+-- What passes have seen stays seen, and what a pass keeps of its view.
 use Rattle.std.proofs.Common.{◌≡◌, ℕ, List, [], ◌∷◌, ◌++◌, Option, None, Some, refl, sym, ap, ◌∙◌, subst, ⊎_elim, append_assoc, ◌≢◌, zero, suc, ◌+◌, ◌<◌, ◌^◌, arith}
 use Rattle.std.specs.Prelude.{Contains}
 use Rattle.std.proofs.lemmas.List.Elements.{Contains-append_cases, Contains-append_left, Contains-append_right, Contains-push, Contains-push_cases}
@@ -10,8 +10,8 @@ use Rattle.bohm_board.specs.declared.slot.Slot.{Slot}
 use Rattle.bohm_board.specs.declared.status.Status.{Status}
 use Rattle.bohm_board.specs.declared.status.Status.TheVariants.{Open, Busy, Done}
 use Rattle.bohm_board.specs.declared.view.View.{View}
-use Rattle.bohm_board.specs.Passes.{Continues, Keeps, IsDone, IsBusy, IsKnown, KnowsWanted}
-use Rattle.bohm_board.specs.Views.{Knows, saw, claimed, looked, filled_with, finished, joined, Presence, learnt, IsKept}
+use Rattle.bohm_board.specs.Passes.{Continues, Keeps, IsDone, IsKnown}
+use Rattle.bohm_board.specs.Views.{Knows, saw, claimed, looked, filled_with, joined, Presence, learnt, IsKept}
 use Rattle.std.proofs.lemmas.Option.{same_Some}
 use Rattle.bohm_board.specs.Views as views
 use Rattle.bohm_board.specs.Words.{presence_at}
@@ -62,13 +62,6 @@ keeps_looked v k None = keeps_same v
 keeps_looked v k (Some Absent) = record { right = refl; done = same_on v.done; busy = same_on v.busy; absent = one_more v.absent k; present = same_on v.present }
 keeps_looked v k (Some (Present z)) = record { right = refl; done = same_on v.done; busy = same_on v.busy; absent = same_on v.absent; present = one_more v.present k }
 
-pub keeps_filled : (v : View) (k : Slot) (c : Cell) → Keeps v (filled_with v k c)
-keeps_filled v k Absent = record { right = refl; done = same_on v.done; busy = same_on v.busy; absent = same_on v.absent; present = same_on v.present }
-keeps_filled v k (Present z) = record { right = refl; done = same_on v.done; busy = same_on v.busy; absent = same_on v.absent; present = same_on v.present }
-
-pub keeps_finished : (v : View) (i : ℕ) → Keeps v (finished v i)
-keeps_finished v i = record { right = refl; done = one_more v.done i; busy = same_on v.busy; absent = same_on v.absent; present = same_on v.present }
-
 pub keeps_joined : (v w : View) → Keeps v (joined v w)
 keeps_joined v w = record { right = refl; done = (w.done, refl); busy = (w.busy, refl); absent = (w.absent, refl); present = (w.present, refl) }
 
@@ -76,9 +69,6 @@ keeps_joined v w = record { right = refl; done = (w.done, refl); busy = (w.busy,
 
 pub still_done : (b : Batch) (v w : View) (t : ℕ) → Keeps v w → IsDone b v t → IsDone b w t
 still_done b v w t k h = continues_contains v.done w.done _ k.done h
-
-pub still_busy : (b : Batch) (v w : View) (t : ℕ) → Keeps v w → IsBusy b v t → IsBusy b w t
-still_busy b v w t k h = continues_contains v.busy w.busy _ k.busy h
 
 pub knows_on : (v w : View) (k : Slot) → Keeps v w → Knows v k → Knows w k
 knows_on v w k keeps h = ⊎_elim
@@ -88,9 +78,6 @@ knows_on v w k keeps h = ⊎_elim
 
 pub still_known : (b : Batch) (v w : View) (s : Slot) → Keeps v w → IsKnown b v s → IsKnown b w s
 still_known b v w s keeps h = knows_on v w _ keeps h
-
-pub still_wanted : (b : Batch) (v w : View) (t : ℕ) → Keeps v w → KnowsWanted b v t → KnowsWanted b w t
-still_wanted b v w t keeps h = λ a u in_it is. knows_on v w _ keeps (h a u in_it is)
 
 -- a look that finds a cell knows the slot
 pub knows_looked : (v : View) (k : Slot) (c : Cell) → Knows (looked v k (Some c)) k
@@ -123,9 +110,6 @@ kept_filled v k (Present z) first held h = record {
   timestamp = h.timestamp;
   whole = λ j not c. ⊎_elim (h.whole j (λ d. not (Contains-append_left v.filled (k ∷ []) j d))) (λ (e : k ≡ j). not (subst (λ (y : Slot). Contains (v.filled ++ k ∷ []) y) e (Contains-push v.filled k))) (Contains-push_cases v.stored k j c);
 }
-
-pub kept_finished : (v : View) (i : ℕ) (first : ℕ) → IsKept (finished v i) first None
-kept_finished v i first = record { holds = refl; timestamp = λ j e. absurd cc; whole = λ k _ c. nothing_in k c }
 
 pub kept_joined : (v w : View) (first : ℕ) (held : Option ℕ) → IsKept v first held → IsKept (joined v w) first held
 kept_joined v w first held k = record { holds = k.holds; timestamp = k.timestamp; whole = k.whole }

@@ -1,18 +1,16 @@
-pub mod Newest
-pub mod SerialSlots
-pub mod Inputs
-pub mod Numbers
-pub mod Wanted
-pub mod Lawful
-pub mod Evaluated
-pub mod EventsKeep
-pub mod Runs
-pub mod Showing
-pub mod Moves
-pub mod Left
-pub mod Places
-pub mod Searched
-pub mod Keeping
-pub mod Idling
-pub mod Counting
-pub mod PlacesOfKeys
+mod SerialSlots
+mod Inputs
+mod Numbers
+mod Wanted
+mod Lawful
+mod Evaluated
+mod EventsKeep
+mod Runs
+mod Showing
+mod Moves
+mod Left
+mod Places
+mod Searched
+mod Keeping
+mod PlacesOfKeys
+pub mod ForCallers

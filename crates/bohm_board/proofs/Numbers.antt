@@ -8,7 +8,7 @@ use Rattle.bohm_tree.specs.declared.cell.Cell.{Cell}
 use Rattle.bohm_tree.specs.declared.cell.Cell.TheVariants.{Absent, Present}
 use Rattle.bohm_tree.specs.declared.txn.Txn.{Txn}
 use Rattle.bohm_txn.specs.Serial.{state}
-use Rattle.bohm_txn.proofs.States.{there}
+use Rattle.bohm_txn.proofs.ForCallers.{there}
 use Rattle.bohm_board.specs.declared.batch.Batch.{Batch}
 use Rattle.bohm_board.specs.declared.slot.Slot.{Slot}
 use Rattle.bohm_board.specs.declared.view.RightSlot.{RightSlot}

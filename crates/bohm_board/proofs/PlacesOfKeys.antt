@@ -3,9 +3,7 @@ use Rattle.std.proofs.Common.{◌≡◌, ℕ, suc, ◌+◌, ◌*◌, ◌<◌, �
 use Rattle.std.specs.List.{list_any, AllByRecursion, IsDistinct}
 use Rattle.std.specs.Str.{bytes_eq}
 use Rattle.std.specs.Cmp.Lexicographic.{nat_list_eq_equiv}
-use Rattle.std.proofs.Math.Logic.{∥∥₁_elim}
-use Rattle.std.proofs.Props.{props}
-use Rattle.std.proofs.lemmas.Bool.{cases_lt, false_from_ne_true, or_right}
+use Rattle.std.proofs.lemmas.Bool.{cases_lt, false_from_ne_true}
 use Rattle.std.proofs.lemmas.List.{length-map}
 use Rattle.std.proofs.lemmas.List.Folds.{list_any-append}
 use Rattle.std.proofs.lemmas.Map.Made.{length-le_from_is_member}
@@ -14,19 +12,17 @@ use Rattle.bohm_tree.specs.declared.cell.Cell.{Cell}
 use Rattle.bohm_tree.specs.declared.txn.Txn.{Txn}
 use Rattle.bohm_txn.specs.Declares.{IsAmong}
 use Rattle.bohm_txn.specs.Faulty.{IsWellFormedTxn, is_among}
-use Rattle.bohm_txn.proofs.Apart.{AllApart, rising_apart, among_first, among_then, other_key}
-use Rattle.bohm_txn.proofs.UseLaws.{usable}
+use Rattle.bohm_txn.proofs.ForCallers.{AllApart, rising_apart, among_first, among_then, other_key, usable}
 use Rattle.bohm_place.specs.declared.access.Access.{Access}
 use Rattle.bohm_place.specs.declared.access.Source.TheVariants.{Before, Within}
 use Rattle.bohm_place.specs.declared.declared_set.DeclaredSet.{DeclaredSet}
 use Rattle.bohm_place.specs.declared.declared_set.DeclaredSet.TheVariants.{Reads, Writes}
-use Rattle.bohm_place.specs.Plans.{Planned, keys_in, planned_in, source_in, IsNoted, IsRightPlan}
-use Rattle.bohm_place.proofs.Noted.{sources_same, sources_twice, rights_of_plan, right_noted}
+use Rattle.bohm_place.specs.Plans.{Planned, keys_in, planned_in, source_in, IsNoted}
+use Rattle.bohm_place.proofs.ForCallers.{usable_at, sources_same, sources_twice, right_noted}
 use Rattle.bohm_board.specs.declared.batch.Batch.{Batch}
-use Rattle.bohm_board.specs.Batches.{entries_of, txn_at, key_in, accesses_in, position, IsIn}
-use Rattle.bohm_board.proofs.Newest.{formed_at}
+use Rattle.bohm_board.specs.Batches.{entries_of, key_in, accesses_in, position, IsIn}
 use Rattle.bohm_board.proofs.Numbers.{txn_there}
-use Rattle.bohm_board.proofs.Wanted.{reads_paired, writes_paired}
+use Rattle.bohm_board.proofs.Wanted.{keys_paired}
 use Rattle.bohm_board.specs.Bases.{keys_of, declared_in, declares, HasPlace, IsBase, IsSetNoted}
 
 abbrev pub Entries : Type 0
@@ -65,10 +61,6 @@ few_entries ts entries base formed =
     omega (arith, length-le_from_is_member nat_list_eq_equiv keys (declared_in ts) (distinct_apart keys (rising_apart keys base.rises)) among, length-declared ts formed, length-map entries (λ (e : List ℕ × Cell). e.0))
 
 -- the entries have each key of a declared set
-declares_in : (set : DeclaredSet) (x : Txn) (k : List ℕ) → IsAmong (keys_in set x) k → declares k x ≡ true
-declares_in Reads x k among = rw among refl
-declares_in Writes x k among = or_right (is_among x.reads k) (is_among x.writes k) among
-
 -- ---- one declared set
 
 module _ (p : Planned) (set : DeclaredSet) (i : ℕ) (keys : List (List ℕ)) (entries : Entries) where
@@ -150,25 +142,18 @@ next_row txns p q r entries i x at noted reads writes set m n y a low at_y at_a 
         (writes.each Reads i n a at_a)
     new Writes n a at_a before k at_k = writes.done n a (slice_get_within x.writes n k at_k) at_a before k at_k
 
-pub row_paired : (txns : List Txn) (p : Planned) (set : DeclaredSet) (i : ℕ) (x : Txn) → ∥ IsRightPlan txns p ∥₁ → slice_get txns i ≡ Some x → length (keys_in set x) ≡ length (planned_in set p i)
-row_paired txns p set i x right at = ∥∥₁_elim right (hlevel props) (λ plan. (rights_of_plan txns p set i x plan at).paired)
-
 pub few_keys : (txns : List Txn) (set : DeclaredSet) (i : ℕ) (x : Txn) → All IsWellFormedTxn txns → slice_get txns i ≡ Some x → length (keys_in set x) ≤ 16
-few_keys txns Reads i x formed at = (formed_at txns formed i x at).few_reads
-few_keys txns Writes i x formed at = (formed_at txns formed i x at).few_writes
+few_keys txns Reads i x formed at = (usable_at txns formed i x at).few_reads
+few_keys txns Writes i x formed at = (usable_at txns formed i x at).few_writes
 
 -- ---- of a batch
-
-paired_in : (b : Batch) (set : DeclaredSet) (t : ℕ) (x : Txn) → txn_at b t ≡ Some x → length (keys_in set x) ≡ length (accesses_in set b t)
-paired_in b Reads t x at = reads_paired b t x at
-paired_in b Writes t x at = writes_paired b t x at
 
 -- an access that takes the version before the batch has the place of its key
 pub placed : (b : Batch) (set : DeclaredSet) (t j : ℕ) (a : Access) → IsIn b t → slice_get (accesses_in set b t) j ≡ Some a → a.source ≡ Before → (k : List ℕ) × (key_in set b t j ≡ Some k) × (slice_get (keys_of (entries_of b)) a.index ≡ Some k)
 placed b set t j a is at before =
     let (x, at_x) = txn_there b t is in
     let keys = keys_in set x in
-    let low : j < length keys = omega (arith, slice_get_within (accesses_in set b t) j a at, paired_in b set t x at_x) in
+    let low : j < length keys = omega (arith, slice_get_within (accesses_in set b t) j a at, keys_paired b set t x at_x) in
     let k = get_or keys j [] in
     let at_k : slice_get keys j ≡ Some k = slice_get-get_or keys j [] low in
     (k, rw at_x at_k, b.noted set (position b t) j x a at_x at before k at_k)

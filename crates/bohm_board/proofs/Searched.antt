@@ -17,8 +17,7 @@ use Rattle.bohm_tree.specs.declared.cell.Cell.{Cell}
 use Rattle.bohm_tree.specs.declared.cell.Cell.TheVariants.{Absent}
 use Rattle.bohm_txn.specs.Faulty.{is_among, rising, rises_from}
 use Rattle.bohm_txn.specs.Meaning.{newest}
-use Rattle.bohm_txn.proofs.Apart.{less}
-use Rattle.bohm_txn.proofs.Lookups.{no_fall, same_at}
+use Rattle.bohm_txn.proofs.ForCallers.{less, no_fall, same_at}
 use Rattle.bohm_board.specs.Bases.{keys_of}
 
 abbrev pub Entry : Type 0

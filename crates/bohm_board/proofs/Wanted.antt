@@ -1,4 +1,4 @@
--- What a position wants is of an earlier one, for the crates above.
+-- There is an access for each declared key, and what a position wants is of an earlier one.
 use Rattle.std.proofs.Common.{◌≡◌, ℕ, ◌+◌, ◌<◌, List, [], ◌++◌, length, Bool, true, false, Some, ap, ◌∙◌, subst, ⊎_elim, inl, inr, refl, arith}
 use Rattle.std.specs.Prelude.{Contains, ◌⊎◌, if◌then◌else◌}
 use Rattle.std.specs.List.{slice_get}
@@ -7,30 +7,29 @@ use Rattle.std.proofs.Props.{props}
 use Rattle.std.proofs.lemmas.List.Elements.{Contains-append_cases}
 use Rattle.std.proofs.lemmas.Option.{slice_get_within, slice_get-get_or}
 use Rattle.bohm_tree.specs.declared.txn.Txn.{Txn}
-use Rattle.bohm_txn.proofs.States.{there}
+use Rattle.bohm_txn.proofs.ForCallers.{there}
 use Rattle.bohm_place.specs.declared.access.Access.{Access}
 use Rattle.bohm_place.specs.declared.access.Source.{Source}
 use Rattle.bohm_place.specs.declared.access.Source.TheVariants.{Within}
-use Rattle.bohm_place.specs.Plans.{IsRightAccess, AreRightAccesses, IsIndexOf}
+use Rattle.bohm_place.specs.declared.declared_set.DeclaredSet.{DeclaredSet}
+use Rattle.bohm_place.specs.declared.declared_set.DeclaredSet.TheVariants.{Reads, Writes}
+use Rattle.bohm_place.specs.Plans.{IsRightAccess, AreRightAccesses, IsIndexOf, keys_in}
 use Rattle.bohm_place.specs.Writers.{IsNewest}
+use Rattle.bohm_place.proofs.ForCallers.{row_paired}
 use Rattle.bohm_board.specs.declared.batch.Batch.{Batch}
-use Rattle.bohm_board.specs.Batches.{txns_of, first_of, position, IsIn, IsSlot, txn_at, reads_at, writes_at, wanted_at, is_sure_at, slot_in}
+use Rattle.bohm_board.specs.Batches.{accesses_in, txns_of, first_of, plan_of, position, IsIn, IsSlot, txn_at, reads_at, writes_at, wanted_at, is_sure_at, slot_in}
 use Rattle.bohm_board.proofs.Lawful.{nothing_in}
 use Rattle.bohm_board.proofs.Numbers.{txn_there, width_there}
 
--- there is an access for each declared read
-pub reads_paired : (b : Batch) (t : ℕ) (x : Txn) → txn_at b t ≡ Some x → length x.reads ≡ length (reads_at b t)
-reads_paired b t x at = ∥∥₁_elim b.right (number_prop (length x.reads) (length (reads_at b t))) (λ plan. (plan.reads (position b t) x at).paired)
-  where
-    number_prop : (m n : ℕ) → IsProp (m ≡ n)
-    number_prop m n = hlevel props
+-- there is an access for each declared key
+pub keys_paired : (b : Batch) (set : DeclaredSet) (t : ℕ) (x : Txn) → txn_at b t ≡ Some x → length (keys_in set x) ≡ length (accesses_in set b t)
+keys_paired b set t x at = row_paired (txns_of b) (plan_of b) set (position b t) x b.right at
 
--- and for each declared write
+pub reads_paired : (b : Batch) (t : ℕ) (x : Txn) → txn_at b t ≡ Some x → length x.reads ≡ length (reads_at b t)
+reads_paired b = keys_paired b Reads
+
 pub writes_paired : (b : Batch) (t : ℕ) (x : Txn) → txn_at b t ≡ Some x → length x.writes ≡ length (writes_at b t)
-writes_paired b t x at = ∥∥₁_elim b.right (number_prop (length x.writes) (length (writes_at b t))) (λ plan. (plan.writes (position b t) x at).paired)
-  where
-    number_prop : (m n : ℕ) → IsProp (m ≡ n)
-    number_prop m n = hlevel props
+writes_paired b = keys_paired b Writes
 
 -- the source is earlier in the batch, and the slot of its version is one of the batch
 pub record IsEarlier (b : Batch) (t : ℕ) (a : Access) (u : ℕ) : Type 0 where

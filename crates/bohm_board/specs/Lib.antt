@@ -12,4 +12,3 @@ pub mod Steps
 pub mod Layouts
 pub mod Passes
 pub mod Closings
-pub mod Samples

@@ -17,8 +17,6 @@ mod plays;
 mod slot;
 mod status;
 mod steps;
-#[cfg(test)]
-mod tests;
 mod view;
 mod words;
 

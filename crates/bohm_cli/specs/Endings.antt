@@ -1,28 +1,29 @@
 -- What the program ends with.
-use Rattle.std.specs.Prelude.{ℕ, List, ◌⊎◌, Option, Result, Ok, Err, codes, string_bytes}
+use Rattle.std.specs.Prelude.{◌≡◌, ℕ, List, Option, Result, Ok, Err, string_bytes}
 use Rattle.std.specs.Io.KnownBytes.{Appends, Keeps}
+use Rattle.bohm_run.specs.Bytes.{IsWriteFault}
 use Rattle.bohm_run.specs.FaultLine.{fault_line}
-use Rattle.bohm_run.specs.declared.fault.RunFault.{RunFault}
 use Rattle.bohm_run.specs.declared.fault.RunFault.TheVariants as run
+use Rattle.bohm_cli.specs.declared.words.WordFault.{WordFault}
 use Rattle.bohm_cli.specs.declared.words.WordFault.TheVariants.{Bad, Help, NoMemory}
 use Rattle.bohm_cli.specs.declared.ending.NoAnswer.{NoAnswer}
-use Rattle.bohm_cli.specs.declared.ending.NoAnswer.TheVariants.{Words, Run}
+use Rattle.bohm_cli.specs.declared.ending.NoAnswer.TheVariants.{BadWords, Run}
 
--- 0 after an answer and after help, 1 after a refused run, 2 after bad words
+-- 0 after an answer or help, 1 after a refused run, 2 after bad words
 abbrev pub status_of : {A : Type 0} → Result A NoAnswer → ℕ
 status_of (Ok answered) = 0
-status_of (Err (Words (Help text))) = 0
-status_of (Err (Words (Bad text))) = 2
-status_of (Err (Words NoMemory)) = 1
+status_of (Err (BadWords text)) = 2
 status_of (Err (Run fault)) = 1
 
--- the line of the fault was written, or where no memory was found to make it the line of that want
-abbrev pub TellsFault : RunFault → Option (List ℕ) → Option (List ℕ) → Type 0
-TellsFault fault written written' = Appends written written' (fault_line fault) ⊎ Appends written written' (codes "refused: memory\n")
+-- what comes of a program without settings, and what was written to standard output
+abbrev pub Ends : {A : Type 0} → WordFault → Option (List ℕ) → Option (List ℕ) → Result A NoAnswer → Type 0
+Ends (Help text) out out' (Ok answered) = Appends out out' (string_bytes text)
+Ends (Help text) out out' (Err (Run fault)) = IsWriteFault out out' (string_bytes text) fault
+Ends (Help text) out out' (Err (BadWords other)) = ⊥
+Ends (Bad text) out out' result = Keeps out out' × (result ≡ Err (BadWords text))
+Ends NoMemory out out' result = Keeps out out' × (result ≡ Err (Run run.NoMemory))
 
--- what was written to standard output, and to standard error
-abbrev pub Tells : NoAnswer → Option (List ℕ) → Option (List ℕ) → Option (List ℕ) → Option (List ℕ) → Type 0
-Tells (Words (Help text)) out out' err err' = Appends out out' (string_bytes text) × Keeps err err'
-Tells (Words (Bad text)) out out' err err' = Keeps out out' × Appends err err' (string_bytes text)
-Tells (Words NoMemory) out out' err err' = Keeps out out' × TellsFault run.NoMemory err err'
-Tells (Run fault) out out' err err' = Keeps out out' × TellsFault fault err err'
+-- what was written to standard error
+abbrev pub Tells : NoAnswer → Option (List ℕ) → Option (List ℕ) → Type 0
+Tells (BadWords text) err err' = Appends err err' (string_bytes text)
+Tells (Run fault) err err' = Appends err err' (fault_line fault)

@@ -6,10 +6,19 @@ mod options;
 mod words;
 
 use bohm_run::{Settings, run_text};
-use ending::{NoAnswer, exit_code, tell};
+use ending::{NoAnswer, exit_code, tell, without_settings};
 use std::process::ExitCode;
 use std::{env, io};
 use words::{WordFault, read_words};
+
+/// What is said of a word that is no text, which clap can't be handed. It says the same in Rust.
+const NOT_UTF8: &str = "\
+error: invalid UTF-8 was detected in one or more arguments
+
+Usage: bohm [OPTIONS]
+
+For more information, try '--help'.
+";
 
 /// The settings that the program was started with.
 fn settings_given(rt: &HostRuntime) -> Result<Settings, WordFault> {
@@ -17,6 +26,9 @@ fn settings_given(rt: &HostRuntime) -> Result<Settings, WordFault> {
         Ok(given) => given,
         Err(error) if error.kind() == io::ErrorKind::OutOfMemory => {
             return Err(WordFault::NoMemory);
+        }
+        Err(error) if error.kind() == io::ErrorKind::InvalidData => {
+            return Err(WordFault::Bad(String::from_str(rt.alloc(), NOT_UTF8)?));
         }
         Err(error) => {
             return Err(WordFault::Bad(format!(in rt.alloc(); "error: {error}\n")?));
@@ -31,19 +43,15 @@ fn settings_given(rt: &HostRuntime) -> Result<Settings, WordFault> {
 }
 
 fn main(rt: HostRuntime) -> ExitCode {
+    let mut out = io::writer(&rt);
     let answered = match settings_given(&rt) {
-        Ok(settings) => run_text(
-            &rt,
-            rt.alloc(),
-            &mut rt.reader(),
-            &mut io::writer(&rt),
-            settings,
-        )
-        .map_err(NoAnswer::from),
-        Err(fault) => Err(NoAnswer::from(fault)),
+        Ok(settings) => run_text(&rt, rt.alloc(), &mut rt.reader(), &mut out, settings).map_err(
+            NoAnswer::from,
+        ),
+        Err(fault) => without_settings(&mut out, fault),
     };
     if let Err(reason) = &answered {
-        let _ = tell(rt.alloc(), &mut rt.stdout(), &mut rt.stderr(), reason);
+        let _ = tell(&mut rt.stderr(), reason);
     }
     exit_code(&answered)
 }

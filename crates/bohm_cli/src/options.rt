@@ -27,7 +27,8 @@ worker without a partition is idle";
 
 const BATCH: &str = "\
 Transactions in a batch, 1 to 4096 [default: 4096]. Smaller
-batches mean less waiting memory, larger ones more to overlap";
+batches mean less waiting memory, larger ones more for
+workers to share";
 
 const KEEP: &str = "\
 How many timestamps below the log's length stay readable,

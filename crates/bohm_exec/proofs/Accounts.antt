@@ -8,7 +8,7 @@ use Rattle.std.proofs.lemmas.List.Elements.{Contains-push, Contains-append_left}
 use Rattle.bohm_board.specs.declared.batch.Batch.{Batch}
 use Rattle.bohm_board.specs.declared.view.View.{View}
 use Rattle.bohm_board.specs.Passes.{IsDone, Keeps}
-use Rattle.bohm_board.proofs.Keeping.{still_done}
+use Rattle.bohm_board.proofs.ForCallers.{still_done}
 use Rattle.bohm_exec.specs.Asides.{Pairs, IsAccountedFor, IsPickedFrom, positions_in, busy_in}
 
 positions_push : (pairs : Pairs) (p : ℕ × ℕ) → positions_in (pairs ++ p ∷ []) ≡ positions_in pairs ++ p.0 ∷ []

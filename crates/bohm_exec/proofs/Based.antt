@@ -9,7 +9,7 @@ use Rattle.bohm_tree.specs.declared.cell.Cell.{Cell}
 use Rattle.bohm_place.specs.declared.access.Access.{Access}
 use Rattle.bohm_place.specs.declared.access.Source.{Source}
 use Rattle.bohm_place.specs.declared.access.Source.TheVariants.{Before, Within}
-use Rattle.bohm_place.proofs.Lists.{set_same, set_other}
+use Rattle.bohm_place.proofs.ForCallers.{set_same, set_other}
 use Rattle.bohm_board.specs.declared.batch.Batch.{Batch}
 use Rattle.bohm_board.specs.Batches.{IsRightCell, base_of, slot_in}
 use Rattle.bohm_board.specs.Inputs.{IsCellFrom, IsCellOf}

@@ -9,7 +9,7 @@ use mathlib.Core.Logic.{dite}
 use native.Mathlib.Decide.{ℕ_discrete}
 use Rattle.bohm_board.specs.declared.batch.Batch.{Batch}
 use Rattle.bohm_board.specs.Batches.{IsIn, Wants, Leads, itself, further, first_of, position, txns_of}
-use Rattle.bohm_board.proofs.Wanted.{wanted_earlier}
+use Rattle.bohm_board.proofs.ForCallers.{wanted_earlier}
 
 -- how many positions the batch has
 abbrev pub count_of : Batch → ℕ

@@ -1,9 +1,9 @@
-pub mod Serials
-pub mod Strides
-pub mod Seen
-pub mod Viewed
-pub mod Based
-pub mod Descents
-pub mod Accounts
-pub mod Tested
-pub mod Coverage
+mod Serials
+mod Strides
+mod Seen
+mod Viewed
+mod Based
+mod Descents
+mod Accounts
+mod Coverage
+pub mod ForCallers

@@ -9,12 +9,12 @@ use Rattle.bohm_tree.specs.declared.cell.Cell.{Cell}
 use Rattle.bohm_place.specs.declared.access.Access.{Access}
 use Rattle.bohm_place.specs.declared.access.Source.{Source}
 use Rattle.bohm_place.specs.declared.access.Source.TheVariants.{Before, Within}
-use Rattle.bohm_place.proofs.Lists.{set_same, set_other}
+use Rattle.bohm_place.proofs.ForCallers.{set_same, set_other}
 use Rattle.bohm_board.specs.declared.batch.Batch.{Batch}
 use Rattle.bohm_board.specs.declared.view.View.{View}
 use Rattle.bohm_board.specs.Batches.{IsRightCell, slot_in}
 use Rattle.bohm_board.specs.Passes.{IsKnown, Keeps}
-use Rattle.bohm_board.proofs.Keeping.{still_known}
+use Rattle.bohm_board.proofs.ForCallers.{still_known}
 use Rattle.bohm_exec.specs.Handed.{KnowsAll, AreFound}
 
 -- ---- lists

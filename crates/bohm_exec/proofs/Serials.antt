@@ -9,12 +9,11 @@ use Rattle.bohm_txn.specs.declared.outcome.Outcome.{Outcome}
 use Rattle.bohm_txn.specs.Declares.{shows_in}
 use Rattle.bohm_txn.specs.Meaning.{Look, body}
 use Rattle.bohm_txn.specs.Serial.{after, outcome_of, shows_of}
-use Rattle.bohm_txn.proofs.States.{next}
+use Rattle.bohm_txn.proofs.ForCallers.{next}
 use Rattle.bohm_board.specs.declared.batch.Batch.{Batch}
 use Rattle.bohm_board.specs.Serial.{show_cells, offset}
 use Rattle.bohm_board.specs.Batches.{txns_of, base_of, position, txn_at, rights_of, right_cell, IsRightCell, IsRightOutcome}
-use Rattle.bohm_board.proofs.Inputs.{own_right, outcome_right}
-use Rattle.bohm_board.proofs.SerialSlots.{own_write, own_show}
+use Rattle.bohm_board.proofs.ForCallers.{own_right, outcome_right, own_write, own_show}
 use Rattle.bohm_exec.specs.Handed.{slot_of}
 use Rattle.bohm_exec.specs.Moments.{state_before, state_after, shown, IsSerialOutcome, IsSerialCell, IsSerialShow}
 

@@ -3,7 +3,6 @@ use Rattle.std.proofs.Common.{◌≡◌, ℕ, ◌+◌, ◌<◌, ◌≤◌, List,
 use Rattle.std.specs.Prelude.{Contains, if◌then◌else◌, unwrap_or}
 use Rattle.std.specs.Option.{option_map}
 use Rattle.std.proofs.lemmas.List.Elements.{Contains-append_left, Contains-append_right, Contains-push, Contains-push_cases}
-use Rattle.std.proofs.lemmas.Option.{slice_get_within, get_or_from_slice_get}
 use mathlib.Core.Logic.{dite}
 use native.Mathlib.Decide.{ℕ_discrete}
 use Rattle.bohm_tree.specs.declared.cell.Cell.{Cell}
@@ -15,16 +14,11 @@ use Rattle.bohm_place.specs.declared.access.Access.{Access}
 use Rattle.bohm_board.specs.declared.batch.Batch.{Batch}
 use Rattle.bohm_board.specs.declared.slot.Slot.{Slot}
 use Rattle.bohm_board.specs.declared.view.View.{View}
-use Rattle.bohm_board.specs.Batches.{position, txns_of, txn_at, IsIn, reads_at, writes_at, is_sure_at, slot_in, accesses_in}
+use Rattle.bohm_board.specs.Batches.{position, txns_of, txn_at, IsIn, reads_at, writes_at, is_sure_at, slot_in}
 use Rattle.bohm_board.specs.Passes.{KnowsWanted}
 use Rattle.bohm_board.specs.Views.{Knows, looked, filled_with}
-use Rattle.bohm_board.proofs.Keeping.{keeps_same, keeps_then, keeps_looked}
-use Rattle.bohm_board.proofs.Newest.{formed_at}
-use Rattle.bohm_board.proofs.Numbers.{txn_there}
-use Rattle.bohm_board.proofs.Wanted.{reads_paired, writes_paired, in_either}
-use Rattle.bohm_place.specs.declared.declared_set.DeclaredSet.{DeclaredSet}
-use Rattle.bohm_place.specs.declared.declared_set.DeclaredSet.TheVariants.{Reads, Writes}
-use Rattle.bohm_place.specs.Plans.{keys_in}
+use Rattle.bohm_board.proofs.ForCallers.{keeps_same, keeps_then, keeps_looked, txn_there, reads_paired, writes_paired, in_either}
+use Rattle.bohm_place.proofs.ForCallers.{formed_at, usable_at}
 use Rattle.bohm_exec.specs.Handed.{AreWanted, KnowsAll, slot_of}
 use Rattle.bohm_exec.specs.Turns.{LooksOnly, FillsOnly}
 
@@ -50,13 +44,13 @@ then_looks u v w a b = record { keeps = keeps_then u v w a.keeps b.keeps; done =
 pub few_reads : (b : Batch) (t : ℕ) → IsIn b t → length (reads_at b t) ≤ 16
 few_reads b t is =
     let (x, at) = txn_there b t is in
-    let few = (formed_at (txns_of b) b.formed (position b t) x at).few_reads in
+    let few = (usable_at (txns_of b) b.formed (position b t) x at).few_reads in
     omega (arith, few, reads_paired b t x at)
 
 pub few_writes : (b : Batch) (t : ℕ) → IsIn b t → length (writes_at b t) ≤ 16
 few_writes b t is =
     let (x, at) = txn_there b t is in
-    let few = (formed_at (txns_of b) b.formed (position b t) x at).few_writes in
+    let few = (usable_at (txns_of b) b.formed (position b t) x at).few_writes in
     omega (arith, few, writes_paired b t x at)
 
 pub reads_wanted : (b : Batch) (t : ℕ) → AreWanted b t (reads_at b t)
@@ -77,10 +71,6 @@ knows_wanted b v t reads writes = λ a u in_it is. ⊎_elim
 pub knows_later : (b : Batch) (v w : View) (accesses : List Access) → ((x : Slot) → Knows v x → Knows w x) → KnowsAll b v accesses → KnowsAll b w accesses
 knows_later b v w accesses later all = λ a u in_it is. later (slot_in u a) (all a u in_it is)
 
-pub keys_paired : (set : DeclaredSet) (b : Batch) (t : ℕ) (x : Txn) → txn_at b t ≡ Some x → length (keys_in set x) ≡ length (accesses_in set b t)
-keys_paired Reads b t x at = reads_paired b t x at
-keys_paired Writes b t x at = writes_paired b t x at
-
 -- as many reads are declared as there are accesses, in the transaction that was lent
 pub long_reads : (b lent : Batch) (t : ℕ) (x : Txn) (keys : List (List ℕ)) → lent ≡ b → txn_at lent t ≡ Some x → keys ≡ x.reads → length (reads_at b t) ≡ length keys
 long_reads b lent t x keys same at e = sym (ap length e ∙ reads_paired b t x (subst (λ (z : Batch). txn_at z t ≡ Some x) same at))
@@ -93,7 +83,7 @@ pub same_sure : (b lent : Batch) (t : ℕ) (x : Txn) (answer : Bool) → lent �
 same_sure b lent t x answer same at e = e ∙ sym (ap (λ (o : Option Txn). unwrap_or (option_map is_sure o) false) (subst (λ (z : Batch). txn_at z t ≡ Some x) same at))
 
 pub well_formed : (b : Batch) (t : ℕ) (x : Txn) → txn_at b t ≡ Some x → IsWellFormedTxn x
-well_formed b t x at = subst IsWellFormedTxn (get_or_from_slice_get (txns_of b) (position b t) x x at) (b.formed (position b t) x (slice_get_within (txns_of b) (position b t) x at))
+well_formed b t x at = formed_at (txns_of b) b.formed (position b t) x at
 
 -- ---- fills
 

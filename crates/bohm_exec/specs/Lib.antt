@@ -3,5 +3,4 @@ pub mod Handed
 pub mod Moments
 pub mod Turns
 pub mod Answers
-pub mod Samples
 pub mod Shares

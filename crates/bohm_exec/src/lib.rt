@@ -16,8 +16,6 @@ pub mod laws;
 mod pursuit;
 mod shares;
 mod sweeping;
-#[cfg(test)]
-mod tests;
 mod turns;
 
 pub use aside::Aside;

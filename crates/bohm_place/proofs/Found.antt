@@ -6,11 +6,10 @@ use Rattle.std.proofs.lemmas.List.{drop_more, take_more, map-append, length-take
 use Rattle.std.specs.List.{AllByRecursion}
 use Rattle.std.specs.Str.{bytes_eq}
 use Rattle.bohm_tree.specs.declared.txn.Txn.{Txn}
-use Rattle.bohm_txn.proofs.Bodies.{map_same}
+use Rattle.bohm_txn.proofs.ForCallers.{map_same, each_append}
 use Rattle.bohm_place.specs.declared.placeholder.Placeholder.{Placeholder}
 use Rattle.bohm_place.specs.Chains.{Keyed, placeholders_in, none, last_or}
 use Rattle.bohm_place.specs.Shares.{has_part, within, written, made, found_by, newest_ahead, greater_of, greater}
-use Rattle.bohm_place.proofs.Lists.{each_append}
 use Rattle.bohm_place.proofs.Placed.{Below, Below-higher}
 use Rattle.bohm_place.proofs.Swaps.{lt_apart}
 

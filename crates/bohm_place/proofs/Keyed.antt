@@ -7,8 +7,7 @@ use Rattle.std.proofs.lemmas.List.Folds.{list_any-append}
 use Rattle.std.proofs.lemmas.Map.Made.{lookup-map_values}
 use Rattle.bohm_txn.specs.Faulty.{is_among}
 use Rattle.bohm_txn.specs.Declares.{IsAmong}
-use Rattle.bohm_txn.proofs.Apart.{among_first}
-use Rattle.bohm_txn.proofs.Bodies.{key_itself}
+use Rattle.bohm_txn.proofs.ForCallers.{among_first, key_itself}
 use Rattle.bohm_place.specs.declared.placeholder.Placeholder.{Placeholder}
 use Rattle.bohm_place.specs.declared.chain.Chain.{Chain}
 use Rattle.bohm_place.specs.Chains.{table, items, items_of, last_or}

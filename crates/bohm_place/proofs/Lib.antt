@@ -1,16 +1,17 @@
-pub mod Keyed
-pub mod Rising
-pub mod Keeping
-pub mod Listing
-pub mod Lists
-pub mod Swaps
-pub mod Distinct
-pub mod Placed
-pub mod Found
-pub mod Right
-pub mod Nested
-pub mod Parted
-pub mod Newest
-pub mod TestTxns
-pub mod Members
-pub mod Noted
+mod Keyed
+mod Rising
+mod Keeping
+mod Listing
+mod Lists
+mod Swaps
+mod Distinct
+mod Placed
+mod Found
+mod Right
+mod Nested
+mod Parted
+mod Newest
+mod Members
+mod Noted
+mod OneWorker
+pub mod ForCallers

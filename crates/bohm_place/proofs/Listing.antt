@@ -6,7 +6,7 @@ use Rattle.std.proofs.lemmas.List.{take_more_set}
 use Rattle.std.proofs.lemmas.List.Folds.{list_any_more}
 use Rattle.bohm_txn.specs.Faulty.{is_among}
 use Rattle.bohm_txn.specs.Declares.{IsAmong}
-use Rattle.bohm_txn.proofs.Apart.{among_first}
+use Rattle.bohm_txn.proofs.ForCallers.{among_first}
 use Rattle.bohm_place.specs.declared.placeholder.Placeholder.{Placeholder}
 use Rattle.bohm_place.specs.Chains.{kept_items}
 use Rattle.bohm_place.proofs.Keyed.{among_left, among_right}

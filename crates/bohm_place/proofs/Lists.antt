@@ -1,6 +1,5 @@
 -- Lists by places.
 use Rattle.std.proofs.Common.{◌≡◌, ◌≢◌, ℕ, zero, suc, ◌+◌, ◌<◌, List, [], ◌∷◌, ◌++◌, length, take, drop, slice_get, slice_set, set, get_or, Some, refl, ap, ◌∙◌, arith, length-set}
-use Rattle.std.specs.List.{AllByRecursion}
 use Rattle.std.proofs.lemmas.Option.{slice_get-get_or}
 use Rattle.std.proofs.lemmas.List.{get_or-set_same}
 
@@ -24,10 +23,6 @@ set_other (x ∷ qs) zero zero q apart = absurd (apart refl)
 set_other (x ∷ qs) zero (suc j) q apart = refl
 set_other (x ∷ qs) (suc p) zero q apart = refl
 set_other (x ∷ qs) (suc p) (suc j) q apart = set_other qs p j q (λ e. apart (ap suc e))
-
-pub each_append : {A : Type 0} (P : A → Type 0) (xs ys : List A) → AllByRecursion P xs → AllByRecursion P ys → AllByRecursion P (xs ++ ys)
-each_append P [] ys h k = k
-each_append P (x ∷ xs) ys h k = (h.0, each_append P xs ys h.1 k)
 
 -- what holds of each element at its place, after a push
 pub each_pushed : {A : Type 0} (P : ℕ → A → Type 0) (xs : List A) (x : A) → ((w : ℕ) (d : A) → w < length xs → P w (get_or xs w d)) → P (length xs) x → (w : ℕ) (d : A) → w < length xs + 1 → P w (get_or (xs ++ x ∷ []) w d)

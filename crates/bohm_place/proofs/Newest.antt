@@ -3,12 +3,10 @@ use Rattle.std.proofs.Common.{◌≡◌, ℕ, zero, suc, ◌+◌, ◌-◌, ◌<�
 use Rattle.std.proofs.lemmas.Option.{get_or_from_slice_get, slice_get_within}
 use Rattle.bohm_tree.specs.declared.txn.Txn.{Txn}
 use Rattle.bohm_txn.specs.Faulty.{IsWellFormedTxn}
-use Rattle.bohm_txn.specs.Declares.{IsAmong}
+use Rattle.bohm_txn.specs.Declares.{IsAmong, IsUsable}
 use Rattle.bohm_txn.specs.Meaning.{Look}
 use Rattle.bohm_txn.specs.Serial.{state}
-use Rattle.bohm_txn.proofs.UseLaws.{usable}
-use Rattle.bohm_txn.proofs.Bodies.{kept}
-use Rattle.bohm_txn.proofs.States.{there, next}
+use Rattle.bohm_txn.proofs.ForCallers.{usable, kept, there, next}
 use Rattle.bohm_place.specs.declared.access.Source.{Source}
 use Rattle.bohm_place.specs.declared.access.Source.TheVariants.{Before, Within}
 use Rattle.bohm_place.specs.Shares.{AreWellFormed}
@@ -17,11 +15,14 @@ use Rattle.bohm_place.specs.Writers.{IsNewest, upto, newest_of}
 pub formed_at : (ts : List Txn) → AreWellFormed ts → (i : ℕ) (t : Txn) → slice_get ts i ≡ Some t → IsWellFormedTxn t
 formed_at ts formed i t e = subst IsWellFormedTxn (get_or_from_slice_get ts i t t e) (formed i t (slice_get_within ts i t e))
 
+pub usable_at : (ts : List Txn) → AreWellFormed ts → (i : ℕ) (t : Txn) → slice_get ts i ≡ Some t → IsUsable t
+usable_at ts formed i t e = usable t (formed_at ts formed i t e)
+
 -- a transaction that doesn't write the key leaves its cell
 one : (look : Look) (ts : List Txn) (v : ℕ) (k : List ℕ) → AreWellFormed ts → v < length ts → ((t : Txn) → slice_get ts v ≡ Some t → IsAmong t.writes k → ⊥) → state look ts (suc v) k ≡ state look ts v k
 one look ts v k formed inside absent =
     let (t, e) = there ts v inside in
-    ap (λ (f : Look). f k) (next look ts v t e) ∙ kept (state look ts v) t k (usable t (formed_at ts formed v t e)) (absent t e)
+    ap (λ (f : Look). f k) (next look ts v t e) ∙ kept (state look ts v) t k (usable_at ts formed v t e) (absent t e)
 
 steady : (look : Look) (ts : List Txn) (k : List ℕ) (p d : ℕ) → AreWellFormed ts → ((v : ℕ) (t : Txn) → p ≤ v → v < p + d → slice_get ts v ≡ Some t → IsAmong t.writes k → ⊥) → p + d ≤ length ts → state look ts (p + d) k ≡ state look ts p k
 steady look ts k p zero formed absent inside = rw add-zero refl

@@ -1,5 +1,7 @@
 -- Noting a place at one access changes no other access of a plan.
 use Rattle.std.proofs.Common.{get_or, ◌≡◌, ℕ, zero, suc, ◌+◌, ◌<◌, ◌≤◌, List, [], ◌∷◌, length, map, take, drop, min, slice_get, slice_set, Option, Some, None, unwrap_or, option_map, refl, sym, ap, ◌∙◌, subst, inl, inr, ◌⊎◌, ⊎_elim, arith, length-drop}
+use Rattle.std.proofs.Math.Logic.{∥∥₁_elim}
+use Rattle.std.proofs.Props.{props}
 use Rattle.std.proofs.lemmas.Bool.{cases_eq, cases_lt}
 use Rattle.std.proofs.lemmas.List.{length-map, length-take}
 use Rattle.std.proofs.lemmas.Option.{same_Some, slice_get-map, slice_get_past, slice_get_within, slice_get_read, get_or_from_slice_get}
@@ -176,6 +178,10 @@ sources_same p = record { first = refl; paired = refl; sources = λ set i j. ref
 pub rights_of_plan : (txns : List Txn) (p : Planned) (set : DeclaredSet) (i : ℕ) (x : Txn) → IsRightPlan txns p → slice_get txns i ≡ Some x → AreRightAccesses p.first txns (p.first + i) (keys_in set x) (planned_in set p i)
 rights_of_plan txns p Reads i x right at = right.reads i x at
 rights_of_plan txns p Writes i x right at = right.writes i x at
+
+-- there is an access for each key that a transaction declares
+pub row_paired : (txns : List Txn) (p : Planned) (set : DeclaredSet) (i : ℕ) (x : Txn) → ∥ IsRightPlan txns p ∥₁ → slice_get txns i ≡ Some x → length (keys_in set x) ≡ length (planned_in set p i)
+row_paired txns p set i x right at = ∥∥₁_elim right (hlevel props) (λ plan. (rights_of_plan txns p set i x plan at).paired)
 
 -- lists of which one has elements where the other has are as long
 long_by : {A B : Type 0} (xs : List A) (ys : List B) (f : A → Source) (g : B → Source) → ((j : ℕ) → option_map f (slice_get xs j) ≡ option_map g (slice_get ys j)) → length xs ≡ length ys

@@ -7,8 +7,7 @@ use Rattle.std.proofs.lemmas.List.{take_more, append_assoc, map_more}
 use Rattle.std.proofs.lemmas.Option.{same_Some}
 use Rattle.std.proofs.lemmas.List.Elements.{All-from_recursion, All-map, All-head, All-tail}
 use Rattle.bohm_txn.specs.Faulty.{is_among}
-use Rattle.bohm_txn.proofs.Apart.{none_before}
-use Rattle.bohm_txn.proofs.Bodies.{same_key}
+use Rattle.bohm_txn.proofs.ForCallers.{none_before, same_key}
 use Rattle.bohm_place.specs.declared.placeholder.Placeholder.{Placeholder}
 use Rattle.bohm_place.specs.Chains.{Keyed, placeholders, placeholders_in, chain, begins, kept, AreEmpty, AreKept}
 use Rattle.bohm_place.specs.Shares.{has_part, written, AreDistinct}

@@ -7,7 +7,7 @@ use Rattle.std.proofs.lemmas.List.{append_assoc, drop_more, map-append, take-app
 use Rattle.std.proofs.lemmas.List.Elements.{All-head, All-tail}
 use Rattle.bohm_place.specs.declared.placeholder.Placeholder.{Placeholder}
 use Rattle.bohm_place.specs.Chains.{begins, RisesFrom, greatest, greatest_below}
-use Rattle.bohm_place.proofs.Lists.{each_append}
+use Rattle.bohm_txn.proofs.ForCallers.{each_append}
 
 pub begins-append : (vs ws : List Placeholder) → begins (vs ++ ws) ≡ begins vs ++ begins ws
 begins-append vs ws = map-append (λ v. v.begin) vs ws

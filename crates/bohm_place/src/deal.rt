@@ -4,6 +4,7 @@ ghost use Rattle.std.specs.Prelude.{◌≡◌, ℕ, List, ◌+◌, ◌++◌, ◌
 ghost use Rattle.bohm_place.specs.Chains.{placeholders_in};
 ghost use Rattle.bohm_place.specs.Shares.{AreParts, made, found_by, newest_ahead, greater, IsHand, KeepsOthers, IsPartOf};
 
+use crate::hash_seed::HashSeed;
 use crate::partition::Partition;
 use crate::placeholder::Placeholder;
 use crate::places::Places;
@@ -30,14 +31,14 @@ fn swap_parts<T>(a: &mut [T], b: &mut [T], worker: Worker)
     }
 }
 
-// Takes the parts of one worker out, and leaves empty ones there.
+// Takes the parts of one worker out, and leaves empty ones there, which get no keys.
 fn take_hand(alloc: Global, parts: &mut [Places], worker: Worker) -> Result<Vec<Places>, NoMemory>
     requires { 0 < worker.count }
     ensures count { IfOk result (λ h. length h.items ≡ length parts.old) }
     ensures taken { IfOk result (λ h. IsHand worker.count worker.number parts.old h.items) }
     ensures others { OnOk result (KeepsOthers worker.count worker.number parts.old parts.new) }
 {
-    let mut hand = empty_parts(alloc, parts.len())?;
+    let mut hand = empty_parts(alloc, parts.len(), HashSeed::fixed())?;
     swap_parts(parts, hand.as_mut_slice(), worker);
     Ok(hand)
 }

@@ -4,9 +4,11 @@
 #![tactic(auto)]
 
 mod access;
+mod alone;
 mod chain;
 mod deal;
 mod declared_set;
+mod hash_seed;
 pub mod laws;
 mod partition;
 mod placeholder;
@@ -16,11 +18,11 @@ mod planning;
 mod row;
 mod shards;
 mod share;
-#[cfg(test)]
-mod tests;
 
 pub use access::{Access, Source};
+pub use alone::plan_alone;
 pub use declared_set::DeclaredSet;
+pub use hash_seed::HashSeed;
 pub use partition::Partition;
 pub use places::Places;
 pub use planned::Plan;

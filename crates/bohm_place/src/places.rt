@@ -6,6 +6,7 @@ ghost use Rattle.bohm_txn.specs.Declares.{IsAmong};
 ghost use Rattle.bohm_place.specs.Chains.{items_at, begins, kept_items, last_or, none};
 
 use crate::chain::Chain;
+use crate::hash_seed::HashSeed;
 use crate::placeholder::Placeholder;
 use bohm_txn::{Key, NoMemory};
 use std::alloc::Global;
@@ -14,7 +15,7 @@ use std::marker::Model;
 
 // Adds a placeholder to the chain of its key, and answers the one that was the newest.
 fn append(
-    chains: &mut HashMap<Key, Chain>,
+    chains: &mut HashMap<Key, Chain, HashSeed>,
     long: &mut Vec<Key>,
     alloc: Global,
     key: Key,
@@ -35,7 +36,7 @@ fn append(
 }
 
 // Shortens the chain of a key, and answers whether it has more than one begin then.
-fn shorten(chains: &mut HashMap<Key, Chain>, key: &Key, floor: u32) -> bool
+fn shorten(chains: &mut HashMap<Key, Chain, HashSeed>, key: &Key, floor: u32) -> bool
     ensures chains { (k : List ℕ) → items_at chains.new k ≡ (if bytes_eq key.now k then kept_items floor (items_at chains.old k) else items_at chains.old k) }
     ensures short { result ≡ false → (k : List ℕ) → bytes_eq key.now k ≡ true → length (items_at chains.new k) < 2 }
 {
@@ -46,7 +47,7 @@ fn shorten(chains: &mut HashMap<Key, Chain>, key: &Key, floor: u32) -> bool
 }
 
 // Shortens the listed chains, and keeps those listed that still have more than one begin.
-fn shorten_all(chains: &mut HashMap<Key, Chain>, long: &mut Vec<Key>, floor: u32)
+fn shorten_all(chains: &mut HashMap<Key, Chain, HashSeed>, long: &mut Vec<Key>, floor: u32)
     requires { (k : List ℕ) → 1 < length (items_at chains.old k) → IsAmong long.old.items k }
     ensures chains { (k : List ℕ) → items_at chains.new k ≡ kept_items floor (items_at chains.old k) }
     ensures listed { (k : List ℕ) → 1 < length (items_at chains.new k) → IsAmong long.new.items k }
@@ -65,7 +66,7 @@ fn shorten_all(chains: &mut HashMap<Key, Chain>, long: &mut Vec<Key>, floor: u32
 /// The chains of one part of the keys: for each key the begins of its versions, strictly rising.
 #[derive(Drop)]
 pub struct Places {
-    chains: HashMap<Key, Chain>,
+    chains: HashMap<Key, Chain, HashSeed>,
     // All keys whose chain has more than one begin are among these.
     long: Vec<Key>,
 }
@@ -83,12 +84,19 @@ impl Model for Places {
 impl Places {
     ghost use Rattle.bohm_place.specs.Chains.{placeholders, chain, greatest_below, kept, RisesFrom};
 
-    /// No chains: each key has the empty one.
+    /// No chains: each key has the empty one. Keys are hashed from the fixed seed.
     pub fn new(alloc: Global) -> Places
         ensures { (k : List ℕ) → placeholders result k ≡ [] }
     {
+        Places::with_seed(alloc, HashSeed::fixed())
+    }
+
+    /// The same, with keys hashed from this seed.
+    pub(crate) fn with_seed(alloc: Global, seed: HashSeed) -> Places
+        ensures { (k : List ℕ) → placeholders result k ≡ [] }
+    {
         Places {
-            chains: HashMap::new(alloc),
+            chains: HashMap::with_hasher(alloc, seed),
             long: Vec::new(alloc),
         }
     }

@@ -20,14 +20,14 @@ use std::thread;
 use std::thread::Threads;
 
 // A law of the partition, for callers that share it among threads.
-fn each_key_has_a_part<P: Partition>(partition: &P)
+pub(crate) fn each_key_has_a_part<P: Partition>(partition: &P)
     ensures { AreParts (P.part_of partition.now) (P.count partition.now) }
 {
     let _ = partition;
 }
 
 // The number of accesses in these rows.
-fn accesses(rows: &[Row]) -> usize {
+pub(crate) fn accesses(rows: &[Row]) -> usize {
     match rows.last() {
         Some(row) => row
             .start

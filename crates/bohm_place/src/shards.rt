@@ -3,19 +3,20 @@
 ghost use Rattle.std.specs.Prelude.{◌≡◌, ℕ, List, [], ◌<◌, length, slice_get, Some, All, IfOk};
 ghost use Rattle.bohm_place.specs.Chains.{AreEmpty, AreKept};
 
+use crate::hash_seed::HashSeed;
 use crate::places::Places;
 use bohm_txn::NoMemory;
 use std::alloc::Global;
 use std::marker::Model;
 
 /// This many parts without chains. They take memory for themselves alone.
-pub fn empty_parts(alloc: Global, count: usize) -> Result<Vec<Places>, NoMemory>
+pub fn empty_parts(alloc: Global, count: usize, seed: HashSeed) -> Result<Vec<Places>, NoMemory>
     ensures count { IfOk result (λ v. length v.items ≡ count) }
     ensures empty { IfOk result (λ v. AreEmpty v.items) }
 {
     let mut parts = Vec::with_capacity(alloc, count)?;
     for _ in 0..count {
-        parts.push(Places::new(alloc))?;
+        parts.push(Places::with_seed(alloc, seed))?;
     }
     Ok(parts)
 }
@@ -46,12 +47,20 @@ impl Model for Shards {
 impl Shards {
     ghost use Rattle.bohm_place.specs.Chains.{chain_in, kept};
 
-    /// No chains, in this many parts.
+    /// No chains, in this many parts. Keys are hashed from the fixed seed.
     pub fn new(alloc: Global, parts: u32) -> Result<Shards, NoMemory>
         ensures parts { IfOk result (λ s. length s ≡ parts) }
         ensures empty { IfOk result (λ s. (part : List ℕ → ℕ) (k : List ℕ) → chain_in part s k ≡ []) }
     {
-        let parts = empty_parts(alloc, parts as usize)?;
+        Shards::with_seed(alloc, parts, HashSeed::fixed())
+    }
+
+    /// The same, with keys hashed from this seed.
+    pub fn with_seed(alloc: Global, parts: u32, seed: HashSeed) -> Result<Shards, NoMemory>
+        ensures parts { IfOk result (λ s. length s ≡ parts) }
+        ensures empty { IfOk result (λ s. (part : List ℕ → ℕ) (k : List ℕ) → chain_in part s k ≡ []) }
+    {
+        let parts = empty_parts(alloc, parts as usize, seed)?;
         Ok(Shards { parts })
     }
 

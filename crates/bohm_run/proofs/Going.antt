@@ -5,7 +5,7 @@ use Rattle.bohm_tree.specs.declared.txn.Txn.{Txn}
 use Rattle.bohm_txn.specs.declared.outcome.Reply.{Reply}
 use Rattle.bohm_txn.specs.Meaning.{Look}
 use Rattle.bohm_txn.specs.Serial.{state, replies}
-use Rattle.bohm_txn.proofs.States.{state-append, state-front, replies-append}
+use Rattle.bohm_txn.proofs.ForCallers.{state-append, state-front, replies-append}
 use Rattle.bohm_tree.specs.declared.cell.Cell.TheVariants.{Absent}
 use Rattle.bohm_store.specs.Versions.{Timeline, past, cell_at}
 use Rattle.bohm_store.specs.Nexts.{IsSame, IsSettled}

@@ -1,9 +1,8 @@
-pub mod Sending
-pub mod Refusals
-pub mod Moves
-pub mod Sizes
-pub mod Going
-pub mod Walks
-pub mod Replying
-pub mod Swept
-pub mod TestPlans
+mod Sending
+mod Refusals
+mod Going
+mod Walks
+mod Replying
+mod Swept
+mod OneSweep
+pub mod ForCallers

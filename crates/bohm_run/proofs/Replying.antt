@@ -11,9 +11,7 @@ use Rattle.bohm_txn.specs.Declares.{shows_in}
 use Rattle.bohm_txn.specs.Meaning.{Look, Ended, body}
 use Rattle.bohm_txn.specs.Serial.{after, replies, reply_of, shows_of, state}
 use Rattle.bohm_txn.specs.Stores.{cell_of}
-use Rattle.bohm_txn.proofs.Bodies.{shows_counted}
-use Rattle.bohm_txn.proofs.Lists.{drop_at}
-use Rattle.bohm_txn.proofs.States.{next}
+use Rattle.bohm_txn.proofs.ForCallers.{shows_counted, drop_at, next}
 use Rattle.bohm_exec.specs.Moments.{shown}
 
 -- ---- the shows of one transaction

@@ -12,10 +12,10 @@ use Rattle.bohm_board.specs.Batches.{IsIn, first_of, txns_of, position}
 use Rattle.bohm_board.specs.Closings.{batch_of_closed, IsFinished, IsUnfinished}
 use Rattle.bohm_board.specs.Passes.{IsDone, Keeps}
 use Rattle.bohm_board.specs.Views.{joined}
-use Rattle.bohm_board.proofs.Keeping.{still_done, keeps_joined, joined_done}
+use Rattle.bohm_board.proofs.ForCallers.{still_done, keeps_joined, joined_done}
 use Rattle.bohm_exec.specs.Asides.{Pairs, IsAccountedFor, IsPickedFrom, IsSetAside, positions_in}
 use Rattle.bohm_exec.specs.Shares.{share}
-use Rattle.bohm_exec.proofs.Coverage.{share_covers, share_inside, picked_contains}
+use Rattle.bohm_exec.proofs.ForCallers.{share_covers, share_inside, picked_contains}
 use Rattle.bohm_run.specs.declared.workers.job.Worker.{Worker}
 use Rattle.bohm_run.specs.Sweeps.{IsShareSwept, AreAllSwept}
 

@@ -10,14 +10,13 @@ use Rattle.bohm_tree.specs.declared.txn.Txn.{Txn}
 use Rattle.bohm_txn.specs.declared.outcome.Reply.{Reply}
 use Rattle.bohm_txn.specs.Serial.{replies, state}
 use Rattle.bohm_txn.specs.Stores.{Store, cell_in, store_of, store_after}
-use Rattle.bohm_txn.proofs.States.{length-replies, state-front}
-use Rattle.bohm_txn.proofs.Stores.{cell_in-after, same_store}
+use Rattle.bohm_txn.proofs.ForCallers.{length-replies, state-front, cell_in-after, same_store}
 use Rattle.bohm_store.specs.Versions.{Timeline, past}
-use Rattle.bohm_run.specs.Cuttings.{Cutting, ahead, txns_at}
+use Rattle.bohm_line.specs.Cuttings.{Cutting, ahead, txns_at}
 use Rattle.bohm_txn.specs.Meaning.{Look}
 use Rattle.bohm_run.specs.Runs.{IsApplied, IsWalked, IsHistoryOf, floor_after}
 use Rattle.bohm_run.proofs.Going.{went_on, at_rest}
-use Rattle.bohm_run.proofs.Sizes.{ahead_next}
+use Rattle.bohm_line.proofs.ForCallers.{ahead_next}
 
 -- the transactions ahead of a batch and then its own are those ahead of the next one
 front_more : (c : Cutting) (i start : ℕ) (txns : List Txn) → i < length c.sizes → start ≡ ahead c.sizes i → txns ≡ txns_at c i → ahead c.sizes (i + 1) ≡ start + length txns → take (start + length txns) c.log ≡ take start c.log ++ txns

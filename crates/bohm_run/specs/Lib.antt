@@ -3,10 +3,7 @@ pub mod Refusing
 pub mod FaultLine
 pub mod Bytes
 pub mod Headline
-pub mod Cuttings
-pub mod Lines
 pub mod Runs
-pub mod CutLogs
 pub mod Progresses
 pub mod Replies
 pub mod Sweeps

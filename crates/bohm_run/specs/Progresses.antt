@@ -6,7 +6,7 @@ use Rattle.bohm_txn.specs.Serial.{replies}
 use Rattle.bohm_store.specs.Versions.{Timeline, past}
 use Rattle.bohm_store.specs.Nexts.{IsSame}
 use Rattle.bohm_run.specs.declared.executing.Progress.{Progress}
-use Rattle.bohm_run.specs.Cuttings.{Cutting}
+use Rattle.bohm_line.specs.Cuttings.{Cutting}
 use Rattle.bohm_run.specs.Runs.{IsApplied, IsWalked}
 
 -- the history went on by these transactions, and their replies stand behind the others

@@ -5,7 +5,7 @@ use Rattle.bohm_txn.specs.declared.outcome.Reply.{Reply}
 use Rattle.bohm_txn.specs.Meaning.{Look}
 use Rattle.bohm_txn.specs.Serial.{state, replies}
 use Rattle.bohm_store.specs.Versions.{Timeline, past}
-use Rattle.bohm_run.specs.Cuttings.{Cutting, ahead}
+use Rattle.bohm_line.specs.Cuttings.{Cutting, ahead}
 
 -- the floor behind so many transactions: that many timestamps below the top stay readable, and the floor never goes down
 abbrev pub floor_after : Timeline → ℕ → ℕ → ℕ

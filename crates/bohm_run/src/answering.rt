@@ -11,18 +11,18 @@ ghost use Rattle.bohm_run.specs.Headline.{answer_of, time_of, Answers, Refuses, 
 ghost use Rattle.bohm_store.specs.Versions.{past};
 ghost use Rattle.bohm_run.specs.Times.{IsUnreadable};
 
-use crate::byte_sum::ByteSum;
 use crate::bytes::{read_all, write_all};
-use crate::cuts::Cuts;
 use crate::fault::RunFault;
 use crate::running::{Answer, run};
 use crate::settings::Settings;
 use bohm_exec::OpenGate;
+use bohm_line::{ByteSum, Cuts};
 use bohm_store::History;
 use bohm_text::{parse, print_replies, print_store};
 use bohm_txn::{Checked, Items, Key, NoMemory, Reply, Value, check};
 use std::alloc::Global;
 use std::io::{Read, Write};
+use std::random::RandomSource;
 use std::sync::Wait;
 use std::thread::Threads;
 
@@ -69,7 +69,7 @@ fn store_then(alloc: Global, history: &History, ts: u32) -> Result<Vec<(Key, Val
 }
 
 /// The replies of a log, and the entries of the store of a timestamp. The log is let go.
-fn executed<T: Threads + Wait + Sync>(
+fn executed<T: Threads + Wait + Sync + RandomSource>(
     rt: &T,
     alloc: Global,
     checked: Checked,
@@ -101,7 +101,7 @@ fn executed<T: Threads + Wait + Sync>(
 }
 
 /// The text of the answer, with the store of a timestamp.
-fn answer<T: Threads + Wait + Sync>(
+fn answer<T: Threads + Wait + Sync + RandomSource>(
     rt: &T,
     alloc: Global,
     checked: Checked,
@@ -126,7 +126,7 @@ fn answer<T: Threads + Wait + Sync>(
 ///
 /// The time grows with the text, with what the run takes (`run`) and with the number of the store's keys
 /// k as k log k. The memory grows with the text.
-pub fn run_text<T: Threads + Wait + Sync, R: Read, W: Write>(
+pub fn run_text<T: Threads + Wait + Sync + RandomSource, R: Read, W: Write>(
     rt: &T,
     alloc: Global,
     reader: &mut R,

@@ -5,19 +5,17 @@ ghost use Rattle.std.specs.List.{sum};
 ghost use denote.Param.Send.{IsSend, IsSync};
 ghost use Rattle.bohm_txn.specs.Faulty.{IsWellFormedTxn};
 ghost use Rattle.bohm_place.specs.Chains.{chain_in};
-ghost use Rattle.bohm_run.specs.CutLogs.{cutting_of};
+ghost use Rattle.bohm_line.specs.CutLogs.{cutting_of};
+ghost use Rattle.bohm_line.specs.Planning.{CanPlan};
 ghost use Rattle.bohm_run.specs.Progresses.{IsWalkOf};
 ghost use Rattle.bohm_run.specs.Runs.{cutting_behind, IsApplied, IsEndOfBatch};
-ghost use Rattle.bohm_run.specs.Sides.{CanExecute, CanPlan};
+ghost use Rattle.bohm_run.specs.Sides.{CanExecute};
 
-use crate::cut_log::CutLog;
-use crate::cuts::Cuts;
 use crate::executing::{Executor, Progress};
-use crate::line::{Line, PlanReceiver, PlanSender, plan_line};
-use crate::planning_side::plan_ahead;
 use crate::workers::Crew;
-use bohm_exec::Gate;
-use bohm_place::{Partition, Shards};
+use bohm_exec::{Gate, Point};
+use bohm_line::{CutLog, Cuts, Line, PlanReceiver, PlanSender, plan_ahead, plan_line};
+use bohm_place::{HashSeed, Partition, Shards};
 use bohm_store::History;
 use bohm_txn::{Items, NoMemory, Reply, Txn};
 use std::alloc::Global;
@@ -49,16 +47,18 @@ fn set_up<L: Line, P: Partition>(
     executors: u32,
     keep: u32,
     partition: &P,
+    seed: HashSeed,
 ) -> Result<Sides<L>, NoMemory>
     requires executors { 0 < executors }
     ensures keep { IfOk result (λ s. s.executor.keep ≡ keep) }
     ensures parts { IfOk result (λ s. length s.shards ≡ P.count partition.now) }
-    ensures empty { IfOk result (λ s. (k : List ℕ) → chain_in (P.part_of partition.now) s.shards k ≡ []) }
+    ensures empty { IfOk result (λ s.
+        (k : List ℕ) → chain_in (P.part_of partition.now) s.shards k ≡ []) }
     ensures unsent { IfOk result (λ s. s.sender ≡ []) }
     ensures untaken { IfOk result (λ s. s.receiver ≡ []) }
 {
     let crew = Crew::new(alloc, executors)?;
-    let shards = Shards::new(alloc, partition.parts())?;
+    let shards = Shards::with_seed(alloc, partition.parts(), seed)?;
     let (sender, receiver) = plan_line::<L>(alloc)?;
     Ok(Sides {
         executor: Executor { crew, keep },
@@ -79,7 +79,8 @@ fn walk<L: Line + Send + Sync, P: Partition, G: Gate, R: Threads + Wait + Sync>(
     partition: &P,
     gate: &G,
 ) -> (Progress, Result<(), NoMemory>)
-    requires plans { CanPlan L.cutting (cutting_of log) sides.sender (P.part_of partition.now) (P.count partition.now) sides.shards planners }
+    requires plans { let part = P.part_of partition.now in let count = P.count partition.now in
+        CanPlan L.cutting (cutting_of log) sides.sender part count sides.shards planners }
     requires executes { CanExecute L.cutting (cutting_of log) sides.receiver progress }
     ensures { IsWalkOf progress.history (cutting_of log.entry) sides.executor.keep result }
 {
@@ -94,16 +95,21 @@ fn walk<L: Line + Send + Sync, P: Partition, G: Gate, R: Threads + Wait + Sync>(
         rt,
         move |scope| -> (Progress, Result<(), NoMemory>)
             requires { IsSync R.row × IsSync P.row × IsSync G.row × IsSend L.row
-                × CanPlan L.cutting (cutting_of log) sender (P.part_of partition.now) (P.count partition.now) shards planners
+                × CanPlan L.cutting (cutting_of log) sender
+                (P.part_of partition.now) (P.count partition.now) shards planners
                 × CanExecute L.cutting (cutting_of log) receiver progress }
             ensures { IsWalkOf progress.history (cutting_of log.entry) executor.keep result }
         {
             let planning = scope.spawn(
                 move ||
                     requires { IsSync R.row × IsSync P.row × IsSync G.row × IsSend L.row
-                        × CanPlan L.cutting (cutting_of log) sender (P.part_of partition.now) (P.count partition.now) shards planners }
+                        × CanPlan L.cutting (cutting_of log) sender
+                        (P.part_of partition.now) (P.count partition.now) shards planners }
                 {
-                    plan_ahead(rt, alloc, sender, shards, log, planners, partition, gate);
+                    let planned = |batch: u32| gate.at(Point::Planned(batch));
+                    plan_ahead(
+                        rt, alloc, sender, shards, log, planners, partition, &planned,
+                    );
                 },
             );
             if planning.is_err() {
@@ -137,11 +143,14 @@ fn apply_on<L: Line + Send + Sync, P: Partition, G: Gate, R: Threads + Wait + Sy
     ensures { IsWalkOf history (cutting_behind history txns.entry.now cuts.entry.now) keep result }
 {
     let log = CutLog::new(history.top() + 1, txns, cuts);
-    let progress = Progress {
-        history,
-        replies: Vec::new(alloc),
-    };
-    match set_up(alloc, executors, keep, partition) {
+    let seed = history.seed();
+    let mut replies = Vec::new(alloc);
+    let reserved = replies.reserve(txns.len());
+    let progress = Progress { history, replies };
+    if reserved.is_err() {
+        return (progress, Err(NoMemory));
+    }
+    match set_up(alloc, executors, keep, partition, seed) {
         Ok(sides) => walk::<L, P, G, R>(rt, alloc, sides, progress, log, planners, partition, gate),
         Err(refusal) => (progress, Err(refusal)),
     }
@@ -153,10 +162,17 @@ fn apply_on<L: Line + Send + Sync, P: Partition, G: Gate, R: Threads + Wait + Sy
 /// A planning side in a thread of its own plans batch after batch, with `cc` workers, and is up to three
 /// batches ahead; of each batch that it has planned `exec` workers sweep their shares at the same time.
 /// After a batch that ends at e the floor becomes `e - keep`, or stays where it is above that. Both
-/// numbers of workers may be larger than there is work for: no worker starts that has none.
+/// numbers of workers may be larger than there is work for: no worker starts that has none. Planning
+/// hashes keys from the history's seed.
 ///
 /// Where it is refused memory or the planning side's thread, the history stands at the end of a batch,
 /// and the replies up to there are answered: nothing is lost, and the rest can be applied again.
+///
+/// The time grows with the terms of the transactions, these spread over the executing workers where
+/// bodies don't wait for one another. On the executing side's one thread it grows besides with the number
+/// n of keys that a batch declares as n log n, and with a start of threads for each batch where there are
+/// several workers. The memory grows with the number of keys that the transactions declare and with the
+/// values that they show.
 pub fn apply<P: Partition, G: Gate, R: Threads + Wait + Sync>(
     rt: &R,
     alloc: Global,
@@ -174,7 +190,8 @@ pub fn apply<P: Partition, G: Gate, R: Threads + Wait + Sync>(
     requires total { sum cuts.now ≡ length txns.now }
     requires timestamps { history.old.top + length txns.now < 2 ^ 32 }
     requires formed { All IsWellFormedTxn txns.now }
-    ensures applied { IsApplied history.old history.new (take (length result.replies) txns.now) keep result.replies }
+    ensures applied { let settled = take (length result.replies) txns.now in
+        IsApplied history.old history.new settled keep result.replies }
     ensures batches { IsEndOfBatch cuts.now (length result.replies) }
     ensures whole { is_ok result.end ≡ true → length result.replies ≡ length txns.now }
 {

@@ -3,15 +3,14 @@
 ghost use Rattle.std.specs.Prelude.{◌≡◌, ◌+◌, ◌<◌, ◌≤◌, ◌^◌, [], All, length, is_ok, IsSome, OnOk, OnErr};
 ghost use Rattle.bohm_txn.specs.Faulty.{IsWellFormedTxn};
 ghost use Rattle.bohm_place.specs.Plans.{IsRightPlan};
-ghost use Rattle.bohm_run.specs.CutLogs.{cutting_of};
+ghost use Rattle.bohm_line.specs.CutLogs.{cutting_of};
 ghost use Rattle.bohm_run.specs.Progresses.{GoesOn, IsWalkOf, StaysPut};
 ghost use Rattle.bohm_run.specs.Sides.{CanExecute};
 
-use crate::cut_log::CutLog;
-use crate::line::{Line, PlanReceiver};
 use crate::replies::settle_batch;
 use crate::workers::{Crew, finish_batch};
 use bohm_exec::Gate;
+use bohm_line::{CutLog, Line, PlanReceiver};
 use bohm_place::Plan;
 use bohm_store::History;
 use bohm_txn::{NoMemory, Reply, Txn};

@@ -1,71 +1,59 @@
 //! The line of a fault.
 
-ghost use Rattle.std.specs.Prelude.{◌≡◌, ◌++◌, IfOk};
-ghost use Rattle.std.specs.Fmt.{decimal};
-ghost use Rattle.bohm_run.specs.FaultLine.{fault_line, kind_word, spaced_decimal, check_words};
+ghost use Rattle.std.specs.Prelude.{◌≡◌, IfOk, OnOk};
+ghost use Rattle.std.specs.Io.KnownBytes.{Appends};
+ghost use Rattle.bohm_run.specs.FaultLine.{fault_line, kind_word};
 
 use crate::fault::RunFault;
 use bohm_text::TextFault;
-use bohm_txn::{CheckFault, CheckKind, NoMemory};
+use bohm_txn::{CheckKind, NoMemory};
 use std::alloc::Global;
+use std::io::{self, Write};
 
-fn word_of(kind: CheckKind) -> &'static [u8]
+fn word_of(kind: CheckKind) -> &'static str
     ensures { result.now ≡ kind_word kind }
 {
     match kind {
-        CheckKind::Order => b"order",
-        CheckKind::Unread => b"unread",
-        CheckKind::Unwritten => b"unwritten",
-        CheckKind::Local => b"local",
-        CheckKind::Limit => b"limit",
+        CheckKind::Order => "order",
+        CheckKind::Unread => "unread",
+        CheckKind::Unwritten => "unwritten",
+        CheckKind::Local => "local",
+        CheckKind::Limit => "limit",
     }
 }
 
-/// A space and a number.
-fn put_number(alloc: Global, line: &mut Vec<u8>, number: u64) -> Result<(), NoMemory>
-    ensures { IfOk result (λ _. line.new.items ≡ line.old.items ++ spaced_decimal number) }
+/// Writes the line that says why a run was refused, with its newline byte. It takes no memory of its
+/// own, so there is a line also where there is none left.
+pub fn write_fault<W: Write>(writer: &mut W, fault: &RunFault) -> io::Result<()>
+    ensures { OnOk result (Appends (W.contents writer.old) (W.contents writer.new) (fault_line fault.now)) }
 {
-    line.push(b' ')?;
-    line.extend_from_slice(number.to_string(alloc)?.as_bytes())?;
-    Ok(())
-}
-
-/// A line of these words and a number.
-fn numbered(alloc: Global, words: &[u8], number: u64) -> Result<Vec<u8>, NoMemory>
-    ensures { IfOk result (λ line. line.items ≡ words.now ++ spaced_decimal number) }
-{
-    let mut line = Vec::from_slice(alloc, words)?;
-    put_number(alloc, &mut line, number)?;
-    Ok(line)
-}
-
-fn check_line(alloc: Global, fault: &CheckFault) -> Result<Vec<u8>, NoMemory>
-    ensures { IfOk result (λ line. line.items ≡ check_words fault.now) }
-{
-    let mut line = Vec::from_slice(alloc, b"refused: check ")?;
-    line.extend_from_slice(word_of(fault.kind))?;
-    put_number(alloc, &mut line, u64::from(fault.txn))?;
-    put_number(alloc, &mut line, u64::from(fault.stmt))?;
-    Ok(line)
+    match fault {
+        RunFault::Read => writeln!(writer, "refused: read"),
+        RunFault::TooLong => writeln!(writer, "refused: too long"),
+        RunFault::Text(TextFault::Line(number)) => writeln!(writer, "refused: line {number}"),
+        RunFault::Text(TextFault::Short) => writeln!(writer, "refused: short"),
+        RunFault::Check(fault) => {
+            let word = word_of(fault.kind);
+            let txn = fault.txn;
+            let stmt = fault.stmt;
+            writeln!(writer, "refused: check {word} {txn} {stmt}")
+        }
+        RunFault::Trimmed => writeln!(writer, "refused: trimmed"),
+        RunFault::Future => writeln!(writer, "refused: future"),
+        RunFault::NoMemory | RunFault::Text(TextFault::NoMemory) => {
+            writeln!(writer, "refused: memory")
+        }
+        RunFault::Write { sent } => writeln!(writer, "refused: write {sent}"),
+    }
 }
 
 /// The line that says why a run was refused, with its newline byte.
 pub fn print_fault(alloc: Global, fault: &RunFault) -> Result<Vec<u8>, NoMemory>
     ensures { IfOk result (λ line. line.items ≡ fault_line fault.now) }
 {
-    let mut line = match fault {
-        RunFault::Read => Vec::from_slice(alloc, b"refused: read")?,
-        RunFault::TooLong => Vec::from_slice(alloc, b"refused: too long")?,
-        RunFault::Text(TextFault::Line(number)) => numbered(alloc, b"refused: line", *number)?,
-        RunFault::Text(TextFault::Short) => Vec::from_slice(alloc, b"refused: short")?,
-        RunFault::Check(fault) => check_line(alloc, fault)?,
-        RunFault::Trimmed => Vec::from_slice(alloc, b"refused: trimmed")?,
-        RunFault::Future => Vec::from_slice(alloc, b"refused: future")?,
-        RunFault::NoMemory | RunFault::Text(TextFault::NoMemory) => {
-            Vec::from_slice(alloc, b"refused: memory")?
-        }
-        RunFault::Write { sent } => numbered(alloc, b"refused: write", *sent)?,
-    };
-    line.push(b'\n')?;
-    Ok(line)
+    let mut line = Vec::new(alloc);
+    match write_fault(&mut line, fault) {
+        Ok(()) => Ok(line),
+        Err(_) => Err(NoMemory),
+    }
 }

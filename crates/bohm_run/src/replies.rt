@@ -50,7 +50,6 @@ fn push_some(
     ensures ok { OnOk result (replies.new.items ≡ replies.old.items ++ replies_of finished.now) }
     ensures err { OnErr result ((more : List Reply) × (replies.new.items ≡ replies.old.items ++ more)) }
 {
-    replies.reserve(finished.len() as usize)?;
     let first = finished.first();
     for place in 0..finished.len() {
         let reply = reply(alloc, finished, first + place)?;
@@ -61,7 +60,7 @@ fn push_some(
 
 /// Appends the reply of each transaction of a finished batch, in log order. A refusal leaves the list
 /// as it was. The time grows with the number of the batch's statements.
-pub fn push_replies(
+fn push_replies(
     alloc: Global,
     replies: &mut Vec<Reply>,
     finished: &Finished<'_>,
@@ -79,15 +78,17 @@ pub fn push_replies(
 
 /// Appends the replies of the finished batch, which is the next one of the history, and settles it
 /// there. A refusal changes nothing that is seen.
-pub fn settle_batch(
+pub(crate) fn settle_batch(
     alloc: Global,
     history: &mut History,
     replies: &mut Vec<Reply>,
     finished: &Finished<'_>,
 ) -> Result<(), NoMemory>
     requires { IsNext history.old (batch_of_finished finished.now) }
-    ensures settled { OnOk result (IsSettled history.old history.new (txns_of (batch_of_finished finished.now))) }
-    ensures replies { OnOk result (replies.new.items ≡ replies.old.items ++ replies_behind history.old finished.now) }
+    ensures settled { let txns = txns_of (batch_of_finished finished.now) in
+        OnOk result (IsSettled history.old history.new txns) }
+    ensures replies { let told = replies_behind history.old finished.now in
+        OnOk result (replies.new.items ≡ replies.old.items ++ told) }
     ensures same { OnErr result (IsSame history.old history.new) }
     ensures kept { OnErr result (replies.new.items ≡ replies.old.items) }
 {

@@ -7,12 +7,13 @@ ghost use Rattle.bohm_txn.specs.Stores.{cell_in, store_of};
 ghost use Rattle.bohm_run.specs.Runs.{IsHistoryOf};
 
 use crate::applying::{Applied, apply};
-use crate::cuts::Cuts;
 use bohm_exec::Gate;
-use bohm_place::Partition;
+use bohm_line::Cuts;
+use bohm_place::{HashSeed, Partition};
 use bohm_store::History;
 use bohm_txn::{Checked, Items, NoMemory, Reply};
 use std::alloc::Global;
+use std::random::RandomSource;
 use std::sync::Wait;
 use std::thread::Threads;
 
@@ -31,11 +32,11 @@ pub struct Answer {
 /// The workers are those of `apply`; `keep` is how many timestamps below the last batch's end stay
 /// readable. `NoMemory` where a growth or the planning side's thread was refused.
 ///
-/// The time grows with the keys of the starting store and with the terms of the log, these spread over
-/// the executing workers where bodies don't wait for one another. On the executing side's one thread it
-/// grows besides with the number n of keys that a batch declares as n log n, and with a start of threads
-/// for each batch where there are several workers.
-pub fn run<P: Partition, G: Gate, R: Threads + Wait + Sync>(
+/// Keys are hashed from a seed that is drawn for this run, so nobody who writes a log can choose keys
+/// that collide. A caller without a source of randomness opens a history and calls `apply`.
+///
+/// The time grows with the keys of the starting store and with what `apply` takes.
+pub fn run<P: Partition, G: Gate, R: Threads + Wait + Sync + RandomSource>(
     rt: &R,
     alloc: Global,
     checked: &Checked,
@@ -49,10 +50,12 @@ pub fn run<P: Partition, G: Gate, R: Threads + Wait + Sync>(
     requires planners { 0 < cc }
     requires executors { 0 < exec }
     requires total { sum cuts.now ≡ length checked.now.log }
-    ensures replies { IfOk result (λ a. a.replies ≡ replies (cell_in (store_of checked.now.store)) checked.now.log) }
-    ensures history { IfOk result (λ a. IsHistoryOf (cell_in (store_of checked.now.store)) checked.now.log keep a.history) }
+    ensures replies { let start = cell_in (store_of checked.now.store) in
+        IfOk result (λ a. a.replies ≡ replies start checked.now.log) }
+    ensures history { let start = cell_in (store_of checked.now.store) in
+        IfOk result (λ a. IsHistoryOf start checked.now.log keep a.history) }
 {
-    let mut history = History::open(alloc, checked.store())?;
+    let mut history = History::open_with_seed(alloc, checked.store(), HashSeed::drawn(rt))?;
     let log = checked.log();
     let Applied { replies, end } = apply(
         rt,

@@ -13,7 +13,7 @@ pub const MOST_WORKERS: u32 = 16;
 pub const MOST_PARTS: u32 = 64;
 
 /// The most transactions of a batch.
-pub const LARGEST_BATCH: u32 = 4096;
+pub const LARGEST_BATCH: u32 = bohm_line::LARGEST_BATCH;
 
 /// The most timestamps below the last batch's end that stay readable.
 pub const MOST_KEPT: u32 = 4096;

@@ -13,7 +13,8 @@ use bohm_board::{Batch, Board, Pass};
 use bohm_exec::{Aside, Finished, Gate, complete};
 use bohm_txn::NoMemory;
 pub use crew::Crew;
-use job::{Job, Swept, Worker, work};
+use job::{Job, Swept, work};
+pub(crate) use job::{Worker, sweep_share};
 use std::alloc::Global;
 use std::thread;
 use std::thread::Threads;
@@ -33,7 +34,8 @@ fn deal(
     ensures free { IfOk result (λ r. HoldsNothing (view r.0)) }
     ensures count { IfOk result (λ r. length r.1.items ≡ workers) }
     ensures ready { IfOk result (λ r. All (IsReady board.now) r.1.items) }
-    ensures workers { IfOk result (λ r. (w : ℕ) (d : _) → w < workers → (slice_index_or r.1.items w d).worker ≡ record { number = w; count = workers }) }
+    ensures workers { IfOk result (λ r. (w : ℕ) (d : _) → w < workers
+        → (slice_index_or r.1.items w d).worker ≡ record { number = w; count = workers }) }
     ensures crew { workers_of crew.new ≡ workers_of crew.old }
 {
     let mut jobs = Vec::with_capacity(alloc, workers as usize)?;
@@ -62,7 +64,8 @@ fn sweep_all<G: Gate, R: Threads + Sync>(
 ) -> Result<Vec<Swept>, NoMemory>
     requires { All (IsReady board.now) jobs.items }
     ensures count { IfOk result (λ all. length all.items ≡ length jobs.items) }
-    ensures each { IfOk result (λ all. (w : ℕ) (d : _) (e : _) → w < length jobs.items → IsSwept board.now (slice_index_or jobs.items w d).worker (slice_index_or all.items w e)) }
+    ensures each { IfOk result (λ all. (w : ℕ) (d : _) (e : _) → w < length jobs.items
+        → IsSwept board.now (slice_index_or jobs.items w d).worker (slice_index_or all.items w e)) }
 {
     let swept = thread::map_vec(
         rt,
@@ -86,7 +89,8 @@ fn gather(
     requires own { IsPassOf board.now pass }
     requires free { HoldsNothing (view pass) }
     requires some { 0 < length swept.items }
-    requires each { (w : ℕ) (d : _) → w < length swept.items → IsSwept board.now (record { number = w; count = length swept.items }) (slice_index_or swept.items w d) }
+    requires each { let count = length swept.items in (w : ℕ) (d : _) → w < count
+        → IsSwept board.now (record { number = w; count = count }) (slice_index_or swept.items w d) }
     ensures own { IfOk result (λ r. IsPassOf board.now r.0) }
     ensures free { IfOk result (λ r. HoldsNothing (view r.0)) }
     ensures all { IfOk result (λ r. AreAllSwept (batch_of board.now) (view r.0) r.1.items) }
@@ -105,8 +109,8 @@ fn gather(
 /// Each sweeps its share of the positions in a thread of its own, and then once more what it set aside;
 /// a single one takes no thread. What is left then is evaluated in log order.
 ///
-/// A worker that is refused memory ends, and the others end their shares. A refusal gives the batch up;
-/// the crew serves the next one all the same.
+/// A worker that is refused memory ends, and the others end their shares. A refusal gives the batch up,
+/// with the scratches of workers that weren't gathered yet.
 pub fn finish_batch<'a, G: Gate, R: Threads + Sync>(
     rt: &R,
     alloc: Global,

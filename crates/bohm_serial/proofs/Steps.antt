@@ -12,10 +12,7 @@ use Rattle.bohm_txn.specs.Faulty.{IsWellFormedTxn, is_among}
 use Rattle.bohm_txn.specs.Meaning.{Look, Ended, body, newest}
 use Rattle.bohm_txn.specs.Serial.{writes_of, shows_of, outcome_of, reply_of, after, replies}
 use Rattle.bohm_txn.specs.Stores.{Store, cell_in, put_all, store_after}
-use Rattle.bohm_txn.proofs.Bodies.{kept, same_key}
-use Rattle.bohm_txn.proofs.Lists.{drop_at}
-use Rattle.bohm_txn.proofs.Stores.{cell_in-put_all, same_store}
-use Rattle.bohm_txn.proofs.UseLaws.{usable}
+use Rattle.bohm_txn.proofs.ForCallers.{kept, same_key, drop_at, cell_in-put_all, same_store, usable}
 use Rattle.bohm_serial.specs.Steps.{reply_with}
 
 reply_parts : (e : Ended) → reply_with (outcome_of e) (shows_of e) ≡ reply_of e

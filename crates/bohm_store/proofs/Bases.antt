@@ -12,9 +12,9 @@ use Rattle.std.proofs.lemmas.Map.Views.{Contains-from_any, list_any-from_Contain
 use Rattle.bohm_tree.specs.declared.cell.Cell.{Cell}
 use Rattle.bohm_txn.specs.Meaning.{newest}
 use Rattle.bohm_txn.specs.Faulty.{is_among, rising}
-use Rattle.bohm_txn.proofs.Bodies.{same_key}
+use Rattle.bohm_txn.proofs.ForCallers.{same_key}
 use Rattle.bohm_board.specs.Bases.{keys_of}
-use Rattle.bohm_board.proofs.PlacesOfKeys.{member_among}
+use Rattle.bohm_board.proofs.ForCallers.{member_among}
 
 -- ---- which keys
 

@@ -5,7 +5,7 @@ use Rattle.std.specs.Map.{lookup, keys_of, remove_entry}
 use Rattle.std.specs.Str.{bytes_eq}
 use Rattle.std.specs.Cmp.Lexicographic.{nat_list_eq_equiv}
 use Rattle.std.proofs.lemmas.Map.{lookup-remove_entry}
-use Rattle.bohm_txn.proofs.Bodies.{key_itself}
+use Rattle.bohm_txn.proofs.ForCallers.{key_itself}
 use Rattle.bohm_store.specs.declared.version.Version.{Version}
 use Rattle.bohm_store.specs.Versions.{total, versions_in}
 use Rattle.bohm_store.proofs.Held.{none_from}

@@ -40,12 +40,6 @@ abbrev rest_of : List Version → List Version
 rest_of [] = []
 rest_of (v ∷ vs) = vs
 
-pub waits_more : (old new : List Version) (v : Version) (vs : List Version) (w : Version) (fs : List Queued) (key k : List ℕ)
-    → (bytes_eq key k ≡ true → old ≡ v ∷ vs) → new ≡ (if bytes_eq key k then old ++ w ∷ [] else old)
-    → later_begins old ≡ waiting fs k
-    → later_begins new ≡ waiting (fs ++ record { begin = w.begin; key = key } ∷ []) k
-waits_more old new v vs w fs key k is n h = waits_cases old new v vs w fs key k (bytes_eq key k) refl is n h
-
 -- the same where both may be refused
 pub waits_extended : (ok : Bool) (old new : List Version) (w : Version) (fs gs : List Queued) (key k : List ℕ)
     → (bytes_eq key k ≡ true → (v : Version) × (vs : List Version) × (old ≡ v ∷ vs)) → new ≡ (if (ok && bytes_eq key k) then old ++ w ∷ [] else old) → gs ≡ (if ok then fs ++ record { begin = w.begin; key = key } ∷ [] else fs)

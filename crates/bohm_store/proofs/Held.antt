@@ -1,5 +1,5 @@
 -- The keys that have a value at a time.
-use Rattle.std.proofs.Common.{◌≡◌, ℕ, Bool, true, false, List, [], ◌∷◌, ◌++◌, None, unwrap_or, refl, ap, ◌∙◌}
+use Rattle.std.proofs.Common.{◌≡◌, ℕ, Bool, true, false, List, [], ◌∷◌, None, unwrap_or, refl, ap, ◌∙◌}
 use Rattle.std.specs.Prelude.{ℤ}
 use Rattle.std.specs.Map.{lookup, keys_of}
 use Rattle.std.specs.List.{AllByRecursion, IsDistinct}
@@ -13,11 +13,7 @@ use Rattle.bohm_store.specs.declared.version.Version.{Version}
 use Rattle.bohm_store.specs.declared.chain.Chain.{Chain}
 use Rattle.bohm_store.specs.Versions.{cell_at}
 use Rattle.bohm_store.specs.Chains.{items, table, pick, picks, held}
-use Rattle.bohm_txn.proofs.Entries.{get-store_of}
-
-pub pick-append : (k : List ℕ) (c : Cell) (rest : List (List ℕ × ℤ)) → pick k c [] ++ rest ≡ pick k c rest
-pick-append k Absent rest = refl
-pick-append k (Present z) rest = refl
+use Rattle.bohm_txn.proofs.ForCallers.{get-store_of}
 
 pub picks_table : (ts : ℕ) (es : List (List ℕ × Chain)) → picks ts es ≡ held ts (table es)
 picks_table ts [] = refl

@@ -1,14 +1,14 @@
-pub mod Past
-pub mod Places
-pub mod Newest
-pub mod Grows
-pub mod Views
-pub mod Starts
-pub mod Produced
-pub mod Writing
-pub mod Bases
-pub mod Later
-pub mod Held
-pub mod Counts
-pub mod Swept
-pub mod Queued
+mod Past
+mod Places
+mod Newest
+mod Grows
+mod Views
+mod Starts
+mod Produced
+mod Writing
+mod Bases
+mod Later
+mod Held
+mod Counts
+mod Queued
+pub mod ForCallers

@@ -9,8 +9,7 @@ use Rattle.bohm_tree.specs.declared.txn.Txn.{Txn}
 use Rattle.bohm_txn.specs.Faulty.{is_among, IsWellFormedTxn}
 use Rattle.bohm_txn.specs.Meaning.{Look, body}
 use Rattle.bohm_txn.specs.Serial.{after, replies, reply_of, state}
-use Rattle.bohm_txn.proofs.Bodies.{kept, same_reads, same_after}
-use Rattle.bohm_txn.proofs.UseLaws.{usable}
+use Rattle.bohm_txn.proofs.ForCallers.{kept, same_reads, same_after, usable}
 use Rattle.bohm_board.specs.declared.batch.Batch.{Batch}
 use Rattle.bohm_board.specs.Bases.{declares}
 use Rattle.bohm_board.specs.Batches.{base_of, txns_of}

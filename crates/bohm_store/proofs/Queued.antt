@@ -6,7 +6,7 @@ use Rattle.std.specs.Map.{keys_of}
 use Rattle.std.specs.Str.{bytes_eq}
 use Rattle.std.specs.Cmp.Lexicographic.{nat_list_eq_equiv}
 use Rattle.std.proofs.lemmas.List.{length-map}
-use Rattle.bohm_txn.proofs.Bodies.{key_itself}
+use Rattle.bohm_txn.proofs.ForCallers.{key_itself}
 use Rattle.bohm_store.specs.declared.chain.Chain.{Chain}
 use Rattle.bohm_store.specs.declared.version.Version.{Version}
 use Rattle.bohm_store.specs.Chains.{Queued, items, later_begins, table, waiting}

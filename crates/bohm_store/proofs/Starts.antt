@@ -15,8 +15,7 @@ use Rattle.bohm_store.specs.declared.version.Version.{Version}
 use Rattle.bohm_store.specs.declared.chain.Chain.{Chain}
 use Rattle.bohm_store.specs.Versions.{Rises, cell_at}
 use Rattle.bohm_store.specs.Chains.{UpTo, items, items_of, later_begins, started}
-use Rattle.bohm_txn.proofs.Stores.{tested}
-use Rattle.bohm_txn.proofs.Entries.{store_of-take}
+use Rattle.bohm_txn.proofs.ForCallers.{tested, store_of-take}
 
 pub started_low : (c : Cell) → UpTo 0 (started c)
 started_low Absent = All-nil (λ v. v.begin ≤ 0)

@@ -11,11 +11,9 @@ use Rattle.bohm_tree.specs.declared.txn.Txn.{Txn}
 use Rattle.bohm_txn.specs.Faulty.{is_among, IsWellFormedTxn}
 use Rattle.bohm_txn.specs.Meaning.{Look}
 use Rattle.bohm_txn.specs.Serial.{after, state}
-use Rattle.bohm_txn.proofs.Lists.{drop_at}
-use Rattle.bohm_txn.proofs.States.{next}
-use Rattle.bohm_txn.proofs.UseLaws.{rising_writes}
+use Rattle.bohm_txn.proofs.ForCallers.{drop_at, next, rising_writes}
 use Rattle.bohm_place.specs.Shares.{AreDistinct}
-use Rattle.bohm_place.proofs.Distinct.{AreDistinct-rising}
+use Rattle.bohm_place.proofs.ForCallers.{AreDistinct-rising}
 use Rattle.bohm_store.specs.declared.version.Write.{Write}
 use Rattle.bohm_store.specs.Versions.{produced}
 use Rattle.bohm_store.specs.Chains.{made, Climb}

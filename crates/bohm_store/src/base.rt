@@ -11,6 +11,7 @@ ghost use Rattle.bohm_store.specs.Chains.{chain};
 
 use crate::chain::Chain;
 use crate::chains::cell_of;
+use bohm_place::HashSeed;
 use bohm_txn::{Cell, Key, NoMemory, Txn};
 use indexmap::IndexMap;
 use std::alloc::Global;
@@ -41,7 +42,7 @@ fn declared_once(alloc: Global, txns: &[Txn]) -> Result<Vec<Key>, NoMemory>
 /// Each key that the transactions declare, rising, with the cell of its newest version that begins
 /// at or below a timestamp.
 pub fn base_at(
-    chains: &IndexMap<Key, Chain>,
+    chains: &IndexMap<Key, Chain, HashSeed>,
     alloc: Global,
     txns: &[Txn],
     ts: u32,

@@ -13,17 +13,22 @@ ghost use Rattle.bohm_store.specs.Chains.{chain, keyed, ArePlaced, shift, front,
 use crate::chain::Chain;
 use crate::followers::{Follower, take_due};
 use crate::version::{Version, Write};
+use bohm_place::HashSeed;
 use bohm_txn::{Cell, Key, NoMemory, Value};
 use indexmap::IndexMap;
 use std::alloc::Global;
 use std::collections::VecDeque;
 
 /// The chains of a starting store.
-pub fn start(alloc: Global, entries: &[(Key, Value)]) -> Result<IndexMap<Key, Chain>, NoMemory>
+pub fn start(
+    alloc: Global,
+    entries: &[(Key, Value)],
+    seed: HashSeed,
+) -> Result<IndexMap<Key, Chain, HashSeed>, NoMemory>
     requires { rising (names_of entries.now) ≡ true }
     ensures { IfOk result (λ chains. (k : List ℕ) → chain chains k ≡ started (cell_in (store_of entries.now) k)) }
 {
-    let mut chains = IndexMap::with_capacity(alloc, entries.len())?;
+    let mut chains = IndexMap::with_capacity_and_hasher(alloc, entries.len(), seed)?;
     for (key, value) in entries {
         let first = Version {
             begin: 0,
@@ -35,7 +40,7 @@ pub fn start(alloc: Global, entries: &[(Key, Value)]) -> Result<IndexMap<Key, Ch
 }
 
 /// The cell of a key's newest version that begins at or below a timestamp, or absence.
-pub fn cell_of(chains: &IndexMap<Key, Chain>, key: &Key, ts: u32) -> Cell
+pub fn cell_of(chains: &IndexMap<Key, Chain, HashSeed>, key: &Key, ts: u32) -> Cell
     ensures { result ≡ cell_at ts (chain chains.now key.now) Absent }
 {
     match chains.get(key) {
@@ -46,7 +51,7 @@ pub fn cell_of(chains: &IndexMap<Key, Chain>, key: &Key, ts: u32) -> Cell
 
 // Adds a version to a key's chain, and to the queue where it isn't the first one.
 fn push(
-    chains: &mut IndexMap<Key, Chain>,
+    chains: &mut IndexMap<Key, Chain, HashSeed>,
     followers: &mut VecDeque<Follower>,
     alloc: Global,
     begin: u32,
@@ -72,7 +77,7 @@ fn push(
 }
 
 // Lets the newest version of a key go, where it isn't the only one.
-fn drop_later(chains: &mut IndexMap<Key, Chain>, key: &Key) -> bool
+fn drop_later(chains: &mut IndexMap<Key, Chain, HashSeed>, key: &Key) -> bool
     ensures chains { (k : List ℕ) → chain chains.new k ≡ (if (result && bytes_eq key.now k) then front (chain chains.old k) else chain chains.old k) }
     ensures only { result ≡ false → (k : List ℕ) → bytes_eq key.now k ≡ true → front (chain chains.old k) ≡ [] }
     ensures keys { keys chains.new ≡ keys chains.old }
@@ -85,7 +90,7 @@ fn drop_later(chains: &mut IndexMap<Key, Chain>, key: &Key) -> bool
 
 // Lets the newest version of a key go, and the key itself with its only one. The keys before it
 // keep their places.
-fn retreat(chains: &mut IndexMap<Key, Chain>, key: &Key)
+fn retreat(chains: &mut IndexMap<Key, Chain, HashSeed>, key: &Key)
     ensures chains { (k : List ℕ) → chain chains.new k ≡ (if bytes_eq key.now k then front (chain chains.old k) else chain chains.old k) }
     ensures keys { (ks more : List (List ℕ)) → keys chains.old ≡ ks ++ more → (front (chain chains.old key.now) ≡ [] → is_among ks key.now ≡ false) → (rest : List (List ℕ)) × (keys chains.new ≡ ks ++ rest) }
 {
@@ -96,7 +101,7 @@ fn retreat(chains: &mut IndexMap<Key, Chain>, key: &Key)
 
 // Lets the versions of these writes go again, which came last. The keys that had versions before
 // them keep their places.
-fn take_back(chains: &mut IndexMap<Key, Chain>, writes: &[Write<'_>])
+fn take_back(chains: &mut IndexMap<Key, Chain, HashSeed>, writes: &[Write<'_>])
     ensures chains { (base : List ℕ → List Version) → ((k : List ℕ) → chain chains.old k ≡ base k ++ made writes.now k) → (k : List ℕ) → chain chains.new k ≡ base k }
     ensures keys { (base : List ℕ → List Version) (ks more : List (List ℕ)) → ((k : List ℕ) → chain chains.old k ≡ base k ++ made writes.now k) → keys chains.old ≡ ks ++ more → ((k : List ℕ) → base k ≡ [] → is_among ks k ≡ false) → (rest : List (List ℕ)) × (keys chains.new ≡ ks ++ rest) }
 {
@@ -110,7 +115,7 @@ fn take_back(chains: &mut IndexMap<Key, Chain>, writes: &[Write<'_>])
 
 /// Adds the versions of a batch. A refusal leaves everything as it was.
 pub fn add(
-    chains: &mut IndexMap<Key, Chain>,
+    chains: &mut IndexMap<Key, Chain, HashSeed>,
     followers: &mut VecDeque<Follower>,
     alloc: Global,
     writes: &[Write<'_>],
@@ -135,7 +140,7 @@ pub fn add(
 }
 
 // Lets the oldest version of the key at a place go, where another one follows.
-fn advance(chains: &mut IndexMap<Key, Chain>, place: usize)
+fn advance(chains: &mut IndexMap<Key, Chain, HashSeed>, place: usize)
     requires { place < length (keys chains.old) }
     ensures chains { (k : List ℕ) → chain chains.new k ≡ (if bytes_eq (get_or (keys chains.old) place []) k then shift (chain chains.old k) else chain chains.old k) }
     ensures keys { keys chains.new ≡ keys chains.old }
@@ -146,7 +151,11 @@ fn advance(chains: &mut IndexMap<Key, Chain>, place: usize)
 
 /// Keeps of each key the versions that begin above the floor and the newest one at or below it. Its
 /// time grows with how many versions go.
-pub fn trim(chains: &mut IndexMap<Key, Chain>, followers: &mut VecDeque<Follower>, floor: u32)
+pub fn trim(
+    chains: &mut IndexMap<Key, Chain, HashSeed>,
+    followers: &mut VecDeque<Follower>,
+    floor: u32,
+)
     requires placed { ArePlaced (keys chains.old) followers.old.items }
     requires waiting { (k : List ℕ) → later_begins (chain chains.old k) ≡ waiting (keyed (keys chains.old) followers.old.items) k }
     requires climbs { (n : ℕ) × RisesTo n followers.old.items }

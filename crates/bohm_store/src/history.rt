@@ -26,7 +26,7 @@ use crate::settling::writes_of;
 use crate::version::Write;
 use bohm_board::Batch;
 use bohm_exec::Finished;
-use bohm_place::Plan;
+use bohm_place::{HashSeed, Plan};
 use bohm_txn::{Cell, Key, NoMemory, Txn, Value};
 use indexmap::IndexMap;
 use std::alloc::Global;
@@ -38,7 +38,7 @@ use std::marker::Model;
 pub struct History {
     // New keys go last, and only a refusal takes keys away again, the last ones: a key keeps its
     // place.
-    chains: IndexMap<Key, Chain>,
+    chains: IndexMap<Key, Chain, HashSeed>,
     // The versions that follow another one of their key, in the order of their begins. Each has the
     // place of its key, so that a trim looks up none.
     followers: VecDeque<Follower>,
@@ -59,7 +59,7 @@ impl Model for History {
 
 impl History {
     /// The history of a starting store, whose entries rise by their keys: one version for each. Its
-    /// time grows with their number.
+    /// time grows with their number. Keys are hashed from the fixed seed.
     pub fn open(alloc: Global, entries: &[(Key, Value)]) -> Result<History, NoMemory>
         requires { rising (names_of entries.now) ≡ true }
         ensures floor { IfOk result (λ h. h.floor ≡ 0) }
@@ -67,7 +67,22 @@ impl History {
         ensures versions { IfOk result (λ h. (k : List ℕ) → versions h k ≡ started (cell_in (store_of entries.now) k)) }
         ensures past { IfOk result (λ h. past h 0 ≡ cell_in (store_of entries.now)) }
     {
-        let chains = start(alloc, entries)?;
+        History::open_with_seed(alloc, entries, HashSeed::fixed())
+    }
+
+    /// The same, with keys hashed from this seed.
+    pub fn open_with_seed(
+        alloc: Global,
+        entries: &[(Key, Value)],
+        seed: HashSeed,
+    ) -> Result<History, NoMemory>
+        requires { rising (names_of entries.now) ≡ true }
+        ensures floor { IfOk result (λ h. h.floor ≡ 0) }
+        ensures top { IfOk result (λ h. h.top ≡ 0) }
+        ensures versions { IfOk result (λ h. (k : List ℕ) → versions h k ≡ started (cell_in (store_of entries.now) k)) }
+        ensures past { IfOk result (λ h. past h 0 ≡ cell_in (store_of entries.now)) }
+    {
+        let chains = start(alloc, entries, seed)?;
         Ok(History {
             chains,
             followers: VecDeque::new(alloc),
@@ -76,18 +91,23 @@ impl History {
         })
     }
 
-    /// The history of the empty store. It takes no memory.
+    /// The history of the empty store. Keys are hashed from the fixed seed. It takes no memory.
     pub fn empty(alloc: Global) -> History
         ensures floor { result.floor ≡ 0 }
         ensures top { result.top ≡ 0 }
         ensures versions { (k : List ℕ) → versions result k ≡ [] }
     {
         History {
-            chains: IndexMap::new(alloc),
+            chains: IndexMap::with_hasher(alloc, HashSeed::fixed()),
             followers: VecDeque::new(alloc),
             floor: 0,
             top: 0,
         }
+    }
+
+    /// What keys are hashed from.
+    pub fn seed(&self) -> HashSeed {
+        *self.chains.hasher()
     }
 
     /// The least timestamp of which the past is kept.

@@ -14,6 +14,3 @@ mod version;
 
 pub use fault::{PastFault, StoreFault};
 pub use history::History;
-
-#[cfg(test)]
-mod tests;

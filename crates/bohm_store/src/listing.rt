@@ -8,6 +8,7 @@ ghost use Rattle.bohm_store.specs.Versions.{cell_at};
 ghost use Rattle.bohm_store.specs.Chains.{items, pick, picks};
 
 use crate::chain::Chain;
+use bohm_place::HashSeed;
 use bohm_txn::{Cell, Key, NoMemory, Value};
 use indexmap::IndexMap;
 use std::alloc::Global;
@@ -24,7 +25,7 @@ fn list_one(out: &mut Vec<(Key, Value)>, key: &Key, chain: &Chain, ts: u32) -> R
 
 /// The keys that have a value at a timestamp, with it, in the map's order.
 pub fn present(
-    chains: &IndexMap<Key, Chain>,
+    chains: &IndexMap<Key, Chain, HashSeed>,
     alloc: Global,
     ts: u32,
 ) -> Result<Vec<(Key, Value)>, NoMemory>

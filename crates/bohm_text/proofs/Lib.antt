@@ -1,15 +1,15 @@
-pub mod Digits
-pub mod Cuts
-pub mod Cutting
-pub mod TermLoops
-pub mod KeyLoops
-pub mod CondLemmas
-pub mod Takes
-pub mod Sounds
-pub mod Again
-pub mod WordLaws
-pub mod StepTakes
-pub mod StepAgain
-pub mod Lines
-pub mod TextLaws
-pub mod TidyLaws
+mod Digits
+mod Cuts
+mod Cutting
+mod TermLoops
+mod KeyLoops
+mod CondLemmas
+mod Takes
+mod Sounds
+mod Again
+mod WordLaws
+mod StepTakes
+mod StepAgain
+mod Lines
+mod TextLaws
+mod TidyLaws

@@ -11,7 +11,7 @@ use Rattle.bohm_tree.specs.declared.txn.Txn.{Txn}
 use Rattle.bohm_tree.specs.declared.txn.Edition.{Edition}
 use Rattle.bohm_tree.specs.declared.txn.Edition.TheVariants.{One, Two}
 use Rattle.bohm_tree.specs.Document.{Document}
-use Rattle.bohm_txn.proofs.Bodies.{same_key}
+use Rattle.bohm_txn.proofs.ForCallers.{same_key}
 use Rattle.bohm_text.specs.Print.{Words, line_text, spaced, stmt_words, store_words, txn_lines, head_words}
 use Rattle.bohm_text.specs.Cut.{onto_first, split}
 use Rattle.bohm_text.specs.Reading.{◌>>=◌, keys_of, after, stmt_of, entry_of}

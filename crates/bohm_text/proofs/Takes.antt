@@ -22,7 +22,7 @@ use Rattle.bohm_tree.specs.declared.stmt.Cmp.TheVariants.{Lt, Le, Eq, Ge, Gt}
 use Rattle.bohm_tree.specs.declared.stmt.Cond.{Cond}
 use Rattle.bohm_tree.specs.declared.stmt.Stmt.{Stmt}
 use Rattle.bohm_tree.specs.declared.stmt.Stmt.TheVariants.{Bind, Need, Has, Lacks, Put, Remove, Show, Fail}
-use Rattle.bohm_txn.proofs.Bodies.{same_key}
+use Rattle.bohm_txn.proofs.ForCallers.{same_key}
 use Rattle.bohm_text.specs.declared.sums.Stop.{Stop}
 use Rattle.bohm_text.specs.declared.sums.Stop.TheVariants as stops
 use Rattle.bohm_text.specs.Print.{Words, atom_word, first_word, further_words, sum_words, cmp_word, cond_words, stmt_words, store_words}

@@ -9,6 +9,7 @@ use Rattle.bohm_tree.specs.declared.stmt.Stmt.{Stmt}
 use Rattle.bohm_tree.specs.declared.txn.Txn.{Txn}
 use Rattle.bohm_tree.specs.declared.txn.Edition.{Edition}
 use Rattle.bohm_tree.specs.declared.txn.Edition.TheVariants.{One, Two}
+use Rattle.bohm_txn.proofs.ForCallers.{each_append}
 use Rattle.bohm_text.specs.Print.{Words, line_text, spaced, text_of, doc_lines, print_doc}
 use Rattle.bohm_text.specs.Cut.{whole_lines}
 use Rattle.bohm_tree.specs.Sound.{IsName, IsStmt, IsTxn, IsDocument}
@@ -17,7 +18,7 @@ use Rattle.bohm_text.specs.Front.{text_lines, Front}
 use Rattle.bohm_text.specs.Faults.{IsFirstBadLine, IsShort}
 use Rattle.bohm_text.specs.Parse.{IsFirstFault, IsUnfinished}
 use Rattle.bohm_text.proofs.Cutting.{IsWithout, lines_again}
-use Rattle.bohm_text.proofs.WordLaws.{All-append, All-map, IsLine, doc_are_lines, IsWord, word_lacks}
+use Rattle.bohm_text.proofs.WordLaws.{All-map, IsLine, doc_are_lines, IsWord, word_lacks}
 use Rattle.bohm_text.proofs.Lines.{steps-append}
 use Rattle.bohm_text.proofs.StepTakes.{progress_lines, steps_add, txn_adds}
 use Rattle.bohm_text.proofs.StepAgain.{document_steps}
@@ -27,11 +28,11 @@ use Rattle.bohm_text.proofs.Sounds.{IsSound, steps_sound}
 
 spaced_lacks : (ws : Words) → AllByRecursion IsWord ws → IsWithout 10 (spaced ws)
 spaced_lacks [] words = tt
-spaced_lacks (w ∷ ws) words = (refl, All-append (λ b. b == 10 ≡ false) w (spaced ws) (word_lacks 10 w (omega arith) words.0) (spaced_lacks ws words.1))
+spaced_lacks (w ∷ ws) words = (refl, each_append (λ b. b == 10 ≡ false) w (spaced ws) (word_lacks 10 w (omega arith) words.0) (spaced_lacks ws words.1))
 
 line_lacks : (ws : Words) → AllByRecursion IsWord ws → IsWithout 10 (line_text ws)
 line_lacks [] words = tt
-line_lacks (w ∷ ws) words = All-append (λ b. b == 10 ≡ false) w (spaced ws) (word_lacks 10 w (omega arith) words.0) (spaced_lacks ws words.1)
+line_lacks (w ∷ ws) words = each_append (λ b. b == 10 ≡ false) w (spaced ws) (word_lacks 10 w (omega arith) words.0) (spaced_lacks ws words.1)
 
 lines_lack : (d : Document) → IsDocument d → AllByRecursion (IsWithout 10) (text_lines d)
 lines_lack d sound = All-map IsLine (IsWithout 10) line_text (λ ws line. line_lacks ws line.1) (doc_lines d) (doc_are_lines d sound)
@@ -60,7 +61,7 @@ pub not_front : (ls : List (List ℕ)) → steps Nothing ls ≡ None → Front l
 not_front ls none front = none_after ls front.more (Between front.document) none (ap (steps Nothing) (sym front.begins) ∙ document_steps front.document front.sound)
 
 open_txn : (d : Document) (reads writes : List (List ℕ)) (body : List Stmt) → IsDocument d → AllByRecursion IsName reads → AllByRecursion IsName writes → AllByRecursion IsStmt body → IsDocument (with_txn d reads writes body)
-open_txn d reads writes body sound names_r names_w stmts = record { store = sound.store; log = All-append (IsTxn d.edition) d.log ((record { edition = d.edition; reads = reads; writes = writes; body = body }) ∷ []) sound.log (record { same = refl; reads = names_r; writes = names_w; body = stmts }, tt) }
+open_txn d reads writes body sound names_r names_w stmts = record { store = sound.store; log = each_append (IsTxn d.edition) d.log ((record { edition = d.edition; reads = reads; writes = writes; body = body }) ∷ []) sound.log (record { same = refl; reads = names_r; writes = names_w; body = stmts }, tt) }
 
 closed : (p : Progress) → IsSound p → Front (progress_lines p)
 closed Nothing sound = record { document = record { edition = One; store = []; log = [] }; sound = record { store = tt; log = tt }; more = text_lines (record { edition = One; store = []; log = [] }); begins = refl }

@@ -4,9 +4,10 @@ use Rattle.std.specs.List.{flat_map, AllByRecursion}
 use Rattle.bohm_tree.specs.Document.{Document}
 use Rattle.bohm_tree.specs.Sound.{IsDocument}
 use Rattle.std.proofs.lemmas.List.{append-nil}
+use Rattle.bohm_txn.proofs.ForCallers.{each_append}
 use Rattle.bohm_text.specs.Print.{Words, spaced, line_text, lines_text, head_words, store_words, txn_lines, doc_lines, print_doc}
 use Rattle.bohm_text.specs.Tidy.{IsTextByte, IsApart, AreApart, IsTidy}
-use Rattle.bohm_text.proofs.WordLaws.{All-append, IsWord, IsWordByte, word_bytes, word_byte-above, IsLine, doc_are_lines}
+use Rattle.bohm_text.proofs.WordLaws.{IsWord, IsWordByte, word_bytes, word_byte-above, IsLine, doc_are_lines}
 
 -- ---- bytes
 
@@ -19,15 +20,15 @@ text_bytes (b ∷ bs) all = (text_byte b all.0, text_bytes bs all.1)
 
 spaced_bytes : (ws : Words) → AllByRecursion IsWord ws → AllByRecursion IsTextByte (spaced ws)
 spaced_bytes [] words = tt
-spaced_bytes (w ∷ ws) words = (refl, All-append IsTextByte w (spaced ws) (text_bytes w (word_bytes w words.0)) (spaced_bytes ws words.1))
+spaced_bytes (w ∷ ws) words = (refl, each_append IsTextByte w (spaced ws) (text_bytes w (word_bytes w words.0)) (spaced_bytes ws words.1))
 
 line_bytes : (ws : Words) → AllByRecursion IsWord ws → AllByRecursion IsTextByte (line_text ws)
 line_bytes [] words = tt
-line_bytes (w ∷ ws) words = All-append IsTextByte w (spaced ws) (text_bytes w (word_bytes w words.0)) (spaced_bytes ws words.1)
+line_bytes (w ∷ ws) words = each_append IsTextByte w (spaced ws) (text_bytes w (word_bytes w words.0)) (spaced_bytes ws words.1)
 
 lines_bytes : (lines : List Words) → AllByRecursion IsLine lines → AllByRecursion IsTextByte (lines_text lines)
 lines_bytes [] all = tt
-lines_bytes (l ∷ ls) all = All-append IsTextByte (line_text l ++ 10 ∷ []) (lines_text ls) (All-append IsTextByte (line_text l) (10 ∷ []) (line_bytes l all.0.1) (refl, tt)) (lines_bytes ls all.1)
+lines_bytes (l ∷ ls) all = each_append IsTextByte (line_text l ++ 10 ∷ []) (lines_text ls) (each_append IsTextByte (line_text l) (10 ∷ []) (line_bytes l all.0.1) (refl, tt)) (lines_bytes ls all.1)
 
 -- ---- bytes side by side
 

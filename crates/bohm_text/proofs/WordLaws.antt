@@ -1,5 +1,5 @@
 -- No word has a space or a newline.
-use Rattle.std.proofs.Common.{◌≡◌, ℕ, suc, ◌^◌, ◌<◌, ◌≤◌, Bool, true, false, cond, List, [], ◌∷◌, ◌++◌, length, map, Some, None, refl, arith}
+use Rattle.std.proofs.Common.{◌≡◌, ℕ, suc, ◌^◌, ◌<◌, ◌≤◌, Bool, true, false, cond, List, [], ◌∷◌, length, map, Some, None, refl, arith}
 use Rattle.std.specs.Prelude.{Option, ℤ, pos, negsuc, ◌&&◌, ◌||◌, ◌==◌, nat_le, codes}
 use Rattle.std.specs.List.{flat_map, list_all, AllByRecursion}
 use Rattle.std.specs.Char.{is_ascii_lowercase, is_ascii_digit}
@@ -22,15 +22,12 @@ use Rattle.bohm_tree.specs.declared.txn.Edition.{Edition}
 use Rattle.bohm_tree.specs.declared.txn.Edition.TheVariants.{One, Two}
 use Rattle.bohm_tree.specs.Document.{Document}
 use Rattle.bohm_tree.specs.Sound.{IsName, IsAtom, IsTerm, IsCond, IsGuard, IsStmt, IsNumber, IsEntry, IsTxn, IsDocument}
+use Rattle.bohm_txn.proofs.ForCallers.{each_append}
 use Rattle.bohm_text.specs.Print.{Words, atom_word, first_word, further_words, sum_words, cmp_word, cond_words, guard_words, stmt_words, store_words, txn_lines, head_words, doc_lines}
 use Rattle.bohm_text.specs.Tidy.{is_word_byte}
 use Rattle.bohm_text.proofs.Cutting.{IsWithout}
 
 -- ---- lists
-
-pub All-append : {A : Type 0} (P : A → Type 0) (xs ys : List A) → AllByRecursion P xs → AllByRecursion P ys → AllByRecursion P (xs ++ ys)
-All-append P [] ys all more = more
-All-append P (x ∷ xs) ys all more = (all.0, All-append P xs ys all.1 more)
 
 pub All-map : {A B : Type 0} (P : A → Type 0) (Q : B → Type 0) (f : A → B) (h : (x : A) → P x → Q (f x)) (xs : List A) → AllByRecursion P xs → AllByRecursion Q (map f xs)
 All-map P Q f h [] all = tt
@@ -38,7 +35,7 @@ All-map P Q f h (x ∷ xs) all = (h x all.0, All-map P Q f h xs all.1)
 
 pub All-flat_map : {A B : Type 0} (P : A → Type 0) (Q : B → Type 0) (f : A → List B) (h : (x : A) → P x → AllByRecursion Q (f x)) (xs : List A) → AllByRecursion P xs → AllByRecursion Q (flat_map f xs)
 All-flat_map P Q f h [] all = tt
-All-flat_map P Q f h (x ∷ xs) all = All-append Q (f x) (flat_map f xs) (h x all.0) (All-flat_map P Q f h xs all.1)
+All-flat_map P Q f h (x ∷ xs) all = each_append Q (f x) (flat_map f xs) (h x all.0) (All-flat_map P Q f h xs all.1)
 
 -- ---- words
 
@@ -158,7 +155,7 @@ cmp_is_word Ge = refl
 cmp_is_word Gt = refl
 
 cond_are_words : (c : Cond) → IsCond c → AllByRecursion IsWord (cond_words c)
-cond_are_words c sound = All-append IsWord (sum_words c.left) (cmp_word c.cmp ∷ sum_words c.right) (sum_are_words c.left sound.0.1) (cmp_is_word c.cmp, sum_are_words c.right sound.1.1)
+cond_are_words c sound = each_append IsWord (sum_words c.left) (cmp_word c.cmp ∷ sum_words c.right) (sum_are_words c.left sound.0.1) (cmp_is_word c.cmp, sum_are_words c.right sound.1.1)
 
 guard_are_words : (guard : Option Cond) → IsGuard guard → AllByRecursion IsWord (guard_words guard)
 guard_are_words None sound = tt
@@ -169,7 +166,7 @@ stmt_are_words (Bind x sum) sound = (refl, (local_is_word x sound.0, (refl, sum_
 stmt_are_words (Need c) sound = (refl, cond_are_words c sound)
 stmt_are_words (Has k) sound = (refl, (refl, (name_word k sound, tt)))
 stmt_are_words (Lacks k) sound = (refl, (refl, (name_word k sound, tt)))
-stmt_are_words (Put k sum guard) sound = (refl, (name_word k sound.0, (refl, All-append IsWord (sum_words sum) (guard_words guard) (sum_are_words sum sound.1.1) (guard_are_words guard sound.2))))
+stmt_are_words (Put k sum guard) sound = (refl, (name_word k sound.0, (refl, each_append IsWord (sum_words sum) (guard_words guard) (sum_are_words sum sound.1.1) (guard_are_words guard sound.2))))
 stmt_are_words (Remove k) sound = (refl, (name_word k sound, tt))
 stmt_are_words (Show sum) sound = (refl, sum_are_words sum sound.1)
 stmt_are_words Fail sound = (refl, tt)
@@ -206,12 +203,12 @@ txn_are_lines edition t sound =
     let writes : IsLine (codes "writes" ∷ t.writes) = (omega arith, (refl, names_are_words t.writes sound.writes)) in
     let opening : IsLine (codes "txn" ∷ []) = (omega arith, (refl, tt)) in
     let closing : IsLine (codes "end" ∷ []) = (omega arith, (refl, tt)) in
-    (opening, (reads, (writes, All-append IsLine (map stmt_words t.body) ((codes "end" ∷ []) ∷ []) statements (closing, tt))))
+    (opening, (reads, (writes, each_append IsLine (map stmt_words t.body) ((codes "end" ∷ []) ∷ []) statements (closing, tt))))
 
 pub doc_are_lines : (d : Document) → IsDocument d → AllByRecursion IsLine (doc_lines d)
 doc_are_lines d sound = (
   head_is_line d.edition,
-  All-append IsLine (map store_words d.store) (flat_map txn_lines d.log)
+  each_append IsLine (map store_words d.store) (flat_map txn_lines d.log)
       (All-map IsEntry IsLine store_words (λ entry h. (omega arith, entry_are_words entry h)) d.store sound.store)
       (All-flat_map (IsTxn d.edition) IsLine txn_lines (txn_are_lines d.edition) d.log sound.log),
 )

@@ -121,8 +121,12 @@ abbrev pub reply_lines : ℕ → List Reply → List Words
 reply_lines t [] = []
 reply_lines t (r ∷ rs) = reply_words t r ∷ reply_lines (t + 1) rs
 
+-- numbered from a first number on
+abbrev pub print_numbered : ℕ → List Reply → List ℕ
+print_numbered first replies = lines_text (reply_lines first replies)
+
 abbrev pub print_replies : List Reply → List ℕ
-print_replies replies = lines_text (reply_lines 1 replies)
+print_replies replies = print_numbered 1 replies
 
 abbrev pub print_store : List (List ℕ × ℤ) → List ℕ
 print_store entries = lines_text ((codes "--" ∷ []) ∷ map store_words entries)

@@ -1,8 +1,8 @@
 //! Printing an answer: the replies, and then the store.
 
-ghost use Rattle.std.specs.Prelude.{◌≡◌, ◌++◌, ◌∷◌, [], ℕ, ◌+◌, IfOk, map};
+ghost use Rattle.std.specs.Prelude.{◌≡◌, ◌++◌, ◌∷◌, [], ℕ, ◌+◌, ◌≤◌, ◌^◌, IfOk, length, map};
 ghost use Rattle.std.specs.Fmt.{decimal, signed_decimal};
-ghost use Rattle.bohm_text.specs.Print.{reason_word, reply_words, spaced, line_text, lines_text, print_replies, print_store};
+ghost use Rattle.bohm_text.specs.Print.{reason_word, reply_words, spaced, line_text, lines_text, print_numbered, print_replies, print_store};
 
 use crate::printing::{put_entries, put_value};
 use bohm_tree::{Key, NoMemory, Value};
@@ -38,7 +38,7 @@ fn put_shows(out: &mut Vec<u8>, shows: &[Value]) -> Result<(), NoMemory>
     Ok(())
 }
 
-fn put_reply(out: &mut Vec<u8>, number: usize, reply: &Reply) -> Result<(), NoMemory>
+fn put_reply(out: &mut Vec<u8>, number: u64, reply: &Reply) -> Result<(), NoMemory>
     ensures { IfOk result (λ _. out.new.items ≡ out.old.items ++ line_text (reply_words number reply.now)) }
 {
     put_count(out, number)?;
@@ -61,9 +61,18 @@ fn put_reply(out: &mut Vec<u8>, number: usize, reply: &Reply) -> Result<(), NoMe
 pub fn print_replies(alloc: Global, replies: &[Reply]) -> Result<Vec<u8>, NoMemory>
     ensures { IfOk result (λ text. text.items ≡ print_replies replies.now) }
 {
+    print_numbered(alloc, 1, replies)
+}
+
+/// A line for each reply, numbered from a first number on: the replies of a log's later segment. Its time
+/// and memory grow with the length of the text.
+pub fn print_numbered(alloc: Global, first: u64, replies: &[Reply]) -> Result<Vec<u8>, NoMemory>
+    requires { first + length replies.now ≤ 2 ^ 64 }
+    ensures { IfOk result (λ text. text.items ≡ print_numbered first replies.now) }
+{
     let mut out = Vec::new(alloc);
     for (index, reply) in replies.iter().enumerate() {
-        put_reply(&mut out, index + 1, reply)?;
+        put_reply(&mut out, first + index as u64, reply)?;
         out.push(b'\n')?;
     }
     Ok(out)

@@ -16,7 +16,7 @@ mod terms;
 mod tests;
 mod words;
 
-pub use answers::{print_replies, print_store};
+pub use answers::{print_numbered, print_replies, print_store};
 pub use fault::TextFault;
 pub use parsing::parse;
 pub use printing::print_doc;

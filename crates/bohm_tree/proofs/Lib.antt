@@ -1,2 +1,2 @@
-pub mod KeyLemmas
-pub mod Places
+mod KeyLemmas
+mod Places

@@ -1,21 +1,22 @@
-pub mod Searches
-pub mod FirstLaw
-pub mod UseLaws
-pub mod Rises
-pub mod Passing
-pub mod Lookups
-pub mod BodyLaw
-pub mod Bodies
-pub mod States
-pub mod Apart
-pub mod Places
-pub mod Tracking
-pub mod SureLaws
-pub mod Stores
-pub mod Answering
-pub mod LiteralLaws
-pub mod Totals
-pub mod Lists
-pub mod Permuted
-pub mod Entries
-pub mod Listed
+mod Searches
+mod FirstLaw
+mod UseLaws
+mod Rises
+mod Passing
+mod Lookups
+mod BodyLaw
+mod Bodies
+mod States
+mod Apart
+mod Places
+mod Tracking
+mod SureLaws
+mod Stores
+mod Answering
+mod LiteralLaws
+mod Totals
+mod Lists
+mod Permuted
+mod Entries
+mod Listed
+pub mod ForCallers

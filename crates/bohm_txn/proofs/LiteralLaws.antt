@@ -1,5 +1,5 @@
 -- The totals of literals say whether a sum is sure.
-use Rattle.std.proofs.Common.{◌≡◌, ℕ, ◌+◌, ◌^◌, ◌<◌, Bool, true, false, List, [], ◌∷◌, length, get_or, drop, Some, None, Ok, Err, refl, ap, sym, ◌∙◌, arith}
+use Rattle.std.proofs.Common.{◌≡◌, ℕ, ◌+◌, ◌^◌, Bool, true, false, List, [], ◌∷◌, Some, None, Ok, Err, refl, ap, sym, ◌∙◌, arith}
 use Rattle.std.specs.Prelude.{ℤ, pos, negsuc, ◌-ℤ◌, ◌&&◌, nat_lt, nat_le, is_ok, if◌then◌else◌}
 use Rattle.std.specs.List.{list_all}
 use Rattle.std.proofs.lemmas.Bool.Decides.{nat_tests}
@@ -9,10 +9,9 @@ use Rattle.bohm_tree.specs.declared.term.Atom.{Atom}
 use Rattle.bohm_tree.specs.declared.term.Atom.TheVariants.{Lit, Read, Local}
 use Rattle.bohm_txn.specs.declared.outcome.Reason.TheVariants.{Range}
 use Rattle.bohm_txn.specs.declared.sureness.Literals.{Literals}
-use Rattle.bohm_txn.specs.Literals.{none_yet, with_literal, with_atom, and_then, literals_from, total_fits}
+use Rattle.bohm_txn.specs.Literals.{none_yet, with_literal, literals_from, total_fits}
 use Rattle.bohm_txn.specs.Meaning.{signed, total_from, fits, in_range, sum_value}
 use Rattle.bohm_txn.specs.Sure.{is_lit, is_sure_sum}
-use Rattle.bohm_txn.proofs.Lists.{front}
 
 abbrev total : Literals → ℤ
 total l = pos l.added -ℤ pos l.taken
@@ -49,7 +48,3 @@ sure_literals sum l e =
 
 pub no_literals : (sum : List (Bool × Atom)) → None ≡ literals_from none_yet sum → false ≡ is_sure_sum sum
 no_literals sum e = sym (ap (λ b. b && is_ok (sum_value (λ k. Absent) [] sum)) (others none_yet sum (sym e)))
-
--- one literal more
-pub literal_step : (l : Literals) (terms : List (Bool × Atom)) (i : ℕ) (t : Bool × Atom) (n : ℕ) → i < length terms → t ≡ get_or terms i t → t.1 ≡ Lit n → literals_from l (drop i terms) ≡ literals_from (with_literal l t.0 n) (drop (i + 1) terms)
-literal_step l terms i t n inside is lit = rw (front terms i t inside is) (ap (λ a. and_then (with_atom l t.0 a) (λ next. literals_from next (drop (i + 1) terms))) lit)

@@ -18,14 +18,6 @@ total_step look locals terms i t z n within is value = rw (front terms i t withi
     after None e = absurd cc
     after (Some x) e = let same : signed z t.0 x ≡ n = cc in rw same refl
 
-pub total_none : (look : Look) (locals : Locals) (terms : List (Bool × Atom)) (i : ℕ) (t : Bool × Atom) (z : ℤ) → i < length terms → t ≡ get_or terms i t → option_map (λ x. signed z t.0 x) (atom_value look locals t.1) ≡ None
-    → total_from look locals z (drop i terms) ≡ None
-total_none look locals terms i t z within is value = rw (front terms i t within is) (after (atom_value look locals t.1) value)
-  where
-    after : (o : Option ℤ) → option_map (λ x. signed z t.0 x) o ≡ None → (o >>= λ x. total_from look locals (signed z t.0 x) (drop (i + 1) terms)) ≡ None
-    after None e = refl
-    after (Some x) e = absurd cc
-
 -- ---- the newest entry, found from the back
 
 abbrev entry_or : {A : Type 0} → Option (List ℕ × A) → A → A

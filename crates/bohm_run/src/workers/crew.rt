@@ -10,7 +10,7 @@ use std::alloc::Global;
 #[derive(Drop)]
 pub struct Crew {
     count: u32,
-    // As many as a batch has needed; those that were lost with a batch that was refused are made anew.
+    // As many as a batch has needed so far.
     scratches: Vec<Scratch>,
     // For what the workers leave.
     pub(crate) last: Scratch,

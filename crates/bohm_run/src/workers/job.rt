@@ -43,7 +43,7 @@ fn positions(alloc: Global, aside: &Aside) -> Result<Vec<u32>, NoMemory>
 }
 
 /// Sweeps the share of a worker, and then once more what was set aside.
-fn sweep_share<G: Gate>(
+pub(crate) fn sweep_share<G: Gate>(
     alloc: Global,
     board: &Board,
     pass: &mut Pass,

@@ -3,9 +3,9 @@ use Rattle.std.proofs.Math.Logic.{∥∥₁_map}
 use Rattle.std.proofs.lemmas.Option.{slice_get_read, slice_get_within}
 use Rattle.bohm_place.specs.declared.declared_set.DeclaredSet.TheVariants.{Reads, Writes}
 use Rattle.bohm_place.specs.Plans.{keys_in, planned_in, IsRightPlan}
-use Rattle.bohm_place.proofs.Noted.{sources_same, sources_twice}
+use Rattle.bohm_place.proofs.ForCallers.{sources_same, sources_twice, row_paired}
 use Rattle.bohm_board.specs.Bases.{IsSetNoted}
-use Rattle.bohm_board.proofs.PlacesOfKeys.{few_entries, few_keys, next_row, row_paired}
+use Rattle.bohm_board.proofs.PlacesOfKeys.{few_entries, few_keys, next_row}
 use Rattle.bohm_board.proofs.noting.note_places.Goals as goal
 use Rattle.bohm_board.proofs.noting.note_places.Goals.{After-index-txns-i, After-note_set}
 

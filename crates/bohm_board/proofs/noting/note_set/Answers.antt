@@ -2,10 +2,10 @@ use Rattle.std.proofs.Common.{◌≡◌, ℕ, List, ◌-◌, ◌<◌, length, sl
 use Rattle.std.specs.Option.{option_map}
 use Rattle.std.proofs.lemmas.List.{length-map}
 use Rattle.std.proofs.lemmas.Option.{slice_get_read, slice_get_within}
-use Rattle.bohm_txn.proofs.Bodies.{among_at}
+use Rattle.bohm_txn.proofs.ForCallers.{among_at}
 use Rattle.bohm_place.specs.declared.access.Access.{Access}
 use Rattle.bohm_place.specs.Plans.{keys_in, planned_in, IsNoted}
-use Rattle.bohm_place.proofs.Noted.{sources_long}
+use Rattle.bohm_place.proofs.ForCallers.{sources_long}
 use Rattle.bohm_board.specs.Bases.{keys_of, IsSetNoted}
 use Rattle.bohm_board.proofs.Searched.{Entry}
 use Rattle.bohm_board.proofs.PlacesOfKeys.{none_noted, next_passed, next_noted}

@@ -3,7 +3,7 @@ use Rattle.bohm_board.specs.declared.batch.Batch.{Batch}
 use Rattle.bohm_board.specs.declared.status.Status.TheVariants.{Open}
 use Rattle.bohm_board.specs.declared.view.View.{View}
 use Rattle.bohm_board.specs.Passes.{batch_of, view}
-use Rattle.bohm_board.proofs.Keeping.{keeps_then, keeps_along, keeps_claimed}
+use Rattle.bohm_board.proofs.ForCallers.{keeps_then, keeps_along, keeps_claimed}
 use Rattle.bohm_exec.specs.Handed.{ArePaired}
 use Rattle.bohm_exec.proofs.Viewed.{few_reads, few_writes, long_reads, long_writes, wanted_stays}
 use Rattle.bohm_exec.proofs.claiming.attempt.Goals as goal

@@ -3,9 +3,8 @@ use Rattle.std.specs.List.{slice_get}
 use Rattle.std.proofs.lemmas.Bool.{false≢true}
 use Rattle.bohm_board.specs.declared.batch.Batch.{Batch}
 use Rattle.bohm_board.specs.Closings.{batch_of_closed}
-use Rattle.bohm_board.proofs.Wanted.{IsEarlier, wanted_earlier}
+use Rattle.bohm_board.proofs.ForCallers.{IsEarlier, wanted_earlier, contains_at}
 use Rattle.bohm_board.specs.Batches.{accesses_in}
-use Rattle.bohm_board.proofs.Evaluated.{contains_at}
 use Rattle.bohm_exec.proofs.Seen.{found_base, found_within, are_found}
 use Rattle.bohm_exec.proofs.completion.take_cells.Goals as goal
 use Rattle.bohm_exec.proofs.completion.take_cells.Goals.{After-access-access, In-Within, in-Before, in-Within+in-Some}

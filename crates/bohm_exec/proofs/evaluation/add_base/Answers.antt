@@ -6,7 +6,7 @@ use Rattle.bohm_place.specs.declared.access.Access.{Access}
 use Rattle.bohm_place.specs.Plans.{keys_in}
 use Rattle.bohm_board.specs.Batches.{accesses_in, base_of, key_in}
 use Rattle.bohm_exec.proofs.Based.{base_put, found_stays, within_there}
-use Rattle.bohm_exec.proofs.Viewed.{keys_paired}
+use Rattle.bohm_board.proofs.ForCallers.{keys_paired}
 use Rattle.bohm_exec.proofs.evaluation.add_base.Goals as goal
 use Rattle.bohm_exec.proofs.evaluation.add_base.Goals.{in-Before, in-Within}
 
@@ -30,7 +30,7 @@ loop-index-preserved c =
         cells = λ x is.
             let keys = keys_in set x in
             let k = get_or keys n [] in
-            let low : n < length keys = omega (arith, keys_paired set b c.args.t x is, c.requires.paired, c.loop-index.auto.cells) in
+            let low : n < length keys = omega (arith, keys_paired b set c.args.t x is, c.requires.paired, c.loop-index.auto.cells) in
             let key : slice_get keys n ≡ Some k = slice_get-get_or keys n [] low in
             let named : key_in set b c.args.t n ≡ Some k = rw is key in
             let cell = same_Some w.cell_before.result (base_of b k) (sym w.cell_before.ensures ∙ ap (option_map (base_of b)) named) in
@@ -41,7 +41,7 @@ loop-index-preserved c =
         cells = λ x is.
             let keys = keys_in set x in
             let k = get_or keys n [] in
-            let low : n < length keys = omega (arith, keys_paired set b c.args.t x is, c.requires.paired, c.loop-index.auto.cells) in
+            let low : n < length keys = omega (arith, keys_paired b set c.args.t x is, c.requires.paired, c.loop-index.auto.cells) in
             rw w.cells-is (within_there b keys accesses cells n k a w.in-Within.field-0 inv.found (inv.cells x is) (slice_get-get_or keys n [] low) at w.in-Within.is);
       }
     ]
@@ -50,5 +50,5 @@ pub returns : goal.returns
 returns c = λ x is.
     let b = c.args.batch.now in
     let keys = keys_in c.args.set x in
-    let even = keys_paired c.args.set b c.args.t x is in
+    let even = keys_paired b c.args.set c.args.t x is in
     record { paired = omega (arith, even, c.requires.paired, c.loop-index.auto.cells); each = λ j k a cell at_key at here. let within = slice_get_within keys j k at_key in c.loop-index.invariant.cells x is j k a cell (omega arith) at_key at here }

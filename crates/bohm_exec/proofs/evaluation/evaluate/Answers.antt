@@ -10,9 +10,7 @@ use Rattle.bohm_txn.specs.Serial.{after}
 use Rattle.bohm_txn.specs.Sure.{is_sure}
 use Rattle.bohm_board.specs.Batches.{position}
 use Rattle.bohm_board.specs.Serial.{show_cells}
-use Rattle.bohm_board.proofs.Inputs.{reads_before, writes_before, own_right, outcome_right}
-use Rattle.bohm_board.proofs.Numbers.{width_there}
-use Rattle.bohm_board.proofs.Wanted.{writes_paired}
+use Rattle.bohm_board.proofs.ForCallers.{reads_before, writes_before, own_right, outcome_right, width_there, writes_paired}
 use Rattle.bohm_exec.specs.Handed.{slot_cell}
 use Rattle.bohm_exec.specs.Moments.{state_before}
 use Rattle.bohm_exec.proofs.Based.{own_at}

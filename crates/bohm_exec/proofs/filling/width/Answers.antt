@@ -1,6 +1,6 @@
 use Rattle.std.proofs.Common.{rules, ◌≡◌, length, arith, ap}
 use Rattle.bohm_txn.specs.Declares.{shows_in}
-use Rattle.bohm_txn.proofs.UseLaws.{usable}
+use Rattle.bohm_txn.proofs.ForCallers.{usable}
 use Rattle.bohm_exec.proofs.filling.width.Goals as goal
 
 pub overflow_cast-result : goal.overflow_cast-result

@@ -6,9 +6,7 @@ use Rattle.bohm_board.specs.declared.view.View.{View}
 use Rattle.bohm_board.specs.Batches.{slot_in, IsSlot, wanted_at, accesses_in}
 use Rattle.bohm_board.specs.Passes.{batch_of, view}
 use Rattle.bohm_board.specs.Views.{Knows}
-use Rattle.bohm_board.proofs.Keeping.{keeps_same, keeps_along, keeps_looked, knows_looked}
-use Rattle.bohm_board.proofs.Wanted.{wanted_earlier}
-use Rattle.bohm_board.proofs.Evaluated.{contains_at}
+use Rattle.bohm_board.proofs.ForCallers.{keeps_same, keeps_along, keeps_looked, knows_looked, wanted_earlier, contains_at}
 use Rattle.bohm_exec.proofs.Seen.{known_base, found_base, known_within, found_within, knows_all, are_found}
 use Rattle.bohm_exec.proofs.Viewed.{no_looks, one_look}
 use Rattle.bohm_exec.proofs.finding.find.Goals as goal

@@ -1,6 +1,6 @@
 use Rattle.std.proofs.Common.{refl, arith, sym, ◌∙◌}
 use Rattle.bohm_board.specs.Passes.{batch_of, view}
-use Rattle.bohm_board.proofs.Keeping.{knows_on}
+use Rattle.bohm_board.proofs.ForCallers.{knows_on}
 use Rattle.bohm_board.specs.Batches.{reads_at}
 use Rattle.bohm_exec.proofs.Viewed.{few_reads, few_writes, writes_wanted, knows_wanted, knows_later, then_looks}
 use Rattle.bohm_exec.proofs.finding.find_wanted.Goals as goal

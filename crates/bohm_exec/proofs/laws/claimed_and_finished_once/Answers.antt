@@ -1,4 +1,4 @@
-use Rattle.bohm_board.proofs.Runs.{claimed_once, finished_once}
+use Rattle.bohm_board.proofs.ForCallers.{claimed_once, finished_once}
 use Rattle.bohm_exec.proofs.laws.claimed_and_finished_once.Goals as goal
 
 pub returns-clause-claim : goal.returns-clause-claim

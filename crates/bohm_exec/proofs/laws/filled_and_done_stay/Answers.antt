@@ -1,4 +1,4 @@
-use Rattle.bohm_board.proofs.Runs.{reached_stays}
+use Rattle.bohm_board.proofs.ForCallers.{reached_stays}
 use Rattle.bohm_exec.proofs.laws.filled_and_done_stay.Goals as goal
 
 pub returns : goal.returns

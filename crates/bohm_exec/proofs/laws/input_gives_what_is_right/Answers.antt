@@ -1,5 +1,5 @@
 use Rattle.std.proofs.Common.{◌∙◌, sym}
-use Rattle.bohm_board.proofs.Evaluated.{outcome_is_right, cell_is_right}
+use Rattle.bohm_board.proofs.ForCallers.{outcome_is_right, cell_is_right}
 use Rattle.bohm_exec.proofs.laws.input_gives_what_is_right.Goals as goal
 
 pub returns-clause-outcome : goal.returns-clause-outcome

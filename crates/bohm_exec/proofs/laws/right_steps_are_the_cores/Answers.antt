@@ -1,6 +1,5 @@
 use Rattle.std.proofs.Common.{◌∙◌}
-use Rattle.bohm_board.proofs.Evaluated.{outcome_is_right, cell_is_right}
-use Rattle.bohm_board.proofs.Lawful.{wanted_filled}
+use Rattle.bohm_board.proofs.ForCallers.{outcome_is_right, cell_is_right, wanted_filled}
 use Rattle.bohm_exec.proofs.laws.right_steps_are_the_cores.Goals as goal
 
 pub returns-clause-fill : goal.returns-clause-fill

@@ -3,7 +3,7 @@ use Rattle.std.specs.Prelude.{Contains}
 use Rattle.std.proofs.lemmas.List.Elements.{Contains-push}
 use Rattle.bohm_board.specs.Batches.{Wants}
 use Rattle.bohm_board.specs.Passes.{batch_of, view}
-use Rattle.bohm_board.proofs.Keeping.{keeps_same, keeps_then}
+use Rattle.bohm_board.proofs.ForCallers.{keeps_same, keeps_then}
 use Rattle.bohm_exec.proofs.Descents.{shorter, IsDescent, starts, pushed, last_of, top_is, only, pop_falls, push_falls, fits_below}
 use Rattle.bohm_exec.proofs.pursuit.pursue.Goals as goal
 

@@ -5,7 +5,7 @@ use Rattle.std.proofs.lemmas.List.{take_more}
 use Rattle.std.proofs.lemmas.List.Elements.{All-push, All-from_get_or}
 use Rattle.bohm_board.specs.Batches.{Leads}
 use Rattle.bohm_board.specs.Passes.{batch_of, view}
-use Rattle.bohm_board.proofs.Keeping.{keeps_then}
+use Rattle.bohm_board.proofs.ForCallers.{keeps_then}
 use Rattle.bohm_exec.specs.Asides.{IsAccountedFor, positions_in}
 use Rattle.bohm_exec.proofs.Accounts.{accounted_later, accounted_pushed, accounted_here, next, busy_more, picked_skip, picked_pair}
 use Rattle.bohm_exec.proofs.sweeping.sweep.Goals as goal

@@ -1,7 +1,6 @@
 use Rattle.std.proofs.Common.{◌≡◌, ◌<◌, ◌+◌, ◌∷◌, length, drop, subst, sym, arith, append_assoc}
 use Rattle.bohm_txn.specs.Faulty.{IsWellFormedTxn}
-use Rattle.bohm_txn.proofs.Lists.{front}
-use Rattle.bohm_txn.proofs.UseLaws.{usable}
+use Rattle.bohm_txn.proofs.ForCallers.{front, usable}
 use Rattle.bohm_place.proofs.row.rows.Goals as goal
 
 pub overflow_cast-reads : goal.overflow_cast-reads

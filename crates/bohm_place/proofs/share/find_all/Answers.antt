@@ -1,7 +1,7 @@
 use Rattle.std.proofs.Common.{arith, ◌≡◌, ◌+◌, ◌++◌, ◌<◌, ℕ, length, List, map, refl, take, if◌then◌else◌, sym, subst}
 use Rattle.std.proofs.lemmas.List.{length-take-le}
 use Rattle.bohm_txn.specs.Faulty.{IsWellFormedTxn}
-use Rattle.bohm_txn.proofs.UseLaws.{usable, rising_writes}
+use Rattle.bohm_txn.proofs.ForCallers.{usable, rising_writes}
 use Rattle.bohm_place.specs.declared.placeholder.Placeholder.{Placeholder}
 use Rattle.bohm_place.specs.Chains.{placeholders_in, none, last_or}
 use Rattle.bohm_place.specs.Shares.{has_part, within}

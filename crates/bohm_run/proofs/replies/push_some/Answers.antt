@@ -3,20 +3,18 @@ use Rattle.bohm_tree.specs.declared.txn.Txn.{Txn}
 use Rattle.bohm_txn.specs.declared.outcome.Reply.{Reply}
 use Rattle.bohm_txn.specs.Meaning.{body}
 use Rattle.bohm_txn.specs.Serial.{reply_of, state}
-use Rattle.bohm_txn.proofs.States.{there}
+use Rattle.bohm_txn.proofs.ForCallers.{there}
 use Rattle.bohm_board.specs.Batches.{base_of, first_of, txn_at, txns_of}
 use Rattle.bohm_exec.specs.Answers.{batch_of_finished}
 use Rattle.bohm_run.proofs.Replying.{longer, on_err, reply_step}
 use Rattle.bohm_run.proofs.replies.push_some.Goals as goal
 
 pub returns-in_err-reply-clause-err : goal.returns-in_err-reply-clause-err
-returns-in_err-reply-clause-err c =
-    let front : (more : List Reply) × (c.loop-place.replies.items ≡ c.args.replies.now.items ++ more) = rw c.in_ok-reserve.ensures.items at c.loop-place.invariant.front in
-    on_err c.from_residual-in_err-reply.result front
+returns-in_err-reply-clause-err c = on_err c.from_residual.result c.loop-place.invariant.front
 
 pub returns-in_err-push-clause-err : goal.returns-in_err-push-clause-err
 returns-in_err-push-clause-err c =
-    let front : (more : List Reply) × (c.loop-place.replies.items ≡ c.args.replies.now.items ++ more) = rw c.in_ok-reserve.ensures.items at c.loop-place.invariant.front in
+    let front = c.loop-place.invariant.front in
     let still : (more : List Reply) × (c.push.new.self.items ≡ c.args.replies.now.items ++ more) = (front.0, c.in_err-push.ensures.items ∙ front.1) in
     on_err c.from_residual-in_err-push.result still
 

@@ -1,6 +1,6 @@
 use Rattle.std.proofs.Common.{◌++◌, ◌∙◌, List, ap}
 use Rattle.bohm_txn.specs.declared.outcome.Reply.{Reply}
-use Rattle.bohm_store.proofs.Produced.{next_replies}
+use Rattle.bohm_store.proofs.ForCallers.{next_replies}
 use Rattle.bohm_exec.specs.Answers.{batch_of_finished}
 use Rattle.bohm_run.proofs.Replying.{on_ok}
 use Rattle.bohm_run.proofs.replies.settle_batch.Goals as goal

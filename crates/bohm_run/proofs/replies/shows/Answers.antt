@@ -8,7 +8,7 @@ use Rattle.bohm_txn.specs.Meaning.{body}
 use Rattle.bohm_txn.specs.Serial.{shows_of}
 use Rattle.bohm_board.specs.declared.batch.Batch.{Batch}
 use Rattle.bohm_board.specs.Batches.{position, txns_of, txn_at}
-use Rattle.bohm_board.proofs.Newest.{formed_at}
+use Rattle.bohm_place.proofs.ForCallers.{usable_at as formed_at}
 use Rattle.bohm_exec.specs.Answers.{batch_of_finished}
 use Rattle.bohm_exec.specs.Moments.{shown, state_before}
 use Rattle.bohm_run.proofs.Replying.{show_more, show_ended, shows_few}

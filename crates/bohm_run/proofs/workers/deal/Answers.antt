@@ -1,6 +1,6 @@
 use Rattle.std.proofs.Common.{◌≡◌, ◌∷◌, [], refl, ◌∙◌, length-append, arith}
 use Rattle.std.proofs.lemmas.List.Elements.{All-push}
-use Rattle.bohm_place.proofs.Lists.{each_pushed}
+use Rattle.bohm_place.proofs.ForCallers.{each_pushed}
 use Rattle.bohm_run.specs.declared.workers.job.Job.{Job}
 use Rattle.bohm_run.specs.Sweeps.{IsReady}
 use Rattle.bohm_run.proofs.workers.deal.Goals as goal

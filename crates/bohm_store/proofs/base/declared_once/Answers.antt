@@ -2,7 +2,7 @@ use Rattle.std.proofs.Common.{◌∙◌, List, ℕ, ap}
 use Rattle.std.specs.Str.{bytes_eq}
 use Rattle.bohm_txn.specs.Faulty.{is_among}
 use Rattle.std.proofs.lemmas.List.Filters.{dedup_is}
-use Rattle.bohm_board.proofs.PlacesOfKeys.{declared_any}
+use Rattle.bohm_board.proofs.ForCallers.{declared_any}
 use Rattle.bohm_store.proofs.Bases.{sorted_rises, sorted_among}
 use Rattle.bohm_store.proofs.base.declared_once.Goals as goal
 

@@ -2,7 +2,7 @@ use Rattle.std.proofs.Common.{◌≡◌, ◌+◌, ◌-◌, ◌++◌, ◌∙◌, 
 use Rattle.std.specs.List.{slice_get}
 use Rattle.bohm_txn.specs.Faulty.{IsWellFormedTxn}
 use Rattle.bohm_txn.specs.Serial.{state}
-use Rattle.bohm_txn.proofs.UseLaws.{usable}
+use Rattle.bohm_txn.proofs.ForCallers.{usable}
 use Rattle.bohm_board.specs.declared.batch.Batch.{Batch}
 use Rattle.bohm_board.specs.Batches.{base_of, first_of, txn_at, txns_of}
 use Rattle.bohm_exec.specs.Answers.{batch_of_finished}

@@ -5,8 +5,8 @@ use Rattle.bohm_tree.specs.declared.txn.Txn.{Txn}
 use Rattle.bohm_txn.specs.Declares.{shows_in, IsUsable}
 use Rattle.bohm_board.specs.declared.batch.Batch.{Batch}
 use Rattle.bohm_board.specs.Batches.{position, txns_of, txn_at, IsRightCell}
-use Rattle.bohm_board.proofs.Newest.{formed_at}
-use Rattle.bohm_board.proofs.Numbers.{width_there}
+use Rattle.bohm_place.proofs.ForCallers.{usable_at}
+use Rattle.bohm_board.proofs.ForCallers.{width_there}
 use Rattle.bohm_exec.proofs.Serials.{serial_show}
 use Rattle.bohm_exec.specs.Answers.{batch_of_finished}
 use Rattle.bohm_exec.specs.Handed.{slot_of}
@@ -17,7 +17,7 @@ there : (c : After-as_slice) → txn_at (batch_of_finished c.args.self.now) c.ar
 there c = subst (λ (b : Batch). txn_at b c.args.t ≡ Some c.txn.result.now) c.batch.ensures c.txn.ensures
 
 usable : (c : After-as_slice) → IsUsable c.txn.result.now
-usable c = let b = batch_of_finished c.args.self.now in formed_at (txns_of b) b.formed (position b c.args.t) c.txn.result.now (there c)
+usable c = let b = batch_of_finished c.args.self.now in usable_at (txns_of b) b.formed (position b c.args.t) c.txn.result.now (there c)
 
 shows : (c : After-as_slice) → c.args.index < shows_in c.txn.result.now.body
 shows c = subst (λ (o : Option Txn). c.args.index < unwrap_or (option_map (λ (x : Txn). shows_in x.body) o) 0) (there c) c.requires.index

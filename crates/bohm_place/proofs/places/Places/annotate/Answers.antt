@@ -1,7 +1,7 @@
 use Rattle.std.proofs.Common.{sym, ap, ◌∙◌, is_ok, subst, All, ◌<◌, List, ℕ}
 use Rattle.std.specs.Str.{bytes_eq}
 use Rattle.std.proofs.lemmas.Result.{IfOk-weaker}
-use Rattle.bohm_txn.proofs.Bodies.{same_key}
+use Rattle.bohm_txn.proofs.ForCallers.{same_key}
 use Rattle.bohm_place.specs.Chains.{items_at, begins, last_or, none}
 use Rattle.bohm_place.proofs.Keyed.{lookup_table}
 use Rattle.bohm_place.proofs.Rising.{rises_appended}

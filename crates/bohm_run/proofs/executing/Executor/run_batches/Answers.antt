@@ -2,9 +2,9 @@ use Rattle.std.proofs.Common.{rules, arith, ◌≡◌, ◌+◌, ◌∷◌, [], l
 use Rattle.std.proofs.lemmas.List.Elements.{All-push}
 use Rattle.std.proofs.lemmas.List.{length-take-le}
 use Rattle.bohm_place.specs.Plans.{Planned}
-use Rattle.bohm_run.specs.CutLogs.{cutting_of}
-use Rattle.bohm_run.specs.Cuttings.{IsPlanAt}
-use Rattle.bohm_run.specs.declared.line.note.PlanNote.{PlanNote}
+use Rattle.bohm_line.specs.CutLogs.{cutting_of}
+use Rattle.bohm_line.specs.Cuttings.{IsPlanAt}
+use Rattle.bohm_line.specs.declared.line.note.PlanNote.{PlanNote}
 use Rattle.bohm_run.proofs.Going.{stayed}
 use Rattle.bohm_run.proofs.Walks.{walked_on, walk_ends, inside}
 use Rattle.bohm_run.proofs.executing.Executor.run_batches.Goals as goal

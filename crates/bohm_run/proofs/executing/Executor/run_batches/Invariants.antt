@@ -1,6 +1,6 @@
 use Rattle.std.proofs.Common.{◌≡◌, length, take, All, IsSome}
-use Rattle.bohm_run.specs.CutLogs.{cutting_of}
-use Rattle.bohm_run.specs.Cuttings.{ahead}
+use Rattle.bohm_line.specs.CutLogs.{cutting_of}
+use Rattle.bohm_line.specs.Cuttings.{ahead}
 use Rattle.bohm_run.specs.Runs.{IsApplied}
 use Rattle.bohm_run.proofs.executing.Executor.run_batches.Given as goal
 

@@ -6,7 +6,7 @@ use Rattle.std.specs.FinMap as finite
 use Rattle.std.specs.Cmp.Lexicographic.{slice_cmp, nat_list_cmp_total}
 use Rattle.std.proofs.lemmas.List.Sorted.{ranks_by, answers_always}
 use Rattle.bohm_txn.specs.Stores.{Store}
-use Rattle.bohm_txn.proofs.Listed.{entries_listed, same_moved}
+use Rattle.bohm_txn.proofs.ForCallers.{entries_listed, same_moved}
 use Rattle.bohm_serial.proofs.store.Store.entries.Goals as goal
 
 pub returns : goal.returns

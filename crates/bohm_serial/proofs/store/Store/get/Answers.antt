@@ -2,7 +2,7 @@ use Rattle.std.proofs.Common.{◌≡◌, ap, sym, ◌∙◌, None, Some}
 use Rattle.std.specs.Map.{lookup}
 use Rattle.std.specs.Str.{bytes_eq}
 use Rattle.bohm_txn.specs.Stores.{cell_of}
-use Rattle.bohm_txn.proofs.Entries.{get-store_of}
+use Rattle.bohm_txn.proofs.ForCallers.{get-store_of}
 use Rattle.bohm_serial.proofs.store.Store.get.Goals as goal
 
 pub returns-in-None : goal.returns-in-None

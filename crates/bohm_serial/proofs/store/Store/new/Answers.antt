@@ -3,7 +3,7 @@ use Rattle.std.specs.List.{slice_get}
 use Rattle.std.specs.FinMap as finite
 use Rattle.std.proofs.lemmas.Option.{slice_get_read}
 use Rattle.bohm_txn.specs.Stores.{Store}
-use Rattle.bohm_txn.proofs.Entries.{store_of-insert, store_of-take}
+use Rattle.bohm_txn.proofs.ForCallers.{store_of-insert, store_of-take}
 use Rattle.bohm_serial.proofs.store.Store.new.Goals as goal
 
 pub loop-key-preserved : goal.loop-key-preserved

@@ -1,4 +1,4 @@
-use Rattle.bohm_txn.proofs.Entries.{store_of-insert, store_of-remove}
+use Rattle.bohm_txn.proofs.ForCallers.{store_of-insert, store_of-remove}
 use Rattle.bohm_serial.proofs.store.Store.put.Goals as goal
 
 pub returns-in-Absent : goal.returns-in-Absent

@@ -10,7 +10,7 @@ use Rattle.std.proofs.lemmas.List.Sorted.{ranks_by, answers_always}
 use Rattle.bohm_txn.specs.Stores.{Store, cell_in}
 use Rattle.bohm_store.specs.Chains.{held, table}
 use Rattle.bohm_store.proofs.Held.{cell_held, distinct_held, keys_table, picks_table}
-use Rattle.bohm_txn.proofs.Listed.{entries_listed, same_moved}
+use Rattle.bohm_txn.proofs.ForCallers.{entries_listed, same_moved}
 use Rattle.bohm_store.proofs.history.History.store_at.Goals as goal
 
 pub returns-in-Ok-clause-past : goal.returns-in-Ok-clause-past

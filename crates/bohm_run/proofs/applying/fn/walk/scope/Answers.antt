@@ -1,5 +1,5 @@
 use Rattle.std.proofs.Common.{rules}
-use Rattle.bohm_run.specs.CutLogs.{cutting_of}
+use Rattle.bohm_line.specs.CutLogs.{cutting_of}
 use Rattle.bohm_run.proofs.Walks.{walk_rests}
 use Rattle.bohm_run.proofs.applying.fn.walk.scope.Goals as goal
 

@@ -1,5 +1,0 @@
-//! Boards in use.
-
-mod race;
-mod rows;
-mod samples;

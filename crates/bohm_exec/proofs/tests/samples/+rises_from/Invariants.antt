@@ -1,5 +1,0 @@
-use Rattle.std.proofs.Common.{length}
-use Rattle.bohm_exec.proofs.tests.samples.+rises_from.Given as goal
-
-abbrev pub decreases-rises_from : goal.decreases-rises_from
-decreases-rises_from l = length l.entries.now

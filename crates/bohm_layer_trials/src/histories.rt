@@ -1,0 +1,325 @@
+//! Histories in use: batches are settled, the past is read and trimmed.
+
+ghost use Rattle.std.specs.Prelude.{◌≡◌, ◌<◌, ◌≤◌, ◌+◌, All, length, OnOk};
+ghost use Rattle.bohm_txn.specs.Faulty.{IsWellFormedTxn};
+
+use crate::boards::{execute, next_batch};
+use crate::logs::checked;
+use bohm_store::{History, PastFault, StoreFault};
+use bohm_text::print_store;
+use bohm_txn::{Cell, Key, NoMemory, Txn, Value};
+use std::alloc::Global;
+use std::process::Abort;
+use std::test::Fail;
+use std::thread::Threads;
+
+// Runs the transactions as the next batch of the history.
+fn settle<R: Abort + Threads + Sync>(
+    rt: &R,
+    alloc: Global,
+    history: &mut History,
+    txns: &[Txn],
+) -> Result<(), NoMemory>
+    requires some { 0 < length txns.now }
+    requires few { length txns.now ≤ 4096 }
+    requires formed { All IsWellFormedTxn txns.now }
+    requires early { history.old.top ≤ 1000 }
+{
+    let batch = next_batch(rt, alloc, history, txns)?;
+    let finished = execute(rt, alloc, batch)?;
+    history.settle(alloc, &finished)
+}
+
+/// The floor, the top and the number of versions, and the store at each timestamp from the floor on.
+fn told(rt: &impl Abort, alloc: Global, history: &History) -> Result<String, Fail> {
+    let (floor, top) = (history.floor(), history.top());
+    let count = history.version_count();
+    let mut text = format!(in alloc; "{floor} to {top}, {count} versions\n")?;
+    for ts in floor..=top {
+        let store = history.store_at(alloc, ts).expect(rt, "a store");
+        text.push_str(str::from_utf8(print_store(alloc, store.as_slice())?.as_slice())?)?;
+    }
+    Ok(text)
+}
+
+// Runs the log as the next batch; after a refusal again, which must have changed nothing that is seen.
+fn settle_log<R: Abort + Threads + Sync>(
+    rt: &R,
+    alloc: Global,
+    history: &mut History,
+    log: &str,
+) -> Result<(), Fail> {
+    let log = checked(alloc, "log 1\n", log)?;
+    let txns = log.log();
+    let fits = !txns.is_empty() && txns.len() <= 4096 && history.top() <= 1000;
+    assert!(rt; fits);
+    let before = told(rt, alloc, history)?;
+    if settle(rt, alloc, history, txns).is_ok() {
+        return Ok(());
+    }
+    assert_eq!(rt; told(rt, alloc, history)?.as_str(), before.as_str());
+    let fits = history.top() <= 1000;
+    assert!(rt; fits);
+    Ok(settle(rt, alloc, history, txns)?)
+}
+
+fn trim(rt: &impl Abort, history: &mut History, floor: &str) -> Result<(), Fail> {
+    let floor = floor.trim().parse::<u32>().ok().ok_or("a floor")?;
+    let below = floor <= history.top();
+    assert!(rt; below);
+    history.trim(floor);
+    Ok(())
+}
+
+/// A history of the store before the first `#`. Of each further part what stands before `@` is run as a
+/// batch, or trims the history where it is a number; then the history is told so.
+fn goes_so<R: Abort + Threads + Sync>(rt: &R, alloc: Global, row: &str) -> Result<(), Fail> {
+    let (store, parts) = row.split_once('#').ok_or("a store")?;
+    let mut history = History::open(alloc, checked(alloc, "log 1\n", store)?.store())?;
+    for part in parts.split('#') {
+        let (step, want) = part.split_once('@').ok_or("a step")?;
+        if step.starts_with("txn") {
+            settle_log(rt, alloc, &mut history, step)?;
+        } else if !step.is_empty() {
+            trim(rt, &mut history, step)?;
+        }
+        assert_eq!(rt; told(rt, alloc, &history)?.as_str(), want, "{part}");
+    }
+    Ok(())
+}
+
+/// A removal, of which a trim leaves the version that says so.
+const REMOVAL: &str = "\
+a 5
+#@0 to 0, 1 versions
+--
+a 5
+#txn
+reads
+writes a
+drop a
+end
+txn
+reads a
+writes
+need has a
+end
+txn
+reads a
+writes
+show a + 1
+end
+@0 to 3, 2 versions
+--
+a 5
+--
+--
+--
+#2@2 to 3, 1 versions
+--
+--
+#1@2 to 3, 1 versions
+--
+--
+";
+
+/// An aborted writer has a version.
+const ABORTED: &str = "\
+#@0 to 0, 0 versions
+--
+#txn
+reads
+writes a
+set a = 1
+fail
+end
+txn
+reads a
+writes
+need no a
+end
+@0 to 2, 1 versions
+--
+--
+--
+";
+
+/// Each batch sees the one before, and a floor is still seen.
+const COUNTERS: &str = "\
+a 0
+#txn
+reads a
+writes a
+set a = a + 1
+end
+@0 to 1, 2 versions
+--
+a 0
+--
+a 1
+#txn
+reads a
+writes a
+set a = a + 1
+end
+txn
+reads a
+writes a
+set a = a + 1
+end
+@0 to 3, 4 versions
+--
+a 0
+--
+a 1
+--
+a 2
+--
+a 3
+#2@2 to 3, 2 versions
+--
+a 2
+--
+a 3
+";
+
+/// Batches and trims in turn. The aborted third transaction has a version.
+const IN_TURN: &str = "\
+a 1
+b 2
+#@0 to 0, 2 versions
+--
+a 1
+b 2
+#txn
+reads a
+writes a
+set a = a + 1
+end
+txn
+reads
+writes b c
+drop b
+set c = 3
+end
+@0 to 2, 5 versions
+--
+a 1
+b 2
+--
+a 2
+b 2
+--
+a 2
+c 3
+#1@1 to 2, 4 versions
+--
+a 2
+b 2
+--
+a 2
+c 3
+#txn
+reads b
+writes a
+set a = b
+end
+@1 to 3, 5 versions
+--
+a 2
+b 2
+--
+a 2
+c 3
+--
+a 2
+c 3
+#txn
+reads
+writes b
+set b = 7
+end
+txn
+reads
+writes a
+drop a
+end
+@1 to 5, 7 versions
+--
+a 2
+b 2
+--
+a 2
+c 3
+--
+a 2
+c 3
+--
+a 2
+b 7
+c 3
+--
+b 7
+c 3
+#3@3 to 5, 5 versions
+--
+a 2
+c 3
+--
+a 2
+b 7
+c 3
+--
+b 7
+c 3
+#5@5 to 5, 3 versions
+--
+b 7
+c 3
+";
+
+/// A store is listed by rising keys.
+const NAMES: &str = "\
+a 7
+a1 7
+ab 7
+b 7
+c_1 7
+#@0 to 0, 5 versions
+--
+a 7
+a1 7
+ab 7
+b 7
+c_1 7
+";
+
+#[test]
+fn batches_and_trims(rt: HostRuntime) -> Result<(), Fail> {
+    for row in [REMOVAL, ABORTED, COUNTERS, IN_TURN, NAMES] {
+        goes_so(&rt, rt.alloc(), row)?;
+    }
+    Ok(())
+}
+
+/// What single keys held, and what is said outside the past.
+#[test]
+fn values_of_the_past(rt: HostRuntime) -> Result<(), Fail> {
+    let alloc: Global = rt.alloc();
+    let (store, parts) = REMOVAL.split_once('#').ok_or("a store")?;
+    let log = parts.split('#').nth(1).ok_or("a log")?;
+    let log = log.split('@').next().ok_or("a log")?;
+    let mut history = History::open(alloc, checked(alloc, "log 1\n", store)?.store())?;
+    settle_log(&rt, alloc, &mut history, log)?;
+    let (a, b) = (Key::new(b"a").ok_or("a")?, Key::new(b"b").ok_or("b")?);
+    assert_eq!(rt; history.value_at(&a, 0), Ok(Cell::Present(Value::from(5))));
+    assert_eq!(rt; history.value_at(&a, 1), Ok(Cell::Absent));
+    assert_eq!(rt; history.value_at(&b, 2), Ok(Cell::Absent));
+    assert_eq!(rt; history.value_at(&a, 4), Err(PastFault::Future));
+    assert_eq!(rt; history.store_at(alloc, 4).err(), Some(StoreFault::Future));
+    trim(&rt, &mut history, "2")?;
+    assert_eq!(rt; history.value_at(&a, 1), Err(PastFault::Trimmed));
+    assert_eq!(rt; history.value_at(&a, 2), Ok(Cell::Absent));
+    assert_eq!(rt; history.store_at(alloc, 1).err(), Some(StoreFault::Trimmed));
+    Ok(())
+}

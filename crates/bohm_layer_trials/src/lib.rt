@@ -1,0 +1,24 @@
+//! Tests of the layers that a run is made of, over their public calls: what the check finds, how
+//! transactions end, plans, sweeps by several passes and threads, and histories in use.
+#![tactic(auto)]
+
+#[cfg(test)]
+mod batches;
+#[cfg(test)]
+mod boards;
+#[cfg(test)]
+mod crowds;
+#[cfg(test)]
+mod endings;
+#[cfg(test)]
+mod faults;
+#[cfg(test)]
+mod histories;
+#[cfg(test)]
+mod logs;
+#[cfg(test)]
+mod planning;
+#[cfg(test)]
+mod sweeper;
+#[cfg(test)]
+mod sweeps;

@@ -1,0 +1,350 @@
+//! Plans of a batch behind an earlier one, and the chains that they leave.
+
+ghost use Rattle.std.specs.Prelude.{◌≡◌, ◌%◌, ◌<◌, length, slice_index};
+ghost use Rattle.std.proofs.Math.Nat.{mod-lt};
+ghost use Rattle.bohm_place.specs.Plans.{IsRightPlan};
+
+use crate::logs::checked;
+use bohm_place::{Access, DeclaredSet, Partition, Places, Plan, Shards, Source, plan};
+use bohm_txn::{Checked, Key, Txn};
+use std::alloc::Global;
+use std::process::Abort;
+use std::sync::atomic::{AtomicU64, Ordering};
+use std::test::Fail;
+use std::thread;
+use std::thread::Threads;
+
+/// By a key's first byte.
+#[derive(Drop)]
+pub struct FirstByte {
+    parts: u32,
+    ghost some: { 0 < parts },
+}
+
+impl FirstByte {
+    pub fn new(parts: u32) -> FirstByte
+        requires { 0 < parts }
+        ensures { result.parts ≡ parts }
+    {
+        FirstByte { parts }
+    }
+}
+
+impl Partition for FirstByte {
+    ghost count = { λ s. s.parts };
+
+    ghost part_of = { λ s k. slice_index k 0 % s.parts };
+
+    fn parts(&self) -> u32 {
+        self.parts
+    }
+
+    fn part(&self, key: &Key) -> u32 {
+        match key.bytes() {
+            [] => 0,
+            [first, ..] => *first as u32 % self.parts,
+        }
+    }
+
+    ghost in_range = { λ s k. mod-lt (slice_index k 0) s.some };
+}
+
+/// By a key's first byte. The first call waits, for a while, until a second one has begun.
+#[derive(Drop)]
+struct Meeting {
+    bytes: FirstByte,
+    calls: AtomicU64,
+    met: AtomicU64,
+}
+
+impl Partition for Meeting {
+    ghost count = { λ s. s.bytes.parts };
+
+    ghost part_of = { λ s k. slice_index k 0 % s.bytes.parts };
+
+    fn parts(&self) -> u32 {
+        self.bytes.parts()
+    }
+
+    fn part(&self, key: &Key) -> u32 {
+        if self.calls.fetch_add(1, Ordering::SeqCst) == 0 {
+            for _ in 0..10_000_000u32 {
+                if self.calls.load(Ordering::SeqCst) > 1 {
+                    self.met.store(1, Ordering::SeqCst);
+                    break;
+                }
+                thread::yield_now();
+            }
+        }
+        self.bytes.part(key)
+    }
+
+    ghost in_range = { λ s k. mod-lt (slice_index k 0) s.bytes.some };
+}
+
+/// By a key's first byte. Counts the calls that are under way at once, each of which takes its time.
+#[derive(Drop)]
+struct Crowd {
+    bytes: FirstByte,
+    now: AtomicU64,
+    most: AtomicU64,
+}
+
+impl Partition for Crowd {
+    ghost count = { λ s. s.bytes.parts };
+
+    ghost part_of = { λ s k. slice_index k 0 % s.bytes.parts };
+
+    fn parts(&self) -> u32 {
+        self.bytes.parts()
+    }
+
+    fn part(&self, key: &Key) -> u32 {
+        let others = self.now.fetch_add(1, Ordering::SeqCst);
+        self.most
+            .fetch_max(others.wrapping_add(1), Ordering::SeqCst);
+        for _ in 0..1000u32 {
+            thread::yield_now();
+        }
+        self.now.fetch_sub(1, Ordering::SeqCst);
+        self.bytes.part(key)
+    }
+
+    ghost in_range = { λ s k. mod-lt (slice_index k 0) s.bytes.some };
+}
+
+/// Writes a.
+const EARLIER: &str = "txn\nreads\nwrites a\nend\n";
+
+/// Transactions without statements.
+const BATCH: &str = "\
+txn
+reads
+writes a b
+end
+txn
+reads a
+writes a
+end
+txn
+reads a c
+writes b
+end
+txn
+reads a b
+writes c
+end
+";
+
+// The access of a declared read.
+fn read_of(rt: &impl Abort, plan: &Plan, txns: &[Txn], t: u32, index: u32) -> Access
+    requires { IsRightPlan txns.now plan.now }
+{
+    let place = t
+        .checked_sub(plan.first())
+        .expect(rt, "a timestamp of the batch");
+    let txn = txns.get(place as usize).expect(rt, "a transaction");
+    let inside = (index as usize) < txn.reads.as_slice().len();
+    assert!(rt; inside);
+    let access = plan.access(DeclaredSet::Reads, t, index);
+    assert_eq!(rt; plan.read(t, index), access.source);
+    access
+}
+
+// The access of a declared write.
+fn write_of(rt: &impl Abort, plan: &Plan, txns: &[Txn], t: u32, index: u32) -> Access
+    requires { IsRightPlan txns.now plan.now }
+{
+    let place = t
+        .checked_sub(plan.first())
+        .expect(rt, "a timestamp of the batch");
+    let txn = txns.get(place as usize).expect(rt, "a transaction");
+    let inside = (index as usize) < txn.writes.as_slice().len();
+    assert!(rt; inside);
+    let access = plan.access(DeclaredSet::Writes, t, index);
+    assert_eq!(rt; plan.write(t, index), access.source);
+    access
+}
+
+fn within(begin: u32, index: u32) -> Access {
+    Access {
+        source: Source::Within(begin),
+        index,
+    }
+}
+
+fn before() -> Access {
+    Access {
+        source: Source::Before,
+        index: 0,
+    }
+}
+
+fn assert_plan(rt: &impl Abort, plan: &Plan, txns: &[Txn])
+    requires { IsRightPlan txns.now plan.now }
+{
+    assert_eq!(rt; plan.first(), 5);
+    assert_eq!(rt; plan.len(), 4);
+    for (t, index, want) in [
+        (6, 0, within(5, 0)),
+        (7, 0, within(6, 0)),
+        (7, 1, before()),
+        (8, 0, within(6, 0)),
+        (8, 1, within(7, 0)),
+    ] {
+        assert_eq!(rt;
+            read_of(rt, plan, txns, t, index),
+            want,
+            "read {index} of {t}"
+        );
+    }
+    for (t, index, want) in [
+        (5, 0, before()),
+        (5, 1, before()),
+        (6, 0, within(5, 0)),
+        (7, 0, within(5, 1)),
+        (8, 0, before()),
+    ] {
+        assert_eq!(rt;
+            write_of(rt, plan, txns, t, index),
+            want,
+            "write {index} of {t}"
+        );
+    }
+}
+
+// What `source` answers of a key at some timestamps.
+fn assert_chain(rt: &impl Abort, shards: &Shards, part: u32, name: &[u8], sources: &[(u32, u32)])
+    requires { part < length shards.now }
+{
+    let key = Key::new(name).expect(rt, "a name");
+    for (ts, want) in sources {
+        assert_eq!(rt;
+            shards.places(part).source(&key, *ts),
+            *want,
+            "{key:?} at {ts}"
+        );
+    }
+}
+
+// The chains of a, b and c.
+fn assert_chains(
+    rt: &impl Abort,
+    shards: &Shards,
+    parts: &FirstByte,
+    a: &[(u32, u32)],
+    b: &[(u32, u32)],
+    c: &[(u32, u32)],
+)
+    requires { length shards.now ≡ parts.now.parts }
+{
+    assert_chain(rt, shards, 97 % parts.parts, b"a", a);
+    assert_chain(rt, shards, 98 % parts.parts, b"b", b);
+    assert_chain(rt, shards, 99 % parts.parts, b"c", c);
+}
+
+// Plans the batch behind an earlier one, looks at the plan and the chains, and trims them twice.
+fn plan_batch<R: Abort + Threads + Sync>(
+    rt: &R,
+    alloc: Global,
+    earlier: &Checked,
+    batch: &Checked,
+    parts: FirstByte,
+    cc: u32,
+) -> Result<(), Fail>
+    requires { 0 < cc }
+{
+    let shards = Shards::new(alloc, parts.parts)?;
+    let one = earlier.log().len() == 1;
+    assert!(rt; one);
+    let (shards, _) = plan(rt, alloc, shards, 2, earlier.log(), cc, &parts)?;
+    let txns = batch.log();
+    let four = txns.len() == 4;
+    assert!(rt; four);
+    let (mut shards, plan) = plan(rt, alloc, shards, 5, txns, cc, &parts)?;
+    assert_plan(rt, &plan, txns);
+    let a = [(9, 6), (6, 5), (5, 2), (2, 0)];
+    let b = [(9, 7), (7, 5), (5, 0)];
+    let c = [(9, 8), (8, 0)];
+    assert_chains(rt, &shards, &parts, &a, &b, &c);
+    shards.trim_places(5);
+    let a = [(9, 6), (6, 5), (5, 0)];
+    assert_chains(rt, &shards, &parts, &a, &b, &c);
+    shards.trim_places(6);
+    let a = [(9, 6), (6, 0)];
+    assert_chains(rt, &shards, &parts, &a, &b, &c);
+    Ok(())
+}
+
+#[test]
+fn every_number_of_workers_and_parts_gives_the_same_plan(rt: HostRuntime) -> Result<(), Fail> {
+    let earlier = checked(rt.alloc(), "log 1\n", EARLIER)?;
+    let batch = checked(rt.alloc(), "log 1\n", BATCH)?;
+    for parts in [1, 7, 64] {
+        for cc in [1, 2, 16] {
+            plan_batch(&rt, rt.alloc(), &earlier, &batch, FirstByte::new(parts), cc)?;
+        }
+    }
+    Ok(())
+}
+
+// Plans the batch alone, and looks at the plan.
+fn plan_alone<P: Partition, R: Abort + Threads + Sync>(
+    rt: &R,
+    alloc: Global,
+    parts: &P,
+    cc: u32,
+) -> Result<(), Fail>
+    requires { 0 < cc }
+{
+    let batch = checked(alloc, "log 1\n", BATCH)?;
+    let txns = batch.log();
+    let four = txns.len() == 4;
+    assert!(rt; four);
+    let shards = Shards::new(alloc, parts.parts())?;
+    let (_, plan) = plan(rt, alloc, shards, 5, txns, cc, parts)?;
+    assert_plan(rt, &plan, txns);
+    Ok(())
+}
+
+#[test]
+fn two_workers_plan_at_once(rt: HostRuntime) -> Result<(), Fail> {
+    let meeting = Meeting {
+        bytes: FirstByte::new(2),
+        calls: AtomicU64::new(0),
+        met: AtomicU64::new(0),
+    };
+    plan_alone(&rt, rt.alloc(), &meeting, 2)?;
+    assert_eq!(rt; meeting.met.load(Ordering::SeqCst), 1);
+    Ok(())
+}
+
+#[test]
+fn no_more_workers_plan_than_were_asked_for(rt: HostRuntime) -> Result<(), Fail> {
+    for cc in [1, 2] {
+        let crowd = Crowd {
+            bytes: FirstByte::new(64),
+            now: AtomicU64::new(0),
+            most: AtomicU64::new(0),
+        };
+        plan_alone(&rt, rt.alloc(), &crowd, cc)?;
+        let most = crowd.most.load(Ordering::SeqCst);
+        assert!(rt; most <= u64::from(cc), "{most} of {cc}");
+    }
+    Ok(())
+}
+
+#[test]
+fn a_source_is_below_the_timestamp(rt: HostRuntime) -> Result<(), Fail> {
+    let alloc: Global = rt.alloc();
+    let key = Key::new(b"a").expect(&rt, "a name");
+    let other = Key::new(b"b").expect(&rt, "a name");
+    let mut places = Places::new(alloc);
+    places.place(alloc, key, 4)?;
+    places.place(alloc, key, 9)?;
+    for (ts, want) in [(3, 0), (4, 0), (5, 4), (9, 4), (10, 9)] {
+        assert_eq!(rt; places.source(&key, ts), want, "at {ts}");
+        assert_eq!(rt; places.source(&other, ts), 0, "at {ts}");
+    }
+    Ok(())
+}

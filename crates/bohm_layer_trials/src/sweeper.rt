@@ -1,0 +1,130 @@
+//! A board and the pass that sweeps it.
+
+ghost use Rattle.std.specs.Prelude.{◌≡◌};
+ghost use Rattle.bohm_exec.specs.Turns.{IsFree};
+
+use crate::boards::{assert_in, finish, next_batch, sweep_these};
+use bohm_board::{Batch, Board, Claimed, Pass, Slot, Status};
+use bohm_exec::{Aside, Finished, Gate};
+use bohm_store::History;
+use bohm_txn::{Cell, Checked};
+use std::alloc::Global;
+use std::process::Abort;
+use std::test::Fail;
+use std::thread::Threads;
+
+/// A board, and a pass that holds nothing.
+#[derive(Drop)]
+pub struct Sweeper<'a> {
+    board: Board<'a>,
+    pass: Pass,
+    ghost free: { IsFree board pass },
+}
+
+/// How far a position is, and the cell of one of its slots.
+pub fn seen(
+    rt: &impl Abort,
+    board: &Board,
+    pass: &mut Pass,
+    t: u32,
+    index: u32,
+) -> (Status, Option<Cell>)
+    requires { IsFree board.now pass.old }
+    ensures { IsFree board.now pass.new }
+{
+    let batch = board.batch();
+    assert_in(rt, batch, t);
+    let txn = batch.txn(t);
+    let writes = txn.writes.as_slice().len();
+    let body = txn.body.as_slice();
+    let shows = body.iter().filter(|stmt| stmt.is_show()).count();
+    let place = index as usize;
+    let inside = place < writes || place - writes < shows;
+    assert!(rt; inside);
+    let status = board.status(pass, t);
+    let found = board.look(pass, Slot { txn: t, index });
+    (status, found)
+}
+
+/// One pass that knows what each of the two knew.
+pub fn joined(board: &Board, left: Pass, right: Pass) -> Pass
+    requires { IsFree board.now left × IsFree board.now right }
+    ensures { IsFree board.now result }
+{
+    board.join(left, right)
+}
+
+impl<'a> Sweeper<'a> {
+    /// Of a log, over its own store.
+    pub fn new<R: Abort + Threads + Sync>(
+        rt: &R,
+        alloc: Global,
+        log: &'a Checked,
+    ) -> Result<Sweeper<'a>, Fail> {
+        let txns = log.log();
+        let history = History::open(alloc, log.store())?;
+        let fits = !txns.is_empty() && txns.len() <= 4096 && history.top() <= 1000;
+        assert!(rt; fits);
+        let batch = next_batch(rt, alloc, &history, txns)?;
+        let (board, pass) = Board::open(alloc, batch)?;
+        Ok(Sweeper { board, pass })
+    }
+
+    /// The batch that the board is of.
+    pub fn batch(&self) -> &Batch<'a> {
+        self.board.batch()
+    }
+
+    /// What a sweep of these positions sets aside.
+    pub fn sweep<G: Gate>(
+        &mut self,
+        rt: &impl Abort,
+        alloc: Global,
+        share: &[u32],
+        gate: &G,
+    ) -> Aside {
+        sweep_these(rt, alloc, &self.board, &mut self.pass, share, gate)
+    }
+
+    /// Another pass, which claims an open position.
+    pub fn hold(self, rt: &impl Abort, t: u32) -> (Sweeper<'a>, Pass) {
+        let Sweeper { board, pass } = self;
+        assert_in(rt, board.batch(), t);
+        let (pass, mut holder) = board.split(pass);
+        let is_mine = matches!(board.claim(&mut holder, t), Claimed::Mine);
+        assert!(rt; is_mine);
+        assert_eq!(rt; Board::holding(&holder), Some(t));
+        assert_eq!(rt; Board::holding(&pass), None);
+        (Sweeper { board, pass }, holder)
+    }
+
+    /// How far a position is, and the cell of one of its slots.
+    pub fn see(&mut self, rt: &impl Abort, t: u32, index: u32) -> (Status, Option<Cell>) {
+        seen(rt, &self.board, &mut self.pass, t, index)
+    }
+
+    /// The board, with two passes.
+    pub fn split(self) -> (Board<'a>, Pass, Pass)
+        ensures { IsFree result.0 result.1 × IsFree result.0 result.2 }
+    {
+        let Sweeper { board, pass } = self;
+        let (left, right) = board.split(pass);
+        (board, left, right)
+    }
+
+    /// The board with one of its passes.
+    pub fn of(board: Board<'a>, pass: Pass) -> Sweeper<'a>
+        requires { IsFree board pass }
+    {
+        Sweeper { board, pass }
+    }
+
+    /// Closes the board: how many positions have no outcome, and what completing it leaves.
+    pub fn finish(self, rt: &impl Abort, alloc: Global, asides: &[Aside]) -> (u32, Finished<'a>) {
+        let Sweeper { board, pass } = self;
+        let closed = board.close(pass);
+        let unfinished = closed.unfinished();
+        let finished = finish(rt, alloc, closed, asides);
+        (unfinished, finished)
+    }
+}

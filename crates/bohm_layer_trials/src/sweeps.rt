@@ -1,0 +1,303 @@
+//! Worked examples of sweeps, whose answers are the serial run's by hand.
+
+ghost use Rattle.bohm_exec.specs.Turns.{IsFree};
+ghost use denote.Param.Send.{IsSync};
+
+use crate::boards::{cell, outcome, present, shown, sweep_these};
+use crate::logs::{checked, repeated};
+use crate::sweeper::{Sweeper, joined, seen};
+use bohm_board::{Board, Pass, Status};
+use bohm_exec::{Gate, OpenGate, Point, share_of};
+use bohm_txn::{Cell, Checked, Outcome, Reason};
+use std::alloc::Global;
+use std::process::Abort;
+use std::sync::atomic::{AtomicU64, Ordering};
+use std::test::Fail;
+use std::thread;
+use std::thread::Threads;
+
+/// Shows `a` and counts it up.
+const COUNTER: &str = "txn\nreads a\nwrites a\nshow a\nset a = a + 1\nend\n";
+
+/// Counts `a` up from 0, so often.
+fn counters(alloc: Global, count: u32) -> Result<Checked, Fail> {
+    checked(
+        alloc,
+        "log 1\na 0\n",
+        repeated(alloc, COUNTER, count)?.as_str(),
+    )
+}
+
+const FAILING: &str = "\
+txn
+reads
+writes a
+set a = 1
+fail
+end
+txn
+reads a
+writes
+need no a
+end
+";
+
+#[test]
+fn backwards(rt: HostRuntime) -> Result<(), Fail> {
+    let alloc: Global = rt.alloc();
+    let log = checked(alloc, "log 1\n", FAILING)?;
+    let mut sweeper = Sweeper::new(&rt, alloc, &log)?;
+    let aside = sweeper.sweep(&rt, alloc, &[2, 1], &OpenGate);
+    assert_eq!(rt; aside.pairs(), [].as_slice());
+    let (_, finished) = sweeper.finish(&rt, alloc, &[aside]);
+    let failed = Outcome::Abort {
+        reason: Reason::Fail,
+        stmt: 2,
+    };
+    assert_eq!(rt; outcome(&rt, &finished, 1), failed);
+    assert_eq!(rt; cell(&rt, &finished, 1), Cell::Absent);
+    assert_eq!(rt; outcome(&rt, &finished, 2), Outcome::Commit);
+    Ok(())
+}
+
+/// Sets a flag at each of the two points of position 1, and goes on from its claim once it is let go.
+#[derive(Drop)]
+struct FirstHeld {
+    claimed: AtomicU64,
+    let_go: AtomicU64,
+    finished: AtomicU64,
+}
+
+/// Waits, for a while, until the flag is set.
+fn wait_for(flag: &AtomicU64) {
+    for _ in 0..10_000_000u32 {
+        if flag.load(Ordering::SeqCst) > 0 {
+            return;
+        }
+        thread::yield_now();
+    }
+}
+
+impl Gate for FirstHeld {
+    fn at(&self, point: Point) {
+        if point == Point::Claimed(1) {
+            self.claimed.store(1, Ordering::SeqCst);
+            wait_for(&self.let_go);
+        }
+        if point == Point::Finished(1) {
+            self.finished.store(1, Ordering::SeqCst);
+        }
+    }
+}
+
+// What another pass finds while position 1 is held, and once it is finished.
+fn look_at_held(rt: &impl Abort, alloc: Global, board: &Board, mut pass: Pass, gate: &FirstHeld)
+    requires { IsFree board.now pass }
+{
+    wait_for(&gate.claimed);
+    assert_eq!(rt; gate.claimed.load(Ordering::SeqCst), 1);
+    assert_eq!(rt; seen(rt, board, &mut pass, 1, 0), (Status::Busy, None));
+    assert_eq!(rt; seen(rt, board, &mut pass, 1, 1), (Status::Busy, None));
+    assert_eq!(rt; seen(rt, board, &mut pass, 2, 0), (Status::Open, None));
+    let aside = sweep_these(rt, alloc, board, &mut pass, &[3, 2], &OpenGate);
+    assert_eq!(rt; aside.pairs(), [(3, 1), (2, 1)].as_slice());
+    gate.let_go.store(1, Ordering::SeqCst);
+    wait_for(&gate.finished);
+    let written = Some(present(1));
+    assert_eq!(rt; seen(rt, board, &mut pass, 1, 0), (Status::Done, written));
+    let shown = Some(present(0));
+    assert_eq!(rt; seen(rt, board, &mut pass, 1, 1), (Status::Done, shown));
+}
+
+#[derive(Drop)]
+struct Job {
+    pass: Pass,
+    looks: bool,
+}
+
+// Does one of the two jobs.
+fn work(rt: &impl Abort, alloc: Global, board: &Board, job: Job, gate: &FirstHeld)
+    requires { IsFree board.now job.pass }
+{
+    let Job { mut pass, looks } = job;
+    if looks {
+        look_at_held(rt, alloc, board, pass, gate);
+    } else {
+        let aside = sweep_these(rt, alloc, board, &mut pass, &[1], gate);
+        assert_eq!(rt; aside.pairs(), [].as_slice());
+    }
+}
+
+// One pass sweeps position 1, and another one looks at it.
+fn hold_and_look<R: Abort + Threads + Sync>(
+    rt: &R,
+    alloc: Global,
+    board: &Board,
+    holder: Pass,
+    other: Pass,
+)
+    requires { IsFree board.now holder × IsFree board.now other }
+{
+    let gate = FirstHeld {
+        claimed: AtomicU64::new(0),
+        let_go: AtomicU64::new(0),
+        finished: AtomicU64::new(0),
+    };
+    let jobs = vec![in alloc;
+        Job {
+            pass: holder,
+            looks: false
+        },
+        Job {
+            pass: other,
+            looks: true
+        },
+    ];
+    let ended = thread::map_vec(
+        rt,
+        jobs.ok().expect(rt, "memory"),
+        &|job: Job|
+            requires { IsSync R.row × IsFree board.now job.pass }
+        { work(rt, alloc, board, job, &gate) },
+    );
+    assert!(rt; ended.is_ok());
+}
+
+#[test]
+fn held_then_finished(rt: HostRuntime) -> Result<(), Fail> {
+    let alloc: Global = rt.alloc();
+    let log = counters(alloc, 3)?;
+    let (board, pass, other) = Sweeper::new(&rt, alloc, &log)?.split();
+    let (holder, looker) = board.split(other);
+    hold_and_look(&rt, alloc, &board, holder, looker);
+    let (pass, other) = board.split(pass);
+    let pass = joined(&board, pass, other);
+    let mut sweeper = Sweeper::of(board, pass);
+    let aside = sweeper.sweep(&rt, alloc, &[3, 2], &OpenGate);
+    assert_eq!(rt; aside.pairs(), [].as_slice());
+    let (unfinished, finished) = sweeper.finish(&rt, alloc, &[]);
+    assert_eq!(rt; unfinished, 0);
+    assert_eq!(rt; shown(&rt, &finished, 3), present(2));
+    Ok(())
+}
+
+#[test]
+fn held_and_dropped(rt: HostRuntime) -> Result<(), Fail> {
+    let alloc: Global = rt.alloc();
+    let log = counters(alloc, 3)?;
+    let (mut sweeper, holder) = Sweeper::new(&rt, alloc, &log)?.hold(&rt, 1);
+    let others = sweeper.sweep(&rt, alloc, &[3, 2], &OpenGate);
+    assert_eq!(rt; others.pairs(), [(3, 1), (2, 1)].as_slice());
+    drop(holder);
+    let first = sweeper.sweep(&rt, alloc, &[1], &OpenGate);
+    assert_eq!(rt; first.pairs(), [(1, 1)].as_slice());
+    assert_eq!(rt; sweeper.see(&rt, 1, 0), (Status::Busy, None));
+    let (unfinished, finished) = sweeper.finish(&rt, alloc, &[others, first]);
+    assert_eq!(rt; unfinished, 3);
+    for t in 1..=3 {
+        assert_eq!(rt; outcome(&rt, &finished, t), Outcome::Commit, "at {t}");
+        assert_eq!(rt; shown(&rt, &finished, t), present(t - 1), "at {t}");
+    }
+    assert_eq!(rt; cell(&rt, &finished, 3), present(3));
+    Ok(())
+}
+
+const OVERWRITTEN: &str = "\
+txn
+reads a
+writes a
+set a = a + 1
+end
+txn
+reads
+writes a
+set a = 9
+end
+";
+
+#[test]
+fn sure_write_goes_past(rt: HostRuntime) -> Result<(), Fail> {
+    let alloc: Global = rt.alloc();
+    let log = checked(alloc, "log 1\na 5\n", OVERWRITTEN)?;
+    let (mut sweeper, holder) = Sweeper::new(&rt, alloc, &log)?.hold(&rt, 1);
+    let second = sweeper.sweep(&rt, alloc, &[2], &OpenGate);
+    assert_eq!(rt; second.pairs(), [].as_slice());
+    drop(holder);
+    let first = sweeper.sweep(&rt, alloc, &[1], &OpenGate);
+    assert_eq!(rt; first.pairs(), [(1, 1)].as_slice());
+    let (_, finished) = sweeper.finish(&rt, alloc, &[first]);
+    assert_eq!(rt; cell(&rt, &finished, 1), present(6));
+    assert_eq!(rt; cell(&rt, &finished, 2), present(9));
+    Ok(())
+}
+
+/// Counts the claims and the ends.
+#[derive(Drop)]
+struct Counts {
+    claimed: AtomicU64,
+    finished: AtomicU64,
+}
+
+impl Gate for Counts {
+    fn at(&self, point: Point) {
+        match point {
+            Point::Planned(_) => {}
+            Point::Claimed(_) => {
+                self.claimed.fetch_add(1, Ordering::SeqCst);
+            }
+            Point::Finished(_) => {
+                self.finished.fetch_add(1, Ordering::SeqCst);
+            }
+        }
+    }
+}
+
+#[test]
+fn eight_one_held(rt: HostRuntime) -> Result<(), Fail> {
+    let alloc: Global = rt.alloc();
+    let log = counters(alloc, 8)?;
+    let (mut sweeper, holder) = Sweeper::new(&rt, alloc, &log)?.hold(&rt, 4);
+    let counts = Counts {
+        claimed: AtomicU64::new(0),
+        finished: AtomicU64::new(0),
+    };
+    let aside = sweeper.sweep(&rt, alloc, &[1, 2, 3, 4, 5, 6, 7, 8], &counts);
+    drop(holder);
+    let pairs = [(4, 4), (5, 4), (6, 4), (7, 4), (8, 4)];
+    assert_eq!(rt; aside.pairs(), pairs.as_slice());
+    assert_eq!(rt; counts.claimed.load(Ordering::SeqCst), 3);
+    assert_eq!(rt; counts.finished.load(Ordering::SeqCst), 3);
+    assert_eq!(rt; sweeper.see(&rt, 3, 0), (Status::Done, Some(present(3))));
+    assert_eq!(rt; sweeper.see(&rt, 4, 0), (Status::Busy, None));
+    assert_eq!(rt; sweeper.see(&rt, 5, 0), (Status::Open, None));
+    let (unfinished, finished) = sweeper.finish(&rt, alloc, &[aside]);
+    assert_eq!(rt; unfinished, 5);
+    assert_eq!(rt; (finished.first(), finished.len()), (1, 8));
+    assert_eq!(rt; shown(&rt, &finished, 8), present(7));
+    assert_eq!(rt; cell(&rt, &finished, 8), present(8));
+    Ok(())
+}
+
+#[test]
+fn deepest_work_stack(rt: HostRuntime) -> Result<(), Fail> {
+    let alloc: Global = rt.alloc();
+    let log = counters(alloc, 4096)?;
+    let mut sweeper = Sweeper::new(&rt, alloc, &log)?;
+    let mut share = Vec::new(alloc);
+    for i in 0..4096 {
+        share.push(4096 - i)?;
+    }
+    let aside = sweeper.sweep(&rt, alloc, share.as_slice(), &OpenGate);
+    assert_eq!(rt; aside.pairs(), [].as_slice());
+    let (_, finished) = sweeper.finish(&rt, alloc, &[aside]);
+    assert_eq!(rt; shown(&rt, &finished, 4096), present(4095));
+    assert_eq!(rt; cell(&rt, &finished, 4096), present(4096));
+    Ok(())
+}
+
+#[test]
+fn shares(rt: HostRuntime) -> Result<(), Fail> {
+    let share = share_of(rt.alloc(), 5, 7, 1, 3)?;
+    assert_eq!(rt; share.as_slice(), [6, 9].as_slice());
+    Ok(())
+}

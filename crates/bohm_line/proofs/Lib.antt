@@ -1,0 +1,3 @@
+mod Moves
+mod Sizes
+pub mod ForCallers

@@ -1,0 +1,4 @@
+pub mod Cuttings
+pub mod CutLogs
+pub mod Lines
+pub mod Planning

@@ -1,0 +1,38 @@
+-- The line of plans, and the rule of the queue that carries it.
+use Rattle.std.specs.Prelude.{◌≡◌, ℕ, ◌+◌, ◌<◌, Bool, true, List, [], ◌∷◌, ◌++◌, length, IsNone}
+use Rattle.std.specs.Option.{ForSome}
+use mathlib.Core.Option.{some}
+use lib.ListN.{get_elem?}
+use Rattle.bohm_line.specs.Cuttings.{Cutting, IsPlanAt}
+use Rattle.bohm_line.specs.declared.line.note.PlanNote.{PlanNote}
+use Rattle.bohm_line.specs.declared.line.rule.End.{End}
+
+-- the note is of the batch at this place; a plan in it is right for that batch
+pub record IsNoteAt (c : Cutting) (i : ℕ) (x : PlanNote) : Type 0 where
+  pub number : x.number ≡ i + 1
+  pub batch : i < length c.sizes
+  pub plan : ForSome x.plan (IsPlanAt c i)
+
+-- notes of the batches from this place on, up to one at most that says that planning was refused, which is the last
+abbrev pub IsLine : Cutting → ℕ → List PlanNote → Type 0
+IsLine c i [] = Unit {0}
+IsLine c i (x ∷ xs) = IsNoteAt c i x × (IsNone x.plan → xs ≡ []) × IsLine c (i + 1) xs
+
+-- ---- the rule
+
+abbrev pub end_of : Bool → Bool → List PlanNote → List PlanNote → End
+end_of sends takes sent taken = record { sends = sends; takes = takes; sent = sent; taken = taken }
+
+-- an end that sends is the only one and has sent these, and one that takes is the only one and has taken these
+abbrev pub Fits : ℕ → ℕ → List PlanNote → List PlanNote → ℕ → End → Type 0
+Fits sender receiver sent taken port v = (v.sends ≡ true → (port ≡ sender) × (v.sent ≡ sent)) × (v.takes ≡ true → (port ≡ receiver) × (v.taken ≡ taken))
+
+-- the sent notes are a line: those that were taken, and then those that the queue holds
+pub record IsInOrder (c : Cutting) (items : List PlanNote) (views : List End) : Type 0 where
+  pub sender : ℕ
+  pub receiver : ℕ
+  pub sent : List PlanNote
+  pub taken : List PlanNote
+  pub held : sent ≡ taken ++ items
+  pub line : IsLine c 0 sent
+  pub fit : (port : ℕ) (v : End) → get_elem? views port ≡ some v → Fits sender receiver sent taken port v

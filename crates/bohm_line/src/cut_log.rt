@@ -1,0 +1,64 @@
+//! A log that is cut into batches.
+
+ghost use Rattle.std.specs.Prelude.{◌≡◌, ◌+◌, ◌<◌, ◌≤◌, ◌^◌, All, length};
+ghost use Rattle.std.specs.List.{sum};
+ghost use Rattle.bohm_txn.specs.Faulty.{IsWellFormedTxn};
+
+use crate::cuts::Cuts;
+use bohm_txn::Txn;
+
+/// A log, the timestamp of its first transaction and its cutting.
+#[derive(Clone, Copy)]
+pub struct CutLog<'a> {
+    first: u32,
+    txns: &'a [Txn],
+    cuts: &'a Cuts,
+    ghost whole: { sum cuts.now ≡ length txns.now },
+    ghost timestamps: { first + length txns.now ≤ 2 ^ 32 },
+    ghost formed: { All IsWellFormedTxn txns.now },
+}
+
+impl<'a> CutLog<'a> {
+    ghost use Rattle.bohm_line.specs.Cuttings.{ahead, first_at, txns_at};
+    ghost use Rattle.bohm_line.specs.CutLogs.{cutting_of};
+
+    /// A log whose first transaction has this timestamp, and its cutting.
+    pub fn new(first: u32, txns: &'a [Txn], cuts: &'a Cuts) -> CutLog<'a>
+        requires whole { sum cuts.now ≡ length txns.now }
+        requires timestamps { first + length txns.now ≤ 2 ^ 32 }
+        requires formed { All IsWellFormedTxn txns.now }
+        ensures { cutting_of result
+            ≡ record { first = first; log = txns.entry.now; sizes = cuts.entry.now } }
+    {
+        CutLog { first, txns, cuts }
+    }
+
+    /// The timestamp of the first transaction.
+    pub fn first(&self) -> u32
+        ensures { result ≡ (cutting_of self.now).first }
+    {
+        self.first
+    }
+
+    /// The number of batches.
+    pub fn batches(&self) -> u32
+        ensures { result ≡ length (cutting_of self.now).sizes }
+    {
+        self.cuts.count()
+    }
+
+    /// The transactions of the batch at a place, counted from 0, ahead of which `start` transactions stand.
+    pub fn batch(&self, place: u32, start: usize) -> &'a [Txn]
+        requires place { place < length (cutting_of self.now).sizes }
+        requires start { start ≡ ahead (cutting_of self.now).sizes place }
+        ensures txns { result.now ≡ txns_at (cutting_of self.now) place }
+        ensures some { 0 < length result.now }
+        ensures few { length result.now ≤ 4096 }
+        ensures ahead { ahead (cutting_of self.now).sizes (place + 1) ≡ start + length result.now }
+        ensures inside { first_at (cutting_of self.now) place + length result.now ≤ 2 ^ 32 }
+        ensures formed { All IsWellFormedTxn result.now }
+    {
+        let size = self.cuts.size(place) as usize;
+        &self.txns[start..start + size]
+    }
+}

@@ -1,0 +1,105 @@
+//! How a log is cut into batches.
+
+ghost use Rattle.std.specs.Prelude.{◌≡◌, ◌<◌, ◌≤◌, ◌+◌, length, slice_index, Some, None, true, nat_le, IfOk, if◌then◌else◌};
+ghost use Rattle.std.specs.List.{sum, list_all};
+ghost use Rattle.bohm_line.specs.Cuttings.{is_size, cuts_of, IsEven, ahead};
+
+use bohm_txn::NoMemory;
+use std::alloc::Global;
+use std::marker::Model;
+
+/// The most transactions of a batch.
+pub const LARGEST_BATCH: u32 = 4096;
+
+/// The sizes of the batches of a log, in order. Contracts see it as the list of these.
+#[derive(Debug, Drop)]
+pub struct Cuts {
+    sizes: Vec<u32>,
+    total: u32,
+}
+
+impl Model for Cuts {
+    ghost use Rattle.std.specs.Prelude.{◌≡◌, List, ℕ, true};
+    ghost use Rattle.std.specs.List.{sum};
+    ghost use Rattle.bohm_line.specs.Cuttings.{are_sizes};
+
+    ghost Value = { List ℕ };
+
+    ghost view = { λ c. c.sizes.items };
+
+    ghost invariant = { λ c. (are_sizes c.sizes.items ≡ true) × (c.total ≡ sum c.sizes.items) };
+}
+
+fn are_sizes(sizes: &[u32]) -> bool
+    ensures { result ≡ list_all is_size sizes.now }
+{
+    sizes
+        .iter()
+        .all(|size| 1 <= *size && *size <= LARGEST_BATCH)
+}
+
+// The sum of these numbers, if it is a number of 32 bits.
+fn total_of(sizes: &[u32]) -> Option<u32>
+    ensures { result ≡ (if nat_le (sum sizes.now) 4294967295 then Some (sum sizes.now) else None) }
+{
+    let mut total = 0u32;
+    for size in sizes {
+        total = total.checked_add(*size)?;
+    }
+    Some(total)
+}
+
+impl Cuts {
+    /// The cutting into batches of these sizes, if each is from 1 to 4096 and their total is at most
+    /// 4294967295.
+    pub fn new(sizes: Vec<u32>) -> Option<Cuts>
+        ensures { result ≡ cuts_of sizes.items }
+    {
+        if !are_sizes(sizes.as_slice()) {
+            return None;
+        }
+        let total = total_of(sizes.as_slice())?;
+        Some(Cuts { sizes, total })
+    }
+
+    /// Batches of this size, the last one of what is left of this length.
+    pub fn even(alloc: Global, len: u32, batch: u32) -> Result<Cuts, NoMemory>
+        requires some { 1 ≤ batch }
+        requires few { batch ≤ 4096 }
+        ensures total { IfOk result (λ cuts. sum cuts ≡ len) }
+        ensures even { IfOk result (IsEven batch) }
+    {
+        let mut sizes = Vec::with_capacity(alloc, (len / batch) as usize + 1)?;
+        for _ in 0..len / batch {
+            sizes.push(batch)?;
+        }
+        if len % batch > 0 {
+            sizes.push(len % batch)?;
+        }
+        Ok(Cuts { sizes, total: len })
+    }
+
+    /// How many transactions the batches have together.
+    pub fn total(&self) -> u32
+        ensures { result ≡ sum self.now }
+    {
+        self.total
+    }
+
+    /// How many batches there are.
+    pub fn count(&self) -> u32
+        ensures { result ≡ length self.now }
+    {
+        self.sizes.len() as u32
+    }
+
+    /// How many transactions the batch at this place has, counted from 0.
+    pub fn size(&self, place: u32) -> u32
+        requires { place < length self.now }
+        ensures size { result ≡ slice_index self.now place }
+        ensures in_range { (1 ≤ result) × (result ≤ 4096) }
+        ensures inside { ahead self.now place + result ≤ sum self.now }
+    {
+        self.sizes[place as usize]
+    }
+}

@@ -1,0 +1,34 @@
+-- Which segments a machine runs, and how far.
+use Rattle.std.specs.Prelude.{◌≡◌, ◌≢◌, ℕ, ◌+◌, ◌<◌, ◌≤◌, ◌^◌, ◌++◌, List, [], length, take}
+use Rattle.std.specs.List.{sum}
+use Rattle.bohm_tree.specs.Document.{Document}
+use Rattle.bohm_tree.specs.declared.txn.Txn.{Txn}
+use Rattle.bohm_txn.specs.declared.outcome.Reply.{Reply}
+use Rattle.bohm_txn.specs.Meaning.{Look}
+use Rattle.bohm_txn.specs.Serial.{replies}
+use Rattle.bohm_line.specs.Cuttings.{IsEven}
+use Rattle.bohm_run.specs.Runs.{IsEndOfBatch}
+use Rattle.bohm_machine.specs.declared.fault.SegmentFault.{SegmentFault}
+use Rattle.bohm_machine.specs.declared.fault.SegmentFault.TheVariants.{Store, Timestamps}
+use Rattle.bohm_machine.specs.Machines.{Ledger, HasRun, top_of}
+
+-- it has no store, and its positions are timestamps
+pub record IsTaken (m : Ledger) (segment : Document) : Type 0 where
+  pub store : segment.store ≡ []
+  pub timestamps : top_of m + length segment.log < 2 ^ 32
+
+abbrev pub IsRefused : Ledger → Document → SegmentFault → Type 0
+IsRefused m segment Store = 0 < length segment.store
+IsRefused m segment Timestamps = 2 ^ 32 ≤ top_of m + length segment.log
+
+-- so many of the transactions are whole batches: those of these sizes, of which all but the last are `batch`
+pub record AreWholeBatches (log : List Txn) (batch n : ℕ) : Type 0 where
+  pub sizes : List ℕ
+  pub even : IsEven batch sizes
+  pub total : sum sizes ≡ length log
+  pub end : IsEndOfBatch sizes n
+
+-- a machine that had run a log has run these transactions behind it, and the replies to all are those of the serial run
+pub record RunsOn (was now : Ledger) (txns : List Txn) (answered : List Reply) : Type 0 where
+  pub run : (look : Look) (start : ℕ) (log : List Txn) → HasRun look start log was → HasRun look start (log ++ txns) now
+  pub replies : (look : Look) (start : ℕ) (log : List Txn) → HasRun look start log was → replies look log ++ answered ≡ replies look (log ++ txns)

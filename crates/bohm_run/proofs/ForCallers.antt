@@ -1,0 +1,4 @@
+-- What the crates above cite of this crate's proofs. Each lemma is proved in the file of its subject.
+
+-- the store behind two runs, one after the other
+pub use Rattle.bohm_run.proofs.Walks.{store_then}

@@ -1,0 +1,146 @@
+//! A log upon a history, on the caller's thread.
+
+ghost use Rattle.std.specs.Prelude.{◌≡◌, ◌+◌, ◌++◌, ◌<◌, ◌≤◌, ◌^◌, [], All, length, take, true, is_ok, IfOk, OnOk, OnErr};
+ghost use Rattle.std.specs.List.{sum};
+ghost use Rattle.bohm_txn.specs.Faulty.{IsWellFormedTxn};
+ghost use Rattle.bohm_txn.specs.Serial.{replies};
+ghost use Rattle.bohm_place.specs.Plans.{IsRightPlan};
+ghost use Rattle.bohm_exec.specs.Answers.{batch_of_finished};
+ghost use Rattle.bohm_store.specs.Nexts.{IsSame};
+ghost use Rattle.bohm_store.specs.Versions.{past};
+ghost use Rattle.bohm_line.specs.CutLogs.{cutting_of};
+ghost use Rattle.bohm_run.specs.Runs.{IsApplied, IsEndOfBatch, IsWalked};
+
+use crate::applying::Applied;
+use crate::replies::settle_batch;
+use crate::workers::{Worker, sweep_share};
+use bohm_board::{Batch, Board};
+use bohm_exec::{Finished, OpenGate, complete};
+use bohm_line::{ByteSum, CutLog, Cuts};
+use bohm_place::{HashSeed, Plan, Shards, plan_alone};
+use bohm_store::History;
+use bohm_txn::{Items, NoMemory, Reply, Scratch, Txn};
+use std::alloc::Global;
+
+/// The plan of a batch that starts at a timestamp. What the batches before it wrote is `Before` to it, so
+/// its chains start empty.
+fn plan_batch(alloc: Global, seed: HashSeed, first: u32, txns: &[Txn]) -> Result<Plan, NoMemory>
+    requires position { 0 < first }
+    requires room { first + length txns.now ≤ 2 ^ 32 }
+    requires formed { All IsWellFormedTxn txns.now }
+    ensures first { IfOk result (λ p. p.first ≡ first) }
+    ensures right { IfOk result (IsRightPlan txns.now) }
+{
+    let Some(partition) = ByteSum::new(1) else {
+        unreachable!()
+    };
+    let shards = Shards::with_seed(alloc, 1, seed)?;
+    let (_, plan) = plan_alone(alloc, shards, first, txns, &partition)?;
+    Ok(plan)
+}
+
+/// Executes a batch by one worker, and what it set aside in log order. A refusal gives the batch up.
+fn finish_alone<'a>(
+    alloc: Global,
+    batch: Batch<'a>,
+    scratch: &mut Scratch,
+) -> Result<Finished<'a>, NoMemory>
+    ensures { IfOk result (λ f. batch_of_finished f ≡ batch.entry) }
+{
+    let worker = Worker {
+        number: 0,
+        count: 1,
+    };
+    let (board, mut pass) = Board::open(alloc, batch)?;
+    let aside = sweep_share(alloc, &board, &mut pass, worker, &OpenGate, scratch)?;
+    let closed = board.close(pass);
+    Ok(complete(closed, &[aside], scratch))
+}
+
+/// Runs the batch that follows the history's top, and appends its replies. A refusal changes nothing that
+/// is seen.
+fn run_batch(
+    alloc: Global,
+    history: &mut History,
+    answered: &mut Vec<Reply>,
+    txns: &[Txn],
+    keep: u32,
+    scratch: &mut Scratch,
+) -> Result<(), NoMemory>
+    requires some { 0 < length txns.now }
+    requires few { length txns.now ≤ 4096 }
+    requires timestamps { history.old.top + 1 + length txns.now ≤ 2 ^ 32 }
+    requires formed { All IsWellFormedTxn txns.now }
+    ensures applied { OnOk result (IsApplied history.old history.new txns.now keep (replies (past history.old history.old.top) txns.now)) }
+    ensures answered { OnOk result (answered.new.items ≡ answered.old.items ++ replies (past history.old history.old.top) txns.now) }
+    ensures same { OnErr result (IsSame history.old history.new) }
+    ensures unanswered { OnErr result (answered.new.items ≡ answered.old.items) }
+{
+    let plan = plan_batch(alloc, history.seed(), history.top() + 1, txns)?;
+    let batch = history.batch(alloc, txns, plan)?;
+    let finished = finish_alone(alloc, batch, scratch)?;
+    settle_batch(alloc, history, answered, &finished)?;
+    let floor = history.top().saturating_sub(keep);
+    history.trim(floor);
+    Ok(())
+}
+
+/// Runs batch after batch, up to one that is refused.
+fn run_batches(
+    alloc: Global,
+    history: &mut History,
+    answered: &mut Vec<Reply>,
+    log: CutLog<'_>,
+    keep: u32,
+    scratch: &mut Scratch,
+) -> Result<(), NoMemory>
+    requires first { (cutting_of log).first ≡ history.old.top + 1 }
+    requires ordered { history.old.floor ≤ history.old.top }
+    requires unanswered { answered.old.items ≡ [] }
+    ensures { IsWalked history.old history.new (cutting_of log.entry) keep answered.new.items (is_ok result) }
+{
+    let mut start = 0usize;
+    for place in 0..log.batches() {
+        let txns = log.batch(place, start);
+        run_batch(alloc, history, answered, txns, keep, scratch)?;
+        start += txns.len();
+    }
+    Ok(())
+}
+
+/// Runs the transactions upon a history as `apply` does, on the caller's thread alone, for callers that
+/// can start no threads: it plans, executes and settles one batch after another. The scratch serves any
+/// number of calls.
+///
+/// Where it is refused memory, the history stands at the end of a batch, and the replies up to there are
+/// answered: nothing is lost, and the rest can be applied again. The time grows with the number of the
+/// transactions' terms and with the number n of keys that a batch declares as n log n.
+pub fn apply_alone(
+    alloc: Global,
+    history: &mut History,
+    txns: &[Txn],
+    cuts: &Cuts,
+    keep: u32,
+    scratch: &mut Scratch,
+) -> Applied
+    requires total { sum cuts.now ≡ length txns.now }
+    requires timestamps { history.old.top + length txns.now < 2 ^ 32 }
+    requires formed { All IsWellFormedTxn txns.now }
+    ensures applied { IsApplied history.old history.new (take (length result.replies) txns.now) keep result.replies }
+    ensures batches { IsEndOfBatch cuts.now (length result.replies) }
+    ensures whole { is_ok result.end ≡ true → length result.replies ≡ length txns.now }
+{
+    if txns.is_empty() {
+        return Applied {
+            replies: Items::new(alloc),
+            end: Ok(()),
+        };
+    }
+    let log = CutLog::new(history.top() + 1, txns, cuts);
+    let mut answered = Vec::new(alloc);
+    let end = run_batches(alloc, history, &mut answered, log, keep, scratch);
+    Applied {
+        replies: Items::from(answered),
+        end,
+    }
+}

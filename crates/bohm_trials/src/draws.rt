@@ -1,0 +1,252 @@
+//! Logs that are drawn by a seeded generator.
+
+ghost use Rattle.std.specs.Prelude.{◌<◌, length};
+
+use bohm_run::Settings;
+use bohm_text::parse;
+use bohm_txn::{Checked, NoMemory, check};
+use std::alloc::Global;
+use std::test::Fail;
+
+/// Numbers that a seed determines.
+#[derive(Clone, Copy)]
+pub struct Draws {
+    state: u64,
+}
+
+impl Draws {
+    pub fn new(seed: u32) -> Draws {
+        Draws {
+            state: 0x9e37_79b9_7f4a_7c15 ^ u64::from(seed),
+        }
+    }
+
+    /// The next number of the xorshift.
+    fn draw(&mut self) -> u64 {
+        self.state ^= self.state << 13;
+        self.state ^= self.state >> 7;
+        self.state ^= self.state << 17;
+        self.state
+    }
+
+    /// A number below this one.
+    fn below(&mut self, count: usize) -> usize
+        requires { 0 < count }
+        ensures { result < count }
+    {
+        (self.draw() % count as u64) as usize
+    }
+
+    /// Settings of up to four workers on each side.
+    pub fn settings(&mut self) -> Result<Settings, Fail> {
+        let cc = one_of(self, &[1, 2, 3, 4]);
+        let exec = one_of(self, &[1, 2, 3, 4]);
+        let parts = one_of(self, &[1, 2, 7, 64]);
+        let batch = one_of(self, &[1, 3, 7, 4096]);
+        let keep = one_of(self, &[0, 1, 3, 4096]);
+        Ok(Settings::new(cc, exec, parts, batch, keep, None).ok_or("settings")?)
+    }
+}
+
+fn one_of<T: Copy>(draws: &mut Draws, choices: &[T]) -> T
+    requires { 0 < length choices.now }
+{
+    choices[draws.below(choices.len())]
+}
+
+/// Keys for a log: a key is the likelier the more often it stands here.
+const KEYS: [[u8; 6]; 4] = [*b"aaabbc", *b"aabbcd", *b"aabcde", *b"abcdef"];
+
+/// Numbers of a starting store.
+const VALUES: [&[u8]; 8] = [
+    b"0",
+    b"1",
+    b"5",
+    b"-3",
+    b"4000000000000000000",
+    b"9223372036854775807",
+    b"-9223372036854775807",
+    b"-9223372036854775808",
+];
+
+/// Numbers in sums: none is 0, which has no sign before it.
+const LITERALS: [&[u8]; 6] = [
+    b"1",
+    b"2",
+    b"3",
+    b"4000000000000000000",
+    b"9223372036854775806",
+    b"9223372036854775807",
+];
+
+const COMPARISONS: [&[u8]; 5] = [b"<", b"<=", b"=", b">=", b">"];
+
+/// Statements: `?` stands for a key that is read, `^` for one that is written, `#` for a number and `~`
+/// for a comparison.
+const STATEMENTS: [&[u8]; 22] = [
+    b"set ^ = #",
+    b"set ^ = ?",
+    b"set ^ = ? + #",
+    b"set ^ = ? - #",
+    b"set ^ = ? + ? - #",
+    b"set ^ = -? - 1",
+    b"set ^ = -? + ? + # - #",
+    b"set ^ = 0",
+    b"set ^ = ? + 1 when ? ~ #",
+    b"set ^ = # when ? ~ ?",
+    b"set ^ = ? when # ~ #",
+    b"drop ^",
+    b"drop ^",
+    b"show ?",
+    b"show ? - ? + #",
+    b"show #",
+    b"need ? ~ #",
+    b"need # ~ ? + ?",
+    b"need 0 <= ?",
+    b"need has ?",
+    b"need no ?",
+    b"fail",
+];
+
+/// Statements behind one that binds `$x`.
+const BOUND: [&[u8]; 5] = [
+    b"set ^ = $x",
+    b"set ^ = $x + ?",
+    b"set ^ = -$x when $x ~ #",
+    b"show $x",
+    b"need $x ~ ? - #",
+];
+
+const BINDINGS: [&[u8]; 3] = [b"let $x = #", b"let $x = ?", b"let $x = -? + ? - #"];
+
+/// The keys that the statements of a transaction name.
+#[derive(Drop)]
+struct Named {
+    read: Vec<u8>,
+    written: Vec<u8>,
+}
+
+/// Appends what a symbol of a statement stands for.
+fn put_symbol(
+    text: &mut Vec<u8>,
+    named: &mut Named,
+    draws: &mut Draws,
+    keys: &[u8; 6],
+    symbol: u8,
+) -> Result<(), NoMemory> {
+    match symbol {
+        b'?' => {
+            let key = one_of(draws, keys);
+            named.read.push(key)?;
+            text.push(key)?;
+        }
+        b'^' => {
+            let key = one_of(draws, keys);
+            named.written.push(key)?;
+            text.push(key)?;
+        }
+        b'#' => text.extend_from_slice(one_of(draws, &LITERALS))?,
+        b'~' => text.extend_from_slice(one_of(draws, &COMPARISONS))?,
+        _ => text.push(symbol)?,
+    }
+    Ok(())
+}
+
+fn put_stmt(
+    text: &mut Vec<u8>,
+    named: &mut Named,
+    draws: &mut Draws,
+    keys: &[u8; 6],
+    stmt: &[u8],
+) -> Result<(), NoMemory> {
+    for symbol in stmt {
+        put_symbol(text, named, draws, keys, *symbol)?;
+    }
+    text.push(b'\n')?;
+    Ok(())
+}
+
+/// Up to five statements.
+fn put_body(
+    text: &mut Vec<u8>,
+    named: &mut Named,
+    draws: &mut Draws,
+    keys: &[u8; 6],
+) -> Result<(), NoMemory> {
+    let bound = draws.below(3) == 0;
+    if bound {
+        let binding = one_of(draws, &BINDINGS);
+        put_stmt(text, named, draws, keys, binding)?;
+    }
+    for _ in 0..draws.below(5) {
+        let stmt = if bound && draws.below(2) == 0 {
+            one_of(draws, &BOUND)
+        } else {
+            one_of(draws, &STATEMENTS)
+        };
+        put_stmt(text, named, draws, keys, stmt)?;
+    }
+    Ok(())
+}
+
+/// A line of these words and the keys.
+fn put_keys(text: &mut Vec<u8>, word: &[u8], keys: &[u8]) -> Result<(), NoMemory> {
+    text.extend_from_slice(word)?;
+    for key in b"abcdef" {
+        if keys.contains(key) {
+            text.push(b' ')?;
+            text.push(*key)?;
+        }
+    }
+    text.push(b'\n')?;
+    Ok(())
+}
+
+/// A transaction, which declares a key more than it names, now and then.
+fn put_txn(
+    alloc: Global,
+    text: &mut Vec<u8>,
+    draws: &mut Draws,
+    keys: &[u8; 6],
+) -> Result<(), NoMemory> {
+    let mut body = Vec::new(alloc);
+    let mut named = Named {
+        read: Vec::new(alloc),
+        written: Vec::new(alloc),
+    };
+    put_body(&mut body, &mut named, draws, keys)?;
+    if draws.below(3) == 0 {
+        named.written.push(one_of(draws, keys))?;
+    }
+    text.extend_from_slice(b"txn\n")?;
+    put_keys(text, b"reads", named.read.as_slice())?;
+    put_keys(text, b"writes", named.written.as_slice())?;
+    text.extend_from_slice(body.as_slice())?;
+    text.extend_from_slice(b"end\n")?;
+    Ok(())
+}
+
+fn put_store(text: &mut Vec<u8>, draws: &mut Draws) -> Result<(), NoMemory> {
+    for key in b"abcdef" {
+        if draws.below(3) > 0 {
+            text.push(*key)?;
+            text.push(b' ')?;
+            text.extend_from_slice(one_of(draws, &VALUES))?;
+            text.push(b'\n')?;
+        }
+    }
+    Ok(())
+}
+
+/// The first so many transactions of the log that the seed determines.
+pub fn drawn(alloc: Global, seed: u32, count: u32) -> Result<Checked, Fail> {
+    let mut draws = Draws::new(seed);
+    let keys = one_of(&mut draws, &KEYS);
+    let head = one_of(&mut draws, &[b"log 1\n", b"log 2\n"]);
+    let mut text = Vec::from_slice(alloc, head)?;
+    put_store(&mut text, &mut draws)?;
+    for _ in 0..count {
+        put_txn(alloc, &mut text, &mut draws, &keys)?;
+    }
+    Ok(check(parse(alloc, text.as_slice())?)?)
+}

@@ -1,0 +1,206 @@
+//! Runs whose threads are held or counted at gates, with answers that were made by hand.
+
+use crate::runs::{checked, counters, cuts, run_told, settings};
+use bohm_exec::{Gate, Point};
+use bohm_txn::Checked;
+use std::process::Abort;
+use std::random::RandomSource;
+use std::sync::Wait;
+use std::sync::atomic::{AtomicU64, Ordering};
+use std::test::Fail;
+use std::thread;
+use std::thread::Threads;
+
+/// Holds the thread that gets to one point until some thread gets to one of the others.
+#[derive(Drop)]
+struct Hold {
+    at: Point,
+    until: &'static [Point],
+    reached: AtomicU64,
+    seen: AtomicU64,
+}
+
+impl Hold {
+    fn new(at: Point, until: &'static [Point]) -> Hold {
+        Hold {
+            at,
+            until,
+            reached: AtomicU64::new(0),
+            seen: AtomicU64::new(0),
+        }
+    }
+
+    fn note(&self, point: Point) {
+        if self.until.contains(&point) {
+            self.reached.store(1, Ordering::SeqCst);
+        }
+    }
+
+    fn wait(&self, point: Point) {
+        if point != self.at {
+            return;
+        }
+        for _ in 0..10_000_000u32 {
+            if self.reached.load(Ordering::SeqCst) > 0 {
+                self.seen.store(1, Ordering::SeqCst);
+                return;
+            }
+            thread::yield_now();
+        }
+    }
+}
+
+#[derive(Clone, Copy)]
+struct Holds<'a>(&'a [Hold]);
+
+impl Gate for Holds<'_> {
+    fn at(&self, point: Point) {
+        for hold in self.0 {
+            hold.note(point);
+        }
+        for hold in self.0 {
+            hold.wait(point);
+        }
+    }
+}
+
+/// A log with so many executing workers and batches of these sizes: each held thread saw what it waited
+/// for, and the log is answered so.
+fn held_so<R: Abort + AllocGlobal + Threads + Wait + Sync + RandomSource>(
+    rt: &R,
+    log: &Checked,
+    sizes: &[u32],
+    words: &str,
+    holds: &[Hold],
+    answer: &[u8],
+) -> Result<(), Fail> {
+    let alloc = rt.alloc();
+    let cuts = cuts(alloc, sizes)?;
+    let text = run_told(rt, alloc, log, &cuts, settings(words)?, &Holds(holds))?;
+    for hold in holds {
+        let seen = hold.seen.load(Ordering::SeqCst);
+        assert_eq!(rt; seen, 1, "{:?} goes on", hold.at);
+    }
+    assert_eq!(rt; text.as_slice(), answer);
+    Ok(())
+}
+
+/// Two transactions that share no key.
+const APART: &[u8] = b"\
+log 1
+a 1
+b 1
+txn
+reads a
+writes a
+set a = a + 1
+end
+txn
+reads b
+writes b
+set b = b + 1
+end
+";
+
+/// Two workers on it, of which one is held.
+fn two_held_so<R: Abort + AllocGlobal + Threads + Wait + Sync + RandomSource>(
+    rt: &R,
+    hold: Hold,
+) -> Result<(), Fail> {
+    let log = checked(rt.alloc(), APART)?;
+    let answer = b"1 commit\n2 commit\n--\na 2\nb 2\n";
+    held_so(rt, &log, &[2], "exec 2", &[hold], answer)
+}
+
+#[test]
+fn two_at_once(rt: HostRuntime) -> Result<(), Fail> {
+    two_held_so(&rt, Hold::new(Point::Claimed(1), &[Point::Finished(2)]))
+}
+
+#[test]
+fn two_at_once_mirror(rt: HostRuntime) -> Result<(), Fail> {
+    two_held_so(&rt, Hold::new(Point::Claimed(2), &[Point::Finished(1)]))
+}
+
+/// The second transaction reads what the first writes; the others touch keys of their own.
+const INDEPENDENT: &[u8] = b"\
+log 1
+a 1
+txn
+reads a
+writes a
+set a = a + 1
+end
+txn
+reads a
+writes b
+set b = a
+end
+txn
+reads
+writes c
+set c = 3
+end
+txn
+reads
+writes d
+set d = 4
+end
+";
+
+#[test]
+fn held_worker(rt: HostRuntime) -> Result<(), Fail> {
+    let log = checked(rt.alloc(), INDEPENDENT)?;
+    let hold = Hold::new(Point::Claimed(1), &[Point::Finished(3), Point::Finished(4)]);
+    let answer = b"1 commit\n2 commit\n3 commit\n4 commit\n--\na 2\nb 2\nc 3\nd 4\n";
+    held_so(&rt, &log, &[4], "exec 2", &[hold], answer)
+}
+
+#[test]
+fn plan_beside(rt: HostRuntime) -> Result<(), Fail> {
+    let log = counters(rt.alloc(), 3)?;
+    let executing = Hold::new(Point::Claimed(1), &[Point::Planned(2)]);
+    let planning = Hold::new(Point::Planned(2), &[Point::Claimed(1)]);
+    let answer = b"1 commit 0\n2 commit 1\n3 commit 2\n--\na 3\n";
+    held_so(&rt, &log, &[1, 2], "", &[executing, planning], answer)
+}
+
+/// Counts the claims and the ends.
+#[derive(Drop)]
+struct Counts {
+    claimed: AtomicU64,
+    finished: AtomicU64,
+}
+
+impl Gate for Counts {
+    fn at(&self, point: Point) {
+        match point {
+            Point::Planned(_) => {}
+            Point::Claimed(_) => {
+                self.claimed.fetch_add(1, Ordering::SeqCst);
+            }
+            Point::Finished(_) => {
+                self.finished.fetch_add(1, Ordering::SeqCst);
+            }
+        }
+    }
+}
+
+#[test]
+fn five_thousand_counters(rt: HostRuntime) -> Result<(), Fail> {
+    let alloc = rt.alloc();
+    let log = counters(alloc, 5000)?;
+    let counts = Counts {
+        claimed: AtomicU64::new(0),
+        finished: AtomicU64::new(0),
+    };
+    let cuts = cuts(alloc, &[4096, 904])?;
+    let text = run_told(&rt, alloc, &log, &cuts, settings("")?, &counts)?;
+    assert_eq!(rt; counts.claimed.load(Ordering::SeqCst), 5000);
+    assert_eq!(rt; counts.finished.load(Ordering::SeqCst), 5000);
+    assert!(rt;
+        text.as_slice()
+            .ends_with(b"\n5000 commit 4999\n--\na 5000\n")
+    );
+    Ok(())
+}

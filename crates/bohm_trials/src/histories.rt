@@ -1,0 +1,297 @@
+//! What runs leave behind, and logs upon logs, with answers that were made by hand.
+
+use crate::runs::{checked, counters, cuts, ran, settings, told_with_versions};
+use bohm_exec::OpenGate;
+use bohm_place::Partition;
+use bohm_run::{Applied, ByteSum, Cuts, apply};
+use bohm_store::History;
+use bohm_txn::{Checked, Key};
+use std::alloc::Global;
+use std::process::Abort;
+use std::random::RandomSource;
+use std::sync::Wait;
+use std::test::Fail;
+use std::thread::Threads;
+
+/// The numbers of a row.
+fn numbers(alloc: Global, words: &str) -> Result<Vec<u32>, Fail> {
+    let mut numbers = Vec::new(alloc);
+    for word in words.split(' ') {
+        numbers.push(word.parse::<u32>().ok().ok_or("a number")?)?;
+    }
+    Ok(numbers)
+}
+
+/// What a log cut in this way leaves with these settings.
+fn left<R: Abort + Threads + Wait + Sync + RandomSource>(
+    rt: &R,
+    alloc: Global,
+    log: &Checked,
+    sizes: &str,
+    words: &str,
+) -> Result<String, Fail> {
+    let sizes = numbers(alloc, sizes)?;
+    let cuts = cuts(alloc, sizes.as_slice())?;
+    let found = ran(rt, alloc, log, &cuts, settings(words)?, &OpenGate)?;
+    told_with_versions(alloc, found.replies.as_slice(), &found.history)
+}
+
+/// Each row has the sizes of the batches, settings, and what is left.
+fn leaves_so<R: Abort + AllocGlobal + Threads + Wait + Sync + RandomSource>(
+    rt: &R,
+    log: &Checked,
+    rows: &str,
+) -> Result<(), Fail> {
+    for row in rows.split('#') {
+        let (how, want) = row.split_once('@').ok_or("what is left")?;
+        let (sizes, words) = how.split_once(", ").ok_or("settings")?;
+        let text = left(rt, rt.alloc(), log, sizes, words)?;
+        assert_eq!(rt; text.as_str(), want, "{how}");
+    }
+    Ok(())
+}
+
+/// Three counters.
+const COUNTED: &str = "\
+1 1 1, @3 to 3, 1 versions
+1 commit 0
+2 commit 1
+3 commit 2
+--
+a 3
+#2 1, @3 to 3, 1 versions
+1 commit 0
+2 commit 1
+3 commit 2
+--
+a 3
+#1 2, @3 to 3, 1 versions
+1 commit 0
+2 commit 1
+3 commit 2
+--
+a 3
+#3, @3 to 3, 1 versions
+1 commit 0
+2 commit 1
+3 commit 2
+--
+a 3
+#1 1 1, keep 1@2 to 3, 2 versions
+1 commit 0
+2 commit 1
+3 commit 2
+--
+a 2
+--
+a 3
+#1 1 1, keep 2@1 to 3, 3 versions
+1 commit 0
+2 commit 1
+3 commit 2
+--
+a 1
+--
+a 2
+--
+a 3
+#1 1 1, keep 4096@0 to 3, 4 versions
+1 commit 0
+2 commit 1
+3 commit 2
+--
+a 0
+--
+a 1
+--
+a 2
+--
+a 3
+";
+
+/// Drops `a`, and aborts twice for want of it.
+const REMOVAL: &[u8] = b"\
+log 1
+a 5
+txn
+reads
+writes a
+drop a
+end
+txn
+reads a
+writes
+need has a
+end
+txn
+reads a
+writes
+show a + 1
+end
+";
+
+const REMOVED: &str = "\
+3, keep 4096@0 to 3, 2 versions
+1 commit
+2 abort need 1
+3 abort absent 1
+--
+a 5
+--
+--
+--
+#1 2, keep 1@2 to 3, 1 versions
+1 commit
+2 abort need 1
+3 abort absent 1
+--
+--
+";
+
+#[test]
+fn versions_that_are_kept(rt: HostRuntime) -> Result<(), Fail> {
+    leaves_so(&rt, &counters(rt.alloc(), 3)?, COUNTED)?;
+    leaves_so(&rt, &checked(rt.alloc(), REMOVAL)?, REMOVED)
+}
+
+/// Applies so many counters in batches of two, on two workers of each kind.
+fn count_on<R: Abort + Threads + Wait + Sync + RandomSource>(
+    rt: &R,
+    alloc: Global,
+    history: &mut History,
+    count: u32,
+    keep: u32,
+) -> Result<Applied, Fail> {
+    let log = counters(alloc, count)?;
+    let txns = log.log();
+    let cuts = Cuts::even(alloc, count, 2)?;
+    let partition = ByteSum::new(2).ok_or("parts")?;
+    let fits = txns.len() == count as usize && history.top() < 1000 && count < 1000;
+    assert!(rt; fits);
+    let applied = apply(
+        rt, alloc, history, txns, &cuts, 2, 2, keep, &partition, &OpenGate,
+    );
+    assert!(rt; applied.end.is_ok());
+    Ok(applied)
+}
+
+/// What a row's logs leave one after another, each as how many counters are applied and how many
+/// timestamps are kept.
+fn left_in_turn<R: Abort + Threads + Wait + Sync + RandomSource>(
+    rt: &R,
+    alloc: Global,
+    logs: &str,
+) -> Result<String, Fail> {
+    let mut history = History::open(alloc, counters(alloc, 0)?.store())?;
+    let mut text = String::new(alloc);
+    for log in logs.split(", ") {
+        let (count, keep) = log.split_once(" keep ").ok_or("a log")?;
+        let count = count.parse::<u32>().ok().ok_or("a count")?;
+        let keep = keep.parse::<u32>().ok().ok_or("what is kept")?;
+        let applied = count_on(rt, alloc, &mut history, count, keep)?;
+        text = told_with_versions(alloc, applied.replies.as_slice(), &history)?;
+    }
+    Ok(text)
+}
+
+/// Logs one after another, the replies of the last one, and the stores that are readable.
+const APPLIED: &str = "\
+3 keep 1@2 to 3, 2 versions
+1 commit 0
+2 commit 1
+3 commit 2
+--
+a 2
+--
+a 3
+#1 keep 1, 2 keep 1@2 to 3, 2 versions
+1 commit 1
+2 commit 2
+--
+a 2
+--
+a 3
+#2 keep 1, 1 keep 1@2 to 3, 2 versions
+1 commit 2
+--
+a 2
+--
+a 3
+#2 keep 1, 3 keep 4096@1 to 5, 5 versions
+1 commit 2
+2 commit 3
+3 commit 4
+--
+a 1
+--
+a 2
+--
+a 3
+--
+a 4
+--
+a 5
+#2 keep 1, 0 keep 0@1 to 2, 2 versions
+--
+a 1
+--
+a 2
+#0 keep 0@0 to 0, 1 versions
+--
+a 0
+";
+
+#[test]
+fn logs_upon_logs(rt: HostRuntime) -> Result<(), Fail> {
+    for row in APPLIED.split('#') {
+        let (logs, want) = row.split_once('@').ok_or("what is left")?;
+        let text = left_in_turn(&rt, rt.alloc(), logs)?;
+        assert_eq!(rt; text.as_str(), want, "{logs}");
+    }
+    Ok(())
+}
+
+/// The part of a key with this name.
+fn part_of(name: &[u8], parts: u32) -> Result<u32, Fail> {
+    let partition = ByteSum::new(parts).ok_or("parts")?;
+    if partition.parts() != parts {
+        return Err(Fail::from("another number of parts"));
+    }
+    Ok(partition.part(&Key::new(name).ok_or("a name")?))
+}
+
+#[test]
+fn parts_of_keys(rt: HostRuntime) -> Result<(), Fail> {
+    assert!(rt; ByteSum::new(0).is_none());
+    for (parts, of_a, of_ab) in [(1, 0, 0), (2, 1, 1), (7, 6, 6), (64, 33, 3)] {
+        assert_eq!(rt; part_of(b"a", parts)?, of_a, "{parts} parts");
+        assert_eq!(rt; part_of(b"ab", parts)?, of_ab, "{parts} parts");
+    }
+    let long = b"zzzzzzzzzzzzzzzzzzzzzzzzzzzzzzzz".as_slice();
+    assert_eq!(rt; part_of(long, 7)?, 5);
+    Ok(())
+}
+
+#[test]
+fn cuttings_have_sizes(rt: HostRuntime) -> Result<(), Fail> {
+    for (sizes, total) in [
+        (&[] as &[u32], Some(0)),
+        (&[1, 2], Some(3)),
+        (&[4096], Some(4096)),
+        (&[4097], None),
+        (&[2, 0, 1], None),
+    ] {
+        let cuts = Cuts::new(Vec::from_slice(rt.alloc(), sizes)?);
+        assert_eq!(rt; cuts.map(|cuts| cuts.total()), total, "{sizes:?}");
+    }
+    Ok(())
+}
+
+#[test]
+fn a_cutting_is_even(rt: HostRuntime) -> Result<(), Fail> {
+    for (len, batch) in [(0, 7), (5000, 4096), (6, 3)] {
+        let cuts = Cuts::even(rt.alloc(), len, batch)?;
+        assert_eq!(rt; cuts.total(), len, "{len} by {batch}");
+    }
+    Ok(())
+}

@@ -1,0 +1,172 @@
+//! Readers and writers that fail or stop, on one log.
+
+use crate::fakes::{Failure, FakeReader, FakeWriter};
+use crate::runs::settings;
+use bohm_run::{RunFault, Settings, print_fault, run_text};
+use std::io::ErrorKind;
+use std::process::Abort;
+use std::random::RandomSource;
+use std::sync::Wait;
+use std::test::Fail;
+use std::thread::Threads;
+
+/// It has 56 bytes.
+const LOG: &[u8] = b"log 1\na 5\ntxn\nreads a\nwrites a\nset a = a + 1\nshow a\nend\n";
+
+/// It has 18 bytes.
+const ANSWER: &[u8] = b"1 commit 5\n--\na 6\n";
+
+/// The defaults, and small batches on two workers.
+const TWICE: [&str; 2] = ["", "exec 2 batch 1"];
+
+/// What the log is refused for where this writer takes the answer.
+fn fault_at<R: AllocGlobal + Threads + Wait + Sync + RandomSource>(
+    rt: &R,
+    writer: &mut FakeWriter,
+    settings: Settings,
+) -> Option<RunFault> {
+    let mut unread = LOG;
+    run_text(rt, rt.alloc(), &mut unread, writer, settings).err()
+}
+
+/// What comes of a reader that hands out a byte a call and fails at one of its calls.
+fn read_failing<R: Abort + AllocGlobal + Threads + Wait + Sync + RandomSource>(
+    rt: &R,
+    failure: Failure,
+    settings: Settings,
+) -> Result<Option<RunFault>, Fail> {
+    let mut reader = FakeReader {
+        bytes: LOG,
+        most: 1,
+        failure,
+    };
+    let mut writer = FakeWriter::new(rt.alloc(), 64);
+    let found = run_text(rt, rt.alloc(), &mut reader, &mut writer, settings).err();
+    let (taken, flushes) = if found.is_none() {
+        (ANSWER, 1)
+    } else {
+        (b"".as_slice(), 0)
+    };
+    assert_eq!(rt; writer.taken.as_slice(), taken);
+    assert_eq!(rt; writer.flushes, flushes);
+    Ok(found)
+}
+
+/// One byte a call: the 57th call finds the end.
+#[test]
+fn readers_fail_at_each_call(rt: HostRuntime) -> Result<(), Fail> {
+    for words in TWICE {
+        for kind in [ErrorKind::Other, ErrorKind::Interrupted] {
+            for calls in 0..58 {
+                let found = read_failing(&rt, Failure::after(calls, kind), settings(words)?)?;
+                let wanted = if calls < 57 {
+                    Some(RunFault::Read)
+                } else {
+                    None
+                };
+                assert_eq!(rt; found, wanted, "{kind:?} after {calls} calls, {words}");
+            }
+        }
+    }
+    Ok(())
+}
+
+#[test]
+fn readers_and_writers_take_parts(rt: HostRuntime) -> Result<(), Fail> {
+    for most in [1, 7, 56, 57] {
+        let mut reader = FakeReader {
+            bytes: LOG,
+            most,
+            failure: Failure::never(),
+        };
+        let mut writer = FakeWriter::new(rt.alloc(), most);
+        let ended = run_text(&rt, rt.alloc(), &mut reader, &mut writer, settings("")?);
+        assert_eq!(rt; ended, Ok(()), "{most} bytes a call");
+        assert_eq!(rt; writer.taken.as_slice(), ANSWER, "{most} bytes a call");
+        assert_eq!(rt; writer.flushes, 1, "{most} bytes a call");
+    }
+    Ok(())
+}
+
+/// The writer takes the answer's first bytes and then fails.
+fn sends<R: Abort + AllocGlobal + Threads + Wait + Sync + RandomSource>(
+    rt: &R,
+    mut writer: FakeWriter,
+    sent: u32,
+    settings: Settings,
+) -> Result<(), Fail> {
+    let found = fault_at(rt, &mut writer, settings);
+    let wanted = RunFault::Write {
+        sent: u64::from(sent),
+    };
+    assert_eq!(rt; found, Some(wanted), "after {sent} bytes");
+    let taken = ANSWER.get(..sent as usize).ok_or("a beginning")?;
+    assert_eq!(rt; writer.taken.as_slice(), taken, "after {sent} bytes");
+    Ok(())
+}
+
+/// One byte a call.
+#[test]
+fn writers_fail_at_each_call(rt: HostRuntime) -> Result<(), Fail> {
+    for words in TWICE {
+        for kind in [ErrorKind::Other, ErrorKind::Interrupted] {
+            for calls in 0..18u32 {
+                let mut writer = FakeWriter::new(rt.alloc(), 1);
+                writer.failure = Failure::after(calls, kind);
+                sends(&rt, writer, calls, settings(words)?)?;
+            }
+        }
+    }
+    Ok(())
+}
+
+#[test]
+fn flushes_fail(rt: HostRuntime) -> Result<(), Fail> {
+    for words in TWICE {
+        for kind in [ErrorKind::Other, ErrorKind::Interrupted] {
+            let mut writer = FakeWriter::new(rt.alloc(), 64);
+            writer.flush_failure = Failure::after(0, kind);
+            sends(&rt, writer, 18, settings(words)?)?;
+        }
+    }
+    Ok(())
+}
+
+#[test]
+fn writers_take_nothing(rt: HostRuntime) -> Result<(), Fail> {
+    for words in TWICE {
+        sends(&rt, FakeWriter::new(rt.alloc(), 0), 0, settings(words)?)?;
+    }
+    Ok(())
+}
+
+#[test]
+fn writers_fail_after_three_bytes(rt: HostRuntime) -> Result<(), Fail> {
+    for words in TWICE {
+        let mut writer = FakeWriter::new(rt.alloc(), 3);
+        writer.failure = Failure::after(1, ErrorKind::Other);
+        sends(&rt, writer, 3, settings(words)?)?;
+    }
+    Ok(())
+}
+
+fn assert_line<R: Abort + AllocGlobal>(rt: &R, fault: RunFault, line: &str) -> Result<(), Fail> {
+    let printed = print_fault(rt.alloc(), &fault)?;
+    assert_eq!(rt; printed.as_slice(), line.as_bytes());
+    Ok(())
+}
+
+#[test]
+fn faults_without_a_place(rt: HostRuntime) -> Result<(), Fail> {
+    assert_line(&rt, RunFault::Read, "refused: read\n")?;
+    assert_line(&rt, RunFault::TooLong, "refused: too long\n")?;
+    assert_line(&rt, RunFault::Trimmed, "refused: trimmed\n")?;
+    assert_line(&rt, RunFault::Future, "refused: future\n")?;
+    assert_line(&rt, RunFault::NoMemory, "refused: memory\n")?;
+    assert_line(&rt, RunFault::Write { sent: 3 }, "refused: write 3\n")?;
+    assert_line(
+        &rt,
+        RunFault::Write { sent: u64::MAX },
+        "refused: write 18446744073709551615\n",
+    )
+}

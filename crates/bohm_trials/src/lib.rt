@@ -1,0 +1,27 @@
+//! Tests of whole runs: worked examples under many settings, drawn logs against the plain program,
+//! workers that are held at gates, what runs leave behind, failing readers and writers, and the line of
+//! plans.
+#![tactic(auto)]
+
+#[cfg(test)]
+mod draws;
+#[cfg(test)]
+mod fakes;
+#[cfg(test)]
+mod gates;
+#[cfg(test)]
+mod histories;
+#[cfg(test)]
+mod hostile;
+#[cfg(test)]
+mod limits;
+#[cfg(test)]
+mod line;
+#[cfg(test)]
+mod random;
+#[cfg(test)]
+mod rows;
+#[cfg(test)]
+mod runs;
+#[cfg(test)]
+mod soak;

@@ -1,0 +1,162 @@
+//! The line of plans in one thread.
+
+ghost use Rattle.std.specs.Prelude.{◌≡◌, ◌+◌, ◌<◌, ◌≤◌, [], ◌∷◌, length, All, IsSome, OnOk};
+ghost use Rattle.bohm_txn.specs.Faulty.{IsWellFormedTxn};
+ghost use Rattle.bohm_place.specs.Plans.{IsRightPlan};
+ghost use Rattle.bohm_line.specs.Cuttings.{first_at, txns_at};
+
+use crate::runs::counters;
+use bohm_place::{Plan, Shards, Source, plan};
+use bohm_run::{ByteSum, Line, PlanNote, PlanReceiver, PlanSender, plan_line};
+use bohm_txn::{NoMemory, Txn};
+use std::alloc::Global;
+use std::marker::Brand;
+use std::process::Abort;
+use std::sync::Wait;
+use std::test::Fail;
+use std::thread::Threads;
+
+// The source of the first declared read of the transaction with a timestamp.
+fn source_of(rt: &impl Abort, plan: &Plan, txns: &[Txn], t: u32) -> Source
+    requires { ∥ IsRightPlan txns.now plan.now ∥₁ }
+{
+    let place = t
+        .checked_sub(plan.first())
+        .expect(rt, "a timestamp of the batch");
+    let txn = txns.get(place as usize).expect(rt, "a transaction");
+    let reads = !txn.reads.as_slice().is_empty();
+    assert!(rt; reads);
+    plan.read(t, 0)
+}
+
+// Plans the batch that comes next, and sends the plan.
+fn send_plan<L: Line, R: Abort + Threads + Wait + Sync>(
+    rt: &R,
+    alloc: Global,
+    sender: &mut PlanSender<L>,
+    first: u32,
+    txns: &[Txn],
+) -> Result<(), NoMemory>
+    requires batch { length sender.old < length L.cutting.sizes }
+    requires sizes { length L.cutting.sizes ≡ 2 }
+    requires open { All (λ sent. IsSome sent.plan) sender.old }
+    requires first { first ≡ first_at L.cutting (length sender.old) }
+    requires txns { txns.now ≡ txns_at L.cutting (length sender.old) }
+    requires position { 0 < first }
+    requires room { first + length txns.now ≤ 1000 }
+    requires formed { All IsWellFormedTxn txns.now }
+    ensures count { OnOk result (length sender.new ≡ length sender.old + 1) }
+    ensures open { OnOk result (All (λ sent. IsSome sent.plan) sender.new) }
+{
+    let parts = ByteSum::new(1).expect(rt, "a part");
+    let shards = Shards::new(alloc, 1)?;
+    let (_, plan) = plan(rt, alloc, shards, first, txns, 1, &parts)?;
+    let note = PlanNote {
+        number: sender.sent() + 1,
+        plan: Some(plan),
+    };
+    sender.send(rt, note);
+    Ok(())
+}
+
+// Takes the next note, which has this number and the plan of these transactions.
+fn take_plan<L: Line, R: Abort + Wait>(
+    rt: &R,
+    receiver: &mut PlanReceiver<L>,
+    txns: &[Txn],
+    number: u32,
+) -> Plan
+    requires batch { length receiver.old < length L.cutting.sizes }
+    requires open { All (λ taken. IsSome taken.plan) receiver.old }
+    requires txns { txns.now ≡ txns_at L.cutting (length receiver.old) }
+    ensures count { length receiver.new ≡ length receiver.old + 1 }
+    ensures open { All (λ taken. IsSome taken.plan) receiver.new }
+    ensures right { ∥ IsRightPlan txns.entry.now result ∥₁ }
+{
+    let note = receiver.take(rt);
+    assert_eq!(rt; (note.number, receiver.taken()), (number, number));
+    note.plan.expect(rt, "a plan")
+}
+
+// Takes the plans of both batches.
+fn take_plans<L: Line, R: Abort + Wait>(
+    rt: &R,
+    mut receiver: PlanReceiver<L>,
+    one: &[Txn],
+    two: &[Txn],
+)
+    requires untaken { receiver ≡ [] }
+    requires sizes { length L.cutting.sizes ≡ 2 }
+    requires one { one.now ≡ txns_at L.cutting 0 }
+    requires two { two.now ≡ txns_at L.cutting 1 }
+{
+    let plan = take_plan(rt, &mut receiver, one, 1);
+    assert_eq!(rt; (plan.first(), plan.len()), (1, 1));
+    assert_eq!(rt; source_of(rt, &plan, one, 1), Source::Before);
+    let plan = take_plan(rt, &mut receiver, two, 2);
+    assert_eq!(rt; (plan.first(), plan.len()), (2, 2));
+    assert_eq!(rt; source_of(rt, &plan, two, 2), Source::Before);
+    assert_eq!(rt; source_of(rt, &plan, two, 3), Source::Within(2));
+}
+
+// Sends the plans of a log of three transactions in two batches, and takes both.
+fn take_two<L: Line, R: Abort + Threads + Wait + Sync>(
+    rt: &R,
+    alloc: Global,
+    txns: &[Txn],
+) -> Result<(), Fail>
+    requires cutting { L.cutting ≡ record { first = 1; log = txns.now; sizes = 1 ∷ 2 ∷ [] } }
+    requires three { length txns.now ≡ 3 }
+    requires formed { All IsWellFormedTxn txns.now }
+{
+    let (mut sender, receiver) = plan_line::<L>(alloc)?;
+    send_plan(rt, alloc, &mut sender, 1, &txns[..1])?;
+    send_plan(rt, alloc, &mut sender, 2, &txns[1..])?;
+    assert_eq!(rt; sender.sent(), 2);
+    take_plans(rt, receiver, &txns[..1], &txns[1..]);
+    Ok(())
+}
+
+#[test]
+fn notes_come_in_order(rt: HostRuntime) -> Result<(), Fail> {
+    let alloc: Global = rt.alloc();
+    let log = counters(alloc, 3)?;
+    let three = log.log().len() == 3;
+    assert!(rt; three);
+    take_two::<Brand, _>(&rt, alloc, log.log())
+}
+
+// Sends a plan and then a refusal, and takes both.
+fn take_refusal<L: Line, R: Abort + Threads + Wait + Sync>(
+    rt: &R,
+    alloc: Global,
+    txns: &[Txn],
+) -> Result<(), Fail>
+    requires cutting { L.cutting ≡ record { first = 1; log = txns.now; sizes = 1 ∷ 2 ∷ [] } }
+    requires three { length txns.now ≡ 3 }
+    requires formed { All IsWellFormedTxn txns.now }
+{
+    let (mut sender, mut receiver) = plan_line::<L>(alloc)?;
+    assert_eq!(rt; (sender.sent(), receiver.taken()), (0, 0));
+    send_plan(rt, alloc, &mut sender, 1, &txns[..1])?;
+    let refusal = PlanNote {
+        number: 2,
+        plan: None,
+    };
+    sender.send(rt, refusal);
+    assert_eq!(rt; sender.sent(), 2);
+    take_plan(rt, &mut receiver, &txns[..1], 1);
+    let note = receiver.take(rt);
+    assert_eq!(rt; (note.number, receiver.taken()), (2, 2));
+    assert!(rt; note.plan.is_none());
+    Ok(())
+}
+
+#[test]
+fn a_refusal_passes(rt: HostRuntime) -> Result<(), Fail> {
+    let alloc: Global = rt.alloc();
+    let log = counters(alloc, 3)?;
+    let three = log.log().len() == 3;
+    assert!(rt; three);
+    take_refusal::<Brand, _>(&rt, alloc, log.log())
+}

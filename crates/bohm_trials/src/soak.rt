@@ -1,0 +1,63 @@
+//! A whole batch in one chain, whose claims are held at random.
+
+use crate::runs::{counters, cuts, run_told, serially, settings};
+use bohm_exec::{Gate, Point};
+use std::alloc::Global;
+use std::hint::spin_loop;
+use std::sync::atomic::{AtomicU64, Ordering};
+use std::test::Fail;
+use std::thread;
+
+/// Holds each claim for a number of turns that the round and the timestamp determine.
+#[derive(Drop)]
+struct Delays {
+    round: u64,
+    claims: AtomicU64,
+}
+
+/// How many turns a claim is held: few mostly, and now and then many.
+fn turns(round: u64, t: u32) -> u64 {
+    let mixed = (round << 32 | u64::from(t)).wrapping_mul(0x9e37_79b9_7f4a_7c15);
+    let drawn = mixed >> 48;
+    if drawn % 64 == 0 {
+        drawn % 1000
+    } else {
+        drawn % 16
+    }
+}
+
+impl Gate for Delays {
+    fn at(&self, point: Point) {
+        if let Point::Claimed(t) = point {
+            self.claims.fetch_add(1, Ordering::SeqCst);
+            let turns = turns(self.round, t);
+            for _ in 0..turns {
+                spin_loop();
+            }
+            if turns > 512 {
+                thread::yield_now();
+            }
+        }
+    }
+}
+
+#[test]
+fn a_chain_with_held_claims_is_the_serial_one(rt: HostRuntime) -> Result<(), Fail> {
+    let alloc: Global = rt.alloc();
+    let log = counters(alloc, 4096)?;
+    let want = serially(alloc, &log)?;
+    let cuts = cuts(alloc, &[4096])?;
+    for round in 0..50 {
+        let delays = Delays {
+            round,
+            claims: AtomicU64::new(0),
+        };
+        let text = run_told(&rt, alloc, &log, &cuts, settings("exec 8")?, &delays)?;
+        assert_eq!(rt; text.as_slice(), want.as_slice(), "round {round}");
+        assert!(rt;
+            delays.claims.load(Ordering::SeqCst) <= 4096,
+            "round {round}"
+        );
+    }
+    Ok(())
+}

@@ -1,0 +1,20 @@
+-- What the crates above cite of this crate's proofs. Each lemma is proved in the file of its subject.
+
+-- keys, and whether a list of them has one
+pub use Rattle.bohm_txn.proofs.Bodies.{same_key, key_itself, among_at}
+pub use Rattle.bohm_txn.proofs.Apart.{other_key, among_first, among_then}
+-- keys that rise are apart, and how they compare
+pub use Rattle.bohm_txn.proofs.Apart.{AllApart, rising_apart, none_before, less}
+pub use Rattle.bohm_txn.proofs.Lookups.{no_fall, same_at}
+-- lists by places
+pub use Rattle.bohm_txn.proofs.Lists.{front, drop_at, each_append}
+-- a well-formed transaction, and its body over two looks
+pub use Rattle.bohm_txn.proofs.UseLaws.{usable, rising_writes}
+pub use Rattle.bohm_txn.proofs.Bodies.{kept, same_reads, same_after, same_cells, map_same, shows_counted}
+pub use Rattle.bohm_txn.proofs.SureLaws.{sure_body, sure_after}
+-- the states and replies of the serial run
+pub use Rattle.bohm_txn.proofs.States.{there, next, state-front, state-append, replies-append, length-replies}
+-- stores, their cells and their entries
+pub use Rattle.bohm_txn.proofs.Stores.{tested, cell_in-put_all, cell_in-after, same_store}
+pub use Rattle.bohm_txn.proofs.Entries.{get-store_of, store_of-insert, store_of-remove, store_of-take}
+pub use Rattle.bohm_txn.proofs.Listed.{same_moved, entries_listed}
