@@ -3,11 +3,11 @@
 ghost use Rattle.std.specs.Prelude.{◌≡◌, ◌<◌, ◌≤◌, ◌+◌, All, length, OnOk};
 ghost use Rattle.bohm_txn.specs.Faulty.{IsWellFormedTxn};
 
-use crate::boards::{execute, next_batch};
+use crate::boards::{execute, next_batch, present};
 use crate::logs::checked;
 use bohm_store::{History, PastFault, StoreFault};
 use bohm_text::print_store;
-use bohm_txn::{Cell, Key, NoMemory, Txn, Value};
+use bohm_txn::{Cell, Key, NoMemory, Txn};
 use std::alloc::Global;
 use std::process::Abort;
 use std::test::Fail;
@@ -302,24 +302,51 @@ fn batches_and_trims(rt: HostRuntime) -> Result<(), Fail> {
     Ok(())
 }
 
-/// What single keys held, and what is said outside the past.
-#[test]
-fn values_of_the_past(rt: HostRuntime) -> Result<(), Fail> {
-    let alloc: Global = rt.alloc();
+/// What keys held, each at a timestamp.
+fn assert_values(
+    rt: &impl Abort,
+    history: &History,
+    rows: &[(&[u8], u32, Result<Cell, PastFault>)],
+) {
+    for (name, ts, want) in rows {
+        let key = Key::new(name).expect(rt, "a name");
+        assert_eq!(rt; history.value_at(&key, *ts), *want, "{key:?} at {ts}");
+    }
+}
+
+/// Where no store is read, and why.
+fn assert_no_store(rt: &impl Abort, alloc: Global, history: &History, ts: u32, want: StoreFault) {
+    assert_eq!(rt; history.store_at(alloc, ts).err(), Some(want), "at {ts}");
+}
+
+/// The log of the removal, run.
+fn removed<R: Abort + Threads + Sync>(rt: &R, alloc: Global) -> Result<History, Fail> {
     let (store, parts) = REMOVAL.split_once('#').ok_or("a store")?;
     let log = parts.split('#').nth(1).ok_or("a log")?;
     let log = log.split('@').next().ok_or("a log")?;
     let mut history = History::open(alloc, checked(alloc, "log 1\n", store)?.store())?;
-    settle_log(&rt, alloc, &mut history, log)?;
-    let (a, b) = (Key::new(b"a").ok_or("a")?, Key::new(b"b").ok_or("b")?);
-    assert_eq!(rt; history.value_at(&a, 0), Ok(Cell::Present(Value::from(5))));
-    assert_eq!(rt; history.value_at(&a, 1), Ok(Cell::Absent));
-    assert_eq!(rt; history.value_at(&b, 2), Ok(Cell::Absent));
-    assert_eq!(rt; history.value_at(&a, 4), Err(PastFault::Future));
-    assert_eq!(rt; history.store_at(alloc, 4).err(), Some(StoreFault::Future));
+    settle_log(rt, alloc, &mut history, log)?;
+    Ok(history)
+}
+
+/// What single keys held, and what is said outside the past.
+#[test]
+fn values_of_the_past(rt: HostRuntime) -> Result<(), Fail> {
+    let mut history = removed(&rt, rt.alloc())?;
+    let rows = [
+        (b"a".as_slice(), 0, Ok(present(5))),
+        (b"a", 1, Ok(Cell::Absent)),
+        (b"b", 2, Ok(Cell::Absent)),
+        (b"a", 4, Err(PastFault::Future)),
+    ];
+    assert_values(&rt, &history, rows.as_slice());
+    assert_no_store(&rt, rt.alloc(), &history, 4, StoreFault::Future);
     trim(&rt, &mut history, "2")?;
-    assert_eq!(rt; history.value_at(&a, 1), Err(PastFault::Trimmed));
-    assert_eq!(rt; history.value_at(&a, 2), Ok(Cell::Absent));
-    assert_eq!(rt; history.store_at(alloc, 1).err(), Some(StoreFault::Trimmed));
+    let rows = [
+        (b"a".as_slice(), 1, Err(PastFault::Trimmed)),
+        (b"a", 2, Ok(Cell::Absent)),
+    ];
+    assert_values(&rt, &history, rows.as_slice());
+    assert_no_store(&rt, rt.alloc(), &history, 1, StoreFault::Trimmed);
     Ok(())
 }

@@ -1,5 +1,5 @@
-//! Tests of the layers that a run is made of, over their public calls: what the check finds, how
-//! transactions end, plans, sweeps by several passes and threads, and histories in use.
+//! Tests of the layers that a run is made of, over their public calls: what a checked document lends,
+//! plans, batches, sweeps by several passes and threads, and histories in use.
 #![tactic(auto)]
 
 #[cfg(test)]
@@ -9,9 +9,7 @@ mod boards;
 #[cfg(test)]
 mod crowds;
 #[cfg(test)]
-mod endings;
-#[cfg(test)]
-mod faults;
+mod documents;
 #[cfg(test)]
 mod histories;
 #[cfg(test)]

@@ -82,37 +82,6 @@ impl Partition for Meeting {
     ghost in_range = { λ s k. mod-lt (slice_index k 0) s.bytes.some };
 }
 
-/// By a key's first byte. Counts the calls that are under way at once, each of which takes its time.
-#[derive(Drop)]
-struct Crowd {
-    bytes: FirstByte,
-    now: AtomicU64,
-    most: AtomicU64,
-}
-
-impl Partition for Crowd {
-    ghost count = { λ s. s.bytes.parts };
-
-    ghost part_of = { λ s k. slice_index k 0 % s.bytes.parts };
-
-    fn parts(&self) -> u32 {
-        self.bytes.parts()
-    }
-
-    fn part(&self, key: &Key) -> u32 {
-        let others = self.now.fetch_add(1, Ordering::SeqCst);
-        self.most
-            .fetch_max(others.wrapping_add(1), Ordering::SeqCst);
-        for _ in 0..1000u32 {
-            thread::yield_now();
-        }
-        self.now.fetch_sub(1, Ordering::SeqCst);
-        self.bytes.part(key)
-    }
-
-    ghost in_range = { λ s k. mod-lt (slice_index k 0) s.bytes.some };
-}
-
 /// Writes a.
 const EARLIER: &str = "txn\nreads\nwrites a\nend\n";
 
@@ -316,21 +285,6 @@ fn two_workers_plan_at_once(rt: HostRuntime) -> Result<(), Fail> {
     };
     plan_alone(&rt, rt.alloc(), &meeting, 2)?;
     assert_eq!(rt; meeting.met.load(Ordering::SeqCst), 1);
-    Ok(())
-}
-
-#[test]
-fn no_more_workers_plan_than_were_asked_for(rt: HostRuntime) -> Result<(), Fail> {
-    for cc in [1, 2] {
-        let crowd = Crowd {
-            bytes: FirstByte::new(64),
-            now: AtomicU64::new(0),
-            most: AtomicU64::new(0),
-        };
-        plan_alone(&rt, rt.alloc(), &crowd, cc)?;
-        let most = crowd.most.load(Ordering::SeqCst);
-        assert!(rt; most <= u64::from(cc), "{most} of {cc}");
-    }
     Ok(())
 }
 

@@ -13,13 +13,23 @@ ghost use Rattle.bohm_machine.specs.Texts.{Run, GoesThrough, log_of, texts_of};
 /// The answers of a log's segments joined, and then the text of the store at the top, are the answer of the
 /// whole log.
 pub fn answers_joined()
-    ensures { (store : List (List ℕ × ℤ)) (opened now : Ledger) (runs : List Run) (listed : List (List ℕ × ℤ)) → HasRun (cell_in (store_of store)) 0 [] opened → GoesThrough opened runs now → cell_in (store_of listed) ≡ now_of now → listed ≡ entries (store_of listed) → texts_of 1 runs ++ print_store listed ≡ print_answer (replies (cell_in (store_of store)) (log_of runs)) (entries (store_after (store_of store) (log_of runs))) }
+    ensures { (store : List (List ℕ × ℤ)) (opened now : Ledger) (runs : List Run)
+        (listed : List (List ℕ × ℤ)) → HasRun (cell_in (store_of store)) 0 [] opened
+        → GoesThrough opened runs now → cell_in (store_of listed) ≡ now_of now
+        → listed ≡ entries (store_of listed) → texts_of 1 runs ++ print_store listed
+        ≡ print_answer (replies (cell_in (store_of store)) (log_of runs))
+        (entries (store_after (store_of store) (log_of runs))) }
 {}
 
 /// A machine that holds at its top what another one holds there, and so one that is restored from its store
 /// at the top, goes on as that one does: by the same transactions it answers the same replies, and comes to
 /// the same past behind that timestamp.
 pub fn restored_goes_on()
-    ensures replies { (one other after1 after2 : Ledger) (txns : List Txn) (a b : List Reply) → top_of one ≡ top_of other → now_of one ≡ now_of other → GoesOn one after1 txns a → GoesOn other after2 txns b → a ≡ b }
-    ensures past { (one other after1 after2 : Ledger) (txns : List Txn) (a b : List Reply) → top_of one ≡ top_of other → now_of one ≡ now_of other → GoesOn one after1 txns a → GoesOn other after2 txns b → (ts : ℕ) → top_of one ≤ ts → ts ≤ top_of after1 → past_of after1 ts ≡ past_of after2 ts }
+    ensures replies { (one other after1 after2 : Ledger) (txns : List Txn) (a b : List Reply)
+        → top_of one ≡ top_of other → now_of one ≡ now_of other → GoesOn one after1 txns a
+        → GoesOn other after2 txns b → a ≡ b }
+    ensures past { (one other after1 after2 : Ledger) (txns : List Txn) (a b : List Reply)
+        → top_of one ≡ top_of other → now_of one ≡ now_of other → GoesOn one after1 txns a
+        → GoesOn other after2 txns b → (ts : ℕ) → top_of one ≤ ts → ts ≤ top_of after1
+        → past_of after1 ts ≡ past_of after2 ts }
 {}

@@ -14,4 +14,5 @@ mod Newest
 mod Members
 mod Noted
 mod OneWorker
+mod Behind
 pub mod ForCallers

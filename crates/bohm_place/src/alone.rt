@@ -33,7 +33,9 @@ pub fn plan_alone<P: Partition>(
     ensures right { IfOk result (λ r. IsRightPlan txns.now r.1) }
     ensures unplaced { IfOk result (λ r. HasNoPlaces r.1) }
     ensures parts { IfOk result (λ r. length r.0 ≡ length shards) }
-    ensures chains { IfOk result (λ r. (k : List ℕ) → chain_in (P.part_of partition.now) r.0 k ≡ chain_in (P.part_of partition.now) shards k ++ writers first txns.now k) }
+    ensures chains { IfOk result (λ r. (k : List ℕ)
+        → chain_in (P.part_of partition.now) r.0 k
+        ≡ chain_in (P.part_of partition.now) shards k ++ writers first txns.now k) }
     ensures below { IfOk result (λ r. (k : List ℕ) → All (λ b. b < first + length txns.now) (chain_in (P.part_of partition.now) r.0 k)) }
 {
     let rows = rows(alloc, txns)?;

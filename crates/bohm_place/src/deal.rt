@@ -1,6 +1,7 @@
 //! Dealing the parts to the workers, and gathering them again.
 
-ghost use Rattle.std.specs.Prelude.{◌≡◌, ℕ, List, ◌+◌, ◌++◌, ◌%◌, ◌^◌, ◌<◌, ◌≤◌, ◌==◌, [], length, All, IfOk, OnOk, slice_get, slice_index_or, nat_lt, if◌then◌else◌};
+ghost use Rattle.std.specs.Prelude.{◌≡◌, ℕ, List, ◌+◌, ◌++◌, ◌%◌, ◌^◌, ◌<◌, ◌≤◌, ◌==◌, []};
+ghost use Rattle.std.specs.Prelude.{length, All, IfOk, OnOk, slice_get, slice_index_or, nat_lt, if◌then◌else◌};
 ghost use Rattle.bohm_place.specs.Chains.{placeholders_in};
 ghost use Rattle.bohm_place.specs.Shares.{AreParts, made, found_by, newest_ahead, greater, IsHand, KeepsOthers, IsPartOf};
 
@@ -19,8 +20,10 @@ use std::snapshot::Snapshot;
 fn swap_parts<T>(a: &mut [T], b: &mut [T], worker: Worker)
     requires workers { 0 < worker.count }
     requires same { length a.old ≡ length b.old }
-    ensures a { (p : ℕ) → p < length a.old → slice_get a.new p ≡ (if ((p % worker.count) == worker.number) then slice_get b.old p else slice_get a.old p) }
-    ensures b { (p : ℕ) → p < length a.old → slice_get b.new p ≡ (if ((p % worker.count) == worker.number) then slice_get a.old p else slice_get b.old p) }
+    ensures a { (p : ℕ) → p < length a.old → slice_get a.new p
+        ≡ (if ((p % worker.count) == worker.number) then slice_get b.old p else slice_get a.old p) }
+    ensures b { (p : ℕ) → p < length a.old → slice_get b.new p
+        ≡ (if ((p % worker.count) == worker.number) then slice_get a.old p else slice_get b.old p) }
 {
     let number = worker.number as usize;
     let count = worker.count as usize;
@@ -47,9 +50,12 @@ fn take_hand(alloc: Global, parts: &mut [Places], worker: Worker) -> Result<Vec<
 pub fn deal(alloc: Global, parts: &mut [Places], workers: u32) -> Result<Vec<Job>, NoMemory>
     requires { 0 < workers }
     ensures count { IfOk result (λ jobs. length jobs.items ≡ workers) }
-    ensures workers { IfOk result (λ jobs. (w : ℕ) (d : _) → w < workers → (slice_index_or jobs.items w d).worker ≡ record { number = w; count = workers }) }
-    ensures hands { IfOk result (λ jobs. (w : ℕ) (d : _) → w < workers → IsHand workers w parts.old (slice_index_or jobs.items w d).hand.items) }
-    ensures parts { IfOk result (λ jobs. (w : ℕ) (d : _) → w < workers → length (slice_index_or jobs.items w d).hand.items ≡ length parts.old) }
+    ensures workers { IfOk result (λ jobs. (w : ℕ) (d : _) → w < workers
+        → (slice_index_or jobs.items w d).worker ≡ record { number = w; count = workers }) }
+    ensures hands { IfOk result (λ jobs. (w : ℕ) (d : _) → w < workers
+        → IsHand workers w parts.old (slice_index_or jobs.items w d).hand.items) }
+    ensures parts { IfOk result (λ jobs. (w : ℕ) (d : _) → w < workers
+        → length (slice_index_or jobs.items w d).hand.items ≡ length parts.old) }
 {
     let mut jobs = Vec::with_capacity(alloc, workers as usize)?;
     for number in 0..workers {
@@ -91,9 +97,16 @@ pub fn gather<P: Partition>(
     requires count { length shares.items ≡ workers }
     requires parts { length parts.old ≡ P.count partition.now }
     requires given { length given.value.items ≡ P.count partition.now }
-    requires shares { (w : ℕ) (d : _) → w < workers → IfOk (slice_index_or shares.items w d) (λ s. IsPartOf (P.part_of partition.now) workers w first txns.now given.value.items s.found.items s.hand.items) }
-    ensures found { IfOk result (λ v. v.items ≡ found_by (λ k. nat_lt (P.part_of partition.now k % workers) workers) (newest_ahead first (placeholders_in (P.part_of partition.now) given.value.items)) [] txns.now) }
-    ensures chains { OnOk result ((k : List ℕ) → placeholders_in (P.part_of partition.now) parts.new k ≡ placeholders_in (P.part_of partition.now) given.value.items k ++ made first txns.now k) }
+    requires shares { (w : ℕ) (d : _) → w < workers → IfOk (slice_index_or shares.items w d)
+        (λ s. IsPartOf (P.part_of partition.now) workers w first txns.now given.value.items
+        s.found.items s.hand.items) }
+    ensures found { IfOk result (λ v. v.items
+        ≡ found_by (λ k. nat_lt (P.part_of partition.now k % workers) workers)
+        (newest_ahead first (placeholders_in (P.part_of partition.now) given.value.items))
+        [] txns.now) }
+    ensures chains { OnOk result ((k : List ℕ)
+        → placeholders_in (P.part_of partition.now) parts.new k
+        ≡ placeholders_in (P.part_of partition.now) given.value.items k ++ made first txns.now k) }
 {
     let mut found = Vec::new(alloc);
     for number in 0..workers {

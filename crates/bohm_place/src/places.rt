@@ -23,7 +23,9 @@ fn append(
 ) -> Result<Placeholder, NoMemory>
     requires { (k : List ℕ) → 1 < length (items_at chains.old k) → IsAmong long.old.items k }
     ensures newest { IfOk result (λ v. v ≡ last_or none (items_at chains.old key)) }
-    ensures chains { (k : List ℕ) → items_at chains.new k ≡ (if (is_ok result && bytes_eq key k) then items_at chains.old k ++ next ∷ [] else items_at chains.old k) }
+    ensures chains { (k : List ℕ) → items_at chains.new k
+        ≡ (if (is_ok result && bytes_eq key k)
+        then items_at chains.old k ++ next ∷ [] else items_at chains.old k) }
     ensures listed { (k : List ℕ) → 1 < length (items_at chains.new k) → IsAmong long.new.items k }
 {
     match chains.get_mut(&key) {
@@ -37,7 +39,9 @@ fn append(
 
 // Shortens the chain of a key, and answers whether it has more than one begin then.
 fn shorten(chains: &mut HashMap<Key, Chain, HashSeed>, key: &Key, floor: u32) -> bool
-    ensures chains { (k : List ℕ) → items_at chains.new k ≡ (if bytes_eq key.now k then kept_items floor (items_at chains.old k) else items_at chains.old k) }
+    ensures chains { (k : List ℕ) → items_at chains.new k
+        ≡ (if bytes_eq key.now k
+        then kept_items floor (items_at chains.old k) else items_at chains.old k) }
     ensures short { result ≡ false → (k : List ℕ) → bytes_eq key.now k ≡ true → length (items_at chains.new k) < 2 }
 {
     match chains.get_mut(key) {
@@ -125,7 +129,9 @@ impl Places {
         requires timestamp { 0 < next.begin }
         requires above { All (λ b. b < next.begin) (chain self.old key) }
         ensures newest { IfOk result (λ v. v ≡ last_or none (placeholders self.old key)) }
-        ensures chains { (k : List ℕ) → placeholders self.new k ≡ (if (is_ok result && bytes_eq key k) then placeholders self.old k ++ next ∷ [] else placeholders self.old k) }
+        ensures chains { (k : List ℕ) → placeholders self.new k
+            ≡ (if (is_ok result && bytes_eq key k)
+            then placeholders self.old k ++ next ∷ [] else placeholders self.old k) }
     {
         append(&mut self.chains, &mut self.long, alloc, key, next)
     }

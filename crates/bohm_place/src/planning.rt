@@ -48,19 +48,30 @@ fn plan_shares<P: Partition, R: Threads + Sync>(
 ) -> Result<Vec<Result<Share, NoMemory>>, NoMemory>
     requires parts { All (λ j. length j.hand.items ≡ P.count partition.now) jobs.items }
     requires workers { All (λ j. 0 < j.worker.count) jobs.items }
-    requires earlier { All (λ j. (k : List ℕ) → has_part (P.part_of partition.now) j.worker.count j.worker.number k ≡ true → All (λ b. b < first) (chain_in (P.part_of partition.now) j.hand.items k)) jobs.items }
+    requires earlier { All (λ j. (k : List ℕ)
+        → has_part (P.part_of partition.now) j.worker.count j.worker.number k ≡ true
+        → All (λ b. b < first) (chain_in (P.part_of partition.now) j.hand.items k)) jobs.items }
     requires position { 0 < first }
     requires room { first + length txns.now ≤ 2 ^ 32 }
     requires formed { AreWellFormed txns.now }
     ensures count { IfOk result (λ shares. length shares.items ≡ length jobs.items) }
-    ensures each { IfOk result (λ shares. (w : ℕ) (d : _) (e : _) → w < length jobs.items → IfOk (slice_index_or shares.items w e) (λ s. IsShareOf (P.part_of partition.now) (slice_index_or jobs.items w d).worker.count (slice_index_or jobs.items w d).worker.number first txns.now (slice_index_or jobs.items w d).hand.items s.found.items s.hand.items)) }
+    ensures each { IfOk result (λ shares. (w : ℕ) (d : _) (e : _) → w < length jobs.items
+        → IfOk (slice_index_or shares.items w e) (λ s. IsShareOf (P.part_of partition.now)
+        (slice_index_or jobs.items w d).worker.count (slice_index_or jobs.items w d).worker.number
+        first txns.now (slice_index_or jobs.items w d).hand.items s.found.items s.hand.items)) }
 {
     let shares = thread::map_vec(
         rt,
         jobs,
         &|job: Job| -> Result<Share, NoMemory>
-            requires { IsSync P.row × (length job.hand.items ≡ P.count partition.now) × (0 < job.worker.count) × ((k : List ℕ) → has_part (P.part_of partition.now) job.worker.count job.worker.number k ≡ true → All (λ b. b < first) (chain_in (P.part_of partition.now) job.hand.items k)) × (0 < first) × (first + length txns.now ≤ 2 ^ 32) × AreWellFormed txns.now }
-            ensures { IfOk result (λ s. IsShareOf (P.part_of partition.entry.now) job.worker.count job.worker.number first txns.entry.now job.hand.items s.found.items s.hand.items) }
+            requires { IsSync P.row × (length job.hand.items ≡ P.count partition.now)
+                × (0 < job.worker.count) × ((k : List ℕ)
+                → has_part (P.part_of partition.now) job.worker.count job.worker.number k ≡ true
+                → All (λ b. b < first) (chain_in (P.part_of partition.now) job.hand.items k))
+                × (0 < first) × (first + length txns.now ≤ 2 ^ 32) × AreWellFormed txns.now }
+            ensures { IfOk result (λ s. IsShareOf (P.part_of partition.entry.now)
+                job.worker.count job.worker.number first txns.entry.now
+                job.hand.items s.found.items s.hand.items) }
         { plan_share(alloc, job, first, txns, partition, accesses) },
     )?;
     Ok(shares)
@@ -93,7 +104,9 @@ pub fn plan<P: Partition, R: Threads + Sync>(
     ensures right { IfOk result (λ r. IsRightPlan txns.now r.1) }
     ensures unplaced { IfOk result (λ r. HasNoPlaces r.1) }
     ensures parts { IfOk result (λ r. length r.0 ≡ length shards) }
-    ensures chains { IfOk result (λ r. (k : List ℕ) → chain_in (P.part_of partition.now) r.0 k ≡ chain_in (P.part_of partition.now) shards k ++ writers first txns.now k) }
+    ensures chains { IfOk result (λ r. (k : List ℕ)
+        → chain_in (P.part_of partition.now) r.0 k
+        ≡ chain_in (P.part_of partition.now) shards k ++ writers first txns.now k) }
     ensures below { IfOk result (λ r. (k : List ℕ) → All (λ b. b < first + length txns.now) (chain_in (P.part_of partition.now) r.0 k)) }
 {
     let workers = cc.min(partition.parts());

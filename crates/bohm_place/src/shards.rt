@@ -77,7 +77,9 @@ impl Shards {
     pub fn trim_places(&mut self, floor: u32)
         ensures parts { length self.new ≡ length self.old }
         ensures chains { (part : List ℕ → ℕ) (k : List ℕ) → chain_in part self.new k ≡ kept floor (chain_in part self.old k) }
-        ensures below { (part : List ℕ → ℕ) (k : List ℕ) (ts : ℕ) → All (λ b. b < ts) (chain_in part self.old k) → All (λ b. b < ts) (chain_in part self.new k) }
+        ensures below { (part : List ℕ → ℕ) (k : List ℕ) (ts : ℕ)
+            → All (λ b. b < ts) (chain_in part self.old k)
+            → All (λ b. b < ts) (chain_in part self.new k) }
     {
         trim_parts(self.parts.as_mut_slice(), floor);
     }

@@ -1,6 +1,7 @@
 //! What one planning worker does.
 
-ghost use Rattle.std.specs.Prelude.{◌≡◌, ℕ, List, ◌+◌, ◌++◌, ◌%◌, ◌^◌, ◌<◌, ◌≤◌, ◌==◌, ◌&&◌, [], ◌∷◌, length, map, All, OnOk, IfOk, true, if◌then◌else◌};
+ghost use Rattle.std.specs.Prelude.{◌≡◌, ℕ, List, ◌+◌, ◌++◌, ◌%◌, ◌^◌, ◌<◌, ◌≤◌, ◌==◌, ◌&&◌, [], ◌∷◌};
+ghost use Rattle.std.specs.Prelude.{length, map, All, OnOk, IfOk, true, if◌then◌else◌};
 ghost use Rattle.std.specs.Str.{bytes_eq};
 ghost use Rattle.bohm_place.specs.Chains.{placeholders_in, chain_in, none, last_or};
 ghost use Rattle.bohm_place.specs.Shares.{AreWellFormed, AreDistinct, has_part, within, written, made, found_by, newest_ahead, IsShareOf};
@@ -53,7 +54,9 @@ fn find<P: Partition>(
 ) -> Placeholder
     requires parts { length hand.now ≡ P.count partition.now }
     requires workers { 0 < worker.count }
-    ensures { result ≡ (if has_part (P.part_of partition.now) worker.count worker.number key.now then within first (last_or none (placeholders_in (P.part_of partition.now) hand.now key.now)) else none) }
+    ensures { result ≡ (if has_part (P.part_of partition.now) worker.count worker.number key.now
+        then within first (last_or none (placeholders_in (P.part_of partition.now) hand.now key.now))
+        else none) }
 {
     let part = partition.part(key);
     if !worker.has(part) {
@@ -75,9 +78,17 @@ fn find_and_place<P: Partition>(
     requires parts { length hand.old ≡ P.count partition.now }
     requires workers { 0 < worker.count }
     requires timestamp { 0 < next.begin }
-    requires above { has_part (P.part_of partition.now) worker.count worker.number key ≡ true → All (λ b. b < next.begin) (chain_in (P.part_of partition.now) hand.old key) }
-    ensures found { IfOk result (λ v. v ≡ (if has_part (P.part_of partition.now) worker.count worker.number key then within first (last_or none (placeholders_in (P.part_of partition.now) hand.old key)) else none)) }
-    ensures placed { OnOk result ((k : List ℕ) → placeholders_in (P.part_of partition.now) hand.new k ≡ (if (bytes_eq key k && has_part (P.part_of partition.now) worker.count worker.number k) then placeholders_in (P.part_of partition.now) hand.old k ++ next ∷ [] else placeholders_in (P.part_of partition.now) hand.old k)) }
+    requires above { has_part (P.part_of partition.now) worker.count worker.number key ≡ true
+        → All (λ b. b < next.begin) (chain_in (P.part_of partition.now) hand.old key) }
+    ensures found { IfOk result (λ v. v
+        ≡ (if has_part (P.part_of partition.now) worker.count worker.number key
+        then within first (last_or none (placeholders_in (P.part_of partition.now) hand.old key))
+        else none)) }
+    ensures placed { OnOk result ((k : List ℕ)
+        → placeholders_in (P.part_of partition.now) hand.new k
+        ≡ (if (bytes_eq key k && has_part (P.part_of partition.now) worker.count worker.number k)
+        then placeholders_in (P.part_of partition.now) hand.old k ++ next ∷ []
+        else placeholders_in (P.part_of partition.now) hand.old k)) }
 {
     let part = partition.part(&key);
     if !worker.has(part) {
@@ -97,7 +108,10 @@ fn find_reads<P: Partition>(
 ) -> Result<(), NoMemory>
     requires parts { length hand.now ≡ P.count partition.now }
     requires workers { 0 < worker.count }
-    ensures { OnOk result (found.new.items ≡ found.old.items ++ map (λ k. if has_part (P.part_of partition.now) worker.count worker.number k then within first (last_or none (placeholders_in (P.part_of partition.now) hand.now k)) else none) keys.now) }
+    ensures { OnOk result (found.new.items ≡ found.old.items
+        ++ map (λ k. if has_part (P.part_of partition.now) worker.count worker.number k
+        then within first (last_or none (placeholders_in (P.part_of partition.now) hand.now k))
+        else none) keys.now) }
 {
     for key in keys {
         found.push(find(hand, first, partition, key, worker))?;
@@ -120,9 +134,18 @@ fn find_and_place_writes<P: Partition>(
     requires timestamp { 0 < ts }
     requires few { length keys.now ≤ 16 }
     requires distinct { AreDistinct keys.now }
-    requires above { (k : List ℕ) → has_part (P.part_of partition.now) worker.count worker.number k ≡ true → All (λ b. b < ts) (chain_in (P.part_of partition.now) hand.old k) }
-    ensures found { OnOk result (found.new.items ≡ found.old.items ++ map (λ k. if has_part (P.part_of partition.now) worker.count worker.number k then within first (last_or none (placeholders_in (P.part_of partition.now) hand.old k)) else none) keys.now) }
-    ensures placed { OnOk result ((k : List ℕ) → placeholders_in (P.part_of partition.now) hand.new k ≡ (if has_part (P.part_of partition.now) worker.count worker.number k then placeholders_in (P.part_of partition.now) hand.old k ++ written ts 0 keys.now k else placeholders_in (P.part_of partition.now) hand.old k)) }
+    requires above { (k : List ℕ)
+        → has_part (P.part_of partition.now) worker.count worker.number k ≡ true
+        → All (λ b. b < ts) (chain_in (P.part_of partition.now) hand.old k) }
+    ensures found { OnOk result (found.new.items ≡ found.old.items
+        ++ map (λ k. if has_part (P.part_of partition.now) worker.count worker.number k
+        then within first (last_or none (placeholders_in (P.part_of partition.now) hand.old k))
+        else none) keys.now) }
+    ensures placed { OnOk result ((k : List ℕ)
+        → placeholders_in (P.part_of partition.now) hand.new k
+        ≡ (if has_part (P.part_of partition.now) worker.count worker.number k
+        then placeholders_in (P.part_of partition.now) hand.old k ++ written ts 0 keys.now k
+        else placeholders_in (P.part_of partition.now) hand.old k)) }
 {
     for i in 0..keys.len() {
         let next = Placeholder {
@@ -149,9 +172,17 @@ fn find_all<P: Partition>(
     requires position { 0 < first }
     requires room { first + length txns.now ≤ 2 ^ 32 }
     requires formed { AreWellFormed txns.now }
-    requires earlier { (k : List ℕ) → has_part (P.part_of partition.now) worker.count worker.number k ≡ true → All (λ b. b < first) (chain_in (P.part_of partition.now) hand.old k) }
-    ensures found { IfOk result (λ v. v.items ≡ found_by (has_part (P.part_of partition.now) worker.count worker.number) (newest_ahead first (placeholders_in (P.part_of partition.now) hand.old)) [] txns.now) }
-    ensures placed { OnOk result ((k : List ℕ) → placeholders_in (P.part_of partition.now) hand.new k ≡ (if has_part (P.part_of partition.now) worker.count worker.number k then placeholders_in (P.part_of partition.now) hand.old k ++ made first txns.now k else placeholders_in (P.part_of partition.now) hand.old k)) }
+    requires earlier { (k : List ℕ)
+        → has_part (P.part_of partition.now) worker.count worker.number k ≡ true
+        → All (λ b. b < first) (chain_in (P.part_of partition.now) hand.old k) }
+    ensures found { IfOk result (λ v. v.items
+        ≡ found_by (has_part (P.part_of partition.now) worker.count worker.number)
+        (newest_ahead first (placeholders_in (P.part_of partition.now) hand.old)) [] txns.now) }
+    ensures placed { OnOk result ((k : List ℕ)
+        → placeholders_in (P.part_of partition.now) hand.new k
+        ≡ (if has_part (P.part_of partition.now) worker.count worker.number k
+        then placeholders_in (P.part_of partition.now) hand.old k ++ made first txns.now k
+        else placeholders_in (P.part_of partition.now) hand.old k)) }
 {
     let mut found = Vec::with_capacity(alloc, accesses)?;
     for i in 0..txns.len() {
@@ -182,8 +213,11 @@ pub fn plan_share<P: Partition>(
     requires position { 0 < first }
     requires room { first + length txns.now ≤ 2 ^ 32 }
     requires formed { AreWellFormed txns.now }
-    requires earlier { (k : List ℕ) → has_part (P.part_of partition.now) job.worker.count job.worker.number k ≡ true → All (λ b. b < first) (chain_in (P.part_of partition.now) job.hand.items k) }
-    ensures { IfOk result (λ s. IsShareOf (P.part_of partition.now) job.worker.count job.worker.number first txns.now job.hand.items s.found.items s.hand.items) }
+    requires earlier { (k : List ℕ)
+        → has_part (P.part_of partition.now) job.worker.count job.worker.number k ≡ true
+        → All (λ b. b < first) (chain_in (P.part_of partition.now) job.hand.items k) }
+    ensures { IfOk result (λ s. IsShareOf (P.part_of partition.now) job.worker.count
+        job.worker.number first txns.now job.hand.items s.found.items s.hand.items) }
 {
     let hand = job.hand.as_mut_slice();
     let found = find_all(alloc, hand, first, txns, partition, job.worker, accesses)?;

@@ -1,6 +1,6 @@
 -- The replies of a batch, one transaction after another.
 use Rattle.std.proofs.Common.{◌≡◌, ℕ, ◌+◌, ◌<◌, ◌≤◌, List, [], ◌∷◌, ◌++◌, length, take, drop, get_or, Some, None, Ok, Err, refl, sym, ap, ◌∙◌, add-one, append_assoc, arith, ⊎_elim}
-use Rattle.std.specs.Prelude.{ℤ, Option, Result, OnOk, OnErr}
+use Rattle.std.specs.Prelude.{ℤ, Option, Result, OnErr}
 use Rattle.std.specs.List.{slice_get}
 use Rattle.std.proofs.lemmas.List.{take_all, take_more}
 use Rattle.std.proofs.lemmas.Option.{get_or_from_slice_get, slice_get_cases, slice_get_within}
@@ -62,10 +62,6 @@ pub longer : (old mid new : List Reply) (r : Reply) → ((more : List Reply) × 
 longer old mid new r (more, before) now = (more ++ r ∷ [], now ∙ (ap (λ (rs : List Reply). rs ++ r ∷ []) before ∙ append_assoc old more (r ∷ [])))
 
 -- ---- what is so whatever was answered
-
-pub on_ok : {A E P : Type 0} (r : Result A E) → P → OnOk r P
-on_ok (Ok x) p = p
-on_ok (Err e) p = tt
 
 pub on_err : {A E P : Type 0} (r : Result A E) → P → OnErr r P
 on_err (Ok x) p = tt

@@ -21,7 +21,8 @@ pub fn read_all<R: Read>(alloc: Global, reader: &mut R) -> Result<Vec<u8>, RunFa
     ensures bytes { IfOk result (λ text. Consumes (R.remaining reader.old) (R.remaining reader.new) text.items) }
     ensures end { OnOk result (IsAtEnd (R.remaining reader.new)) }
     ensures short { IfOk result (λ text. length text.items ≤ LONGEST_TEXT) }
-    ensures long { result ≡ Err RunFault.TooLong → (bytes : List ℕ) × (LONGEST_TEXT < length bytes) × Consumes (R.remaining reader.old) (R.remaining reader.new) bytes }
+    ensures long { result ≡ Err RunFault.TooLong → (bytes : List ℕ) × (LONGEST_TEXT < length bytes)
+        × Consumes (R.remaining reader.old) (R.remaining reader.new) bytes }
     ensures refusals { IfErr result IsReadFault }
 {
     let mut text = Vec::new(alloc);

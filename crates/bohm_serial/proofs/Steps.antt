@@ -1,6 +1,6 @@
 -- A transaction's step over a finite store.
 use Rattle.std.proofs.Common.{◌≡◌, ℕ, ◌+◌, Bool, true, false, List, [], ◌∷◌, ◌++◌, map, length, drop, Some, Ok, Err, refl, sym, ap, ◌∙◌, inl, inr, arith, append_assoc}
-use Rattle.std.specs.Prelude.{ℤ, ◌⊎◌, ◌||◌, cond, Result, OnOk}
+use Rattle.std.specs.Prelude.{ℤ, ◌⊎◌, ◌||◌, cond}
 use Rattle.std.specs.List.{zip, list_any, slice_get}
 use Rattle.std.specs.Str.{bytes_eq}
 use Rattle.bohm_tree.specs.declared.cell.Cell.{Cell}
@@ -56,10 +56,6 @@ put_all-zip_end s [] cs e = refl
 put_all-zip_end s (k ∷ ks) [] e = refl
 put_all-zip_end s (k ∷ ks) (c ∷ cs) (inl e) = absurd (omega arith)
 put_all-zip_end s (k ∷ ks) (c ∷ cs) (inr e) = absurd (omega arith)
-
-pub on_ok : {A E P : Type 0} (r : Result A E) → P → OnOk r P
-on_ok (Ok x) p = p
-on_ok (Err e) p = tt
 
 -- one more transaction of the log
 pub replies_more : (s s' : Store) (ts : List Txn) (i : ℕ) (t : Txn) (r : Reply) (done whole : List Reply) → slice_get ts i ≡ Some t → r ≡ reply_of (body (cell_in s) t) → s' ≡ put_all s (writes_of (body (cell_in s) t))

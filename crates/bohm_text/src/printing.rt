@@ -3,7 +3,9 @@
 ghost use Rattle.std.specs.Prelude.{◌≡◌, ◌++◌, ◌∷◌, [], IfOk, map};
 ghost use Rattle.std.specs.List.{flat_map};
 ghost use Rattle.std.specs.Fmt.{signed_decimal};
-ghost use Rattle.bohm_text.specs.Print.{atom_word, first_word, further_words, sum_words, cmp_word, cond_words, guard_words, stmt_words, store_words, txn_lines, spaced, line_text, lines_text, print_doc};
+ghost use Rattle.bohm_text.specs.Print.{atom_word, first_word, further_words, sum_words, cmp_word, cond_words};
+ghost use Rattle.bohm_text.specs.Print.{guard_words, stmt_words, store_words, txn_lines, spaced};
+ghost use Rattle.bohm_text.specs.Print.{line_text, lines_text, print_doc};
 
 use bohm_tree::{Atom, Boxed, Cmp, Cond, Doc, Edition, Key, NoMemory, Stmt, Sum, Term, Txn, Value};
 use itoa::Buffer;

@@ -1,7 +1,9 @@
 //! Statements and the other lines that are read by words.
 
 ghost use Rattle.std.specs.Prelude.{◌≡◌, codes, is_some};
-ghost use Rattle.bohm_text.specs.Reading.{Gives, GivesKeys, keys_of, local_of, after, last_sum, assigned_of, bind_of, put_of, presence_of, need_of, remove_of, fail_of, stmt_of, entry_of};
+ghost use Rattle.bohm_text.specs.Reading.{Gives, GivesKeys, keys_of, local_of, after, last_sum};
+ghost use Rattle.bohm_text.specs.Reading.{assigned_of, bind_of, put_of, presence_of, need_of};
+ghost use Rattle.bohm_text.specs.Reading.{remove_of, fail_of, stmt_of, entry_of};
 
 use crate::conditions::{build_cond, read_cond, scan_cond};
 use crate::fault::ReadFault;

@@ -8,8 +8,36 @@ use std::process::Abort;
 use std::test::Fail;
 
 /// Every statement, every comparison, negative first terms, and keys with the names of keywords.
-const EVERY_FORM: &[u8] =
-    b"log 2\na 0\nb9_ -9223372036854775808\nend 9223372036854775807\ntxn\nreads a b9_ end has txn\nwrites a no when\nlet $x = 1\nlet $end = -a - 2 + $x\nneed a < 1\nneed -a <= b9_ - 1\nneed has = no\nneed a >= 0 + 7\nneed 9223372036854775807 > -$x\nneed has a\nneed no when\nneed has has\nset a = -5\nset when = a + b9_ when when > 4\nset no = $x when a + 1 = -9223372036854775807 - 1\ndrop a\nshow $end\nfail\nend\ntxn\nreads\nwrites\nend\n";
+const EVERY_FORM: &[u8] = b"\
+log 2
+a 0
+b9_ -9223372036854775808
+end 9223372036854775807
+txn
+reads a b9_ end has txn
+writes a no when
+let $x = 1
+let $end = -a - 2 + $x
+need a < 1
+need -a <= b9_ - 1
+need has = no
+need a >= 0 + 7
+need 9223372036854775807 > -$x
+need has a
+need no when
+need has has
+set a = -5
+set when = a + b9_ when when > 4
+set no = $x when a + 1 = -9223372036854775807 - 1
+drop a
+show $end
+fail
+end
+txn
+reads
+writes
+end
+";
 
 fn fault(alloc: Global, text: &[u8]) -> Option<TextFault> {
     match parse(alloc, text) {

@@ -73,17 +73,23 @@ fn readers_fail_at_each_call(rt: HostRuntime) -> Result<(), Fail> {
 
 #[test]
 fn readers_and_writers_take_parts(rt: HostRuntime) -> Result<(), Fail> {
-    for most in [1, 7, 56, 57] {
-        let mut reader = FakeReader {
-            bytes: LOG,
-            most,
-            failure: Failure::never(),
-        };
-        let mut writer = FakeWriter::new(rt.alloc(), most);
-        let ended = run_text(&rt, rt.alloc(), &mut reader, &mut writer, settings("")?);
-        assert_eq!(rt; ended, Ok(()), "{most} bytes a call");
-        assert_eq!(rt; writer.taken.as_slice(), ANSWER, "{most} bytes a call");
-        assert_eq!(rt; writer.flushes, 1, "{most} bytes a call");
+    for words in TWICE {
+        for most in [1, 7, 56, 57] {
+            let mut reader = FakeReader {
+                bytes: LOG,
+                most,
+                failure: Failure::never(),
+            };
+            let mut writer = FakeWriter::new(rt.alloc(), most);
+            let ended = run_text(&rt, rt.alloc(), &mut reader, &mut writer, settings(words)?);
+            assert_eq!(rt; ended, Ok(()), "{most} bytes a call, {words}");
+            assert_eq!(rt;
+                writer.taken.as_slice(),
+                ANSWER,
+                "{most} bytes a call, {words}"
+            );
+            assert_eq!(rt; writer.flushes, 1, "{most} bytes a call, {words}");
+        }
     }
     Ok(())
 }

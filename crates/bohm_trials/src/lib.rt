@@ -1,6 +1,5 @@
-//! Tests of whole runs: worked examples under many settings, drawn logs against the plain program,
-//! workers that are held at gates, what runs leave behind, failing readers and writers, and the line of
-//! plans.
+//! Tests of whole runs: drawn logs against the plain program, workers that are held at gates, what runs
+//! leave behind, failing readers and writers, and the line of plans.
 #![tactic(auto)]
 
 #[cfg(test)]
@@ -18,9 +17,9 @@ mod limits;
 #[cfg(test)]
 mod line;
 #[cfg(test)]
-mod random;
+mod plain;
 #[cfg(test)]
-mod rows;
+mod random;
 #[cfg(test)]
 mod runs;
 #[cfg(test)]

@@ -1,7 +1,7 @@
 //! Logs and settings from their text, runs, and what they tell.
 
 use bohm_exec::Gate;
-use bohm_run::{Answer, ByteSum, Cuts, RunFault, Settings, print_fault, run, run_text};
+use bohm_run::{Answer, ByteSum, Cuts, Settings, run};
 use bohm_store::History;
 use bohm_text::{parse, print_replies, print_store};
 use bohm_txn::{Checked, Reply, check};
@@ -53,36 +53,6 @@ pub fn settings(words: &str) -> Result<Settings, Fail> {
         named(words, "at "),
     );
     Ok(settings.ok_or("settings")?)
-}
-
-/// What a run writes; or, where it is refused, the line of its fault, and nothing was written.
-pub fn said<R: Abort + AllocGlobal + Threads + Wait + Sync + RandomSource>(
-    rt: &R,
-    log: &[u8],
-    settings: Settings,
-) -> Result<Vec<u8>, Fail> {
-    let mut unread = log;
-    let mut written = Vec::new(rt.alloc());
-    match run_text(rt, rt.alloc(), &mut unread, &mut written, settings) {
-        Ok(()) => Ok(written),
-        Err(fault) => {
-            assert!(rt; written.is_empty(), "a refused run wrote");
-            Ok(print_fault(rt.alloc(), &fault)?)
-        }
-    }
-}
-
-/// The fault of a run that is refused, and writes nothing.
-pub fn fault_of<R: Abort + AllocGlobal + Threads + Wait + Sync + RandomSource>(
-    rt: &R,
-    log: &[u8],
-    settings: Settings,
-) -> Result<RunFault, Fail> {
-    let mut unread = log;
-    let mut written = Vec::new(rt.alloc());
-    let ended = run_text(rt, rt.alloc(), &mut unread, &mut written, settings);
-    assert!(rt; written.is_empty(), "a refused run wrote");
-    Ok(ended.err().ok_or("a refusal")?)
 }
 
 /// Batches of these sizes.
@@ -140,13 +110,5 @@ pub fn told_with_versions(
     let count = history.version_count();
     let mut text = format!(in alloc; "{floor} to {top}, {count} versions\n")?;
     text.push_str(str::from_utf8(told(alloc, replies, history)?.as_slice())?)?;
-    Ok(text)
-}
-
-/// What the plain program answers.
-pub fn serially(alloc: Global, checked: &Checked) -> Result<Vec<u8>, Fail> {
-    let bohm_serial::Answer { replies, store } = bohm_serial::run(alloc, checked)?;
-    let mut text = print_replies(alloc, replies.as_slice())?;
-    text.extend_from_slice(print_store(alloc, store.as_slice())?.as_slice())?;
     Ok(text)
 }

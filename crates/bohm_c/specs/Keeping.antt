@@ -1,0 +1,99 @@
+-- What the calls on a handle say.
+use Rattle.std.specs.Prelude.{◌≡◌, ℕ, ℤ, ◌+◌, ◌<◌, ◌≤◌, Bool, true, false, List, [], length, max, take}
+use Rattle.std.specs.FinMap.{entries}
+use Rattle.bohm_tree.specs.Document.{Document}
+use Rattle.bohm_tree.specs.declared.cell.Cell.{Cell}
+use Rattle.bohm_tree.specs.declared.cell.Cell.TheVariants.{Absent, Present}
+use Rattle.bohm_txn.specs.declared.outcome.Reply.{Reply}
+use Rattle.bohm_txn.specs.Stores.{cell_in, store_of}
+use Rattle.bohm_text.specs.Print.{print_doc, print_numbered}
+use Rattle.bohm_run.specs.Headline.{answer_of}
+use Rattle.bohm_machine.specs.Machines.{GoesOn, HasRun, Ledger, floor_of, past_of, top_of}
+use Rattle.bohm_machine.specs.Segments.{AreWholeBatches, IsTaken, RunsOn}
+use Rattle.bohm_c.specs.declared.keeper.Keeper.{Keeper}
+use Rattle.bohm_c.specs.declared.keeper.OpenFault.{OpenFault}
+use Rattle.bohm_c.specs.declared.keeper.OpenFault.TheVariants.{Text, HasLog}
+use Rattle.bohm_c.specs.Reading.{IsRead, IsRefused, snapshot_of}
+
+-- the machine of a snapshot's store, as it stands behind a timestamp, and no reply waits
+pub record IsOpening (text : List ℕ) (start : ℕ) (keeper : Keeper) : Type 0 where
+  pub document : Document
+  pub read : IsRead text document
+  pub alone : document.log ≡ []
+  pub top : top_of keeper.machine ≡ start
+  pub floor : floor_of keeper.machine ≡ start
+  pub run : HasRun (cell_in (store_of document.store)) start [] keeper.machine
+  pub handed : keeper.waiting ≡ []
+
+-- the text is a segment, of which whole batches were run, with these replies
+pub record IsRun (was now : Keeper) (text : List ℕ) (answered : List Reply) : Type 0 where
+  pub document : Document
+  pub read : IsRead text document
+  pub taken : IsTaken was.machine document
+  pub goes_on : GoesOn was.machine now.machine (take (length answered) document.log) answered
+  pub runs_on : RunsOn was.machine now.machine (take (length answered) document.log) answered
+  pub batches : 0 < length answered → AreWholeBatches document.log 4096 (length answered)
+
+-- all of it was, and the text of the replies is handed out
+pub record IsDone (was now : Keeper) (text answer : List ℕ) : Type 0 where
+  pub answered : List Reply
+  pub run : IsRun was now text answered
+  pub whole : length answered ≡ length run.document.log
+  pub says : answer ≡ print_numbered (top_of was.machine + 1) answered
+  pub handed : now.waiting ≡ []
+
+-- some of it was, and the text of the replies is handed out
+pub record IsStopped (was now : Keeper) (text answer : List ℕ) : Type 0 where
+  pub answered : List Reply
+  pub run : IsRun was now text answered
+  pub says : answer ≡ print_numbered (top_of was.machine + 1) answered
+  pub handed : now.waiting ≡ []
+
+-- some of it was, and the replies wait
+pub record IsKept (was now : Keeper) (text : List ℕ) : Type 0 where
+  pub run : IsRun was now text now.waiting
+  pub behind : now.behind ≡ top_of was.machine
+
+-- the text is a well-formed document's that has transactions
+pub record HasTransactions (text : List ℕ) : Type 0 where
+  pub document : Document
+  pub read : IsRead text document
+  pub some : 0 < length document.log
+
+abbrev pub IsRefusedOpening : List ℕ → OpenFault → Type 0
+IsRefusedOpening text (Text fault) = IsRefused text fault
+IsRefusedOpening text HasLog = HasTransactions text
+
+-- ---- the other calls
+
+-- the text is a well-formed document's, and these bytes are its answer
+pub record IsAnswer (text answer : List ℕ) : Type 0 where
+  pub document : Document
+  pub read : IsRead text document
+  pub answers : answer ≡ answer_of document (length document.log)
+
+-- from the floor to the top
+pub record IsReadable (m : Ledger) (ts : ℕ) : Type 0 where
+  pub kept : floor_of m ≤ ts
+  pub there : ts ≤ top_of m
+
+-- the cell that a truth value and a number tell
+abbrev pub told : Bool → ℤ → Cell
+told true z = Present z
+told false z = Absent
+
+-- the text is that of the store after the transaction with a timestamp
+pub record IsSnapshot (m : Ledger) (ts : ℕ) (text : List ℕ) : Type 0 where
+  pub store : List (List ℕ × ℤ)
+  pub readable : IsReadable m ts
+  pub holds : cell_in (store_of store) ≡ past_of m ts
+  pub listed : store ≡ entries (store_of store)
+  pub printed : text ≡ print_doc (snapshot_of store)
+
+-- the past from the new floor on is as it was, and so are the replies that wait
+pub record IsTrimmed (was now : Keeper) (least : ℕ) : Type 0 where
+  pub floor : floor_of now.machine ≡ max (floor_of was.machine) least
+  pub top : top_of now.machine ≡ top_of was.machine
+  pub past : (ts : ℕ) → floor_of now.machine ≤ ts → past_of now.machine ts ≡ past_of was.machine ts
+  pub waiting : now.waiting ≡ was.waiting
+  pub behind : now.behind ≡ was.behind

@@ -1,0 +1,49 @@
+-- What a text is read as, and why one is refused.
+use Rattle.std.specs.Prelude.{◌≡◌, ℕ, ℤ, ◌<◌, List, [], length}
+use Rattle.bohm_tree.specs.Document.{Document}
+use Rattle.bohm_tree.specs.Sound.{IsDocument}
+use Rattle.bohm_tree.specs.declared.txn.Edition.TheVariants.{One}
+use Rattle.bohm_txn.specs.Faulty.{WellFormed, IsFirstFault}
+use Rattle.bohm_txn.specs.declared.fault.CheckFault.{CheckFault}
+use Rattle.bohm_text.specs.Cut.{whole_lines}
+use Rattle.bohm_text.specs.Faults.{IsFirstBadLine, IsShort}
+use Rattle.bohm_text.specs.Print.{print_doc}
+use Rattle.bohm_text.specs.declared.fault.TextFault.TheVariants as texts
+use Rattle.bohm_run.specs.FaultLine.{fault_line}
+use Rattle.bohm_run.specs.declared.fault.RunFault.{RunFault}
+use Rattle.bohm_run.specs.declared.fault.RunFault.TheVariants.{Read, TooLong, Text, Check, Trimmed, Future, NoMemory, Write}
+
+-- the text is this well-formed document's
+pub record IsRead (text : List ℕ) (document : Document) : Type 0 where
+  pub sound : IsDocument document
+  pub well_formed : WellFormed document
+  pub printed : print_doc document ≡ text
+
+-- the text is a document's with this first fault
+pub record IsFaulty (text : List ℕ) (fault : CheckFault) : Type 0 where
+  pub document : Document
+  pub sound : IsDocument document
+  pub printed : print_doc document ≡ text
+  pub first : IsFirstFault document fault
+
+abbrev pub IsRefused : List ℕ → RunFault → Type 0
+IsRefused text Read = ⊥
+IsRefused text TooLong = 67108864 < length text
+IsRefused text (Text (texts.Line n)) = IsFirstBadLine (whole_lines text) n
+IsRefused text (Text texts.Short) = IsShort text
+IsRefused text (Text texts.NoMemory) = ⊥
+IsRefused text (Check fault) = IsFaulty text fault
+IsRefused text Trimmed = ⊥
+IsRefused text Future = ⊥
+IsRefused text NoMemory = Unit {0}
+IsRefused text (Write sent) = ⊥
+
+-- these bytes are the line of a fault that the text has
+pub record IsRefusal (text line : List ℕ) : Type 0 where
+  pub fault : RunFault
+  pub refused : IsRefused text fault
+  pub says : line ≡ fault_line fault
+
+-- the document that has this store and no transactions
+abbrev pub snapshot_of : List (List ℕ × ℤ) → Document
+snapshot_of store = record { edition = One; store = store; log = [] }

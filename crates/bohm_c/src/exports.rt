@@ -1,0 +1,225 @@
+//! What C calls.
+
+ghost use Rattle.std.specs.Prelude.{◌≡◌, ◌+◌, ◌<◌, ◌≤◌, ◌⊎◌, [], length, min, true, false, None};
+ghost use Rattle.bohm_tree.specs.Name.{key_of};
+ghost use Rattle.bohm_text.specs.Print.{print_numbered};
+ghost use Rattle.bohm_store.specs.Versions.{total};
+ghost use Rattle.bohm_machine.specs.Machines.{floor_of, past_of, top_of};
+ghost use Rattle.bohm_c.specs.Keeping.{IsAnswer, IsDone, IsKept, IsOpening, IsReadable, IsSnapshot, IsStopped, IsTrimmed, told};
+ghost use Rattle.bohm_c.specs.Reading.{IsRefusal};
+
+use crate::handle::{BohmMachine, closed, hold, take_back};
+use crate::keeper::{OpenFault, open, refuse};
+use crate::reading::read;
+use crate::status::{
+    DONE, FUTURE, HAS_LOG, KEPT, NO_KEY, NO_MEMORY, REFUSED, STOPPED, TRIMMED, WAITING,
+};
+use crate::whole::answer;
+use bohm_txn::Key;
+use std::alloc::Global;
+use std::mem::replace;
+
+/// The least and the greatest timestamp that can be read, how many versions are kept, and how many replies
+/// wait.
+#[repr(C)]
+#[derive(Clone, Copy, Debug)]
+pub struct BohmCounts {
+    pub floor: u32,
+    pub top: u32,
+    pub versions: u64,
+    pub waiting: u64,
+}
+
+/// Runs the log that a text is, and hands out its answer's text.
+#[unsafe(no_mangle)]
+pub extern "C" fn bohm_answer<'a>(alloc: Global, text: &[u8], out: &mut &'a mut [u8]) -> u32
+    ensures status { result ≤ NO_MEMORY }
+    ensures done { result ≡ DONE → IsAnswer text.now out.new.now }
+    ensures refused { result ≡ REFUSED → IsRefusal text.now out.new.now }
+    ensures untouched { result ≡ NO_MEMORY → out.new ≡ out.old }
+{
+    let checked = match read(alloc, text) {
+        Ok(checked) => checked,
+        Err(fault) => return refuse(alloc, fault, out),
+    };
+    match answer(alloc, &checked) {
+        Ok(answer) => {
+            *out = answer.leak();
+            DONE
+        }
+        Err(_) => NO_MEMORY,
+    }
+}
+
+/// Opens a machine on the store of a snapshot, as it stands after the transaction with a timestamp.
+#[unsafe(no_mangle)]
+pub extern "C" fn bohm_open<'a>(
+    alloc: Global,
+    machine: &mut BohmMachine,
+    text: &[u8],
+    top: u32,
+    out: &mut &'a mut [u8],
+) -> u32
+    requires { machine.old.is_open ≡ false }
+    ensures status { result ≤ HAS_LOG }
+    ensures opened { result ≡ DONE → machine.new.is_open ≡ true }
+    ensures done { result ≡ DONE → IsOpening text.now top machine.new.value }
+    ensures refused { result ≡ REFUSED → IsRefusal text.now out.new.now }
+    ensures untouched { 0 < result → machine.new ≡ machine.old }
+{
+    match open(alloc, text, top) {
+        Ok(keeper) => match Box::new(alloc, keeper) {
+            Ok(keeper) => {
+                *machine = hold(keeper);
+                DONE
+            }
+            Err(_) => NO_MEMORY,
+        },
+        Err(OpenFault::Text(fault)) => refuse(alloc, fault, out),
+        Err(OpenFault::HasLog) => HAS_LOG,
+    }
+}
+
+/// Runs a segment, and hands out the text of its replies, numbered on from the top.
+#[unsafe(no_mangle)]
+pub extern "C" fn bohm_apply<'a>(
+    alloc: Global,
+    machine: &mut BohmMachine,
+    text: &[u8],
+    out: &mut &'a mut [u8],
+) -> u32
+    requires { machine.old.is_open ≡ true }
+    ensures open { machine.new.is_open ≡ true }
+    ensures status { result ≤ KEPT }
+    ensures done { result ≡ DONE → IsDone machine.old.value machine.new.value text.now out.new.now }
+    ensures stopped { result ≡ STOPPED → IsStopped machine.old.value machine.new.value text.now out.new.now }
+    ensures kept { result ≡ KEPT → IsKept machine.old.value machine.new.value text.now }
+    ensures refused { result ≡ REFUSED → IsRefusal text.now out.new.now }
+    ensures waiting { result ≡ WAITING → 0 < length machine.old.value.waiting }
+    ensures unchanged { 0 < result → result < STOPPED → machine.new.value ≡ machine.old.value }
+{
+    let mut keeper = take_back(alloc, replace(machine, closed()));
+    let status = keeper.apply(alloc, text, out);
+    *machine = hold(keeper);
+    status
+}
+
+/// Hands out the text of the replies that wait.
+#[unsafe(no_mangle)]
+pub extern "C" fn bohm_replies<'a>(
+    alloc: Global,
+    machine: &mut BohmMachine,
+    out: &mut &'a mut [u8],
+) -> u32
+    requires { machine.old.is_open ≡ true }
+    ensures open { machine.new.is_open ≡ true }
+    ensures status { result ≤ NO_MEMORY }
+    ensures machine { machine.new.value.machine ≡ machine.old.value.machine }
+    ensures says { result ≡ DONE → out.new.now ≡ print_numbered (machine.old.value.behind + 1) machine.old.value.waiting }
+    ensures handed { result ≡ DONE → machine.new.value.waiting ≡ [] }
+    ensures unchanged { 0 < result → machine.new.value ≡ machine.old.value }
+{
+    let mut keeper = take_back(alloc, replace(machine, closed()));
+    let status = keeper.replies(alloc, out);
+    *machine = hold(keeper);
+    status
+}
+
+/// What a key holds after the transaction with a timestamp: whether it has a value, and which.
+#[unsafe(no_mangle)]
+pub extern "C" fn bohm_value_at(
+    alloc: Global,
+    machine: &mut BohmMachine,
+    key: &[u8],
+    ts: u32,
+    present: &mut bool,
+    value: &mut i64,
+) -> u32
+    requires { machine.old.is_open ≡ true }
+    ensures open { machine.new.is_open ≡ true }
+    ensures same { machine.new.value ≡ machine.old.value }
+    ensures status { result ≤ NO_KEY }
+    ensures done { result ≡ DONE → past_of machine.old.value.machine ts key.now ≡ told present.new value.new }
+    ensures within { result ≡ DONE → IsReadable machine.old.value.machine ts }
+    ensures trimmed { result ≡ TRIMMED → ts < floor_of machine.old.value.machine }
+    ensures future { result ≡ FUTURE → top_of machine.old.value.machine < ts }
+    ensures no_key { result ≡ NO_KEY → key_of key.now ≡ None }
+{
+    let Some(key) = Key::new(key) else {
+        return NO_KEY;
+    };
+    let keeper = take_back(alloc, replace(machine, closed()));
+    let status = keeper.value_at(&key, ts, present, value);
+    *machine = hold(keeper);
+    status
+}
+
+/// Hands out a snapshot: the text of the store after the transaction with a timestamp, which `bohm_open`
+/// takes.
+#[unsafe(no_mangle)]
+pub extern "C" fn bohm_store_at<'a>(
+    alloc: Global,
+    machine: &mut BohmMachine,
+    ts: u32,
+    out: &mut &'a mut [u8],
+) -> u32
+    requires { machine.old.is_open ≡ true }
+    ensures open { machine.new.is_open ≡ true }
+    ensures same { machine.new.value ≡ machine.old.value }
+    ensures status { result ≤ FUTURE }
+    ensures done { result ≡ DONE → IsSnapshot machine.old.value.machine ts out.new.now }
+    ensures trimmed { result ≡ TRIMMED → ts < floor_of machine.old.value.machine }
+    ensures future { result ≡ FUTURE → top_of machine.old.value.machine < ts }
+    ensures untouched { 0 < result → out.new ≡ out.old }
+{
+    let keeper = take_back(alloc, replace(machine, closed()));
+    let status = keeper.store_at(alloc, ts, out);
+    *machine = hold(keeper);
+    status
+}
+
+/// Lets the past below a timestamp go, where it is above the floor.
+#[unsafe(no_mangle)]
+pub extern "C" fn bohm_trim(alloc: Global, machine: &mut BohmMachine, floor: u32) -> u32
+    requires { machine.old.is_open ≡ true }
+    ensures open { machine.new.is_open ≡ true }
+    ensures status { (result ≡ DONE) ⊎ (result ≡ FUTURE) }
+    ensures done { result ≡ DONE → IsTrimmed machine.old.value machine.new.value floor }
+    ensures future { result ≡ FUTURE → top_of machine.old.value.machine < floor }
+    ensures unchanged { result ≡ FUTURE → machine.new.value ≡ machine.old.value }
+{
+    let mut keeper = take_back(alloc, replace(machine, closed()));
+    let status = keeper.trim(floor);
+    *machine = hold(keeper);
+    status
+}
+
+/// Counts what the machine has.
+#[unsafe(no_mangle)]
+pub extern "C" fn bohm_counts(alloc: Global, machine: &mut BohmMachine, counts: &mut BohmCounts)
+    requires { machine.old.is_open ≡ true }
+    ensures open { machine.new.is_open ≡ true }
+    ensures same { machine.new.value ≡ machine.old.value }
+    ensures floor { counts.new.floor ≡ floor_of machine.old.value.machine }
+    ensures top { counts.new.top ≡ top_of machine.old.value.machine }
+    ensures versions { counts.new.versions ≡ min (total machine.old.value.machine.history.chains) 18446744073709551615 }
+    ensures waiting { counts.new.waiting ≡ length machine.old.value.waiting }
+{
+    let keeper = take_back(alloc, replace(machine, closed()));
+    *counts = BohmCounts {
+        floor: keeper.machine.floor(),
+        top: keeper.machine.top(),
+        versions: keeper.machine.version_count(),
+        waiting: keeper.waiting.as_slice().len() as u64,
+    };
+    *machine = hold(keeper);
+}
+
+/// Frees the machine.
+#[unsafe(no_mangle)]
+pub extern "C" fn bohm_close(alloc: Global, machine: &mut BohmMachine)
+    requires { machine.old.is_open ≡ true }
+    ensures { machine.new.is_open ≡ false }
+{
+    let _keeper = take_back(alloc, replace(machine, closed()));
+}

@@ -1,0 +1,32 @@
+//! Texts that come over the border.
+
+ghost use Rattle.std.specs.Prelude.{◌≡◌, [], IfOk, IfErr};
+ghost use Rattle.bohm_text.specs.Print.{print_doc};
+ghost use Rattle.bohm_c.specs.Reading.{IsRead, IsRefused, snapshot_of};
+
+use bohm_run::{LONGEST_TEXT, RunFault};
+use bohm_text::{parse, print_doc};
+use bohm_txn::{Checked, Doc, Edition, Key, NoMemory, Value, check};
+use std::alloc::Global;
+
+/// The well-formed document that a text is.
+pub fn read(alloc: Global, text: &[u8]) -> Result<Checked, RunFault>
+    ensures ok { IfOk result (IsRead text.now) }
+    ensures err { IfErr result (IsRefused text.now) }
+{
+    if text.len() > LONGEST_TEXT {
+        return Err(RunFault::TooLong);
+    }
+    let doc = parse(alloc, text)?;
+    Ok(check(doc)?)
+}
+
+/// The text of the document that has this store and no transactions.
+pub fn print_snapshot(alloc: Global, store: Vec<(Key, Value)>) -> Result<Vec<u8>, NoMemory>
+    ensures { IfOk result (λ text. text.items ≡ print_doc (snapshot_of store.items)) }
+{
+    let Some(doc) = Doc::new(Edition::One, store, Vec::new(alloc)) else {
+        unreachable!()
+    };
+    print_doc(alloc, &doc)
+}

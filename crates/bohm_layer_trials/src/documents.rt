@@ -1,0 +1,112 @@
+//! What a checked document lends, and which of its transactions are sure.
+
+use crate::logs::checked;
+use bohm_txn::{Edition, Key, Value, sure};
+use std::process::Abort;
+use std::test::Fail;
+
+#[test]
+fn a_checked_document_lends_its_parts(rt: HostRuntime) -> Result<(), Fail> {
+    let log = "a -5\ntxn\nreads a\nwrites a\nset a = a + 1\nend\n";
+    let checked = checked(rt.alloc(), "log 2\n", log)?;
+    let a = Key::new(b"a").ok_or("no name")?;
+    assert_eq!(rt; checked.edition(), Edition::Two);
+    assert_eq!(rt; checked.store(), [(a, Value::from(-5))].as_slice());
+    assert_eq!(rt; checked.log().len(), 1);
+    assert_eq!(rt; checked.log()[0].reads.as_slice(), [a].as_slice());
+    Ok(())
+}
+
+/// Transactions that are sure.
+const SURE: &str = "\
+txn
+reads
+writes a b
+set a = 4
+drop b
+show 1 - 3
+end
+txn
+reads
+writes
+end
+txn
+reads
+writes a
+set a = 4000000000000000000 + 1
+end
+txn
+reads
+writes a
+set a = -9223372036854775807 - 1
+end
+";
+
+/// Transactions that aren't.
+const UNSURE: &str = "\
+txn
+reads
+writes a
+end
+txn
+reads
+writes a
+set a = 4 when 1 < 2
+end
+txn
+reads
+writes a
+set a = 9223372036854775807 + 1
+end
+txn
+reads
+writes a
+let $x = 1
+set a = 2
+end
+txn
+reads
+writes a
+set a = -9223372036854775807 - 2
+end
+txn
+reads b
+writes a
+set a = b
+end
+txn
+reads a
+writes a
+need has a
+set a = 2
+end
+txn
+reads
+writes a
+set a = 2
+fail
+end
+txn
+reads
+writes a b
+set a = 4
+show 1
+end
+";
+
+#[test]
+fn literals_alone_are_sure(rt: HostRuntime) -> Result<(), Fail> {
+    for (head, log, count, want) in [
+        ("log 1\n", SURE, 4, true),
+        ("log 2\n", SURE, 4, true),
+        ("log 1\n", UNSURE, 9, false),
+        ("log 2\n", UNSURE, 9, false),
+    ] {
+        let checked = checked(rt.alloc(), head, log)?;
+        assert_eq!(rt; checked.log().len(), count);
+        for txn in checked.log() {
+            assert_eq!(rt; sure(txn), want, "{txn:?}");
+        }
+    }
+    Ok(())
+}

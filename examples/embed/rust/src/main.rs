@@ -1,0 +1,56 @@
+//! A ledger in a Rust program: as `ledger.c`.
+mod bohm;
+
+use bohm::Machine;
+use std::error::Error;
+use std::io::{stdout, Write};
+use std::{env, fs};
+
+/// The parts of a log: the first line with the store, and each transaction's lines.
+fn split(log: &str) -> (&str, Vec<&str>) {
+    let first = log.find("\ntxn\n").map_or(log.len(), |at| at + 1);
+    let (store, txns) = log.split_at(first);
+    (store, txns.split_inclusive("\nend\n").collect())
+}
+
+/// Each balance of a past timestamp is the one in that timestamp's snapshot.
+fn check_balances(ledger: &mut Machine, ts: u32) -> Result<(), Box<dyn Error>> {
+    let snapshot = String::from_utf8(ledger.store_at(ts)?.as_slice().to_vec())?;
+    for line in snapshot.lines().skip(1) {
+        let (key, value) = line.split_once(' ').ok_or("a store's line")?;
+        assert_eq!(ledger.value_at(key.as_bytes(), ts)?, Some(value.parse()?));
+    }
+    Ok(())
+}
+
+fn main() -> Result<(), Box<dyn Error>> {
+    let words: Vec<_> = env::args().collect();
+    let log = fs::read_to_string(words.get(1).ok_or("usage: ledger LOG SIZE")?)?;
+    let size: usize = words.get(2).ok_or("usage: ledger LOG SIZE")?.parse()?;
+    let (store, txns) = split(&log);
+    let mut ledger = Machine::open(store.as_bytes(), 0)?;
+    let mut second = None;
+    let mut out = stdout().lock();
+    let segments = txns.chunks(size);
+    let half = segments.len() / 2;
+    for (number, txns) in segments.enumerate() {
+        let segment = [&log[..6], &txns.concat()].concat();
+        let replies = ledger.apply(segment.as_bytes())?;
+        out.write_all(replies.as_slice())?;
+        if let Some(second) = &mut second {
+            assert_eq!(Machine::apply(second, segment.as_bytes())?.as_slice(), replies.as_slice());
+        } else if number == half {
+            let top = ledger.counts().top;
+            second = Some(Machine::open(ledger.store_at(top)?.as_slice(), top)?);
+        }
+    }
+    let top = ledger.counts().top;
+    for ts in [0, top / 2, top] {
+        check_balances(&mut ledger, ts)?;
+    }
+    ledger.trim(top)?;
+    assert_eq!(ledger.counts().floor, top);
+    out.write_all(b"--\n")?;
+    out.write_all(&ledger.store_at(top)?.as_slice()[6..])?;
+    Ok(())
+}

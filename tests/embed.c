@@ -1,0 +1,307 @@
+/* What the calls of bohm.h do where something is refused: each status, and each allocation of each call refused in
+ * turn, alone and with all later ones. The call says so, the machine answers as before, and goes on.
+ * Linked with -Wl,--wrap=malloc,--wrap=realloc. */
+#include "embed.h"
+
+/* ---- the C library's heap, which refuses what it is told to */
+
+static long asked, refused_from, refused_to;
+
+void *__real_malloc(size_t size);
+void *__real_realloc(void *at, size_t size);
+
+static int is_refused(void) {
+    if (!refused_to) return 0;
+    asked++;
+    return asked >= refused_from && asked <= refused_to;
+}
+
+void *__wrap_malloc(size_t size) { return is_refused() ? NULL : __real_malloc(size); }
+void *__wrap_realloc(void *at, size_t size) { return is_refused() ? NULL : __real_realloc(at, size); }
+
+/* From now on the allocations from number `from` to number `to`, counted from 1, are refused. */
+static void refuse(long from, long to) {
+    asked = 0;
+    refused_from = from;
+    refused_to = to;
+}
+
+/* Ends that, and tells how many were asked for. */
+static long relent(void) {
+    refused_to = 0;
+    return asked;
+}
+
+/* ---- what holds of a machine */
+
+static const char *now = "";
+
+static void hold(int is_so, const char *why) {
+    if (!is_so) fault(now, why);
+}
+
+static int is_none(bohm_bytes out) { return out.at == (uint8_t *)16 && out.len == 0; }
+
+static bohm_machine_counts counts_of(bohm_machine *machine) {
+    bohm_machine_counts counts;
+    bohm_counts(machine, &counts);
+    return counts;
+}
+
+static void check_value(bohm_machine *machine, const char *key, uint32_t ts, int is_there, int64_t right) {
+    uint8_t present = 0;
+    int64_t value = 0;
+    hold(bohm_value_at(machine, (const uint8_t *)key, strlen(key), ts, &present, &value) == BOHM_DONE, "value_at");
+    hold(present == is_there && (!is_there || value == right), "another value");
+}
+
+/* The machine stands behind `top`, no reply waits, and its past is the log's. */
+static void check_machine(bohm_machine *machine, uint32_t top) {
+    bohm_machine_counts counts = counts_of(machine);
+    hold(counts.top == top && counts.waiting == 0, "another top, or replies that wait");
+    uint32_t read[] = {counts.floor, counts.floor + (top - counts.floor) / 2, top};
+    for (size_t i = 0; i < 3; i++) {
+        check_value(machine, "a", read[i], 1, counted_a(read[i]));
+        check_value(machine, "b", read[i], 1, 7 + counted_b(read[i]));
+        check_value(machine, "c", read[i], read[i] >= 2, 6 + counted_b(read[i]));
+        check_value(machine, "none", read[i], 0, 0);
+    }
+    bohm_bytes out = BOHM_NO_BYTES;
+    hold(bohm_store_at(machine, top, &out) == BOHM_DONE, "store_at");
+    take(now, &out, snapshot_behind(top));
+}
+
+static void open_behind(bohm_machine *machine, uint32_t top) {
+    text snapshot = snapshot_behind(top);
+    bohm_bytes out = BOHM_NO_BYTES;
+    hold(bohm_open(machine, bytes_of(snapshot), snapshot.len, top, &out) == BOHM_DONE, "it doesn't open");
+    hold(is_none(out) && machine->at, "a machine that is open hands nothing out");
+    free(snapshot.at);
+}
+
+static void go_on(bohm_machine *machine, uint32_t count) {
+    uint32_t top = counts_of(machine).top;
+    text segment = segment_behind(top, count);
+    bohm_bytes out = BOHM_NO_BYTES;
+    hold(bohm_apply(machine, bytes_of(segment), segment.len, &out) == BOHM_DONE, "it doesn't go on");
+    take(now, &out, replies_behind(top, count));
+    free(segment.at);
+    check_machine(machine, top + count);
+}
+
+/* ---- each call with refused allocations; each tells how many it asked for */
+
+static uint32_t least_count;
+
+static long answer_refused(long from, long to) {
+    text log = log_of(least_count);
+    bohm_bytes out = BOHM_NO_BYTES;
+    refuse(from, to);
+    uint32_t status = bohm_answer(bytes_of(log), log.len, &out);
+    long asked_for = relent();
+    if (status == BOHM_DONE) take(now, &out, answer_of(least_count));
+    else hold(status == BOHM_NO_MEMORY && is_none(out) && asked_for >= from, "another end");
+    free(log.at);
+    return asked_for;
+}
+
+static long open_refused(long from, long to) {
+    text snapshot = snapshot_behind(40);
+    bohm_machine machine = {0};
+    bohm_bytes out = BOHM_NO_BYTES;
+    refuse(from, to);
+    uint32_t status = bohm_open(&machine, bytes_of(snapshot), snapshot.len, 40, &out);
+    long asked_for = relent();
+    hold(is_none(out), "something is handed out");
+    if (status) {
+        hold(status == BOHM_NO_MEMORY && asked_for >= from && !machine.at, "another end");
+        open_behind(&machine, 40);
+    }
+    check_machine(&machine, 40);
+    go_on(&machine, 5);
+    bohm_close(&machine);
+    hold(!machine.at, "it isn't closed");
+    free(snapshot.at);
+    return asked_for;
+}
+
+/* The replies that wait are those of the last `ran` transactions: each allocation of their text is refused in turn,
+ * and then none. */
+static void take_waiting(bohm_machine *machine, uint32_t top, uint32_t ran) {
+    bohm_bytes out = BOHM_NO_BYTES;
+    text more = segment_behind(top + ran, 1);
+    hold(bohm_apply(machine, bytes_of(more), more.len, &out) == BOHM_WAITING && is_none(out), "it doesn't wait");
+    free(more.at);
+    for (long from = 1;; from++) {
+        refuse(from, from);
+        uint32_t status = bohm_replies(machine, &out);
+        long asked_for = relent();
+        if (status == BOHM_DONE) {
+            hold(asked_for < from || ran == 0, "done without memory");
+            break;
+        }
+        hold(status == BOHM_NO_MEMORY && is_none(out), "another end of bohm_replies");
+        hold(counts_of(machine).waiting == ran && counts_of(machine).top == top + ran, "bohm_replies changed it");
+    }
+    take(now, &out, replies_behind(top, ran));
+}
+
+static long ended[12];
+
+static long apply_refused(long from, long to) {
+    uint32_t top = 6, count = least_count;
+    bohm_machine machine = {0};
+    open_behind(&machine, 0);
+    go_on(&machine, top);
+    text segment = segment_behind(top, count);
+    bohm_bytes out = BOHM_NO_BYTES;
+    refuse(from, to);
+    uint32_t status = bohm_apply(&machine, bytes_of(segment), segment.len, &out);
+    long asked_for = relent();
+    uint32_t ran = counts_of(&machine).top - top;
+    hold(status == BOHM_DONE || asked_for >= from, "an end without cause");
+    hold(ran == count || ran % 4096 == 0, "no whole batches");
+    hold(status != BOHM_DONE || ran == count, "some didn't run");
+    hold(status != BOHM_NO_MEMORY || ran == 0, "something has changed");
+    hold(counts_of(&machine).waiting == (status == BOHM_KEPT ? ran : 0), "replies that wait");
+    if (status == BOHM_DONE || status == BOHM_STOPPED) take(now, &out, replies_behind(top, ran));
+    else hold((status == BOHM_NO_MEMORY || status == BOHM_KEPT) && is_none(out), "another end");
+    if (status == BOHM_KEPT && ran) take_waiting(&machine, top, ran);
+    ended[status]++;
+    check_machine(&machine, top + ran);
+    go_on(&machine, count - ran + 4);
+    bohm_close(&machine);
+    free(segment.at);
+    return asked_for;
+}
+
+static long store_at_refused(long from, long to) {
+    bohm_machine machine = {0};
+    open_behind(&machine, 0);
+    go_on(&machine, 9);
+    bohm_bytes out = BOHM_NO_BYTES;
+    refuse(from, to);
+    uint32_t status = bohm_store_at(&machine, 5, &out);
+    long asked_for = relent();
+    if (status == BOHM_DONE) take(now, &out, snapshot_behind(5));
+    else hold(status == BOHM_NO_MEMORY && is_none(out) && asked_for >= from, "another end");
+    check_machine(&machine, 9);
+    go_on(&machine, 4);
+    bohm_close(&machine);
+    return asked_for;
+}
+
+/* A text that is refused, at its third line, is refused so, or for want of memory. */
+static long line_refused(long from, long to) {
+    const char *segment = "log 1\ntxn\nreads  a\nwrites a\nend\n";
+    text line = {0};
+    put(&line, "refused: line 3\n", 0, "");
+    bohm_machine machine = {0};
+    open_behind(&machine, 0);
+    go_on(&machine, 9);
+    bohm_bytes out = BOHM_NO_BYTES;
+    refuse(from, to);
+    uint32_t status = bohm_apply(&machine, (const uint8_t *)segment, strlen(segment), &out);
+    long asked_for = relent();
+    if (status == BOHM_REFUSED) {
+        take(now, &out, line);
+    } else {
+        hold(status == BOHM_NO_MEMORY && is_none(out) && asked_for >= from, "another end");
+        free(line.at);
+    }
+    check_machine(&machine, 9);
+    go_on(&machine, 4);
+    bohm_close(&machine);
+    return asked_for;
+}
+
+/* Refuses each allocation in turn, and then each with all later ones; of very many some, and all of the last. */
+static void each_refused(const char *name, long (*call)(long, long), uint32_t count) {
+    now = name;
+    least_count = count;
+    long all = call(-1, -1), step = all / 60 + 1, tried = 0;
+    hold(all > 0, "it asks for no memory");
+    for (long n = 1; n <= all; n += n + 40 < all ? step : 1, tried++) {
+        hold(call(n, n) >= n, "fewer allocations");
+        hold(call(n, 1L << 60) >= n, "fewer allocations");
+    }
+    printf("%s: %ld of %ld allocations refused in turn\n", name, tried, all);
+}
+
+/* ---- the other statuses, and the calls that take no memory */
+
+static uint32_t apply_text(bohm_machine *machine, const char *segment) {
+    bohm_bytes out = BOHM_NO_BYTES;
+    uint32_t status = bohm_apply(machine, (const uint8_t *)segment, strlen(segment), &out);
+    hold(status == BOHM_DONE || is_none(out), "something is handed out");
+    bohm_free_bytes(&out);
+    return status;
+}
+
+static void each_status(void) {
+    now = "statuses";
+    bohm_machine machine = {0};
+    bohm_bytes out = BOHM_NO_BYTES;
+    text log = log_of(1);
+    hold(bohm_open(&machine, bytes_of(log), log.len, 0, &out) == BOHM_HAS_LOG && !machine.at && is_none(out), "a log is opened");
+    free(log.at);
+    open_behind(&machine, 4294967290u);
+    hold(counts_of(&machine).floor == 4294967290u, "another floor");
+    hold(apply_text(&machine, "log 1\na 1\n") == BOHM_HAS_STORE, "a store is applied");
+    text past = segment_behind(4294967290u, 5), one = {0};
+    put(&past, "txn\nreads\nwrites\nend\n", 0, "");
+    hold(apply_text(&machine, past.at) == BOHM_TIMESTAMPS, "timestamps pass");
+    free(past.at);
+    go_on(&machine, 5);
+    put(&one, "log 2\ntxn\nreads\nwrites\nend\n", 0, "");
+    hold(apply_text(&machine, one.at) == BOHM_TIMESTAMPS, "timestamps pass");
+    hold(apply_text(&machine, "log 1\n") == BOHM_DONE, "a segment of nothing");
+    free(one.at);
+    check_machine(&machine, 4294967295u);
+    bohm_close(&machine);
+}
+
+static void without_memory(void) {
+    now = "without memory";
+    bohm_machine machine = {0};
+    open_behind(&machine, 0);
+    go_on(&machine, 12);
+    uint8_t present = 0;
+    int64_t value = 0;
+    const uint8_t *key = (const uint8_t *)"a";
+    refuse(1, 1L << 60);
+    hold(bohm_value_at(&machine, key, 1, 12, &present, &value) == BOHM_DONE && present && value == 6, "value_at");
+    hold(bohm_value_at(&machine, key, 0, 12, &present, &value) == BOHM_NO_KEY, "no key");
+    hold(bohm_value_at(&machine, (const uint8_t *)"A", 1, 12, &present, &value) == BOHM_NO_KEY, "no key");
+    hold(bohm_value_at(&machine, key, 1, 13, &present, &value) == BOHM_FUTURE, "the future");
+    hold(bohm_trim(&machine, 13) == BOHM_FUTURE, "a floor in the future");
+    hold(bohm_trim(&machine, 8) == BOHM_DONE && counts_of(&machine).floor == 8, "trim");
+    hold(bohm_trim(&machine, 2) == BOHM_DONE && counts_of(&machine).floor == 8, "a floor below the floor");
+    hold(bohm_value_at(&machine, key, 1, 7, &present, &value) == BOHM_TRIMMED, "below the floor");
+    hold(relent() == 0, "memory is asked for");
+    bohm_bytes out = BOHM_NO_BYTES;
+    hold(bohm_store_at(&machine, 7, &out) == BOHM_TRIMMED && is_none(out), "a snapshot below the floor");
+    hold(bohm_store_at(&machine, 13, &out) == BOHM_FUTURE && is_none(out), "a snapshot of the future");
+    hold(bohm_replies(&machine, &out) == BOHM_DONE && out.len == 0, "no reply waits");
+    check_machine(&machine, 12);
+    go_on(&machine, 4);
+    refuse(1, 1L << 60);
+    bohm_close(&machine);
+    hold(relent() == 0, "memory is asked for");
+}
+
+int main(void) {
+    each_status();
+    without_memory();
+    each_refused("bohm_answer", answer_refused, 9);
+    each_refused("bohm_open", open_refused, 0);
+    each_refused("bohm_apply", apply_refused, 9);
+    hold(ended[BOHM_NO_MEMORY] && ended[BOHM_STOPPED] && ended[BOHM_KEPT], "an end that isn't reached");
+    memset(ended, 0, sizeof ended);
+    each_refused("bohm_apply in three batches", apply_refused, 8200);
+    hold(ended[BOHM_NO_MEMORY] && ended[BOHM_STOPPED] && ended[BOHM_KEPT], "an end that isn't reached");
+    each_refused("bohm_store_at", store_at_refused, 0);
+    each_refused("bohm_apply of a bad line", line_refused, 0);
+    puts("each status, and each allocation refused: as it should be");
+    return 0;
+}

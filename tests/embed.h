@@ -1,0 +1,109 @@
+/* A made log, and what the log's rules say of it. Transaction `k`, counted from 1, is by k % 4
+ *     1, 3   counts `a` up, and shows it as it was
+ *     2      sets `c` to `b`, counts `b` up, and shows it as it was
+ *     0      needs what doesn't hold
+ * over a store of `a 0` and `b 7`. */
+#include "../crates/bohm_c/include/bohm.h"
+
+#include <inttypes.h>
+#include <stdio.h>
+#include <string.h>
+
+/* A text that grows. */
+typedef struct {
+    char *at;
+    size_t len, room;
+} text;
+
+static inline void fault(const char *what, const char *why) {
+    fprintf(stderr, "%s: %s\n", what, why);
+    exit(1);
+}
+
+static inline void put(text *to, const char *line, uint32_t number, const char *rest) {
+    size_t most = strlen(line) + strlen(rest) + 16;
+    if (to->room - to->len < most) {
+        to->room = 2 * to->room + most;
+        to->at = realloc(to->at, to->room);
+        if (!to->at) fault("the test", "no memory");
+    }
+    to->len += (size_t)sprintf(to->at + to->len, line, number);
+    to->len += (size_t)sprintf(to->at + to->len, "%s", rest);
+}
+
+/* How often `a`, and `b`, are counted up by the transactions up to `k`. */
+static inline uint32_t counted_a(uint32_t k) { return k / 2 + k % 2; }
+static inline uint32_t counted_b(uint32_t k) { return k / 4 + (k % 4 >= 2); }
+
+/* The segment of `count` transactions behind `top`. */
+static inline text segment_behind(uint32_t top, uint32_t count) {
+    text made = {0};
+    put(&made, "log 1\n", 0, "");
+    for (uint32_t i = 1; i <= count; i++) {
+        uint32_t k = top + i;
+        if (k % 2) put(&made, "txn\nreads a\nwrites a\nset a = a + 1\nshow a\nend\n", 0, "");
+        else if (k % 4) put(&made, "txn\nreads b\nwrites b c\nset c = b\nset b = b + 1\nshow b\nend\n", 0, "");
+        else put(&made, "txn\nreads a\nwrites\nshow a\nneed a < 0\nend\n", 0, "");
+    }
+    return made;
+}
+
+static inline void put_replies(text *made, uint32_t top, uint32_t count) {
+    for (uint32_t i = 1; i <= count; i++) {
+        uint32_t k = top + i;
+        put(made, "%" PRIu32, k, "");
+        if (k % 2) put(made, " commit %" PRIu32 "\n", counted_a(k - 1), "");
+        else if (k % 4) put(made, " commit %" PRIu32 "\n", 7 + counted_b(k - 1), "");
+        else put(made, " abort need 2\n", 0, "");
+    }
+}
+
+/* The text of its replies. */
+static inline text replies_behind(uint32_t top, uint32_t count) {
+    text made = {0};
+    put_replies(&made, top, count);
+    return made;
+}
+
+static inline void put_store(text *made, uint32_t top) {
+    put(made, "a %" PRIu32 "\n", counted_a(top), "");
+    put(made, "b %" PRIu32 "\n", 7 + counted_b(top), "");
+    if (top >= 2) put(made, "c %" PRIu32 "\n", 6 + counted_b(top), "");
+}
+
+/* The snapshot behind a timestamp. */
+static inline text snapshot_behind(uint32_t top) {
+    text made = {0};
+    put(&made, "log 1\n", 0, "");
+    put_store(&made, top);
+    return made;
+}
+
+/* The answer of the log of `count` transactions. */
+static inline text answer_of(uint32_t count) {
+    text made = {0};
+    put_replies(&made, 0, count);
+    put(&made, "--\n", 0, "");
+    put_store(&made, count);
+    return made;
+}
+
+/* That log. */
+static inline text log_of(uint32_t count) {
+    text made = snapshot_behind(0), segment = segment_behind(0, count);
+    made.at = realloc(made.at, made.room = made.len + segment.len + 1);
+    if (!made.at) fault("the test", "no memory");
+    memcpy(made.at + made.len, segment.at + 6, segment.len - 6 + 1);
+    made.len += segment.len - 6;
+    free(segment.at);
+    return made;
+}
+
+static inline const uint8_t *bytes_of(text it) { return (const uint8_t *)it.at; }
+
+/* Lets go bytes that were handed out, which have to be these. */
+static inline void take(const char *what, bohm_bytes *out, text right) {
+    if (out->len != right.len || (right.len && memcmp(out->at, right.at, right.len))) fault(what, "other bytes are handed out");
+    bohm_free_bytes(out);
+    free(right.at);
+}

@@ -1,0 +1,75 @@
+/* Two threads call at once, each with a machine of its own: each has its own log's replies, each time. And a machine goes
+ * from one thread to the next, which joins the one before. */
+#include "embed.h"
+
+#include <pthread.h>
+
+enum { ROUNDS = 40, COUNT = 2000 };
+
+static pthread_barrier_t both;
+
+static void open_new(bohm_machine *machine) {
+    text snapshot = snapshot_behind(0);
+    bohm_bytes out = BOHM_NO_BYTES;
+    if (bohm_open(machine, bytes_of(snapshot), snapshot.len, 0, &out)) fault("threads", "open");
+    free(snapshot.at);
+}
+
+static void apply_behind(bohm_machine *machine, uint32_t top, uint32_t count) {
+    text segment = segment_behind(top, count);
+    bohm_bytes out = BOHM_NO_BYTES;
+    if (bohm_apply(machine, bytes_of(segment), segment.len, &out)) fault("threads", "apply");
+    take("threads", &out, replies_behind(top, count));
+    free(segment.at);
+}
+
+static void close_behind(bohm_machine *machine, uint32_t top) {
+    bohm_bytes out = BOHM_NO_BYTES;
+    if (bohm_store_at(machine, top, &out)) fault("threads", "store_at");
+    take("threads", &out, snapshot_behind(top));
+    bohm_close(machine);
+}
+
+static void run(uint32_t size) {
+    bohm_machine machine = {0};
+    open_new(&machine);
+    for (uint32_t top = 0; top < COUNT; top += size) apply_behind(&machine, top, COUNT - top < size ? COUNT - top : size);
+    close_behind(&machine, COUNT);
+}
+
+static void *thread(void *size) {
+    pthread_barrier_wait(&both);
+    for (int round = 0; round < ROUNDS; round++) run(*(uint32_t *)size);
+    return NULL;
+}
+
+static void *apply_more(void *given) {
+    bohm_machine *machine = given;
+    bohm_machine_counts counts;
+    bohm_counts(machine, &counts);
+    apply_behind(machine, counts.top, 50);
+    return NULL;
+}
+
+static void hand_over(void) {
+    bohm_machine machine = {0};
+    pthread_t thread;
+    open_new(&machine);
+    for (int i = 0; i < ROUNDS; i++) {
+        if (pthread_create(&thread, NULL, apply_more, &machine)) fault("threads", "no thread");
+        pthread_join(thread, NULL);
+    }
+    close_behind(&machine, ROUNDS * 50);
+}
+
+int main(void) {
+    uint32_t sizes[2] = {7, 100};
+    pthread_t threads[2];
+    pthread_barrier_init(&both, NULL, 2);
+    for (int i = 0; i < 2; i++)
+        if (pthread_create(&threads[i], NULL, thread, &sizes[i])) fault("threads", "no thread");
+    for (int i = 0; i < 2; i++) pthread_join(threads[i], NULL);
+    hand_over();
+    puts("two threads with a machine each, and a machine that goes from thread to thread: as it should be");
+    return 0;
+}
