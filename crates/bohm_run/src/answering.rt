@@ -26,8 +26,8 @@ use std::random::RandomSource;
 use std::sync::Wait;
 use std::thread::Threads;
 
-/// The log that the reader holds. Its text is let go.
-fn read_log<R: Read>(alloc: Global, reader: &mut R) -> Result<Checked, RunFault>
+/// The log that the reader holds, read to the reader's end, or why it is none. Its text is let go.
+pub fn read_log<R: Read>(alloc: Global, reader: &mut R) -> Result<Checked, RunFault>
     ensures ok { IfOk result (ReadsDocument (R.remaining reader.old) (R.remaining reader.new)) }
     ensures err { IfErr result (λ e. (given : Given) → Refuses given (R.remaining reader.old) (R.remaining reader.new) None None e) }
     ensures before { IfErr result IsBeforeWriting }

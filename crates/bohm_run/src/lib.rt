@@ -17,7 +17,7 @@ mod settings;
 mod workers;
 
 pub use alone::apply_alone;
-pub use answering::run_text;
+pub use answering::{read_log, run_text};
 pub use applying::{Applied, apply};
 pub use bohm_line::{ByteSum, Cuts, Line, PlanNote, PlanReceiver, PlanSender, plan_line};
 pub use bytes::{LONGEST_TEXT, write_all};

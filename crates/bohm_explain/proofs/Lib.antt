@@ -1,0 +1,5 @@
+mod Usable
+mod Sources
+mod Below
+mod Inside
+mod Steps

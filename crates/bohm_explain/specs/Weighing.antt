@@ -1,0 +1,18 @@
+-- What a transaction weighs: the terms of its body, and 1 where it has none.
+use Rattle.std.specs.Prelude.{ℕ, ◌+◌, List, length, map, max, sum_by}
+use Rattle.bohm_tree.specs.declared.stmt.Stmt.{Stmt}
+use Rattle.bohm_tree.specs.declared.txn.Txn.{Txn}
+use Rattle.bohm_tree.specs.Parts.{sums}
+
+abbrev pub terms_in : Stmt → ℕ
+terms_in s = sum_by length (sums s)
+
+abbrev pub weight : Txn → ℕ
+weight t = max 1 (sum_by terms_in t.body)
+
+abbrev pub weights : List Txn → List ℕ
+weights txns = map weight txns
+
+-- the keys that it declares to read, and those that it declares to write
+abbrev pub declared_by : Txn → ℕ
+declared_by t = length t.reads + length t.writes

@@ -1,0 +1,154 @@
+//! The figures of a batch, and of a whole log.
+
+ghost use Rattle.std.specs.Prelude.{◌≡◌, ℕ, ◌+◌, ◌*◌, ◌<◌, ◌≤◌, ◌^◌, All, length, max, sum, IfOk};
+ghost use Rattle.bohm_place.specs.Chains.{greatest};
+ghost use Rattle.bohm_place.specs.Shares.{AreWellFormed};
+ghost use Rattle.bohm_explain.specs.Figures.{alone, depths as depths_in, figures_of, plus, totals_of, AreAtMost};
+ghost use Rattle.bohm_explain.specs.Heaviest.{IsInside};
+ghost use Rattle.bohm_explain.specs.Wanted.{arrows as wanted_in};
+
+use crate::arrow::Arrow;
+use crate::chains::heaviest_to;
+use crate::weights::{declared, weights};
+use bohm_txn::{NoMemory, Txn, sure};
+use std::alloc::Global;
+
+/// What is counted of one batch.
+#[derive(Clone, Copy, Debug, PartialEq, Eq)]
+pub struct Figures {
+    /// Its transactions.
+    pub transactions: u32,
+    /// The keys that they declare: a key that one reads and writes counts twice.
+    pub keys: u32,
+    /// The sure ones among them.
+    pub sure: u32,
+    /// The accesses that take a version of the batch.
+    pub taken: u32,
+    /// The transactions on the longest chain of such versions.
+    pub depth: u32,
+    /// The terms of the bodies, a body without terms as one.
+    pub terms: u32,
+    /// The terms on the heaviest chain.
+    pub heaviest: u32,
+}
+
+/// The same of a whole log: the sums of its batches, since these run one after another.
+#[derive(Clone, Copy, Debug, PartialEq, Eq)]
+pub struct Totals {
+    pub transactions: u64,
+    pub keys: u64,
+    pub sure: u64,
+    pub taken: u64,
+    pub depth: u64,
+    pub terms: u64,
+    pub heaviest: u64,
+}
+
+/// The totals of a batch alone.
+impl From<Figures> for Totals {
+    ghost from_gives = { λ f t. t ≡ alone f };
+
+    fn from(figures: Figures) -> Totals {
+        Totals {
+            transactions: u64::from(figures.transactions),
+            keys: u64::from(figures.keys),
+            sure: u64::from(figures.sure),
+            taken: u64::from(figures.taken),
+            depth: u64::from(figures.depth),
+            terms: u64::from(figures.terms),
+            heaviest: u64::from(figures.heaviest),
+        }
+    }
+}
+
+impl Totals {
+    /// One batch more.
+    fn plus(self, figures: Figures) -> Totals
+        requires { AreAtMost (2 ^ 63) self }
+        ensures sum { result ≡ plus self figures }
+        ensures few { (n : ℕ) → AreAtMost n self → AreAtMost (n + 2 ^ 32) result }
+    {
+        let more = Totals::from(figures);
+        Totals {
+            transactions: self.transactions + more.transactions,
+            keys: self.keys + more.keys,
+            sure: self.sure + more.sure,
+            taken: self.taken + more.taken,
+            depth: self.depth + more.depth,
+            terms: self.terms + more.terms,
+            heaviest: self.heaviest + more.heaviest,
+        }
+    }
+
+    /// The totals of some batches.
+    pub fn of(figures: &[Figures]) -> Totals
+        requires { length figures.now ≤ 1000000 }
+        ensures { result ≡ totals_of figures.now }
+    {
+        let mut totals = Totals {
+            transactions: 0,
+            keys: 0,
+            sure: 0,
+            taken: 0,
+            depth: 0,
+            terms: 0,
+            heaviest: 0,
+        };
+        for batch in figures {
+            totals = totals.plus(*batch);
+        }
+        totals
+    }
+}
+
+/// The greatest of these, or 0.
+fn greatest(values: &[u32]) -> u32
+    ensures { result ≡ greatest values.now }
+{
+    let mut most = 0;
+    for value in values {
+        most = most.max(*value);
+    }
+    most
+}
+
+/// The sum of these.
+fn sum_of(weights: &[u32]) -> u32
+    requires few { length weights.now ≤ 4096 }
+    requires light { All (λ w. w ≤ 3072) weights.now }
+    ensures { result ≡ sum weights.now }
+{
+    let mut total = 0;
+    for weight in weights {
+        total += *weight;
+    }
+    total
+}
+
+/// The figures of a batch with these wanted versions and depths.
+pub fn counted(
+    alloc: Global,
+    txns: &[Txn],
+    arrows: &[Arrow],
+    depths: &[u32],
+) -> Result<Figures, NoMemory>
+    requires few { length txns.now ≤ 4096 }
+    requires formed { AreWellFormed txns.now }
+    requires arrows { arrows.now ≡ wanted_in txns.now }
+    requires inside { All (IsInside (length txns.now)) arrows.now }
+    requires few_arrows { length arrows.now ≤ 131072 }
+    requires depths { depths.now ≡ depths_in txns.now }
+    ensures { IfOk result (λ f. f ≡ figures_of txns.now) }
+{
+    let weights = weights(alloc, txns)?;
+    let chains = heaviest_to(alloc, weights.as_slice(), arrows)?;
+    Ok(Figures {
+        transactions: txns.len() as u32,
+        keys: declared(txns),
+        sure: txns.iter().filter(|txn| sure(*txn)).count() as u32,
+        taken: arrows.len() as u32,
+        depth: greatest(depths),
+        terms: sum_of(weights.as_slice()),
+        heaviest: greatest(chains.as_slice()),
+    })
+}

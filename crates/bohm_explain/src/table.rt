@@ -1,0 +1,78 @@
+//! The table, as text.
+
+ghost use Rattle.std.specs.Prelude.{◌≡◌, ◌+◌, ◌<◌, ◌≤◌, ◌++◌, ◌^◌, length, codes, IfOk};
+ghost use Rattle.bohm_explain.specs.Table.{cell, hundredths, hundredths_cell, head_line, row_line, rows_from, table_text};
+
+use crate::figures::{Figures, Totals};
+use bohm_txn::NoMemory;
+use itoa::{Buffer, Integer};
+use std::alloc::Global;
+
+const HEAD: &[u8] = b"  batch  transactions      keys      sure     taken    depth     width       terms   heaviest     width\n";
+
+/// A text at the right end of a column.
+pub fn put_cell(out: &mut Vec<u8>, width: usize, text: &[u8]) -> Result<(), NoMemory>
+    ensures { IfOk result (λ _. out.new.items ≡ out.old.items ++ cell width text.now) }
+{
+    let mut column = text.len();
+    'pads: while column < width {
+        out.push(b' ')?;
+        column += 1;
+    }
+    out.extend_from_slice(text)?;
+    Ok(())
+}
+
+/// A number at the right end of a column.
+pub fn put_number<I: Integer>(out: &mut Vec<u8>, width: usize, number: I) -> Result<(), NoMemory>
+    ensures { IfOk result (λ _. out.new.items ≡ out.old.items ++ cell width (I.text number)) }
+{
+    put_cell(out, width, Buffer::new().format(number).as_bytes())
+}
+
+/// A quotient with two decimals, cut off, and 0.00 where nothing is divided by.
+pub fn put_quotient(out: &mut Vec<u8>, width: usize, number: u64, divisor: u64) -> Result<(), NoMemory>
+    ensures { IfOk result (λ _. out.new.items ≡ out.old.items ++ hundredths_cell width (hundredths number divisor)) }
+{
+    let hundredths = if divisor == 0 {
+        0
+    } else {
+        u128::from(number) * 100 / u128::from(divisor)
+    };
+    put_number(out, width.saturating_sub(3), hundredths / 100)?;
+    out.push(b'.')?;
+    out.push(b'0' + (hundredths / 10 % 10) as u8)?;
+    out.push(b'0' + (hundredths % 10) as u8)?;
+    Ok(())
+}
+
+/// The line of a batch or of the log.
+fn put_row(out: &mut Vec<u8>, name: &[u8], totals: Totals) -> Result<(), NoMemory>
+    ensures { IfOk result (λ _. out.new.items ≡ out.old.items ++ row_line name.now totals) }
+{
+    put_cell(out, 7, name)?;
+    put_number(out, 14, totals.transactions)?;
+    put_number(out, 10, totals.keys)?;
+    put_number(out, 10, totals.sure)?;
+    put_number(out, 10, totals.taken)?;
+    put_number(out, 9, totals.depth)?;
+    put_quotient(out, 10, totals.transactions, totals.depth)?;
+    put_number(out, 12, totals.terms)?;
+    put_number(out, 11, totals.heaviest)?;
+    put_quotient(out, 10, totals.terms, totals.heaviest)?;
+    out.push(b'\n')?;
+    Ok(())
+}
+
+/// A line for each batch, numbered from 1, below a head, and one for the log.
+pub fn put_table(out: &mut Vec<u8>, figures: &[Figures]) -> Result<(), NoMemory>
+    requires { length figures.now ≤ 1000000 }
+    ensures { IfOk result (λ _. out.new.items ≡ out.old.items ++ table_text figures.now) }
+{
+    out.extend_from_slice(HEAD)?;
+    for (index, batch) in figures.iter().enumerate() {
+        let number = index as u64 + 1;
+        put_row(out, Buffer::new().format(number).as_bytes(), Totals::from(*batch))?;
+    }
+    put_row(out, b"all", Totals::of(figures))
+}

@@ -1,0 +1,102 @@
+//! What transactions weigh.
+
+ghost use Rattle.std.specs.Prelude.{◌≡◌, ◌+◌, ◌*◌, ◌<◌, ◌≤◌, All, length, replicate, sum_by, IfOk};
+ghost use Rattle.std.specs.List.{AllByRecursion};
+ghost use Rattle.bohm_place.specs.Shares.{AreWellFormed};
+ghost use Rattle.bohm_txn.specs.Declares.{AllShort, IsUsable};
+ghost use Rattle.bohm_explain.specs.Weighing.{terms_in, weight, weights, declared_by};
+
+use bohm_txn::{Cond, NoMemory, Stmt, Txn};
+use std::alloc::Global;
+
+/// The number of terms in a statement.
+fn terms_in(stmt: &Stmt) -> u32
+    requires { AllShort stmt.now }
+    ensures terms { result ≡ terms_in stmt.now }
+    ensures few { result ≤ 48 }
+{
+    match stmt {
+        Stmt::Bind { sum, .. } | Stmt::Show(sum) => sum.terms().len() as u32,
+        Stmt::Need(Cond { left, right, .. }) => {
+            left.terms().len() as u32 + right.terms().len() as u32
+        }
+        Stmt::Put {
+            sum,
+            guard: None,
+            ..
+        } => sum.terms().len() as u32,
+        Stmt::Put {
+            sum,
+            guard: Some(guard),
+            ..
+        } => {
+            let Cond { left, right, .. } = guard.get();
+            sum.terms().len() as u32 + left.terms().len() as u32 + right.terms().len() as u32
+        }
+        Stmt::Has(_) | Stmt::Lacks(_) | Stmt::Remove(_) | Stmt::Fail => 0,
+    }
+}
+
+/// The terms of a transaction's body, and 1 where it has none.
+fn weight(txn: &Txn) -> u32
+    requires { IsUsable txn.now }
+    ensures weight { result ≡ weight txn.now }
+    ensures light { result ≤ 3072 }
+{
+    let mut terms = 0;
+    for stmt in txn.body.as_slice() {
+        terms += terms_in(stmt);
+    }
+    terms.max(1)
+}
+
+/// What each transaction weighs.
+pub fn weights(alloc: Global, txns: &[Txn]) -> Result<Vec<u32>, NoMemory>
+    requires formed { AreWellFormed txns.now }
+    ensures weights { IfOk result (λ v. v.items ≡ weights txns.now) }
+    ensures paired { IfOk result (λ v. length v.items ≡ length txns.now) }
+    ensures light { IfOk result (λ v. All (λ w. w ≤ 3072) v.items) }
+{
+    let mut weights = Vec::with_capacity(alloc, txns.len())?;
+    for txn in txns {
+        weights.push(weight(txn))?;
+    }
+    Ok(weights)
+}
+
+/// The same where all weigh 1.
+pub fn alike(alloc: Global, count: usize) -> Result<Vec<u32>, NoMemory>
+    ensures weights { IfOk result (λ v. v.items ≡ replicate count 1) }
+    ensures paired { IfOk result (λ v. length v.items ≡ count) }
+    ensures light { IfOk result (λ v. All (λ w. w ≤ 3072) v.items) }
+{
+    let mut weights = Vec::with_capacity(alloc, count)?;
+    for index in 0..count {
+        let _ = index;
+        weights.push(1)?;
+    }
+    Ok(weights)
+}
+
+/// How many keys a transaction declares.
+fn declared_by(txn: &Txn) -> u32
+    requires { IsUsable txn.now }
+    ensures keys { result ≡ declared_by txn.now }
+    ensures few { result ≤ 32 }
+{
+    let Txn { reads, writes, .. } = txn;
+    (reads.as_slice().len() + writes.as_slice().len()) as u32
+}
+
+/// How many keys the transactions declare: a key that one reads and writes counts twice.
+pub fn declared(txns: &[Txn]) -> u32
+    requires formed { AreWellFormed txns.now }
+    requires few { length txns.now ≤ 4096 }
+    ensures { result ≡ sum_by declared_by txns.now }
+{
+    let mut keys = 0;
+    for txn in txns {
+        keys += declared_by(txn);
+    }
+    keys
+}

@@ -1,0 +1,9 @@
+use Rattle.std.proofs.Common.{◌≡◌, ◌∙◌, ap₂, codes}
+use Rattle.std.proofs.lemmas.Result.{IfOk-weaker}
+use Rattle.clap.specs.Words.{app_of, new_app, with_rule}
+use Rattle.bohm_explain_cli.proofs.options.command.Goals as goal
+
+pub returns : goal.returns
+returns c =
+    let named : app_of c.after_help.result ≡ new_app (codes "explain") = rw (c.after_help.ensures, c.about.ensures) c.new.ensures.app in
+    IfOk-weaker c.arg.result _ _ (λ r h. h.shape c.number.ensures.local ∙ ap₂ with_rule named c.number.ensures.rule) c.arg.ensures

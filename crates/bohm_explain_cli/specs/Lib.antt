@@ -1,0 +1,5 @@
+pub mod Options
+pub mod Taken
+pub mod Faults
+pub mod Endings
+pub mod Explaining

@@ -1,0 +1,33 @@
+//! A log's explanation from bytes to bytes.
+
+ghost use Rattle.std.specs.Prelude.{◌≡◌, IfErr, OnOk};
+ghost use Rattle.bohm_run.specs.Headline.{IsBeforeWriting};
+ghost use Rattle.bohm_explain_cli.specs.Explaining.{Explains, RefusesLog};
+
+use bohm_explain::{Request, print_table};
+use bohm_place::HashSeed;
+use bohm_run::{RunFault, read_log, write_all};
+use std::alloc::Global;
+use std::io::{Read, Write};
+use std::random::RandomSource;
+
+/// Reads a log to the reader's end, and writes the text of what is asked of it and nothing else. It
+/// refuses what a run refuses, and a failed write, as a run does. The whole text is made before the first
+/// byte is written.
+pub fn explain_text<T: RandomSource, R: Read, W: Write>(
+    rt: &T,
+    alloc: Global,
+    reader: &mut R,
+    writer: &mut W,
+    request: Request,
+) -> Result<(), RunFault>
+    ensures ok { OnOk result (Explains request (R.remaining reader.old) (R.remaining reader.new) (W.contents writer.old) (W.contents writer.new)) }
+    ensures err { IfErr result (RefusesLog request (R.remaining reader.old) (R.remaining reader.new) (W.contents writer.old) (W.contents writer.new)) }
+
+    // Before all faults but those of the writing the writer isn't touched.
+    ensures untouched { IfErr result (λ e. IsBeforeWriting e → writer.new ≡ writer.old) }
+{
+    let checked = read_log(alloc, reader)?;
+    let text = print_table(alloc, HashSeed::drawn(rt), checked.log(), request.batch())?;
+    write_all(writer, text.as_slice())
+}
