@@ -76,7 +76,12 @@ pub fn figures_in(
 }
 
 /// The table of a log.
-pub fn print_table(alloc: Global, seed: HashSeed, log: &[Txn], size: u32) -> Result<Vec<u8>, NoMemory>
+pub fn print_table(
+    alloc: Global,
+    seed: HashSeed,
+    log: &[Txn],
+    size: u32,
+) -> Result<Vec<u8>, NoMemory>
     requires size { IsBetween 1 4096 size }
     requires few { length log.now ≤ 1000000 }
     requires formed { AreWellFormed log.now }

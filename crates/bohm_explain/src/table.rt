@@ -8,7 +8,8 @@ use bohm_txn::NoMemory;
 use itoa::{Buffer, Integer};
 use std::alloc::Global;
 
-const HEAD: &[u8] = b"  batch  transactions      keys      sure     taken    depth     width       terms   heaviest     width\n";
+const HEAD: &[u8] =
+    b"  batch  transactions      keys      sure     taken    depth     width       terms   heaviest     width\n";
 
 /// A text at the right end of a column.
 pub fn put_cell(out: &mut Vec<u8>, width: usize, text: &[u8]) -> Result<(), NoMemory>
@@ -31,7 +32,12 @@ pub fn put_number<I: Integer>(out: &mut Vec<u8>, width: usize, number: I) -> Res
 }
 
 /// A quotient with two decimals, cut off, and 0.00 where nothing is divided by.
-pub fn put_quotient(out: &mut Vec<u8>, width: usize, number: u64, divisor: u64) -> Result<(), NoMemory>
+pub fn put_quotient(
+    out: &mut Vec<u8>,
+    width: usize,
+    number: u64,
+    divisor: u64,
+) -> Result<(), NoMemory>
     ensures { IfOk result (λ _. out.new.items ≡ out.old.items ++ hundredths_cell width (hundredths number divisor)) }
 {
     let hundredths = if divisor == 0 {
@@ -72,7 +78,11 @@ pub fn put_table(out: &mut Vec<u8>, figures: &[Figures]) -> Result<(), NoMemory>
     out.extend_from_slice(HEAD)?;
     for (index, batch) in figures.iter().enumerate() {
         let number = index as u64 + 1;
-        put_row(out, Buffer::new().format(number).as_bytes(), Totals::from(*batch))?;
+        put_row(
+            out,
+            Buffer::new().format(number).as_bytes(),
+            Totals::from(*batch),
+        )?;
     }
     put_row(out, b"all", Totals::of(figures))
 }

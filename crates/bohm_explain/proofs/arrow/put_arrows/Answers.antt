@@ -44,9 +44,9 @@ loop-index-preserved c =
     elim c.match-access.branch [
       | in-Before w ↦ rw w.out-is (record { arrows = no_arrow txns p.first c.args.to key c.access-access.result.source newest (drop i keys) (drop (i + 1) keys) first c.loop-index.out.items _ c.loop-index.invariant.arrows w.in-Before.is; few = omega arith })
       | in-Within+in_ok-push-in-Within w ↦ rw w.out-is (record {
-          arrows = one_arrow txns p.first c.args.to key c.access-access.result.source newest (drop i keys) (drop (i + 1) keys) first c.loop-index.out.items _ c.loop-index.invariant.arrows w.in-Within.u (w.in-Within.u - c.first-first.result) _ w.in-Within.is (ap (λ f. w.in-Within.u - f) c.first-first.ensures) w.in_ok-push-in-Within.ensures.items;
-          few = omega (arith, ap length w.in_ok-push-in-Within.ensures.items, length_push c.loop-index.out.items (record { from = w.in-Within.u - c.first-first.result; to = c.args.to; key = key }));
-        })
+        arrows = one_arrow txns p.first c.args.to key c.access-access.result.source newest (drop i keys) (drop (i + 1) keys) first c.loop-index.out.items _ c.loop-index.invariant.arrows w.in-Within.u (w.in-Within.u - c.first-first.result) _ w.in-Within.is (ap (λ f. w.in-Within.u - f) c.first-first.ensures) w.in_ok-push-in-Within.ensures.items;
+        few = omega (arith, ap length w.in_ok-push-in-Within.ensures.items, length_push c.loop-index.out.items (record { from = w.in-Within.u - c.first-first.result; to = c.args.to; key = key }));
+      })
     ]
 
 pub returns-clause-few : goal.returns-clause-few
