@@ -1,10 +1,10 @@
 -- The arrows of one position more.
-use Rattle.std.proofs.Common.{◌≡◌, ℕ, ◌+◌, List, [], ◌++◌, Bool, true, false, cond, Some, slice_get, unwrap_or, option_map, refl, sym, subst, ap, ◌∙◌, append_assoc, append-nil, add-one}
+use Rattle.std.proofs.Common.{◌≡◌, ℕ, ◌+◌, List, [], ◌++◌, Bool, true, false, cond, Some, slice_get, unwrap_or, option_map, sym, ap, ◌∙◌, append_assoc, append-nil, add-one}
 use Rattle.bohm_tree.specs.declared.txn.Txn.{Txn}
 use Rattle.bohm_txn.specs.Sure.{is_sure}
 use Rattle.bohm_place.specs.declared.declared_set.DeclaredSet.TheVariants.{Reads, Writes}
 use Rattle.bohm_explain.specs.declared.arrow.Arrow.{Arrow}
-use Rattle.bohm_explain.specs.Wanted.{arrows_below, arrows_in, arrows_at, is_sure_at}
+use Rattle.bohm_explain.specs.Wanted.{arrows_below, arrows_in, is_sure_at}
 
 module _ (txns : List Txn) (p : ℕ) (x : Txn) (at : slice_get txns p ≡ Some x) (out mid : List Arrow) (before : out ≡ arrows_below txns p) (reads : mid ≡ out ++ arrows_in Reads txns p) where
   surely : (b : Bool) → is_sure x ≡ b → arrows_below txns p ++ (arrows_in Reads txns p ++ cond b [] (arrows_in Writes txns p)) ≡ arrows_below txns (p + 1)

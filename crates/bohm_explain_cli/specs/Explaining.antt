@@ -6,7 +6,7 @@ use Rattle.bohm_run.specs.Bytes.{Sends}
 use Rattle.bohm_run.specs.Given.{Given}
 use Rattle.bohm_run.specs.Headline.{ReadsDocument, Refuses}
 use Rattle.bohm_run.specs.declared.fault.RunFault.{RunFault}
-use Rattle.bohm_run.specs.declared.fault.RunFault.TheVariants.{Read, TooLong, Text, Check, Trimmed, Future, NoMemory, Write}
+use Rattle.bohm_run.specs.declared.fault.RunFault.TheVariants.{Write}
 use Rattle.bohm_explain.specs.Asked.{Asked}
 use Rattle.bohm_explain.specs.Figures.{figures_in}
 use Rattle.bohm_explain.specs.Table.{table_text}

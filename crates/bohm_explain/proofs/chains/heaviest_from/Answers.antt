@@ -1,7 +1,6 @@
-use Rattle.std.proofs.Common.{◌≡◌, ℕ, ◌+◌, ◌-◌, ◌*◌, ◌<◌, ◌≤◌, length, drop, max, get_or, subst, sym, arith, length-set}
+use Rattle.std.proofs.Common.{◌≡◌, ◌+◌, ◌-◌, ◌*◌, ◌<◌, length, drop, max, get_or, subst, sym, arith, length-set}
 use Rattle.std.proofs.lemmas.List.{get_or_read}
 use Rattle.bohm_txn.proofs.ForCallers.{front}
-use Rattle.bohm_explain.specs.declared.arrow.Arrow.{Arrow}
 use Rattle.bohm_explain.specs.Heaviest.{IsInside}
 use Rattle.bohm_explain.proofs.Steps.{bounded_set, step_from}
 use Rattle.bohm_explain.proofs.chains.heaviest_from.Goals as goal

@@ -1,4 +1,4 @@
-use Rattle.std.proofs.Common.{◌≡◌, ℕ, ◌<◌, List, length, ap, arith}
+use Rattle.std.proofs.Common.{ℕ, List, length, ap, arith}
 use Rattle.bohm_explain.proofs.planning.plan_batch.Goals as goal
 
 pub plan_alone-requires-clause-earlier : goal.plan_alone-requires-clause-earlier
