@@ -6,13 +6,13 @@ use mir.Raw.{raw as bare}
 use mir.Val.{Val, vint, vptr, vstruct, vcons, vnil, of_list}
 use base.Logic.{never, fst∗}
 use types.Logic.{Logic, sem}
-use types.Kit.{Item, Goal, Seq, Step, step, ‵, ◌$◌, move, drop, rewrite, fsplit, fjoin, fpick, fpack, feq_i, feq_l}
+use types.Kit.{Item, Goal, Seq, Step, step, ‵, ◌$◌, drop, rewrite, fsplit, fjoin, fpick, fpack, feq_i, feq_l}
 use denote.RattleType.{RattleType, Valss}
 use denote.Builtin.{RawPtr}
 use denote.Memory.{lone}
 use denote.RawPtr.{Ptr, block_ptr, null_ptr, ptr_val, in_a_block}
 use denote.Steps.{nothing}
-use denote.Struct.Struct.{Struct, within}
+use denote.Struct.Struct.{within}
 use denote.Struct.Owning.{shape}
 use mathlib.Core.Bool.{Bool, true, false}
 use Rattle.std.specs.contracts.impls.GlobalAllocator.TheImpl.{ghosts}

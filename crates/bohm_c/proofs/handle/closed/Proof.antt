@@ -1,29 +1,20 @@
 -- `closed` makes a handle that owns nothing.
-use Rattle.std.proofs.Common.{◌≡◌, true, false, lit<, List, [], ◌∷◌, ◌++◌, refl, sym, subst}
-use mir.Syntax.{impl, tnil, dnil}
-use mir.Val.{Val, vptr}
-use base.Logic.{SProp, ent, emp, id⊢}
+use Rattle.std.proofs.Common.{◌≡◌, false, lit<, [], ◌∷◌, refl}
+use mir.Val.{Val}
+use base.Logic.{SProp, emp}
 use base.Fml.{ftrue}
-use prog.Wp.{WpFn}
-use types.Kit.{‵, raw, ◌⊛◌, ◌$◌, ◌∵◌, !, qed, by, move, keep, drop, split, join, fsplit, fjoin, suffices, use0}
-use types.Run.{lit, stop, fld, of_opd, no_more, and_then, returns, enter}
-use types.ByLocal.{alloc_all, pass_all, free_all, look_at, get, get_in, sets}
-use types.Part.{agg, sub, whole}
+use types.Kit.{‵, raw, ◌⊛◌, ◌$◌, ◌∵◌, !, qed, by, keep, split, use0}
+use types.Run.{lit, no_more, and_then, returns, enter}
+use types.ByLocal.{alloc_all, pass_all, free_all, look_at, sets}
+use types.Part.{agg}
 use contract.Monad.{fact, fact_i}
 use contract.Running.{tables}
-use denote.Exit.{yes}
-use denote.RattleType.{RattleType, owns}
-use denote.Signature.{types_at, plain}
+use denote.RattleType.{owns}
+use denote.Signature.{types_at}
 use denote.RawPtr.{null_ptr}
 use denote.Steps.{nothing}
-use denote.Triple.Walked.{Stays, stay_dropped, walk_of, Goes-dropped}
-use Rattle.core.proofs.alloc.Calls.{Al, handle_tells, Goes-blank}
-use Rattle.std.specs.contracts.alloc.Global as heap
-use Rattle.std.proofs.alloc.Global.TheLaws as heap_laws
-use Rattle.std.specs.contracts.impls.GlobalAllocator.TheImpl.{ghosts}
+use denote.Triple.Walked.{Stays, walk_of}
 use Rattle.std.proofs.raw_atomic.Walks.{proved_at, leaves}
-use Rattle.bohm_c.specs.contracts.keeper.Keeper as keeper
-use Rattle.bohm_c.proofs.Values.{both, Loose, loose_good, loose_in, loose_out}
 use Rattle.bohm_c.proofs.HeldValues.{one, null_val}
 use Rattle.bohm_c.specs.contracts.handle.closed.{ended, clauses}
 use Rattle.bohm_c.specs.contracts.handle.closed.Key.{name as #self}

@@ -5,7 +5,7 @@ use mir.Val.{Val, vptr}
 use base.Logic.{SProp, ent, emp, id⊢}
 use base.Fml.{ftrue}
 use prog.Wp.{WpFn}
-use types.Kit.{‵, raw, ◌⊛◌, ◌$◌, ◌∵◌, !, qed, by, move, keep, drop, split, join, fsplit, fjoin, suffices, use0}
+use types.Kit.{‵, raw, ◌⊛◌, ◌$◌, ◌∵◌, !, qed, by, move, keep, split, fsplit, fjoin, suffices, use0}
 use types.Run.{stop, fld, of_opd, no_more, and_then, returns, enter}
 use types.ByLocal.{alloc_all, pass_all, free_all, look_at, get, get_in, sets}
 use types.Part.{agg, sub, whole}
@@ -16,15 +16,15 @@ use denote.RattleType.{RattleType, owns}
 use denote.Signature.{types_at, plain}
 use denote.RawPtr.{block_ptr}
 use denote.Steps.{nothing, heard}
-use denote.Triple.Walked.{Stays, stay_dropped, walk_of, Goes-dropped}
+use denote.Triple.Walked.{Stays, stay_dropped, walk_of}
 use Rattle.core.proofs.alloc.Calls.{Al, handle_tells, Goes-blank}
 use Rattle.std.specs.contracts.alloc.Global as heap
 use Rattle.std.proofs.alloc.Global.TheLaws as heap_laws
 use Rattle.std.specs.contracts.impls.GlobalAllocator.TheImpl.{ghosts}
 use Rattle.std.proofs.raw_atomic.Walks.{proved_at, leaves}
 use Rattle.bohm_c.specs.contracts.keeper.Keeper as keeper
-use Rattle.bohm_c.proofs.Values.{both, Loose, loose_good, loose_in, loose_out}
-use Rattle.bohm_c.proofs.HeldValues.{one, Held, held_in, held_out}
+use Rattle.bohm_c.proofs.Values.{both, loose_good, loose_in}
+use Rattle.bohm_c.proofs.HeldValues.{one, Held, held_out}
 use Rattle.bohm_c.specs.contracts.handle.named.{ended, clauses}
 use Rattle.bohm_c.specs.contracts.handle.named.Key.{name as #self}
 use Rattle.bohm_c.proofs.handle.named.Statement.{statement}
