@@ -113,7 +113,7 @@ pub extern "C" fn bohm_replies<'a>(
 ) -> u32
     requires { machine.old.is_open ≡ true }
     ensures open { machine.new.is_open ≡ true }
-    ensures status { result ≤ NO_MEMORY }
+    ensures status { (result ≡ DONE) ⊎ (result ≡ NO_MEMORY) }
     ensures machine { machine.new.value.machine ≡ machine.old.value.machine }
     ensures says { result ≡ DONE → out.new.now ≡ print_numbered (machine.old.value.behind + 1) machine.old.value.waiting }
     ensures handed { result ≡ DONE → machine.new.value.waiting ≡ [] }
@@ -138,7 +138,7 @@ pub extern "C" fn bohm_value_at(
     requires { machine.old.is_open ≡ true }
     ensures open { machine.new.is_open ≡ true }
     ensures same { machine.new.value ≡ machine.old.value }
-    ensures status { result ≤ NO_KEY }
+    ensures status { (result ≡ DONE) ⊎ (result ≡ TRIMMED) ⊎ (result ≡ FUTURE) ⊎ (result ≡ NO_KEY) }
     ensures done { result ≡ DONE → past_of machine.old.value.machine ts key.now ≡ told present.new value.new }
     ensures within { result ≡ DONE → IsReadable machine.old.value.machine ts }
     ensures trimmed { result ≡ TRIMMED → ts < floor_of machine.old.value.machine }
@@ -166,7 +166,7 @@ pub extern "C" fn bohm_store_at<'a>(
     requires { machine.old.is_open ≡ true }
     ensures open { machine.new.is_open ≡ true }
     ensures same { machine.new.value ≡ machine.old.value }
-    ensures status { result ≤ FUTURE }
+    ensures status { (result ≡ DONE) ⊎ (result ≡ NO_MEMORY) ⊎ (result ≡ TRIMMED) ⊎ (result ≡ FUTURE) }
     ensures done { result ≡ DONE → IsSnapshot machine.old.value.machine ts out.new.now }
     ensures trimmed { result ≡ TRIMMED → ts < floor_of machine.old.value.machine }
     ensures future { result ≡ FUTURE → top_of machine.old.value.machine < ts }

@@ -146,7 +146,7 @@ impl Keeper {
 impl Keeper {
     /// Tells what a key holds after the transaction with a timestamp.
     pub fn value_at(&self, key: &Key, ts: u32, present: &mut bool, value: &mut i64) -> u32
-        ensures status { result ≤ FUTURE }
+        ensures status { (result ≡ DONE) ⊎ (result ≡ TRIMMED) ⊎ (result ≡ FUTURE) }
         ensures done { result ≡ DONE → past_of self.now.machine ts key.now ≡ told present.new value.new }
         ensures within { result ≡ DONE → IsReadable self.now.machine ts }
         ensures trimmed { result ≡ TRIMMED → ts < floor_of self.now.machine }
@@ -169,7 +169,7 @@ impl Keeper {
 
     /// Hands out the snapshot of a timestamp.
     pub fn store_at<'a>(&self, alloc: Global, ts: u32, out: &mut &'a mut [u8]) -> u32
-        ensures status { result ≤ FUTURE }
+        ensures status { (result ≡ DONE) ⊎ (result ≡ NO_MEMORY) ⊎ (result ≡ TRIMMED) ⊎ (result ≡ FUTURE) }
         ensures done { result ≡ DONE → IsSnapshot self.now.machine ts out.new.now }
         ensures trimmed { result ≡ TRIMMED → ts < floor_of self.now.machine }
         ensures future { result ≡ FUTURE → top_of self.now.machine < ts }
