@@ -12,7 +12,8 @@ use crate::handle::{BohmMachine, closed, hold, take_back};
 use crate::keeper::{OpenFault, open, refuse};
 use crate::reading::read;
 use crate::status::{
-    DONE, FUTURE, HAS_LOG, KEPT, NO_KEY, NO_MEMORY, REFUSED, STOPPED, TRIMMED, WAITING,
+    DONE, FUTURE, HAS_LOG, HAS_STORE, KEPT, NO_KEY, NO_MEMORY, REFUSED, STOPPED, TIMESTAMPS,
+    TRIMMED, WAITING,
 };
 use crate::whole::answer;
 use bohm_txn::Key;
@@ -61,7 +62,7 @@ pub extern "C" fn bohm_open<'a>(
     out: &mut &'a mut [u8],
 ) -> u32
     requires { machine.old.is_open ≡ false }
-    ensures status { result ≤ HAS_LOG }
+    ensures status { (result ≡ DONE) ⊎ (result ≡ REFUSED) ⊎ (result ≡ NO_MEMORY) ⊎ (result ≡ HAS_LOG) }
     ensures opened { result ≡ DONE → machine.new.is_open ≡ true }
     ensures done { result ≡ DONE → IsOpening text.now top machine.new.value }
     ensures refused { result ≡ REFUSED → IsRefusal text.now out.new.now }
@@ -90,7 +91,8 @@ pub extern "C" fn bohm_apply<'a>(
 ) -> u32
     requires { machine.old.is_open ≡ true }
     ensures open { machine.new.is_open ≡ true }
-    ensures status { result ≤ KEPT }
+    ensures status { (result ≡ DONE) ⊎ (result ≡ REFUSED) ⊎ (result ≡ NO_MEMORY) ⊎ (result ≡ HAS_STORE)
+        ⊎ (result ≡ TIMESTAMPS) ⊎ (result ≡ WAITING) ⊎ (result ≡ STOPPED) ⊎ (result ≡ KEPT) }
     ensures done { result ≡ DONE → IsDone machine.old.value machine.new.value text.now out.new.now }
     ensures stopped { result ≡ STOPPED → IsStopped machine.old.value machine.new.value text.now out.new.now }
     ensures kept { result ≡ KEPT → IsKept machine.old.value machine.new.value text.now }

@@ -49,7 +49,7 @@ fn number_in(cell: Cell) -> Option<i64>
 
 /// Hands out the line of a fault.
 pub fn refuse<'a>(alloc: Global, fault: RunFault, out: &mut &'a mut [u8]) -> u32
-    ensures status { result ≤ NO_MEMORY }
+    ensures status { (result ≡ REFUSED) ⊎ (result ≡ NO_MEMORY) }
     ensures some { 0 < result }
     ensures refused { result ≡ REFUSED → out.new.now ≡ fault_line fault }
     ensures untouched { result ≡ NO_MEMORY → out.new ≡ out.old }
@@ -101,7 +101,8 @@ impl Keeper {
 
     /// Runs the segment that a text is.
     pub fn apply<'a>(&mut self, alloc: Global, text: &[u8], out: &mut &'a mut [u8]) -> u32
-        ensures status { result ≤ KEPT }
+        ensures status { (result ≡ DONE) ⊎ (result ≡ REFUSED) ⊎ (result ≡ NO_MEMORY) ⊎ (result ≡ HAS_STORE)
+            ⊎ (result ≡ TIMESTAMPS) ⊎ (result ≡ WAITING) ⊎ (result ≡ STOPPED) ⊎ (result ≡ KEPT) }
         ensures done { result ≡ DONE → IsDone self.old self.new text.now out.new.now }
         ensures stopped { result ≡ STOPPED → IsStopped self.old self.new text.now out.new.now }
         ensures kept { result ≡ KEPT → IsKept self.old self.new text.now }
