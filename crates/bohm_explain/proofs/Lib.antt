@@ -2,4 +2,3 @@ mod Usable
 mod Sources
 mod Below
 mod Inside
-mod Steps

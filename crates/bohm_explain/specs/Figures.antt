@@ -5,7 +5,7 @@ use Rattle.bohm_txn.specs.Sure.{is_sure}
 use Rattle.bohm_place.specs.Chains.{greatest}
 use Rattle.bohm_explain.specs.declared.figures.Figures.{Figures}
 use Rattle.bohm_explain.specs.declared.figures.Totals.{Totals}
-use Rattle.bohm_explain.specs.Heaviest.{heaviest_to, heaviest_from}
+use Rattle.bohm_explain.specs.Heaviest.{heaviest_to}
 use Rattle.bohm_explain.specs.Wanted.{arrows}
 use Rattle.bohm_explain.specs.Weighing.{weights, declared_by}
 
@@ -13,12 +13,9 @@ use Rattle.bohm_explain.specs.Weighing.{weights, declared_by}
 abbrev pub alike : List Txn → List ℕ
 alike txns = replicate (length txns) 1
 
--- the transactions on the longest chain of wanted versions that ends at each position, and on the longest that starts there
+-- the transactions on the longest chain of wanted versions that ends at each position
 abbrev pub depths : List Txn → List ℕ
 depths txns = heaviest_to (alike txns) (arrows txns)
-
-abbrev pub heights : List Txn → List ℕ
-heights txns = heaviest_from (alike txns) (arrows txns)
 
 abbrev pub figures_of : List Txn → Figures
 figures_of txns = record {
