@@ -1,4 +1,2 @@
 pub mod Options
 pub mod Taken
-pub mod Faults
-pub mod Endings

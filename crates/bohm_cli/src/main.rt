@@ -1,44 +1,19 @@
 //! The program: a log on standard input, its answer on standard output.
 #![tactic(auto)]
 
-mod ending;
 mod options;
 mod words;
 
+use bohm_command::{NoAnswer, WordFault, exit_code, tell, without_request, words_given};
 use bohm_run::{Settings, run_text};
-use ending::{NoAnswer, exit_code, tell, without_settings};
+use options::NAME;
+use std::io;
 use std::process::ExitCode;
-use std::{env, io};
-use words::{WordFault, read_words};
-
-/// What is said of a word that is no text, which clap can't be handed. It says the same in Rust.
-const NOT_UTF8: &str = "\
-error: invalid UTF-8 was detected in one or more arguments
-
-Usage: bohm [OPTIONS]
-
-For more information, try '--help'.
-";
+use words::read_words;
 
 /// The settings that the program was started with.
 fn settings_given(rt: &HostRuntime) -> Result<Settings, WordFault> {
-    let mut given = match env::args(rt) {
-        Ok(given) => given,
-        Err(error) if error.kind() == io::ErrorKind::OutOfMemory => {
-            return Err(WordFault::NoMemory);
-        }
-        Err(error) if error.kind() == io::ErrorKind::InvalidData => {
-            return Err(WordFault::Bad(String::from_str(rt.alloc(), NOT_UTF8)?));
-        }
-        Err(error) => {
-            return Err(WordFault::Bad(format!(in rt.alloc(); "error: {error}\n")?));
-        }
-    };
-    let _program = given.next();
-    let mut words = Vec::new(rt.alloc());
-    for word in given {
-        words.push(word)?;
-    }
+    let words = words_given(rt, NAME)?;
     read_words(rt.alloc(), words.as_slice())
 }
 
@@ -48,7 +23,7 @@ fn main(rt: HostRuntime) -> ExitCode {
         Ok(settings) => run_text(&rt, rt.alloc(), &mut rt.reader(), &mut out, settings).map_err(
             NoAnswer::from,
         ),
-        Err(fault) => without_settings(&mut out, fault),
+        Err(fault) => without_request(&mut out, fault),
     };
     if let Err(reason) = &answered {
         let _ = tell(&mut rt.stderr(), reason);

@@ -1,12 +1,16 @@
 //! The command and its options.
 
-ghost use Rattle.std.specs.Prelude.{◌≡◌, false, IfOk};
-ghost use Rattle.clap.specs.Words.{app_of, rule_of};
-ghost use Rattle.bohm_cli.specs.Options.{bohm, number_rule};
+ghost use Rattle.std.specs.Prelude.{◌≡◌, IfOk};
+ghost use Rattle.clap.specs.Words.{app_of};
+ghost use Rattle.bohm_cli.specs.Options.{bohm};
 
+use bohm_command::number;
 use bohm_run::{LARGEST_BATCH, MOST_KEPT, MOST_PARTS, MOST_WORKERS};
-use clap::{Arg, Command};
+use clap::Command;
 use std::alloc::{AllocError, Global};
+
+/// The program's name.
+pub const NAME: &str = "bohm";
 
 /// What help says above the options.
 const ABOUT: &str = "\
@@ -49,24 +53,11 @@ Exit status:
   1  the run was refused: standard error has the fault's line
   2  the words were refused: standard error says why";
 
-/// An option that takes one number in this range.
-fn number<'a>(alloc: Global, name: &'a str, least: u32, most: u32, help: &'a str) -> Arg<'a>
-    ensures rule { rule_of result ≡ number_rule name.entry.now least most }
-    ensures local { result.global ≡ false }
-{
-    let numbers = clap::value_parser!(u32).range(i64::from(least)..=i64::from(most));
-    Arg::new(alloc, name)
-        .long(name)
-        .value_name("N")
-        .value_parser(numbers)
-        .help(help)
-}
-
 /// The command.
 pub fn command<'a>(alloc: Global) -> Result<Command<'a>, AllocError>
     ensures { IfOk result (λ command. app_of command ≡ bohm) }
 {
-    Command::new(alloc, "bohm")
+    Command::new(alloc, NAME)
         .about(ABOUT)
         .after_help(AFTER_HELP)
         .arg(number(alloc, "cc", 1, MOST_WORKERS, CC))?

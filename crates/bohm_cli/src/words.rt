@@ -1,96 +1,36 @@
-//! The words that the program is started with.
+//! The settings that words give.
 
-ghost use Rattle.std.specs.Prelude.{◌≡◌, [], ◌∷◌, map, codes, string_bytes, IfOk, IfErr};
-ghost use Rattle.bohm_cli.specs.Taken.{AreTaken, faults_in, settings_in};
-ghost use Rattle.bohm_cli.specs.Faults.{IsNoMemory, IsOfKind, IsFoundAmong};
-ghost use Rattle.bohm_cli.specs.declared.words.WordFault.TheVariants.{NoMemory};
-ghost use Rattle.clap.specs.Words.{kind_of};
+ghost use Rattle.std.specs.Prelude.{◌≡◌, [], map, string_bytes, IfOk, IfErr};
+ghost use Rattle.bohm_command.specs.Taken.{AreTaken, faults_in};
+ghost use Rattle.bohm_command.specs.Faults.{IsNoMemory, IsFoundAmong};
+ghost use Rattle.bohm_cli.specs.Options.{bohm};
+ghost use Rattle.bohm_cli.specs.Taken.{settings_in};
 
-use crate::options::command;
+use crate::options::{NAME, command};
+use bohm_command::{WordFault, command_line, parse_line};
 use bohm_run::Settings;
-use clap::Error;
-use clap::error::ErrorKind;
-use std::alloc::{AllocError, AllocFailed, Global};
-
-/// Why there are no settings.
-#[derive(Debug, Drop)]
-pub enum WordFault {
-    /// The words are none of the program's, with the text that says so.
-    Bad(String),
-    /// Help was asked for, with its text.
-    Help(String),
-    /// A growth was refused.
-    NoMemory,
-}
-
-impl From<AllocError> for WordFault {
-    ghost from_gives = { λ _ e. e ≡ NoMemory };
-
-    fn from(_e: AllocError) -> WordFault {
-        WordFault::NoMemory
-    }
-}
-
-impl<T: Drop> From<AllocFailed<T>> for WordFault {
-    ghost from_gives = { λ _ e. e ≡ NoMemory };
-
-    fn from(_e: AllocFailed<T>) -> WordFault {
-        WordFault::NoMemory
-    }
-}
-
-/// What clap says of the words.
-fn fault_of(alloc: Global, error: Error) -> WordFault
-    ensures { IsOfKind (kind_of error) result }
-{
-    let kind = error.kind();
-    let Ok(text) = format!(in alloc; "{error}") else {
-        return WordFault::NoMemory;
-    };
-    match kind {
-        ErrorKind::OutOfMemory => WordFault::NoMemory,
-        ErrorKind::DisplayHelp => WordFault::Help(text),
-        _ => WordFault::Bad(text),
-    }
-}
-
-/// The program's name and the words.
-fn command_line<'a>(alloc: Global, words: &'a [String]) -> Result<Vec<&'a str>, AllocError>
-    ensures { IfOk result (λ line. map (λ word. word.now) line.items
-        ≡ codes "bohm" ∷ map string_bytes words.entry.now) }
-{
-    let mut line = Vec::new(alloc);
-    line.push("bohm")?;
-    for word in words {
-        line.push(word.as_str())?;
-    }
-    Ok(line)
-}
+use std::alloc::Global;
 
 /// The settings that the words after the program's name give, each option that they don't name at
 /// its default. Words that clap doesn't take are refused with its text.
 pub fn read_words(alloc: Global, words: &[String]) -> Result<Settings, WordFault>
     ensures ok { IfOk result (λ settings. settings ≡ settings_in (map string_bytes words.now)) }
-    ensures faultless { IfOk result (λ _. faults_in (map string_bytes words.now) ≡ []) }
-    ensures taken { AreTaken (map string_bytes words.now) → IfErr result IsNoMemory }
-    ensures found { IfErr result (IsFoundAmong (faults_in (map string_bytes words.now))) }
+    ensures faultless { IfOk result (λ _. faults_in bohm (map string_bytes words.now) ≡ []) }
+    ensures taken { AreTaken bohm (map string_bytes words.now) → IfErr result IsNoMemory }
+    ensures found { IfErr result (IsFoundAmong (faults_in bohm (map string_bytes words.now))) }
 {
-    let line = command_line(alloc, words)?;
-    match command(alloc)?.try_get_matches_from(line.as_slice()) {
-        Ok(matches) => {
-            let defaults = Settings::default();
-            let settings = Settings::new(
-                matches.get_one("cc").unwrap_or(defaults.cc()),
-                matches.get_one("exec").unwrap_or(defaults.exec()),
-                matches.get_one("parts").unwrap_or(defaults.parts()),
-                matches.get_one("batch").unwrap_or(defaults.batch()),
-                matches.get_one("keep").unwrap_or(defaults.keep()),
-                matches.get_one("at"),
-            );
-            Ok(settings.unwrap())
-        }
-        Err(error) => Err(fault_of(alloc, error)),
-    }
+    let line = command_line(alloc, NAME, words)?;
+    let matches = parse_line(alloc, command(alloc)?, line.as_slice())?;
+    let defaults = Settings::default();
+    let settings = Settings::new(
+        matches.get_one("cc").unwrap_or(defaults.cc()),
+        matches.get_one("exec").unwrap_or(defaults.exec()),
+        matches.get_one("parts").unwrap_or(defaults.parts()),
+        matches.get_one("batch").unwrap_or(defaults.batch()),
+        matches.get_one("keep").unwrap_or(defaults.keep()),
+        matches.get_one("at"),
+    );
+    Ok(settings.unwrap())
 }
 
 #[cfg(test)]

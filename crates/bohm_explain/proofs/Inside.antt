@@ -1,4 +1,4 @@
--- Both ends of each arrow are positions of the batch.
+-- Each arrow leads to a later position of the batch, so both its ends are positions of it.
 use Rattle.std.proofs.Common.{◌≡◌, ℕ, zero, suc, ◌<◌, ◌≤◌, List, [], ◌∷◌, All, Bool, true, false, cond, Option, Some, None, option_map, refl, arith}
 use Rattle.std.specs.List.{filter_map, cons_option}
 use Rattle.std.proofs.lemmas.List.Elements.{All-append}
@@ -8,7 +8,11 @@ use Rattle.bohm_explain.specs.declared.arrow.Arrow.{Arrow}
 use Rattle.bohm_explain.specs.Heaviest.{IsInside}
 use Rattle.bohm_explain.specs.Wanted.{writes_at, newest_before, arrow_of, arrows_below, arrows_at, is_sure_at, keys_at}
 
-all_cons : {A : Type 0} (P : A → Type 0) (x : A) (xs : List A) → P x → All P xs → All P (x ∷ xs)
+-- the arrow leads to a later one of so many positions
+abbrev pub IsForward : ℕ → Arrow → Type 0
+IsForward n a = (a.from < a.to) × (a.to < n)
+
+pub all_cons : {A : Type 0} (P : A → Type 0) (x : A) (xs : List A) → P x → All P xs → All P (x ∷ xs)
 all_cons P x xs px h zero d lt = px
 all_cons P x xs px h (suc i) d lt = h i d (omega arith)
 
@@ -24,21 +28,26 @@ below txns k (suc p) f is = by (writes_at txns k p) is (below txns k p f)
     by false e lower = let lt : f < p = lower e in omega arith
 
 module _ (txns : List Txn) (n p : ℕ) (inside : p < n) where
-  one : (k : List ℕ) (o : Option ℕ) (rest : List Arrow) → newest_before txns k p ≡ o → All (IsInside n) rest → All (IsInside n) (cons_option (option_map (λ f. record { from = f; to = p; key = k }) o) rest)
+  one : (k : List ℕ) (o : Option ℕ) (rest : List Arrow) → newest_before txns k p ≡ o → All (IsForward n) rest → All (IsForward n) (cons_option (option_map (λ f. record { from = f; to = p; key = k }) o) rest)
   one k None rest is h = h
-  one k (Some f) rest is h = let lt : f < p = below txns k p f is in all_cons (IsInside n) (record { from = f; to = p; key = k }) rest (omega arith, inside) h
+  one k (Some f) rest is h = all_cons (IsForward n) (record { from = f; to = p; key = k }) rest (below txns k p f is, inside) h
 
-  for_keys : (ks : List (List ℕ)) → All (IsInside n) (filter_map (arrow_of txns p) ks)
-  for_keys [] = none (IsInside n)
+  pub for_keys : (ks : List (List ℕ)) → All (IsForward n) (filter_map (arrow_of txns p) ks)
+  for_keys [] = none (IsForward n)
   for_keys (k ∷ ks) = one k (newest_before txns k p) (filter_map (arrow_of txns p) ks) refl (for_keys ks)
 
-  for_writes : (b : Bool) → All (IsInside n) (cond b [] (filter_map (arrow_of txns p) (keys_at Writes txns p)))
-  for_writes true = none (IsInside n)
+  for_writes : (b : Bool) → All (IsForward n) (cond b [] (filter_map (arrow_of txns p) (keys_at Writes txns p)))
+  for_writes true = none (IsForward n)
   for_writes false = for_keys (keys_at Writes txns p)
 
-  pub at_position : All (IsInside n) (arrows_at txns p)
-  at_position = All-append (IsInside n) (filter_map (arrow_of txns p) (keys_at Reads txns p)) (cond (is_sure_at txns p) [] (filter_map (arrow_of txns p) (keys_at Writes txns p))) (for_keys (keys_at Reads txns p)) (for_writes (is_sure_at txns p))
+  pub at_position : All (IsForward n) (arrows_at txns p)
+  at_position = All-append (IsForward n) (filter_map (arrow_of txns p) (keys_at Reads txns p)) (cond (is_sure_at txns p) [] (filter_map (arrow_of txns p) (keys_at Writes txns p))) (for_keys (keys_at Reads txns p)) (for_writes (is_sure_at txns p))
+
+pub forward_below : (txns : List Txn) (n p : ℕ) → p ≤ n → All (IsForward n) (arrows_below txns p)
+forward_below txns n zero le = none (IsForward n)
+forward_below txns n (suc p) le = All-append (IsForward n) (arrows_below txns p) (arrows_at txns p) (forward_below txns n p (omega arith)) (at_position txns n p (omega arith))
 
 pub inside_below : (txns : List Txn) (n p : ℕ) → p ≤ n → All (IsInside n) (arrows_below txns p)
-inside_below txns n zero le = none (IsInside n)
-inside_below txns n (suc p) le = All-append (IsInside n) (arrows_below txns p) (arrows_at txns p) (inside_below txns n p (omega arith)) (at_position txns n p (omega arith))
+inside_below txns n p le i d few =
+    let (later, inside) = forward_below txns n p le i d few in
+    (omega (arith, later, inside), inside)

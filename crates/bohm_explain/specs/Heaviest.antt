@@ -1,14 +1,55 @@
--- Chains of wanted versions, and the greatest weight that one has.
-use Rattle.std.specs.Prelude.{ℕ, ◌+◌, ◌<◌, List, max, fold, slice_index, slice_set}
+-- Chains of wanted versions, and the greatest weight that one has. Each position of a chain but its first wants the version of the one before.
+use Rattle.std.specs.Prelude.{ℕ, zero, suc, ◌+◌, ◌-◌, ◌<◌, ◌≤◌, ◌==◌, List, [], ◌∷◌, ◌++◌, Bool, length, map, filter, zip, slice_index}
+use Rattle.bohm_place.specs.Chains.{greatest}
 use Rattle.bohm_explain.specs.declared.arrow.Arrow.{Arrow}
 
 -- both ends are among so many positions
 abbrev pub IsInside : ℕ → Arrow → Type 0
 IsInside n a = (a.from < n) × (a.to < n)
 
--- with one arrow more: the chain to where it leads is at least that to where it comes from, and one more weight
-abbrev pub lengthened : List ℕ → List ℕ → Arrow → List ℕ
-lengthened weights heaviest a = slice_set heaviest a.to (max (slice_index heaviest a.to) (slice_index weights a.to + slice_index heaviest a.from))
+-- each arrow leads upwards, to n or above, and none to a position below that of an arrow before it
+abbrev pub AreRising : ℕ → List Arrow → Type 0
+AreRising n [] = Unit {0}
+AreRising n (a ∷ rest) = (n ≤ a.to) × (a.from < a.to) × AreRising a.to rest
+
+-- the greatest number of the positions whose versions p wants, or 0
+abbrev pub greatest_wanted : (ℕ → ℕ) → List Arrow → ℕ → ℕ
+greatest_wanted number arrows p = greatest (map (λ a. number a.from) (filter (λ a. a.to == p) arrows))
+
+-- the greatest number of the positions that want the version of p, or 0
+abbrev pub greatest_wanting : (ℕ → ℕ) → List Arrow → ℕ → ℕ
+greatest_wanting number arrows p = greatest (map (λ a. number a.to) (filter (λ a. a.from == p) arrows))
+
+-- ---- the heaviest chain that ends at each position
+
+-- of each position below a count: its weight, and the greatest of the chains to what it wants
+abbrev pub ending_below : List ℕ → List Arrow → ℕ → List ℕ
+ending_below weights arrows zero = []
+ending_below weights arrows (suc p) =
+    let before = ending_below weights arrows p in
+    before ++ (slice_index weights p + greatest_wanted (slice_index before) arrows p) ∷ []
 
 abbrev pub heaviest_to : List ℕ → List Arrow → List ℕ
-heaviest_to weights arrows = fold (lengthened weights) weights arrows
+heaviest_to weights arrows = ending_below weights arrows (length weights)
+
+-- ---- the heaviest chain that begins at each position
+
+-- of each position from p on, with these weights: its weight, and the greatest of the chains from what wants it
+abbrev pub beginning_from : ℕ → List ℕ → List Arrow → List ℕ
+beginning_from p [] arrows = []
+beginning_from p (weight ∷ weights) arrows =
+    let later = beginning_from (suc p) weights arrows in
+    (weight + greatest_wanting (λ q. slice_index later (q - suc p)) arrows p) ∷ later
+
+abbrev pub heaviest_from : List ℕ → List Arrow → List ℕ
+heaviest_from weights arrows = beginning_from 0 weights arrows
+
+-- ---- chains through something
+
+-- the heaviest chain through each arrow, from the heaviest ones to and from each position
+abbrev pub through : List ℕ → List ℕ → List Arrow → List ℕ
+through to from arrows = map (λ a. slice_index to a.from + slice_index from a.to) arrows
+
+-- whether each position is on a chain of so many transactions: the chain to it and the one from it both count it
+abbrev pub on_longest : List ℕ → List ℕ → ℕ → List Bool
+on_longest to from depth = map (λ p. (p.0 + p.1) == (depth + 1)) (zip to from)

@@ -4,3 +4,10 @@ pub mod Heaviest
 pub mod Weighing
 pub mod Figures
 pub mod Table
+pub mod Heats
+pub mod Tallies
+pub mod Ranking
+pub mod Hottest
+pub mod Verdict
+pub mod Printed
+pub mod Picture

@@ -1,7 +1,7 @@
 //! The heaviest chains of wanted versions.
 
-ghost use Rattle.std.specs.Prelude.{◌≡◌, ◌+◌, ◌*◌, ◌<◌, ◌≤◌, All, length, IfOk};
-ghost use Rattle.bohm_explain.specs.Heaviest.{heaviest_to, IsInside};
+ghost use Rattle.std.specs.Prelude.{◌≡◌, ◌+◌, ◌*◌, ◌<◌, ◌≤◌, ◌^◌, All, length, IfOk};
+ghost use Rattle.bohm_explain.specs.Heaviest.{AreRising, IsInside, heaviest_from, heaviest_to, on_longest, through};
 
 use crate::arrow::Arrow;
 use bohm_txn::NoMemory;
@@ -10,9 +10,13 @@ use std::alloc::Global;
 /// For each position the greatest weight of a chain of wanted versions that ends there.
 pub fn heaviest_to(alloc: Global, weights: &[u32], arrows: &[Arrow]) -> Result<Vec<u32>, NoMemory>
     requires inside { All (IsInside (length weights.now)) arrows.now }
+    requires rising { AreRising 0 arrows.now }
     requires light { All (λ w. w ≤ 3072) weights.now }
-    requires few { length arrows.now ≤ 131072 }
+    requires few { length weights.now ≤ 4096 }
+    requires few_arrows { length arrows.now ≤ 131072 }
     ensures chains { IfOk result (λ v. v.items ≡ heaviest_to weights.now arrows.now) }
+    ensures paired { IfOk result (λ v. length v.items ≡ length weights.now) }
+    ensures light { IfOk result (λ v. All (λ c. c ≤ 2 ^ 24) v.items) }
 {
     let mut heaviest = Vec::from_slice(alloc, weights)?;
     for arrow in arrows {
@@ -21,4 +25,69 @@ pub fn heaviest_to(alloc: Global, weights: &[u32], arrows: &[Arrow]) -> Result<V
         heaviest[to] = heaviest[to].max(chain);
     }
     Ok(heaviest)
+}
+
+/// For each position the greatest weight of a chain of wanted versions that begins there.
+pub fn heaviest_from(alloc: Global, weights: &[u32], arrows: &[Arrow]) -> Result<Vec<u32>, NoMemory>
+    requires inside { All (IsInside (length weights.now)) arrows.now }
+    requires rising { AreRising 0 arrows.now }
+    requires light { All (λ w. w ≤ 3072) weights.now }
+    requires few { length weights.now ≤ 4096 }
+    requires few_arrows { length arrows.now ≤ 131072 }
+    ensures chains { IfOk result (λ v. v.items ≡ heaviest_from weights.now arrows.now) }
+    ensures paired { IfOk result (λ v. length v.items ≡ length weights.now) }
+    ensures light { IfOk result (λ v. All (λ c. c ≤ 2 ^ 24) v.items) }
+{
+    let mut heaviest = Vec::from_slice(alloc, weights)?;
+    for index in (0..arrows.len()).rev() {
+        let arrow = arrows[index];
+        let from = arrow.from as usize;
+        let chain = weights[from] + heaviest[arrow.to as usize];
+        heaviest[from] = heaviest[from].max(chain);
+    }
+    Ok(heaviest)
+}
+
+/// For each arrow the greatest weight of a chain through it, made of those that end and begin at each
+/// position.
+pub fn chains_through(
+    alloc: Global,
+    arrows: &[Arrow],
+    to: &[u32],
+    from: &[u32],
+) -> Result<Vec<u32>, NoMemory>
+    requires inside { All (IsInside (length to.now)) arrows.now }
+    requires paired { length from.now ≡ length to.now }
+    requires light_to { All (λ c. c ≤ 2 ^ 24) to.now }
+    requires light_from { All (λ c. c ≤ 2 ^ 24) from.now }
+    ensures chains { IfOk result (λ v. v.items ≡ through to.now from.now arrows.now) }
+    ensures paired { IfOk result (λ v. length v.items ≡ length arrows.now) }
+{
+    let mut chains = Vec::with_capacity(alloc, arrows.len())?;
+    for arrow in arrows {
+        chains.push(to[arrow.from as usize] + from[arrow.to as usize])?;
+    }
+    Ok(chains)
+}
+
+/// Whether each position of a batch, whose transactions weigh the same, is on one of its longest
+/// chains, which have `depth` transactions.
+pub fn on_longest(
+    alloc: Global,
+    to: &[u32],
+    from: &[u32],
+    depth: u32,
+) -> Result<Vec<bool>, NoMemory>
+    requires paired { length from.now ≡ length to.now }
+    requires light_to { All (λ c. c ≤ 2 ^ 24) to.now }
+    requires light_from { All (λ c. c ≤ 2 ^ 24) from.now }
+    requires depth { depth ≤ 2 ^ 24 }
+    ensures longest { IfOk result (λ v. v.items ≡ on_longest to.now from.now depth) }
+    ensures paired { IfOk result (λ v. length v.items ≡ length to.now) }
+{
+    let mut longest = Vec::with_capacity(alloc, to.len())?;
+    for (to, from) in to.iter().zip(from) {
+        longest.push(to + from == depth + 1)?;
+    }
+    Ok(longest)
 }

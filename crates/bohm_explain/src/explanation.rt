@@ -1,94 +1,96 @@
 //! A log explained.
 
-ghost use Rattle.std.specs.Prelude.{◌≡◌, ◌*◌, ◌+◌, ◌-◌, ◌<◌, ◌≤◌, All, length, IfOk};
-ghost use Rattle.bohm_txn.specs.Faulty.{IsWellFormedTxn};
+ghost use Rattle.std.specs.Prelude.{◌≡◌, ◌++◌, ◌∷◌, [], ◌≤◌, List, length, IfOk, OnOk};
+ghost use Rattle.bohm_tree.specs.declared.txn.Txn.{Txn};
 ghost use Rattle.bohm_place.specs.Shares.{AreWellFormed};
 ghost use Rattle.bohm_explain.specs.Asked.{IsBetween};
-ghost use Rattle.bohm_explain.specs.Figures.{batch_at, batch_count, figures_in, figures_of};
-ghost use Rattle.bohm_explain.specs.Table.{table_text};
+ghost use Rattle.bohm_explain.specs.Figures.{figures_in, figures_of};
+ghost use Rattle.bohm_explain.specs.Heats.{Chained};
+ghost use Rattle.bohm_explain.specs.Printed.{IsTableOf, chained, chained_in};
+ghost use Rattle.bohm_explain.specs.Tallies.{CanTake, IsGathered};
 
-use crate::arrow::wanted;
-use crate::chains::heaviest_to;
-use crate::figures::{Figures, counted};
-use crate::planning::plan_batch;
+use crate::batches::{batch_at, batch_count};
+use crate::chains::chains_through;
+use crate::figures::{Figures, Totals, counted};
+use crate::gathering::Gathering;
+use crate::hottest::put_hottest;
+use crate::ranking::rank;
 use crate::table::put_table;
-use crate::weights::alike;
+use crate::verdict::put_verdict;
+use crate::waits::waits_in;
 use bohm_place::HashSeed;
 use bohm_txn::{NoMemory, Txn};
 use std::alloc::Global;
 
-/// The transactions of the batch of this index, counted from 0.
-fn batch_at(log: &[Txn], size: u32, index: u32) -> &[Txn]
-    requires size { IsBetween 1 4096 size }
-    requires few { length log.now ≤ 1000000 }
-    requires there { index * size ≤ length log.now }
-    requires formed { AreWellFormed log.now }
-    ensures txns { result.now ≡ batch_at size log.now index }
-    ensures few { length result.now ≤ size }
-    ensures formed { AreWellFormed result.now }
-{
-    let start = index as usize * size as usize;
-    let end = log.len().min(start + size as usize);
-    &log[start..end]
+/// What is found out of a log.
+#[derive(Drop)]
+struct Survey {
+    /// Of each batch.
+    figures: Vec<Figures>,
+    keys: Gathering,
 }
 
-/// The number of batches of a log.
-fn batch_count(log: &[Txn], size: u32) -> u32
-    requires size { IsBetween 1 4096 size }
-    requires few { length log.now ≤ 1000000 }
-    ensures count { result ≡ batch_count size log.now }
-    ensures few { result ≤ 1000000 }
-{
-    (log.len() as u32 + (size - 1)) / size
-}
-
-/// The figures of a batch.
-fn explain_batch(alloc: Global, seed: HashSeed, txns: &[Txn]) -> Result<Figures, NoMemory>
-    requires few { length txns.now ≤ 4096 }
-    requires formed { AreWellFormed txns.now }
-    ensures { IfOk result (λ f. f ≡ figures_of txns.now) }
-{
-    let plan = plan_batch(alloc, seed, txns)?;
-    let arrows = wanted(alloc, &plan, txns)?;
-    let alike = alike(alloc, txns.len())?;
-    let depths = heaviest_to(alloc, alike.as_slice(), arrows.as_slice())?;
-    counted(alloc, txns, arrows.as_slice(), depths.as_slice())
-}
-
-/// The figures of each batch of a log.
-pub fn figures_in(
+/// The figures of a batch, whose keys are noted.
+fn explain_batch(
     alloc: Global,
     seed: HashSeed,
-    log: &[Txn],
-    size: u32,
-) -> Result<Vec<Figures>, NoMemory>
+    txns: &[Txn],
+    keys: &mut Gathering,
+) -> Result<Figures, NoMemory>
+    requires few { length txns.now ≤ 4096 }
+    requires formed { AreWellFormed txns.now }
+    requires room { CanTake (length txns.now) keys.old }
+    ensures figures { IfOk result (λ f. f ≡ figures_of txns.now) }
+    ensures noted { OnOk result ((log : List Txn) (batches : List Chained)
+        → IsGathered log batches keys.old
+        → IsGathered (log ++ txns.now) (batches ++ chained txns.now ∷ []) keys.new) }
+{
+    let waits = waits_in(alloc, seed, txns)?;
+    let arrows = waits.arrows.as_slice();
+    let depths = waits.depths.as_slice();
+    let through = chains_through(alloc, arrows, depths, waits.heights.as_slice())?;
+    keys.note(txns, arrows, through.as_slice())?;
+    counted(alloc, txns, arrows, depths)
+}
+
+/// The figures of each batch of a log, and its keys.
+fn survey_log(alloc: Global, seed: HashSeed, log: &[Txn], size: u32) -> Result<Survey, NoMemory>
     requires size { IsBetween 1 4096 size }
     requires few { length log.now ≤ 1000000 }
     requires formed { AreWellFormed log.now }
-    ensures figures { IfOk result (λ v. v.items ≡ figures_in size log.now) }
-    ensures few { IfOk result (λ v. length v.items ≤ 1000000) }
+    ensures figures { IfOk result (λ s. s.figures.items ≡ figures_in size log.now) }
+    ensures few { IfOk result (λ s. length s.figures.items ≤ 1000000) }
+    ensures keys { IfOk result (λ s. IsGathered log.now (chained_in size log.now) s.keys) }
 {
-    let mut all = Vec::new(alloc);
+    let mut figures = Vec::new(alloc);
+    let mut keys = Gathering::new(alloc, seed);
     for index in 0..batch_count(log, size) {
-        all.push(explain_batch(alloc, seed, batch_at(log, size, index))?)?;
+        let txns = batch_at(log, size, index);
+        figures.push(explain_batch(alloc, seed, txns, &mut keys)?)?;
     }
-    Ok(all)
+    Ok(Survey { figures, keys })
 }
 
-/// The table of a log.
+/// The table of a log, its `top` hottest keys, and a line of words. The time grows with the number of
+/// declared keys, and with the number n of different ones as n log n.
 pub fn print_table(
     alloc: Global,
     seed: HashSeed,
     log: &[Txn],
     size: u32,
+    top: u32,
 ) -> Result<Vec<u8>, NoMemory>
     requires size { IsBetween 1 4096 size }
     requires few { length log.now ≤ 1000000 }
     requires formed { AreWellFormed log.now }
-    ensures { IfOk result (λ text. text.items ≡ table_text (figures_in size log.now)) }
+    ensures { IfOk result (λ text. IsTableOf size top log.now text.items) }
 {
-    let figures = figures_in(alloc, seed, log, size)?;
+    let survey = survey_log(alloc, seed, log, size)?;
+    let figures = survey.figures.as_slice();
+    let ranked = rank(survey.keys.heats(alloc)?);
     let mut out = Vec::new(alloc);
-    put_table(&mut out, figures.as_slice())?;
+    put_table(&mut out, figures)?;
+    put_hottest(&mut out, ranked.as_slice(), top)?;
+    put_verdict(&mut out, Totals::of(figures), ranked.as_slice())?;
     Ok(out)
 }

@@ -102,7 +102,7 @@ impl Totals {
 }
 
 /// The greatest of these, or 0.
-fn greatest(values: &[u32]) -> u32
+pub fn greatest(values: &[u32]) -> u32
     ensures { result ≡ greatest values.now }
 {
     let mut most = 0;

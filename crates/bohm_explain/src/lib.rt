@@ -2,14 +2,26 @@
 //! that, and the keys that make them.
 #![tactic(auto)]
 
+mod answering;
 mod arrow;
+mod batches;
 mod chains;
+mod drawing;
 mod explanation;
 mod figures;
+mod gathering;
+mod heat;
+mod hottest;
+pub mod laws;
+mod picture;
 mod planning;
+mod ranking;
 mod request;
 mod table;
+mod tallies;
+mod verdict;
+mod waits;
 mod weights;
 
-pub use explanation::print_table;
-pub use request::{LARGEST_BATCH, Request};
+pub use answering::answer;
+pub use request::{LARGEST_BATCH, LAST_BATCH, MOST_LISTED, Request};

@@ -1,6 +1,6 @@
 //! What is asked of an explanation.
 
-ghost use Rattle.std.specs.Prelude.{◌≡◌, ◌≤◌};
+ghost use Rattle.std.specs.Prelude.{◌≡◌, ◌≤◌, IfSome};
 ghost use Rattle.std.specs.Option.{SomeIff};
 ghost use Rattle.bohm_explain.specs.Asked.{Asked, AreInRange, IsBetween, defaults};
 
@@ -9,10 +9,20 @@ use std::marker::Model;
 /// The most transactions of a batch.
 pub const LARGEST_BATCH: u32 = 4096;
 
-/// How the log is cut: the transactions of a batch.
+/// The most keys that are listed.
+pub const MOST_LISTED: u32 = 1000;
+
+/// The greatest number that a batch can have: a log has at most so many transactions, and a batch at
+/// least one.
+pub const LAST_BATCH: u32 = 1_000_000;
+
+/// The transactions of a batch, how many keys are listed, the hottest first, and the number of the
+/// batch whose picture is printed in the place of the table, from 1 on (`None`: the table).
 #[derive(Clone, Copy, Debug, PartialEq, Eq)]
 pub struct Request {
     batch: u32,
+    top: u32,
+    picture: Option<u32>,
 }
 
 impl Model for Request {
@@ -20,22 +30,31 @@ impl Model for Request {
 
     ghost Value = { Asked };
 
-    ghost view = { λ r. record { batch = r.batch } };
+    ghost view = { λ r. record { batch = r.batch; top = r.top; picture = r.picture } };
 
-    ghost invariant = { λ r. AreInRange (record { batch = r.batch }) };
+    ghost invariant = { λ r. AreInRange
+        (record { batch = r.batch; top = r.top; picture = r.picture }) };
 
-    ghost inverse = { λ a. record { batch = a.batch } };
+    ghost inverse = { λ a. record { batch = a.batch; top = a.top; picture = a.picture } };
 }
 
 impl Request {
-    /// This request, if its number lies in its range.
-    pub fn new(batch: u32) -> Option<Request>
-        ensures { let asked : Asked = record { batch = batch } in SomeIff result (AreInRange asked) asked }
+    /// This request, if each number lies in its range.
+    pub fn new(batch: u32, top: u32, picture: Option<u32>) -> Option<Request>
+        ensures { let asked : Asked = record { batch = batch; top = top; picture = picture }
+            in SomeIff result (AreInRange asked) asked }
     {
-        if !(1..=LARGEST_BATCH).contains(&batch) {
+        let in_range = (1..=LARGEST_BATCH).contains(&batch)
+            && top <= MOST_LISTED
+            && picture.is_none_or(|number| (1..=LAST_BATCH).contains(&number));
+        if !in_range {
             return None;
         }
-        Some(Request { batch })
+        Some(Request {
+            batch,
+            top,
+            picture,
+        })
     }
 
     /// Transactions of a batch.
@@ -45,15 +64,33 @@ impl Request {
     {
         self.batch
     }
+
+    /// How many keys are listed, the hottest first.
+    pub fn top(&self) -> u32
+        ensures value { result ≡ self.now.top }
+        ensures in_range { result ≤ MOST_LISTED }
+    {
+        self.top
+    }
+
+    /// The number of the batch whose picture is printed, from 1 on; `None` is the table.
+    pub fn picture(&self) -> Option<u32>
+        ensures value { result ≡ self.now.picture }
+        ensures in_range { IfSome result (IsBetween 1 LAST_BATCH) }
+    {
+        self.picture
+    }
 }
 
-/// The largest batches.
+/// The largest batches, the ten hottest keys, and the table.
 impl Default for Request {
     ghost is_default = { λ request. request ≡ defaults };
 
     fn default() -> Request {
         Request {
             batch: LARGEST_BATCH,
+            top: 10,
+            picture: None,
         }
     }
 }

@@ -1,3 +1,2 @@
 mod Refusals
-mod Takings
-mod Numbers
+mod Readings

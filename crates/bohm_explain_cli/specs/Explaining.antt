@@ -4,30 +4,32 @@ use Rattle.std.specs.Io.KnownBytes.{Appends}
 use Rattle.bohm_tree.specs.Document.{Document}
 use Rattle.bohm_run.specs.Bytes.{Sends}
 use Rattle.bohm_run.specs.Given.{Given}
-use Rattle.bohm_run.specs.Headline.{ReadsDocument, Refuses}
+use Rattle.bohm_run.specs.Headline.{ReadsDocument, ReadsLog, Refuses}
 use Rattle.bohm_run.specs.declared.fault.RunFault.{RunFault}
-use Rattle.bohm_run.specs.declared.fault.RunFault.TheVariants.{Write}
+use Rattle.bohm_run.specs.declared.fault.RunFault.TheVariants.{Future, Write}
 use Rattle.bohm_explain.specs.Asked.{Asked}
-use Rattle.bohm_explain.specs.Figures.{figures_in}
-use Rattle.bohm_explain.specs.Table.{table_text}
+use Rattle.bohm_explain.specs.Printed.{IsAnswerTo, LacksBatch}
 
--- the text of what is asked of a document
-abbrev pub explanation_of : Asked → Document → List ℕ
-explanation_of asked d = table_text (figures_in asked.batch d.log)
-
--- a well-formed document was read to the reader's end, and its explanation was written and nothing else
+-- a well-formed document was read to the reader's end, and the text of what is asked of it was written
+-- and nothing else
 pub record Explains (asked : Asked) (unread unread' written written' : Option (List ℕ)) : Type 0 where
   pub document : Document
   pub read : ReadsDocument unread unread' document
-  pub wrote : Appends written written' (explanation_of asked document)
+  pub text : List ℕ
+  pub answers : IsAnswerTo asked document.log text
+  pub wrote : Appends written written' text
 
--- a well-formed document was read to the reader's end, and the first bytes of its explanation were written
+-- a well-formed document was read to the reader's end, and the first bytes of that text were written
 pub record StopsExplaining (asked : Asked) (unread unread' written written' : Option (List ℕ)) (sent : ℕ) : Type 0 where
   pub document : Document
   pub read : ReadsDocument unread unread' document
-  pub wrote : Sends written written' (explanation_of asked document) sent
+  pub text : List ℕ
+  pub answers : IsAnswerTo asked document.log text
+  pub wrote : Sends written written' text sent
 
--- what each refusal says: before the writing, what a run with any settings says of it
+-- what each refusal says: that the log lacks the batch whose picture is asked for, and else, before the writing,
+-- what a run with any settings says of it
 abbrev pub RefusesLog : Asked → Option (List ℕ) → Option (List ℕ) → Option (List ℕ) → Option (List ℕ) → RunFault → Type 0
 RefusesLog asked unread unread' written written' (Write sent) = StopsExplaining asked unread unread' written written' sent
+RefusesLog asked unread unread' written written' Future = ReadsLog unread unread' (λ document. LacksBatch asked document.log)
 RefusesLog asked unread unread' written written' fault = (given : Given) → Refuses given unread unread' None None fault

@@ -1,5 +1,3 @@
 pub mod Options
 pub mod Taken
-pub mod Faults
-pub mod Endings
 pub mod Explaining

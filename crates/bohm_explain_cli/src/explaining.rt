@@ -4,7 +4,7 @@ ghost use Rattle.std.specs.Prelude.{◌≡◌, IfErr, OnOk};
 ghost use Rattle.bohm_run.specs.Headline.{IsBeforeWriting};
 ghost use Rattle.bohm_explain_cli.specs.Explaining.{Explains, RefusesLog};
 
-use bohm_explain::{Request, print_table};
+use bohm_explain::{Request, answer};
 use bohm_place::HashSeed;
 use bohm_run::{RunFault, read_log, write_all};
 use std::alloc::Global;
@@ -12,8 +12,8 @@ use std::io::{Read, Write};
 use std::random::RandomSource;
 
 /// Reads a log to the reader's end, and writes the text of what is asked of it and nothing else. It
-/// refuses what a run refuses, and a failed write, as a run does. The whole text is made before the first
-/// byte is written.
+/// refuses what a run refuses, and a failed write, as a run does, and as `Future` the picture of a batch
+/// that the log doesn't have. The whole text is made before the first byte is written.
 pub fn explain_text<T: RandomSource, R: Read, W: Write>(
     rt: &T,
     alloc: Global,
@@ -28,6 +28,8 @@ pub fn explain_text<T: RandomSource, R: Read, W: Write>(
     ensures untouched { IfErr result (λ e. IsBeforeWriting e → writer.new ≡ writer.old) }
 {
     let checked = read_log(alloc, reader)?;
-    let text = print_table(alloc, HashSeed::drawn(rt), checked.log(), request.batch())?;
+    let Some(text) = answer(alloc, HashSeed::drawn(rt), checked.log(), request)? else {
+        return Err(RunFault::Future);
+    };
     write_all(writer, text.as_slice())
 }

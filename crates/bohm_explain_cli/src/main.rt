@@ -1,46 +1,21 @@
 //! The program: a log on standard input, why it scales or doesn't on standard output.
 #![tactic(auto)]
 
-mod ending;
 mod explaining;
 mod options;
 mod words;
 
+use bohm_command::{NoAnswer, WordFault, exit_code, tell, without_request, words_given};
 use bohm_explain::Request;
-use ending::{NoAnswer, exit_code, tell, without_request};
 use explaining::explain_text;
+use options::NAME;
+use std::io;
 use std::process::ExitCode;
-use std::{env, io};
-use words::{WordFault, read_words};
-
-/// What is said of a word that is no text, which clap can't be handed. It says the same in Rust.
-const NOT_UTF8: &str = "\
-error: invalid UTF-8 was detected in one or more arguments
-
-Usage: explain [OPTIONS]
-
-For more information, try '--help'.
-";
+use words::read_words;
 
 /// The request that the program was started with.
 fn request_given(rt: &HostRuntime) -> Result<Request, WordFault> {
-    let mut given = match env::args(rt) {
-        Ok(given) => given,
-        Err(error) if error.kind() == io::ErrorKind::OutOfMemory => {
-            return Err(WordFault::NoMemory);
-        }
-        Err(error) if error.kind() == io::ErrorKind::InvalidData => {
-            return Err(WordFault::Bad(String::from_str(rt.alloc(), NOT_UTF8)?));
-        }
-        Err(error) => {
-            return Err(WordFault::Bad(format!(in rt.alloc(); "error: {error}\n")?));
-        }
-    };
-    let _program = given.next();
-    let mut words = Vec::new(rt.alloc());
-    for word in given {
-        words.push(word)?;
-    }
+    let words = words_given(rt, NAME)?;
     read_words(rt.alloc(), words.as_slice())
 }
 

@@ -1,22 +1,35 @@
-//! The command and its option.
+//! The command and its options.
 
-ghost use Rattle.std.specs.Prelude.{◌≡◌, false, IfOk};
-ghost use Rattle.clap.specs.Words.{app_of, rule_of};
-ghost use Rattle.bohm_explain_cli.specs.Options.{explain, number_rule};
+ghost use Rattle.std.specs.Prelude.{◌≡◌, IfOk};
+ghost use Rattle.clap.specs.Words.{app_of};
+ghost use Rattle.bohm_explain_cli.specs.Options.{explain};
 
-use bohm_explain::LARGEST_BATCH;
-use clap::{Arg, Command};
+use bohm_command::number;
+use bohm_explain::{LARGEST_BATCH, LAST_BATCH, MOST_LISTED};
+use clap::Command;
 use std::alloc::{AllocError, Global};
+
+/// The program's name.
+pub const NAME: &str = "explain";
 
 /// What help says above the options.
 const ABOUT: &str = "\
 Explains why the log of transactions on standard input scales or doesn't: how
 many of its transactions wait for one another, and how long the longest chain
-of them is, as a table with a line for each batch. Nothing is run.";
+of them is, as a table with a line for each batch, and which keys are the
+hottest. Nothing is run.";
 
 const BATCH: &str = "\
 Transactions in a batch, 1 to 4096 [default: 4096], as
 bohm cuts the log";
+
+const TOP: &str = "\
+Keys to list below the table, the hottest first, 0 to 1000
+[default: 10]";
+
+const DOT: &str = "\
+Print the picture of this batch for Graphviz's dot, in the
+place of the table, 1 to 1000000. The log has to have it";
 
 /// What help says below the options.
 const AFTER_HELP: &str = "\
@@ -37,33 +50,32 @@ Columns:
 
 Batches run one after another, so the depths of 'all' are sums.
 
-Example:
-  explain --batch 1000 < bank.log
+Hottest keys:
+  writers       the transactions of the log that declare to write the key
+  readers       those that declare to read it
+  chain         transactions on the longest chain with a wait for the key
+
+The last line says which key is on the longest chain, and what more executing
+workers can at most be good for.
+
+Examples:
+  explain --batch 1000 --top 20 < bank.log
+  explain --dot 3 < bank.log | dot -Tsvg > third.svg
 
 Exit status:
   0  the explanation was printed, or this help
-  1  the log was refused: standard error has the fault's line
+  1  the log was refused, or lacks the batch to be drawn: standard error has
+     the fault's line
   2  the words were refused: standard error says why";
-
-/// An option that takes one number in this range.
-fn number<'a>(alloc: Global, name: &'a str, least: u32, most: u32, help: &'a str) -> Arg<'a>
-    ensures rule { rule_of result ≡ number_rule name.entry.now least most }
-    ensures local { result.global ≡ false }
-{
-    let numbers = clap::value_parser!(u32).range(i64::from(least)..=i64::from(most));
-    Arg::new(alloc, name)
-        .long(name)
-        .value_name("N")
-        .value_parser(numbers)
-        .help(help)
-}
 
 /// The command.
 pub fn command<'a>(alloc: Global) -> Result<Command<'a>, AllocError>
     ensures { IfOk result (λ command. app_of command ≡ explain) }
 {
-    Command::new(alloc, "explain")
+    Command::new(alloc, NAME)
         .about(ABOUT)
         .after_help(AFTER_HELP)
-        .arg(number(alloc, "batch", 1, LARGEST_BATCH, BATCH))
+        .arg(number(alloc, "batch", 1, LARGEST_BATCH, BATCH))?
+        .arg(number(alloc, "top", 0, MOST_LISTED, TOP))?
+        .arg(number(alloc, "dot", 1, LAST_BATCH, DOT))
 }

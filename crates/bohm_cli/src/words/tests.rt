@@ -1,4 +1,5 @@
-use super::{WordFault, read_words};
+use super::read_words;
+use bohm_command::WordFault;
 use bohm_run::Settings;
 use std::alloc::{AllocError, Global};
 use std::test::Fail;

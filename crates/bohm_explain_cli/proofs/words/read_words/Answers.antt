@@ -1,52 +1,59 @@
 use Rattle.std.proofs.Common.{◌≡◌, ◌∷◌, ◌∙◌, map, codes, refl, sym, subst, ap, arith, rules}
 use Rattle.std.specs.Prelude.{Some, string_bytes}
-use Rattle.clap.specs.Walk.{rows_of}
-use Rattle.clap.specs.Words.{Kinds, HasKind, found_of}
+use Rattle.std.proofs.lemmas.Result.{err_from_is_err_and}
+use Rattle.clap.specs.Walk.{rows_of, texts}
+use Rattle.clap.specs.Words.{Kinds, found_of}
 use Rattle.bohm_explain.specs.Asked.{Asked}
-use Rattle.bohm_explain.specs.declared.request.TheConstants.{LARGEST_BATCH}
+use Rattle.bohm_explain.specs.declared.request.TheConstants.{LARGEST_BATCH, MOST_LISTED, LAST_BATCH}
+use Rattle.bohm_command.specs.Faults.{IsFoundAmong}
+use Rattle.bohm_command.proofs.ForCallers.{takes_line, same_faults, same_rows, number, number_or}
 use Rattle.bohm_explain_cli.specs.Taken.{request_in}
-use Rattle.bohm_explain_cli.proofs.Takings.{takes_line, simple, same_request, same_faults, no_memory, found_among}
-use Rattle.bohm_explain_cli.proofs.Numbers.{number_or, request_read}
+use Rattle.bohm_explain_cli.proofs.Readings.{request_read, same_request}
 use Rattle.bohm_explain_cli.proofs.words.read_words.Goals.{After-as_slice, After-new-request}
 use Rattle.bohm_explain_cli.proofs.words.read_words.Goals as goal
 
 -- the line is the program's name and the words
-whole : (c : After-as_slice) → map (λ word. word.now) c.as_slice.result.now ≡ codes "explain" ∷ map string_bytes c.args.words.now
+whole : (c : After-as_slice) → texts c.as_slice.result.now ≡ codes "explain" ∷ map string_bytes c.args.words.now
 whole c = rw c.as_slice.ensures.value c.in_ok-line.ensures
 
--- the number makes the request that the words give
+-- the numbers make the request that the words make
 made : (c : After-new-request) → c.new-request.result ≡ Some (request_in (map string_bytes c.args.words.now))
 made c =
     let line = whole (goal.at.unwrap-requires c).After-as_slice in
     let is = c.in_ok-command.ensures in
-    let read = number_or _ _ c.in-Ok.ensures.parsed is in
+    let read = number_or _ _ _ c.in_ok-matches.ensures.parsed is refl refl in
     let plain = c.default-defaults.ensures in
-    let batch = read (codes "batch") 1 LARGEST_BATCH (omega arith) refl refl _ _ _ _ (c.batch.ensures.value ∙ ap (λ (g : Asked). g.batch) plain)
+    let batch = read (codes "batch") 1 LARGEST_BATCH (omega arith) refl refl _ _ _ _ (c.batch.ensures.value ∙ ap (λ (a : Asked). a.batch) plain)
     c.batch.ensures.in_range c.unwrap_or.ensures c.get_one.ensures.none c.get_one.ensures.value in
-    request_read (rows_of (found_of c.in-Ok.matches)) _ batch _ c.new-request.ensures ∙ ap Some (same_request _ _ _ is line _ (λ s. (c.in-Ok.ensures.matches s).0))
+    let top = read (codes "top") 0 MOST_LISTED (omega arith) refl refl _ _ _ _ (c.top.ensures.value ∙ ap (λ (a : Asked). a.top) plain)
+    (omega arith, c.top.ensures.in_range) c.unwrap_or-2.ensures c.get_one-2.ensures.none c.get_one-2.ensures.value in
+    let picture = number _ _ _ c.in_ok-matches.ensures.parsed is refl refl (codes "dot") 1 LAST_BATCH (omega arith) refl refl _ c.get_one-3.ensures.none c.get_one-3.ensures.value in
+    let same = same_request _ _ (c.in_ok-matches.ensures.rows ∙ same_rows _ _ _ _ is line) in
+    request_read (rows_of (found_of c.in_ok-matches.matches)) _ batch top picture _ c.new-request.ensures ∙ ap Some same
 
 pub unwrap-requires : goal.unwrap-requires
 unwrap-requires c = rw (made c) refl
 
-pub returns-in-Ok-clause-ok : goal.returns-in-Ok-clause-ok
-returns-in-Ok-clause-ok c =
-    let read = made (goal.at.returns-in-Ok-clause-ok c).After-new-request in
+pub returns-clause-ok : goal.returns-clause-ok
+returns-clause-ok c =
+    let read = made (goal.at.returns-clause-ok c).After-new-request in
     let taken : Some c.unwrap.result ≡ Some (request_in (map string_bytes c.args.words.now)) = search (rules, read) in
     search (rules, taken)
 
-pub returns-in-Ok-clause-faultless : goal.returns-in-Ok-clause-faultless
-returns-in-Ok-clause-faultless c =
-    let line = whole (goal.at.returns-in-Ok-clause-faultless c).After-as_slice in
-    sym (same_faults _ _ _ c.in_ok-command.ensures line) ∙ c.in-Ok.ensures.kinds (simple _ c.in_ok-command.ensures)
+pub returns-clause-faultless : goal.returns-clause-faultless
+returns-clause-faultless c =
+    let line = whole (goal.at.returns-clause-faultless c).After-as_slice in
+    sym (same_faults _ _ _ _ c.in_ok-command.ensures line) ∙ c.in_ok-matches.ensures.faultless
 
-pub returns-clause-taken : goal.returns-clause-taken
-returns-clause-taken c = λ taken.
-    let line = whole (goal.at.returns-clause-taken c).After-as_slice in
-    no_memory _ _ c.fault_of.ensures (c.in-Err.ensures.passes (takes_line _ _ _ c.in_ok-command.ensures line taken))
+pub returns-in_err-matches-clause-taken : goal.returns-in_err-matches-clause-taken
+returns-in_err-matches-clause-taken c = λ taken.
+    let line = whole (goal.at.returns-in_err-matches-clause-taken c).After-as_slice in
+    let p = err_from_is_err_and c.from_residual-in_err-matches.result c.from_residual-in_err-matches.ensures.1 in
+    rw (p.1, p.2) (c.in_err-matches.ensures.taken (takes_line _ _ _ _ c.in_ok-command.ensures line taken))
 
-pub returns-clause-found : goal.returns-clause-found
-returns-clause-found c =
-    let line = whole (goal.at.returns-clause-found c).After-as_slice in
-    let same = same_faults _ _ _ c.in_ok-command.ensures line in
-    let among = c.in-Err.ensures.kinds (simple _ c.in_ok-command.ensures) in
-    found_among _ c.in-Err.error _ c.fault_of.ensures (subst (λ (kinds : Kinds). HasKind kinds c.in-Err.error) same among)
+pub returns-in_err-matches-clause-found : goal.returns-in_err-matches-clause-found
+returns-in_err-matches-clause-found c =
+    let line = whole (goal.at.returns-in_err-matches-clause-found c).After-as_slice in
+    let same = same_faults _ _ _ _ c.in_ok-command.ensures line in
+    let p = err_from_is_err_and c.from_residual-in_err-matches.result c.from_residual-in_err-matches.ensures.1 in
+    rw (p.1, p.2) (subst (λ (kinds : Kinds). IsFoundAmong kinds c.in_err-matches.field-0.0) same c.in_err-matches.ensures.found)

@@ -1,0 +1,3 @@
+mod Takings
+mod Numbers
+pub mod ForCallers

@@ -1,0 +1,4 @@
+pub mod Options
+pub mod Taken
+pub mod Faults
+pub mod Endings

@@ -1,0 +1,54 @@
+//! What is wrong with words.
+
+ghost use Rattle.std.specs.Prelude.{◌≡◌};
+ghost use Rattle.bohm_command.specs.Faults.{IsOfKind};
+ghost use Rattle.bohm_command.specs.declared.fault.WordFault.TheVariants.{NoMemory};
+ghost use Rattle.clap.specs.Words.{kind_of};
+
+use clap::Error;
+use clap::error::ErrorKind;
+use std::alloc::{AllocError, AllocFailed, Global};
+
+/// Why words ask a program for nothing that it is to do.
+#[derive(Debug, Drop)]
+pub enum WordFault {
+    /// The words are none of the program's, with the text that says so.
+    Bad(String),
+    /// Help was asked for, with its text.
+    Help(String),
+    /// A growth was refused.
+    NoMemory,
+}
+
+impl From<AllocError> for WordFault {
+    ghost from_gives = { λ _ e. e ≡ NoMemory };
+
+    fn from(_e: AllocError) -> WordFault {
+        WordFault::NoMemory
+    }
+}
+
+impl<T: Drop> From<AllocFailed<T>> for WordFault {
+    ghost from_gives = { λ _ e. e ≡ NoMemory };
+
+    fn from(_e: AllocFailed<T>) -> WordFault {
+        WordFault::NoMemory
+    }
+}
+
+impl WordFault {
+    /// What clap says of the words, with its text.
+    pub(crate) fn of(alloc: Global, error: Error) -> WordFault
+        ensures { IsOfKind (kind_of error) result }
+    {
+        let kind = error.kind();
+        let Ok(text) = format!(in alloc; "{error}") else {
+            return WordFault::NoMemory;
+        };
+        match kind {
+            ErrorKind::OutOfMemory => WordFault::NoMemory,
+            ErrorKind::DisplayHelp => WordFault::Help(text),
+            _ => WordFault::Bad(text),
+        }
+    }
+}

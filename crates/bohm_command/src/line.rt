@@ -1,0 +1,90 @@
+//! The line that a program is started with: its name and the words behind it.
+
+ghost use Rattle.std.specs.Prelude.{◌≡◌, true, [], ◌∷◌, map, string_bytes, IfOk, IfErr};
+ghost use Rattle.bohm_command.specs.Faults.{IsNoMemory, IsFoundAmong};
+ghost use Rattle.clap.specs.Walk.{texts};
+ghost use Rattle.clap.specs.Words.{app_of, fault_of, found_of, is_simple_and_free, matches_of};
+ghost use Rattle.clap.specs.Words.{rows_of, takes, IsParsedFrom};
+
+use crate::fault::WordFault;
+use clap::{ArgMatches, Command};
+use std::alloc::{AllocError, Global};
+use std::env::{self, Env};
+use std::io;
+
+/// The words that the program of this name was started with, without the name. One that is no text,
+/// which clap can't be handed, is refused with the text that clap has for it in Rust.
+pub fn words_given<R: Env + AllocGlobal>(rt: &R, name: &str) -> Result<Vec<String>, WordFault> {
+    let mut given = match env::args(rt) {
+        Ok(given) => given,
+        Err(error) if error.kind() == io::ErrorKind::OutOfMemory => {
+            return Err(WordFault::NoMemory);
+        }
+        Err(error) if error.kind() == io::ErrorKind::InvalidData => {
+            return Err(WordFault::Bad(not_utf8(rt.alloc(), name)?));
+        }
+        Err(error) => {
+            return Err(WordFault::Bad(format!(in rt.alloc(); "error: {error}\n")?));
+        }
+    };
+    let _program = given.next();
+    let mut words = Vec::new(rt.alloc());
+    for word in given {
+        words.push(word)?;
+    }
+    Ok(words)
+}
+
+/// What is said of a word that is no text.
+fn not_utf8(alloc: Global, name: &str) -> Result<String, AllocError> {
+    format!(in alloc;
+        "\
+error: invalid UTF-8 was detected in one or more arguments
+
+Usage: {name} [OPTIONS]
+
+For more information, try '--help'.
+"
+    )
+}
+
+/// The program's name and the words.
+pub fn command_line<'a>(
+    alloc: Global,
+    name: &'a str,
+    words: &'a [String],
+) -> Result<Vec<&'a str>, AllocError>
+    ensures { IfOk result (λ line. texts line.items
+        ≡ name.entry.now ∷ map string_bytes words.entry.now) }
+{
+    let mut line = Vec::new(alloc);
+    line.push(name)?;
+    for word in words {
+        line.push(word.as_str())?;
+    }
+    Ok(line)
+}
+
+/// What the command reads in a line that begins with its name. A line that it doesn't take is refused
+/// with clap's text.
+pub fn parse_line<'a>(
+    alloc: Global,
+    command: Command<'a>,
+    line: &'a [&'a str],
+) -> Result<ArgMatches<'a>, WordFault>
+    requires simple { is_simple_and_free (app_of command) ≡ true }
+    ensures parsed { IfOk result (IsParsedFrom command.entry) }
+    ensures rows { IfOk result (λ matches. rows_of (found_of matches)
+        ≡ matches_of (app_of command.entry) (texts line.entry.now)) }
+    ensures faultless { IfOk result (λ _.
+        fault_of (app_of command.entry) (texts line.entry.now) ≡ []) }
+    ensures taken { takes (app_of command.entry) (texts line.entry.now) ≡ true
+        → IfErr result IsNoMemory }
+    ensures found { IfErr result (IsFoundAmong
+        (fault_of (app_of command.entry) (texts line.entry.now))) }
+{
+    match command.try_get_matches_from(line) {
+        Ok(matches) => Ok(matches),
+        Err(error) => Err(WordFault::of(alloc, error)),
+    }
+}

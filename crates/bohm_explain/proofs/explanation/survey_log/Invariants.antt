@@ -1,0 +1,12 @@
+use Rattle.std.proofs.Common.{◌≡◌, ◌*◌, ◌≤◌, length, take}
+use Rattle.bohm_explain.specs.Figures.{figures_below}
+use Rattle.bohm_explain.specs.Printed.{chained_below}
+use Rattle.bohm_explain.specs.Tallies.{IsGathered}
+use Rattle.bohm_explain.proofs.explanation.survey_log.Given as goal
+
+abbrev pub invariant-loop-index : goal.invariant-loop-index
+invariant-loop-index l = record {
+  figures : l.figures.items ≡ figures_below l.size l.log l.index;
+  few : length l.figures.items ≤ l.index;
+  keys : IsGathered (take (l.index * l.size) l.log) (chained_below l.size l.log l.index) l.keys;
+}

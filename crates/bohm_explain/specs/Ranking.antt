@@ -1,0 +1,28 @@
+-- Which keys are the hottest.
+use Rattle.std.specs.Prelude.{◌≡◌, ℕ, ◌+◌, List}
+use Rattle.std.specs.List.{AllPairs}
+use Rattle.std.specs.List.Sorted.{IsPermutation}
+use Rattle.std.specs.declared.cmp.Ordering.{Ordering}
+use Rattle.std.specs.declared.cmp.Ordering.TheVariants.{Less}
+use Rattle.std.specs.Ordering.{nat_cmp, ordering_then}
+use Rattle.std.specs.Cmp.Lexicographic.{slice_cmp}
+use Rattle.bohm_explain.specs.declared.heat.Heat.{Heat}
+
+-- the transactions that write the key, and those that read it
+abbrev pub accesses : Heat → ℕ
+accesses h = h.writers + h.readers
+
+-- first the one with more accesses, then that with the longer chain, then that with the lesser key
+abbrev pub rank_cmp : Heat → Heat → Ordering
+rank_cmp h g =
+    ordering_then
+    (ordering_then (nat_cmp (accesses g) (accesses h)) (nat_cmp g.chain h.chain))
+    (slice_cmp nat_cmp h.key g.key)
+
+abbrev pub IsHotter : Heat → Heat → Type 0
+IsHotter h g = rank_cmp h g ≡ Less
+
+-- the same heats, each hotter than those behind it
+pub record IsRanking (heats ranked : List Heat) : Type 0 where
+  pub same : IsPermutation heats ranked
+  pub hottest_first : AllPairs IsHotter ranked

@@ -1,0 +1,35 @@
+//! What is printed of a log.
+
+ghost use Rattle.std.specs.Prelude.{◌≡◌, ◌<◌, ◌≤◌, length, IfNone, IfOk, IfSome};
+ghost use Rattle.bohm_place.specs.Shares.{AreWellFormed};
+ghost use Rattle.bohm_explain.specs.Printed.{IsAnswerTo, LacksBatch};
+
+use crate::drawing::print_picture;
+use crate::explanation::print_table;
+use crate::request::Request;
+use bohm_place::HashSeed;
+use bohm_txn::{NoMemory, Txn};
+use std::alloc::Global;
+
+/// The text of what is asked of a log, or `None` where that is the picture of a batch that the log
+/// doesn't have. The time grows with the number of declared keys, and for the table with the number n of
+/// different ones as n log n.
+pub fn answer(
+    alloc: Global,
+    seed: HashSeed,
+    log: &[Txn],
+    request: Request,
+) -> Result<Option<Vec<u8>>, NoMemory>
+    requires few { length log.now ≤ 1000000 }
+    requires formed { AreWellFormed log.now }
+    ensures answers { IfOk result (λ o. IfSome o (λ text. IsAnswerTo request log.now text.items)) }
+    ensures lacking { IfOk result (λ o. IfNone o (LacksBatch request log.now)) }
+{
+    match request.picture() {
+        None => {
+            let text = print_table(alloc, seed, log, request.batch(), request.top())?;
+            Ok(Some(text))
+        }
+        Some(number) => print_picture(alloc, seed, log, request.batch(), number),
+    }
+}

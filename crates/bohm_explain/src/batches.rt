@@ -1,0 +1,33 @@
+//! A log cut into batches.
+
+ghost use Rattle.std.specs.Prelude.{◌≡◌, ◌*◌, ◌+◌, ◌-◌, ◌<◌, ◌≤◌, length};
+ghost use Rattle.bohm_place.specs.Shares.{AreWellFormed};
+ghost use Rattle.bohm_explain.specs.Asked.{IsBetween};
+ghost use Rattle.bohm_explain.specs.Figures.{batch_at, batch_count};
+
+use bohm_txn::Txn;
+
+/// The transactions of the batch of this index, counted from 0.
+pub fn batch_at(log: &[Txn], size: u32, index: u32) -> &[Txn]
+    requires size { IsBetween 1 4096 size }
+    requires few { length log.now ≤ 1000000 }
+    requires there { index * size ≤ length log.now }
+    requires formed { AreWellFormed log.now }
+    ensures txns { result.now ≡ batch_at size log.now index }
+    ensures few { length result.now ≤ size }
+    ensures formed { AreWellFormed result.now }
+{
+    let start = index as usize * size as usize;
+    let end = log.len().min(start + size as usize);
+    &log[start..end]
+}
+
+/// The number of batches of a log.
+pub fn batch_count(log: &[Txn], size: u32) -> u32
+    requires size { IsBetween 1 4096 size }
+    requires few { length log.now ≤ 1000000 }
+    ensures count { result ≡ batch_count size log.now }
+    ensures few { result ≤ 1000000 }
+{
+    (log.len() as u32 + (size - 1)) / size
+}

@@ -1,0 +1,75 @@
+//! A batch of a log, drawn.
+
+ghost use Rattle.std.specs.Prelude.{◌≡◌, ◌-◌, ◌<◌, ◌≤◌, length, map, IfNone, IfOk, IfSome};
+ghost use Rattle.bohm_place.specs.Shares.{AreWellFormed};
+ghost use Rattle.bohm_txn.specs.Sure.{is_sure};
+ghost use Rattle.bohm_explain.specs.Asked.{IsBetween};
+ghost use Rattle.bohm_explain.specs.Figures.{batch_count};
+ghost use Rattle.bohm_explain.specs.Printed.{picture_in, picture_of};
+
+use crate::batches::{batch_at, batch_count};
+use crate::chains::on_longest;
+use crate::figures::greatest;
+use crate::picture::put_picture;
+use crate::waits::waits_in;
+use bohm_place::HashSeed;
+use bohm_txn::{NoMemory, Txn, sure};
+use std::alloc::Global;
+
+/// Whether each transaction is sure.
+fn sure_marks(alloc: Global, txns: &[Txn]) -> Result<Vec<bool>, NoMemory>
+    ensures marks { IfOk result (λ v. v.items ≡ map is_sure txns.now) }
+    ensures paired { IfOk result (λ v. length v.items ≡ length txns.now) }
+{
+    let mut marks = Vec::with_capacity(alloc, txns.len())?;
+    for txn in txns {
+        marks.push(sure(txn))?;
+    }
+    Ok(marks)
+}
+
+/// The picture of a batch of this number.
+fn draw_batch(alloc: Global, seed: HashSeed, number: u32, txns: &[Txn]) -> Result<Vec<u8>, NoMemory>
+    requires few { length txns.now ≤ 4096 }
+    requires formed { AreWellFormed txns.now }
+    ensures { IfOk result (λ text. text.items ≡ picture_of number txns.now) }
+{
+    let waits = waits_in(alloc, seed, txns)?;
+    let sure = sure_marks(alloc, txns)?;
+    let depths = waits.depths.as_slice();
+    let longest = on_longest(alloc, depths, waits.heights.as_slice(), greatest(depths))?;
+    let mut out = Vec::new(alloc);
+    put_picture(
+        &mut out,
+        number,
+        sure.as_slice(),
+        waits.arrows.as_slice(),
+        depths,
+        longest.as_slice(),
+    )?;
+    Ok(out)
+}
+
+/// The picture of the batch of this number, counted from 1, or `None` where the log has fewer.
+pub fn print_picture(
+    alloc: Global,
+    seed: HashSeed,
+    log: &[Txn],
+    size: u32,
+    number: u32,
+) -> Result<Option<Vec<u8>>, NoMemory>
+    requires size { IsBetween 1 4096 size }
+    requires few { length log.now ≤ 1000000 }
+    requires formed { AreWellFormed log.now }
+    requires number { 1 ≤ number }
+    ensures there { IfOk result (λ o. IfSome o (λ _. number ≤ batch_count size log.now)) }
+    ensures picture { IfOk result (λ o.
+        IfSome o (λ text. text.items ≡ picture_in size log.now number)) }
+    ensures lacking { IfOk result (λ o. IfNone o (batch_count size log.now < number)) }
+{
+    if batch_count(log, size) < number {
+        return Ok(None);
+    }
+    let txns = batch_at(log, size, number - 1);
+    Ok(Some(draw_batch(alloc, seed, number, txns)?))
+}

@@ -1,0 +1,44 @@
+//! Laws over the definitions alone. No running call uses them.
+
+ghost use Rattle.std.specs.Prelude.{◌≡◌, ◌+◌, ◌<◌, ℕ, List, length, slice_index};
+ghost use Rattle.bohm_tree.specs.declared.txn.Txn.{Txn};
+ghost use Rattle.bohm_explain.specs.declared.arrow.Arrow.{Arrow};
+ghost use Rattle.bohm_explain.specs.declared.heat.Heat.{Heat};
+ghost use Rattle.bohm_explain.specs.Figures.{depths};
+ghost use Rattle.bohm_explain.specs.Heaviest.{AreRising, greatest_wanted, greatest_wanting, heaviest_from, heaviest_to};
+ghost use Rattle.bohm_explain.specs.Ranking.{IsRanking};
+ghost use Rattle.bohm_explain.specs.Wanted.{arrows};
+
+/// Each transaction wants versions of earlier ones alone, and the wanted versions stand in log order.
+pub fn arrows_rise()
+    ensures { (txns : List Txn) → AreRising 0 (arrows txns) }
+{}
+
+/// The longest chain that ends at a transaction has one transaction more than the longest that ends at
+/// one whose version it wants, and one alone where it wants none.
+pub fn depth_of_each()
+    ensures { (txns : List Txn) (p : ℕ) → p < length txns → slice_index (depths txns) p
+        ≡ 1 + greatest_wanted (slice_index (depths txns)) (arrows txns) p }
+{}
+
+/// The heaviest chain that ends at a position weighs what the position does, and as much as the
+/// heaviest one that ends at a position whose version it wants, where it wants any.
+pub fn chain_to_each()
+    ensures { (weights : List ℕ) (wanted : List Arrow) (p : ℕ) → AreRising 0 wanted
+        → p < length weights → slice_index (heaviest_to weights wanted) p
+        ≡ slice_index weights p + greatest_wanted (slice_index (heaviest_to weights wanted)) wanted p }
+{}
+
+/// The heaviest chain that begins at a position weighs what the position does, and as much as the
+/// heaviest one that begins at a position that wants its version, where any does.
+pub fn chain_from_each()
+    ensures { (weights : List ℕ) (wanted : List Arrow) (p : ℕ) → AreRising 0 wanted
+        → p < length weights → slice_index (heaviest_from weights wanted) p
+        ≡ slice_index weights p + greatest_wanting (slice_index (heaviest_from weights wanted)) wanted p }
+{}
+
+/// There is one ranking of some heats, however they come.
+pub fn one_ranking()
+    ensures { (heats ranked other : List Heat)
+        → IsRanking heats ranked → IsRanking heats other → ranked ≡ other }
+{}

@@ -1,0 +1,9 @@
+mod Words
+mod Growth
+mod Seeking
+mod Drafts
+mod Standing
+mod Statements
+mod Widening
+mod Viewing
+mod Dividing

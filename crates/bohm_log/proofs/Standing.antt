@@ -1,0 +1,137 @@
+-- What the places of terms and statements stand for.
+use Rattle.std.proofs.Common.{true, ◌≡◌, ℕ, Bool, false, List, [], ◌∷◌, ◌++◌, Some, refl, sym, ◌∙◌, subst, append-nil, slice_get}
+use Rattle.std.proofs.lemmas.Option.{get_or_from_slice_get, slice_get_within}
+use Rattle.bohm_tree.specs.declared.term.Atom.TheVariants as atoms
+use Rattle.bohm_log.specs.declared.row.AtomKind.TheVariants.{Large, Read, Unread, Local}
+use Rattle.bohm_log.specs.declared.row.Action.{Action}
+use Rattle.bohm_log.specs.declared.row.Action.TheVariants as actions
+use Rattle.bohm_log.specs.declared.row.StmtRow.{StmtRow}
+use Rattle.bohm_log.specs.Parts.{IsApart, OtherIn, Parts, Begins}
+use Rattle.bohm_log.specs.Drafting.{NamesGrow, with_row, AddsRow, IsNameless, IsTesting, IsWriting, NameStands, KeyStands, Stands}
+use Rattle.bohm_log.proofs.Growth.{Begins-itself}
+use Rattle.bohm_log.proofs.Drafts.{itself}
+
+pub nameless_came : (p q : Parts) (action : Action) (s a b t : ℕ) → IsNameless action → q ≡ with_row p (record { action = action; declared = false; name = 0; start = s; first = a; second = b; third = t }) → AddsRow p q action [] s a b t
+nameless_came p q action s a b t h made = record {
+  mid = p;
+  grows = itself p;
+  declared = false;
+  place = 0;
+  names = stands action h;
+  made = made;
+}
+  where
+    stands : (x : Action) → IsNameless x → NameStands p x false 0 []
+    stands actions.Bind n = absurd n
+    stands (actions.Need c) n = record { within = tt; same = refl }
+    stands actions.Has n = absurd n
+    stands actions.Lacks n = absurd n
+    stands actions.Put n = absurd n
+    stands (actions.PutWhen c) n = absurd n
+    stands actions.Remove n = absurd n
+    stands actions.Show n = record { within = tt; same = refl }
+    stands actions.Fail n = record { within = tt; same = refl }
+
+-- ---- names and literals that come
+
+pub large_grows : (p : Parts) (xs : List ℕ) → Begins p.large xs → NamesGrow p (record { reads = p.reads; writes = p.writes; others = p.others; large = xs; terms = p.terms; rows = p.rows })
+large_grows p xs b = record {
+  grows = record { reads = refl; writes = refl; others = Begins-itself p.others; large = b; terms = Begins-itself p.terms; rows = Begins-itself p.rows };
+  terms = refl;
+  rows = refl;
+}
+
+pub large_stands : (p : Parts) (i n : ℕ) (minus : Bool) → slice_get p.large i ≡ Some n → Stands p (record { kind = Large; minus = minus; place = i }) minus (atoms.Lit n)
+large_stands p i n minus e = record {
+  within = slice_get_within p.large i n e;
+  same = rw (get_or_from_slice_get p.large i n 0 e) refl;
+}
+
+pub others_grow : (p : Parts) (xs : List (List ℕ)) → Begins p.others xs → NamesGrow p (record { reads = p.reads; writes = p.writes; others = xs; large = p.large; terms = p.terms; rows = p.rows })
+others_grow p xs b = record {
+  grows = record { reads = refl; writes = refl; others = b; large = Begins-itself p.large; terms = Begins-itself p.terms; rows = Begins-itself p.rows };
+  terms = refl;
+  rows = refl;
+}
+
+pub tested : (p : Parts) (action : Action) (declared : Bool) (i : ℕ) (k : List ℕ) → IsTesting action → KeyStands p.reads p.others declared i k → NameStands p action declared i k
+tested p actions.Bind b i k n h = absurd n
+tested p (actions.Need c) b i k n h = absurd n
+tested p actions.Has b i k n h = record { within = h.within; same = h.same }
+tested p actions.Lacks b i k n h = record { within = h.within; same = h.same }
+tested p actions.Put b i k n h = absurd n
+tested p (actions.PutWhen c) b i k n h = absurd n
+tested p actions.Remove b i k n h = absurd n
+tested p actions.Show b i k n h = absurd n
+tested p actions.Fail b i k n h = absurd n
+
+pub written : (p : Parts) (action : Action) (declared : Bool) (i : ℕ) (k : List ℕ) → IsWriting action → KeyStands p.writes p.others declared i k → NameStands p action declared i k
+written p actions.Bind b i k n h = absurd n
+written p (actions.Need c) b i k n h = absurd n
+written p actions.Has b i k n h = absurd n
+written p actions.Lacks b i k n h = absurd n
+written p actions.Put b i k n h = record { within = h.within; same = h.same }
+written p (actions.PutWhen c) b i k n h = record { within = h.within; same = h.same }
+written p actions.Remove b i k n h = record { within = h.within; same = h.same }
+written p actions.Show b i k n h = absurd n
+written p actions.Fail b i k n h = absurd n
+
+pub bound_stands : (p : Parts) (i : ℕ) (k : List ℕ) → slice_get p.others i ≡ Some k → NameStands p actions.Bind false i k
+bound_stands p i k e = record { within = slice_get_within p.others i k e; same = get_or_from_slice_get p.others i k [] e }
+
+abbrev pub with_others : Parts → List (List ℕ) → Parts
+with_others p others = record { reads = p.reads; writes = p.writes; others = others; large = p.large; terms = p.terms; rows = p.rows }
+
+-- names came, and no row
+pub row_unseen : (p : Parts) (others : List (List ℕ)) (rows : List StmtRow) → Begins p.others others → rows ≡ p.rows → NamesGrow p (record { reads = p.reads; writes = p.writes; others = others; large = p.large; terms = p.terms; rows = rows })
+row_unseen p others rows b e = record {
+  grows = record { reads = refl; writes = refl; others = b; large = Begins-itself p.large; terms = Begins-itself p.terms; rows = ([], e ∙ sym (append-nil p.rows)) };
+  terms = refl;
+  rows = e;
+}
+
+-- a row and the names that it needs came
+pub named_came : (p : Parts) (others : List (List ℕ)) (rows : List StmtRow) (action : Action) (name : List ℕ) (declared : Bool) (place s a b t : ℕ) → Begins p.others others
+    → NameStands (with_others p others) action declared place name
+    → rows ≡ p.rows ++ record { action = action; declared = declared; name = place; start = s; first = a; second = b; third = t } ∷ []
+    → AddsRow p (record { reads = p.reads; writes = p.writes; others = others; large = p.large; terms = p.terms; rows = rows }) action name s a b t
+named_came p others rows action name declared place s a b t grow stands made = record {
+  mid = with_others p others;
+  grows = others_grow p others grow;
+  declared = declared;
+  place = place;
+  names = stands;
+  made = λ i. record { reads = p.reads; writes = p.writes; others = others; large = p.large; terms = p.terms; rows = made i };
+}
+
+-- ---- names at their places
+
+pub key_declared : (keys others : List (List ℕ)) (i : ℕ) (k : List ℕ) → slice_get keys i ≡ Some k → KeyStands keys others true i k
+key_declared keys others i k e = record { within = slice_get_within keys i k e; same = get_or_from_slice_get keys i k [] e }
+
+other_in : (keys others : List (List ℕ)) (i : ℕ) (k : List ℕ) → slice_get others i ≡ Some k → IsApart keys k → OtherIn keys others i
+other_in keys others i k e apart = record {
+  within = slice_get_within others i k e;
+  apart = subst (IsApart keys) (sym (get_or_from_slice_get others i k [] e)) apart;
+}
+
+pub key_other : (keys others : List (List ℕ)) (i : ℕ) (k : List ℕ) → slice_get others i ≡ Some k → IsApart keys k → KeyStands keys others false i k
+key_other keys others i k e apart = record { within = other_in keys others i k e apart; same = get_or_from_slice_get others i k [] e }
+
+pub read_stands : (p : Parts) (i : ℕ) (k : List ℕ) (minus : Bool) → slice_get p.reads i ≡ Some k → Stands p (record { kind = Read; minus = minus; place = i }) minus (atoms.Read k)
+read_stands p i k minus e = record {
+  within = slice_get_within p.reads i k e;
+  same = rw (get_or_from_slice_get p.reads i k [] e) refl;
+}
+
+pub unread_stands : (p : Parts) (i : ℕ) (k : List ℕ) (minus : Bool) → slice_get p.others i ≡ Some k → IsApart p.reads k → Stands p (record { kind = Unread; minus = minus; place = i }) minus (atoms.Read k)
+unread_stands p i k minus e apart = record {
+  within = other_in p.reads p.others i k e apart;
+  same = rw (get_or_from_slice_get p.others i k [] e) refl;
+}
+
+pub local_stands : (p : Parts) (i : ℕ) (k : List ℕ) (minus : Bool) → slice_get p.others i ≡ Some k → Stands p (record { kind = Local; minus = minus; place = i }) minus (atoms.Local k)
+local_stands p i k minus e = record {
+  within = slice_get_within p.others i k e;
+  same = rw (get_or_from_slice_get p.others i k [] e) refl;
+}

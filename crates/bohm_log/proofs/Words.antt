@@ -1,0 +1,207 @@
+-- The order of names as words.
+use Rattle.std.proofs.Common.{◌≡◌, ℕ, zero, suc, ◌+◌, ◌*◌, ◌^◌, ◌<◌, ◌≤◌, List, [], ◌∷◌, ◌++◌, length, get_or, take, drop, refl, ap, sym, ◌∙◌, subst, arith}
+use Rattle.std.specs.List.{AllByRecursion}
+use Rattle.std.specs.Int.{w64, from_be_bytes, to_be_bytes}
+use Rattle.std.specs.Ordering.{nat_cmp, ordering_then, is_eq, MatchOrdering}
+use Rattle.std.specs.declared.cmp.Ordering.{Ordering}
+use Rattle.std.specs.declared.cmp.Ordering.TheVariants.{Less, Equal, Greater}
+use Rattle.std.specs.Cmp.{nat_cmp_is, ranks}
+use Rattle.std.specs.Cmp.Lexicographic.{slice_cmp}
+use Rattle.std.specs.Str.{bytes_eq}
+use Rattle.std.proofs.lemmas.List.{take-append-drop, length-take, length-drop, drop-drop, drop-replicate}
+use Rattle.std.proofs.lemmas.Nat.{mul-add-lt}
+use Rattle.std.proofs.lemmas.Map.Text.{is_eq-slice_cmp}
+use Rattle.std.proofs.Math.Nat.{mul_comm, pow-succ'}
+use Rattle.std.proofs.Common.{true, false, cond, Option, Some, None, replicate}
+use Rattle.std.proofs.lemmas.Bool.Decides.{nat_tests}
+use Rattle.std.specs.Prelude.{MatchOption, ◌==◌}
+use Rattle.std.specs.List.{position_from}
+use Rattle.bohm_tree.specs.Name.{is_name, key_of}
+use Rattle.bohm_log.specs.NameInside.{IsWorded, name_of}
+use Rattle.bohm_log.specs.Shortness.{short}
+use Rattle.bohm_log.specs.declared.name.Name.TheInside.{Inside}
+use Rattle.bohm_log.specs.Words.{padded, before_zero, spread, words, words_of, IsFilled, IsShort}
+use Rattle.bohm_log.specs.Spreading.{AreBytes, padded-length, padded-bytes, padded-behind, bytes-drop, bytes-take, named, read_back}
+
+-- ---- order
+
+then_assoc : (a b c : Ordering) → ordering_then (ordering_then a b) c ≡ ordering_then a (ordering_then b c)
+then_assoc Less b c = refl
+then_assoc Equal b c = refl
+then_assoc Greater b c = refl
+
+cmp-append : (a b x y : List ℕ) → length a ≡ length b → slice_cmp nat_cmp (a ++ x) (b ++ y) ≡ ordering_then (slice_cmp nat_cmp a b) (slice_cmp nat_cmp x y)
+cmp-append [] [] x y e = refl
+cmp-append [] (v ∷ b) x y e = absurd (omega (arith, e))
+cmp-append (u ∷ a) [] x y e = absurd (omega (arith, e))
+cmp-append (u ∷ a) (v ∷ b) x y e =
+    ap (ordering_then (nat_cmp u v)) (cmp-append a b x y (omega (arith, e))) ∙ sym (then_assoc (nat_cmp u v) (slice_cmp nat_cmp a b) (slice_cmp nat_cmp x y))
+
+cmp-padded : (n : ℕ) (xs ys : List ℕ) → length xs ≤ n → length ys ≤ n → AllByRecursion IsFilled xs → AllByRecursion IsFilled ys → slice_cmp nat_cmp (padded n xs) (padded n ys) ≡ slice_cmp nat_cmp xs ys
+cmp-padded zero [] [] h g f k = refl
+cmp-padded zero [] (y ∷ ys) h g f k = absurd (omega (arith, g))
+cmp-padded zero (x ∷ xs) ys h g f k = absurd (omega (arith, h))
+cmp-padded (suc n) [] [] h g f k = cmp-padded n [] [] (omega arith) (omega arith) f k
+cmp-padded (suc n) [] (zero ∷ ys) h g f k = absurd (omega (arith, k.0.some))
+cmp-padded (suc n) [] (suc y ∷ ys) h g f k = ap (λ o. ordering_then o (slice_cmp nat_cmp (padded n []) (padded n ys))) (sym (nat_cmp_is 0 (suc y) Less (omega arith)))
+cmp-padded (suc n) (zero ∷ xs) [] h g f k = absurd (omega (arith, f.0.some))
+cmp-padded (suc n) (suc x ∷ xs) [] h g f k = ap (λ o. ordering_then o (slice_cmp nat_cmp (padded n xs) (padded n []))) (sym (nat_cmp_is (suc x) 0 Greater (omega arith)))
+cmp-padded (suc n) (x ∷ xs) (y ∷ ys) h g f k = ap (ordering_then (nat_cmp x y)) (cmp-padded n xs ys (omega (arith, h)) (omega (arith, g)) f.1 k.1)
+
+-- what bytes are worth, the first one most
+abbrev worth : List ℕ → ℕ
+worth [] = 0
+worth (b ∷ bs) = b * 256 ^ length bs + worth bs
+
+worth-below : (bs : List ℕ) → AreBytes bs → worth bs < 256 ^ length bs
+worth-below [] f = omega arith
+worth-below (b ∷ bs) f = subst (λ n. b * 256 ^ length bs + worth bs < n) (sym (pow-succ' 256 (length bs))) (digit-below b (worth bs) (256 ^ length bs) (f 0) (worth-below bs (λ i. f (suc i))))
+  where
+    digit-below : (b u w : ℕ) → b < 256 → u < w → b * w + u < 256 * w
+    digit-below b u w h g = subst (λ n. b * w + u < n) (mul_comm w 256) (mul-add-lt b w u 256 h g)
+
+worth-word : (bs : List ℕ) → length bs ≡ 8 → from_be_bytes w64 bs ≡ worth bs
+worth-word [] e = absurd (omega (arith, e))
+worth-word (a ∷ []) e = absurd (omega (arith, e))
+worth-word (a ∷ b ∷ []) e = absurd (omega (arith, e))
+worth-word (a ∷ b ∷ c ∷ []) e = absurd (omega (arith, e))
+worth-word (a ∷ b ∷ c ∷ d ∷ []) e = absurd (omega (arith, e))
+worth-word (a ∷ b ∷ c ∷ d ∷ x ∷ []) e = absurd (omega (arith, e))
+worth-word (a ∷ b ∷ c ∷ d ∷ x ∷ y ∷ []) e = absurd (omega (arith, e))
+worth-word (a ∷ b ∷ c ∷ d ∷ x ∷ y ∷ z ∷ []) e = absurd (omega (arith, e))
+worth-word (a ∷ b ∷ c ∷ d ∷ x ∷ y ∷ z ∷ t ∷ []) e = omega arith
+worth-word (a ∷ b ∷ c ∷ d ∷ x ∷ y ∷ z ∷ t ∷ s ∷ rest) e = absurd (omega (arith, e))
+
+lower : (x y u v w : ℕ) → x < y → u < w → x * w + u < y * w + v
+lower x y u v w h g = omega (arith, mul-add-lt x w u y h g, mul_comm w y)
+
+-- two digits each, where the low ones are below what a high one is worth
+digits : (x y u v w : ℕ) → u < w → v < w → nat_cmp (x * w + u) (y * w + v) ≡ ordering_then (nat_cmp x y) (nat_cmp u v)
+digits x y u v w a b = sym (nat_cmp_is (x * w + u) (y * w + v) (ordering_then (nat_cmp x y) (nat_cmp u v)) (by-digits (nat_cmp x y) (nat_cmp u v) (ranks x y) (ranks u v)))
+  where
+    by-digits : (o r : Ordering) → MatchOrdering o (x < y) (x ≡ y) (y < x) → MatchOrdering r (u < v) (u ≡ v) (v < u) → MatchOrdering (ordering_then o r) (x * w + u < y * w + v) (x * w + u ≡ y * w + v) (y * w + v < x * w + u)
+    by-digits Less r h k = lower x y u v w h a
+    by-digits Equal Less h k = omega (arith, ap (λ n. n * w) h, k)
+    by-digits Equal Equal h k = omega (arith, ap (λ n. n * w) h, k)
+    by-digits Equal Greater h k = omega (arith, ap (λ n. n * w) h, k)
+    by-digits Greater r h k = lower y x v u w h b
+
+worth-cmp : (xs ys : List ℕ) → length xs ≡ length ys → AreBytes xs → AreBytes ys → nat_cmp (worth xs) (worth ys) ≡ slice_cmp nat_cmp xs ys
+worth-cmp [] [] e f g = refl
+worth-cmp [] (y ∷ ys) e f g = absurd (omega (arith, e))
+worth-cmp (x ∷ xs) [] e f g = absurd (omega (arith, e))
+worth-cmp (x ∷ xs) (y ∷ ys) e f g =
+    let same : length xs ≡ length ys = omega (arith, e) in
+    let low : worth xs < 256 ^ length ys = subst (λ n. worth xs < 256 ^ n) same (worth-below xs (λ i. f (suc i))) in
+    ap (λ n. nat_cmp (x * 256 ^ n + worth xs) (y * 256 ^ length ys + worth ys)) same
+    ∙ digits x y (worth xs) (worth ys) (256 ^ length ys) low (worth-below ys (λ i. g (suc i)))
+    ∙ ap (ordering_then (nat_cmp x y)) (worth-cmp xs ys same (λ i. f (suc i)) (λ i. g (suc i)))
+
+word-cmp : (xs ys : List ℕ) → length xs ≡ 8 → length ys ≡ 8 → AreBytes xs → AreBytes ys → nat_cmp (from_be_bytes w64 xs) (from_be_bytes w64 ys) ≡ slice_cmp nat_cmp xs ys
+word-cmp xs ys h k f g =
+    ap (λ n. nat_cmp n (from_be_bytes w64 ys)) (worth-word xs h) ∙ ap (nat_cmp (worth xs)) (worth-word ys k) ∙ worth-cmp xs ys (h ∙ sym k) f g
+
+words-cmp : (n : ℕ) (xs ys : List ℕ) → length xs ≡ n * 8 → length ys ≡ n * 8 → AreBytes xs → AreBytes ys → slice_cmp nat_cmp (words n xs) (words n ys) ≡ slice_cmp nat_cmp xs ys
+words-cmp zero [] [] h k f g = refl
+words-cmp zero [] (y ∷ ys) h k f g = absurd (omega (arith, k))
+words-cmp zero (x ∷ xs) ys h k f g = absurd (omega (arith, h))
+words-cmp (suc n) xs ys h k f g =
+    let a : length (take 8 xs) ≡ 8 = omega (arith, h, length-take 8 xs) in
+    let b : length (take 8 ys) ≡ 8 = omega (arith, k, length-take 8 ys) in
+    let c : length (drop 8 xs) ≡ n * 8 = omega (arith, h, length-drop 8 xs) in
+    let d : length (drop 8 ys) ≡ n * 8 = omega (arith, k, length-drop 8 ys) in
+    ap (λ o. ordering_then o (slice_cmp nat_cmp (words n (drop 8 xs)) (words n (drop 8 ys)))) (word-cmp (take 8 xs) (take 8 ys) a b (bytes-take 8 xs f) (bytes-take 8 ys g))
+    ∙ ap (ordering_then (slice_cmp nat_cmp (take 8 xs) (take 8 ys))) (words-cmp n (drop 8 xs) (drop 8 ys) c d (bytes-drop 8 xs f) (bytes-drop 8 ys g))
+    ∙ sym (cmp-append (take 8 xs) (take 8 ys) (drop 8 xs) (drop 8 ys) (a ∙ sym b))
+    ∙ ap (λ zs. slice_cmp nat_cmp zs (take 8 ys ++ drop 8 ys)) (take-append-drop 8 xs)
+    ∙ ap (slice_cmp nat_cmp xs) (take-append-drop 8 ys)
+
+-- words are ordered as names are
+pub ordered : (xs ys : List ℕ) → IsShort xs → IsShort ys → slice_cmp nat_cmp (words_of xs) (words_of ys) ≡ slice_cmp nat_cmp xs ys
+ordered xs ys h k =
+    words-cmp 4 (padded 32 xs) (padded 32 ys) (padded-length 32 xs) (padded-length 32 ys) (padded-bytes 32 xs h.filled) (padded-bytes 32 ys k.filled)
+    ∙ cmp-padded 32 xs ys h.few k.few h.filled k.filled
+
+pub equal : (xs ys : List ℕ) → IsShort xs → IsShort ys → bytes_eq (words_of xs) (words_of ys) ≡ bytes_eq xs ys
+equal xs ys h k = sym (is_eq-slice_cmp (words_of xs) (words_of ys)) ∙ ap is_eq (ordered xs ys h k) ∙ is_eq-slice_cmp xs ys
+
+-- ---- bytes
+
+pub is_a_name : (k : Inside) → IsWorded k → is_name (name_of k) ≡ true
+is_a_name k h = subst (λ x. is_name x ≡ true) (sym (named k.words h.name (short h.name h.is) h.made)) h.is
+
+abbrev IsCut : ℕ → List ℕ → Option ℕ → Type 0
+IsCut n bs o = MatchOption o (before_zero bs ≡ bs) (λ i. (j : ℕ) × (i ≡ n + j) × (take j bs ≡ before_zero bs))
+
+not_zero : (b : ℕ) → (suc b == 0) ≡ false
+not_zero b = grind (arith, nat_tests)
+
+cut : (n : ℕ) (bs : List ℕ) → IsCut n bs (position_from (λ b. b == 0) n bs)
+cut n [] = refl
+cut n (zero ∷ bs) = (0, omega arith, refl)
+cut n (suc b ∷ bs) = subst (λ t. IsCut n (suc b ∷ bs) (cond t (Some n) (position_from (λ x. x == 0) (n + 1) bs))) (sym (not_zero b)) (
+    elim (position_from (λ x. x == 0) (n + 1) bs) as (λ o. IsCut (n + 1) bs o → IsCut n (suc b ∷ bs) o) [
+      | None ↦ λ h. ap (λ xs. suc b ∷ xs) h
+      | Some i ↦ λ h. (suc h.0, omega (arith, h.1), ap (λ xs. suc b ∷ xs) h.2)
+    ] (cut (n + 1) bs))
+
+cut_there : (bs : List ℕ) (i : ℕ) → IsCut 0 bs (Some i) → take i bs ≡ before_zero bs
+cut_there bs i h = let same : h.0 ≡ i = omega (arith, h.1) in subst (λ n. take n bs ≡ before_zero bs) same h.2
+
+pub before_first_zero : (bs : List ℕ) (i : ℕ) → Some i ≡ position_from (λ b. b == 0) 0 bs → take i bs ≡ before_zero bs
+before_first_zero bs i e = cut_there bs i (subst (IsCut 0 bs) (sym e) (cut 0 bs))
+
+pub before_no_zero : (bs : List ℕ) → None ≡ position_from (λ b. b == 0) 0 bs → bs ≡ before_zero bs
+before_no_zero bs e = sym (subst (IsCut 0 bs) (sym e) (cut 0 bs))
+
+-- ---- names in memory
+
+named_by_it : (k : Inside) (h : IsWorded k) → h.name ≡ name_of k
+named_by_it k h = sym (named k.words h.name (short h.name h.is) h.made)
+
+pub same_words : (k l : Inside) → IsWorded k → IsWorded l → bytes_eq k.words l.words ≡ bytes_eq (name_of k) (name_of l)
+same_words k l h g =
+    (λ i. bytes_eq (h.made i) (g.made i))
+    ∙ equal h.name g.name (short h.name h.is) (short g.name g.is)
+    ∙ (λ i. bytes_eq (named_by_it k h i) (named_by_it l g i))
+
+pub same_order : (k l : Inside) → IsWorded k → IsWorded l → slice_cmp nat_cmp k.words l.words ≡ slice_cmp nat_cmp (name_of k) (name_of l)
+same_order k l h g =
+    (λ i. slice_cmp nat_cmp (h.made i) (g.made i))
+    ∙ ordered h.name g.name (short h.name h.is) (short g.name g.is)
+    ∙ (λ i. slice_cmp nat_cmp (named_by_it k h i) (named_by_it l g i))
+
+pub words_again : (k : Inside) → IsWorded k → k.words ≡ words_of (name_of k)
+words_again k h = sym (read_back k.words h.name (short h.name h.is) h.made)
+
+-- ---- a new name
+
+pub filled_up : (name : List ℕ) → length name ≤ 32 → name ++ drop (length name) (replicate 32 0) ≡ padded 32 name
+filled_up name h = ap (λ zs. name ++ zs) (drop-replicate (length name) 32 0) ∙ sym (padded-behind 32 name h)
+
+abbrev word_in : List ℕ → ℕ
+word_in xs = from_be_bytes w64 (take 8 xs)
+
+pub four_words : (name bs : List ℕ) (a b c d : ℕ) → bs ≡ padded 32 name → a ≡ from_be_bytes w64 (take 8 (drop 0 bs)) → b ≡ from_be_bytes w64 (take 8 (drop 8 bs)) → c ≡ from_be_bytes w64 (take 8 (drop 16 bs)) → d ≡ from_be_bytes w64 (take 8 (drop 24 bs)) → a ∷ b ∷ c ∷ d ∷ [] ≡ words_of name
+four_words name bs a b c d t p q r s =
+    let e : drop 8 (drop 8 bs) ≡ drop 16 bs = drop-drop 8 8 bs in
+    let f : drop 8 (drop 8 (drop 8 bs)) ≡ drop 24 bs = ap (drop 8) e ∙ drop-drop 8 16 bs in
+    let third : c ≡ word_in (drop 8 (drop 8 bs)) = r ∙ ap word_in (sym e) in
+    let fourth : d ≡ word_in (drop 8 (drop 8 (drop 8 bs))) = s ∙ ap word_in (sym f) in
+    (λ i. p i ∷ q i ∷ third i ∷ fourth i ∷ []) ∙ ap (words 4) t
+
+pub new_name : (name ws : List ℕ) → true ≡ is_name name → ws ≡ words_of name → Some (name_of (record { words = ws })) ≡ key_of name
+new_name name ws e made = rw (sym e) (ap Some (named ws name (short name (sym e)) made))
+
+-- ---- the bytes of words
+
+-- each word byte by byte
+pub spread_bytes : (ws a b c d : List ℕ) → length ws ≡ 4 → a ≡ to_be_bytes w64 (get_or ws 0 0) → b ≡ to_be_bytes w64 (get_or ws 1 0) → c ≡ to_be_bytes w64 (get_or ws 2 0) → d ≡ to_be_bytes w64 (get_or ws 3 0)
+    → get_or a 0 0 ∷ get_or a 1 0 ∷ get_or a 2 0 ∷ get_or a 3 0 ∷ get_or a 4 0 ∷ get_or a 5 0 ∷ get_or a 6 0 ∷ get_or a 7 0 ∷ get_or b 0 0 ∷ get_or b 1 0 ∷ get_or b 2 0 ∷ get_or b 3 0 ∷ get_or b 4 0 ∷ get_or b 5 0 ∷ get_or b 6 0 ∷ get_or b 7 0 ∷ get_or c 0 0 ∷ get_or c 1 0 ∷ get_or c 2 0 ∷ get_or c 3 0 ∷ get_or c 4 0 ∷ get_or c 5 0 ∷ get_or c 6 0 ∷ get_or c 7 0 ∷ get_or d 0 0 ∷ get_or d 1 0 ∷ get_or d 2 0 ∷ get_or d 3 0 ∷ get_or d 4 0 ∷ get_or d 5 0 ∷ get_or d 6 0 ∷ get_or d 7 0 ∷ [] ≡ spread ws
+spread_bytes [] a b c d four p q r s = absurd (omega (arith, four))
+spread_bytes (w ∷ []) a b c d four p q r s = absurd (omega (arith, four))
+spread_bytes (w ∷ x ∷ []) a b c d four p q r s = absurd (omega (arith, four))
+spread_bytes (w ∷ x ∷ y ∷ []) a b c d four p q r s = absurd (omega (arith, four))
+spread_bytes (w ∷ x ∷ y ∷ z ∷ []) a b c d four p q r s =
+    λ i. get_or (p i) 0 0 ∷ get_or (p i) 1 0 ∷ get_or (p i) 2 0 ∷ get_or (p i) 3 0 ∷ get_or (p i) 4 0 ∷ get_or (p i) 5 0 ∷ get_or (p i) 6 0 ∷ get_or (p i) 7 0 ∷ get_or (q i) 0 0 ∷ get_or (q i) 1 0 ∷ get_or (q i) 2 0 ∷ get_or (q i) 3 0 ∷ get_or (q i) 4 0 ∷ get_or (q i) 5 0 ∷ get_or (q i) 6 0 ∷ get_or (q i) 7 0 ∷ get_or (r i) 0 0 ∷ get_or (r i) 1 0 ∷ get_or (r i) 2 0 ∷ get_or (r i) 3 0 ∷ get_or (r i) 4 0 ∷ get_or (r i) 5 0 ∷ get_or (r i) 6 0 ∷ get_or (r i) 7 0 ∷ get_or (s i) 0 0 ∷ get_or (s i) 1 0 ∷ get_or (s i) 2 0 ∷ get_or (s i) 3 0 ∷ get_or (s i) 4 0 ∷ get_or (s i) 5 0 ∷ get_or (s i) 6 0 ∷ get_or (s i) 7 0 ∷ []
+spread_bytes (w ∷ x ∷ y ∷ z ∷ v ∷ ws) a b c d four p q r s = absurd (omega (arith, four))

@@ -1,0 +1,11 @@
+pub mod Words
+pub mod Spreading
+pub mod Shortness
+pub mod NameInside
+pub mod Interning
+pub mod Parts
+pub mod Drafting
+pub mod Columns
+pub mod Partial
+pub mod Numbering
+pub mod Seeing

@@ -1,0 +1,21 @@
+-- The name that four words are.
+use Rattle.std.specs.Prelude.{◌≡◌, ℕ, List, true}
+use Rattle.bohm_tree.specs.Name.{is_name}
+use Rattle.bohm_log.specs.declared.name.Name.TheInside.{Inside}
+use Rattle.bohm_log.specs.Words.{before_zero, spread, words_of}
+use Rattle.bohm_log.specs.Shortness.{short}
+use Rattle.bohm_log.specs.Spreading.{read_back}
+
+abbrev pub name_of : Inside → List ℕ
+name_of k = before_zero (spread k.words)
+
+pub record IsWorded (k : Inside) : Type 0 where
+  pub name : List ℕ
+  pub is : is_name name ≡ true
+  pub made : k.words ≡ words_of name
+
+abbrev pub worded : List ℕ → Inside
+worded name = record { words = words_of name }
+
+pub worded_ok : (k : Inside) → IsWorded k → worded (name_of k) ≡ k
+worded_ok k h = λ i. record { words = read_back k.words h.name (short h.name h.is) h.made i }

@@ -1,0 +1,16 @@
+-- A part of a log, as slices of the columns.
+use Rattle.std.specs.Prelude.{List}
+use Rattle.std.specs.List.{IsDistinct}
+use Rattle.std.specs.Str.{bytes_eq}
+use Rattle.bohm_log.specs.declared.columns.Head.{Head}
+use Rattle.bohm_log.specs.declared.table.Table.{Table}
+use Rattle.bohm_log.specs.Columns.{Shared, IsLogged}
+
+-- the columns that the slices are
+abbrev pub shared_seen : Table → Shared
+shared_seen t = record { names = t.names.now; ids = t.ids.now; others = t.others.now; large = t.large.now; terms = t.terms.now; rows = t.rows.now }
+
+pub record IsPart (t : Table) (heads : List Head) : Type 0 where
+  pub logged : IsLogged (shared_seen t) heads
+  -- each key has one number
+  pub apart : IsDistinct bytes_eq t.names.now

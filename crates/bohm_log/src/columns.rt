@@ -1,0 +1,169 @@
+//! The columns that all transactions share.
+
+ghost use Rattle.std.specs.Prelude.{◌≡◌, ◌++◌, [], ◌∷◌, IfOk, OnOk, OnErr, length, take};
+ghost use Rattle.std.specs.List.{IsDistinct};
+ghost use Rattle.std.specs.Str.{bytes_eq};
+ghost use Rattle.bohm_log.specs.Parts.{Begins};
+ghost use Rattle.bohm_log.specs.Drafting.{parts_of};
+ghost use Rattle.bohm_log.specs.Columns.{shared_of, Interns, NumbersCome, Lands, SetsCome, Appends, nothing_shared};
+ghost use Rattle.bohm_log.specs.Partial.{shared_seen};
+
+use crate::fault::LogFault;
+use crate::name::Name;
+use crate::names::Names;
+use crate::row::{StmtRow, TermRow};
+use crate::sheet::Sheet;
+use crate::table::Table;
+use bohm_tree::Edition;
+use std::alloc::Global;
+use std::hash::BuildHasher;
+
+/// Where a transaction's parts lie in the columns. Its reads end where its writes begin.
+#[derive(Clone, Copy)]
+pub struct Head {
+    pub edition: Edition,
+    pub ids: u32,
+    pub reads: u32,
+    pub writes: u32,
+    pub others: u32,
+    pub others_end: u32,
+    pub large: u32,
+    pub large_end: u32,
+    pub terms: u32,
+    pub terms_end: u32,
+    pub rows: u32,
+    pub rows_end: u32,
+}
+
+#[derive(Drop)]
+pub struct Columns<S: BuildHasher> {
+    pub names: Names<S>,
+    pub ids: Vec<u32>,
+    pub others: Vec<Name>,
+    pub large: Vec<u64>,
+    pub terms: Vec<TermRow>,
+    pub rows: Vec<StmtRow>,
+}
+
+/// The offset behind this many entries. A column with more than 2^32 - 1 is `Full`.
+fn offset(length: usize) -> Result<u32, LogFault>
+    ensures { IfOk result (λ n. n ≡ length) }
+{
+    if length <= u32::MAX as usize {
+        Ok(length as u32)
+    } else {
+        Err(LogFault::Full)
+    }
+}
+
+/// Adds a list at a column's end, between the offsets that it returns.
+#[tactic(auto, using(crate::proofs::Widening::landed))]
+fn add_all<T: Copy>(column: &mut Vec<T>, part: &[T]) -> Result<(u32, u32), LogFault>
+    ensures begins { Begins column.old.items column.new.items }
+    ensures ok { IfOk result (λ r. Lands column.new.items part.now r.0 r.1) }
+{
+    let from = offset(column.len())?;
+    column.extend_from_slice(part)?;
+    let to = offset(column.len())?;
+    Ok((from, to))
+}
+
+impl<S: BuildHasher> Columns<S> {
+    pub fn new(alloc: Global, hasher: S) -> Columns<S>
+        ensures { shared_of result ≡ nothing_shared }
+    {
+        Columns {
+            names: Names::new(alloc, hasher),
+            ids: Vec::new(alloc),
+            others: Vec::new(alloc),
+            large: Vec::new(alloc),
+            terms: Vec::new(alloc),
+            rows: Vec::new(alloc),
+        }
+    }
+}
+
+impl<S: BuildHasher> Columns<S> {
+    pub fn table(&self) -> Table<'_>
+        ensures same { shared_seen result ≡ shared_of self.now }
+        ensures apart { IsDistinct bytes_eq self.now.names }
+    {
+        Table {
+            names: self.names.as_slice(),
+            ids: self.ids.as_slice(),
+            others: self.others.as_slice(),
+            large: self.large.as_slice(),
+            terms: self.terms.as_slice(),
+            rows: self.rows.as_slice(),
+        }
+    }
+}
+
+impl<S: BuildHasher + Drop> Columns<S> {
+    /// Adds the number of a name.
+    fn add_name(&mut self, name: Name) -> Result<(), LogFault>
+        ensures ok { OnOk result (NumbersCome (shared_of self.old) (shared_of self.new) (name ∷ [])) }
+        ensures err { OnErr result (Interns (shared_of self.old) (shared_of self.new)) }
+    {
+        let id = self.names.id(name)?;
+        self.ids.push(id)?;
+        Ok(())
+    }
+
+    /// Adds the numbers of these names.
+    fn add_names(&mut self, names: &[Name]) -> Result<(), LogFault>
+        ensures ok { OnOk result (NumbersCome (shared_of self.old) (shared_of self.new) names.now) }
+        ensures err { OnErr result (Interns (shared_of self.old) (shared_of self.new)) }
+    {
+        for name in names {
+            self.add_name(*name)?;
+        }
+        Ok(())
+    }
+
+    /// Adds the numbers of the reads and then of the writes. The three offsets are where the reads
+    /// begin, where the writes begin and where they end.
+    #[tactic(auto, using(crate::proofs::Widening::interns_itself, crate::proofs::Widening::interns_both, crate::proofs::Widening::sets_come))]
+    fn add_sets(&mut self, reads: &[Name], writes: &[Name]) -> Result<(u32, u32, u32), LogFault>
+        ensures ok { IfOk result
+            (λ r. SetsCome (shared_of self.old) (shared_of self.new) r.0 r.1 r.2 reads.now writes.now) }
+        ensures err { OnErr result (Interns (shared_of self.old) (shared_of self.new)) }
+    {
+        let start = offset(self.ids.len())?;
+        self.add_names(reads)?;
+        let middle = offset(self.ids.len())?;
+        self.add_names(writes)?;
+        let end = offset(self.ids.len())?;
+        Ok((start, middle, end))
+    }
+
+    /// Adds a transaction's parts.
+    #[tactic(auto, using(crate::proofs::Widening::interns_wider, crate::proofs::Widening::appended))]
+    pub fn append(&mut self, edition: Edition, sheet: &Sheet<S>) -> Result<Head, LogFault>
+        ensures apart { IsDistinct bytes_eq (parts_of sheet.now).others }
+        ensures ok { IfOk result
+            (λ h. Appends (shared_of self.old) (shared_of self.new) h edition (parts_of sheet.now)) }
+        ensures err { OnErr result (Interns (shared_of self.old) (shared_of self.new)) }
+    {
+        let others_part = sheet.others.as_slice();
+        let (ids, reads, writes) = self.add_sets(sheet.reads.as_slice(), sheet.writes.as_slice())?;
+        let (others, others_end) = add_all(&mut self.others, others_part)?;
+        let (large, large_end) = add_all(&mut self.large, sheet.large.as_slice())?;
+        let (terms, terms_end) = add_all(&mut self.terms, sheet.terms.as_slice())?;
+        let (rows, rows_end) = add_all(&mut self.rows, sheet.rows.as_slice())?;
+        Ok(Head {
+            edition,
+            ids,
+            reads,
+            writes,
+            others,
+            others_end,
+            large,
+            large_end,
+            terms,
+            terms_end,
+            rows,
+            rows_end,
+        })
+    }
+}

@@ -1,0 +1,265 @@
+//! The transaction that is being read.
+
+ghost use Rattle.std.specs.Prelude.{◌≡◌, ◌<◌, ◌≤◌, [], ◌∷◌, OnOk, OnErr, length, Some, None};
+ghost use Rattle.bohm_tree.specs.declared.term.Atom.TheVariants.{Lit, Read, Local};
+ghost use Rattle.bohm_tree.specs.declared.stmt.Stmt.TheVariants as stmts;
+ghost use Rattle.bohm_log.specs.Drafting.{fresh, with_read, with_write, with_term, with_sum, with_stmt, put_of, need_of, parts_of, IsBare, IsBetween};
+ghost use Rattle.bohm_log.specs.Parts.{txn_of, IsWithin};
+
+use crate::fault::LogFault;
+use crate::name::Name;
+use crate::row::{Action, Pending, Step};
+use crate::sheet::Sheet;
+use bohm_tree::{Cmp, Edition};
+use std::alloc::Global;
+use std::hash::{BuildHasher, BuildHasherDefault, FoldHasher};
+use std::marker::Model;
+
+/// A transaction so far. Its room is used again for the next one. The declared keys are read before
+/// the body, and the sums of a statement term by term before the statement itself, in the order in
+/// which they stand in it. After an `Err` it shows what it showed before; names that came stay in
+/// its room.
+#[derive(Drop)]
+pub struct Draft<S: BuildHasher = BuildHasherDefault<FoldHasher>> {
+    edition: Edition,
+    sheet: Sheet<S>,
+    pending: Pending,
+}
+
+impl<S: BuildHasher> Model for Draft<S> {
+    ghost use Rattle.bohm_log.specs.Drafting.{Drafted, drafted_of, parts_of, IsDrafted};
+
+    ghost Value = { Drafted };
+
+    ghost view = { λ d. drafted_of d.edition (parts_of d.sheet) d.pending };
+
+    ghost invariant = { λ d. IsDrafted (parts_of d.sheet) d.pending };
+}
+
+impl<S: BuildHasher> Draft<S> {
+    /// An empty transaction. It takes no memory.
+    pub fn new(alloc: Global, hasher: S, edition: Edition) -> Draft<S>
+        ensures { result ≡ fresh edition }
+    {
+        Draft {
+            edition,
+            sheet: Sheet::new(alloc, hasher),
+            pending: Pending::at(0),
+        }
+    }
+
+    /// Begins another transaction.
+    pub fn begin(&mut self, edition: Edition)
+        ensures { self.new ≡ fresh edition }
+    {
+        self.edition = edition;
+        self.sheet.clear();
+        self.pending = Pending::at(0);
+    }
+
+    /// Declares one more key to be read.
+    pub fn read(&mut self, key: Name) -> Result<(), LogFault>
+        requires { IsBare self.old }
+        ensures ok { OnOk result (self.new ≡ with_read self.old key) }
+        ensures err { OnErr result (self.new ≡ self.old) }
+    {
+        self.sheet.add_read(key)?;
+        Ok(())
+    }
+
+    /// Declares one more key to be written.
+    pub fn write(&mut self, key: Name) -> Result<(), LogFault>
+        requires { IsBare self.old }
+        ensures ok { OnOk result (self.new ≡ with_write self.old key) }
+        ensures err { OnErr result (self.new ≡ self.old) }
+    {
+        self.sheet.add_write(key)?;
+        Ok(())
+    }
+
+    /// Ends a sum of a statement that has another.
+    pub fn next_sum(&mut self)
+        requires { length self.old.done < 2 }
+        ensures { self.new ≡ with_sum self.old }
+    {
+        let end = self.sheet.terms.len() as u32;
+        match self.pending.step {
+            Step::Whole => {
+                self.pending.first = end;
+                self.pending.second = end;
+                self.pending.step = Step::Left;
+            }
+            Step::Left => {
+                self.pending.second = end;
+                self.pending.step = Step::Right;
+            }
+            Step::Right => {}
+        }
+    }
+
+    /// Its edition and its columns.
+    pub(crate) fn parts(&self) -> (Edition, &Sheet<S>)
+        ensures same { txn_of result.0 (parts_of result.1.now) ≡ self.now.txn }
+        ensures within { IsWithin (parts_of result.1.now) }
+    {
+        (self.edition, &self.sheet)
+    }
+}
+
+/// Terms of the sum that is read.
+impl<S: BuildHasher + Drop> Draft<S> {
+    /// Adds a literal.
+    pub fn literal(&mut self, minus: bool, number: u64) -> Result<(), LogFault>
+        ensures ok { OnOk result (self.new ≡ with_term self.old minus (Lit number)) }
+        ensures err { OnErr result (self.new ≡ self.old) }
+    {
+        if self.sheet.terms.len() >= u32::MAX as usize {
+            return Err(LogFault::Full);
+        }
+        self.sheet.add_literal(minus, number)?;
+        Ok(())
+    }
+
+    /// Adds a key that is read.
+    pub fn key(&mut self, minus: bool, name: Name) -> Result<(), LogFault>
+        ensures ok { OnOk result (self.new ≡ with_term self.old minus (Read name)) }
+        ensures err { OnErr result (self.new ≡ self.old) }
+    {
+        if self.sheet.terms.len() >= u32::MAX as usize {
+            return Err(LogFault::Full);
+        }
+        self.sheet.add_key(minus, name)?;
+        Ok(())
+    }
+
+    /// Adds a local.
+    pub fn local(&mut self, minus: bool, name: Name) -> Result<(), LogFault>
+        ensures ok { OnOk result (self.new ≡ with_term self.old minus (Local name)) }
+        ensures err { OnErr result (self.new ≡ self.old) }
+    {
+        if self.sheet.terms.len() >= u32::MAX as usize {
+            return Err(LogFault::Full);
+        }
+        self.sheet.add_local(minus, name)?;
+        Ok(())
+    }
+}
+
+/// Statements, each behind its sums.
+impl<S: BuildHasher + Drop> Draft<S> {
+    /// `let $name = SUM`
+    pub fn bind(&mut self, name: Name) -> Result<(), LogFault>
+        requires { self.old.done ≡ [] }
+        ensures ok { OnOk result (self.new ≡ with_stmt self.old (stmts.Bind name self.old.latest)) }
+        ensures err { OnErr result (self.new ≡ self.old) }
+    {
+        let end = self.sheet.terms.len() as u32;
+        self.sheet.add_bind(name, self.pending.start, end)?;
+        self.pending = Pending::at(end);
+        Ok(())
+    }
+
+    /// `need SUM CMP SUM`
+    pub fn need(&mut self, cmp: Cmp) -> Result<(), LogFault>
+        requires { length self.old.done ≡ 1 }
+        ensures ok { OnOk result (self.new ≡ with_stmt self.old (need_of self.old cmp)) }
+        ensures err { OnErr result (self.new ≡ self.old) }
+    {
+        let end = self.sheet.terms.len() as u32;
+        let ends = (self.pending.first, end, end);
+        self.sheet
+            .add_nameless(Action::Need(cmp), self.pending.start, ends)?;
+        self.pending = Pending::at(end);
+        Ok(())
+    }
+
+    /// `need has KEY`
+    pub fn has(&mut self, key: Name) -> Result<(), LogFault>
+        requires { IsBetween self.old }
+        ensures ok { OnOk result (self.new ≡ with_stmt self.old (stmts.Has key)) }
+        ensures err { OnErr result (self.new ≡ self.old) }
+    {
+        let end = self.sheet.terms.len() as u32;
+        self.sheet.add_test(Action::Has, key, end)?;
+        self.pending = Pending::at(end);
+        Ok(())
+    }
+
+    /// `need no KEY`
+    pub fn lacks(&mut self, key: Name) -> Result<(), LogFault>
+        requires { IsBetween self.old }
+        ensures ok { OnOk result (self.new ≡ with_stmt self.old (stmts.Lacks key)) }
+        ensures err { OnErr result (self.new ≡ self.old) }
+    {
+        let end = self.sheet.terms.len() as u32;
+        self.sheet.add_test(Action::Lacks, key, end)?;
+        self.pending = Pending::at(end);
+        Ok(())
+    }
+
+    /// `set KEY = SUM`
+    pub fn put(&mut self, key: Name) -> Result<(), LogFault>
+        requires { self.old.done ≡ [] }
+        ensures ok { OnOk result (self.new ≡ with_stmt self.old (put_of self.old key None)) }
+        ensures err { OnErr result (self.new ≡ self.old) }
+    {
+        let end = self.sheet.terms.len() as u32;
+        self.sheet
+            .add_write_row(Action::Put, key, self.pending.start, (end, end, end))?;
+        self.pending = Pending::at(end);
+        Ok(())
+    }
+
+    /// `set KEY = SUM when SUM CMP SUM`
+    pub fn put_when(&mut self, key: Name, cmp: Cmp) -> Result<(), LogFault>
+        requires { length self.old.done ≡ 2 }
+        ensures ok { OnOk result (self.new ≡ with_stmt self.old (put_of self.old key (Some cmp))) }
+        ensures err { OnErr result (self.new ≡ self.old) }
+    {
+        let end = self.sheet.terms.len() as u32;
+        let ends = (self.pending.first, self.pending.second, end);
+        self.sheet
+            .add_write_row(Action::PutWhen(cmp), key, self.pending.start, ends)?;
+        self.pending = Pending::at(end);
+        Ok(())
+    }
+
+    /// `drop KEY`
+    pub fn remove(&mut self, key: Name) -> Result<(), LogFault>
+        requires { IsBetween self.old }
+        ensures ok { OnOk result (self.new ≡ with_stmt self.old (stmts.Remove key)) }
+        ensures err { OnErr result (self.new ≡ self.old) }
+    {
+        let end = self.sheet.terms.len() as u32;
+        self.sheet
+            .add_write_row(Action::Remove, key, self.pending.start, (end, end, end))?;
+        self.pending = Pending::at(end);
+        Ok(())
+    }
+
+    /// `show SUM`
+    pub fn show(&mut self) -> Result<(), LogFault>
+        requires { self.old.done ≡ [] }
+        ensures ok { OnOk result (self.new ≡ with_stmt self.old (stmts.Show self.old.latest)) }
+        ensures err { OnErr result (self.new ≡ self.old) }
+    {
+        let end = self.sheet.terms.len() as u32;
+        self.sheet
+            .add_nameless(Action::Show, self.pending.start, (end, end, end))?;
+        self.pending = Pending::at(end);
+        Ok(())
+    }
+
+    /// `fail`
+    pub fn fail(&mut self) -> Result<(), LogFault>
+        requires { IsBetween self.old }
+        ensures ok { OnOk result (self.new ≡ with_stmt self.old stmts.Fail) }
+        ensures err { OnErr result (self.new ≡ self.old) }
+    {
+        let end = self.sheet.terms.len() as u32;
+        self.sheet
+            .add_nameless(Action::Fail, self.pending.start, (end, end, end))?;
+        self.pending = Pending::at(end);
+        Ok(())
+    }
+}

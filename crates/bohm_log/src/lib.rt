@@ -1,0 +1,36 @@
+//! A log whose transactions share a few columns: names with numbers, terms and statements of a
+//! fixed size, and views that show each transaction as the one of the tree.
+#![tactic(auto)]
+
+mod columns;
+mod draft;
+mod fault;
+mod keys;
+mod log;
+mod name;
+mod names;
+mod part;
+mod placed;
+mod row;
+mod seen;
+mod sheet;
+mod stmt;
+mod sum;
+mod table;
+mod view;
+
+pub use draft::Draft;
+pub use fault::LogFault;
+pub use keys::DeclaredKeys;
+pub use log::Log;
+pub use name::{Name, NameText};
+pub use names::Names;
+pub use part::LogPart;
+pub use placed::PlacedTxn;
+pub use row::{Action, AtomKind, StmtRow, TermRow};
+pub use stmt::{CondView, StmtParts, StmtView};
+pub use sum::{AtomParts, SumView, TermParts};
+pub use view::TxnView;
+
+#[cfg(test)]
+mod tests;

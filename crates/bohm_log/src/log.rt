@@ -1,0 +1,75 @@
+//! A log of transactions in columns.
+
+ghost use Rattle.std.specs.Prelude.{◌≡◌, ◌++◌, [], ◌∷◌, OnOk, OnErr, length};
+
+use crate::columns::{Columns, Head};
+use crate::draft::Draft;
+use crate::fault::LogFault;
+use crate::part::LogPart;
+use std::alloc::Global;
+use std::hash::{BuildHasher, BuildHasherDefault, FoldHasher};
+use std::marker::Model;
+
+/// Transactions in order, which contracts see as a list of them.
+#[derive(Drop)]
+pub struct Log<S: BuildHasher = BuildHasherDefault<FoldHasher>> {
+    heads: Vec<Head>,
+    columns: Columns<S>,
+}
+
+impl<S: BuildHasher> Model for Log<S> {
+    ghost use Rattle.std.specs.Prelude.{List, map};
+    ghost use Rattle.bohm_tree.specs.declared.txn.Txn.{Txn};
+
+    ghost Value = { List Txn };
+
+    ghost use Rattle.bohm_log.specs.Columns.{shared_of, txn_at, IsLogged};
+
+    ghost view = { λ l. map (txn_at (shared_of l.columns)) l.heads.items };
+
+    ghost invariant = { λ l. IsLogged (shared_of l.columns) l.heads.items };
+}
+
+impl<S: BuildHasher> Log<S> {
+    /// No transactions. It takes no memory.
+    pub fn new(alloc: Global, hasher: S) -> Log<S>
+        ensures { result ≡ [] }
+    {
+        Log {
+            heads: Vec::new(alloc),
+            columns: Columns::new(alloc, hasher),
+        }
+    }
+
+    /// Adds the transaction that was read. An `Err` leaves the transactions as they were; names and
+    /// whatever else of this one came stay in the columns. The time grows with what the transaction
+    /// holds, and not with the log, but where a column grows.
+    pub fn close(&mut self, draft: &Draft<S>) -> Result<(), LogFault>
+    where
+        S: Drop,
+        ensures ok { OnOk result (self.new ≡ self.old ++ draft.now.txn ∷ []) }
+        ensures err { OnErr result (self.new ≡ self.old) }
+    {
+        let (edition, sheet) = draft.parts();
+        let head = self.columns.append(edition, sheet)?;
+        self.heads.push(head)?;
+        Ok(())
+    }
+
+    /// How many transactions there are.
+    pub fn len(&self) -> usize
+        ensures { result ≡ length self.now }
+    {
+        self.heads.len()
+    }
+
+    /// All of it.
+    pub fn part(&self) -> LogPart<'_>
+        ensures { result ≡ self.now }
+    {
+        LogPart {
+            table: self.columns.table(),
+            heads: self.heads.as_slice(),
+        }
+    }
+}

@@ -1,0 +1,254 @@
+//! Names of keys and locals.
+
+ghost use Rattle.std.specs.Prelude.{◌≡◌, ◌<◌, ◌≤◌, ◌+◌, List, ℕ, Some, IfSome, IsTrue, true, length, nat_eq, take, drop, ◌==◌};
+ghost use Rattle.std.specs.Ordering.{nat_cmp};
+ghost use Rattle.std.specs.Cmp.{partial_equiv_from_equiv};
+ghost use Rattle.std.specs.Cmp.Lexicographic.{pointwise, slice_cmp, nat_list_eq_equiv, nat_list_cmp_total, texts_ties, texts_po};
+ghost use Rattle.std.proofs.Common.{refl};
+ghost use Rattle.std.specs.Int.{w64, from_be_bytes, to_be_bytes};
+ghost use Rattle.std.specs.List.{list_all, slice_index_or, position_from};
+ghost use Rattle.std.specs.Str.{bytes_eq};
+ghost use Rattle.bohm_tree.specs.Name.{key_of, is_name, is_name_byte, place};
+ghost use Rattle.bohm_log.specs.Words.{padded, words_of, spread};
+
+use std::cmp::Ordering;
+use std::hash::{Hash, Hasher};
+use std::marker::Model;
+
+/// A name of 1 to 32 bytes: a lower-case letter, then lower-case letters, digits and underscores.
+/// It stands in four words, its first byte worth most, with zeros behind: the order of names is that
+/// of their words.
+#[derive(Clone, Copy, Debug)]
+pub struct Name {
+    words: [u64; 4],
+}
+
+impl Model for Name {
+    ghost use Rattle.std.specs.Prelude.{ℕ, List};
+
+    ghost Value = { List ℕ };
+
+    ghost use Rattle.bohm_log.specs.NameInside.{name_of, IsWorded, worded, worded_ok};
+
+    ghost view = { name_of };
+
+    ghost invariant = { IsWorded };
+
+    ghost inverse = { worded };
+
+    ghost inverse_ok = { worded_ok };
+}
+
+fn is_name_byte(byte: u8) -> bool
+    ensures { result ≡ is_name_byte byte }
+{
+    byte.is_ascii_lowercase() || byte.is_ascii_digit() || byte == b'_'
+}
+
+fn are_name_bytes(bytes: &[u8]) -> bool
+    ensures { result ≡ list_all is_name_byte bytes.now }
+{
+    bytes.iter().all(|byte| is_name_byte(*byte))
+}
+
+fn is_name(name: &[u8]) -> bool
+    ensures { result ≡ is_name name.now }
+{
+    match name {
+        [] => false,
+        [first, others @ ..] => {
+            others.len() <= 31 && first.is_ascii_lowercase() && are_name_bytes(others)
+        }
+    }
+}
+
+/// The word of the 8 bytes from a place on.
+fn word_at(bytes: &[u8], from: usize) -> u64
+    requires { from + 8 ≤ length bytes.now }
+    ensures { result ≡ from_be_bytes w64 (take 8 (drop from bytes.now)) }
+{
+    u64::from_be_bytes([
+        bytes[from],
+        bytes[from + 1],
+        bytes[from + 2],
+        bytes[from + 3],
+        bytes[from + 4],
+        bytes[from + 5],
+        bytes[from + 6],
+        bytes[from + 7],
+    ])
+}
+
+/// The bytes of a name with zeros behind.
+#[tactic(auto, using(crate::proofs::Words::filled_up))]
+fn padded(name: &[u8]) -> [u8; 32]
+    requires { length name.now ≤ 32 }
+    ensures { result ≡ padded 32 name.now }
+{
+    let mut bytes = [0; 32];
+    bytes[..name.len()].copy_from_slice(name);
+    bytes
+}
+
+/// The words of a name.
+#[tactic(auto, using(crate::proofs::Words::four_words))]
+fn words_of(name: &[u8]) -> [u64; 4]
+    requires { length name.now ≤ 32 }
+    ensures { result ≡ words_of name.now }
+{
+    let bytes = padded(name);
+    [
+        word_at(bytes.as_slice(), 0),
+        word_at(bytes.as_slice(), 8),
+        word_at(bytes.as_slice(), 16),
+        word_at(bytes.as_slice(), 24),
+    ]
+}
+
+/// The bytes of four words.
+fn spread(words: &[u64; 4]) -> [u8; 32]
+    ensures { result ≡ spread words.now }
+{
+    let (a, b) = (words[0].to_be_bytes(), words[1].to_be_bytes());
+    let (c, d) = (words[2].to_be_bytes(), words[3].to_be_bytes());
+    [
+        a[0], a[1], a[2], a[3], a[4], a[5], a[6], a[7], b[0], b[1], b[2], b[3], b[4], b[5], b[6],
+        b[7], c[0], c[1], c[2], c[3], c[4], c[5], c[6], c[7], d[0], d[1], d[2], d[3], d[4], d[5],
+        d[6], d[7],
+    ]
+}
+
+/// The bytes of a name, in a room of their own.
+#[derive(Debug, Drop)]
+pub struct NameText {
+    bytes: [u8; 32],
+}
+
+impl Model for NameText {
+    ghost use Rattle.std.specs.Prelude.{ℕ, List};
+
+    ghost Value = { List ℕ };
+
+    ghost use Rattle.bohm_log.specs.Words.{before_zero};
+
+    ghost view = { λ t. before_zero t.bytes };
+}
+
+fn first_zero(bytes: &[u8]) -> Option<usize>
+    ensures place { result ≡ position_from (λ b. b == 0) 0 bytes.now }
+    ensures inside { IfSome result (λ i. i < length bytes.now) }
+{
+    bytes.iter().position(|byte| *byte == 0)
+}
+
+impl NameText {
+    /// The name itself.
+    #[tactic(auto, using(crate::proofs::Words::before_first_zero, crate::proofs::Words::before_no_zero))]
+    pub fn as_slice(&self) -> &[u8]
+        ensures { result.now ≡ self.now }
+    {
+        match first_zero(self.bytes.as_slice()) {
+            Some(size) => &self.bytes[..size],
+            None => self.bytes.as_slice(),
+        }
+    }
+}
+
+impl Name {
+    /// The name of these bytes, if they are one.
+    #[tactic(auto, using(crate::proofs::Words::new_name))]
+    pub fn new(name: &[u8]) -> Option<Name>
+        ensures { result ≡ key_of name.now }
+    {
+        if !is_name(name) {
+            return None;
+        }
+        Some(Name {
+            words: words_of(name),
+        })
+    }
+
+    /// Its bytes. They are those of a name.
+    #[tactic(auto, using(crate::proofs::Words::is_a_name))]
+    pub fn text(&self) -> NameText
+        ensures same { result ≡ self.now }
+        ensures name { is_name result ≡ true }
+    {
+        NameText {
+            bytes: spread(&self.words),
+        }
+    }
+
+    /// Whether it is this word.
+    #[tactic(auto, using(crate::proofs::Words::is_a_name))]
+    pub fn is(&self, word: &[u8]) -> bool
+        ensures same { result ≡ bytes_eq self.now word.now }
+        ensures name { IsTrue result → is_name word.now ≡ true }
+    {
+        let text = self.text();
+        *text.as_slice() == *word
+    }
+
+    /// Its first place among these, if it is one of them. The time grows with their number.
+    pub fn place_among(&self, names: &[Name]) -> Option<usize>
+        ensures place { result ≡ place names.now self.now }
+        ensures inside { IfSome result (λ i. i < length names.now) }
+    {
+        names.iter().position(|name| *name == *self)
+    }
+}
+
+impl PartialEq for Name {
+    ghost eq = { pointwise nat_eq };
+
+    ghost laws = { partial_equiv_from_equiv nat_list_eq_equiv };
+
+    fn eq(&self, other: &Name) -> bool {
+        self.words == other.words
+    }
+}
+
+impl Eq for Name {
+    ghost laws = { nat_list_eq_equiv };
+}
+
+impl PartialOrd for Name {
+    ghost partial_cmp = { λ x y. Some (slice_cmp nat_cmp x y) };
+
+    ghost laws = { texts_po };
+
+    fn partial_cmp(&self, other: &Name) -> Option<Ordering> {
+        Some(self.cmp(other))
+    }
+}
+
+/// By bytes, a shorter name before its extensions.
+impl Ord for Name {
+    ghost cmp = { slice_cmp nat_cmp };
+
+    ghost total = { nat_list_cmp_total };
+
+    ghost matches_partial_cmp = { λ x y. refl };
+
+    ghost matches_eq = { texts_ties };
+
+    fn cmp(&self, other: &Name) -> Ordering {
+        self.words.cmp(&other.words)
+    }
+}
+
+/// By one write of each word.
+impl Hash for Name {
+    ghost use Rattle.std.specs.Prelude.{flat_map};
+    ghost use Rattle.std.specs.Hash as fed;
+    ghost use Rattle.std.specs.Hash.{same_Alike};
+    ghost use Rattle.std.proofs.lemmas.Slice.Eq.{bytes_eq-Decides};
+
+    ghost hash_input = { λ k. flat_map fed.u64 (words_of k) };
+
+    ghost respects_eq = { (same_Alike (λ k. flat_map fed.u64 (words_of k)) bytes_eq-Decides).fed };
+
+    fn hash<H: Hasher>(&self, state: &mut H) {
+        u64::hash_slice(self.words.as_slice(), state);
+    }
+}

@@ -1,0 +1,87 @@
+//! Terms and statements of a fixed size, which name keys and sums by places.
+
+ghost use Rattle.std.specs.Prelude.{◌≡◌};
+ghost use Rattle.bohm_log.specs.Drafting.{opened};
+
+use bohm_tree::Cmp;
+
+/// What a term's place means.
+#[derive(Clone, Copy, Debug, PartialEq, Eq)]
+pub enum AtomKind {
+    /// The place is the literal itself.
+    Small,
+    /// A place among the large literals.
+    Large,
+    /// A place among the reads.
+    Read,
+    /// A place among the other names, of a key that isn't declared.
+    Unread,
+    /// A place among the other names, of a local.
+    Local,
+}
+
+/// An atom, and whether it is taken away, in 8 bytes.
+#[derive(Clone, Copy, Debug)]
+pub struct TermRow {
+    pub kind: AtomKind,
+    pub minus: bool,
+    pub place: u32,
+}
+
+/// What a statement does.
+#[derive(Clone, Copy, Debug)]
+pub enum Action {
+    Bind,
+    Need(Cmp),
+    Has,
+    Lacks,
+    Put,
+    PutWhen(Cmp),
+    Remove,
+    Show,
+    Fail,
+}
+
+/// A statement in 24 bytes. Its sums are the terms between these offsets, in turn.
+#[derive(Clone, Copy, Debug)]
+pub struct StmtRow {
+    pub action: Action,
+    /// Whether the name is a place among the declared keys, and not among the other names.
+    pub declared: bool,
+    pub name: u32,
+    pub start: u32,
+    pub first: u32,
+    pub second: u32,
+    pub third: u32,
+}
+
+/// Which sum of a statement is read: its first, or a side of its condition.
+#[derive(Clone, Copy, Debug)]
+pub enum Step {
+    Whole,
+    Left,
+    Right,
+}
+
+/// Where the sums of the statement that is being read begin and end.
+#[derive(Clone, Copy, Debug)]
+pub struct Pending {
+    pub start: u32,
+    pub first: u32,
+    pub second: u32,
+    pub step: Step,
+}
+
+impl Pending {
+    /// A statement without terms yet.
+    pub fn at(offset: u32) -> Pending
+        ensures { result ≡ opened offset }
+    {
+        Pending {
+            start: offset,
+            first: offset,
+            second: offset,
+            step: Step::Whole,
+        }
+    }
+}

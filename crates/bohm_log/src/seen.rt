@@ -1,0 +1,18 @@
+//! The slices of a transaction.
+
+use crate::name::Name;
+use crate::row::{StmtRow, TermRow};
+use bohm_tree::Edition;
+
+/// A transaction's parts of the columns. Its reads and writes are numbers of names.
+#[derive(Clone, Copy)]
+pub struct Seen<'a> {
+    pub edition: Edition,
+    pub names: &'a [Name],
+    pub reads: &'a [u32],
+    pub writes: &'a [u32],
+    pub others: &'a [Name],
+    pub large: &'a [u64],
+    pub terms: &'a [TermRow],
+    pub rows: &'a [StmtRow],
+}

@@ -1,0 +1,289 @@
+//! The columns of one transaction, while it is read.
+
+ghost use Rattle.std.specs.Prelude.{◌≡◌, ◌<◌, [], Some, IfOk, OnOk, OnErr, IfSome, IfNone, length, slice_get};
+ghost use Rattle.bohm_tree.specs.declared.term.Atom.TheVariants.{Lit, Read, Local};
+ghost use Rattle.bohm_log.specs.declared.row.Action.TheVariants.{Bind};
+ghost use Rattle.bohm_log.specs.Parts.{Begins, IsApart};
+ghost use Rattle.bohm_log.specs.Drafting.{parts_of, NamesGrow, Stands, AddsTerm, KeyStands, AddsRow, IsTesting, IsWriting, IsNameless, no_parts, with_one_read, with_one_write};
+
+use crate::fault::LogFault;
+use crate::name::Name;
+use crate::names::Names;
+use crate::row::{Action, AtomKind, StmtRow, TermRow};
+use std::alloc::Global;
+use std::hash::BuildHasher;
+
+/// How many declared keys a name is sought among. A set with more is refused whole by the check,
+/// before it asks whether a key is in it.
+const MOST_DECLARED: usize = 16;
+
+#[derive(Drop)]
+pub struct Sheet<S: BuildHasher> {
+    pub reads: Vec<Name>,
+    pub writes: Vec<Name>,
+    pub others: Names<S>,
+    pub large: Vec<u64>,
+    pub terms: Vec<TermRow>,
+    pub rows: Vec<StmtRow>,
+}
+
+/// The place of a key among a few.
+#[tactic(auto, using(crate::proofs::Seeking::found, crate::proofs::Seeking::not_found))]
+fn place_in(keys: &[Name], key: &Name) -> Option<u32>
+    ensures found { IfSome result (λ i. slice_get keys.now i ≡ Some key.now) }
+    ensures none { IfNone result (IsApart keys.now key.now) }
+{
+    if keys.len() > MOST_DECLARED {
+        return None;
+    }
+    let place = key.place_among(keys)?;
+    Some(place as u32)
+}
+
+/// The place of a key among a few, or else among the other names, and whether it is one of the few.
+#[tactic(auto, using(crate::proofs::Widening::with_name_begins))]
+fn place_key<S: BuildHasher + Drop>(
+    keys: &[Name],
+    others: &mut Names<S>,
+    key: Name,
+) -> Result<(bool, u32), LogFault>
+    ensures grows { Begins others.old others.new }
+    ensures ok { IfOk result (λ t. KeyStands keys.now others.new t.0 t.1 key) }
+{
+    match place_in(keys, &key) {
+        Some(place) => Ok((true, place)),
+        None => Ok((false, others.id(key)?)),
+    }
+}
+
+/// The place of a literal at the end.
+fn add_large(large: &mut Vec<u64>, number: u64) -> Result<u32, LogFault>
+    ensures grows { Begins large.old.items large.new.items }
+    ensures ok { IfOk result (λ i. slice_get large.new.items i ≡ Some number) }
+{
+    match u32::try_from(large.len()) {
+        Ok(place) => {
+            large.push(number)?;
+            Ok(place)
+        }
+        Err(_) => Err(LogFault::Full),
+    }
+}
+
+impl<S: BuildHasher> Sheet<S> {
+    pub fn new(alloc: Global, hasher: S) -> Sheet<S>
+        ensures { parts_of result ≡ no_parts }
+    {
+        Sheet {
+            reads: Vec::new(alloc),
+            writes: Vec::new(alloc),
+            others: Names::new(alloc, hasher),
+            large: Vec::new(alloc),
+            terms: Vec::new(alloc),
+            rows: Vec::new(alloc),
+        }
+    }
+
+    pub fn clear(&mut self)
+        ensures { parts_of self.new ≡ no_parts }
+    {
+        self.reads.clear();
+        self.writes.clear();
+        self.others.clear();
+        self.large.clear();
+        self.terms.clear();
+        self.rows.clear();
+    }
+
+    pub fn add_read(&mut self, key: Name) -> Result<(), LogFault>
+        ensures ok { OnOk result (parts_of self.new ≡ with_one_read (parts_of self.old) key) }
+        ensures err { OnErr result (parts_of self.new ≡ parts_of self.old) }
+    {
+        self.reads.push(key)?;
+        Ok(())
+    }
+
+    pub fn add_write(&mut self, key: Name) -> Result<(), LogFault>
+        ensures ok { OnOk result (parts_of self.new ≡ with_one_write (parts_of self.old) key) }
+        ensures err { OnErr result (parts_of self.new ≡ parts_of self.old) }
+    {
+        self.writes.push(key)?;
+        Ok(())
+    }
+}
+
+/// Terms.
+impl<S: BuildHasher + Drop> Sheet<S> {
+    /// The term of a literal.
+    fn literal(&mut self, minus: bool, number: u64) -> Result<TermRow, LogFault>
+        ensures grows { NamesGrow (parts_of self.old) (parts_of self.new) }
+        ensures ok { IfOk result (λ t. Stands (parts_of self.new) t minus (Lit number)) }
+    {
+        Ok(match u32::try_from(number) {
+            Ok(place) => TermRow {
+                kind: AtomKind::Small,
+                minus,
+                place,
+            },
+            Err(_) => TermRow {
+                kind: AtomKind::Large,
+                minus,
+                place: add_large(&mut self.large, number)?,
+            },
+        })
+    }
+
+    /// The term of a key that is read.
+    fn key(&mut self, minus: bool, name: Name) -> Result<TermRow, LogFault>
+        ensures grows { NamesGrow (parts_of self.old) (parts_of self.new) }
+        ensures ok { IfOk result (λ t. Stands (parts_of self.new) t minus (Read name)) }
+    {
+        Ok(match place_in(self.reads.as_slice(), &name) {
+            Some(place) => TermRow {
+                kind: AtomKind::Read,
+                minus,
+                place,
+            },
+            None => TermRow {
+                kind: AtomKind::Unread,
+                minus,
+                place: self.others.id(name)?,
+            },
+        })
+    }
+
+    /// The term of a local.
+    fn local(&mut self, minus: bool, name: Name) -> Result<TermRow, LogFault>
+        ensures grows { NamesGrow (parts_of self.old) (parts_of self.new) }
+        ensures ok { IfOk result (λ t. Stands (parts_of self.new) t minus (Local name)) }
+    {
+        Ok(TermRow {
+            kind: AtomKind::Local,
+            minus,
+            place: self.others.id(name)?,
+        })
+    }
+
+    pub fn add_literal(&mut self, minus: bool, number: u64) -> Result<(), LogFault>
+        ensures ok { OnOk result
+            (AddsTerm (parts_of self.old) (parts_of self.new) minus (Lit number)) }
+        ensures err { OnErr result (NamesGrow (parts_of self.old) (parts_of self.new)) }
+    {
+        let term = self.literal(minus, number)?;
+        self.terms.push(term)?;
+        Ok(())
+    }
+
+    pub fn add_key(&mut self, minus: bool, name: Name) -> Result<(), LogFault>
+        ensures ok { OnOk result
+            (AddsTerm (parts_of self.old) (parts_of self.new) minus (Read name)) }
+        ensures err { OnErr result (NamesGrow (parts_of self.old) (parts_of self.new)) }
+    {
+        let term = self.key(minus, name)?;
+        self.terms.push(term)?;
+        Ok(())
+    }
+
+    pub fn add_local(&mut self, minus: bool, name: Name) -> Result<(), LogFault>
+        ensures ok { OnOk result
+            (AddsTerm (parts_of self.old) (parts_of self.new) minus (Local name)) }
+        ensures err { OnErr result (NamesGrow (parts_of self.old) (parts_of self.new)) }
+    {
+        let term = self.local(minus, name)?;
+        self.terms.push(term)?;
+        Ok(())
+    }
+}
+
+/// Statements.
+impl<S: BuildHasher + Drop> Sheet<S> {
+    /// Adds a statement without a name, whose sums end at these offsets.
+    #[tactic(auto, using(crate::proofs::Standing::nameless_came))]
+    pub fn add_nameless(
+        &mut self,
+        action: Action,
+        start: u32,
+        ends: (u32, u32, u32),
+    ) -> Result<(), LogFault>
+        requires { IsNameless action }
+        ensures ok { OnOk result
+            (AddsRow (parts_of self.old) (parts_of self.new) action [] start ends.0 ends.1 ends.2) }
+        ensures err { OnErr result (NamesGrow (parts_of self.old) (parts_of self.new)) }
+    {
+        self.rows.push(StmtRow {
+            action,
+            declared: false,
+            name: 0,
+            start,
+            first: ends.0,
+            second: ends.1,
+            third: ends.2,
+        })?;
+        Ok(())
+    }
+
+    /// Adds a statement that binds a name, whose sum ends at this offset.
+    pub fn add_bind(&mut self, name: Name, start: u32, end: u32) -> Result<(), LogFault>
+        ensures ok { OnOk result
+            (AddsRow (parts_of self.old) (parts_of self.new) Bind name start end end end) }
+        ensures err { OnErr result (NamesGrow (parts_of self.old) (parts_of self.new)) }
+    {
+        let place = self.others.id(name)?;
+        self.rows.push(StmtRow {
+            action: Action::Bind,
+            declared: false,
+            name: place,
+            start,
+            first: end,
+            second: end,
+            third: end,
+        })?;
+        Ok(())
+    }
+
+    /// Adds a statement that tests a key, and has no sums.
+    pub fn add_test(&mut self, action: Action, key: Name, start: u32) -> Result<(), LogFault>
+        requires { IsTesting action }
+        ensures ok { OnOk result
+            (AddsRow (parts_of self.old) (parts_of self.new) action key start start start start) }
+        ensures err { OnErr result (NamesGrow (parts_of self.old) (parts_of self.new)) }
+    {
+        let (declared, place) = place_key(self.reads.as_slice(), &mut self.others, key)?;
+        self.rows.push(StmtRow {
+            action,
+            declared,
+            name: place,
+            start,
+            first: start,
+            second: start,
+            third: start,
+        })?;
+        Ok(())
+    }
+
+    /// Adds a statement that writes a key, whose sums end at these offsets.
+    pub fn add_write_row(
+        &mut self,
+        action: Action,
+        key: Name,
+        start: u32,
+        ends: (u32, u32, u32),
+    ) -> Result<(), LogFault>
+        requires { IsWriting action }
+        ensures ok { OnOk result
+            (AddsRow (parts_of self.old) (parts_of self.new) action key start ends.0 ends.1 ends.2) }
+        ensures err { OnErr result (NamesGrow (parts_of self.old) (parts_of self.new)) }
+    {
+        let (declared, place) = place_key(self.writes.as_slice(), &mut self.others, key)?;
+        self.rows.push(StmtRow {
+            action,
+            declared,
+            name: place,
+            start,
+            first: ends.0,
+            second: ends.1,
+            third: ends.2,
+        })?;
+        Ok(())
+    }
+}

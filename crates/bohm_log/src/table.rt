@@ -1,0 +1,42 @@
+//! The columns as slices.
+
+ghost use Rattle.std.specs.Prelude.{◌≡◌};
+ghost use Rattle.bohm_log.specs.Columns.{txn_at, HeadIn, AllNamed};
+ghost use Rattle.bohm_log.specs.Partial.{shared_seen};
+
+use crate::columns::Head;
+use crate::name::Name;
+use crate::row::{StmtRow, TermRow};
+use crate::seen::Seen;
+use crate::view::TxnView;
+
+/// The columns that all transactions of a log share.
+#[derive(Clone, Copy)]
+pub struct Table<'a> {
+    pub names: &'a [Name],
+    pub ids: &'a [u32],
+    pub others: &'a [Name],
+    pub large: &'a [u64],
+    pub terms: &'a [TermRow],
+    pub rows: &'a [StmtRow],
+}
+
+/// The transaction at a head.
+pub fn txn_by<'a>(table: Table<'a>, head: &Head) -> TxnView<'a>
+    requires within { HeadIn (shared_seen table) head.now }
+    requires named { AllNamed table.names.now table.ids.now }
+    ensures { result ≡ txn_at (shared_seen table.entry) head.now }
+{
+    TxnView {
+        seen: Seen {
+            edition: head.edition,
+            names: table.names,
+            reads: &table.ids[head.ids as usize..head.reads as usize],
+            writes: &table.ids[head.reads as usize..head.writes as usize],
+            others: &table.others[head.others as usize..head.others_end as usize],
+            large: &table.large[head.large as usize..head.large_end as usize],
+            terms: &table.terms[head.terms as usize..head.terms_end as usize],
+            rows: &table.rows[head.rows as usize..head.rows_end as usize],
+        },
+    }
+}
