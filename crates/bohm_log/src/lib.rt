@@ -31,6 +31,3 @@ pub use row::{Action, AtomKind, StmtRow, TermRow};
 pub use stmt::{CondView, StmtParts, StmtView};
 pub use sum::{AtomParts, SumView, TermParts};
 pub use view::TxnView;
-
-#[cfg(test)]
-mod tests;

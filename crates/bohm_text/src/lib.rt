@@ -12,8 +12,6 @@ mod reader;
 mod statements;
 mod sums;
 mod terms;
-#[cfg(test)]
-mod tests;
 mod words;
 
 pub use answers::{print_numbered, print_replies, print_store};

@@ -22,6 +22,3 @@ pub use memory::NoMemory;
 pub use stmt::{Cmp, Cond, Stmt};
 pub use term::{Atom, GREATEST_LITERAL, Sum, Term};
 pub use txn::{Edition, Txn};
-
-#[cfg(test)]
-mod tests;

@@ -1,6 +1,6 @@
 //! Texts that are documents', texts that are not, and what is printed.
 
-use crate::{TextFault, laws, parse, print_doc, print_replies, print_store};
+use bohm_text::{TextFault, laws, parse, print_doc, print_replies, print_store};
 use bohm_tree::{Items, Key, Value};
 use bohm_txn::{Reason, Reply};
 use std::alloc::Global;

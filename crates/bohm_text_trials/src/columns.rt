@@ -3,7 +3,7 @@
 ghost use Rattle.std.specs.Prelude.{OnOk};
 ghost use Rattle.bohm_log.specs.Drafting.{IsBetween};
 
-use crate::{
+use bohm_log::{
     DeclaredKeys, Draft, Log, LogFault, Name, Names, PlacedTxn, StmtParts, StmtView, TxnView,
 };
 use bohm_tree::{Cmp, Edition};

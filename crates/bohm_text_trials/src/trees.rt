@@ -1,4 +1,6 @@
-use crate::{
+//! Names, values, terms, statements and documents, and the text of a want of memory.
+
+use bohm_tree::{
     Atom, Boxed, Cmp, Cond, Doc, Edition, GREATEST_LITERAL, Items, Key, NoMemory, Stmt, Sum, Term,
     Txn, Value,
 };
