@@ -1,8 +1,6 @@
 -- Pieces put one behind another are the whole.
-use Rattle.std.proofs.Common.{◌≡◌, ◌∙◌, ℕ, List, ◌++◌, ap, append_assoc}
-
-one_more : (start front piece out next : List ℕ) → out ≡ start ++ front → next ≡ out ++ piece → next ≡ start ++ (front ++ piece)
-one_more start front piece out next so_far is = is ∙ (ap (λ (w : List ℕ). w ++ piece) so_far ∙ append_assoc start front piece)
+use Rattle.std.proofs.Common.{◌≡◌, ℕ, List, ◌++◌}
+use Rattle.bohm_explain.proofs.Texts.{one_more}
 
 module _ (start a b c : List ℕ) where
   pub three : (out1 out2 out3 : List ℕ) → out1 ≡ start ++ a → out2 ≡ out1 ++ b → out3 ≡ out2 ++ c → out3 ≡ start ++ (a ++ b ++ c)
