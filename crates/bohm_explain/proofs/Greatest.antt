@@ -1,5 +1,5 @@
 -- The greatest number at the other ends of the arrows that have one end at a position.
-use Rattle.std.proofs.Common.{◌≡◌, ◌≢◌, ℕ, zero, suc, ◌≤◌, ◌==◌, List, [], ◌∷◌, All, map, filter, max, ⊎_elim, refl, sym, ◌∙◌, arith}
+use Rattle.std.proofs.Common.{◌≡◌, ◌≢◌, ℕ, zero, suc, ◌≤◌, ◌==◌, List, [], ◌∷◌, map, filter, max, ⊎_elim, refl, sym, ◌∙◌, arith}
 use Rattle.std.proofs.lemmas.Bool.{cases_eq, eq-eqb, ne_eqb}
 use Rattle.std.proofs.Math.Nat.{max-le}
 use Rattle.bohm_place.specs.Chains.{greatest}
@@ -39,7 +39,3 @@ module _ (here there : Arrow → ℕ) where
   pub bounded : (number : ℕ → ℕ) (m : ℕ) (arrows : List Arrow) (p : ℕ) → ((q : ℕ) → number q ≤ m) → picked here there number arrows p ≤ m
   bounded number m [] p low = omega arith
   bounded number m (a ∷ rest) p low = no_more number m a rest p (low (there a)) (bounded number m rest p low)
-
-pub greatest_low : (m : ℕ) (numbers : List ℕ) → All (λ n. n ≤ m) numbers → greatest numbers ≤ m
-greatest_low m [] low = omega arith
-greatest_low m (n ∷ numbers) low = max-le (low zero 0 (omega arith)) (greatest_low m numbers (λ i d lt. low (suc i) d (omega arith)))
