@@ -196,26 +196,27 @@ pub record Declares (p q : Parts) : Type 0 where
   pub terms : q.terms ≡ p.terms
   pub rows : q.rows ≡ p.rows
 
-pub declared_within : (e : Edition) (p q : Parts) (o : Pending) → Declares p q → IsDrafted p o → IsBare (drafted_of e p o) → IsDrafted q o
-declared_within e p q o same h bare = record {
+pub declared_within : (e : Edition) (p q r : Parts) (o : Pending) → q ≡ r → Declares p r → IsDrafted p o → IsBare (drafted_of e p o) → IsDrafted q o
+declared_within e p q r o is same h bare = subst (λ x. IsDrafted x o) (sym is) (record {
   within = record {
-    terms = All-same (TermIn q) q.terms [] (same.terms ∙ no_terms e p o h bare) (All-nil (TermIn q));
-    rows = All-same (RowIn q) q.rows [] (same.rows ∙ no_rows e p o bare) (All-nil (RowIn q));
+    terms = All-same (TermIn r) r.terms [] (same.terms ∙ no_terms e p o h bare) (All-nil (TermIn r));
+    rows = All-same (RowIn r) r.rows [] (same.rows ∙ no_rows e p o bare) (All-nil (RowIn r));
   };
   begins = h.begins;
   rises = h.rises;
   ends = omega (arith, h.ends, ap length same.terms);
   few = omega (arith, h.few, ap length same.terms);
   bare = λ none. h.bare (omega (arith, none, ap length same.rows));
-}
+})
 
-pub declared : (e : Edition) (p q : Parts) (o : Pending) → Declares p q → IsDrafted p o → IsBare (drafted_of e p o)
-    → drafted_of e q o ≡ record { txn = record { edition = e; reads = q.reads; writes = q.writes; body = (drafted_of e p o).txn.body }; done = (drafted_of e p o).done; latest = (drafted_of e p o).latest }
-declared e p q o same h bare =
-    let body : map (stmt_of q) q.rows ≡ map (stmt_of p) p.rows = ap (map (stmt_of q)) (same.rows ∙ no_rows e p o bare) ∙ sym bare.body in
-    let done = done_none p q o.start o.first o.second o.step bare.done in
-    let latest = latest_none q (latest_from o) (same.terms ∙ no_terms e p o h bare) ∙ sym bare.latest in
-    λ i. record { txn = record { edition = e; reads = q.reads; writes = q.writes; body = body i }; done = done i; latest = latest i }
+pub declared : (e : Edition) (p q r : Parts) (o : Pending) → q ≡ r → Declares p r → IsDrafted p o → IsBare (drafted_of e p o)
+    → drafted_of e q o ≡ record { txn = record { edition = e; reads = r.reads; writes = r.writes; body = (drafted_of e p o).txn.body }; done = (drafted_of e p o).done; latest = (drafted_of e p o).latest }
+declared e p q r o is same h bare =
+    let body : map (stmt_of r) r.rows ≡ map (stmt_of p) p.rows = ap (map (stmt_of r)) (same.rows ∙ no_rows e p o bare) ∙ sym bare.body in
+    let done = done_none p r o.start o.first o.second o.step bare.done in
+    let latest = latest_none r (latest_from o) (same.terms ∙ no_terms e p o h bare) ∙ sym bare.latest in
+    ap (λ x. drafted_of e x o) is
+    ∙ (λ i. record { txn = record { edition = e; reads = r.reads; writes = r.writes; body = body i }; done = done i; latest = latest i })
 
 -- names that did not come are unseen
 pub unchanged : (e : Edition) (p q : Parts) (o : Pending) → q ≡ p → drafted_of e q o ≡ drafted_of e p o

@@ -1,7 +1,7 @@
-use Rattle.std.proofs.Common.{ap, sym, subst, ◌∙◌}
+use Rattle.std.proofs.Common.{ap, refl, sym, subst, ◌∙◌}
 use Rattle.std.proofs.lemmas.Result.{err_from_is_err_and}
 use Rattle.bohm_log.specs.Parts.{Parts}
-use Rattle.bohm_log.specs.Drafting.{Drafted, IsBare, IsDrafted, drafted_of, parts_of, with_write}
+use Rattle.bohm_log.specs.Drafting.{Drafted, IsBare, IsDrafted, parts_of, with_write, with_one_write}
 use Rattle.bohm_log.proofs.Drafts.{unchanged, declared, declared_within}
 use Rattle.bohm_log.proofs.draft.Draft.write.Goals as goal
 
@@ -14,10 +14,10 @@ returns-in_err-add_write-clause-err g c =
     rw p.1 (unchanged _ _ _ _ c.in_err-add_write.ensures.err ∙ c.self.view_is)
 
 pub invariant_of-self-2 : goal.invariant_of-self-2
-invariant_of-self-2 g c = declared_within _ _ _ _ (record { terms = ap (λ (x : Parts). x.terms) c.in_ok-add_write.ensures.ok; rows = ap (λ (x : Parts). x.rows) c.in_ok-add_write.ensures.ok }) c.self.invariant (subst IsBare (sym c.self.view_is) c.requires)
+invariant_of-self-2 g c =
+    declared_within _ _ _ (with_one_write (parts_of c.self.inside.sheet) c.args.key) _ c.in_ok-add_write.ensures.ok (record { terms = refl; rows = refl }) c.self.invariant (subst IsBare (sym c.self.view_is) c.requires)
 
 pub returns-clause-ok : goal.returns-clause-ok
 returns-clause-ok g c =
-    declared _ _ _ _ (record { terms = ap (λ (x : Parts). x.terms) c.in_ok-add_write.ensures.ok; rows = ap (λ (x : Parts). x.rows) c.in_ok-add_write.ensures.ok }) c.self.invariant (subst IsBare (sym c.self.view_is) c.requires)
-    ∙ ap (λ (x : Parts). record { txn = record { edition = c.self.inside.edition; reads = x.reads; writes = x.writes; body = (drafted_of c.self.inside.edition (parts_of c.self.inside.sheet) c.self.inside.pending).txn.body }; done = (drafted_of c.self.inside.edition (parts_of c.self.inside.sheet) c.self.inside.pending).done; latest = (drafted_of c.self.inside.edition (parts_of c.self.inside.sheet) c.self.inside.pending).latest }) c.in_ok-add_write.ensures.ok
+    declared _ _ _ (with_one_write (parts_of c.self.inside.sheet) c.args.key) _ c.in_ok-add_write.ensures.ok (record { terms = refl; rows = refl }) c.self.invariant (subst IsBare (sym c.self.view_is) c.requires)
     ∙ ap (λ (d : Drafted). with_write d c.args.key) c.self.view_is
