@@ -1,5 +1,5 @@
 -- What the places of terms and statements stand for.
-use Rattle.std.proofs.Common.{true, ◌≡◌, ℕ, Bool, false, List, [], ◌∷◌, ◌++◌, Some, refl, sym, ◌∙◌, subst, append-nil, slice_get}
+use Rattle.std.proofs.Common.{true, ◌≡◌, ℕ, Bool, false, List, [], ◌∷◌, ◌++◌, Some, refl, sym, ◌∙◌, subst, arith, append-nil, slice_get}
 use Rattle.std.proofs.lemmas.Option.{get_or_from_slice_get, slice_get_within}
 use Rattle.bohm_tree.specs.declared.term.Atom.TheVariants as atoms
 use Rattle.bohm_log.specs.declared.row.AtomKind.TheVariants.{Large, Read, Unread, Local}
@@ -7,7 +7,7 @@ use Rattle.bohm_log.specs.declared.row.Action.{Action}
 use Rattle.bohm_log.specs.declared.row.Action.TheVariants as actions
 use Rattle.bohm_log.specs.declared.row.StmtRow.{StmtRow}
 use Rattle.bohm_log.specs.Parts.{IsApart, OtherIn, Parts, Begins}
-use Rattle.bohm_log.specs.Drafting.{NamesGrow, with_row, AddsRow, IsNameless, IsTesting, IsWriting, NameStands, KeyStands, Stands}
+use Rattle.bohm_log.specs.Drafting.{NamesGrow, with_row, AddsRow, IsNamed, IsNameless, keys_of, NameStands, KeyStands, Stands}
 use Rattle.bohm_log.proofs.Growth.{Begins-itself}
 use Rattle.bohm_log.proofs.Drafts.{itself}
 
@@ -54,30 +54,18 @@ others_grow p xs b = record {
   rows = refl;
 }
 
-pub tested : (p : Parts) (action : Action) (declared : Bool) (i : ℕ) (k : List ℕ) → IsTesting action → KeyStands p.reads p.others declared i k → NameStands p action declared i k
-tested p actions.Bind b i k n h = absurd n
-tested p (actions.Need c) b i k n h = absurd n
-tested p actions.Has b i k n h = record { within = h.within; same = h.same }
-tested p actions.Lacks b i k n h = record { within = h.within; same = h.same }
-tested p actions.Put b i k n h = absurd n
-tested p (actions.PutWhen c) b i k n h = absurd n
-tested p actions.Remove b i k n h = absurd n
-tested p actions.Show b i k n h = absurd n
-tested p actions.Fail b i k n h = absurd n
-
-pub written : (p : Parts) (action : Action) (declared : Bool) (i : ℕ) (k : List ℕ) → IsWriting action → KeyStands p.writes p.others declared i k → NameStands p action declared i k
-written p actions.Bind b i k n h = absurd n
-written p (actions.Need c) b i k n h = absurd n
-written p actions.Has b i k n h = absurd n
-written p actions.Lacks b i k n h = absurd n
-written p actions.Put b i k n h = record { within = h.within; same = h.same }
-written p (actions.PutWhen c) b i k n h = record { within = h.within; same = h.same }
-written p actions.Remove b i k n h = record { within = h.within; same = h.same }
-written p actions.Show b i k n h = absurd n
-written p actions.Fail b i k n h = absurd n
-
-pub bound_stands : (p : Parts) (i : ℕ) (k : List ℕ) → slice_get p.others i ≡ Some k → NameStands p actions.Bind false i k
-bound_stands p i k e = record { within = slice_get_within p.others i k e; same = get_or_from_slice_get p.others i k [] e }
+-- a local stands among the other names, since there is no key among which it is sought
+pub name_stands : (p : Parts) (action : Action) (declared : Bool) (i : ℕ) (k : List ℕ) → IsNamed action → KeyStands (keys_of action p.reads p.writes) p.others declared i k → NameStands p action declared i k
+name_stands p actions.Bind true i k n h = absurd (omega (arith, h.within))
+name_stands p actions.Bind false i k n h = record { within = h.within.within; same = h.same }
+name_stands p (actions.Need c) b i k n h = absurd n
+name_stands p actions.Has b i k n h = record { within = h.within; same = h.same }
+name_stands p actions.Lacks b i k n h = record { within = h.within; same = h.same }
+name_stands p actions.Put b i k n h = record { within = h.within; same = h.same }
+name_stands p (actions.PutWhen c) b i k n h = record { within = h.within; same = h.same }
+name_stands p actions.Remove b i k n h = record { within = h.within; same = h.same }
+name_stands p actions.Show b i k n h = absurd n
+name_stands p actions.Fail b i k n h = absurd n
 
 abbrev pub with_others : Parts → List (List ℕ) → Parts
 with_others p others = record { reads = p.reads; writes = p.writes; others = others; large = p.large; terms = p.terms; rows = p.rows }

@@ -1,7 +1,9 @@
--- The statements that take sums.
-use Rattle.std.proofs.Common.{◌≡◌, ℕ, List, [], Some, None, length, refl, ap, ◌∙◌, arith}
+-- The statements that sums make.
+use Rattle.std.proofs.Common.{◌≡◌, ℕ, ◌≤◌, Bool, List, [], ◌∷◌, Some, None, length, refl, ap, ◌∙◌, arith}
+use Rattle.bohm_tree.specs.declared.term.Atom.{Atom}
 use Rattle.bohm_tree.specs.declared.stmt.Cmp.{Cmp}
 use Rattle.bohm_tree.specs.declared.stmt.Stmt.TheVariants as stmts
+use Rattle.bohm_log.specs.declared.row.Action.{Action}
 use Rattle.bohm_log.specs.declared.row.Action.TheVariants as actions
 use Rattle.bohm_tree.specs.declared.txn.Edition.{Edition}
 use Rattle.bohm_log.specs.declared.row.Pending.{Pending}
@@ -9,70 +11,62 @@ use Rattle.bohm_log.specs.declared.row.Step.{Step}
 use Rattle.bohm_log.specs.declared.row.Step.TheVariants.{Whole, Left, Right}
 use Rattle.bohm_tree.specs.declared.txn.Txn.{Txn}
 use Rattle.bohm_log.specs.Parts.{Parts, sum_between, stmt_made, txn_of}
-use Rattle.bohm_log.specs.Drafting.{drafted_of, done_at, done_in, from_at, latest_from, with_stmt, opened, put_of, need_of, AddsRow, IsDrafted}
-use Rattle.bohm_log.proofs.Drafts.{added}
+use Rattle.bohm_log.specs.Drafting.{Drafted, drafted_of, done_at, from_at, first_end, second_end, with_stmt, made_of, opened, put_of, need_of, AddsRow, IsDrafted}
+use Rattle.bohm_log.proofs.Drafts.{sum_done, added, added_within}
 
 -- ---- the sums that a statement takes
 
-whole : (p : Parts) (s f n t : ℕ) (step : Step) → t ≡ length p.terms → done_at p s f n step ≡ [] → sum_between p s t ≡ sum_between p (from_at s f n step) (length p.terms)
-whole p s f n t Whole end none = ap (sum_between p s) end
-whole p s f n t Left end none = absurd cc
-whole p s f n t Right end none = absurd cc
+taken : (x : Txn) (p : Parts) (action : Action) (name : List ℕ) (s f n t : ℕ) (step : Step) → t ≡ length p.terms
+    → stmt_made action name (sum_between p s (first_end f t step)) (sum_between p (first_end f t step) (second_end n t step)) (sum_between p (second_end n t step) t) ≡ made_of (record { txn = x; done = done_at p s f n step; latest = sum_between p (from_at s f n step) (length p.terms) }) action name
+taken x p action name s f n t Whole end = rw (end, sum_done p (length p.terms) refl) refl
+taken x p action name s f n t Left end = rw (end, sum_done p (length p.terms) refl) refl
+taken x p action name s f n t Right end = rw end refl
 
--- the sum that is read, where no other is done
-pub whole_sum : (p : Parts) (o : Pending) (t : ℕ) → t ≡ length p.terms → done_in p o ≡ [] → sum_between p o.start t ≡ sum_between p (latest_from o) (length p.terms)
-whole_sum p o t end none = whole p o.start o.first o.second t o.step end none
+risen : (s f n t : ℕ) (step : Step) → s ≤ f → f ≤ n → n ≤ t → (s ≤ first_end f t step) × (first_end f t step ≤ second_end n t step) × (second_end n t step ≤ t)
+risen s f n t Whole a b c = (omega (arith, a, b, c), omega arith, omega arith)
+risen s f n t Left a b c = (a, omega (arith, b, c), omega arith)
+risen s f n t Right a b c = (a, b, c)
 
-needed : (x : Txn) (p : Parts) (s f n t : ℕ) (step : Step) (c : Cmp) → t ≡ length p.terms → length (done_at p s f n step) ≡ 1
-    → stmt_made (actions.Need c) [] (sum_between p s f) (sum_between p f t) (sum_between p t t) ≡ need_of (record { txn = x; done = done_at p s f n step; latest = sum_between p (from_at s f n step) (length p.terms) }) c
-needed x p s f n t Whole c end one = absurd (omega (arith, one))
-needed x p s f n t Left c end one = rw end refl
-needed x p s f n t Right c end one = absurd (omega (arith, one))
+-- a row over all sums that were read, up to the last term
+module _ (p q : Parts) (action : Action) (name : List ℕ) (o : Pending) (a b t : ℕ) (g : AddsRow p q action name o.start a b t)
+    (first : a ≡ first_end o.first t o.step) (second : b ≡ second_end o.second t o.step) (h : IsDrafted p o) (end : t ≡ length p.terms) where
+  rises : (o.start ≤ a) × (a ≤ b) × (b ≤ t)
+  rises = rw (first, second) (risen o.start o.first o.second t o.step h.begins h.rises (omega (arith, h.ends, end)))
 
--- a comparison of the sum that is done with the one that is read
-pub need_made : (e : Edition) (p : Parts) (o : Pending) (t : ℕ) (c : Cmp) → t ≡ length p.terms → length (done_in p o) ≡ 1
-    → stmt_made (actions.Need c) [] (sum_between p o.start o.first) (sum_between p o.first t) (sum_between p t t) ≡ need_of (drafted_of e p o) c
-need_made e p o t c end one = needed (txn_of e p) p o.start o.first o.second t o.step c end one
+  pub stmt_added : (e : Edition) → drafted_of e q (opened t) ≡ with_stmt (drafted_of e p o) (made_of (drafted_of e p o) action name)
+  stmt_added e =
+      added e p q action name o o.start a b t g h end rises.0 rises.1 rises.2
+      ∙ ap (with_stmt (drafted_of e p o)) (
+      (λ i. stmt_made action name (sum_between p o.start (first i)) (sum_between p (first i) (second i)) (sum_between p (second i) t))
+      ∙ taken (txn_of e p) p action name o.start o.first o.second t o.step end)
 
-guarded : (x : Txn) (p : Parts) (s f n t : ℕ) (step : Step) (k : List ℕ) (c : Cmp) → t ≡ length p.terms → length (done_at p s f n step) ≡ 2
-    → stmt_made (actions.PutWhen c) k (sum_between p s f) (sum_between p f n) (sum_between p n t) ≡ put_of (record { txn = x; done = done_at p s f n step; latest = sum_between p (from_at s f n step) (length p.terms) }) k (Some c)
-guarded x p s f n t Whole k c end two = absurd (omega (arith, two))
-guarded x p s f n t Left k c end two = absurd (omega (arith, two))
-guarded x p s f n t Right k c end two = rw end refl
-
--- the first sum that is done, where a comparison of the second with the one that is read holds
-pub put_when_made : (e : Edition) (p : Parts) (o : Pending) (t : ℕ) (k : List ℕ) (c : Cmp) → t ≡ length p.terms → length (done_in p o) ≡ 2
-    → stmt_made (actions.PutWhen c) k (sum_between p o.start o.first) (sum_between p o.first o.second) (sum_between p o.second t) ≡ put_of (drafted_of e p o) k (Some c)
-put_when_made e p o t k c end two = guarded (txn_of e p) p o.start o.first o.second t o.step k c end two
+  pub stmt_within : IsDrafted q (opened t)
+  stmt_within = added_within p q action name o o.start a b t g h end rises.0 rises.1 rises.2
 
 -- ---- the statements with sums
 
-pub bind_added : (e : Edition) (p q : Parts) (name : List ℕ) (o : Pending) (t : ℕ) → AddsRow p q actions.Bind name o.start t t t → IsDrafted p o → t ≡ length p.terms → done_in p o ≡ []
-    → drafted_of e q (opened t) ≡ with_stmt (drafted_of e p o) (stmts.Bind name (drafted_of e p o).latest)
-bind_added e p q name o t g h end none =
-    added e p q actions.Bind name o o.start t t t g h end (omega (arith, h.begins, h.rises, h.ends, end)) (omega arith) (omega arith)
-    ∙ ap (λ sum. with_stmt (drafted_of e p o) (stmts.Bind name sum)) (whole_sum p o t end none)
+pub bind_made : (d : Drafted) (name : List ℕ) → d.done ≡ [] → made_of d actions.Bind name ≡ stmts.Bind name d.latest
+bind_made d name none = rw none refl
 
-pub show_added : (e : Edition) (p q : Parts) (o : Pending) (t : ℕ) → AddsRow p q actions.Show [] o.start t t t → IsDrafted p o → t ≡ length p.terms → done_in p o ≡ []
-    → drafted_of e q (opened t) ≡ with_stmt (drafted_of e p o) (stmts.Show (drafted_of e p o).latest)
-show_added e p q o t g h end none =
-    added e p q actions.Show [] o o.start t t t g h end (omega (arith, h.begins, h.rises, h.ends, end)) (omega arith) (omega arith)
-    ∙ ap (λ sum. with_stmt (drafted_of e p o) (stmts.Show sum)) (whole_sum p o t end none)
+pub show_made : (d : Drafted) → d.done ≡ [] → made_of d actions.Show [] ≡ stmts.Show d.latest
+show_made d none = rw none refl
 
-pub put_added : (e : Edition) (p q : Parts) (k : List ℕ) (o : Pending) (t : ℕ) → AddsRow p q actions.Put k o.start t t t → IsDrafted p o → t ≡ length p.terms → done_in p o ≡ []
-    → drafted_of e q (opened t) ≡ with_stmt (drafted_of e p o) (stmts.Put k (drafted_of e p o).latest None)
-put_added e p q k o t g h end none =
-    added e p q actions.Put k o o.start t t t g h end (omega (arith, h.begins, h.rises, h.ends, end)) (omega arith) (omega arith)
-    ∙ ap (λ sum. with_stmt (drafted_of e p o) (stmts.Put k sum None)) (whole_sum p o t end none)
+pub put_made : (d : Drafted) (k : List ℕ) → d.done ≡ [] → made_of d actions.Put k ≡ put_of d k None
+put_made d k none = rw none refl
 
-pub need_added : (e : Edition) (p q : Parts) (cmp : Cmp) (o : Pending) (t : ℕ) → AddsRow p q (actions.Need cmp) [] o.start o.first t t → IsDrafted p o → t ≡ length p.terms → length (done_in p o) ≡ 1
-    → drafted_of e q (opened t) ≡ with_stmt (drafted_of e p o) (need_of (drafted_of e p o) cmp)
-need_added e p q cmp o t g h end one =
-    added e p q (actions.Need cmp) [] o o.start o.first t t g h end h.begins (omega (arith, h.rises, h.ends, end)) (omega arith)
-    ∙ ap (with_stmt (drafted_of e p o)) (need_made e p o t cmp end one)
+pub need_made : (d : Drafted) (c : Cmp) → length d.done ≡ 1 → made_of d (actions.Need c) [] ≡ need_of d c
+need_made d c one = go d.done one
+  where
+    go : (xs : List (List (Bool × Atom))) → length xs ≡ 1 → made_of (record d { done = xs }) (actions.Need c) [] ≡ need_of (record d { done = xs }) c
+    go [] one = absurd (omega (arith, one))
+    go (x ∷ []) one = refl
+    go (x ∷ y ∷ xs) one = absurd (omega (arith, one))
 
-pub put_when_added : (e : Edition) (p q : Parts) (k : List ℕ) (cmp : Cmp) (o : Pending) (t : ℕ) → AddsRow p q (actions.PutWhen cmp) k o.start o.first o.second t → IsDrafted p o → t ≡ length p.terms → length (done_in p o) ≡ 2
-    → drafted_of e q (opened t) ≡ with_stmt (drafted_of e p o) (put_of (drafted_of e p o) k (Some cmp))
-put_when_added e p q k cmp o t g h end two =
-    added e p q (actions.PutWhen cmp) k o o.start o.first o.second t g h end h.begins h.rises (omega (arith, h.ends, end))
-    ∙ ap (with_stmt (drafted_of e p o)) (put_when_made e p o t k cmp end two)
+pub put_when_made : (d : Drafted) (k : List ℕ) (c : Cmp) → length d.done ≡ 2 → made_of d (actions.PutWhen c) k ≡ put_of d k (Some c)
+put_when_made d k c two = go d.done two
+  where
+    go : (xs : List (List (Bool × Atom))) → length xs ≡ 2 → made_of (record d { done = xs }) (actions.PutWhen c) k ≡ put_of (record d { done = xs }) k (Some c)
+    go [] two = absurd (omega (arith, two))
+    go (x ∷ []) two = absurd (omega (arith, two))
+    go (x ∷ y ∷ []) two = refl
+    go (x ∷ y ∷ z ∷ xs) two = absurd (omega (arith, two))

@@ -15,7 +15,7 @@ use Rattle.bohm_log.specs.declared.row.Pending.{Pending}
 use Rattle.bohm_tree.specs.declared.term.Atom.{Atom}
 use Rattle.bohm_log.specs.declared.row.TermRow.{TermRow}
 use Rattle.bohm_log.specs.declared.sheet.Sheet.{Sheet}
-use Rattle.bohm_log.specs.Parts.{Parts, TermIn, KeyIn, NameIn, Grows, IsWithin, key_at, named_by, term_of, sum_between, txn_of}
+use Rattle.bohm_log.specs.Parts.{Parts, TermIn, KeyIn, NameIn, Grows, IsWithin, key_at, named_by, term_of, sum_between, stmt_made, txn_of}
 
 abbrev pub parts_of : {S H : Type 0} → Sheet S H → Parts
 parts_of s = record {
@@ -60,29 +60,29 @@ pub record KeyStands (keys others : List (List ℕ)) (declared : Bool) (i : ℕ)
   pub within : KeyIn keys others declared i
   pub same : key_at keys others declared i ≡ name
 
--- the statement tests whether a key is there
-abbrev pub IsTesting : Action → Type 0
-IsTesting actions.Bind = ⊥
-IsTesting (actions.Need c) = ⊥
-IsTesting actions.Has = Unit {0}
-IsTesting actions.Lacks = Unit {0}
-IsTesting actions.Put = ⊥
-IsTesting (actions.PutWhen c) = ⊥
-IsTesting actions.Remove = ⊥
-IsTesting actions.Show = ⊥
-IsTesting actions.Fail = ⊥
+-- the statement has a name
+abbrev pub IsNamed : Action → Type 0
+IsNamed actions.Bind = Unit {0}
+IsNamed (actions.Need c) = ⊥
+IsNamed actions.Has = Unit {0}
+IsNamed actions.Lacks = Unit {0}
+IsNamed actions.Put = Unit {0}
+IsNamed (actions.PutWhen c) = Unit {0}
+IsNamed actions.Remove = Unit {0}
+IsNamed actions.Show = ⊥
+IsNamed actions.Fail = ⊥
 
--- the statement writes a key
-abbrev pub IsWriting : Action → Type 0
-IsWriting actions.Bind = ⊥
-IsWriting (actions.Need c) = ⊥
-IsWriting actions.Has = ⊥
-IsWriting actions.Lacks = ⊥
-IsWriting actions.Put = Unit {0}
-IsWriting (actions.PutWhen c) = Unit {0}
-IsWriting actions.Remove = Unit {0}
-IsWriting actions.Show = ⊥
-IsWriting actions.Fail = ⊥
+-- the declared keys among which the statement's name is sought
+abbrev pub keys_of : Action → List (List ℕ) → List (List ℕ) → List (List ℕ)
+keys_of actions.Bind reads writes = []
+keys_of (actions.Need c) reads writes = []
+keys_of actions.Has reads writes = reads
+keys_of actions.Lacks reads writes = reads
+keys_of actions.Put reads writes = writes
+keys_of (actions.PutWhen c) reads writes = writes
+keys_of actions.Remove reads writes = writes
+keys_of actions.Show reads writes = []
+keys_of actions.Fail reads writes = []
 
 -- the statement has no name
 abbrev pub IsNameless : Action → Type 0
@@ -156,6 +156,14 @@ with_sum d = record d { done = d.done ++ d.latest ∷ []; latest = [] }
 abbrev pub with_stmt : Drafted → Stmt → Drafted
 with_stmt d s = record { txn = record d.txn { body = d.txn.body ++ s ∷ [] }; done = []; latest = [] }
 
+-- the sum of this number of the statement that is read, with the sum that is read
+abbrev pub sum_of : Drafted → ℕ → List (Bool × Atom)
+sum_of d i = slice_index_or (d.done ++ d.latest ∷ []) i []
+
+-- the statement that has these sums
+abbrev pub made_of : Drafted → Action → List ℕ → Stmt
+made_of d action name = stmt_made action name (sum_of d 0) (sum_of d 1) (sum_of d 2)
+
 -- set KEY = first when second CMP latest
 abbrev pub put_of : Drafted → List ℕ → Option Cmp → Stmt
 put_of d k None = Put k d.latest None
@@ -184,6 +192,17 @@ from_at start first second Right = second
 
 abbrev pub latest_from : Pending → ℕ
 latest_from o = from_at o.start o.first o.second o.step
+
+-- where the first sum and the second end, where the last term ends at `end`
+abbrev pub first_end : ℕ → ℕ → Step → ℕ
+first_end first end Whole = end
+first_end first end Left = first
+first_end first end Right = first
+
+abbrev pub second_end : ℕ → ℕ → Step → ℕ
+second_end second end Whole = end
+second_end second end Left = end
+second_end second end Right = second
 
 abbrev pub drafted_of : Edition → Parts → Pending → Drafted
 drafted_of e p o = record { txn = txn_of e p; done = done_in p o; latest = sum_between p (latest_from o) (length p.terms) }

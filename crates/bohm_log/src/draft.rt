@@ -3,13 +3,15 @@
 ghost use Rattle.std.specs.Prelude.{◌≡◌, ◌<◌, ◌≤◌, [], ◌∷◌, OnOk, OnErr, length, Some, None};
 ghost use Rattle.bohm_tree.specs.declared.term.Atom.TheVariants.{Lit, Read, Local};
 ghost use Rattle.bohm_tree.specs.declared.stmt.Stmt.TheVariants as stmts;
-ghost use Rattle.bohm_log.specs.Drafting.{fresh, with_read, with_write, with_term, with_sum, with_stmt, put_of, need_of, parts_of, IsBare, IsBetween};
+ghost use Rattle.bohm_log.specs.Drafting.{fresh, with_read, with_write, with_term, with_sum, with_stmt, made_of, put_of, need_of, parts_of, IsBare, IsBetween, IsNamed, IsNameless};
 ghost use Rattle.bohm_log.specs.Parts.{txn_of, IsWithin};
+ghost use Rattle.bohm_log.specs.Seeing.{atom_shown};
 
 use crate::fault::LogFault;
 use crate::name::Name;
 use crate::row::{Action, Pending, Step};
 use crate::sheet::Sheet;
+use crate::sum::AtomParts;
 use bohm_tree::{Cmp, Edition};
 use std::alloc::Global;
 use std::hash::{BuildHasher, BuildHasherDefault, FoldHasher};
@@ -108,16 +110,23 @@ impl<S: BuildHasher> Draft<S> {
 
 /// Terms of the sum that is read.
 impl<S: BuildHasher + Drop> Draft<S> {
-    /// Adds a literal.
-    pub fn literal(&mut self, minus: bool, number: u64) -> Result<(), LogFault>
-        ensures ok { OnOk result (self.new ≡ with_term self.old minus (Lit number)) }
+    fn add_term(&mut self, minus: bool, atom: AtomParts) -> Result<(), LogFault>
+        ensures ok { OnOk result (self.new ≡ with_term self.old minus (atom_shown atom)) }
         ensures err { OnErr result (self.new ≡ self.old) }
     {
         if self.sheet.terms.len() >= u32::MAX as usize {
             return Err(LogFault::Full);
         }
-        self.sheet.add_literal(minus, number)?;
+        self.sheet.add_term(minus, atom)?;
         Ok(())
+    }
+
+    /// Adds a literal.
+    pub fn literal(&mut self, minus: bool, number: u64) -> Result<(), LogFault>
+        ensures ok { OnOk result (self.new ≡ with_term self.old minus (Lit number)) }
+        ensures err { OnErr result (self.new ≡ self.old) }
+    {
+        self.add_term(minus, AtomParts::Lit(number))
     }
 
     /// Adds a key that is read.
@@ -125,11 +134,7 @@ impl<S: BuildHasher + Drop> Draft<S> {
         ensures ok { OnOk result (self.new ≡ with_term self.old minus (Read name)) }
         ensures err { OnErr result (self.new ≡ self.old) }
     {
-        if self.sheet.terms.len() >= u32::MAX as usize {
-            return Err(LogFault::Full);
-        }
-        self.sheet.add_key(minus, name)?;
-        Ok(())
+        self.add_term(minus, AtomParts::Read(name))
     }
 
     /// Adds a local.
@@ -137,40 +142,58 @@ impl<S: BuildHasher + Drop> Draft<S> {
         ensures ok { OnOk result (self.new ≡ with_term self.old minus (Local name)) }
         ensures err { OnErr result (self.new ≡ self.old) }
     {
-        if self.sheet.terms.len() >= u32::MAX as usize {
-            return Err(LogFault::Full);
-        }
-        self.sheet.add_local(minus, name)?;
-        Ok(())
+        self.add_term(minus, AtomParts::Local(name))
     }
 }
 
 /// Statements, each behind its sums.
 impl<S: BuildHasher + Drop> Draft<S> {
+    /// Ends a statement with this name.
+    fn end_named(&mut self, action: Action, name: Name) -> Result<(), LogFault>
+        requires { IsNamed action }
+        ensures ok { OnOk result (self.new ≡ with_stmt self.old (made_of self.old action name)) }
+        ensures err { OnErr result (self.new ≡ self.old) }
+    {
+        let end = self.sheet.terms.len() as u32;
+        let (first, second) = self.pending.ends(end);
+        self.sheet
+            .add_named(action, name, self.pending.start, (first, second, end))?;
+        self.pending = Pending::at(end);
+        Ok(())
+    }
+
+    /// Ends a statement without a name.
+    fn end_nameless(&mut self, action: Action) -> Result<(), LogFault>
+        requires { IsNameless action }
+        ensures ok { OnOk result (self.new ≡ with_stmt self.old (made_of self.old action [])) }
+        ensures err { OnErr result (self.new ≡ self.old) }
+    {
+        let end = self.sheet.terms.len() as u32;
+        let (first, second) = self.pending.ends(end);
+        self.sheet
+            .add_nameless(action, self.pending.start, (first, second, end))?;
+        self.pending = Pending::at(end);
+        Ok(())
+    }
+
     /// `let $name = SUM`
+    #[tactic(auto, using(crate::proofs::Statements::bind_made))]
     pub fn bind(&mut self, name: Name) -> Result<(), LogFault>
         requires { self.old.done ≡ [] }
         ensures ok { OnOk result (self.new ≡ with_stmt self.old (stmts.Bind name self.old.latest)) }
         ensures err { OnErr result (self.new ≡ self.old) }
     {
-        let end = self.sheet.terms.len() as u32;
-        self.sheet.add_bind(name, self.pending.start, end)?;
-        self.pending = Pending::at(end);
-        Ok(())
+        self.end_named(Action::Bind, name)
     }
 
     /// `need SUM CMP SUM`
+    #[tactic(auto, using(crate::proofs::Statements::need_made))]
     pub fn need(&mut self, cmp: Cmp) -> Result<(), LogFault>
         requires { length self.old.done ≡ 1 }
         ensures ok { OnOk result (self.new ≡ with_stmt self.old (need_of self.old cmp)) }
         ensures err { OnErr result (self.new ≡ self.old) }
     {
-        let end = self.sheet.terms.len() as u32;
-        let ends = (self.pending.first, end, end);
-        self.sheet
-            .add_nameless(Action::Need(cmp), self.pending.start, ends)?;
-        self.pending = Pending::at(end);
-        Ok(())
+        self.end_nameless(Action::Need(cmp))
     }
 
     /// `need has KEY`
@@ -179,10 +202,7 @@ impl<S: BuildHasher + Drop> Draft<S> {
         ensures ok { OnOk result (self.new ≡ with_stmt self.old (stmts.Has key)) }
         ensures err { OnErr result (self.new ≡ self.old) }
     {
-        let end = self.sheet.terms.len() as u32;
-        self.sheet.add_test(Action::Has, key, end)?;
-        self.pending = Pending::at(end);
-        Ok(())
+        self.end_named(Action::Has, key)
     }
 
     /// `need no KEY`
@@ -191,37 +211,27 @@ impl<S: BuildHasher + Drop> Draft<S> {
         ensures ok { OnOk result (self.new ≡ with_stmt self.old (stmts.Lacks key)) }
         ensures err { OnErr result (self.new ≡ self.old) }
     {
-        let end = self.sheet.terms.len() as u32;
-        self.sheet.add_test(Action::Lacks, key, end)?;
-        self.pending = Pending::at(end);
-        Ok(())
+        self.end_named(Action::Lacks, key)
     }
 
     /// `set KEY = SUM`
+    #[tactic(auto, using(crate::proofs::Statements::put_made))]
     pub fn put(&mut self, key: Name) -> Result<(), LogFault>
         requires { self.old.done ≡ [] }
         ensures ok { OnOk result (self.new ≡ with_stmt self.old (put_of self.old key None)) }
         ensures err { OnErr result (self.new ≡ self.old) }
     {
-        let end = self.sheet.terms.len() as u32;
-        self.sheet
-            .add_write_row(Action::Put, key, self.pending.start, (end, end, end))?;
-        self.pending = Pending::at(end);
-        Ok(())
+        self.end_named(Action::Put, key)
     }
 
     /// `set KEY = SUM when SUM CMP SUM`
+    #[tactic(auto, using(crate::proofs::Statements::put_when_made))]
     pub fn put_when(&mut self, key: Name, cmp: Cmp) -> Result<(), LogFault>
         requires { length self.old.done ≡ 2 }
         ensures ok { OnOk result (self.new ≡ with_stmt self.old (put_of self.old key (Some cmp))) }
         ensures err { OnErr result (self.new ≡ self.old) }
     {
-        let end = self.sheet.terms.len() as u32;
-        let ends = (self.pending.first, self.pending.second, end);
-        self.sheet
-            .add_write_row(Action::PutWhen(cmp), key, self.pending.start, ends)?;
-        self.pending = Pending::at(end);
-        Ok(())
+        self.end_named(Action::PutWhen(cmp), key)
     }
 
     /// `drop KEY`
@@ -230,24 +240,17 @@ impl<S: BuildHasher + Drop> Draft<S> {
         ensures ok { OnOk result (self.new ≡ with_stmt self.old (stmts.Remove key)) }
         ensures err { OnErr result (self.new ≡ self.old) }
     {
-        let end = self.sheet.terms.len() as u32;
-        self.sheet
-            .add_write_row(Action::Remove, key, self.pending.start, (end, end, end))?;
-        self.pending = Pending::at(end);
-        Ok(())
+        self.end_named(Action::Remove, key)
     }
 
     /// `show SUM`
+    #[tactic(auto, using(crate::proofs::Statements::show_made))]
     pub fn show(&mut self) -> Result<(), LogFault>
         requires { self.old.done ≡ [] }
         ensures ok { OnOk result (self.new ≡ with_stmt self.old (stmts.Show self.old.latest)) }
         ensures err { OnErr result (self.new ≡ self.old) }
     {
-        let end = self.sheet.terms.len() as u32;
-        self.sheet
-            .add_nameless(Action::Show, self.pending.start, (end, end, end))?;
-        self.pending = Pending::at(end);
-        Ok(())
+        self.end_nameless(Action::Show)
     }
 
     /// `fail`
@@ -256,10 +259,6 @@ impl<S: BuildHasher + Drop> Draft<S> {
         ensures ok { OnOk result (self.new ≡ with_stmt self.old stmts.Fail) }
         ensures err { OnErr result (self.new ≡ self.old) }
     {
-        let end = self.sheet.terms.len() as u32;
-        self.sheet
-            .add_nameless(Action::Fail, self.pending.start, (end, end, end))?;
-        self.pending = Pending::at(end);
-        Ok(())
+        self.end_nameless(Action::Fail)
     }
 }

@@ -1,7 +1,7 @@
 //! Terms and statements of a fixed size, which name keys and sums by places.
 
 ghost use Rattle.std.specs.Prelude.{◌≡◌};
-ghost use Rattle.bohm_log.specs.Drafting.{opened};
+ghost use Rattle.bohm_log.specs.Drafting.{opened, first_end, second_end};
 
 use bohm_tree::Cmp;
 
@@ -82,6 +82,18 @@ impl Pending {
             first: offset,
             second: offset,
             step: Step::Whole,
+        }
+    }
+
+    /// Where the first sum and the second end, where the last term ends at this offset.
+    pub fn ends(&self, end: u32) -> (u32, u32)
+        ensures first { result.0 ≡ first_end self.now.first end self.now.step }
+        ensures second { result.1 ≡ second_end self.now.second end self.now.step }
+    {
+        match self.step {
+            Step::Whole => (end, end),
+            Step::Left => (self.first, end),
+            Step::Right => (self.first, self.second),
         }
     }
 }

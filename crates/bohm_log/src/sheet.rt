@@ -2,14 +2,15 @@
 
 ghost use Rattle.std.specs.Prelude.{◌≡◌, ◌<◌, [], Some, IfOk, OnOk, OnErr, IfSome, IfNone, length, slice_get};
 ghost use Rattle.bohm_tree.specs.declared.term.Atom.TheVariants.{Lit, Read, Local};
-ghost use Rattle.bohm_log.specs.declared.row.Action.TheVariants.{Bind};
 ghost use Rattle.bohm_log.specs.Parts.{Begins, IsApart};
-ghost use Rattle.bohm_log.specs.Drafting.{parts_of, NamesGrow, Stands, AddsTerm, KeyStands, AddsRow, IsTesting, IsWriting, IsNameless, no_parts, with_one_read, with_one_write};
+ghost use Rattle.bohm_log.specs.Drafting.{parts_of, NamesGrow, Stands, AddsTerm, KeyStands, AddsRow, IsNamed, IsNameless, keys_of, no_parts, with_one_read, with_one_write};
+ghost use Rattle.bohm_log.specs.Seeing.{atom_shown};
 
 use crate::fault::LogFault;
 use crate::name::Name;
 use crate::names::Names;
 use crate::row::{Action, AtomKind, StmtRow, TermRow};
+use crate::sum::AtomParts;
 use std::alloc::Global;
 use std::hash::BuildHasher;
 
@@ -40,19 +41,31 @@ fn place_in(keys: &[Name], key: &Name) -> Option<u32>
     Some(place as u32)
 }
 
-/// The place of a key among a few, or else among the other names, and whether it is one of the few.
+/// The place of a name among a few declared keys, or else among the other names, and whether it is
+/// one of the few.
 #[tactic(auto, using(crate::proofs::Widening::with_name_begins))]
-fn place_key<S: BuildHasher + Drop>(
+fn place_name<S: BuildHasher + Drop>(
     keys: &[Name],
     others: &mut Names<S>,
-    key: Name,
+    name: Name,
 ) -> Result<(bool, u32), LogFault>
     ensures grows { Begins others.old others.new }
-    ensures ok { IfOk result (λ t. KeyStands keys.now others.new t.0 t.1 key) }
+    ensures ok { IfOk result (λ t. KeyStands keys.now others.new t.0 t.1 name) }
 {
-    match place_in(keys, &key) {
+    match place_in(keys, &name) {
         Some(place) => Ok((true, place)),
-        None => Ok((false, others.id(key)?)),
+        None => Ok((false, others.id(name)?)),
+    }
+}
+
+/// The declared keys among which a statement's name is sought.
+fn keys_of<'a>(action: Action, reads: &'a [Name], writes: &'a [Name]) -> &'a [Name]
+    ensures { result.now ≡ keys_of action reads.now writes.now }
+{
+    match action {
+        Action::Has | Action::Lacks => reads,
+        Action::Put | Action::PutWhen(_) | Action::Remove => writes,
+        Action::Bind | Action::Need(_) | Action::Show | Action::Fail => &[],
     }
 }
 
@@ -164,32 +177,24 @@ impl<S: BuildHasher + Drop> Sheet<S> {
         })
     }
 
-    pub fn add_literal(&mut self, minus: bool, number: u64) -> Result<(), LogFault>
-        ensures ok { OnOk result
-            (AddsTerm (parts_of self.old) (parts_of self.new) minus (Lit number)) }
-        ensures err { OnErr result (NamesGrow (parts_of self.old) (parts_of self.new)) }
+    /// The term of an atom.
+    fn term(&mut self, minus: bool, atom: AtomParts) -> Result<TermRow, LogFault>
+        ensures grows { NamesGrow (parts_of self.old) (parts_of self.new) }
+        ensures ok { IfOk result (λ t. Stands (parts_of self.new) t minus (atom_shown atom)) }
     {
-        let term = self.literal(minus, number)?;
-        self.terms.push(term)?;
-        Ok(())
+        match atom {
+            AtomParts::Lit(number) => self.literal(minus, number),
+            AtomParts::Read(name) => self.key(minus, name),
+            AtomParts::Local(name) => self.local(minus, name),
+        }
     }
 
-    pub fn add_key(&mut self, minus: bool, name: Name) -> Result<(), LogFault>
+    pub fn add_term(&mut self, minus: bool, atom: AtomParts) -> Result<(), LogFault>
         ensures ok { OnOk result
-            (AddsTerm (parts_of self.old) (parts_of self.new) minus (Read name)) }
+            (AddsTerm (parts_of self.old) (parts_of self.new) minus (atom_shown atom)) }
         ensures err { OnErr result (NamesGrow (parts_of self.old) (parts_of self.new)) }
     {
-        let term = self.key(minus, name)?;
-        self.terms.push(term)?;
-        Ok(())
-    }
-
-    pub fn add_local(&mut self, minus: bool, name: Name) -> Result<(), LogFault>
-        ensures ok { OnOk result
-            (AddsTerm (parts_of self.old) (parts_of self.new) minus (Local name)) }
-        ensures err { OnErr result (NamesGrow (parts_of self.old) (parts_of self.new)) }
-    {
-        let term = self.local(minus, name)?;
+        let term = self.term(minus, atom)?;
         self.terms.push(term)?;
         Ok(())
     }
@@ -222,59 +227,22 @@ impl<S: BuildHasher + Drop> Sheet<S> {
         Ok(())
     }
 
-    /// Adds a statement that binds a name, whose sum ends at this offset.
-    pub fn add_bind(&mut self, name: Name, start: u32, end: u32) -> Result<(), LogFault>
-        ensures ok { OnOk result
-            (AddsRow (parts_of self.old) (parts_of self.new) Bind name start end end end) }
-        ensures err { OnErr result (NamesGrow (parts_of self.old) (parts_of self.new)) }
-    {
-        let place = self.others.id(name)?;
-        self.rows.push(StmtRow {
-            action: Action::Bind,
-            declared: false,
-            name: place,
-            start,
-            first: end,
-            second: end,
-            third: end,
-        })?;
-        Ok(())
-    }
-
-    /// Adds a statement that tests a key, and has no sums.
-    pub fn add_test(&mut self, action: Action, key: Name, start: u32) -> Result<(), LogFault>
-        requires { IsTesting action }
-        ensures ok { OnOk result
-            (AddsRow (parts_of self.old) (parts_of self.new) action key start start start start) }
-        ensures err { OnErr result (NamesGrow (parts_of self.old) (parts_of self.new)) }
-    {
-        let (declared, place) = place_key(self.reads.as_slice(), &mut self.others, key)?;
-        self.rows.push(StmtRow {
-            action,
-            declared,
-            name: place,
-            start,
-            first: start,
-            second: start,
-            third: start,
-        })?;
-        Ok(())
-    }
-
-    /// Adds a statement that writes a key, whose sums end at these offsets.
-    pub fn add_write_row(
+    /// Adds a statement that binds a local, or tests or writes a key, whose sums end at these
+    /// offsets.
+    pub fn add_named(
         &mut self,
         action: Action,
-        key: Name,
+        name: Name,
         start: u32,
         ends: (u32, u32, u32),
     ) -> Result<(), LogFault>
-        requires { IsWriting action }
+        requires { IsNamed action }
         ensures ok { OnOk result
-            (AddsRow (parts_of self.old) (parts_of self.new) action key start ends.0 ends.1 ends.2) }
+            (AddsRow (parts_of self.old) (parts_of self.new) action name start ends.0 ends.1 ends.2) }
         ensures err { OnErr result (NamesGrow (parts_of self.old) (parts_of self.new)) }
     {
-        let (declared, place) = place_key(self.writes.as_slice(), &mut self.others, key)?;
+        let keys = keys_of(action, self.reads.as_slice(), self.writes.as_slice());
+        let (declared, place) = place_name(keys, &mut self.others, name)?;
         self.rows.push(StmtRow {
             action,
             declared,
