@@ -16,9 +16,6 @@ use Rattle.bohm_log.specs.Parts.{Parts, atom_at, term_of, sum_between, name_at, 
 pub Begins-itself : {A : Type 0} (xs : List A) → Begins xs xs
 Begins-itself xs = ([], sym (append-nil xs))
 
-pub Begins-by : {A : Type 0} (xs ys more : List A) → ys ≡ xs ++ more → Begins xs ys
-Begins-by xs ys more e = (more, e)
-
 pub length-begins : {A : Type 0} (xs ys : List A) → Begins xs ys → length xs ≤ length ys
 length-begins xs ys b = omega (arith, ap length b.1, length-append xs b.0)
 

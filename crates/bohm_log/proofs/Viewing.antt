@@ -21,9 +21,6 @@ mapped_get f xs i x e =
     let within : i < length xs = slice_get_within xs i x e in
     mapped_at f xs i x within (sym (get_or_from_slice_get xs i x x e))
 
-pub mapped_within : {A B : Type 0} (f : A → B) (xs : List A) (n i : ℕ) → length (map f xs) ≡ n → i < n → i < length xs
-mapped_within f xs n i e h = omega (arith, length-map xs f)
-
 pub mapped_length : {A B : Type 0} (f : A → B) (xs : List A) → length (map f xs) ≡ length xs
 mapped_length f xs = length-map xs f
 

@@ -91,15 +91,6 @@ numbered c d k id is e = subst (λ x. NumbersCome c x (k ∷ [])) (sym e) (
       same = rw (get_or_from_slice_get (with_name c.names k) id k [] is) refl;
     })
 
-pub no_numbers_come : (c : Shared) → NumbersCome c c []
-no_numbers_come c = record {
-  interns = record { widens = itself c c.names (Begins-itself c.names); ids = λ h. h };
-  more = [];
-  added = sym (append-nil c.ids);
-  named = All-nil (λ i. i < length c.names);
-  same = refl;
-}
-
 pub more_numbers_come : (c d e : Shared) (xs ys : List (List ℕ)) → NumbersCome c d xs → NumbersCome d e ys → NumbersCome c e (xs ++ ys)
 more_numbers_come c d e xs ys a b = record {
   interns = interns_both c d e a.interns b.interns;

@@ -1,6 +1,6 @@
 //! The transaction that is being read.
 
-ghost use Rattle.std.specs.Prelude.{◌≡◌, ◌<◌, ◌≤◌, [], ◌∷◌, OnOk, OnErr, length, Some, None};
+ghost use Rattle.std.specs.Prelude.{◌≡◌, ◌<◌, [], OnOk, OnErr, length, Some, None};
 ghost use Rattle.bohm_tree.specs.declared.term.Atom.TheVariants.{Lit, Read, Local};
 ghost use Rattle.bohm_tree.specs.declared.stmt.Stmt.TheVariants as stmts;
 ghost use Rattle.bohm_log.specs.Drafting.{fresh, with_read, with_write, with_term, with_sum, with_stmt, made_of, put_of, need_of, parts_of, IsBare, IsBetween, IsNamed, IsNameless};

@@ -6,7 +6,7 @@ ghost use Rattle.std.specs.Cmp.{partial_equiv_from_equiv};
 ghost use Rattle.std.specs.Cmp.Lexicographic.{pointwise, slice_cmp, nat_list_eq_equiv, nat_list_cmp_total, texts_ties, texts_po};
 ghost use Rattle.std.proofs.Common.{refl};
 ghost use Rattle.std.specs.Int.{w64, from_be_bytes, to_be_bytes};
-ghost use Rattle.std.specs.List.{list_all, slice_index_or, position_from};
+ghost use Rattle.std.specs.List.{list_all, position_from};
 ghost use Rattle.std.specs.Str.{bytes_eq};
 ghost use Rattle.bohm_tree.specs.Name.{key_of, is_name, is_name_byte, place};
 ghost use Rattle.bohm_log.specs.Words.{padded, words_of, spread};

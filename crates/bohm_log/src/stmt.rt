@@ -4,7 +4,7 @@ ghost use Rattle.std.specs.Prelude.{◌≡◌, ◌<◌, length, map, Some, slice
 ghost use Rattle.bohm_tree.specs.Parts.{tested, target, bound, is_show};
 ghost use Rattle.bohm_log.specs.Parts.{KeyIn, RowIn, key_at, names_at, stmt_of};
 ghost use Rattle.bohm_log.specs.Columns.{AllNamed};
-ghost use Rattle.bohm_log.specs.Seeing.{parts_seen, stmt_shown, cond_shown, IsSeen};
+ghost use Rattle.bohm_log.specs.Seeing.{parts_seen, stmt_shown, IsSeen};
 
 use crate::name::Name;
 use crate::row::{Action, StmtRow};

@@ -1,6 +1,6 @@
 //! A transaction as a view of the columns.
 
-ghost use Rattle.std.specs.Prelude.{◌≡◌, ◌<◌, length, map, Some, slice_get};
+ghost use Rattle.std.specs.Prelude.{◌≡◌, ◌<◌, length, Some, slice_get};
 ghost use Rattle.bohm_log.specs.Parts.{names_at, txn_of};
 ghost use Rattle.bohm_log.specs.Columns.{AllNamed};
 
