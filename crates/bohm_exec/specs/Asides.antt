@@ -1,7 +1,8 @@
 -- What a sweep sets aside.
-use Rattle.std.specs.Prelude.{◌≡◌, ℕ, List, [], ◌∷◌, map, Contains, ◌⊎◌}
+use Rattle.std.specs.Prelude.{◌≡◌, ℕ, List, [], ◌∷◌, ◌++◌, All, map, Contains, ◌⊎◌}
 use Rattle.bohm_board.specs.declared.batch.Batch.{Batch}
 use Rattle.bohm_board.specs.declared.view.View.{View}
+use Rattle.bohm_board.specs.Batches.{Leads}
 use Rattle.bohm_board.specs.Passes.{IsDone}
 
 -- pairs of a position that was set aside and of the one that was Busy
@@ -17,6 +18,11 @@ busy_in pairs = map (λ p. p.1) pairs
 -- the pass saw the position Done, or the position stands in a pair
 abbrev pub IsAccountedFor : Batch → View → Pairs → ℕ → Type 0
 IsAccountedFor b v pairs t = IsDone b v t ⊎ Contains (positions_in pairs) t
+
+-- each pair's position leads to its Busy one, and these are what the pass has seen Busy in between
+pub record IsLedToBusy (b : Batch) (v w : View) (pairs : Pairs) : Type 0 where
+  pub leads : All (λ p. Leads b p.0 p.1) pairs
+  pub busy : w.busy ≡ v.busy ++ busy_in pairs
 
 -- the first list is the second without some of its places
 abbrev pub IsPickedFrom : List ℕ → List ℕ → Type 0

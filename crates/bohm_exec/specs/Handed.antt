@@ -1,14 +1,15 @@
 -- The cells that a position is evaluated over, and what its evaluation leaves.
-use Rattle.std.specs.Prelude.{◌≡◌, ℕ, ◌-◌, ◌<◌, List, length, Contains, Some, slice_get, unwrap_or, false}
+use Rattle.std.specs.Prelude.{◌≡◌, ℕ, ◌-◌, ◌<◌, ◌≤◌, List, length, Contains, Some, slice_get, unwrap_or, false}
 use Rattle.bohm_tree.specs.declared.cell.Cell.{Cell}
 use Rattle.bohm_tree.specs.declared.txn.Txn.{Txn}
 use Rattle.bohm_txn.specs.Results.{Results}
 use Rattle.bohm_place.specs.declared.access.Access.{Access}
 use Rattle.bohm_place.specs.declared.access.Source.TheVariants.{Within}
+use Rattle.bohm_place.specs.declared.declared_set.DeclaredSet.{DeclaredSet}
 use Rattle.bohm_board.specs.declared.batch.Batch.{Batch}
 use Rattle.bohm_board.specs.declared.slot.Slot.{Slot}
 use Rattle.bohm_board.specs.declared.view.View.{View}
-use Rattle.bohm_board.specs.Batches.{IsRightCell, is_sure_at, reads_at, writes_at, slot_in, wanted_at, width_at}
+use Rattle.bohm_board.specs.Batches.{accesses_in, IsRightCell, is_sure_at, reads_at, writes_at, slot_in, wanted_at, width_at}
 use Rattle.bohm_board.specs.Inputs.{AreCellsOf}
 use Rattle.bohm_board.specs.Passes.{IsKnown}
 use Rattle.bohm_exec.specs.Moments.{shown}
@@ -16,6 +17,12 @@ use Rattle.bohm_exec.specs.Moments.{shown}
 -- a position wants the versions of these accesses
 abbrev pub AreWanted : Batch → ℕ → List Access → Type 0
 AreWanted b t accesses = (a : Access) → Contains accesses a → Contains (wanted_at b t) a
+
+-- a position wants the versions of a declared set's accesses, and each has a place among the cells
+pub record AwaitsCells (b : Batch) (t : ℕ) (set : DeclaredSet) (cells : List Cell) : Type 0 where
+  pub wanted : AreWanted b t (accesses_in set b t)
+  pub paired : length (accesses_in set b t) ≡ length cells
+  pub few : length cells ≤ 16
 
 -- each version of the batch among these was seen filled
 abbrev pub KnowsAll : Batch → View → List Access → Type 0

@@ -1,13 +1,14 @@
 -- What a pass learns in one turn on a position.
-use Rattle.std.specs.Prelude.{◌≡◌, ℕ, [], ◌∷◌, ◌++◌}
+use Rattle.std.specs.Prelude.{◌≡◌, ◌≤◌, ℕ, [], ◌∷◌, ◌++◌, Vec, length, vec_capacity}
+use Rattle.std.specs.Global.{Global}
 use Rattle.bohm_board.specs.declared.batch.Batch.{Batch}
 use Rattle.bohm_board.specs.declared.board.Board.{Board}
 use Rattle.bohm_board.specs.declared.pass.Pass.{Pass}
 use Rattle.bohm_board.specs.declared.status.Claimed.{Claimed}
 use Rattle.bohm_board.specs.declared.status.Claimed.TheVariants as claimed
 use Rattle.bohm_board.specs.declared.view.View.{View}
-use Rattle.bohm_board.specs.Batches.{Wants}
-use Rattle.bohm_board.specs.Passes.{IsPassOf, HoldsNothing, IsDone, Keeps, view}
+use Rattle.bohm_board.specs.Batches.{IsIn, Wants, txns_of}
+use Rattle.bohm_board.specs.Passes.{IsPassOf, Holds, HoldsNothing, IsDone, Keeps, KnowsWanted, batch_of, view}
 use Rattle.bohm_exec.specs.declared.turns.Turned.{Turned}
 use Rattle.bohm_exec.specs.declared.turns.Turned.TheVariants.{Done, Busy, Needs}
 
@@ -15,6 +16,28 @@ use Rattle.bohm_exec.specs.declared.turns.Turned.TheVariants.{Done, Busy, Needs}
 pub record IsFree (b : Board) (p : Pass) : Type 0 where
   pub own : IsPassOf b p
   pub free : HoldsNothing (view p)
+
+-- a pass of the board, and a position of the board's batch
+pub record IsPassFor (b : Board) (p : Pass) (t : ℕ) : Type 0 where
+  pub own : IsPassOf b p
+  pub inside : IsIn (batch_of b) t
+
+-- a pass that has claimed the position, knows its wanted slots, and has filled none of its own
+pub record HasClaimed (b : Board) (p : Pass) (t : ℕ) : Type 0 where
+  pub own : IsPassOf b p
+  pub inside : IsIn (batch_of b) t
+  pub held : Holds (batch_of b) (view p) t
+  pub wanted : KnowsWanted (batch_of b) (view p) t
+  pub empty : (view p).filled ≡ []
+
+-- a position wants this one, which the pass hasn't seen Done
+abbrev pub IsMissing : Batch → View → ℕ → ℕ → Type 0
+IsMissing b v t u = Wants b t u × ¬ IsDone b v u
+
+-- nothing is on the stack, and all positions of the batch have room on it
+pub record IsEmptyFor (b : Batch) (stack : Vec ℕ Global) : Type 0 where
+  pub empty : stack.items ≡ []
+  pub room : length (txns_of b) ≤ vec_capacity stack
 
 -- slots were looked up, and nothing else changed
 pub record LooksOnly (v w : View) : Type 0 where

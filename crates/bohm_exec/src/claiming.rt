@@ -1,10 +1,9 @@
 //! What a pass does for one position.
 
-ghost use Rattle.std.specs.Prelude.{◌≡◌, []};
 ghost use Rattle.bohm_board.specs.Batches.{IsIn, IsRightOutcome};
-ghost use Rattle.bohm_board.specs.Passes.{IsPassOf, Holds, Keeps, KnowsWanted, batch_of, view};
+ghost use Rattle.bohm_board.specs.Passes.{Keeps, batch_of, view};
 ghost use Rattle.bohm_exec.specs.Handed.{AreRightSlots};
-ghost use Rattle.bohm_exec.specs.Turns.{IsFree, SeesDone, TookTurn};
+ghost use Rattle.bohm_exec.specs.Turns.{HasClaimed, IsFree, SeesDone, TookTurn};
 
 use crate::evaluation::evaluate;
 use crate::filling::fill_all;
@@ -16,11 +15,7 @@ use bohm_txn::{Cell, Outcome, Scratch, sure};
 
 /// Fills all slots of the position that the pass holds, and gives it its outcome.
 pub(crate) fn settle(board: &Board, pass: &mut Pass, t: u32, outcome: Outcome, scratch: &Scratch)
-    requires own { IsPassOf board.now pass.old }
-    requires inside { IsIn (batch_of board.now) t }
-    requires held { Holds (batch_of board.now) (view pass.old) t }
-    requires wanted { KnowsWanted (batch_of board.now) (view pass.old) t }
-    requires empty { (view pass.old).filled ≡ [] }
+    requires claimed { HasClaimed board.now pass.old t }
     requires outcome { IsRightOutcome (batch_of board.now) t outcome }
     requires cells { AreRightSlots (batch_of board.now) t scratch.now }
     ensures free { IsFree board.now pass.new }

@@ -1,11 +1,11 @@
 //! Evaluating what no sweep has finished.
 
-ghost use Rattle.std.specs.Prelude.{◌≡◌, ◌≢◌, ◌≤◌, ◌<◌, ℕ, length};
+ghost use Rattle.std.specs.Prelude.{◌≡◌, ◌≢◌, ◌<◌, ℕ};
 ghost use Rattle.bohm_board.specs.Batches.{accesses_in, IsIn, position, width_at};
 ghost use Rattle.bohm_board.specs.Closings.{batch_of_closed, status_in, IsFinished, IsUnfinished, HasCell};
-ghost use Rattle.bohm_exec.specs.Answers.{batch_of_finished};
+ghost use Rattle.bohm_exec.specs.Answers.{batch_of_finished, IsFinishedBefore};
 ghost use Rattle.bohm_exec.specs.Asides.{IsSetAside};
-ghost use Rattle.bohm_exec.specs.Handed.{AreWanted, AreFound, AreRightSlots, slot_of};
+ghost use Rattle.bohm_exec.specs.Handed.{AwaitsCells, AreFound, AreRightSlots, slot_of};
 
 use crate::aside::Aside;
 use crate::evaluation::{evaluate, slot_cell};
@@ -19,11 +19,10 @@ use bohm_txn::{Cell, Scratch, sure};
 /// their places.
 fn take_cells(closed: &Closed, t: u32, set: DeclaredSet, cells: &mut [Cell])
     requires inside { IsIn (batch_of_closed closed.now) t }
-    requires before { (u : ℕ) → IsIn (batch_of_closed closed.now) u → u < t → IsFinished closed.now u }
-    requires wanted { AreWanted (batch_of_closed closed.now) t (accesses_in set (batch_of_closed closed.now) t) }
-    requires paired { length (accesses_in set (batch_of_closed closed.now) t) ≡ length cells.old }
-    requires few { length cells.old ≤ 16 }
-    ensures { AreFound (batch_of_closed closed.now) (accesses_in set (batch_of_closed closed.now) t) cells.new }
+    requires before { IsFinishedBefore closed.now t }
+    requires awaits { AwaitsCells (batch_of_closed closed.now) t set cells.old }
+    ensures { AreFound (batch_of_closed closed.now)
+        (accesses_in set (batch_of_closed closed.now) t) cells.new }
 {
     let batch = closed.batch();
     for index in 0..cells.len() {
@@ -51,7 +50,8 @@ fn put_cells(closed: &mut Closed, t: u32, scratch: &Scratch)
     requires right { AreRightSlots (batch_of_closed closed.old) t scratch.now }
     ensures batch { batch_of_closed closed.new ≡ batch_of_closed closed.old }
     ensures statuses { (u : ℕ) → status_in closed.new u ≡ status_in closed.old u }
-    ensures all { (j : ℕ) → j < width_at (batch_of_closed closed.old) t → HasCell closed.new (slot_of t j) }
+    ensures all { (j : ℕ) →
+        j < width_at (batch_of_closed closed.old) t → HasCell closed.new (slot_of t j) }
 {
     let width = width_at(closed.batch(), t);
     for index in 0..width {
@@ -63,10 +63,12 @@ fn put_cells(closed: &mut Closed, t: u32, scratch: &Scratch)
 fn evaluate_left(closed: &mut Closed, t: u32, scratch: &mut Scratch)
     requires inside { IsIn (batch_of_closed closed.old) t }
     requires unfinished { IsUnfinished closed.old t }
-    requires before { (u : ℕ) → IsIn (batch_of_closed closed.old) u → u < t → IsFinished closed.old u }
+    requires before { IsFinishedBefore closed.old t }
     ensures batch { batch_of_closed closed.new ≡ batch_of_closed closed.old }
     ensures finished { IsFinished closed.new t }
-    ensures others { (u : ℕ) → position (batch_of_closed closed.old) u ≢ position (batch_of_closed closed.old) t → status_in closed.new u ≡ status_in closed.old u }
+    ensures others { (u : ℕ) →
+        position (batch_of_closed closed.old) u ≢ position (batch_of_closed closed.old) t →
+        status_in closed.new u ≡ status_in closed.old u }
 {
     let txn = closed.batch().txn(t);
     let sure = sure(txn);
@@ -86,7 +88,8 @@ fn evaluate_left(closed: &mut Closed, t: u32, scratch: &mut Scratch)
 /// Evaluates in log order each position without an outcome. It allocates nothing. Such a position was
 /// set aside by a sweep, as one of the `Aside`s shows.
 pub fn complete<'a>(mut closed: Closed<'a>, asides: &[Aside], scratch: &mut Scratch) -> Finished<'a>
-    requires aside { (t : ℕ) → IsIn (batch_of_closed closed) t → IsUnfinished closed t → IsSetAside asides.now t }
+    requires aside { (t : ℕ) →
+        IsIn (batch_of_closed closed) t → IsUnfinished closed t → IsSetAside asides.now t }
     ensures batch { batch_of_finished result ≡ batch_of_closed closed.entry }
 {
     let _ = asides;

@@ -17,7 +17,8 @@ fn add_base(batch: &Batch, t: u32, set: DeclaredSet, cells: &mut [Cell])
     requires paired { length (accesses_in set batch.now t) ≡ length cells.old }
     requires few { length cells.old ≤ 16 }
     requires found { AreFound batch.now (accesses_in set batch.now t) cells.old }
-    ensures { (x : Txn) → txn_at batch.now t ≡ Some x → AreCellsOf batch.now (keys_in set x) (accesses_in set batch.now t) cells.new }
+    ensures { (x : Txn) → txn_at batch.now t ≡ Some x →
+        AreCellsOf batch.now (keys_in set x) (accesses_in set batch.now t) cells.new }
 {
     for index in 0..cells.len() {
         match batch.access(set, t, index as u32).source {

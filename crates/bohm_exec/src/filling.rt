@@ -1,12 +1,12 @@
 //! Filling the slots of a position.
 
-ghost use Rattle.std.specs.Prelude.{◌≡◌, ◌<◌, [], Some, ℕ};
+ghost use Rattle.std.specs.Prelude.{◌≡◌};
 ghost use Rattle.bohm_txn.specs.Faulty.{IsWellFormedTxn};
-ghost use Rattle.bohm_board.specs.Batches.{IsIn, IsRightOutcome, position, txns_of, width_at};
-ghost use Rattle.bohm_board.specs.Passes.{IsPassOf, Holds, KnowsWanted, HasFilledAll, batch_of, view};
+ghost use Rattle.bohm_board.specs.Batches.{IsIn, width_at};
+ghost use Rattle.bohm_board.specs.Passes.{IsPassOf, HasFilledAll, batch_of, view};
 ghost use Rattle.bohm_board.specs.Serial.{width};
 ghost use Rattle.bohm_exec.specs.Handed.{AreRightSlots};
-ghost use Rattle.bohm_exec.specs.Turns.{FillsOnly};
+ghost use Rattle.bohm_exec.specs.Turns.{FillsOnly, HasClaimed};
 
 use crate::evaluation::slot_cell;
 use bohm_board::{Batch, Board, Pass, Slot};
@@ -36,11 +36,7 @@ pub(crate) fn width_at(batch: &Batch, t: u32) -> u32
 
 /// Fills all slots of the position that the pass holds.
 pub(crate) fn fill_all(board: &Board, pass: &mut Pass, t: u32, scratch: &Scratch)
-    requires own { IsPassOf board.now pass.old }
-    requires inside { IsIn (batch_of board.now) t }
-    requires held { Holds (batch_of board.now) (view pass.old) t }
-    requires wanted { KnowsWanted (batch_of board.now) (view pass.old) t }
-    requires empty { (view pass.old).filled ≡ [] }
+    requires claimed { HasClaimed board.now pass.old t }
     requires right { AreRightSlots (batch_of board.now) t scratch.now }
     ensures own { IsPassOf board.now pass.new }
     ensures view { FillsOnly (view pass.old) (view pass.new) }

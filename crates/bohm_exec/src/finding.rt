@@ -1,10 +1,10 @@
 //! What a position is evaluated over, looked up on the board.
 
-ghost use Rattle.std.specs.Prelude.{◌≡◌, ◌≤◌, length, IfSome, IsNone};
-ghost use Rattle.bohm_board.specs.Batches.{accesses_in, IsIn, Wants, is_sure_at};
-ghost use Rattle.bohm_board.specs.Passes.{IsPassOf, IsDone, KnowsWanted, batch_of, view};
-ghost use Rattle.bohm_exec.specs.Handed.{AreWanted, KnowsAll, AreFound, ArePaired, IsFound};
-ghost use Rattle.bohm_exec.specs.Turns.{LooksOnly};
+ghost use Rattle.std.specs.Prelude.{◌≡◌, IfSome, IsNone};
+ghost use Rattle.bohm_board.specs.Batches.{accesses_in, is_sure_at};
+ghost use Rattle.bohm_board.specs.Passes.{IsPassOf, KnowsWanted, batch_of, view};
+ghost use Rattle.bohm_exec.specs.Handed.{AwaitsCells, KnowsAll, AreFound, ArePaired, IsFound};
+ghost use Rattle.bohm_exec.specs.Turns.{IsMissing, IsPassFor, LooksOnly};
 
 use bohm_board::{Board, Pass, Slot};
 use bohm_place::{DeclaredSet, Source};
@@ -13,16 +13,15 @@ use bohm_txn::Cell;
 /// Looks up the versions of the batch among the accesses of a declared set, and puts their cells at
 /// their places. Answers the producer of the first one that isn't there yet.
 fn find(board: &Board, pass: &mut Pass, t: u32, set: DeclaredSet, cells: &mut [Cell]) -> Option<u32>
-    requires own { IsPassOf board.now pass.old }
-    requires inside { IsIn (batch_of board.now) t }
-    requires wanted { AreWanted (batch_of board.now) t (accesses_in set (batch_of board.now) t) }
-    requires paired { length (accesses_in set (batch_of board.now) t) ≡ length cells.old }
-    requires few { length cells.old ≤ 16 }
+    requires pass { IsPassFor board.now pass.old t }
+    requires awaits { AwaitsCells (batch_of board.now) t set cells.old }
     ensures own { IsPassOf board.now pass.new }
     ensures view { LooksOnly (view pass.old) (view pass.new) }
-    ensures missing { IfSome result (λ u. Wants (batch_of board.now) t u × ¬ IsDone (batch_of board.now) (view pass.old) u) }
-    ensures known { IsNone result → KnowsAll (batch_of board.now) (view pass.new) (accesses_in set (batch_of board.now) t) }
-    ensures found { IsNone result → AreFound (batch_of board.now) (accesses_in set (batch_of board.now) t) cells.new }
+    ensures missing { IfSome result (IsMissing (batch_of board.now) (view pass.old) t) }
+    ensures known { IsNone result →
+        KnowsAll (batch_of board.now) (view pass.new) (accesses_in set (batch_of board.now) t) }
+    ensures found { IsNone result →
+        AreFound (batch_of board.now) (accesses_in set (batch_of board.now) t) cells.new }
 {
     let batch = board.batch();
     for index in 0..cells.len() {
@@ -53,13 +52,12 @@ pub(crate) fn find_wanted(
     reads: &mut [Cell],
     earlier: &mut [Cell],
 ) -> Option<u32>
-    requires own { IsPassOf board.now pass.old }
-    requires inside { IsIn (batch_of board.now) t }
+    requires pass { IsPassFor board.now pass.old t }
     requires sure { sure ≡ is_sure_at (batch_of board.now) t }
     requires paired { ArePaired (batch_of board.now) t reads.old earlier.old }
     ensures own { IsPassOf board.now pass.new }
     ensures view { LooksOnly (view pass.old) (view pass.new) }
-    ensures missing { IfSome result (λ u. Wants (batch_of board.now) t u × ¬ IsDone (batch_of board.now) (view pass.old) u) }
+    ensures missing { IfSome result (IsMissing (batch_of board.now) (view pass.old) t) }
     ensures known { IsNone result → KnowsWanted (batch_of board.now) (view pass.new) t }
     ensures found { IsNone result → IsFound (batch_of board.now) t reads.new earlier.new }
 {

@@ -25,40 +25,56 @@ pub fn reached_is_lawful()
 
 /// In a list of events each position has at most one claim that is answered Mine, and at most one finish.
 pub fn claimed_and_finished_once()
-    ensures claim { (b : Batch) (es : List Event) (t : ℕ) → IsRun b (empty b) es → count_by (wins t) es ≤ 1 }
-    ensures finish { (b : Batch) (es : List Event) (t : ℕ) → IsRun b (empty b) es → count_by (finishes t) es ≤ 1 }
+    ensures claim { (b : Batch) (es : List Event) (t : ℕ) →
+        IsRun b (empty b) es → count_by (wins t) es ≤ 1 }
+    ensures finish { (b : Batch) (es : List Event) (t : ℕ) →
+        IsRun b (empty b) es → count_by (finishes t) es ≤ 1 }
 {}
 
 /// Whatever events follow, presences, outcomes, and the values of slots that are `Present` stay.
 pub fn filled_and_done_stay()
-    ensures { (b : Batch) (s : State) (es : List Event) → Reached b s → IsRun b s es → Stays s (leave s es) }
+    ensures { (b : Batch) (s : State) (es : List Event) →
+        Reached b s → IsRun b s es → Stays s (leave s es) }
 {}
 
 // ---- of inputs
 
 /// The input of a transaction has at each key that it declares the cell by the key's access.
 pub fn input_is_by_access()
-    ensures reads { (b : Batch) (s : State) (t j : ℕ) (txn : Txn) (k : List ℕ) (a : Access) → txn_at b t ≡ Some txn → slice_get txn.reads j ≡ Some k → slice_get (reads_at b t) j ≡ Some a → input b s t txn k ≡ cell_at b s k a }
-    ensures writes { (b : Batch) (s : State) (t j : ℕ) (txn : Txn) (k : List ℕ) (a : Access) → txn_at b t ≡ Some txn → slice_get txn.writes j ≡ Some k → slice_get (writes_at b t) j ≡ Some a → input b s t txn k ≡ cell_at b s k a }
+    ensures reads { (b : Batch) (s : State) (t j : ℕ) (txn : Txn) (k : List ℕ) (a : Access) →
+        txn_at b t ≡ Some txn → slice_get txn.reads j ≡ Some k →
+        slice_get (reads_at b t) j ≡ Some a → input b s t txn k ≡ cell_at b s k a }
+    ensures writes { (b : Batch) (s : State) (t j : ℕ) (txn : Txn) (k : List ℕ) (a : Access) →
+        txn_at b t ≡ Some txn → slice_get txn.writes j ≡ Some k →
+        slice_get (writes_at b t) j ≡ Some a → input b s t txn k ≡ cell_at b s k a }
 {}
 
 /// On a state that meets the board law, a position whose wanted slots are filled gets over its input the
 /// right outcome and the right cells, and no others.
 pub fn input_gives_what_is_right()
-    ensures outcome { (b : Batch) (s : State) (t : ℕ) (o : Outcome) → IsLawful b s → IsIn b t → HasWanted b s t → (outcome_over b s t ≡ Some o) ↔ IsRightOutcome b t o }
-    ensures cell { (b : Batch) (s : State) (x : Slot) (c : Cell) → IsLawful b s → IsSlot b x → HasWanted b s x.txn → (cell_over b s x ≡ Some c) ↔ IsRightCell b x c }
+    ensures outcome { (b : Batch) (s : State) (t : ℕ) (o : Outcome) →
+        IsLawful b s → IsIn b t → HasWanted b s t →
+        (outcome_over b s t ≡ Some o) ↔ IsRightOutcome b t o }
+    ensures cell { (b : Batch) (s : State) (x : Slot) (c : Cell) →
+        IsLawful b s → IsSlot b x → HasWanted b s x.txn →
+        (cell_over b s x ≡ Some c) ↔ IsRightCell b x c }
 {}
 
 /// The wanted sources of a sure transaction are those of its reads alone.
 pub fn sure_wants_its_reads()
-    ensures { (b : Batch) (t : ℕ) (txn : Txn) → txn_at b t ≡ Some txn → IsSure txn → wanted_at b t ≡ reads_at b t }
+    ensures { (b : Batch) (t : ℕ) (txn : Txn) →
+        txn_at b t ≡ Some txn → IsSure txn → wanted_at b t ≡ reads_at b t }
 {}
 
 /// So where a pass knows the wanted slots of the position that it holds, to fill one of its slots with
 /// the right cell, or to finish it with the right outcome, is what the core allows.
 pub fn right_steps_are_the_cores()
-    ensures fill { (b : Batch) (s : State) (p : ℕ) (x : Slot) (c : Cell) → IsLawful b s → IsSlot b x → Holds b (s.views p) x.txn → ¬ Contains (s.views p).filled x → KnowsWanted b (s.views p) x.txn → IsRightCell b x c → MayFill b s p x c }
-    ensures finish { (b : Batch) (s : State) (p t : ℕ) (o : Outcome) → IsLawful b s → IsIn b t → Holds b (s.views p) t → HasFilledAll b (s.views p) t → KnowsWanted b (s.views p) t → IsRightOutcome b t o → MayFinish b s p t o }
+    ensures fill { (b : Batch) (s : State) (p : ℕ) (x : Slot) (c : Cell) →
+        IsLawful b s → IsSlot b x → Holds b (s.views p) x.txn → ¬ Contains (s.views p).filled x →
+        KnowsWanted b (s.views p) x.txn → IsRightCell b x c → MayFill b s p x c }
+    ensures finish { (b : Batch) (s : State) (p t : ℕ) (o : Outcome) →
+        IsLawful b s → IsIn b t → Holds b (s.views p) t → HasFilledAll b (s.views p) t →
+        KnowsWanted b (s.views p) t → IsRightOutcome b t o → MayFinish b s p t o }
 {}
 
 // ---- of shares
@@ -66,8 +82,10 @@ pub fn right_steps_are_the_cores()
 /// Each position of a batch stands in the share of the worker whose number is its distance from the
 /// first, modulo the number of workers; and a share has positions of the batch alone.
 pub fn shares_cover_the_batch()
-    ensures covers { (first len workers t : ℕ) → first ≤ t → t < first + len → Contains (share first len ((t - first) % workers) workers) t }
-    ensures inside { (first len worker workers : ℕ) → All (λ t. (first ≤ t) × (t < first + len)) (share first len worker workers) }
+    ensures covers { (first len workers t : ℕ) →
+        first ≤ t → t < first + len → Contains (share first len ((t - first) % workers) workers) t }
+    ensures inside { (first len worker workers : ℕ) →
+        All (λ t. (first ≤ t) × (t < first + len)) (share first len worker workers) }
 {}
 
 /// What is set aside of a share is of the share.

@@ -1,9 +1,9 @@
 //! How a pass brings one position about.
 
-ghost use Rattle.std.specs.Prelude.{◌≡◌, ◌≤◌, ◌∷◌, [], ◌++◌, MatchOption, length, vec_capacity};
-ghost use Rattle.bohm_board.specs.Batches.{IsIn, Leads, txns_of};
+ghost use Rattle.std.specs.Prelude.{◌≡◌, ◌∷◌, [], ◌++◌, MatchOption};
+ghost use Rattle.bohm_board.specs.Batches.{IsIn, Leads};
 ghost use Rattle.bohm_board.specs.Passes.{IsDone, Keeps, batch_of, view};
-ghost use Rattle.bohm_exec.specs.Turns.{IsFree};
+ghost use Rattle.bohm_exec.specs.Turns.{IsEmptyFor, IsFree};
 
 use crate::claiming::turn;
 use crate::gate::Gate;
@@ -24,14 +24,16 @@ pub(crate) fn pursue<G: Gate>(
 ) -> Option<u32>
     requires free { IsFree board.now pass.old }
     requires inside { IsIn (batch_of board.now) start }
-    requires empty { stack.old.items ≡ [] }
-    requires room { length (txns_of (batch_of board.now)) ≤ vec_capacity stack.old }
+    requires stack { IsEmptyFor (batch_of board.now) stack.old }
     ensures free { IsFree board.now pass.new }
-    ensures empty { stack.new.items ≡ [] }
-    ensures room { vec_capacity stack.old ≤ vec_capacity stack.new }
+    ensures stack { IsEmptyFor (batch_of board.now) stack.new }
     ensures keeps { Keeps (view pass.old) (view pass.new) }
-    ensures done { MatchOption result (IsDone (batch_of board.now) (view pass.new) start) (Leads (batch_of board.now) start) }
-    ensures busy { MatchOption result ((view pass.new).busy ≡ (view pass.old).busy) (λ v. (view pass.new).busy ≡ (view pass.old).busy ++ v ∷ []) }
+    ensures done { MatchOption result
+        (IsDone (batch_of board.now) (view pass.new) start)
+        (Leads (batch_of board.now) start) }
+    ensures busy { MatchOption result
+        ((view pass.new).busy ≡ (view pass.old).busy)
+        (λ v. (view pass.new).busy ≡ (view pass.old).busy ++ v ∷ []) }
 {
     let Ok(()) = stack.push(start) else {
         unreachable!()

@@ -18,7 +18,8 @@ pub fn share_of(
 ) -> Result<Vec<u32>, NoMemory>
     requires timestamps { first + len ≤ 2 ^ 32 }
     requires worker { worker < workers }
-    ensures { IfOk result (λ share. share.items ≡ filter (λ t. (t - first) % workers == worker) (range_with_len first len)) }
+    ensures { IfOk result (λ share.
+        share.items ≡ filter (λ t. (t - first) % workers == worker) (range_with_len first len)) }
 {
     let mut share = Vec::with_capacity(alloc, (len / workers) as usize + 1)?;
     for distance in 0..len {

@@ -1,9 +1,10 @@
 //! A sweep of a share of the positions.
 
-ghost use Rattle.std.specs.Prelude.{◌≡◌, ◌++◌, All, IfOk, OnErr};
-ghost use Rattle.bohm_board.specs.Batches.{IsIn, Leads};
-ghost use Rattle.bohm_board.specs.Passes.{IsPassOf, HoldsNothing, Keeps, batch_of, view};
-ghost use Rattle.bohm_exec.specs.Asides.{IsAccountedFor, IsPickedFrom, positions_in, busy_in};
+ghost use Rattle.std.specs.Prelude.{◌≡◌, All, IfOk, OnErr};
+ghost use Rattle.bohm_board.specs.Batches.{IsIn};
+ghost use Rattle.bohm_board.specs.Passes.{Keeps, batch_of, view};
+ghost use Rattle.bohm_exec.specs.Asides.{IsAccountedFor, IsLedToBusy, IsPickedFrom, positions_in};
+ghost use Rattle.bohm_exec.specs.Turns.{IsFree};
 
 use crate::aside::Aside;
 use crate::gate::Gate;
@@ -23,16 +24,14 @@ pub fn sweep<G: Gate>(
     gate: &G,
     scratch: &mut Scratch,
 ) -> Result<Aside, NoMemory>
-    requires own { IsPassOf board.now pass.old }
-    requires free { HoldsNothing (view pass.old) }
+    requires free { IsFree board.now pass.old }
     requires inside { All (IsIn (batch_of board.now)) share.now }
-    ensures own { IsPassOf board.now pass.new }
-    ensures free { HoldsNothing (view pass.new) }
+    ensures free { IsFree board.now pass.new }
     ensures refused { OnErr result (view pass.new ≡ view pass.old) }
     ensures keeps { Keeps (view pass.old) (view pass.new) }
-    ensures each { IfOk result (λ aside. All (IsAccountedFor (batch_of board.now) (view pass.new) aside) share.now) }
-    ensures leads { IfOk result (λ aside. All (λ p. Leads (batch_of board.now) p.0 p.1) aside) }
-    ensures busy { IfOk result (λ aside. (view pass.new).busy ≡ (view pass.old).busy ++ busy_in aside) }
+    ensures each { IfOk result (λ aside.
+        All (IsAccountedFor (batch_of board.now) (view pass.new) aside) share.now) }
+    ensures busy { IfOk result (IsLedToBusy (batch_of board.now) (view pass.old) (view pass.new)) }
     ensures order { IfOk result (λ aside. IsPickedFrom (positions_in aside) share.now) }
 {
     let mut stack = Vec::with_capacity(alloc, board.batch().len() as usize)?;

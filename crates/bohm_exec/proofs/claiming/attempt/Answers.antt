@@ -40,10 +40,15 @@ evaluate-outcome-requires-clause-paired g c =
     let here : ArePaired b c.args.t c.find_wanted.new.reads c.find_wanted.new.earlier = record { of_reads = omega arith; of_writes = omega arith } in
     subst (λ (z : Batch). ArePaired z c.args.t c.find_wanted.new.reads c.find_wanted.new.earlier) (sym c.batch-batch.ensures) here
 
-pub settle-requires-clause-wanted : goal.settle-requires-clause-wanted
-settle-requires-clause-wanted g c =
-    let now = c.in-Mine.ensures.view in
-    wanted_stays (batch_of c.args.board.now) (view c.find_wanted.new.pass) (view c.claim.new.pass) c.args.t (ap (λ (z : View). z.absent) now) (ap (λ (z : View). z.present) now) (c.in_default.ensures.known refl)
+pub settle-requires-clause-claimed : goal.settle-requires-clause-claimed
+settle-requires-clause-claimed g c =
+    let now = c.in-Mine.ensures.view in record {
+      own = c.claim.ensures.own;
+      inside = c.requires.inside;
+      held = ap (λ (z : View). z.held) now;
+      wanted = wanted_stays (batch_of c.args.board.now) (view c.find_wanted.new.pass) (view c.claim.new.pass) c.args.t (ap (λ (z : View). z.absent) now) (ap (λ (z : View). z.present) now) (c.in_default.ensures.known refl);
+      empty = ap (λ (z : View). z.filled) now;
+    }
 
 pub returns-in-Mine-clause-keeps : goal.returns-in-Mine-clause-keeps
 returns-in-Mine-clause-keeps g c =

@@ -15,27 +15,20 @@ whole_as_front-earlier c =
     let b = batch_of_closed c.args.closed.now in
     (omega (arith, few_writes b c.args.t c.requires.inside, long_writes b c.batch.result.now c.args.t c.txn-txn.result.now c.as_slice-2.result.now c.batch.ensures c.txn-txn.ensures c.as_slice-2.ensures), omega arith)
 
-pub take_cells-requires-clause-wanted : goal.take_cells-requires-clause-wanted
-take_cells-requires-clause-wanted c = reads_wanted (batch_of_closed c.args.closed.now) c.args.t
-
-pub take_cells-requires-clause-paired : goal.take_cells-requires-clause-paired
-take_cells-requires-clause-paired c =
+pub take_cells-requires-clause-awaits : goal.take_cells-requires-clause-awaits
+take_cells-requires-clause-awaits c =
     let b = batch_of_closed c.args.closed.now in
     let reads = long_reads b c.batch.result.now c.args.t c.txn-txn.result.now c.as_slice.result.now c.batch.ensures c.txn-txn.ensures c.as_slice.ensures in
     let few = few_reads b c.args.t c.requires.inside in
-    simp length-take (omega (arith, reads, few))
+    record { wanted = reads_wanted b c.args.t; paired = simp length-take (omega (arith, reads, few)); few = simp length-take (omega (arith, reads, few)) }
 
-pub take_cells-requires-then-not-sure-clause-wanted : goal.take_cells-requires-then-not-sure-clause-wanted
-take_cells-requires-then-not-sure-clause-wanted c =
+pub take_cells-requires-then-not-sure-clause-awaits : goal.take_cells-requires-then-not-sure-clause-awaits
+take_cells-requires-then-not-sure-clause-awaits c =
     let b = batch_of_closed c.args.closed.now in
-    writes_wanted b c.args.t (sym (same_sure b c.batch.result.now c.args.t c.txn-txn.result.now c.sure-sure.result c.batch.ensures c.txn-txn.ensures c.sure-sure.ensures) ∙ c.if-not-sure.true)
-
-pub take_cells-requires-then-not-sure-clause-paired : goal.take_cells-requires-then-not-sure-clause-paired
-take_cells-requires-then-not-sure-clause-paired c =
-    let b = batch_of_closed c.args.closed.now in
+    let wanted = writes_wanted b c.args.t (sym (same_sure b c.batch.result.now c.args.t c.txn-txn.result.now c.sure-sure.result c.batch.ensures c.txn-txn.ensures c.sure-sure.ensures) ∙ c.if-not-sure.true) in
     let writes = long_writes b c.batch.result.now c.args.t c.txn-txn.result.now c.as_slice-2.result.now c.batch.ensures c.txn-txn.ensures c.as_slice-2.ensures in
     let few = few_writes b c.args.t c.requires.inside in
-    simp length-take (omega (arith, writes, few))
+    record { wanted = wanted; paired = simp length-take (omega (arith, writes, few)); few = simp length-take (omega (arith, writes, few)) }
 
 pub evaluate-outcome-requires-clause-paired : goal.evaluate-outcome-requires-clause-paired
 evaluate-outcome-requires-clause-paired c =

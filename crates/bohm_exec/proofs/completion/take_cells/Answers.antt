@@ -16,7 +16,7 @@ earlier : (c : In-Within) → IsEarlier (batch_of_closed c.args.closed.now) c.ar
 earlier c =
     let b = batch_of_closed c.args.closed.now in
     let a = c.access-access.result in
-    let wanted = c.requires.wanted a (contains_at (accesses_in c.args.set b c.args.t) c.loop-index.index a (at_index (goal.at.In-Within c).After-access-access)) in
+    let wanted = c.requires.awaits.wanted a (contains_at (accesses_in c.args.set b c.args.t) c.loop-index.index a (at_index (goal.at.In-Within c).After-access-access)) in
     wanted_earlier b c.args.t a c.in-Within.u c.requires.inside wanted c.in-Within.is
 
 pub loop-index-init : goal.loop-index-init
@@ -47,4 +47,4 @@ loop-index-preserved c =
 pub returns : goal.returns
 returns c =
     let b = batch_of_closed c.args.closed.now in
-    are_found b (accesses_in c.args.set b c.args.t) c.loop-index.cells c.loop-index.index (omega (arith, c.requires.paired)) c.loop-index.invariant
+    are_found b (accesses_in c.args.set b c.args.t) c.loop-index.cells c.loop-index.index (omega (arith, c.requires.awaits.paired)) c.loop-index.invariant

@@ -16,13 +16,13 @@ at_index : (c : After-access-access) → slice_get (accesses_in c.args.set (batc
 at_index c = subst (λ (b : Batch). slice_get (accesses_in c.args.set b c.args.t) c.loop-index.index ≡ Some c.access-access.result) c.batch-batch.ensures c.access-access.ensures
 
 wanted : (c : After-access-access) → Contains (wanted_at (batch_of c.args.board.now) c.args.t) c.access-access.result
-wanted c = c.requires.wanted c.access-access.result (contains_at (accesses_in c.args.set (batch_of c.args.board.now) c.args.t) c.loop-index.index c.access-access.result (at_index c))
+wanted c = c.requires.awaits.wanted c.access-access.result (contains_at (accesses_in c.args.set (batch_of c.args.board.now) c.args.t) c.loop-index.index c.access-access.result (at_index c))
 
 slot_inside : (c : In-Within) → IsSlot (batch_of c.args.board.now) (slot_in c.in-Within.u c.access-access.result)
-slot_inside c = (wanted_earlier (batch_of c.args.board.now) c.args.t c.access-access.result c.in-Within.u c.requires.inside (wanted (goal.at.In-Within c).After-access-access) c.in-Within.is).slot
+slot_inside c = (wanted_earlier (batch_of c.args.board.now) c.args.t c.access-access.result c.in-Within.u c.requires.pass.inside (wanted (goal.at.In-Within c).After-access-access) c.in-Within.is).slot
 
 pub loop-index-init : goal.loop-index-init
-loop-index-init c = record { own = c.requires.own; looks = no_looks (view c.args.pass.now); known = λ j a u l at is. absurd (omega arith); found = λ j a u cell l at is here. absurd (omega arith) }
+loop-index-init c = record { own = c.requires.pass.own; looks = no_looks (view c.args.pass.now); known = λ j a u l at is. absurd (omega arith); found = λ j a u cell l at is here. absurd (omega arith) }
 
 pub look-requires-clause-inside : goal.look-requires-clause-inside
 look-requires-clause-inside c = slot_inside (goal.at.look-requires-clause-inside c).In-Within
@@ -69,9 +69,9 @@ loop-index-preserved c =
 pub returns-clause-known : goal.returns-clause-known
 returns-clause-known c = λ _.
     let b = batch_of c.args.board.now in
-    knows_all b (view c.loop-index.pass) (accesses_in c.args.set b c.args.t) c.loop-index.index (omega (arith, c.requires.paired)) c.loop-index.invariant.known
+    knows_all b (view c.loop-index.pass) (accesses_in c.args.set b c.args.t) c.loop-index.index (omega (arith, c.requires.awaits.paired)) c.loop-index.invariant.known
 
 pub returns-clause-found : goal.returns-clause-found
 returns-clause-found c = λ _.
     let b = batch_of c.args.board.now in
-    are_found b (accesses_in c.args.set b c.args.t) c.loop-index.cells c.loop-index.index (omega (arith, c.requires.paired)) c.loop-index.invariant.found
+    are_found b (accesses_in c.args.set b c.args.t) c.loop-index.cells c.loop-index.index (omega (arith, c.requires.awaits.paired)) c.loop-index.invariant.found

@@ -14,7 +14,7 @@ descent-init g c =
       room = c.push.ensures.capacity;
       keeps = keeps_same (view c.args.pass.now);
       busy = refl;
-      stack = subst (λ (xs : List ℕ). IsDescent b c.args.start (view c.args.pass.now).done xs) (sym (c.in-Ok.ensures.items ∙ ap (λ (xs : List ℕ). xs ++ c.args.start ∷ []) c.requires.empty))
+      stack = subst (λ (xs : List ℕ). IsDescent b c.args.start (view c.args.pass.now).done xs) (sym (c.in-Ok.ensures.items ∙ ap (λ (xs : List ℕ). xs ++ c.args.start ∷ []) c.requires.stack.empty))
           (starts b c.args.start (view c.args.pass.now).done c.requires.inside);
     }
 
@@ -101,6 +101,6 @@ unreachable-requires-in_default-push g c =
     let top = top_is c.descent.stack.items c.len.result c.index-top.result.now c.descent.invariant.stack.some (search rules) c.index-top.ensures in
     let fits = fits_below b c.args.start (view c.descent.pass).done xs u c.descent.invariant.stack (subst (λ (z : ℕ). Wants b z u) top need.wants) in
     let full = c.in_default-push.ensures.full in
-    let room = c.requires.room in
+    let room = c.requires.stack.room in
     let kept = c.descent.invariant.room in
     omega (arith, fits, full, room, kept)

@@ -1,4 +1,4 @@
-use Rattle.std.proofs.Common.{rules, arith, ◌≡◌, ℕ, ◌∷◌, [], ◌++◌, get_or, take, ap, ◌∙◌, inl}
+use Rattle.std.proofs.Common.{arith, ◌≡◌, ℕ, ◌∷◌, [], ◌++◌, get_or, take, ap, ◌∙◌, inl}
 use Rattle.std.specs.Prelude.{Vec}
 use Rattle.std.specs.Global.{Global}
 use Rattle.std.proofs.lemmas.List.{take_more}
@@ -33,8 +33,7 @@ loop-start-preserved g c =
           let long = w.in-Ok.ensures.len in
           record {
             free = c.pursue.ensures.free;
-            empty = c.pursue.ensures.empty;
-            room = search rules;
+            stack = c.pursue.ensures.stack;
             space = rw w.pairs-is (omega (arith, inv.space, wide));
             count = rw w.pairs-is (omega (arith, inv.count, long));
             keeps = all;
@@ -46,8 +45,7 @@ loop-start-preserved g c =
           }
       | in_default w ↦ record {
         free = c.pursue.ensures.free;
-        empty = c.pursue.ensures.empty;
-        room = search rules;
+        stack = c.pursue.ensures.stack;
         space = rw w.pairs-is inv.space;
         count = rw w.pairs-is (omega (arith, inv.count));
         keeps = all;

@@ -1,17 +1,16 @@
-use Rattle.std.proofs.Common.{◌≡◌, ℕ, ◌<◌, ◌≤◌, ◌++◌, [], get_or, length, take, vec_len}
+use Rattle.std.proofs.Common.{◌≡◌, ℕ, ◌<◌, ◌≤◌, ◌++◌, get_or, length, take, vec_len}
 use Rattle.std.specs.Prelude.{All}
 use Rattle.std.specs.Vec.{vec_capacity}
-use Rattle.bohm_board.specs.Batches.{Leads, txns_of}
+use Rattle.bohm_board.specs.Batches.{Leads}
 use Rattle.bohm_board.specs.Passes.{Keeps, batch_of, view}
 use Rattle.bohm_exec.specs.Asides.{IsAccountedFor, IsPickedFrom, positions_in, busy_in}
-use Rattle.bohm_exec.specs.Turns.{IsFree}
+use Rattle.bohm_exec.specs.Turns.{IsEmptyFor, IsFree}
 use Rattle.bohm_exec.proofs.sweeping.sweep.Given as goal
 
 abbrev pub invariant-loop-start : goal.invariant-loop-start
 invariant-loop-start g l = record {
   free : IsFree l.board l.pass;
-  empty : l.stack.items ≡ [];
-  room : length (txns_of (batch_of l.board)) ≤ vec_capacity l.stack;
+  stack : IsEmptyFor (batch_of l.board) l.stack;
   space : length l.share ≤ vec_capacity l.pairs;
   count : vec_len l.pairs ≤ l.start-index;
   keeps : Keeps (view l.fn.pass) (view l.pass);
