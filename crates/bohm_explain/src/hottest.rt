@@ -4,7 +4,7 @@ ghost use Rattle.std.specs.Prelude.{◌≡◌, ◌+◌, ◌-◌, ◌<◌, ◌≤
 ghost use Rattle.bohm_explain.specs.Hottest.{left_cell, heat_line, heat_lines, hottest_text};
 
 use crate::heat::Heat;
-use crate::table::put_number;
+use crate::table::{put_blanks, put_number};
 use bohm_txn::NoMemory;
 
 /// The columns end where `sure`, `taken` and `depth` do in the table.
@@ -15,12 +15,7 @@ fn put_left_cell(out: &mut Vec<u8>, width: usize, text: &[u8]) -> Result<(), NoM
     ensures { IfOk result (λ _. out.new.items ≡ out.old.items ++ left_cell width text.now) }
 {
     out.extend_from_slice(text)?;
-    let mut column = text.len();
-    'pads: while column < width {
-        out.push(b' ')?;
-        column += 1;
-    }
-    Ok(())
+    put_blanks(out, width, text.len())
 }
 
 /// The line of a key.

@@ -1,6 +1,6 @@
 //! The table, as text.
 
-ghost use Rattle.std.specs.Prelude.{◌≡◌, ◌+◌, ◌<◌, ◌≤◌, ◌++◌, ◌^◌, length, codes, IfOk};
+ghost use Rattle.std.specs.Prelude.{◌≡◌, ◌+◌, ◌-◌, ◌<◌, ◌≤◌, ◌++◌, ◌^◌, length, replicate, codes, IfOk};
 ghost use Rattle.bohm_explain.specs.Table.{cell, hundredths, hundredths_cell, head_line, row_line, rows_from, table_text};
 
 use crate::figures::{Figures, Totals};
@@ -11,15 +11,23 @@ use std::alloc::Global;
 const HEAD: &[u8] =
     b"  batch  transactions      keys      sure     taken    depth     width       terms   heaviest     width\n";
 
-/// A text at the right end of a column.
-pub fn put_cell(out: &mut Vec<u8>, width: usize, text: &[u8]) -> Result<(), NoMemory>
-    ensures { IfOk result (λ _. out.new.items ≡ out.old.items ++ cell width text.now) }
+/// What a text of so many bytes leaves of a column, as blanks.
+pub fn put_blanks(out: &mut Vec<u8>, width: usize, written: usize) -> Result<(), NoMemory>
+    ensures { IfOk result (λ _. out.new.items ≡ out.old.items ++ replicate (width - written) 32) }
 {
-    let mut column = text.len();
+    let mut column = written;
     'pads: while column < width {
         out.push(b' ')?;
         column += 1;
     }
+    Ok(())
+}
+
+/// A text at the right end of a column.
+pub fn put_cell(out: &mut Vec<u8>, width: usize, text: &[u8]) -> Result<(), NoMemory>
+    ensures { IfOk result (λ _. out.new.items ≡ out.old.items ++ cell width text.now) }
+{
+    put_blanks(out, width, text.len())?;
     out.extend_from_slice(text)?;
     Ok(())
 }
