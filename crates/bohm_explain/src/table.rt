@@ -46,7 +46,8 @@ pub fn put_quotient(
     number: u64,
     divisor: u64,
 ) -> Result<(), NoMemory>
-    ensures { IfOk result (λ _. out.new.items ≡ out.old.items ++ hundredths_cell width (hundredths number divisor)) }
+    ensures { IfOk result (λ _. out.new.items
+        ≡ out.old.items ++ hundredths_cell width (hundredths number divisor)) }
 {
     let hundredths = if divisor == 0 {
         0
