@@ -1,10 +1,10 @@
 -- The arrows of a batch lead upwards, in the order of the positions that want them.
-use Rattle.std.proofs.Common.{◌≡◌, ℕ, zero, suc, ◌≤◌, List, [], ◌∷◌, ◌++◌, length, All, Bool, true, false, cond, Option, Some, None, option_map, refl, arith}
+use Rattle.std.proofs.Common.{◌≡◌, ℕ, zero, suc, ◌≤◌, List, [], ◌∷◌, ◌++◌, length, All, Bool, true, false, cond, Option, Some, None, option_map, refl, sym, subst, arith}
 use Rattle.std.specs.List.{filter_map, cons_option}
 use Rattle.bohm_tree.specs.declared.txn.Txn.{Txn}
 use Rattle.bohm_place.specs.declared.declared_set.DeclaredSet.TheVariants.{Reads, Writes}
 use Rattle.bohm_explain.specs.declared.arrow.Arrow.{Arrow}
-use Rattle.bohm_explain.specs.Heaviest.{IsInside, AreRising}
+use Rattle.bohm_explain.specs.Heaviest.{AreChainable, IsInside, AreRising}
 use Rattle.bohm_explain.specs.Wanted.{newest_before, arrow_of, arrows, arrows_below, arrows_at, is_sure_at, keys_at}
 use Rattle.bohm_explain.proofs.Inside.{below, inside_below, for_keys as forward_keys}
 
@@ -46,3 +46,15 @@ rising_below txns (suc p) = joined zero p (arrows_below txns p) (arrows_at txns 
 
 pub rising : (txns : List Txn) → AreRising zero (arrows txns)
 rising txns = rising_below txns (length txns)
+
+-- with any weights that are light enough
+pub chainable : (txns : List Txn) (weights : List ℕ) (wanted : List Arrow) → length txns ≤ 4096 → length weights ≡ length txns → All (λ w. w ≤ 3072) weights → wanted ≡ arrows txns → length wanted ≤ 131072 → AreChainable weights wanted
+chainable txns weights wanted few paired light is few_arrows =
+    let inside : All (IsInside (length txns)) wanted = subst (λ (as' : List Arrow). All (IsInside (length txns)) as') (sym is) (inside_below txns (length txns) (length txns) (omega arith)) in
+    record {
+      inside = subst (λ (n : ℕ). All (IsInside n) wanted) (sym paired) inside;
+      rising = subst (λ (as' : List Arrow). AreRising 0 as') (sym is) (rising txns);
+      light = light;
+      few = omega (arith, paired, few);
+      few_arrows = few_arrows;
+    }

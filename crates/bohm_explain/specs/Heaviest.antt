@@ -1,5 +1,5 @@
 -- Chains of wanted versions, and the greatest weight that one has. Each position of a chain but its first wants the version of the one before.
-use Rattle.std.specs.Prelude.{ℕ, zero, suc, ◌+◌, ◌-◌, ◌<◌, ◌≤◌, ◌==◌, List, [], ◌∷◌, ◌++◌, Bool, length, map, filter, zip, slice_index}
+use Rattle.std.specs.Prelude.{ℕ, zero, suc, ◌+◌, ◌-◌, ◌<◌, ◌≤◌, ◌==◌, List, [], ◌∷◌, ◌++◌, All, Bool, length, map, filter, zip, slice_index}
 use Rattle.bohm_place.specs.Chains.{greatest}
 use Rattle.bohm_explain.specs.declared.arrow.Arrow.{Arrow}
 
@@ -11,6 +11,14 @@ IsInside n a = (a.from < n) × (a.to < n)
 abbrev pub AreRising : ℕ → List Arrow → Type 0
 AreRising n [] = Unit {0}
 AreRising n (a ∷ rest) = (n ≤ a.to) × (a.from < a.to) × AreRising a.to rest
+
+-- arrows between positions that weigh so much, so few and so light that each chain's weight fits in a number
+pub record AreChainable (weights : List ℕ) (arrows : List Arrow) : Type 0 where
+  pub inside : All (IsInside (length weights)) arrows
+  pub rising : AreRising 0 arrows
+  pub light : All (λ w. w ≤ 3072) weights
+  pub few : length weights ≤ 4096
+  pub few_arrows : length arrows ≤ 131072
 
 -- the greatest number of the positions whose versions p wants, or 0
 abbrev pub greatest_wanted : (ℕ → ℕ) → List Arrow → ℕ → ℕ

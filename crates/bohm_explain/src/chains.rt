@@ -1,7 +1,7 @@
 //! The heaviest chains of wanted versions.
 
 ghost use Rattle.std.specs.Prelude.{◌≡◌, ◌+◌, ◌*◌, ◌<◌, ◌≤◌, ◌^◌, All, length, IfOk};
-ghost use Rattle.bohm_explain.specs.Heaviest.{AreRising, IsInside, heaviest_from, heaviest_to, on_longest, through};
+ghost use Rattle.bohm_explain.specs.Heaviest.{AreChainable, IsInside, heaviest_from, heaviest_to, on_longest, through};
 
 use crate::arrow::Arrow;
 use bohm_txn::NoMemory;
@@ -9,11 +9,7 @@ use std::alloc::Global;
 
 /// For each position the greatest weight of a chain of wanted versions that ends there.
 pub fn heaviest_to(alloc: Global, weights: &[u32], arrows: &[Arrow]) -> Result<Vec<u32>, NoMemory>
-    requires inside { All (IsInside (length weights.now)) arrows.now }
-    requires rising { AreRising 0 arrows.now }
-    requires light { All (λ w. w ≤ 3072) weights.now }
-    requires few { length weights.now ≤ 4096 }
-    requires few_arrows { length arrows.now ≤ 131072 }
+    requires { AreChainable weights.now arrows.now }
     ensures chains { IfOk result (λ v. v.items ≡ heaviest_to weights.now arrows.now) }
     ensures paired { IfOk result (λ v. length v.items ≡ length weights.now) }
     ensures light { IfOk result (λ v. All (λ c. c ≤ 2 ^ 24) v.items) }
@@ -29,11 +25,7 @@ pub fn heaviest_to(alloc: Global, weights: &[u32], arrows: &[Arrow]) -> Result<V
 
 /// For each position the greatest weight of a chain of wanted versions that begins there.
 pub fn heaviest_from(alloc: Global, weights: &[u32], arrows: &[Arrow]) -> Result<Vec<u32>, NoMemory>
-    requires inside { All (IsInside (length weights.now)) arrows.now }
-    requires rising { AreRising 0 arrows.now }
-    requires light { All (λ w. w ≤ 3072) weights.now }
-    requires few { length weights.now ≤ 4096 }
-    requires few_arrows { length arrows.now ≤ 131072 }
+    requires { AreChainable weights.now arrows.now }
     ensures chains { IfOk result (λ v. v.items ≡ heaviest_from weights.now arrows.now) }
     ensures paired { IfOk result (λ v. length v.items ≡ length weights.now) }
     ensures light { IfOk result (λ v. All (λ c. c ≤ 2 ^ 24) v.items) }

@@ -4,7 +4,6 @@ ghost use Rattle.std.specs.Prelude.{◌≡◌, ℕ, ◌+◌, ◌*◌, ◌<◌, �
 ghost use Rattle.bohm_place.specs.Chains.{greatest};
 ghost use Rattle.bohm_place.specs.Shares.{AreWellFormed};
 ghost use Rattle.bohm_explain.specs.Figures.{alone, depths as depths_in, figures_of, plus, totals_of, AreAtMost};
-ghost use Rattle.bohm_explain.specs.Heaviest.{IsInside};
 ghost use Rattle.bohm_explain.specs.Wanted.{arrows as wanted_in};
 
 use crate::arrow::Arrow;
@@ -135,7 +134,6 @@ pub fn counted(
     requires few { length txns.now ≤ 4096 }
     requires formed { AreWellFormed txns.now }
     requires arrows { arrows.now ≡ wanted_in txns.now }
-    requires inside { All (IsInside (length txns.now)) arrows.now }
     requires few_arrows { length arrows.now ≤ 131072 }
     requires depths { depths.now ≡ depths_in txns.now }
     ensures { IfOk result (λ f. f ≡ figures_of txns.now) }

@@ -1,13 +1,8 @@
-use Rattle.std.proofs.Common.{◌≡◌, ◌∙◌, ℕ, All, List, length, ap, sym, subst}
-use Rattle.bohm_explain.specs.declared.arrow.Arrow.{Arrow}
-use Rattle.bohm_explain.specs.Heaviest.{AreRising, IsInside}
-use Rattle.bohm_explain.proofs.Rising.{rising}
+use Rattle.std.proofs.Common.{◌≤◌, ◌∙◌, ℕ, All, List, ap, sym, subst, length}
+use Rattle.bohm_explain.proofs.Rising.{chainable}
 use Rattle.bohm_explain.proofs.figures.counted.Goals as goal
 
-pub heaviest_to-requires-clause-inside : goal.heaviest_to-requires-clause-inside
-heaviest_to-requires-clause-inside c =
-    let paired : length c.as_slice.result.now ≡ length c.args.txns.now = ap length c.as_slice.ensures.value ∙ c.in_ok-weights.ensures.paired in
-    subst (λ (n : ℕ). All (IsInside n) c.args.arrows.now) (sym paired) c.requires.inside
-
-pub heaviest_to-requires-clause-rising : goal.heaviest_to-requires-clause-rising
-heaviest_to-requires-clause-rising c = subst (λ (arrows : List Arrow). AreRising 0 arrows) (sym c.requires.arrows) (rising c.args.txns.now)
+pub heaviest_to-requires : goal.heaviest_to-requires
+heaviest_to-requires c =
+    let light = subst (λ (ws : List ℕ). All (λ w. w ≤ 3072) ws) (sym c.as_slice.ensures.value) c.in_ok-weights.ensures.light in
+    chainable c.args.txns.now c.as_slice.result.now c.args.arrows.now c.requires.few (ap length c.as_slice.ensures.value ∙ c.in_ok-weights.ensures.paired) light c.requires.arrows c.requires.few_arrows

@@ -1,22 +1,15 @@
-use Rattle.std.proofs.Common.{◌≡◌, ◌∙◌, ℕ, All, List, length, ap, sym, subst}
-use Rattle.bohm_explain.specs.declared.arrow.Arrow.{Arrow}
-use Rattle.bohm_explain.specs.Heaviest.{AreRising, IsInside}
-use Rattle.bohm_explain.specs.Wanted.{arrows}
-use Rattle.bohm_explain.proofs.Rising.{rising}
+use Rattle.std.proofs.Common.{◌≤◌, ◌∙◌, ℕ, All, List, length, ap, sym, subst, arith}
+use Rattle.bohm_explain.proofs.Rising.{chainable}
 use Rattle.bohm_explain.proofs.waits.waits_in.Goals as goal
 
-pub heaviest_to-requires-clause-inside : goal.heaviest_to-requires-clause-inside
-heaviest_to-requires-clause-inside c =
-    let paired : length c.as_slice.result.now ≡ length c.args.txns.now = ap length c.as_slice.ensures.value ∙ c.in_ok-alike.ensures.paired in
-    let inside = subst (λ (as' : List Arrow). All (IsInside (length c.args.txns.now)) as') (sym c.as_slice-2.ensures.value) c.in_ok-arrows.ensures.inside in
-    subst (λ (n : ℕ). All (IsInside n) c.as_slice-2.result.now) (sym paired) inside
+pub heaviest_to-requires : goal.heaviest_to-requires
+heaviest_to-requires c =
+    let light = subst (λ (ws : List ℕ). All (λ w. w ≤ 3072) ws) (sym c.as_slice.ensures.value) c.in_ok-alike.ensures.light in
+    let few_arrows : length c.as_slice-2.result.now ≤ 131072 = omega (arith, ap length c.as_slice-2.ensures.value, c.in_ok-arrows.ensures.few, c.requires.few) in
+    chainable c.args.txns.now c.as_slice.result.now c.as_slice-2.result.now c.requires.few (ap length c.as_slice.ensures.value ∙ c.in_ok-alike.ensures.paired) light (c.as_slice-2.ensures.value ∙ c.in_ok-arrows.ensures.arrows) few_arrows
 
-pub heaviest_to-requires-clause-rising : goal.heaviest_to-requires-clause-rising
-heaviest_to-requires-clause-rising c =
-    let same : c.as_slice-2.result.now ≡ arrows c.args.txns.now = c.as_slice-2.ensures.value ∙ c.in_ok-arrows.ensures.arrows in
-    subst (λ (wanted : List Arrow). AreRising 0 wanted) (sym same) (rising c.args.txns.now)
-
-pub heaviest_from-requires-clause-rising : goal.heaviest_from-requires-clause-rising
-heaviest_from-requires-clause-rising c =
-    let same : c.as_slice-4.result.now ≡ arrows c.args.txns.now = c.as_slice-4.ensures.value ∙ c.in_ok-arrows.ensures.arrows in
-    subst (λ (wanted : List Arrow). AreRising 0 wanted) (sym same) (rising c.args.txns.now)
+pub heaviest_from-requires : goal.heaviest_from-requires
+heaviest_from-requires c =
+    let light = subst (λ (ws : List ℕ). All (λ w. w ≤ 3072) ws) (sym c.as_slice-3.ensures.value) c.in_ok-alike.ensures.light in
+    let few_arrows : length c.as_slice-4.result.now ≤ 131072 = omega (arith, ap length c.as_slice-4.ensures.value, c.in_ok-arrows.ensures.few, c.requires.few) in
+    chainable c.args.txns.now c.as_slice-3.result.now c.as_slice-4.result.now c.requires.few (ap length c.as_slice-3.ensures.value ∙ c.in_ok-alike.ensures.paired) light (c.as_slice-4.ensures.value ∙ c.in_ok-arrows.ensures.arrows) few_arrows
