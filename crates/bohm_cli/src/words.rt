@@ -32,6 +32,3 @@ pub fn read_words(alloc: Global, words: &[String]) -> Result<Settings, WordFault
     );
     Ok(settings.unwrap())
 }
-
-#[cfg(test)]
-mod tests;

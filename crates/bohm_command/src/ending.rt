@@ -68,6 +68,3 @@ pub fn tell<E: Write>(err: &mut E, reason: &NoAnswer) -> io::Result<()>
         NoAnswer::Run(fault) => write_fault(err, fault),
     }
 }
-
-#[cfg(test)]
-mod tests;

@@ -1,21 +1,9 @@
-//! What a checked document lends, and which of its transactions are sure.
+//! Which transactions are sure.
 
 use crate::logs::checked;
-use bohm_txn::{Edition, Key, Value, sure};
+use bohm_txn::sure;
 use std::process::Abort;
 use std::test::Fail;
-
-#[test]
-fn a_checked_document_lends_its_parts(rt: HostRuntime) -> Result<(), Fail> {
-    let log = "a -5\ntxn\nreads a\nwrites a\nset a = a + 1\nend\n";
-    let checked = checked(rt.alloc(), "log 2\n", log)?;
-    let a = Key::new(b"a").ok_or("no name")?;
-    assert_eq!(rt; checked.edition(), Edition::Two);
-    assert_eq!(rt; checked.store(), [(a, Value::from(-5))].as_slice());
-    assert_eq!(rt; checked.log().len(), 1);
-    assert_eq!(rt; checked.log()[0].reads.as_slice(), [a].as_slice());
-    Ok(())
-}
 
 /// Transactions that are sure.
 const SURE: &str = "\

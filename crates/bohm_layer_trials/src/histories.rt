@@ -42,7 +42,7 @@ fn told(rt: &impl Abort, alloc: Global, history: &History) -> Result<String, Fai
     Ok(text)
 }
 
-// Runs the log as the next batch; after a refusal again, which must have changed nothing that is seen.
+// Runs the log as the next batch.
 fn settle_log<R: Abort + Threads + Sync>(
     rt: &R,
     alloc: Global,
@@ -52,13 +52,6 @@ fn settle_log<R: Abort + Threads + Sync>(
     let log = checked(alloc, "log 1\n", log)?;
     let txns = log.log();
     let fits = !txns.is_empty() && txns.len() <= 4096 && history.top() <= 1000;
-    assert!(rt; fits);
-    let before = told(rt, alloc, history)?;
-    if settle(rt, alloc, history, txns).is_ok() {
-        return Ok(());
-    }
-    assert_eq!(rt; told(rt, alloc, history)?.as_str(), before.as_str());
-    let fits = history.top() <= 1000;
     assert!(rt; fits);
     Ok(settle(rt, alloc, history, txns)?)
 }

@@ -1,9 +1,7 @@
-//! Tests of the layers that a run is made of, over their public calls: what a checked document lends,
-//! plans, batches, sweeps by several passes and threads, and histories in use.
+//! Tests of the layers that a run is made of, over their public calls: sure transactions, plans, sweeps
+//! by several passes and threads, and histories in use.
 #![tactic(auto)]
 
-#[cfg(test)]
-mod batches;
 #[cfg(test)]
 mod boards;
 #[cfg(test)]

@@ -5,7 +5,7 @@ ghost use Rattle.std.proofs.Math.Nat.{mod-lt};
 ghost use Rattle.bohm_place.specs.Plans.{IsRightPlan};
 
 use crate::logs::checked;
-use bohm_place::{Access, DeclaredSet, Partition, Places, Plan, Shards, Source, plan};
+use bohm_place::{Access, DeclaredSet, Partition, Plan, Shards, Source, plan};
 use bohm_txn::{Checked, Key, Txn};
 use std::alloc::Global;
 use std::process::Abort;
@@ -285,20 +285,5 @@ fn two_workers_plan_at_once(rt: HostRuntime) -> Result<(), Fail> {
     };
     plan_alone(&rt, rt.alloc(), &meeting, 2)?;
     assert_eq!(rt; meeting.met.load(Ordering::SeqCst), 1);
-    Ok(())
-}
-
-#[test]
-fn a_source_is_below_the_timestamp(rt: HostRuntime) -> Result<(), Fail> {
-    let alloc: Global = rt.alloc();
-    let key = Key::new(b"a").expect(&rt, "a name");
-    let other = Key::new(b"b").expect(&rt, "a name");
-    let mut places = Places::new(alloc);
-    places.place(alloc, key, 4)?;
-    places.place(alloc, key, 9)?;
-    for (ts, want) in [(3, 0), (4, 0), (5, 4), (9, 4), (10, 9)] {
-        assert_eq!(rt; places.source(&key, ts), want, "at {ts}");
-        assert_eq!(rt; places.source(&other, ts), 0, "at {ts}");
-    }
     Ok(())
 }

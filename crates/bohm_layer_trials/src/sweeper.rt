@@ -54,6 +54,19 @@ pub fn joined(board: &Board, left: Pass, right: Pass) -> Pass
     board.join(left, right)
 }
 
+/// A log as the first batch over its own store.
+fn first_batch<'a, R: Abort + Threads + Sync>(
+    rt: &R,
+    alloc: Global,
+    log: &'a Checked,
+) -> Result<Batch<'a>, Fail> {
+    let txns = log.log();
+    let fits = !txns.is_empty() && txns.len() <= 4096;
+    assert!(rt; fits);
+    let history = History::open(alloc, log.store())?;
+    Ok(next_batch(rt, alloc, &history, txns)?)
+}
+
 impl<'a> Sweeper<'a> {
     /// Of a log, over its own store.
     pub fn new<R: Abort + Threads + Sync>(
@@ -61,18 +74,8 @@ impl<'a> Sweeper<'a> {
         alloc: Global,
         log: &'a Checked,
     ) -> Result<Sweeper<'a>, Fail> {
-        let txns = log.log();
-        let history = History::open(alloc, log.store())?;
-        let fits = !txns.is_empty() && txns.len() <= 4096 && history.top() <= 1000;
-        assert!(rt; fits);
-        let batch = next_batch(rt, alloc, &history, txns)?;
-        let (board, pass) = Board::open(alloc, batch)?;
+        let (board, pass) = Board::open(alloc, first_batch(rt, alloc, log)?)?;
         Ok(Sweeper { board, pass })
-    }
-
-    /// The batch that the board is of.
-    pub fn batch(&self) -> &Batch<'a> {
-        self.board.batch()
     }
 
     /// What a sweep of these positions sets aside.

@@ -7,7 +7,7 @@ use crate::boards::{cell, outcome, present, shown, sweep_these};
 use crate::logs::{checked, repeated};
 use crate::sweeper::{Sweeper, joined, seen};
 use bohm_board::{Board, Pass, Status};
-use bohm_exec::{Gate, OpenGate, Point, share_of};
+use bohm_exec::{Finished, Gate, OpenGate, Point, share_of};
 use bohm_txn::{Cell, Checked, Outcome, Reason};
 use std::alloc::Global;
 use std::process::Abort;
@@ -26,6 +26,24 @@ fn counters(alloc: Global, count: u32) -> Result<Checked, Fail> {
         "log 1\na 0\n",
         repeated(alloc, COUNTER, count)?.as_str(),
     )
+}
+
+/// Asserts that each of the first so many transactions shows how many are before it, and leaves one more.
+fn assert_counted(rt: &impl Abort, finished: &Finished, len: u32) {
+    let mut before = 0u32;
+    for t in 1..=len {
+        let told = (
+            outcome(rt, finished, t),
+            shown(rt, finished, t),
+            cell(rt, finished, t),
+        );
+        assert_eq!(rt;
+            told,
+            (Outcome::Commit, present(before), present(t)),
+            "at {t}"
+        );
+        before = t;
+    }
 }
 
 const FAILING: &str = "\
@@ -54,9 +72,9 @@ fn backwards(rt: HostRuntime) -> Result<(), Fail> {
         reason: Reason::Fail,
         stmt: 2,
     };
-    assert_eq!(rt; outcome(&rt, &finished, 1), failed);
+    let ends = (outcome(&rt, &finished, 1), outcome(&rt, &finished, 2));
+    assert_eq!(rt; ends, (failed, Outcome::Commit));
     assert_eq!(rt; cell(&rt, &finished, 1), Cell::Absent);
-    assert_eq!(rt; outcome(&rt, &finished, 2), Outcome::Commit);
     Ok(())
 }
 
@@ -96,17 +114,30 @@ fn look_at_held(rt: &impl Abort, alloc: Global, board: &Board, mut pass: Pass, g
 {
     wait_for(&gate.claimed);
     assert_eq!(rt; gate.claimed.load(Ordering::SeqCst), 1);
-    assert_eq!(rt; seen(rt, board, &mut pass, 1, 0), (Status::Busy, None));
-    assert_eq!(rt; seen(rt, board, &mut pass, 1, 1), (Status::Busy, None));
-    assert_eq!(rt; seen(rt, board, &mut pass, 2, 0), (Status::Open, None));
+    let held = [
+        seen(rt, board, &mut pass, 1, 0),
+        seen(rt, board, &mut pass, 1, 1),
+        seen(rt, board, &mut pass, 2, 0),
+    ];
+    let want = [
+        (Status::Busy, None),
+        (Status::Busy, None),
+        (Status::Open, None),
+    ];
+    assert_eq!(rt; held.as_slice(), want.as_slice());
     let aside = sweep_these(rt, alloc, board, &mut pass, &[3, 2], &OpenGate);
     assert_eq!(rt; aside.pairs(), [(3, 1), (2, 1)].as_slice());
     gate.let_go.store(1, Ordering::SeqCst);
     wait_for(&gate.finished);
-    let written = Some(present(1));
-    assert_eq!(rt; seen(rt, board, &mut pass, 1, 0), (Status::Done, written));
-    let shown = Some(present(0));
-    assert_eq!(rt; seen(rt, board, &mut pass, 1, 1), (Status::Done, shown));
+    let done = [
+        seen(rt, board, &mut pass, 1, 0),
+        seen(rt, board, &mut pass, 1, 1),
+    ];
+    let want = [
+        (Status::Done, Some(present(1))),
+        (Status::Done, Some(present(0))),
+    ];
+    assert_eq!(rt; done.as_slice(), want.as_slice());
 }
 
 #[derive(Drop)]
@@ -177,7 +208,7 @@ fn held_then_finished(rt: HostRuntime) -> Result<(), Fail> {
     assert_eq!(rt; aside.pairs(), [].as_slice());
     let (unfinished, finished) = sweeper.finish(&rt, alloc, &[]);
     assert_eq!(rt; unfinished, 0);
-    assert_eq!(rt; shown(&rt, &finished, 3), present(2));
+    assert_counted(&rt, &finished, 3);
     Ok(())
 }
 
@@ -194,11 +225,7 @@ fn held_and_dropped(rt: HostRuntime) -> Result<(), Fail> {
     assert_eq!(rt; sweeper.see(&rt, 1, 0), (Status::Busy, None));
     let (unfinished, finished) = sweeper.finish(&rt, alloc, &[others, first]);
     assert_eq!(rt; unfinished, 3);
-    for t in 1..=3 {
-        assert_eq!(rt; outcome(&rt, &finished, t), Outcome::Commit, "at {t}");
-        assert_eq!(rt; shown(&rt, &finished, t), present(t - 1), "at {t}");
-    }
-    assert_eq!(rt; cell(&rt, &finished, 3), present(3));
+    assert_counted(&rt, &finished, 3);
     Ok(())
 }
 
@@ -221,13 +248,15 @@ fn sure_write_goes_past(rt: HostRuntime) -> Result<(), Fail> {
     let log = checked(alloc, "log 1\na 5\n", OVERWRITTEN)?;
     let (mut sweeper, holder) = Sweeper::new(&rt, alloc, &log)?.hold(&rt, 1);
     let second = sweeper.sweep(&rt, alloc, &[2], &OpenGate);
-    assert_eq!(rt; second.pairs(), [].as_slice());
     drop(holder);
     let first = sweeper.sweep(&rt, alloc, &[1], &OpenGate);
-    assert_eq!(rt; first.pairs(), [(1, 1)].as_slice());
+    assert_eq!(rt;
+        (second.pairs(), first.pairs()),
+        ([].as_slice(), [(1, 1)].as_slice())
+    );
     let (_, finished) = sweeper.finish(&rt, alloc, &[first]);
-    assert_eq!(rt; cell(&rt, &finished, 1), present(6));
-    assert_eq!(rt; cell(&rt, &finished, 2), present(9));
+    let cells = (cell(&rt, &finished, 1), cell(&rt, &finished, 2));
+    assert_eq!(rt; cells, (present(6), present(9)));
     Ok(())
 }
 
@@ -252,6 +281,26 @@ impl Gate for Counts {
     }
 }
 
+// What a sweep of eight leaves of which the fourth is held.
+fn assert_held_up(rt: &impl Abort, sweeper: &mut Sweeper<'_>, counts: &Counts) {
+    let counted = (
+        counts.claimed.load(Ordering::SeqCst),
+        counts.finished.load(Ordering::SeqCst),
+    );
+    assert_eq!(rt; counted, (3, 3));
+    let found = [
+        sweeper.see(rt, 3, 0),
+        sweeper.see(rt, 4, 0),
+        sweeper.see(rt, 5, 0),
+    ];
+    let want = [
+        (Status::Done, Some(present(3))),
+        (Status::Busy, None),
+        (Status::Open, None),
+    ];
+    assert_eq!(rt; found.as_slice(), want.as_slice());
+}
+
 #[test]
 fn eight_one_held(rt: HostRuntime) -> Result<(), Fail> {
     let alloc: Global = rt.alloc();
@@ -265,16 +314,10 @@ fn eight_one_held(rt: HostRuntime) -> Result<(), Fail> {
     drop(holder);
     let pairs = [(4, 4), (5, 4), (6, 4), (7, 4), (8, 4)];
     assert_eq!(rt; aside.pairs(), pairs.as_slice());
-    assert_eq!(rt; counts.claimed.load(Ordering::SeqCst), 3);
-    assert_eq!(rt; counts.finished.load(Ordering::SeqCst), 3);
-    assert_eq!(rt; sweeper.see(&rt, 3, 0), (Status::Done, Some(present(3))));
-    assert_eq!(rt; sweeper.see(&rt, 4, 0), (Status::Busy, None));
-    assert_eq!(rt; sweeper.see(&rt, 5, 0), (Status::Open, None));
+    assert_held_up(&rt, &mut sweeper, &counts);
     let (unfinished, finished) = sweeper.finish(&rt, alloc, &[aside]);
-    assert_eq!(rt; unfinished, 5);
-    assert_eq!(rt; (finished.first(), finished.len()), (1, 8));
-    assert_eq!(rt; shown(&rt, &finished, 8), present(7));
-    assert_eq!(rt; cell(&rt, &finished, 8), present(8));
+    assert_eq!(rt; (unfinished, finished.first(), finished.len()), (5, 1, 8));
+    assert_counted(&rt, &finished, 8);
     Ok(())
 }
 
@@ -290,8 +333,7 @@ fn deepest_work_stack(rt: HostRuntime) -> Result<(), Fail> {
     let aside = sweeper.sweep(&rt, alloc, share.as_slice(), &OpenGate);
     assert_eq!(rt; aside.pairs(), [].as_slice());
     let (_, finished) = sweeper.finish(&rt, alloc, &[aside]);
-    assert_eq!(rt; shown(&rt, &finished, 4096), present(4095));
-    assert_eq!(rt; cell(&rt, &finished, 4096), present(4096));
+    assert_counted(&rt, &finished, 4096);
     Ok(())
 }
 

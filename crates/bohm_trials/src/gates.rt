@@ -196,8 +196,11 @@ fn five_thousand_counters(rt: HostRuntime) -> Result<(), Fail> {
     };
     let cuts = cuts(alloc, &[4096, 904])?;
     let text = run_told(&rt, alloc, &log, &cuts, settings("")?, &counts)?;
-    assert_eq!(rt; counts.claimed.load(Ordering::SeqCst), 5000);
-    assert_eq!(rt; counts.finished.load(Ordering::SeqCst), 5000);
+    let counted = (
+        counts.claimed.load(Ordering::SeqCst),
+        counts.finished.load(Ordering::SeqCst),
+    );
+    assert_eq!(rt; counted, (5000, 5000));
     assert!(rt;
         text.as_slice()
             .ends_with(b"\n5000 commit 4999\n--\na 5000\n")

@@ -2,10 +2,9 @@
 
 use crate::runs::{checked, counters, cuts, ran, settings, told_with_versions};
 use bohm_exec::OpenGate;
-use bohm_place::Partition;
 use bohm_run::{Applied, ByteSum, Cuts, apply};
 use bohm_store::History;
-use bohm_txn::{Checked, Key};
+use bohm_txn::Checked;
 use std::alloc::Global;
 use std::process::Abort;
 use std::random::RandomSource;
@@ -247,51 +246,6 @@ fn logs_upon_logs(rt: HostRuntime) -> Result<(), Fail> {
         let (logs, want) = row.split_once('@').ok_or("what is left")?;
         let text = left_in_turn(&rt, rt.alloc(), logs)?;
         assert_eq!(rt; text.as_str(), want, "{logs}");
-    }
-    Ok(())
-}
-
-/// The part of a key with this name.
-fn part_of(name: &[u8], parts: u32) -> Result<u32, Fail> {
-    let partition = ByteSum::new(parts).ok_or("parts")?;
-    if partition.parts() != parts {
-        return Err(Fail::from("another number of parts"));
-    }
-    Ok(partition.part(&Key::new(name).ok_or("a name")?))
-}
-
-#[test]
-fn parts_of_keys(rt: HostRuntime) -> Result<(), Fail> {
-    assert!(rt; ByteSum::new(0).is_none());
-    for (parts, of_a, of_ab) in [(1, 0, 0), (2, 1, 1), (7, 6, 6), (64, 33, 3)] {
-        assert_eq!(rt; part_of(b"a", parts)?, of_a, "{parts} parts");
-        assert_eq!(rt; part_of(b"ab", parts)?, of_ab, "{parts} parts");
-    }
-    let long = b"zzzzzzzzzzzzzzzzzzzzzzzzzzzzzzzz".as_slice();
-    assert_eq!(rt; part_of(long, 7)?, 5);
-    Ok(())
-}
-
-#[test]
-fn cuttings_have_sizes(rt: HostRuntime) -> Result<(), Fail> {
-    for (sizes, total) in [
-        (&[] as &[u32], Some(0)),
-        (&[1, 2], Some(3)),
-        (&[4096], Some(4096)),
-        (&[4097], None),
-        (&[2, 0, 1], None),
-    ] {
-        let cuts = Cuts::new(Vec::from_slice(rt.alloc(), sizes)?);
-        assert_eq!(rt; cuts.map(|cuts| cuts.total()), total, "{sizes:?}");
-    }
-    Ok(())
-}
-
-#[test]
-fn a_cutting_is_even(rt: HostRuntime) -> Result<(), Fail> {
-    for (len, batch) in [(0, 7), (5000, 4096), (6, 3)] {
-        let cuts = Cuts::even(rt.alloc(), len, batch)?;
-        assert_eq!(rt; cuts.total(), len, "{len} by {batch}");
     }
     Ok(())
 }

@@ -2,7 +2,7 @@
 
 use crate::fakes::{Failure, FakeReader, FakeWriter};
 use crate::runs::settings;
-use bohm_run::{RunFault, Settings, print_fault, run_text};
+use bohm_run::{RunFault, Settings, run_text};
 use std::io::ErrorKind;
 use std::process::Abort;
 use std::random::RandomSource;
@@ -47,8 +47,7 @@ fn read_failing<R: Abort + AllocGlobal + Threads + Wait + Sync + RandomSource>(
     } else {
         (b"".as_slice(), 0)
     };
-    assert_eq!(rt; writer.taken.as_slice(), taken);
-    assert_eq!(rt; writer.flushes, flushes);
+    assert_eq!(rt; (writer.taken.as_slice(), writer.flushes), (taken, flushes));
     Ok(found)
 }
 
@@ -82,13 +81,8 @@ fn readers_and_writers_take_parts(rt: HostRuntime) -> Result<(), Fail> {
             };
             let mut writer = FakeWriter::new(rt.alloc(), most);
             let ended = run_text(&rt, rt.alloc(), &mut reader, &mut writer, settings(words)?);
-            assert_eq!(rt; ended, Ok(()), "{most} bytes a call, {words}");
-            assert_eq!(rt;
-                writer.taken.as_slice(),
-                ANSWER,
-                "{most} bytes a call, {words}"
-            );
-            assert_eq!(rt; writer.flushes, 1, "{most} bytes a call, {words}");
+            let told = (ended, writer.taken.as_slice(), writer.flushes);
+            assert_eq!(rt; told, (Ok(()), ANSWER, 1), "{most} bytes a call, {words}");
         }
     }
     Ok(())
@@ -105,9 +99,9 @@ fn sends<R: Abort + AllocGlobal + Threads + Wait + Sync + RandomSource>(
     let wanted = RunFault::Write {
         sent: u64::from(sent),
     };
-    assert_eq!(rt; found, Some(wanted), "after {sent} bytes");
     let taken = ANSWER.get(..sent as usize).ok_or("a beginning")?;
-    assert_eq!(rt; writer.taken.as_slice(), taken, "after {sent} bytes");
+    let told = (found, writer.taken.as_slice());
+    assert_eq!(rt; told, (Some(wanted), taken), "after {sent} bytes");
     Ok(())
 }
 
@@ -154,25 +148,4 @@ fn writers_fail_after_three_bytes(rt: HostRuntime) -> Result<(), Fail> {
         sends(&rt, writer, 3, settings(words)?)?;
     }
     Ok(())
-}
-
-fn assert_line<R: Abort + AllocGlobal>(rt: &R, fault: RunFault, line: &str) -> Result<(), Fail> {
-    let printed = print_fault(rt.alloc(), &fault)?;
-    assert_eq!(rt; printed.as_slice(), line.as_bytes());
-    Ok(())
-}
-
-#[test]
-fn faults_without_a_place(rt: HostRuntime) -> Result<(), Fail> {
-    assert_line(&rt, RunFault::Read, "refused: read\n")?;
-    assert_line(&rt, RunFault::TooLong, "refused: too long\n")?;
-    assert_line(&rt, RunFault::Trimmed, "refused: trimmed\n")?;
-    assert_line(&rt, RunFault::Future, "refused: future\n")?;
-    assert_line(&rt, RunFault::NoMemory, "refused: memory\n")?;
-    assert_line(&rt, RunFault::Write { sent: 3 }, "refused: write 3\n")?;
-    assert_line(
-        &rt,
-        RunFault::Write { sent: u64::MAX },
-        "refused: write 18446744073709551615\n",
-    )
 }

@@ -13,11 +13,7 @@ mod histories;
 #[cfg(test)]
 mod hostile;
 #[cfg(test)]
-mod limits;
-#[cfg(test)]
 mod line;
-#[cfg(test)]
-mod plain;
 #[cfg(test)]
 mod random;
 #[cfg(test)]

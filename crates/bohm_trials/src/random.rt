@@ -62,32 +62,8 @@ fn run_seed<R: Abort + Threads + Wait + Sync + RandomSource>(
 }
 
 #[test]
-fn drawn_logs_from_0(rt: HostRuntime) -> Result<(), Fail> {
-    for seed in 0..50 {
-        run_seed(&rt, rt.alloc(), seed)?;
-    }
-    Ok(())
-}
-
-#[test]
-fn drawn_logs_from_50(rt: HostRuntime) -> Result<(), Fail> {
-    for seed in 50..100 {
-        run_seed(&rt, rt.alloc(), seed)?;
-    }
-    Ok(())
-}
-
-#[test]
-fn drawn_logs_from_100(rt: HostRuntime) -> Result<(), Fail> {
-    for seed in 100..150 {
-        run_seed(&rt, rt.alloc(), seed)?;
-    }
-    Ok(())
-}
-
-#[test]
-fn drawn_logs_from_150(rt: HostRuntime) -> Result<(), Fail> {
-    for seed in 150..200 {
+fn drawn_logs(rt: HostRuntime) -> Result<(), Fail> {
+    for seed in 0..200 {
         run_seed(&rt, rt.alloc(), seed)?;
     }
     Ok(())

@@ -77,6 +77,14 @@ pub fn ran<G: Gate, R: Abort + Threads + Wait + Sync + RandomSource>(
     Ok(answer)
 }
 
+/// What the plain program answers.
+pub fn serially(alloc: Global, checked: &Checked) -> Result<Vec<u8>, Fail> {
+    let bohm_serial::Answer { replies, store } = bohm_serial::run(alloc, checked)?;
+    let mut text = print_replies(alloc, replies.as_slice())?;
+    text.extend_from_slice(print_store(alloc, store.as_slice())?.as_slice())?;
+    Ok(text)
+}
+
 /// The replies, and behind them the store of each timestamp from the floor to the top.
 pub fn told(alloc: Global, replies: &[Reply], history: &History) -> Result<Vec<u8>, Fail> {
     let mut text = print_replies(alloc, replies)?;

@@ -1,7 +1,6 @@
 //! A whole batch in one chain, whose claims are held at random.
 
-use crate::plain::serially;
-use crate::runs::{counters, cuts, run_told, settings};
+use crate::runs::{counters, cuts, run_told, serially, settings};
 use bohm_exec::{Gate, Point};
 use std::alloc::Global;
 use std::hint::spin_loop;
