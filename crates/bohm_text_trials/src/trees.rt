@@ -58,6 +58,8 @@ end
 fn places_are_noted(rt: HostRuntime) -> Result<(), Fail> {
     let c = Key::new(b"c").ok_or("no name")?;
     let mut doc = parse(rt.alloc(), READING)?;
+    let one = doc.log().len() == 1;
+    assert!(rt; one);
     assert_doc(&rt, &doc, c, 0);
     doc.note_places(0);
     assert_doc(&rt, &doc, c, 2);
