@@ -2,7 +2,7 @@
 
 use crate::fakes::{Failure, FakeReader, FakeWriter};
 use crate::runs::settings;
-use bohm_run::{RunFault, Settings, run_text};
+use bohm_run::{RunFault, Settings, print_fault, run_text};
 use std::io::ErrorKind;
 use std::process::Abort;
 use std::random::RandomSource;
@@ -148,4 +148,20 @@ fn writers_fail_after_three_bytes(rt: HostRuntime) -> Result<(), Fail> {
         sends(&rt, writer, 3, settings(words)?)?;
     }
     Ok(())
+}
+
+#[test]
+fn a_want_of_memory_is_told(rt: HostRuntime) -> Result<(), Fail> {
+    let printed = print_fault(rt.alloc(), &RunFault::NoMemory)?;
+    assert_eq!(rt; printed.as_slice(), b"refused: memory\n".as_slice());
+    Ok(())
+}
+
+#[test]
+fn settings_out_of_range(rt: HostRuntime) {
+    let (workers, kept) = (
+        Settings::new(17, 1, 1, 1, 0, None),
+        Settings::new(1, 1, 1, 1, 4097, None),
+    );
+    assert_eq!(rt; (workers, kept), (None, None));
 }
