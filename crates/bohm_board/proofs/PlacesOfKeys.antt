@@ -3,11 +3,11 @@ use Rattle.std.proofs.Common.{◌≡◌, ℕ, suc, ◌+◌, ◌*◌, ◌<◌, �
 use Rattle.std.specs.List.{list_any, AllByRecursion, IsDistinct}
 use Rattle.std.specs.Str.{bytes_eq}
 use Rattle.std.specs.Cmp.Lexicographic.{nat_list_eq_equiv}
-use Rattle.std.proofs.lemmas.Bool.{cases_lt, false_from_ne_true}
+use Rattle.std.proofs.lemmas.Bool.{cases_lt, false_from_ne_true, or_left, or_right}
 use Rattle.std.proofs.lemmas.List.{length-map}
-use Rattle.std.proofs.lemmas.List.Folds.{list_any-append}
+use Rattle.std.proofs.lemmas.List.Folds.{list_any-append, list_any_at}
 use Rattle.std.proofs.lemmas.Map.Made.{length-le_from_is_member}
-use Rattle.std.proofs.lemmas.Option.{same_Some, slice_get-get_or, slice_get_within}
+use Rattle.std.proofs.lemmas.Option.{same_Some, slice_get-get_or, slice_get_within, get_or_from_slice_get}
 use Rattle.bohm_tree.specs.declared.cell.Cell.{Cell}
 use Rattle.bohm_tree.specs.declared.txn.Txn.{Txn}
 use Rattle.bohm_txn.specs.Declares.{IsAmong}
@@ -141,6 +141,14 @@ next_row txns p q r entries i x at noted reads writes set m n y a low at_y at_a 
         (λ wrong. absurd (other_set wrong.0))
         (writes.each Reads i n a at_a)
     new Writes n a at_a before k at_k = writes.done n a (slice_get_within x.writes n k at_k) at_a before k at_k
+
+-- a declared key has an entry
+declares_in : (set : DeclaredSet) (x : Txn) (k : List ℕ) → IsAmong (keys_in set x) k → declares k x ≡ true
+declares_in Reads x k h = or_left (is_among x.reads k) (is_among x.writes k) h
+declares_in Writes x k h = or_right (is_among x.reads k) (is_among x.writes k) h
+
+pub entered : (txns : List Txn) (entries : Entries) (set : DeclaredSet) (i : ℕ) (x : Txn) → IsBase txns entries → slice_get txns i ≡ Some x → (k : List ℕ) → IsAmong (keys_in set x) k → IsAmong (keys_of entries) k
+entered txns entries set i x base at k h = base.keys k ∙ list_any_at (declares k) txns i x (slice_get_within txns i x at) (rw (get_or_from_slice_get txns i x x at) (declares_in set x k h))
 
 pub few_keys : (txns : List Txn) (set : DeclaredSet) (i : ℕ) (x : Txn) → All IsWellFormedTxn txns → slice_get txns i ≡ Some x → length (keys_in set x) ≤ 16
 few_keys txns Reads i x formed at = (usable_at txns formed i x at).few_reads

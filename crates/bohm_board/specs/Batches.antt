@@ -17,7 +17,7 @@ use Rattle.bohm_board.specs.declared.view.Rights.{Rights}
 use Rattle.bohm_board.specs.Serial.{width, offset, slots_from, outcomes}
 
 abbrev pub txns_of : Batch → List Txn
-txns_of b = b.txns.now
+txns_of b = b.txns
 
 abbrev pub plan_of : Batch → Planned
 plan_of b = b.plan

@@ -6,50 +6,51 @@ ghost use Rattle.bohm_place.specs.Plans.{source_in, HasSourcesOf, IsRightPlan};
 ghost use Rattle.bohm_place.specs.declared.access.Source.TheVariants.{Before};
 ghost use Rattle.bohm_board.specs.Bases.{AreNoted, IsBase};
 
+use crate::layout::width;
 use crate::noting::{note_places, search};
 use bohm_place::{Access, DeclaredSet, Plan, Source};
-use bohm_txn::{Cell, Items, Key, Txn};
+use bohm_txn::{Cell, Items, Key, LogPart, TxnView};
 
 /// Transactions of a log that run as one, their plan, and what each key that they declare holds before
 /// them.
 #[derive(Drop)]
 pub struct Batch<'a> {
-    txns: &'a [Txn],
+    txns: LogPart<'a>,
     plan: Plan,
     base: Items<(Key, Cell)>,
-    ghost some: { 0 < length txns.now },
-    ghost few: { length txns.now ≤ 4096 },
-    ghost timestamps: { plan.first + length txns.now ≤ 2 ^ 32 },
-    ghost formed: { All IsWellFormedTxn txns.now },
-    ghost right: { ∥ IsRightPlan txns.now plan ∥₁ },
-    ghost based: { IsBase txns.now base },
-    ghost noted: { AreNoted txns.now plan base },
+    ghost some: { 0 < length txns },
+    ghost few: { length txns ≤ 4096 },
+    ghost timestamps: { plan.first + length txns ≤ 2 ^ 32 },
+    ghost formed: { All IsWellFormedTxn txns },
+    ghost right: { ∥ IsRightPlan txns plan ∥₁ },
+    ghost based: { IsBase txns base },
+    ghost noted: { AreNoted txns plan base },
 }
 
 impl<'a> Batch<'a> {
-    ghost use Rattle.bohm_board.specs.Batches.{first_of, txns_of, plan_of, entries_of, base_of, txn_at, key_in, accesses_in, reads_at, writes_at, position, rights_of, IsIn};
+    ghost use Rattle.bohm_board.specs.Batches.{first_of, txns_of, plan_of, entries_of, base_of, txn_at, key_in, accesses_in, reads_at, writes_at, position, rights_of, width_at, IsIn};
     ghost use Rattle.std.specs.Option.{option_map};
 
     /// A batch whose first transaction has the timestamp `first`. The base has an entry for each key that
     /// a transaction declares and for no other, and its keys rise. The time grows with the number of
     /// accesses, each by the logarithm of the base's length: the plan's accesses whose source is `Before`
     /// have the place of their key in the base from now on.
-    pub fn new(first: u32, txns: &'a [Txn], plan: Plan, base: Vec<(Key, Cell)>) -> Batch<'a>
-        requires some { 0 < length txns.now }
-        requires few { length txns.now ≤ 4096 }
-        requires timestamps { first + length txns.now ≤ 2 ^ 32 }
-        requires formed { All IsWellFormedTxn txns.now }
+    pub fn new(first: u32, txns: LogPart<'a>, plan: Plan, base: Vec<(Key, Cell)>) -> Batch<'a>
+        requires some { 0 < length txns }
+        requires few { length txns ≤ 4096 }
+        requires timestamps { first + length txns ≤ 2 ^ 32 }
+        requires formed { All IsWellFormedTxn txns }
         requires first { plan.first ≡ first }
-        requires right { ∥ IsRightPlan txns.now plan ∥₁ }
-        requires base { IsBase txns.now base.items }
+        requires right { ∥ IsRightPlan txns plan ∥₁ }
+        requires base { IsBase txns base.items }
         ensures first { first_of result ≡ first }
-        ensures txns { txns_of result ≡ txns.entry.now }
+        ensures txns { txns_of result ≡ txns.entry }
         ensures plan { HasSourcesOf plan (plan_of result) }
         ensures base { entries_of result ≡ base.items }
     {
         let _ = first;
         let mut plan = plan;
-        note_places(&mut plan, txns, &base);
+        note_places(&mut plan, &txns, &base);
         Batch {
             txns,
             plan,
@@ -72,10 +73,10 @@ impl<'a> Batch<'a> {
     }
 
     /// The transactions, in the order of their timestamps.
-    pub(crate) fn txns(&self) -> &'a [Txn]
+    pub(crate) fn txns(&self) -> &LogPart<'a>
         ensures { result.now ≡ txns_of self.now }
     {
-        self.txns
+        &self.txns
     }
 
     /// The position of a timestamp, counted from the first.
@@ -88,11 +89,19 @@ impl<'a> Batch<'a> {
     }
 
     /// The transaction with a timestamp.
-    pub fn txn(&self, t: u32) -> &'a Txn
+    pub fn txn(&self, t: u32) -> TxnView<'a>
         requires { IsIn self.now t }
-        ensures { txn_at self.now t ≡ Some result.now }
+        ensures { txn_at self.now t ≡ Some result }
     {
-        &self.txns[(t - self.plan.first()) as usize]
+        self.txns.txn((t - self.plan.first()) as usize)
+    }
+
+    /// How many slots the transaction with a timestamp has. The time grows with its statements.
+    pub fn width(&self, t: u32) -> u32
+        requires { IsIn self.now t }
+        ensures { result ≡ width_at self.now t }
+    {
+        width(&self.txn(t))
     }
 
     /// Where a declared read, counted from 0, of the transaction with a timestamp finds its version.

@@ -9,7 +9,7 @@ ghost use Rattle.bohm_board.specs.Layouts.{IsLayoutOf};
 
 use crate::batch::Batch;
 use crate::slot::Slot;
-use bohm_txn::{NoMemory, Stmt, Txn};
+use bohm_txn::{LogPart, NoMemory, Stmt, TxnView};
 use std::alloc::Global;
 
 /// How many positions and slots there are, and how many slots before each position.
@@ -34,28 +34,28 @@ fn shows(body: &[Stmt]) -> usize
 }
 
 // How many slots a transaction has.
-fn width(txn: &Txn) -> u32
+pub(crate) fn width(txn: &TxnView<'_>) -> u32
     requires { IsWellFormedTxn txn.now }
     ensures width { result ≡ width txn.now }
     ensures few { result ≤ 32 }
 {
-    (txn.writes.as_slice().len() + shows(txn.body.as_slice())) as u32
+    (txn.writes().len() + shows(txn.get().body.as_slice())) as u32
 }
 
 impl Layout {
     ghost use Rattle.std.specs.Prelude.{All};
 
     /// The layout of a batch of these transactions.
-    pub fn new(alloc: Global, txns: &[Txn]) -> Result<Layout, NoMemory>
+    pub fn new(alloc: Global, txns: &LogPart<'_>) -> Result<Layout, NoMemory>
         requires few { length txns.now ≤ 4096 }
         requires formed { All IsWellFormedTxn txns.now }
         ensures { IfOk result (IsLayoutOf txns.now) }
     {
         let mut starts = Vec::with_capacity(alloc, txns.len())?;
         let mut slots = 0;
-        for txn in txns {
+        for index in 0..txns.len() {
             starts.push(slots)?;
-            slots += width(txn);
+            slots += width(&txns.txn(index));
         }
         Ok(Layout {
             positions: txns.len(),

@@ -9,7 +9,7 @@ ghost use Rattle.bohm_place.specs.Plans.{keys_in, planned_in, HasSourcesOf, IsRi
 ghost use Rattle.bohm_board.specs.Bases.{keys_of, AreNoted, IsBase, IsSetNoted};
 
 use bohm_place::{DeclaredSet, Plan, Source};
-use bohm_txn::{Cell, Key, Txn};
+use bohm_txn::{Cell, Key, LogPart, TxnView};
 use std::cmp::Ordering;
 
 /// The place of a key among entries by rising keys, or where it would stand.
@@ -26,7 +26,7 @@ pub fn search(entries: &[(Key, Cell)], key: &Key) -> Result<usize, usize>
 }
 
 /// Notes the places of the keys of one declared set of the transaction with the timestamp t.
-fn note_set(plan: &mut Plan, entries: &[(Key, Cell)], set: DeclaredSet, t: u32, txn: &Txn)
+fn note_set(plan: &mut Plan, entries: &[(Key, Cell)], set: DeclaredSet, t: u32, txn: &TxnView<'_>)
     requires first { plan.old.first ≤ t }
     requires paired { length (keys_in set txn.now) ≡ length (planned_in set plan.old (t - plan.old.first)) }
     requires few { length (keys_in set txn.now) ≤ 16 }
@@ -35,11 +35,13 @@ fn note_set(plan: &mut Plan, entries: &[(Key, Cell)], set: DeclaredSet, t: u32, 
     requires there { (k : List ℕ) → IsAmong (keys_in set txn.now) k → IsAmong (keys_of entries.now) k }
     ensures { IsSetNoted plan.old plan.new set (t - plan.old.first) (keys_in set txn.now) entries.now (length (keys_in set txn.now)) }
 {
-    for (index, key) in set.keys(txn).iter().enumerate() {
-        let index = index as u32;
+    let keys = set.keys(txn);
+    for place in 0..keys.len() {
+        let key = keys.key(place);
+        let index = place as u32;
         match plan.access(set, t, index).source {
             Source::Before => match search(entries, key) {
-                Ok(place) => plan.note(set, t, index, place as u32),
+                Ok(entry) => plan.note(set, t, index, entry as u32),
                 Err(_) => {}
             },
             Source::Within(_) => {}
@@ -49,7 +51,7 @@ fn note_set(plan: &mut Plan, entries: &[(Key, Cell)], set: DeclaredSet, t: u32, 
 
 /// Notes at each access whose source is `Before` the place of its key in the base. The time grows with
 /// these accesses, each by the logarithm of the base's length.
-pub fn note_places(plan: &mut Plan, txns: &[Txn], entries: &[(Key, Cell)])
+pub fn note_places(plan: &mut Plan, txns: &LogPart<'_>, entries: &[(Key, Cell)])
     requires few { length txns.now ≤ 4096 }
     requires timestamps { plan.old.first + length txns.now ≤ 2 ^ 32 }
     requires formed { All IsWellFormedTxn txns.now }
@@ -60,9 +62,10 @@ pub fn note_places(plan: &mut Plan, txns: &[Txn], entries: &[(Key, Cell)])
     ensures noted { AreNoted txns.now plan.new entries.now }
 {
     let first = plan.first();
-    for (i, txn) in txns.iter().enumerate() {
+    for i in 0..txns.len() {
         let t = first + i as u32;
-        note_set(plan, entries, DeclaredSet::Reads, t, txn);
-        note_set(plan, entries, DeclaredSet::Writes, t, txn);
+        let txn = txns.txn(i);
+        note_set(plan, entries, DeclaredSet::Reads, t, &txn);
+        note_set(plan, entries, DeclaredSet::Writes, t, &txn);
     }
 }

@@ -215,7 +215,7 @@ pub fn open(alloc: Global, text: &[u8], top: u32) -> Result<Keeper, OpenFault>
         Ok(snapshot) => snapshot,
         Err(fault) => return Err(OpenFault::Text(fault)),
     };
-    if !snapshot.log().is_empty() {
+    if snapshot.log().len() > 0 {
         return Err(OpenFault::HasLog);
     }
     match Machine::restore(alloc, snapshot.store(), top) {

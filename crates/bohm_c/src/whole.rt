@@ -21,7 +21,7 @@ fn executed(alloc: Global, checked: &Checked) -> Result<(Items<Reply>, Vec<(Key,
     let cuts = Cuts::even(alloc, log.len() as u32, LARGEST_BATCH)?;
     let mut history = History::open(alloc, checked.store())?;
     let mut scratch = Scratch::new(alloc)?;
-    let Applied { replies, end } = apply_alone(alloc, &mut history, log, &cuts, 0, &mut scratch);
+    let Applied { replies, end } = apply_alone(alloc, &mut history, &log, &cuts, 0, &mut scratch);
     end?;
     match history.store_at(alloc, history.top()) {
         Ok(store) => Ok((replies, store)),

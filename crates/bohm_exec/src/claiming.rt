@@ -42,11 +42,11 @@ fn attempt<G: Gate>(
 {
     let batch = board.batch();
     let txn = batch.txn(t);
-    let sure = sure(txn);
+    let sure = sure(&txn);
     let mut read_cells = [Cell::Absent; 16];
     let mut earlier_cells = [Cell::Absent; 16];
-    let reads = &mut read_cells[..txn.reads.as_slice().len()];
-    let earlier = &mut earlier_cells[..txn.writes.as_slice().len()];
+    let reads = &mut read_cells[..txn.reads().len()];
+    let earlier = &mut earlier_cells[..txn.writes().len()];
     if let Some(u) = find_wanted(board, pass, t, sure, reads, earlier) {
         return Turned::Needs(u);
     }

@@ -9,7 +9,6 @@ ghost use Rattle.bohm_exec.specs.Handed.{AwaitsCells, AreFound, AreRightSlots, s
 
 use crate::aside::Aside;
 use crate::evaluation::{evaluate, slot_cell};
-use crate::filling::width_at;
 use crate::finished::Finished;
 use bohm_board::{Closed, Slot};
 use bohm_place::{DeclaredSet, Source};
@@ -53,7 +52,7 @@ fn put_cells(closed: &mut Closed, t: u32, scratch: &Scratch)
     ensures all { (j : ℕ) →
         j < width_at (batch_of_closed closed.old) t → HasCell closed.new (slot_of t j) }
 {
-    let width = width_at(closed.batch(), t);
+    let width = closed.batch().width(t);
     for index in 0..width {
         closed.set_cell(Slot { txn: t, index }, slot_cell(scratch, index));
     }
@@ -71,11 +70,11 @@ fn evaluate_left(closed: &mut Closed, t: u32, scratch: &mut Scratch)
         status_in closed.new u ≡ status_in closed.old u }
 {
     let txn = closed.batch().txn(t);
-    let sure = sure(txn);
+    let sure = sure(&txn);
     let mut read_cells = [Cell::Absent; 16];
     let mut earlier_cells = [Cell::Absent; 16];
-    let reads = &mut read_cells[..txn.reads.as_slice().len()];
-    let earlier = &mut earlier_cells[..txn.writes.as_slice().len()];
+    let reads = &mut read_cells[..txn.reads().len()];
+    let earlier = &mut earlier_cells[..txn.writes().len()];
     take_cells(closed, t, DeclaredSet::Reads, reads);
     if !sure {
         take_cells(closed, t, DeclaredSet::Writes, earlier);

@@ -50,7 +50,7 @@ pub(crate) fn evaluate(
     if !sure {
         add_base(batch, t, DeclaredSet::Writes, earlier);
     }
-    eval(txn, reads, earlier, scratch)
+    eval(&txn, reads, earlier, scratch)
 }
 
 /// The cell of a slot of the transaction that was evaluated last: of a declared write the key's cell

@@ -86,7 +86,7 @@ impl<'a> Finished<'a> {
         requires index { index < shows_in_txn (batch_of_finished self.now) t }
         ensures { IsSerialShow (batch_of_finished self.now) t index result }
     {
-        let writes = self.batch().txn(t).writes.as_slice().len() as u32;
+        let writes = self.batch().txn(t).writes().len() as u32;
         self.slot(Slot {
             txn: t,
             index: writes + index,

@@ -1,3 +1,4 @@
+mod Further
 mod Usable
 mod Sources
 mod Below

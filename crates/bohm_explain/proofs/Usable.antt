@@ -1,5 +1,6 @@
 -- What the transactions of a well-formed list keep.
-use Rattle.std.proofs.Common.{◌≡◌, ℕ, ◌<◌, ◌≤◌, List, length, get_or, sym, subst}
+use Rattle.std.proofs.Common.{◌≡◌, ℕ, ◌≤◌, List, length, Some, slice_get, subst}
+use Rattle.std.proofs.lemmas.Option.{get_or_from_slice_get, slice_get_within}
 use Rattle.bohm_tree.specs.declared.txn.Txn.{Txn}
 use Rattle.bohm_txn.specs.Declares.{IsUsable}
 use Rattle.bohm_txn.specs.Faulty.{IsWellFormedTxn}
@@ -9,8 +10,8 @@ use Rattle.bohm_place.specs.Plans.{keys_in}
 use Rattle.bohm_place.specs.declared.declared_set.DeclaredSet.{DeclaredSet}
 use Rattle.bohm_place.specs.declared.declared_set.DeclaredSet.TheVariants.{Reads, Writes}
 
-pub usable_item : (txns : List Txn) (i : ℕ) (t : Txn) → AreWellFormed txns → i < length txns → t ≡ get_or txns i t → IsUsable t
-usable_item txns i t formed inside is = usable t (subst IsWellFormedTxn (sym is) (formed i t inside))
+pub usable_item : (txns : List Txn) (i : ℕ) (t : Txn) → AreWellFormed txns → slice_get txns i ≡ Some t → IsUsable t
+usable_item txns i t formed at = usable t (subst IsWellFormedTxn (get_or_from_slice_get txns i t t at) (formed i t (slice_get_within txns i t at)))
 
 pub few_keys : (set : DeclaredSet) (t : Txn) → IsUsable t → length (keys_in set t) ≤ 16
 few_keys Reads t u = u.few_reads

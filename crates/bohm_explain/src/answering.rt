@@ -8,7 +8,7 @@ use crate::drawing::print_picture;
 use crate::explanation::print_table;
 use crate::request::Request;
 use bohm_place::HashSeed;
-use bohm_txn::{NoMemory, Txn};
+use bohm_txn::{LogPart, NoMemory};
 use std::alloc::Global;
 
 /// The text of what is asked of a log, or `None` where that is the picture of a batch that the log
@@ -17,7 +17,7 @@ use std::alloc::Global;
 pub fn answer(
     alloc: Global,
     seed: HashSeed,
-    log: &[Txn],
+    log: &LogPart<'_>,
     request: Request,
 ) -> Result<Option<Vec<u8>>, NoMemory>
     requires few { length log.now ≤ 1000000 }

@@ -7,7 +7,7 @@ ghost use Rattle.bohm_explain.specs.Heaviest.{IsInside};
 ghost use Rattle.bohm_explain.specs.Wanted.{arrows, arrows_in};
 
 use bohm_place::{DeclaredSet, Plan, Source};
-use bohm_txn::{Key, NoMemory, Txn, sure};
+use bohm_txn::{Key, LogPart, NoMemory, sure};
 use std::alloc::Global;
 
 /// The transaction at `to` wants the version of the key that the one at `from` produces. Both are
@@ -23,7 +23,7 @@ pub struct Arrow {
 fn put_arrows(
     out: &mut Vec<Arrow>,
     plan: &Plan,
-    txns: &[Txn],
+    txns: &LogPart<'_>,
     to: u32,
     set: DeclaredSet,
 ) -> Result<(), NoMemory>
@@ -35,9 +35,9 @@ fn put_arrows(
     ensures few { IfOk result (λ _. length out.new.items ≤ length out.old.items + 16) }
 {
     let first = plan.first();
-    let keys = set.keys(&txns[to as usize]);
+    let keys = set.keys(&txns.txn(to as usize));
     for index in 0..keys.len() {
-        let key = keys[index];
+        let key = *keys.key(index);
         let access = plan.access(set, first + to, index as u32);
         match access.source {
             Source::Before => {}
@@ -52,7 +52,7 @@ fn put_arrows(
 
 /// The versions of the batch that its transactions want, in log order: those of their reads and, unless
 /// they are sure, those that their writes replace. The time grows with the number of declared keys.
-pub fn wanted(alloc: Global, plan: &Plan, txns: &[Txn]) -> Result<Vec<Arrow>, NoMemory>
+pub fn wanted(alloc: Global, plan: &Plan, txns: &LogPart<'_>) -> Result<Vec<Arrow>, NoMemory>
     requires few { length txns.now ≤ 4096 }
     requires right { IsRightPlan txns.now plan.now }
     requires formed { AreWellFormed txns.now }
@@ -64,7 +64,7 @@ pub fn wanted(alloc: Global, plan: &Plan, txns: &[Txn]) -> Result<Vec<Arrow>, No
     let mut out = Vec::new(alloc);
     for to in 0..txns.len() as u32 {
         put_arrows(&mut out, plan, txns, to, DeclaredSet::Reads)?;
-        if !sure(&txns[to as usize]) {
+        if !sure(&txns.txn(to as usize)) {
             put_arrows(&mut out, plan, txns, to, DeclaredSet::Writes)?;
         }
     }

@@ -5,25 +5,25 @@ ghost use Rattle.bohm_place.specs.Shares.{AreWellFormed};
 ghost use Rattle.bohm_explain.specs.Asked.{IsBetween};
 ghost use Rattle.bohm_explain.specs.Figures.{batch_at, batch_count};
 
-use bohm_txn::Txn;
+use bohm_txn::LogPart;
 
 /// The transactions of the batch of this index, counted from 0.
-pub fn batch_at(log: &[Txn], size: u32, index: u32) -> &[Txn]
+pub fn batch_at<'a>(log: &LogPart<'a>, size: u32, index: u32) -> LogPart<'a>
     requires size { IsBetween 1 4096 size }
     requires few { length log.now ≤ 1000000 }
     requires there { index * size ≤ length log.now }
     requires formed { AreWellFormed log.now }
-    ensures txns { result.now ≡ batch_at size log.now index }
-    ensures few { length result.now ≤ size }
-    ensures formed { AreWellFormed result.now }
+    ensures txns { result ≡ batch_at size log.now index }
+    ensures few { length result ≤ size }
+    ensures formed { AreWellFormed result }
 {
     let start = index as usize * size as usize;
     let end = log.len().min(start + size as usize);
-    &log[start..end]
+    log.between(start, end)
 }
 
 /// The number of batches of a log.
-pub fn batch_count(log: &[Txn], size: u32) -> u32
+pub fn batch_count(log: &LogPart<'_>, size: u32) -> u32
     requires size { IsBetween 1 4096 size }
     requires few { length log.now ≤ 1000000 }
     ensures count { result ≡ batch_count size log.now }

@@ -13,23 +13,28 @@ use crate::figures::greatest;
 use crate::picture::put_picture;
 use crate::waits::waits_in;
 use bohm_place::HashSeed;
-use bohm_txn::{NoMemory, Txn, sure};
+use bohm_txn::{LogPart, NoMemory, sure};
 use std::alloc::Global;
 
 /// Whether each transaction is sure.
-fn sure_marks(alloc: Global, txns: &[Txn]) -> Result<Vec<bool>, NoMemory>
+fn sure_marks(alloc: Global, txns: &LogPart<'_>) -> Result<Vec<bool>, NoMemory>
     ensures marks { IfOk result (λ v. v.items ≡ map is_sure txns.now) }
     ensures paired { IfOk result (λ v. length v.items ≡ length txns.now) }
 {
     let mut marks = Vec::with_capacity(alloc, txns.len())?;
-    for txn in txns {
-        marks.push(sure(txn))?;
+    for index in 0..txns.len() {
+        marks.push(sure(&txns.txn(index)))?;
     }
     Ok(marks)
 }
 
 /// The picture of a batch of this number.
-fn draw_batch(alloc: Global, seed: HashSeed, number: u32, txns: &[Txn]) -> Result<Vec<u8>, NoMemory>
+fn draw_batch(
+    alloc: Global,
+    seed: HashSeed,
+    number: u32,
+    txns: &LogPart<'_>,
+) -> Result<Vec<u8>, NoMemory>
     requires few { length txns.now ≤ 4096 }
     requires formed { AreWellFormed txns.now }
     ensures { IfOk result (λ text. text.items ≡ picture_of number txns.now) }
@@ -54,7 +59,7 @@ fn draw_batch(alloc: Global, seed: HashSeed, number: u32, txns: &[Txn]) -> Resul
 pub fn print_picture(
     alloc: Global,
     seed: HashSeed,
-    log: &[Txn],
+    log: &LogPart<'_>,
     size: u32,
     number: u32,
 ) -> Result<Option<Vec<u8>>, NoMemory>
@@ -71,5 +76,5 @@ pub fn print_picture(
         return Ok(None);
     }
     let txns = batch_at(log, size, number - 1);
-    Ok(Some(draw_batch(alloc, seed, number, txns)?))
+    Ok(Some(draw_batch(alloc, seed, number, &txns)?))
 }

@@ -19,7 +19,7 @@ use crate::table::put_table;
 use crate::verdict::put_verdict;
 use crate::waits::waits_in;
 use bohm_place::HashSeed;
-use bohm_txn::{NoMemory, Txn};
+use bohm_txn::{LogPart, NoMemory};
 use std::alloc::Global;
 
 /// What is found out of a log.
@@ -34,7 +34,7 @@ struct Survey {
 fn explain_batch(
     alloc: Global,
     seed: HashSeed,
-    txns: &[Txn],
+    txns: &LogPart<'_>,
     keys: &mut Gathering,
 ) -> Result<Figures, NoMemory>
     requires few { length txns.now ≤ 4096 }
@@ -54,7 +54,12 @@ fn explain_batch(
 }
 
 /// The figures of each batch of a log, and its keys.
-fn survey_log(alloc: Global, seed: HashSeed, log: &[Txn], size: u32) -> Result<Survey, NoMemory>
+fn survey_log(
+    alloc: Global,
+    seed: HashSeed,
+    log: &LogPart<'_>,
+    size: u32,
+) -> Result<Survey, NoMemory>
     requires size { IsBetween 1 4096 size }
     requires few { length log.now ≤ 1000000 }
     requires formed { AreWellFormed log.now }
@@ -66,7 +71,7 @@ fn survey_log(alloc: Global, seed: HashSeed, log: &[Txn], size: u32) -> Result<S
     let mut keys = Gathering::new(alloc, seed);
     for index in 0..batch_count(log, size) {
         let txns = batch_at(log, size, index);
-        figures.push(explain_batch(alloc, seed, txns, &mut keys)?)?;
+        figures.push(explain_batch(alloc, seed, &txns, &mut keys)?)?;
     }
     Ok(Survey { figures, keys })
 }
@@ -76,7 +81,7 @@ fn survey_log(alloc: Global, seed: HashSeed, log: &[Txn], size: u32) -> Result<S
 pub fn print_table(
     alloc: Global,
     seed: HashSeed,
-    log: &[Txn],
+    log: &LogPart<'_>,
     size: u32,
     top: u32,
 ) -> Result<Vec<u8>, NoMemory>

@@ -1,6 +1,7 @@
 //! The figures of a batch, and of a whole log.
 
-ghost use Rattle.std.specs.Prelude.{◌≡◌, ℕ, ◌+◌, ◌*◌, ◌<◌, ◌≤◌, ◌^◌, All, length, max, sum, IfOk};
+ghost use Rattle.std.specs.Prelude.{◌≡◌, ℕ, ◌+◌, ◌*◌, ◌<◌, ◌≤◌, ◌^◌, All, length, max, sum, count_by, IfOk};
+ghost use Rattle.bohm_txn.specs.Sure.{is_sure};
 ghost use Rattle.bohm_place.specs.Chains.{greatest};
 ghost use Rattle.bohm_place.specs.Shares.{AreWellFormed};
 ghost use Rattle.bohm_explain.specs.Figures.{alone, depths as depths_in, figures_of, plus, totals_of, AreAtMost};
@@ -9,7 +10,7 @@ ghost use Rattle.bohm_explain.specs.Wanted.{arrows as wanted_in};
 use crate::arrow::Arrow;
 use crate::chains::heaviest_to;
 use crate::weights::{declared, weights};
-use bohm_txn::{NoMemory, Txn, sure};
+use bohm_txn::{LogPart, NoMemory, sure};
 use std::alloc::Global;
 
 /// What is counted of one batch.
@@ -124,10 +125,24 @@ fn sum_of(weights: &[u32]) -> u32
     total
 }
 
+/// How many of the transactions are sure.
+fn count_sure(txns: &LogPart<'_>) -> u32
+    requires few { length txns.now ≤ 4096 }
+    ensures { result ≡ count_by is_sure txns.now }
+{
+    let mut count = 0;
+    for index in 0..txns.len() {
+        if sure(&txns.txn(index)) {
+            count += 1;
+        }
+    }
+    count
+}
+
 /// The figures of a batch with these wanted versions and depths.
 pub fn counted(
     alloc: Global,
-    txns: &[Txn],
+    txns: &LogPart<'_>,
     arrows: &[Arrow],
     depths: &[u32],
 ) -> Result<Figures, NoMemory>
@@ -143,7 +158,7 @@ pub fn counted(
     Ok(Figures {
         transactions: txns.len() as u32,
         keys: declared(txns),
-        sure: txns.iter().filter(|txn| sure(*txn)).count() as u32,
+        sure: count_sure(txns),
         taken: arrows.len() as u32,
         depth: greatest(depths),
         terms: sum_of(weights.as_slice()),

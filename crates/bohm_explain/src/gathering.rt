@@ -12,7 +12,7 @@ use crate::arrow::Arrow;
 use crate::heat::Heat;
 use crate::tallies::{Tally, count_all, raise_all};
 use bohm_place::HashSeed;
-use bohm_txn::{Key, NoMemory, Txn};
+use bohm_txn::{Key, LogPart, NoMemory};
 use indexmap::IndexMap;
 use std::alloc::Global;
 
@@ -34,7 +34,12 @@ impl Gathering {
 
     /// One batch more: its transactions, its arrows, and for each of these the transactions on the
     /// longest chain through it. The time grows with the number of declared keys and arrows.
-    pub fn note(&mut self, txns: &[Txn], arrows: &[Arrow], through: &[u32]) -> Result<(), NoMemory>
+    pub fn note(
+        &mut self,
+        txns: &LogPart<'_>,
+        arrows: &[Arrow],
+        through: &[u32],
+    ) -> Result<(), NoMemory>
         requires formed { AreWellFormed txns.now }
         requires arrows { arrows.now ≡ wanted_in txns.now }
         requires room { CanTake (length txns.now) self.old }

@@ -22,7 +22,7 @@ fn put_left_cell(out: &mut Vec<u8>, width: usize, text: &[u8]) -> Result<(), NoM
 fn put_heat(out: &mut Vec<u8>, heat: &Heat) -> Result<(), NoMemory>
     ensures { IfOk result (λ _. out.new.items ≡ out.old.items ++ heat_line heat.now) }
 {
-    put_left_cell(out, 32, heat.key.bytes())?;
+    put_left_cell(out, 32, heat.key.text().as_slice())?;
     put_number(out, 9, heat.writers)?;
     put_number(out, 10, heat.readers)?;
     put_number(out, 9, heat.chain)?;

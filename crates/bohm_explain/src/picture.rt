@@ -167,7 +167,7 @@ fn is_bold(arrow: Arrow, depths: &[u32], longest: &[bool]) -> bool
 fn put_key(out: &mut Vec<u8>, key: Key) -> Result<(), NoMemory>
     ensures { IfOk result (λ _. out.new.items ≡ out.old.items ++ key) }
 {
-    out.extend_from_slice(key.bytes())?;
+    out.extend_from_slice(key.text().as_slice())?;
     Ok(())
 }
 

@@ -6,7 +6,7 @@ ghost use Rattle.bohm_place.specs.Shares.{AreWellFormed};
 ghost use Rattle.std.proofs.Common.{rules};
 
 use bohm_place::{HashSeed, Partition, Plan, Shards, plan_alone};
-use bohm_txn::{Key, NoMemory, Txn};
+use bohm_txn::{Key, LogPart, NoMemory};
 use std::alloc::Global;
 
 /// All keys in one part: a plan that is made on one thread needs no more.
@@ -29,7 +29,7 @@ impl Partition for Undivided {
 }
 
 /// The plan of a batch, whose transactions have the timestamps from 1 on.
-pub fn plan_batch(alloc: Global, seed: HashSeed, txns: &[Txn]) -> Result<Plan, NoMemory>
+pub fn plan_batch(alloc: Global, seed: HashSeed, txns: &LogPart<'_>) -> Result<Plan, NoMemory>
     requires few { length txns.now ≤ 4096 }
     requires formed { AreWellFormed txns.now }
     ensures first { IfOk result (λ p. p.first ≡ 1) }

@@ -10,7 +10,7 @@ ghost use Rattle.bohm_explain.specs.Tallies.{counted_in, lists, nothing, plus, r
 
 use crate::arrow::Arrow;
 use bohm_place::{DeclaredSet, HashSeed};
-use bohm_txn::{Key, NoMemory, Txn};
+use bohm_txn::{Key, Keys, LogPart, NoMemory};
 use indexmap::IndexMap;
 
 /// What is counted of a key.
@@ -78,7 +78,7 @@ fn count(
 /// Counts a transaction that has these keys in this set.
 fn count_keys(
     tallies: &mut IndexMap<Key, Tally, HashSeed>,
-    keys: &[Key],
+    keys: &Keys<'_>,
     set: DeclaredSet,
 ) -> Result<(), NoMemory>
     requires rises { rising keys.now ≡ true }
@@ -88,14 +88,17 @@ fn count_keys(
     ensures listed { OnOk result ((k : List ℕ) → lists tallies.new k
         ≡ (lists tallies.old k || is_among keys.now k)) }
 {
-    for key in keys {
-        count(tallies, *key, set)?;
+    for index in 0..keys.len() {
+        count(tallies, *keys.key(index), set)?;
     }
     Ok(())
 }
 
 /// Counts transactions by the keys that they declare.
-pub fn count_all(tallies: &mut IndexMap<Key, Tally, HashSeed>, txns: &[Txn]) -> Result<(), NoMemory>
+pub fn count_all(
+    tallies: &mut IndexMap<Key, Tally, HashSeed>,
+    txns: &LogPart<'_>,
+) -> Result<(), NoMemory>
     requires formed { AreWellFormed txns.now }
     requires room { HasRoomFor (length txns.now) tallies.old }
     ensures counts { OnOk result ((k : List ℕ) → tally tallies.new k
@@ -103,9 +106,14 @@ pub fn count_all(tallies: &mut IndexMap<Key, Tally, HashSeed>, txns: &[Txn]) -> 
     ensures listed { OnOk result ((k : List ℕ) → lists tallies.new k
         ≡ (lists tallies.old k || list_any (declares k) txns.now)) }
 {
-    for txn in txns {
-        count_keys(tallies, DeclaredSet::Reads.keys(txn), DeclaredSet::Reads)?;
-        count_keys(tallies, DeclaredSet::Writes.keys(txn), DeclaredSet::Writes)?;
+    for index in 0..txns.len() {
+        let txn = txns.txn(index);
+        count_keys(tallies, &DeclaredSet::Reads.keys(&txn), DeclaredSet::Reads)?;
+        count_keys(
+            tallies,
+            &DeclaredSet::Writes.keys(&txn),
+            DeclaredSet::Writes,
+        )?;
     }
     Ok(())
 }

@@ -61,7 +61,7 @@ fn put_key_words(out: &mut Vec<u8>, totals: Totals, heat: &Heat) -> Result<(), N
     ensures { IfOk result (λ _. out.new.items ≡ out.old.items ++ key_words totals heat.now) }
 {
     out.extend_from_slice(b"key ")?;
-    out.extend_from_slice(heat.key.bytes())?;
+    out.extend_from_slice(heat.key.text().as_slice())?;
     out.extend_from_slice(b", written by ")?;
     put_decimal(out, heat.writers)?;
     out.extend_from_slice(b" of ")?;

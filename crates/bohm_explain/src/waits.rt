@@ -12,7 +12,7 @@ use crate::chains::{heaviest_from, heaviest_to};
 use crate::planning::plan_batch;
 use crate::weights::alike;
 use bohm_place::HashSeed;
-use bohm_txn::{NoMemory, Txn};
+use bohm_txn::{LogPart, NoMemory};
 use std::alloc::Global;
 
 /// The wanted versions of a batch, and the chains of them.
@@ -26,7 +26,7 @@ pub struct Waits {
 }
 
 /// What is waited for in a batch. The time grows with the number of declared keys.
-pub fn waits_in(alloc: Global, seed: HashSeed, txns: &[Txn]) -> Result<Waits, NoMemory>
+pub fn waits_in(alloc: Global, seed: HashSeed, txns: &LogPart<'_>) -> Result<Waits, NoMemory>
     requires few { length txns.now ≤ 4096 }
     requires formed { AreWellFormed txns.now }
     ensures arrows { IfOk result (λ w. w.arrows.items ≡ arrows txns.now) }

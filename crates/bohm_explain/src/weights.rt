@@ -6,7 +6,7 @@ ghost use Rattle.bohm_place.specs.Shares.{AreWellFormed};
 ghost use Rattle.bohm_txn.specs.Declares.{AllShort, IsUsable};
 ghost use Rattle.bohm_explain.specs.Weighing.{terms_in, weight, weights, declared_by};
 
-use bohm_txn::{Cond, NoMemory, Stmt, Txn};
+use bohm_txn::{Cond, LogPart, NoMemory, Stmt, TxnView};
 use std::alloc::Global;
 
 /// The number of terms in a statement.
@@ -38,28 +38,28 @@ fn terms_in(stmt: &Stmt) -> u32
 }
 
 /// The terms of a transaction's body, and 1 where it has none.
-fn weight(txn: &Txn) -> u32
+fn weight(txn: &TxnView<'_>) -> u32
     requires { IsUsable txn.now }
     ensures weight { result ≡ weight txn.now }
     ensures light { result ≤ 3072 }
 {
     let mut terms = 0;
-    for stmt in txn.body.as_slice() {
+    for stmt in txn.get().body.as_slice() {
         terms += terms_in(stmt);
     }
     terms.max(1)
 }
 
 /// What each transaction weighs.
-pub fn weights(alloc: Global, txns: &[Txn]) -> Result<Vec<u32>, NoMemory>
+pub fn weights(alloc: Global, txns: &LogPart<'_>) -> Result<Vec<u32>, NoMemory>
     requires formed { AreWellFormed txns.now }
     ensures weights { IfOk result (λ v. v.items ≡ weights txns.now) }
     ensures paired { IfOk result (λ v. length v.items ≡ length txns.now) }
     ensures light { IfOk result (λ v. All (λ w. w ≤ 3072) v.items) }
 {
     let mut weights = Vec::with_capacity(alloc, txns.len())?;
-    for txn in txns {
-        weights.push(weight(txn))?;
+    for index in 0..txns.len() {
+        weights.push(weight(&txns.txn(index)))?;
     }
     Ok(weights)
 }
@@ -79,24 +79,23 @@ pub fn alike(alloc: Global, count: usize) -> Result<Vec<u32>, NoMemory>
 }
 
 /// How many keys a transaction declares.
-fn declared_by(txn: &Txn) -> u32
+fn declared_by(txn: &TxnView<'_>) -> u32
     requires { IsUsable txn.now }
     ensures keys { result ≡ declared_by txn.now }
     ensures few { result ≤ 32 }
 {
-    let Txn { reads, writes, .. } = txn;
-    (reads.as_slice().len() + writes.as_slice().len()) as u32
+    (txn.reads().len() + txn.writes().len()) as u32
 }
 
 /// How many keys the transactions declare: a key that one reads and writes counts twice.
-pub fn declared(txns: &[Txn]) -> u32
+pub fn declared(txns: &LogPart<'_>) -> u32
     requires formed { AreWellFormed txns.now }
     requires few { length txns.now ≤ 4096 }
     ensures { result ≡ sum_by declared_by txns.now }
 {
     let mut keys = 0;
-    for txn in txns {
-        keys += declared_by(txn);
+    for index in 0..txns.len() {
+        keys += declared_by(&txns.txn(index));
     }
     keys
 }

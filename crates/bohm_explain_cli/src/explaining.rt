@@ -28,7 +28,7 @@ pub fn explain_text<T: RandomSource, R: Read, W: Write>(
     ensures untouched { IfErr result (λ e. IsBeforeWriting e → writer.new ≡ writer.old) }
 {
     let checked = read_log(alloc, reader)?;
-    let Some(text) = answer(alloc, HashSeed::drawn(rt), checked.log(), request)? else {
+    let Some(text) = answer(alloc, HashSeed::drawn(rt), &checked.log(), request)? else {
         return Err(RunFault::Future);
     };
     write_all(writer, text.as_slice())

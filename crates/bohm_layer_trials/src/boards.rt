@@ -16,7 +16,7 @@ use bohm_board::{Batch, Board, Closed, Pass};
 use bohm_exec::{Aside, Finished, Gate, OpenGate, complete, share_of, sweep};
 use bohm_place::{Shards, plan};
 use bohm_store::History;
-use bohm_txn::{Cell, NoMemory, Outcome, Scratch, Txn, Value};
+use bohm_txn::{Cell, LogPart, NoMemory, Outcome, Scratch, Value};
 use std::alloc::Global;
 use std::process::Abort;
 use std::thread::Threads;
@@ -30,7 +30,7 @@ pub fn next_batch<'a, R: Threads + Sync>(
     rt: &R,
     alloc: Global,
     history: &History,
-    txns: &'a [Txn],
+    txns: &LogPart<'a>,
 ) -> Result<Batch<'a>, NoMemory>
     requires some { 0 < length txns.now }
     requires few { length txns.now ≤ 4096 }
@@ -166,7 +166,7 @@ pub fn outcome(rt: &impl Abort, finished: &Finished, t: u32) -> Outcome {
 /// The cell of the first declared write.
 pub fn cell(rt: &impl Abort, finished: &Finished, t: u32) -> Cell {
     assert_in(rt, finished.batch(), t);
-    let some = finished.batch().txn(t).writes.as_slice().len() > 0;
+    let some = finished.batch().txn(t).writes().len() > 0;
     assert!(rt; some);
     finished.cell(t, 0)
 }
@@ -174,7 +174,7 @@ pub fn cell(rt: &impl Abort, finished: &Finished, t: u32) -> Cell {
 /// The cell of the first `show`.
 pub fn shown(rt: &impl Abort, finished: &Finished, t: u32) -> Cell {
     assert_in(rt, finished.batch(), t);
-    let body = finished.batch().txn(t).body.as_slice();
+    let body = finished.batch().txn(t).get().body.as_slice();
     let shows = body.iter().filter(|stmt| stmt.is_show()).count();
     assert!(rt; shows > 0);
     finished.show(t, 0)

@@ -92,8 +92,8 @@ fn literals_alone_are_sure(rt: HostRuntime) -> Result<(), Fail> {
     ] {
         let checked = checked(rt.alloc(), head, log)?;
         assert_eq!(rt; checked.log().len(), count);
-        for txn in checked.log() {
-            assert_eq!(rt; sure(txn), want, "{txn:?}");
+        for index in 0..checked.log().len() {
+            assert_eq!(rt; sure(&checked.log().txn(index)), want, "{index}");
         }
     }
     Ok(())

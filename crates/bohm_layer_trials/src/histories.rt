@@ -7,7 +7,7 @@ use crate::boards::{execute, next_batch, present};
 use crate::logs::checked;
 use bohm_store::{History, PastFault, StoreFault};
 use bohm_text::print_store;
-use bohm_txn::{Cell, Key, NoMemory, Txn};
+use bohm_txn::{Cell, Key, LogPart, NoMemory};
 use std::alloc::Global;
 use std::process::Abort;
 use std::test::Fail;
@@ -18,7 +18,7 @@ fn settle<R: Abort + Threads + Sync>(
     rt: &R,
     alloc: Global,
     history: &mut History,
-    txns: &[Txn],
+    txns: &LogPart<'_>,
 ) -> Result<(), NoMemory>
     requires some { 0 < length txns.now }
     requires few { length txns.now ≤ 4096 }
@@ -51,9 +51,9 @@ fn settle_log<R: Abort + Threads + Sync>(
 ) -> Result<(), Fail> {
     let log = checked(alloc, "log 1\n", log)?;
     let txns = log.log();
-    let fits = !txns.is_empty() && txns.len() <= 4096 && history.top() <= 1000;
+    let fits = txns.len() > 0 && txns.len() <= 4096 && history.top() <= 1000;
     assert!(rt; fits);
-    Ok(settle(rt, alloc, history, txns)?)
+    Ok(settle(rt, alloc, history, &txns)?)
 }
 
 fn trim(rt: &impl Abort, history: &mut History, floor: &str) -> Result<(), Fail> {

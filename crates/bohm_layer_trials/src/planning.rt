@@ -6,7 +6,7 @@ ghost use Rattle.bohm_place.specs.Plans.{IsRightPlan};
 
 use crate::logs::checked;
 use bohm_place::{Access, DeclaredSet, Partition, Plan, Shards, Source, plan};
-use bohm_txn::{Checked, Key, Txn};
+use bohm_txn::{Checked, Key, LogPart};
 use std::alloc::Global;
 use std::process::Abort;
 use std::sync::atomic::{AtomicU64, Ordering};
@@ -40,7 +40,7 @@ impl Partition for FirstByte {
     }
 
     fn part(&self, key: &Key) -> u32 {
-        match key.bytes() {
+        match key.text().as_slice() {
             [] => 0,
             [first, ..] => *first as u32 % self.parts,
         }
@@ -106,14 +106,15 @@ end
 ";
 
 // The access of a declared read.
-fn read_of(rt: &impl Abort, plan: &Plan, txns: &[Txn], t: u32, index: u32) -> Access
+fn read_of(rt: &impl Abort, plan: &Plan, txns: &LogPart<'_>, t: u32, index: u32) -> Access
     requires { IsRightPlan txns.now plan.now }
 {
     let place = t
         .checked_sub(plan.first())
         .expect(rt, "a timestamp of the batch");
-    let txn = txns.get(place as usize).expect(rt, "a transaction");
-    let inside = (index as usize) < txn.reads.as_slice().len();
+    let there = (place as usize) < txns.len();
+    assert!(rt; there);
+    let inside = (index as usize) < txns.txn(place as usize).reads().len();
     assert!(rt; inside);
     let access = plan.access(DeclaredSet::Reads, t, index);
     assert_eq!(rt; plan.read(t, index), access.source);
@@ -121,14 +122,15 @@ fn read_of(rt: &impl Abort, plan: &Plan, txns: &[Txn], t: u32, index: u32) -> Ac
 }
 
 // The access of a declared write.
-fn write_of(rt: &impl Abort, plan: &Plan, txns: &[Txn], t: u32, index: u32) -> Access
+fn write_of(rt: &impl Abort, plan: &Plan, txns: &LogPart<'_>, t: u32, index: u32) -> Access
     requires { IsRightPlan txns.now plan.now }
 {
     let place = t
         .checked_sub(plan.first())
         .expect(rt, "a timestamp of the batch");
-    let txn = txns.get(place as usize).expect(rt, "a transaction");
-    let inside = (index as usize) < txn.writes.as_slice().len();
+    let there = (place as usize) < txns.len();
+    assert!(rt; there);
+    let inside = (index as usize) < txns.txn(place as usize).writes().len();
     assert!(rt; inside);
     let access = plan.access(DeclaredSet::Writes, t, index);
     assert_eq!(rt; plan.write(t, index), access.source);
@@ -149,7 +151,7 @@ fn before() -> Access {
     }
 }
 
-fn assert_plan(rt: &impl Abort, plan: &Plan, txns: &[Txn])
+fn assert_plan(rt: &impl Abort, plan: &Plan, txns: &LogPart<'_>)
     requires { IsRightPlan txns.now plan.now }
 {
     assert_eq!(rt; plan.first(), 5);
@@ -226,12 +228,12 @@ fn plan_batch<R: Abort + Threads + Sync>(
     let shards = Shards::new(alloc, parts.parts)?;
     let one = earlier.log().len() == 1;
     assert!(rt; one);
-    let (shards, _) = plan(rt, alloc, shards, 2, earlier.log(), cc, &parts)?;
+    let (shards, _) = plan(rt, alloc, shards, 2, &earlier.log(), cc, &parts)?;
     let txns = batch.log();
     let four = txns.len() == 4;
     assert!(rt; four);
-    let (mut shards, plan) = plan(rt, alloc, shards, 5, txns, cc, &parts)?;
-    assert_plan(rt, &plan, txns);
+    let (mut shards, plan) = plan(rt, alloc, shards, 5, &txns, cc, &parts)?;
+    assert_plan(rt, &plan, &txns);
     let a = [(9, 6), (6, 5), (5, 2), (2, 0)];
     let b = [(9, 7), (7, 5), (5, 0)];
     let c = [(9, 8), (8, 0)];
@@ -271,8 +273,8 @@ fn plan_alone<P: Partition, R: Abort + Threads + Sync>(
     let four = txns.len() == 4;
     assert!(rt; four);
     let shards = Shards::new(alloc, parts.parts())?;
-    let (_, plan) = plan(rt, alloc, shards, 5, txns, cc, parts)?;
-    assert_plan(rt, &plan, txns);
+    let (_, plan) = plan(rt, alloc, shards, 5, &txns, cc, parts)?;
+    assert_plan(rt, &plan, &txns);
     Ok(())
 }
 

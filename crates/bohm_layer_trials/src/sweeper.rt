@@ -35,8 +35,8 @@ pub fn seen(
     let batch = board.batch();
     assert_in(rt, batch, t);
     let txn = batch.txn(t);
-    let writes = txn.writes.as_slice().len();
-    let body = txn.body.as_slice();
+    let writes = txn.writes().len();
+    let body = txn.get().body.as_slice();
     let shows = body.iter().filter(|stmt| stmt.is_show()).count();
     let place = index as usize;
     let inside = place < writes || place - writes < shows;
@@ -61,10 +61,10 @@ fn first_batch<'a, R: Abort + Threads + Sync>(
     log: &'a Checked,
 ) -> Result<Batch<'a>, Fail> {
     let txns = log.log();
-    let fits = !txns.is_empty() && txns.len() <= 4096;
+    let fits = txns.len() > 0 && txns.len() <= 4096;
     assert!(rt; fits);
     let history = History::open(alloc, log.store())?;
-    Ok(next_batch(rt, alloc, &history, txns)?)
+    Ok(next_batch(rt, alloc, &history, &txns)?)
 }
 
 impl<'a> Sweeper<'a> {

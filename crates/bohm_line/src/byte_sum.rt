@@ -48,7 +48,7 @@ impl Partition for ByteSum {
         if self.parts == 1 {
             return 0;
         }
-        sum_of(key.bytes()) % self.parts
+        sum_of(key.text().as_slice()) % self.parts
     }
 
     ghost in_range = { λ s k. mod-lt (sum k) s.some };

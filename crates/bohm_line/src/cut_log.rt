@@ -5,13 +5,13 @@ ghost use Rattle.std.specs.List.{sum};
 ghost use Rattle.bohm_txn.specs.Faulty.{IsWellFormedTxn};
 
 use crate::cuts::Cuts;
-use bohm_txn::Txn;
+use bohm_txn::LogPart;
 
 /// A log, the timestamp of its first transaction and its cutting.
 #[derive(Clone, Copy)]
 pub struct CutLog<'a> {
     first: u32,
-    txns: &'a [Txn],
+    txns: &'a LogPart<'a>,
     cuts: &'a Cuts,
     ghost whole: { sum cuts.now ≡ length txns.now },
     ghost timestamps: { first + length txns.now ≤ 2 ^ 32 },
@@ -23,7 +23,7 @@ impl<'a> CutLog<'a> {
     ghost use Rattle.bohm_line.specs.CutLogs.{cutting_of};
 
     /// A log whose first transaction has this timestamp, and its cutting.
-    pub fn new(first: u32, txns: &'a [Txn], cuts: &'a Cuts) -> CutLog<'a>
+    pub fn new(first: u32, txns: &'a LogPart<'a>, cuts: &'a Cuts) -> CutLog<'a>
         requires whole { sum cuts.now ≡ length txns.now }
         requires timestamps { first + length txns.now ≤ 2 ^ 32 }
         requires formed { All IsWellFormedTxn txns.now }
@@ -48,17 +48,17 @@ impl<'a> CutLog<'a> {
     }
 
     /// The transactions of the batch at a place, counted from 0, ahead of which `start` transactions stand.
-    pub fn batch(&self, place: u32, start: usize) -> &'a [Txn]
+    pub fn batch(&self, place: u32, start: usize) -> LogPart<'a>
         requires place { place < length (cutting_of self.now).sizes }
         requires start { start ≡ ahead (cutting_of self.now).sizes place }
-        ensures txns { result.now ≡ txns_at (cutting_of self.now) place }
-        ensures some { 0 < length result.now }
-        ensures few { length result.now ≤ 4096 }
-        ensures ahead { ahead (cutting_of self.now).sizes (place + 1) ≡ start + length result.now }
-        ensures inside { first_at (cutting_of self.now) place + length result.now ≤ 2 ^ 32 }
-        ensures formed { All IsWellFormedTxn result.now }
+        ensures txns { result ≡ txns_at (cutting_of self.now) place }
+        ensures some { 0 < length result }
+        ensures few { length result ≤ 4096 }
+        ensures ahead { ahead (cutting_of self.now).sizes (place + 1) ≡ start + length result }
+        ensures inside { first_at (cutting_of self.now) place + length result ≤ 2 ^ 32 }
+        ensures formed { All IsWellFormedTxn result }
     {
         let size = self.cuts.size(place) as usize;
-        &self.txns[start..start + size]
+        self.txns.between(start, start + size)
     }
 }

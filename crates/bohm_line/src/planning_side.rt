@@ -38,7 +38,7 @@ pub fn plan_ahead<L: Line, P: Partition, F: Fn(u32), R: Threads + Wait + Sync>(
         let number = place + 1;
         let txns = log.batch(place, start);
         let first = log.first() + start as u32;
-        let Ok((left, plan)) = plan(rt, alloc, shards, first, txns, planners, partition) else {
+        let Ok((left, plan)) = plan(rt, alloc, shards, first, &txns, planners, partition) else {
             sender.send(rt, PlanNote { number, plan: None });
             return sender;
         };

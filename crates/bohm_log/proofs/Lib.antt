@@ -1,4 +1,3 @@
-mod Words
 mod Growth
 mod Seeking
 mod Drafts

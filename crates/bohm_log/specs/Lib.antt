@@ -1,7 +1,3 @@
-pub mod Words
-pub mod Spreading
-pub mod Shortness
-pub mod NameInside
 pub mod Interning
 pub mod Parts
 pub mod Drafting

@@ -9,12 +9,11 @@ ghost use Rattle.bohm_log.specs.Columns.{shared_of, Interns, NumbersCome, Lands,
 ghost use Rattle.bohm_log.specs.Partial.{shared_seen};
 
 use crate::fault::LogFault;
-use crate::name::Name;
 use crate::names::Names;
 use crate::row::{StmtRow, TermRow};
 use crate::sheet::Sheet;
 use crate::table::Table;
-use bohm_tree::Edition;
+use bohm_tree::{Edition, Key};
 use std::alloc::Global;
 use std::hash::BuildHasher;
 
@@ -39,7 +38,7 @@ pub struct Head {
 pub struct Columns<S: BuildHasher> {
     pub names: Names<S>,
     pub ids: Vec<u32>,
-    pub others: Vec<Name>,
+    pub others: Vec<Key>,
     pub large: Vec<u64>,
     pub terms: Vec<TermRow>,
     pub rows: Vec<StmtRow>,
@@ -101,7 +100,7 @@ impl<S: BuildHasher> Columns<S> {
 
 impl<S: BuildHasher + Drop> Columns<S> {
     /// Adds the number of a name.
-    fn add_name(&mut self, name: Name) -> Result<(), LogFault>
+    fn add_name(&mut self, name: Key) -> Result<(), LogFault>
         ensures ok { OnOk result (NumbersCome (shared_of self.old) (shared_of self.new) (name ∷ [])) }
         ensures err { OnErr result (Interns (shared_of self.old) (shared_of self.new)) }
     {
@@ -111,7 +110,7 @@ impl<S: BuildHasher + Drop> Columns<S> {
     }
 
     /// Adds the numbers of these names.
-    fn add_names(&mut self, names: &[Name]) -> Result<(), LogFault>
+    fn add_names(&mut self, names: &[Key]) -> Result<(), LogFault>
         ensures ok { OnOk result (NumbersCome (shared_of self.old) (shared_of self.new) names.now) }
         ensures err { OnErr result (Interns (shared_of self.old) (shared_of self.new)) }
     {
@@ -124,7 +123,7 @@ impl<S: BuildHasher + Drop> Columns<S> {
     /// Adds the numbers of the reads and then of the writes. The three offsets are where the reads
     /// begin, where the writes begin and where they end.
     #[tactic(auto, using(crate::proofs::Widening::interns_itself, crate::proofs::Widening::interns_both, crate::proofs::Widening::sets_come))]
-    fn add_sets(&mut self, reads: &[Name], writes: &[Name]) -> Result<(u32, u32, u32), LogFault>
+    fn add_sets(&mut self, reads: &[Key], writes: &[Key]) -> Result<(u32, u32, u32), LogFault>
         ensures ok { IfOk result
             (λ r. SetsCome (shared_of self.old) (shared_of self.new) r.0 r.1 r.2 reads.now writes.now) }
         ensures err { OnErr result (Interns (shared_of self.old) (shared_of self.new)) }

@@ -8,11 +8,10 @@ ghost use Rattle.bohm_log.specs.Parts.{txn_of, IsWithin};
 ghost use Rattle.bohm_log.specs.Seeing.{atom_shown};
 
 use crate::fault::LogFault;
-use crate::name::Name;
 use crate::row::{Action, Pending, Step};
 use crate::sheet::Sheet;
 use crate::sum::AtomParts;
-use bohm_tree::{Cmp, Edition};
+use bohm_tree::{Cmp, Edition, Key};
 use std::alloc::Global;
 use std::hash::{BuildHasher, BuildHasherDefault, FoldHasher};
 use std::marker::Model;
@@ -60,7 +59,7 @@ impl<S: BuildHasher> Draft<S> {
     }
 
     /// Declares one more key to be read.
-    pub fn read(&mut self, key: Name) -> Result<(), LogFault>
+    pub fn read(&mut self, key: Key) -> Result<(), LogFault>
         requires { IsBare self.old }
         ensures ok { OnOk result (self.new ≡ with_read self.old key) }
         ensures err { OnErr result (self.new ≡ self.old) }
@@ -70,7 +69,7 @@ impl<S: BuildHasher> Draft<S> {
     }
 
     /// Declares one more key to be written.
-    pub fn write(&mut self, key: Name) -> Result<(), LogFault>
+    pub fn write(&mut self, key: Key) -> Result<(), LogFault>
         requires { IsBare self.old }
         ensures ok { OnOk result (self.new ≡ with_write self.old key) }
         ensures err { OnErr result (self.new ≡ self.old) }
@@ -130,7 +129,7 @@ impl<S: BuildHasher + Drop> Draft<S> {
     }
 
     /// Adds a key that is read.
-    pub fn key(&mut self, minus: bool, name: Name) -> Result<(), LogFault>
+    pub fn key(&mut self, minus: bool, name: Key) -> Result<(), LogFault>
         ensures ok { OnOk result (self.new ≡ with_term self.old minus (Read name)) }
         ensures err { OnErr result (self.new ≡ self.old) }
     {
@@ -138,7 +137,7 @@ impl<S: BuildHasher + Drop> Draft<S> {
     }
 
     /// Adds a local.
-    pub fn local(&mut self, minus: bool, name: Name) -> Result<(), LogFault>
+    pub fn local(&mut self, minus: bool, name: Key) -> Result<(), LogFault>
         ensures ok { OnOk result (self.new ≡ with_term self.old minus (Local name)) }
         ensures err { OnErr result (self.new ≡ self.old) }
     {
@@ -149,7 +148,7 @@ impl<S: BuildHasher + Drop> Draft<S> {
 /// Statements, each behind its sums.
 impl<S: BuildHasher + Drop> Draft<S> {
     /// Ends a statement with this name.
-    fn end_named(&mut self, action: Action, name: Name) -> Result<(), LogFault>
+    fn end_named(&mut self, action: Action, name: Key) -> Result<(), LogFault>
         requires { IsNamed action }
         ensures ok { OnOk result (self.new ≡ with_stmt self.old (made_of self.old action name)) }
         ensures err { OnErr result (self.new ≡ self.old) }
@@ -178,7 +177,7 @@ impl<S: BuildHasher + Drop> Draft<S> {
 
     /// `let $name = SUM`
     #[tactic(auto, using(crate::proofs::Statements::bind_made))]
-    pub fn bind(&mut self, name: Name) -> Result<(), LogFault>
+    pub fn bind(&mut self, name: Key) -> Result<(), LogFault>
         requires { self.old.done ≡ [] }
         ensures ok { OnOk result (self.new ≡ with_stmt self.old (stmts.Bind name self.old.latest)) }
         ensures err { OnErr result (self.new ≡ self.old) }
@@ -197,7 +196,7 @@ impl<S: BuildHasher + Drop> Draft<S> {
     }
 
     /// `need has KEY`
-    pub fn has(&mut self, key: Name) -> Result<(), LogFault>
+    pub fn has(&mut self, key: Key) -> Result<(), LogFault>
         requires { IsBetween self.old }
         ensures ok { OnOk result (self.new ≡ with_stmt self.old (stmts.Has key)) }
         ensures err { OnErr result (self.new ≡ self.old) }
@@ -206,7 +205,7 @@ impl<S: BuildHasher + Drop> Draft<S> {
     }
 
     /// `need no KEY`
-    pub fn lacks(&mut self, key: Name) -> Result<(), LogFault>
+    pub fn lacks(&mut self, key: Key) -> Result<(), LogFault>
         requires { IsBetween self.old }
         ensures ok { OnOk result (self.new ≡ with_stmt self.old (stmts.Lacks key)) }
         ensures err { OnErr result (self.new ≡ self.old) }
@@ -216,7 +215,7 @@ impl<S: BuildHasher + Drop> Draft<S> {
 
     /// `set KEY = SUM`
     #[tactic(auto, using(crate::proofs::Statements::put_made))]
-    pub fn put(&mut self, key: Name) -> Result<(), LogFault>
+    pub fn put(&mut self, key: Key) -> Result<(), LogFault>
         requires { self.old.done ≡ [] }
         ensures ok { OnOk result (self.new ≡ with_stmt self.old (put_of self.old key None)) }
         ensures err { OnErr result (self.new ≡ self.old) }
@@ -226,7 +225,7 @@ impl<S: BuildHasher + Drop> Draft<S> {
 
     /// `set KEY = SUM when SUM CMP SUM`
     #[tactic(auto, using(crate::proofs::Statements::put_when_made))]
-    pub fn put_when(&mut self, key: Name, cmp: Cmp) -> Result<(), LogFault>
+    pub fn put_when(&mut self, key: Key, cmp: Cmp) -> Result<(), LogFault>
         requires { length self.old.done ≡ 2 }
         ensures ok { OnOk result (self.new ≡ with_stmt self.old (put_of self.old key (Some cmp))) }
         ensures err { OnErr result (self.new ≡ self.old) }
@@ -235,7 +234,7 @@ impl<S: BuildHasher + Drop> Draft<S> {
     }
 
     /// `drop KEY`
-    pub fn remove(&mut self, key: Name) -> Result<(), LogFault>
+    pub fn remove(&mut self, key: Key) -> Result<(), LogFault>
         requires { IsBetween self.old }
         ensures ok { OnOk result (self.new ≡ with_stmt self.old (stmts.Remove key)) }
         ensures err { OnErr result (self.new ≡ self.old) }

@@ -7,14 +7,14 @@ ghost use Rattle.bohm_log.specs.Columns.{AllNamed};
 ghost use Rattle.bohm_log.specs.Numbering.{sets_at, IsNumbered};
 
 use crate::columns::Head;
-use crate::name::Name;
+use bohm_tree::Key;
 use std::marker::Model;
 
 /// The names of a log's keys, and for the transactions of a part of it the numbers of the keys that
 /// each declares. It is apart from what the transactions do.
 #[derive(Drop)]
 pub struct DeclaredKeys<'a> {
-    pub(crate) names: &'a [Name],
+    pub(crate) names: &'a [Key],
     pub(crate) ids: &'a [u32],
     pub(crate) heads: &'a [Head],
 }
@@ -33,7 +33,7 @@ impl<'a> Model for DeclaredKeys<'a> {
 /// The numbers of the keys that the transaction at a head reads, and of those that it writes.
 #[tactic(auto, using(crate::proofs::Dividing::named_between))]
 fn sets_by<'a>(
-    names: &[Name],
+    names: &[Key],
     ids: &'a [u32],
     heads: &[Head],
     index: usize,
@@ -60,7 +60,7 @@ impl<'a> DeclaredKeys<'a> {
     }
 
     /// All names of the log's keys, each at its number.
-    pub fn names(&self) -> &'a [Name]
+    pub fn names(&self) -> &'a [Key]
         ensures names { result.now ≡ self.now.names }
         ensures apart { IsDistinct bytes_eq self.now.names }
     {

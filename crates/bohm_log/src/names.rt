@@ -8,7 +8,7 @@ ghost use Rattle.bohm_log.specs.Interning.{with_name};
 ghost use Rattle.bohm_log.specs.Parts.{Begins};
 
 use crate::fault::LogFault;
-use crate::name::Name;
+use bohm_tree::Key;
 use indexmap::IndexSet;
 use std::alloc::Global;
 use std::hash::{BuildHasher, BuildHasherDefault, FoldHasher};
@@ -21,7 +21,7 @@ const KEPT_ROOM: usize = 256;
 /// one with a fixed seed: where strangers choose the names, give one with a seed of its own.
 #[derive(Drop)]
 pub struct Names<S: BuildHasher = BuildHasherDefault<FoldHasher>> {
-    set: IndexSet<Name, S>,
+    set: IndexSet<Key, S>,
 }
 
 impl<S: BuildHasher> Model for Names<S> {
@@ -54,7 +54,7 @@ impl<S: BuildHasher> Names<S> {
     }
 
     /// All names, each at its number.
-    pub fn as_slice(&self) -> &[Name]
+    pub fn as_slice(&self) -> &[Key]
         ensures names { result.now ≡ self.now }
         ensures apart { IsDistinct bytes_eq self.now }
         ensures few { length self.now ≤ 2 ^ 32 }
@@ -66,7 +66,7 @@ impl<S: BuildHasher> Names<S> {
     /// and the name is none of them. An `Err` leaves the names as they were. The time doesn't grow
     /// with their number, but where the table grows.
     #[tactic(auto, using(crate::proofs::Seeking::numbered_already, crate::proofs::Seeking::at_its_number))]
-    pub fn id(&mut self, name: Name) -> Result<u32, LogFault>
+    pub fn id(&mut self, name: Key) -> Result<u32, LogFault>
     where
         S: Drop,
         ensures names { OnOk result (self.new ≡ with_name self.old name) }
@@ -87,7 +87,7 @@ impl<S: BuildHasher> Names<S> {
     }
 
     /// The number of a name, if it has one.
-    pub fn find(&self, name: &Name) -> Option<u32>
+    pub fn find(&self, name: &Key) -> Option<u32>
         ensures { result ≡ position (bytes_eq name.now) self.now }
     {
         let index = self.set.get_index_of(name)?;
@@ -95,7 +95,7 @@ impl<S: BuildHasher> Names<S> {
     }
 
     /// The name with a number.
-    pub fn name(&self, id: u32) -> &Name
+    pub fn name(&self, id: u32) -> &Key
         requires { id < length self.now }
         ensures { slice_get self.now id ≡ Some result.now }
     {

@@ -5,9 +5,9 @@ ghost use Rattle.std.specs.List.{All, between, IsDistinct};
 ghost use Rattle.std.specs.Str.{bytes_eq};
 ghost use Rattle.bohm_log.specs.Parts.{RowIn, TermIn};
 
-use crate::name::Name;
 use crate::row::{StmtRow, TermRow};
 use crate::seen::Seen;
+use bohm_tree::Key;
 use std::marker::Model;
 
 /// A transaction whose terms and statements have places in the stead of names. Whoever goes over it
@@ -47,7 +47,7 @@ impl<'a> PlacedTxn<'a> {
     }
 
     /// Its other names: locals, and keys that it doesn't declare.
-    pub fn others(&self) -> &'a [Name]
+    pub fn others(&self) -> &'a [Key]
         ensures others { result.now ≡ self.now.others }
         ensures apart { IsDistinct bytes_eq self.now.others }
     {

@@ -1,17 +1,16 @@
 //! The slices of a transaction.
 
-use crate::name::Name;
 use crate::row::{StmtRow, TermRow};
-use bohm_tree::Edition;
+use bohm_tree::{Edition, Key};
 
 /// A transaction's parts of the columns. Its reads and writes are numbers of names.
 #[derive(Clone, Copy)]
 pub struct Seen<'a> {
     pub edition: Edition,
-    pub names: &'a [Name],
+    pub names: &'a [Key],
     pub reads: &'a [u32],
     pub writes: &'a [u32],
-    pub others: &'a [Name],
+    pub others: &'a [Key],
     pub large: &'a [u64],
     pub terms: &'a [TermRow],
     pub rows: &'a [StmtRow],

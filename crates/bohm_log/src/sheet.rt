@@ -7,10 +7,10 @@ ghost use Rattle.bohm_log.specs.Drafting.{parts_of, NamesGrow, Stands, AddsTerm,
 ghost use Rattle.bohm_log.specs.Seeing.{atom_shown};
 
 use crate::fault::LogFault;
-use crate::name::Name;
 use crate::names::Names;
 use crate::row::{Action, AtomKind, StmtRow, TermRow};
 use crate::sum::AtomParts;
+use bohm_tree::Key;
 use std::alloc::Global;
 use std::hash::BuildHasher;
 
@@ -20,8 +20,8 @@ const MOST_DECLARED: usize = 16;
 
 #[derive(Drop)]
 pub struct Sheet<S: BuildHasher> {
-    pub reads: Vec<Name>,
-    pub writes: Vec<Name>,
+    pub reads: Vec<Key>,
+    pub writes: Vec<Key>,
     pub others: Names<S>,
     pub large: Vec<u64>,
     pub terms: Vec<TermRow>,
@@ -30,7 +30,7 @@ pub struct Sheet<S: BuildHasher> {
 
 /// The place of a key among a few.
 #[tactic(auto, using(crate::proofs::Seeking::found, crate::proofs::Seeking::not_found))]
-fn place_in(keys: &[Name], key: &Name) -> Option<u32>
+fn place_in(keys: &[Key], key: &Key) -> Option<u32>
     ensures found { IfSome result (λ i. slice_get keys.now i ≡ Some key.now) }
     ensures none { IfNone result (IsApart keys.now key.now) }
 {
@@ -45,9 +45,9 @@ fn place_in(keys: &[Name], key: &Name) -> Option<u32>
 /// one of the few.
 #[tactic(auto, using(crate::proofs::Widening::with_name_begins))]
 fn place_name<S: BuildHasher + Drop>(
-    keys: &[Name],
+    keys: &[Key],
     others: &mut Names<S>,
-    name: Name,
+    name: Key,
 ) -> Result<(bool, u32), LogFault>
     ensures grows { Begins others.old others.new }
     ensures ok { IfOk result (λ t. KeyStands keys.now others.new t.0 t.1 name) }
@@ -59,7 +59,7 @@ fn place_name<S: BuildHasher + Drop>(
 }
 
 /// The declared keys among which a statement's name is sought.
-fn keys_of<'a>(action: Action, reads: &'a [Name], writes: &'a [Name]) -> &'a [Name]
+fn keys_of<'a>(action: Action, reads: &'a [Key], writes: &'a [Key]) -> &'a [Key]
     ensures { result.now ≡ keys_of action reads.now writes.now }
 {
     match action {
@@ -108,7 +108,7 @@ impl<S: BuildHasher> Sheet<S> {
         self.rows.clear();
     }
 
-    pub fn add_read(&mut self, key: Name) -> Result<(), LogFault>
+    pub fn add_read(&mut self, key: Key) -> Result<(), LogFault>
         ensures ok { OnOk result (parts_of self.new ≡ with_one_read (parts_of self.old) key) }
         ensures err { OnErr result (parts_of self.new ≡ parts_of self.old) }
     {
@@ -116,7 +116,7 @@ impl<S: BuildHasher> Sheet<S> {
         Ok(())
     }
 
-    pub fn add_write(&mut self, key: Name) -> Result<(), LogFault>
+    pub fn add_write(&mut self, key: Key) -> Result<(), LogFault>
         ensures ok { OnOk result (parts_of self.new ≡ with_one_write (parts_of self.old) key) }
         ensures err { OnErr result (parts_of self.new ≡ parts_of self.old) }
     {
@@ -147,7 +147,7 @@ impl<S: BuildHasher + Drop> Sheet<S> {
     }
 
     /// The term of a key that is read.
-    fn key(&mut self, minus: bool, name: Name) -> Result<TermRow, LogFault>
+    fn key(&mut self, minus: bool, name: Key) -> Result<TermRow, LogFault>
         ensures grows { NamesGrow (parts_of self.old) (parts_of self.new) }
         ensures ok { IfOk result (λ t. Stands (parts_of self.new) t minus (Read name)) }
     {
@@ -166,7 +166,7 @@ impl<S: BuildHasher + Drop> Sheet<S> {
     }
 
     /// The term of a local.
-    fn local(&mut self, minus: bool, name: Name) -> Result<TermRow, LogFault>
+    fn local(&mut self, minus: bool, name: Key) -> Result<TermRow, LogFault>
         ensures grows { NamesGrow (parts_of self.old) (parts_of self.new) }
         ensures ok { IfOk result (λ t. Stands (parts_of self.new) t minus (Local name)) }
     {
@@ -232,7 +232,7 @@ impl<S: BuildHasher + Drop> Sheet<S> {
     pub fn add_named(
         &mut self,
         action: Action,
-        name: Name,
+        name: Key,
         start: u32,
         ends: (u32, u32, u32),
     ) -> Result<(), LogFault>

@@ -6,11 +6,10 @@ ghost use Rattle.bohm_log.specs.Parts.{KeyIn, RowIn, key_at, names_at, stmt_of};
 ghost use Rattle.bohm_log.specs.Columns.{AllNamed};
 ghost use Rattle.bohm_log.specs.Seeing.{parts_seen, stmt_shown, IsSeen};
 
-use crate::name::Name;
 use crate::row::{Action, StmtRow};
 use crate::seen::Seen;
 use crate::sum::{SumView, sum_at};
-use bohm_tree::Cmp;
+use bohm_tree::{Cmp, Key};
 use std::marker::Model;
 
 /// A comparison of two sums.
@@ -26,23 +25,23 @@ pub struct CondView<'a> {
 pub enum StmtParts<'a> {
     /// `let $name = SUM`
     Bind {
-        name: Name,
+        name: Key,
         sum: SumView<'a>,
     },
     /// `need SUM CMP SUM`
     Need(CondView<'a>),
     /// `need has KEY`
-    Has(Name),
+    Has(Key),
     /// `need no KEY`
-    Lacks(Name),
+    Lacks(Key),
     /// `set KEY = SUM`, and `when SUM CMP SUM` where it has a guard
     Put {
-        key: Name,
+        key: Key,
         sum: SumView<'a>,
         guard: Option<CondView<'a>>,
     },
     /// `drop KEY`
-    Remove(Name),
+    Remove(Key),
     /// `show SUM`
     Show(SumView<'a>),
     /// `fail`
@@ -70,7 +69,7 @@ impl<'a> Model for StmtView<'a> {
 }
 
 /// The key at a place among declared keys, or else among the other names.
-fn key_by(seen: &Seen, keys: &[u32], declared: bool, place: u32) -> Name
+fn key_by(seen: &Seen, keys: &[u32], declared: bool, place: u32) -> Key
     requires named { AllNamed seen.now.names.now keys.now }
     requires within { KeyIn (names_at seen.now.names.now keys.now) seen.now.others.now declared place }
     ensures { result ≡ key_at (names_at seen.now.names.now keys.now) seen.now.others.now declared place }
@@ -130,7 +129,7 @@ impl<'a> StmtView<'a> {
     }
 
     /// The key whose presence it tests.
-    pub fn tested(&self) -> Option<Name>
+    pub fn tested(&self) -> Option<Key>
         ensures { result ≡ tested self.now }
     {
         let (seen, row) = (self.seen, self.row);
@@ -141,7 +140,7 @@ impl<'a> StmtView<'a> {
     }
 
     /// The key that it writes.
-    pub fn target(&self) -> Option<Name>
+    pub fn target(&self) -> Option<Key>
         ensures { result ≡ target self.now }
     {
         let (seen, row) = (self.seen, self.row);
@@ -157,7 +156,7 @@ impl<'a> StmtView<'a> {
     }
 
     /// The name that it binds.
-    pub fn bound(&self) -> Option<Name>
+    pub fn bound(&self) -> Option<Key>
         ensures { result ≡ bound self.now }
     {
         let (seen, row) = (self.seen, self.row);

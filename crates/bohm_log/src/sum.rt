@@ -4,9 +4,9 @@ ghost use Rattle.std.specs.Prelude.{◌≡◌, ◌<◌, ◌≤◌, length, Some,
 ghost use Rattle.bohm_log.specs.Parts.{term_of, sum_between, TermIn};
 ghost use Rattle.bohm_log.specs.Seeing.{parts_seen, term_shown, IsSeen};
 
-use crate::name::Name;
 use crate::row::{AtomKind, TermRow};
 use crate::seen::Seen;
+use bohm_tree::Key;
 use std::marker::Model;
 
 /// What a term adds or takes away.
@@ -14,9 +14,9 @@ use std::marker::Model;
 pub enum AtomParts {
     Lit(u64),
     /// The value of a key.
-    Read(Name),
+    Read(Key),
     /// The value of a local.
-    Local(Name),
+    Local(Key),
 }
 
 /// An atom, and whether it is taken away.

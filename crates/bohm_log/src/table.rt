@@ -5,17 +5,17 @@ ghost use Rattle.bohm_log.specs.Columns.{txn_at, HeadIn, AllNamed};
 ghost use Rattle.bohm_log.specs.Partial.{shared_seen};
 
 use crate::columns::Head;
-use crate::name::Name;
 use crate::row::{StmtRow, TermRow};
 use crate::seen::Seen;
 use crate::view::TxnView;
+use bohm_tree::Key;
 
 /// The columns that all transactions of a log share.
 #[derive(Clone, Copy)]
 pub struct Table<'a> {
-    pub names: &'a [Name],
+    pub names: &'a [Key],
     pub ids: &'a [u32],
-    pub others: &'a [Name],
+    pub others: &'a [Key],
     pub large: &'a [u64],
     pub terms: &'a [TermRow],
     pub rows: &'a [StmtRow],

@@ -4,11 +4,10 @@ ghost use Rattle.std.specs.Prelude.{◌≡◌, ◌<◌, length, Some, slice_get}
 ghost use Rattle.bohm_log.specs.Parts.{names_at, txn_of};
 ghost use Rattle.bohm_log.specs.Columns.{AllNamed};
 
-use crate::name::Name;
 use crate::placed::PlacedTxn;
 use crate::seen::Seen;
 use crate::stmt::{StmtView, stmt_by};
-use bohm_tree::Edition;
+use bohm_tree::{Edition, Key};
 use std::marker::Model;
 
 /// A transaction, which contracts see as the one of the tree.
@@ -31,7 +30,7 @@ impl<'a> Model for TxnView<'a> {
 
 /// The name whose number stands at a place.
 #[tactic(auto, using(crate::proofs::Viewing::read_at))]
-fn name_by<'a>(names: &'a [Name], ids: &[u32], place: usize) -> &'a Name
+fn name_by<'a>(names: &'a [Key], ids: &[u32], place: usize) -> &'a Key
     requires place { place < length ids.now }
     requires named { AllNamed names.now ids.now }
     ensures { slice_get (names_at names.now ids.now) place ≡ Some result.now }
@@ -65,7 +64,7 @@ impl TxnView<'_> {
     }
 
     /// A key that it declares to read, counted from 0.
-    pub fn read(&self, place: usize) -> &Name
+    pub fn read(&self, place: usize) -> &Key
         requires { place < length self.now.reads }
         ensures { slice_get self.now.reads place ≡ Some result.now }
     {
@@ -80,7 +79,7 @@ impl TxnView<'_> {
     }
 
     /// A key that it declares to write, counted from 0.
-    pub fn write(&self, place: usize) -> &Name
+    pub fn write(&self, place: usize) -> &Key
         requires { place < length self.now.writes }
         ensures { slice_get self.now.writes place ≡ Some result.now }
     {

@@ -168,7 +168,7 @@ impl Machine {
             Ok(cuts) => Ok(apply_alone(
                 alloc,
                 &mut self.history,
-                txns,
+                &txns,
                 &cuts,
                 u32::MAX,
                 &mut self.scratch,
@@ -207,7 +207,7 @@ impl Machine {
             rt,
             alloc,
             &mut self.history,
-            txns,
+            &txns,
             &cuts,
             settings.cc(),
             settings.exec(),

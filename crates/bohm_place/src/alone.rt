@@ -12,7 +12,7 @@ use crate::planning::{accesses, each_key_has_a_part};
 use crate::row::rows;
 use crate::shards::Shards;
 use crate::share::{Job, Share, Worker, plan_share};
-use bohm_txn::{NoMemory, Txn};
+use bohm_txn::{LogPart, NoMemory};
 use std::alloc::Global;
 
 /// Plans a batch as `plan` does, by one worker on the caller's thread, for callers that can start no
@@ -21,7 +21,7 @@ pub fn plan_alone<P: Partition>(
     alloc: Global,
     shards: Shards,
     first: u32,
-    txns: &[Txn],
+    txns: &LogPart<'_>,
     partition: &P,
 ) -> Result<(Shards, Plan), NoMemory>
     requires position { 0 < first }

@@ -11,7 +11,7 @@ use crate::placeholder::Placeholder;
 use crate::places::Places;
 use crate::shards::empty_parts;
 use crate::share::{Job, Share, Worker};
-use bohm_txn::{NoMemory, Txn};
+use bohm_txn::{LogPart, NoMemory};
 use std::alloc::Global;
 use std::mem;
 use std::snapshot::Snapshot;
@@ -87,7 +87,7 @@ pub fn gather<P: Partition>(
     parts: &mut [Places],
     mut shares: Vec<Result<Share, NoMemory>>,
     first: u32,
-    txns: &[Txn],
+    txns: &LogPart<'_>,
     partition: &P,
     workers: u32,
     given: Snapshot<Vec<Places>>,

@@ -3,7 +3,7 @@
 ghost use Rattle.std.specs.Prelude.{◌≡◌};
 ghost use Rattle.bohm_place.specs.Plans.{keys_in};
 
-use bohm_txn::{Key, Txn};
+use bohm_txn::{Keys, TxnView};
 
 /// One of the two sets of keys that a transaction declares.
 #[derive(Clone, Copy, Debug, PartialEq, Eq)]
@@ -14,12 +14,12 @@ pub enum DeclaredSet {
 
 impl DeclaredSet {
     /// The keys of the set, in the order in which they are declared.
-    pub fn keys(self, txn: &Txn) -> &[Key]
-        ensures { result.now ≡ keys_in self txn.now }
+    pub fn keys<'a>(self, txn: &TxnView<'a>) -> Keys<'a>
+        ensures { result ≡ keys_in self txn.now }
     {
         match self {
-            DeclaredSet::Reads => txn.reads.as_slice(),
-            DeclaredSet::Writes => txn.writes.as_slice(),
+            DeclaredSet::Reads => txn.reads(),
+            DeclaredSet::Writes => txn.writes(),
         }
     }
 }

@@ -13,7 +13,7 @@ use crate::planned::Plan;
 use crate::row::{Row, rows};
 use crate::shards::Shards;
 use crate::share::{Job, Share, plan_share};
-use bohm_txn::{NoMemory, Txn};
+use bohm_txn::{LogPart, NoMemory};
 use std::alloc::Global;
 use std::snapshot::Snapshot;
 use std::thread;
@@ -42,7 +42,7 @@ fn plan_shares<P: Partition, R: Threads + Sync>(
     jobs: Vec<Job>,
     alloc: Global,
     first: u32,
-    txns: &[Txn],
+    txns: &LogPart<'_>,
     partition: &P,
     accesses: usize,
 ) -> Result<Vec<Result<Share, NoMemory>>, NoMemory>
@@ -90,7 +90,7 @@ pub fn plan<P: Partition, R: Threads + Sync>(
     alloc: Global,
     shards: Shards,
     first: u32,
-    txns: &[Txn],
+    txns: &LogPart<'_>,
     cc: u32,
     partition: &P,
 ) -> Result<(Shards, Plan), NoMemory>

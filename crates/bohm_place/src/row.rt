@@ -5,7 +5,7 @@ ghost use Rattle.bohm_place.specs.Plans.{start_in};
 ghost use Rattle.bohm_place.specs.Shares.{rows_from, AreWellFormed};
 
 use crate::declared_set::DeclaredSet;
-use bohm_txn::{NoMemory, Txn};
+use bohm_txn::{LogPart, NoMemory};
 use std::alloc::Global;
 
 /// The accesses of one transaction in a list of all: its reads from `start` on, and its writes behind
@@ -32,16 +32,17 @@ impl Row {
 }
 
 /// The row of each transaction.
-pub fn rows(alloc: Global, txns: &[Txn]) -> Result<Vec<Row>, NoMemory>
+pub fn rows(alloc: Global, txns: &LogPart<'_>) -> Result<Vec<Row>, NoMemory>
     requires formed { AreWellFormed txns.now }
     requires few { length txns.now ≤ 2 ^ 32 }
     ensures { IfOk result (λ v. v.items ≡ rows_from 0 txns.now) }
 {
     let mut rows = Vec::with_capacity(alloc, txns.len())?;
     let mut start = 0;
-    for txn in txns {
-        let reads = txn.reads.as_slice().len();
-        let writes = txn.writes.as_slice().len();
+    for index in 0..txns.len() {
+        let txn = txns.txn(index);
+        let reads = txn.reads().len();
+        let writes = txn.writes().len();
         rows.push(Row {
             start,
             reads: reads as u32,

@@ -9,7 +9,7 @@ ghost use Rattle.bohm_place.specs.Shares.{AreWellFormed, AreDistinct, has_part, 
 use crate::partition::Partition;
 use crate::placeholder::Placeholder;
 use crate::places::Places;
-use bohm_txn::{Key, NoMemory, Txn};
+use bohm_txn::{Key, Keys, LogPart, NoMemory};
 use std::alloc::Global;
 
 /// One of `count` workers: it has each part whose number is its own modulo `count`.
@@ -103,7 +103,7 @@ fn find_reads<P: Partition>(
     hand: &[Places],
     first: u32,
     partition: &P,
-    keys: &[Key],
+    keys: &Keys<'_>,
     worker: Worker,
 ) -> Result<(), NoMemory>
     requires parts { length hand.now ≡ P.count partition.now }
@@ -113,8 +113,8 @@ fn find_reads<P: Partition>(
         then within first (last_or none (placeholders_in (P.part_of partition.now) hand.now k))
         else none) keys.now) }
 {
-    for key in keys {
-        found.push(find(hand, first, partition, key, worker))?;
+    for place in 0..keys.len() {
+        found.push(find(hand, first, partition, keys.key(place), worker))?;
     }
     Ok(())
 }
@@ -126,7 +126,7 @@ fn find_and_place_writes<P: Partition>(
     first: u32,
     ts: u32,
     partition: &P,
-    keys: &[Key],
+    keys: &Keys<'_>,
     worker: Worker,
 ) -> Result<(), NoMemory>
     requires parts { length hand.old ≡ P.count partition.now }
@@ -152,7 +152,7 @@ fn find_and_place_writes<P: Partition>(
             begin: ts,
             index: i as u32,
         };
-        let newest = find_and_place(alloc, hand, first, partition, keys[i], next, worker)?;
+        let newest = find_and_place(alloc, hand, first, partition, *keys.key(i), next, worker)?;
         found.push(newest)?;
     }
     Ok(())
@@ -162,7 +162,7 @@ fn find_all<P: Partition>(
     alloc: Global,
     hand: &mut [Places],
     first: u32,
-    txns: &[Txn],
+    txns: &LogPart<'_>,
     partition: &P,
     worker: Worker,
     accesses: usize,
@@ -187,12 +187,12 @@ fn find_all<P: Partition>(
     let mut found = Vec::with_capacity(alloc, accesses)?;
     for i in 0..txns.len() {
         let ts = first + i as u32;
-        let txn = &txns[i];
-        let reads = txn.reads.as_slice();
-        let writes = txn.writes.as_slice();
-        find_reads(&mut found, hand, first, partition, reads, worker)?;
+        let txn = txns.txn(i);
+        let reads = txn.reads();
+        let writes = txn.writes();
+        find_reads(&mut found, hand, first, partition, &reads, worker)?;
         find_and_place_writes(
-            alloc, &mut found, hand, first, ts, partition, writes, worker,
+            alloc, &mut found, hand, first, ts, partition, &writes, worker,
         )?;
     }
     Ok(found)
@@ -204,7 +204,7 @@ pub fn plan_share<P: Partition>(
     alloc: Global,
     mut job: Job,
     first: u32,
-    txns: &[Txn],
+    txns: &LogPart<'_>,
     partition: &P,
     accesses: usize,
 ) -> Result<Share, NoMemory>

@@ -19,12 +19,12 @@ use bohm_exec::{Finished, OpenGate, complete};
 use bohm_line::{ByteSum, CutLog, Cuts};
 use bohm_place::{HashSeed, Plan, Shards, plan_alone};
 use bohm_store::History;
-use bohm_txn::{Items, NoMemory, Reply, Scratch, Txn};
+use bohm_txn::{Items, LogPart, NoMemory, Reply, Scratch};
 use std::alloc::Global;
 
 /// The plan of a batch that starts at a timestamp. What the batches before it wrote is `Before` to it, so
 /// its chains start empty.
-fn plan_batch(alloc: Global, seed: HashSeed, first: u32, txns: &[Txn]) -> Result<Plan, NoMemory>
+fn plan_batch(alloc: Global, seed: HashSeed, first: u32, txns: &LogPart<'_>) -> Result<Plan, NoMemory>
     requires position { 0 < first }
     requires room { first + length txns.now ≤ 2 ^ 32 }
     requires formed { All IsWellFormedTxn txns.now }
@@ -63,7 +63,7 @@ fn run_batch(
     alloc: Global,
     history: &mut History,
     answered: &mut Vec<Reply>,
-    txns: &[Txn],
+    txns: &LogPart<'_>,
     keep: u32,
     scratch: &mut Scratch,
 ) -> Result<(), NoMemory>
@@ -102,7 +102,7 @@ fn run_batches(
     let mut start = 0usize;
     for place in 0..log.batches() {
         let txns = log.batch(place, start);
-        run_batch(alloc, history, answered, txns, keep, scratch)?;
+        run_batch(alloc, history, answered, &txns, keep, scratch)?;
         start += txns.len();
     }
     Ok(())
@@ -118,7 +118,7 @@ fn run_batches(
 pub fn apply_alone(
     alloc: Global,
     history: &mut History,
-    txns: &[Txn],
+    txns: &LogPart<'_>,
     cuts: &Cuts,
     keep: u32,
     scratch: &mut Scratch,
@@ -130,7 +130,7 @@ pub fn apply_alone(
     ensures batches { IsEndOfBatch cuts.now (length result.replies) }
     ensures whole { is_ok result.end ≡ true → length result.replies ≡ length txns.now }
 {
-    if txns.is_empty() {
+    if txns.len() == 0 {
         return Applied {
             replies: Items::new(alloc),
             end: Ok(()),

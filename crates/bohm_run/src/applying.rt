@@ -17,7 +17,7 @@ use bohm_exec::{Gate, Point};
 use bohm_line::{CutLog, Cuts, Line, PlanReceiver, PlanSender, plan_ahead, plan_line};
 use bohm_place::{HashSeed, Partition, Shards};
 use bohm_store::History;
-use bohm_txn::{Items, NoMemory, Reply, Txn};
+use bohm_txn::{Items, LogPart, NoMemory, Reply};
 use std::alloc::Global;
 use std::marker::Brand;
 use std::sync::Wait;
@@ -125,7 +125,7 @@ fn apply_on<L: Line + Send + Sync, P: Partition, G: Gate, R: Threads + Wait + Sy
     rt: &R,
     alloc: Global,
     history: History,
-    txns: &[Txn],
+    txns: &LogPart<'_>,
     cuts: &Cuts,
     planners: u32,
     executors: u32,
@@ -177,7 +177,7 @@ pub fn apply<P: Partition, G: Gate, R: Threads + Wait + Sync>(
     rt: &R,
     alloc: Global,
     history: &mut History,
-    txns: &[Txn],
+    txns: &LogPart<'_>,
     cuts: &Cuts,
     cc: u32,
     exec: u32,
@@ -195,7 +195,7 @@ pub fn apply<P: Partition, G: Gate, R: Threads + Wait + Sync>(
     ensures batches { IsEndOfBatch cuts.now (length result.replies) }
     ensures whole { is_ok result.end ≡ true → length result.replies ≡ length txns.now }
 {
-    if txns.is_empty() {
+    if txns.len() == 0 {
         return Applied {
             replies: Items::new(alloc),
             end: Ok(()),

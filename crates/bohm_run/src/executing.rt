@@ -13,7 +13,7 @@ use bohm_exec::Gate;
 use bohm_line::{CutLog, Line, PlanReceiver};
 use bohm_place::Plan;
 use bohm_store::History;
-use bohm_txn::{NoMemory, Reply, Txn};
+use bohm_txn::{LogPart, NoMemory, Reply};
 use std::alloc::Global;
 use std::sync::Wait;
 use std::thread::Threads;
@@ -39,7 +39,7 @@ impl Executor {
         rt: &R,
         alloc: Global,
         progress: &mut Progress,
-        txns: &[Txn],
+        txns: &LogPart<'_>,
         plan: Plan,
         gate: &G,
     ) -> Result<(), NoMemory>
@@ -87,7 +87,7 @@ impl Executor {
                 return (progress, Err(NoMemory));
             };
             let txns = log.batch(place, start);
-            if let Err(refusal) = self.run_batch(rt, alloc, &mut progress, txns, plan, gate) {
+            if let Err(refusal) = self.run_batch(rt, alloc, &mut progress, &txns, plan, gate) {
                 drain(rt, receiver, log.batches() - place - 1);
                 return (progress, Err(refusal));
             }

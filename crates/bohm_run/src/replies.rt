@@ -17,7 +17,7 @@ fn shows(alloc: Global, finished: &Finished<'_>, t: u32) -> Result<Vec<Value>, N
     requires { IsIn (batch_of_finished finished.now) t }
     ensures { IfOk result (λ values. AreSerialShows (batch_of_finished finished.now) t values.items) }
 {
-    let body = finished.batch().txn(t).body.as_slice();
+    let body = finished.batch().txn(t).get().body.as_slice();
     let count = body.iter().filter(|stmt| stmt.is_show()).count();
     let mut values = Vec::with_capacity(alloc, count)?;
     for index in 0..count as u32 {

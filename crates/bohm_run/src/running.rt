@@ -61,7 +61,7 @@ pub fn run<P: Partition, G: Gate, R: Threads + Wait + Sync + RandomSource>(
         rt,
         alloc,
         &mut history,
-        log,
+        &log,
         cuts,
         cc,
         exec,

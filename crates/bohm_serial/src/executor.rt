@@ -10,7 +10,9 @@ ghost use Rattle.bohm_txn.specs.Stores.{store_of, store_after, cell_in, put_all}
 ghost use Rattle.std.specs.List.{zip};
 
 use crate::store::Store;
-use bohm_txn::{Cell, Checked, Items, Key, NoMemory, Outcome, Reply, Scratch, Txn, Value, eval};
+use bohm_txn::{
+    Cell, Checked, Items, Key, Keys, LogPart, NoMemory, Outcome, Reply, Scratch, TxnView, Value, eval,
+};
 use std::alloc::Global;
 
 /// What a run answers: the replies in log order, and the entries of the store that it leaves, in
@@ -22,23 +24,23 @@ pub struct Answer {
 }
 
 /// What the keys hold, in their order, in place of what stood in the list.
-fn look_up(store: &Store, keys: &[Key], cells: &mut Vec<Cell>) -> Result<(), NoMemory>
+fn look_up(store: &Store, keys: &Keys<'_>, cells: &mut Vec<Cell>) -> Result<(), NoMemory>
     ensures { OnOk result (cells.new.items ≡ map (cell_in store.now) keys.now) }
 {
     cells.clear();
-    for key in keys {
-        cells.push(store.get(key))?;
+    for place in 0..keys.len() {
+        cells.push(store.get(keys.key(place)))?;
     }
     Ok(())
 }
 
 /// Gives each key its cell.
-fn put_cells(store: &mut Store, keys: &[Key], cells: &[Cell]) -> Result<(), NoMemory>
+fn put_cells(store: &mut Store, keys: &Keys<'_>, cells: &[Cell]) -> Result<(), NoMemory>
     requires { length keys.now ≡ length cells.now }
     ensures { OnOk result (store.new ≡ put_all store.old (zip keys.now cells.now)) }
 {
-    for (key, cell) in keys.iter().zip(cells) {
-        store.put(key, *cell)?;
+    for place in 0..keys.len() {
+        store.put(keys.key(place), cells[place])?;
     }
     Ok(())
 }
@@ -74,34 +76,34 @@ impl Desk {
 }
 
 /// Runs one transaction over the store.
-fn execute(alloc: Global, store: &mut Store, desk: &mut Desk, txn: &Txn) -> Result<Reply, NoMemory>
+fn execute(alloc: Global, store: &mut Store, desk: &mut Desk, txn: &TxnView<'_>) -> Result<Reply, NoMemory>
     requires { IsWellFormedTxn txn.now }
     ensures reply { IfOk result (λ reply. reply ≡ reply_of (body (cell_in store.old) txn.now)) }
     ensures store { OnOk result (store.new ≡ put_all store.old (writes_of (body (cell_in store.old) txn.now))) }
 {
-    let (reads, writes) = (txn.reads.as_slice(), txn.writes.as_slice());
-    look_up(store, reads, &mut desk.reads)?;
-    look_up(store, writes, &mut desk.earlier)?;
+    let (reads, writes) = (txn.reads(), txn.writes());
+    look_up(store, &reads, &mut desk.reads)?;
+    look_up(store, &writes, &mut desk.earlier)?;
     let outcome = eval(
         txn,
         desk.reads.as_slice(),
         desk.earlier.as_slice(),
         &mut desk.scratch,
     );
-    put_cells(store, writes, desk.scratch.cells())?;
+    put_cells(store, &writes, desk.scratch.cells())?;
     reply(alloc, outcome, desk.scratch.shows())
 }
 
 /// Runs the transactions, one after another.
-fn execute_all(alloc: Global, store: &mut Store, log: &[Txn]) -> Result<Vec<Reply>, NoMemory>
+fn execute_all(alloc: Global, store: &mut Store, log: &LogPart<'_>) -> Result<Vec<Reply>, NoMemory>
     requires { All IsWellFormedTxn log.now }
     ensures replies { IfOk result (λ list. list.items ≡ replies (cell_in store.old) log.now) }
     ensures store { OnOk result (store.new ≡ store_after store.old log.now) }
 {
     let mut desk = Desk::new(alloc)?;
     let mut list = Vec::with_capacity(alloc, log.len())?;
-    for txn in log {
-        let reply = execute(alloc, store, &mut desk, txn)?;
+    for index in 0..log.len() {
+        let reply = execute(alloc, store, &mut desk, &log.txn(index))?;
         list.push(reply)?;
     }
     Ok(list)
@@ -115,7 +117,7 @@ pub fn run(alloc: Global, checked: &Checked) -> Result<Answer, NoMemory>
     ensures store { IfOk result (λ answer. answer.store ≡ entries (store_after (store_of checked.now.store) checked.now.log)) }
 {
     let mut store = Store::new(alloc, checked.store())?;
-    let replies = execute_all(alloc, &mut store, checked.log())?;
+    let replies = execute_all(alloc, &mut store, &checked.log())?;
     let entries = store.entries(alloc)?;
     Ok(Answer {
         replies: Items::from(replies),

@@ -27,7 +27,7 @@ use crate::version::Write;
 use bohm_board::Batch;
 use bohm_exec::Finished;
 use bohm_place::{HashSeed, Plan};
-use bohm_txn::{Cell, Key, NoMemory, Txn, Value};
+use bohm_txn::{Cell, Key, NoMemory, LogPart, Value};
 use indexmap::IndexMap;
 use std::alloc::Global;
 use std::collections::VecDeque;
@@ -186,7 +186,7 @@ impl History {
     pub fn batch<'a>(
         &self,
         alloc: Global,
-        txns: &'a [Txn],
+        txns: &LogPart<'a>,
         plan: Plan,
     ) -> Result<Batch<'a>, NoMemory>
         requires some { 0 < length txns.now }
@@ -200,7 +200,7 @@ impl History {
         ensures next { IfOk result (IsNext self.now) }
     {
         let base = base_at(&self.chains, alloc, txns, self.top)?;
-        Ok(Batch::new(self.top + 1, txns, plan, base))
+        Ok(Batch::new(self.top + 1, txns.fork(), plan, base))
     }
 
     // Adds the versions of the next batch, by the list of its writes.

@@ -8,7 +8,7 @@ ghost use Rattle.bohm_store.specs.Written.{IsTxnWriting, written, written_all};
 
 use crate::version::Write;
 use bohm_exec::Finished;
-use bohm_txn::{Key, NoMemory};
+use bohm_txn::{Keys, NoMemory};
 use std::alloc::Global;
 
 // Lists the writes of one transaction.
@@ -16,7 +16,7 @@ fn list_writes<'a>(
     out: &mut Vec<Write<'a>>,
     finished: &Finished<'a>,
     t: u32,
-    keys: &'a [Key],
+    keys: &Keys<'a>,
 ) -> Result<(), NoMemory>
     requires txn { IsIn (batch_of_finished finished.now) t }
     requires keys { IsTxnWriting (batch_of_finished finished.now) t keys.now }
@@ -26,7 +26,7 @@ fn list_writes<'a>(
         let cell = finished.cell(t, i as u32);
         out.push(Write {
             begin: t,
-            key: &keys[i],
+            key: keys.key(i),
             cell,
         })?;
     }
@@ -39,7 +39,7 @@ fn count_writes(finished: &Finished<'_>) -> usize {
     let first = finished.first();
     for place in 0..finished.len() {
         let txn = finished.batch().txn(first + place);
-        count += txn.writes.as_slice().len();
+        count += txn.writes().len();
     }
     count
 }
@@ -53,7 +53,7 @@ pub fn writes_of<'a>(alloc: Global, finished: &Finished<'a>) -> Result<Vec<Write
     for place in 0..finished.len() {
         let t = first + place;
         let txn = finished.batch().txn(t);
-        list_writes(&mut out, finished, t, txn.writes.as_slice())?;
+        list_writes(&mut out, finished, t, &txn.writes())?;
     }
     Ok(out)
 }

@@ -16,10 +16,10 @@ fn put_atom(out: &mut Vec<u8>, atom: &Atom) -> Result<(), NoMemory>
 {
     match atom {
         Atom::Lit(number) => out.extend_from_slice(Buffer::new().format(*number).as_bytes())?,
-        Atom::Read(key) => out.extend_from_slice(key.bytes())?,
+        Atom::Read(key) => out.extend_from_slice(key.text().as_slice())?,
         Atom::Local(name) => {
             out.push(b'$')?;
-            out.extend_from_slice(name.bytes())?;
+            out.extend_from_slice(name.text().as_slice())?;
         }
     }
     Ok(())
@@ -92,7 +92,7 @@ fn put_key(out: &mut Vec<u8>, word: &[u8], key: Key) -> Result<(), NoMemory>
     ensures { IfOk result (λ _. out.new.items ≡ out.old.items ++ word.now ++ key) }
 {
     out.extend_from_slice(word)?;
-    out.extend_from_slice(key.bytes())?;
+    out.extend_from_slice(key.text().as_slice())?;
     Ok(())
 }
 
@@ -134,7 +134,7 @@ fn put_set(out: &mut Vec<u8>, word: &[u8], keys: &[Key]) -> Result<(), NoMemory>
     out.extend_from_slice(word)?;
     for key in keys {
         out.push(b' ')?;
-        out.extend_from_slice(key.bytes())?;
+        out.extend_from_slice(key.text().as_slice())?;
     }
     out.push(b'\n')?;
     Ok(())
@@ -182,7 +182,7 @@ pub fn put_entries(out: &mut Vec<u8>, entries: &[(Key, Value)]) -> Result<(), No
     ensures { IfOk result (λ _. out.new.items ≡ out.old.items ++ lines_text (map store_words entries.now)) }
 {
     for (key, value) in entries {
-        out.extend_from_slice(key.bytes())?;
+        out.extend_from_slice(key.text().as_slice())?;
         out.push(b' ')?;
         put_value(out, *value)?;
         out.push(b'\n')?;

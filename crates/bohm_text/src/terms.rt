@@ -13,14 +13,9 @@ fn read_atom(word: &[u8]) -> Option<Atom>
 {
     match word {
         [] => None,
-        [b'$', name @ ..] => Some(Atom::Local(Key::new(name)?)),
-        [first, ..] => {
-            if first.is_ascii_digit() {
-                Some(Atom::Lit(read_lit(word)?))
-            } else {
-                Some(Atom::Read(Key::new(word)?))
-            }
-        }
+        [b'$', name @ ..] => Key::new(name).map(Atom::Local),
+        [first, ..] if first.is_ascii_digit() => read_lit(word).map(Atom::Lit),
+        _ => Key::new(word).map(Atom::Read),
     }
 }
 

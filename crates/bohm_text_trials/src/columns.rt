@@ -4,20 +4,20 @@ ghost use Rattle.std.specs.Prelude.{OnOk};
 ghost use Rattle.bohm_log.specs.Drafting.{IsBetween};
 
 use bohm_log::{
-    DeclaredKeys, Draft, Log, LogFault, Name, Names, PlacedTxn, StmtParts, StmtView, TxnView,
+    DeclaredKeys, Draft, Log, LogFault, Names, PlacedTxn, StmtParts, StmtView, TxnView,
 };
-use bohm_tree::{Cmp, Edition};
+use bohm_tree::{Cmp, Edition, Key};
 use std::alloc::Global;
 use std::hash::{BuildHasherDefault, FoldHasher};
 use std::process::Abort;
 use std::test::Fail;
 
-fn name(text: &str) -> Result<Name, Fail> {
-    Ok(Name::new(text.as_bytes()).ok_or("no name")?)
+fn name(text: &str) -> Result<Key, Fail> {
+    Ok(Key::new(text.as_bytes()).ok_or("no name")?)
 }
 
 /// Begins a transaction that reads a and b, and writes b.
-fn declare(draft: &mut Draft, a: Name, b: Name) -> Result<(), LogFault>
+fn declare(draft: &mut Draft, a: Key, b: Key) -> Result<(), LogFault>
     ensures { OnOk result (IsBetween draft.new) }
 {
     draft.begin(Edition::One);
@@ -27,7 +27,7 @@ fn declare(draft: &mut Draft, a: Name, b: Name) -> Result<(), LogFault>
 }
 
 /// `let $x = 7 - a`
-fn add_bind(draft: &mut Draft, a: Name, x: Name) -> Result<(), LogFault>
+fn add_bind(draft: &mut Draft, a: Key, x: Key) -> Result<(), LogFault>
     requires { IsBetween draft.old }
     ensures { OnOk result (IsBetween draft.new) }
 {
@@ -37,7 +37,7 @@ fn add_bind(draft: &mut Draft, a: Name, x: Name) -> Result<(), LogFault>
 }
 
 /// `set a = 4294967296 when $x > x`
-fn add_guarded(draft: &mut Draft, a: Name, x: Name) -> Result<(), LogFault>
+fn add_guarded(draft: &mut Draft, a: Key, x: Key) -> Result<(), LogFault>
     requires { IsBetween draft.old }
     ensures { OnOk result (IsBetween draft.new) }
 {
@@ -50,7 +50,7 @@ fn add_guarded(draft: &mut Draft, a: Name, x: Name) -> Result<(), LogFault>
 }
 
 /// `need has a`, `need no b`
-fn add_tests(draft: &mut Draft, a: Name, b: Name) -> Result<(), LogFault>
+fn add_tests(draft: &mut Draft, a: Key, b: Key) -> Result<(), LogFault>
     requires { IsBetween draft.old }
     ensures { OnOk result (IsBetween draft.new) }
 {
@@ -70,7 +70,7 @@ fn add_need(draft: &mut Draft) -> Result<(), LogFault>
 }
 
 /// `set b = 2`, `drop b`
-fn add_writes(draft: &mut Draft, b: Name) -> Result<(), LogFault>
+fn add_writes(draft: &mut Draft, b: Key) -> Result<(), LogFault>
     requires { IsBetween draft.old }
     ensures { OnOk result (IsBetween draft.new) }
 {
@@ -90,7 +90,7 @@ fn add_end(draft: &mut Draft) -> Result<(), LogFault>
 }
 
 /// A transaction with the statements that have several terms.
-fn close_sums(draft: &mut Draft, log: &mut Log, a: Name, b: Name, x: Name) -> Result<(), LogFault> {
+fn close_sums(draft: &mut Draft, log: &mut Log, a: Key, b: Key, x: Key) -> Result<(), LogFault> {
     declare(draft, a, b)?;
     add_bind(draft, a, x)?;
     add_guarded(draft, a, x)?;
@@ -98,7 +98,7 @@ fn close_sums(draft: &mut Draft, log: &mut Log, a: Name, b: Name, x: Name) -> Re
 }
 
 /// A transaction with all other statements.
-fn close_others(draft: &mut Draft, log: &mut Log, a: Name, b: Name) -> Result<(), LogFault> {
+fn close_others(draft: &mut Draft, log: &mut Log, a: Key, b: Key) -> Result<(), LogFault> {
     declare(draft, a, b)?;
     add_tests(draft, a, b)?;
     add_need(draft)?;
@@ -116,7 +116,7 @@ fn new_log(alloc: Global) -> Log {
 }
 
 /// A statement's name, and how many terms its sums have in all.
-fn shape(stmt: &StmtView<'_>) -> (Option<Name>, usize) {
+fn shape(stmt: &StmtView<'_>) -> (Option<Key>, usize) {
     match stmt.parts() {
         StmtParts::Bind { name, sum } => (Some(name), sum.len()),
         StmtParts::Need(cond) => (None, cond.left.len() + cond.right.len()),
@@ -130,7 +130,7 @@ fn shape(stmt: &StmtView<'_>) -> (Option<Name>, usize) {
     }
 }
 
-fn assert_shapes(rt: &impl Abort, txn: &TxnView<'_>, want: &[(Option<Name>, usize)]) {
+fn assert_shapes(rt: &impl Abort, txn: &TxnView<'_>, want: &[(Option<Key>, usize)]) {
     assert_eq!(rt; txn.body_len(), want.len());
     for (i, want) in want.iter().enumerate() {
         if i < txn.body_len() {
@@ -175,7 +175,7 @@ fn other_statements_are_shown_again(rt: HostRuntime) -> Result<(), Fail> {
     Ok(())
 }
 
-fn assert_places(rt: &impl Abort, placed: &PlacedTxn<'_>, others: &[Name]) {
+fn assert_places(rt: &impl Abort, placed: &PlacedTxn<'_>, others: &[Key]) {
     assert_eq!(rt; (placed.reads_len(), placed.writes_len()), (2, 1));
     assert_eq!(rt; placed.others(), others);
     assert_eq!(rt; placed.large(), [4_294_967_296].as_slice());
@@ -196,12 +196,12 @@ fn a_transaction_has_places(rt: HostRuntime) -> Result<(), Fail> {
     Ok(())
 }
 
-fn close_both(draft: &mut Draft, log: &mut Log, a: Name, b: Name) -> Result<(), LogFault> {
+fn close_both(draft: &mut Draft, log: &mut Log, a: Key, b: Key) -> Result<(), LogFault> {
     close_sums(draft, log, b, a, a)?;
     close_others(draft, log, a, b)
 }
 
-fn assert_numbers(rt: &impl Abort, keys: &DeclaredKeys<'_>, names: &[Name]) {
+fn assert_numbers(rt: &impl Abort, keys: &DeclaredKeys<'_>, names: &[Key]) {
     assert_eq!(rt; keys.names(), names);
     assert_eq!(rt; keys.len(), 1);
     if keys.len() == 1 {
@@ -253,10 +253,9 @@ fn names_are_ordered(rt: HostRuntime) -> Result<(), Fail> {
 #[test]
 fn names_are_short_words(rt: HostRuntime) -> Result<(), Fail> {
     let longest = "abcdefghijklmnopqrstuvwxyz012345";
-    assert!(rt; name(longest)?.is(longest.as_bytes()));
     assert_eq!(rt; name(longest)?.text().as_slice(), longest.as_bytes());
     for none in ["", "0", "A", "a-", "abcdefghijklmnopqrstuvwxyz0123456"] {
-        assert_eq!(rt; Name::new(none.as_bytes()), None);
+        assert_eq!(rt; Key::new(none.as_bytes()), None);
     }
     Ok(())
 }

@@ -1,2 +1,2 @@
-mod KeyLemmas
+mod Words
 mod Places

@@ -1,4 +1,7 @@
 pub mod Name
+pub mod Words
+pub mod Spreading
+pub mod Shortness
 pub mod KeyInside
 pub mod TermInside
 pub mod FewInside

@@ -1,24 +1,25 @@
 //! Keys and names of locals.
 
-ghost use Rattle.std.specs.Prelude.{◌≡◌, ◌<◌, ◌≤◌, List, ℕ, Some, IfSome, length, nat_eq};
+ghost use Rattle.std.specs.Prelude.{◌≡◌, ◌<◌, ◌≤◌, ◌+◌, List, ℕ, Some, IfSome, true, length, nat_eq, take, drop, ◌==◌};
 ghost use Rattle.std.specs.Ordering.{nat_cmp};
 ghost use Rattle.std.specs.Cmp.{partial_equiv_from_equiv};
 ghost use Rattle.std.specs.Cmp.Lexicographic.{pointwise, slice_cmp, nat_list_eq_equiv, nat_list_cmp_total, texts_ties, texts_po};
 ghost use Rattle.std.proofs.Common.{refl};
-ghost use Rattle.std.specs.List.{list_all};
-ghost use Rattle.std.specs.Str.{bytes_eq};
+ghost use Rattle.std.specs.Int.{w64, from_be_bytes, to_be_bytes};
+ghost use Rattle.std.specs.List.{list_all, position_from};
 ghost use Rattle.bohm_tree.specs.Name.{key_of, is_name, is_name_byte, place};
+ghost use Rattle.bohm_tree.specs.Words.{padded, words_of, spread};
 
 use std::cmp::Ordering;
 use std::hash::{Hash, Hasher};
 use std::marker::Model;
 
 /// A name of 1 to 32 bytes: a lower-case letter, then lower-case letters, digits and underscores.
-/// It stands in a fixed room, with zeros behind it, so that it can be copied and compared as a whole.
+/// It stands in four words, its first byte worth most, with zeros behind: the order of names is that
+/// of their words.
 #[derive(Clone, Copy, Debug)]
 pub struct Key {
-    bytes: [u8; 32],
-    size: u8,
+    words: [u64; 4],
 }
 
 impl Model for Key {
@@ -26,15 +27,15 @@ impl Model for Key {
 
     ghost Value = { List ℕ };
 
-    ghost use Rattle.bohm_tree.specs.KeyInside.{name_of, IsPadded, padded_name, padded_name_ok};
+    ghost use Rattle.bohm_tree.specs.KeyInside.{name_of, IsWorded, worded, worded_ok};
 
     ghost view = { name_of };
 
-    ghost invariant = { IsPadded };
+    ghost invariant = { IsWorded };
 
-    ghost inverse = { padded_name };
+    ghost inverse = { worded };
 
-    ghost inverse_ok = { padded_name_ok };
+    ghost inverse_ok = { worded_ok };
 }
 
 fn is_name_byte(byte: u8) -> bool
@@ -60,20 +61,122 @@ fn is_name(name: &[u8]) -> bool
     }
 }
 
+/// The word of the 8 bytes from a place on.
+fn word_at(bytes: &[u8], from: usize) -> u64
+    requires { from + 8 ≤ length bytes.now }
+    ensures { result ≡ from_be_bytes w64 (take 8 (drop from bytes.now)) }
+{
+    u64::from_be_bytes([
+        bytes[from],
+        bytes[from + 1],
+        bytes[from + 2],
+        bytes[from + 3],
+        bytes[from + 4],
+        bytes[from + 5],
+        bytes[from + 6],
+        bytes[from + 7],
+    ])
+}
+
+/// The bytes of a name with zeros behind.
+#[tactic(auto, using(crate::proofs::Words::filled_up))]
+fn padded(name: &[u8]) -> [u8; 32]
+    requires { length name.now ≤ 32 }
+    ensures { result ≡ padded 32 name.now }
+{
+    let mut bytes = [0; 32];
+    bytes[..name.len()].copy_from_slice(name);
+    bytes
+}
+
+/// The words of a name.
+#[tactic(auto, using(crate::proofs::Words::four_words))]
+fn words_of(name: &[u8]) -> [u64; 4]
+    requires { length name.now ≤ 32 }
+    ensures { result ≡ words_of name.now }
+{
+    let bytes = padded(name);
+    [
+        word_at(bytes.as_slice(), 0),
+        word_at(bytes.as_slice(), 8),
+        word_at(bytes.as_slice(), 16),
+        word_at(bytes.as_slice(), 24),
+    ]
+}
+
+/// The bytes of four words.
+fn spread(words: &[u64; 4]) -> [u8; 32]
+    ensures { result ≡ spread words.now }
+{
+    let (a, b) = (words[0].to_be_bytes(), words[1].to_be_bytes());
+    let (c, d) = (words[2].to_be_bytes(), words[3].to_be_bytes());
+    [
+        a[0], a[1], a[2], a[3], a[4], a[5], a[6], a[7], b[0], b[1], b[2], b[3], b[4], b[5], b[6],
+        b[7], c[0], c[1], c[2], c[3], c[4], c[5], c[6], c[7], d[0], d[1], d[2], d[3], d[4], d[5],
+        d[6], d[7],
+    ]
+}
+
+/// The bytes of a name, in a room of their own.
+#[derive(Debug, Drop)]
+pub struct KeyText {
+    bytes: [u8; 32],
+}
+
+impl Model for KeyText {
+    ghost use Rattle.std.specs.Prelude.{ℕ, List};
+
+    ghost Value = { List ℕ };
+
+    ghost use Rattle.bohm_tree.specs.Words.{before_zero};
+
+    ghost view = { λ t. before_zero t.bytes };
+}
+
+fn first_zero(bytes: &[u8]) -> Option<usize>
+    ensures place { result ≡ position_from (λ b. b == 0) 0 bytes.now }
+    ensures inside { IfSome result (λ i. i < length bytes.now) }
+{
+    bytes.iter().position(|byte| *byte == 0)
+}
+
+impl KeyText {
+    /// The name itself.
+    #[tactic(auto, using(crate::proofs::Words::before_first_zero, crate::proofs::Words::before_no_zero))]
+    pub fn as_slice(&self) -> &[u8]
+        ensures name { result.now ≡ self.now }
+        ensures short { length result.now ≤ 32 }
+    {
+        match first_zero(self.bytes.as_slice()) {
+            Some(size) => &self.bytes[..size],
+            None => self.bytes.as_slice(),
+        }
+    }
+}
+
 impl Key {
     /// The key of this name, if it is one.
+    #[tactic(auto, using(crate::proofs::Words::new_name))]
     pub fn new(name: &[u8]) -> Option<Key>
         ensures { result ≡ key_of name.now }
     {
         if !is_name(name) {
             return None;
         }
-        let mut bytes = [0; 32];
-        bytes[..name.len()].copy_from_slice(name);
         Some(Key {
-            bytes,
-            size: name.len() as u8,
+            words: words_of(name),
         })
+    }
+
+    /// Its bytes. They are those of a name.
+    #[tactic(auto, using(crate::proofs::Words::is_a_name), unfolding(crate::specs::KeyInside::name_of))]
+    pub fn text(&self) -> KeyText
+        ensures same { result ≡ self.now }
+        ensures name { is_name result ≡ true }
+    {
+        KeyText {
+            bytes: spread(&self.words),
+        }
     }
 
     /// Its first place among these, if it is one of them. The time grows with their number.
@@ -83,14 +186,6 @@ impl Key {
     {
         keys.iter().position(|key| *key == *self)
     }
-
-    /// Its name.
-    pub fn bytes(&self) -> &[u8]
-        ensures name { result.now ≡ self.now }
-        ensures short { length result.now ≤ 32 }
-    {
-        &self.bytes[..self.size as usize]
-    }
 }
 
 impl PartialEq for Key {
@@ -99,7 +194,7 @@ impl PartialEq for Key {
     ghost laws = { partial_equiv_from_equiv nat_list_eq_equiv };
 
     fn eq(&self, other: &Key) -> bool {
-        self.size == other.size && self.bytes == other.bytes
+        self.words == other.words
     }
 }
 
@@ -128,7 +223,7 @@ impl Ord for Key {
     ghost matches_eq = { texts_ties };
 
     fn cmp(&self, other: &Key) -> Ordering {
-        self.bytes().cmp(other.bytes())
+        self.words.cmp(&other.words)
     }
 }
 
@@ -143,6 +238,6 @@ impl Hash for Key {
     ghost respects_eq = { (same_Alike (λ k. k ∷ []) bytes_eq-Decides).fed };
 
     fn hash<H: Hasher>(&self, state: &mut H) {
-        state.write(self.bytes());
+        state.write(self.text().as_slice());
     }
 }

@@ -168,7 +168,7 @@ fn count_on<R: Abort + Threads + Wait + Sync + RandomSource>(
     let fits = txns.len() == count as usize && history.top() < 1000 && count < 1000;
     assert!(rt; fits);
     let applied = apply(
-        rt, alloc, history, txns, &cuts, 2, 2, keep, &partition, &OpenGate,
+        rt, alloc, history, &txns, &cuts, 2, 2, keep, &partition, &OpenGate,
     );
     assert!(rt; applied.end.is_ok());
     Ok(applied)

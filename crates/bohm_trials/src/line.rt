@@ -8,7 +8,7 @@ ghost use Rattle.bohm_line.specs.Cuttings.{first_at, txns_at};
 use crate::runs::counters;
 use bohm_place::{Plan, Shards, Source, plan};
 use bohm_run::{ByteSum, Line, PlanNote, PlanReceiver, PlanSender, plan_line};
-use bohm_txn::{NoMemory, Txn};
+use bohm_txn::{LogPart, NoMemory};
 use std::alloc::Global;
 use std::marker::Brand;
 use std::process::Abort;
@@ -17,14 +17,15 @@ use std::test::Fail;
 use std::thread::Threads;
 
 // The source of the first declared read of the transaction with a timestamp.
-fn source_of(rt: &impl Abort, plan: &Plan, txns: &[Txn], t: u32) -> Source
+fn source_of(rt: &impl Abort, plan: &Plan, txns: &LogPart<'_>, t: u32) -> Source
     requires { ∥ IsRightPlan txns.now plan.now ∥₁ }
 {
     let place = t
         .checked_sub(plan.first())
         .expect(rt, "a timestamp of the batch");
-    let txn = txns.get(place as usize).expect(rt, "a transaction");
-    let reads = !txn.reads.as_slice().is_empty();
+    let there = (place as usize) < txns.len();
+    assert!(rt; there);
+    let reads = txns.txn(place as usize).reads().len() > 0;
     assert!(rt; reads);
     plan.read(t, 0)
 }
@@ -35,7 +36,7 @@ fn send_plan<L: Line, R: Abort + Threads + Wait + Sync>(
     alloc: Global,
     sender: &mut PlanSender<L>,
     first: u32,
-    txns: &[Txn],
+    txns: &LogPart<'_>,
 ) -> Result<(), NoMemory>
     requires batch { length sender.old < length L.cutting.sizes }
     requires sizes { length L.cutting.sizes ≡ 2 }
@@ -63,7 +64,7 @@ fn send_plan<L: Line, R: Abort + Threads + Wait + Sync>(
 fn take_plan<L: Line, R: Abort + Wait>(
     rt: &R,
     receiver: &mut PlanReceiver<L>,
-    txns: &[Txn],
+    txns: &LogPart<'_>,
     number: u32,
 ) -> Plan
     requires batch { length receiver.old < length L.cutting.sizes }
@@ -82,8 +83,8 @@ fn take_plan<L: Line, R: Abort + Wait>(
 fn take_plans<L: Line, R: Abort + Wait>(
     rt: &R,
     mut receiver: PlanReceiver<L>,
-    one: &[Txn],
-    two: &[Txn],
+    one: &LogPart<'_>,
+    two: &LogPart<'_>,
 )
     requires untaken { receiver ≡ [] }
     requires sizes { length L.cutting.sizes ≡ 2 }
@@ -103,17 +104,18 @@ fn take_plans<L: Line, R: Abort + Wait>(
 fn take_two<L: Line, R: Abort + Threads + Wait + Sync>(
     rt: &R,
     alloc: Global,
-    txns: &[Txn],
+    txns: &LogPart<'_>,
 ) -> Result<(), Fail>
     requires cutting { L.cutting ≡ record { first = 1; log = txns.now; sizes = 1 ∷ 2 ∷ [] } }
     requires three { length txns.now ≡ 3 }
     requires formed { All IsWellFormedTxn txns.now }
 {
     let (mut sender, receiver) = plan_line::<L>(alloc)?;
-    send_plan(rt, alloc, &mut sender, 1, &txns[..1])?;
-    send_plan(rt, alloc, &mut sender, 2, &txns[1..])?;
+    let (one, two) = (txns.between(0, 1), txns.between(1, 3));
+    send_plan(rt, alloc, &mut sender, 1, &one)?;
+    send_plan(rt, alloc, &mut sender, 2, &two)?;
     assert_eq!(rt; sender.sent(), 2);
-    take_plans(rt, receiver, &txns[..1], &txns[1..]);
+    take_plans(rt, receiver, &one, &two);
     Ok(())
 }
 
@@ -123,14 +125,14 @@ fn notes_come_in_order(rt: HostRuntime) -> Result<(), Fail> {
     let log = counters(alloc, 3)?;
     let three = log.log().len() == 3;
     assert!(rt; three);
-    take_two::<Brand, _>(&rt, alloc, log.log())
+    take_two::<Brand, _>(&rt, alloc, &log.log())
 }
 
 // Sends a plan and then a refusal, and takes both.
 fn take_refusal<L: Line, R: Abort + Threads + Wait + Sync>(
     rt: &R,
     alloc: Global,
-    txns: &[Txn],
+    txns: &LogPart<'_>,
 ) -> Result<(), Fail>
     requires cutting { L.cutting ≡ record { first = 1; log = txns.now; sizes = 1 ∷ 2 ∷ [] } }
     requires three { length txns.now ≡ 3 }
@@ -138,14 +140,15 @@ fn take_refusal<L: Line, R: Abort + Threads + Wait + Sync>(
 {
     let (mut sender, mut receiver) = plan_line::<L>(alloc)?;
     assert_eq!(rt; (sender.sent(), receiver.taken()), (0, 0));
-    send_plan(rt, alloc, &mut sender, 1, &txns[..1])?;
+    let one = txns.between(0, 1);
+    send_plan(rt, alloc, &mut sender, 1, &one)?;
     let refusal = PlanNote {
         number: 2,
         plan: None,
     };
     sender.send(rt, refusal);
     assert_eq!(rt; sender.sent(), 2);
-    take_plan(rt, &mut receiver, &txns[..1], 1);
+    take_plan(rt, &mut receiver, &one, 1);
     let note = receiver.take(rt);
     assert_eq!(rt; (note.number, receiver.taken()), (2, 2));
     assert!(rt; note.plan.is_none());
@@ -158,5 +161,5 @@ fn a_refusal_passes(rt: HostRuntime) -> Result<(), Fail> {
     let log = counters(alloc, 3)?;
     let three = log.log().len() == 3;
     assert!(rt; three);
-    take_refusal::<Brand, _>(&rt, alloc, log.log())
+    take_refusal::<Brand, _>(&rt, alloc, &log.log())
 }

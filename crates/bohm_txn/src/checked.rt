@@ -5,7 +5,7 @@ ghost use Rattle.bohm_txn.specs.Faulty.{WellFormed, IsFirstFault, IsWellFormedTx
 
 use crate::fault::CheckFault;
 use crate::finding::first_fault;
-use bohm_tree::{Doc, Edition, Key, Txn, Value};
+use bohm_tree::{Doc, Edition, Key, LogPart, Value};
 use std::marker::Model;
 
 /// A well-formed document: only `check` makes one.
@@ -43,12 +43,12 @@ impl Checked {
 
     /// The transactions, at most 1,000,000.
     #[tactic(auto, using(crate::proofs::UseLaws::few_txns, crate::proofs::UseLaws::all_in))]
-    pub fn log(&self) -> &[Txn]
-        ensures same { result.now ≡ self.now.log }
-        ensures few { length result.now ≤ 1000000 }
-        ensures well_formed { All IsWellFormedTxn result.now }
+    pub fn log(&self) -> LogPart<'_>
+        ensures same { result ≡ self.now.log }
+        ensures few { length result ≤ 1000000 }
+        ensures well_formed { All IsWellFormedTxn result }
     {
-        self.doc.log()
+        LogPart::new(self.doc.log())
     }
 }
 

@@ -7,7 +7,7 @@ ghost use Rattle.bohm_tree.specs.Parts.{target};
 ghost use Rattle.bohm_txn.specs.Faulty.{some_passes};
 ghost use Rattle.bohm_txn.specs.Sure.{is_sure_sum, is_sure_stmt, is_target, is_sure};
 
-use bohm_tree::{Atom, Key, Stmt, Sum, Term, Txn};
+use bohm_tree::{Atom, Key, Stmt, Sum, Term, TxnView};
 
 /// The totals of a sum's literals: of those that it adds, and of those that it takes away.
 /// They have room for as many literals as a sum can have.
@@ -123,9 +123,10 @@ fn are_targets(body: &[Stmt], keys: &[Key]) -> bool
 /// without a guard, `drop` and `show`, its sums have only literals and are in range, and each
 /// declared write is the target of a statement. Its time grows with the terms of the body, and with
 /// its statements times the declared writes.
-pub fn sure(txn: &Txn) -> bool
+pub fn sure(txn: &TxnView<'_>) -> bool
     ensures { result ≡ is_sure txn.now }
 {
+    let txn = txn.get();
     let body = txn.body.as_slice();
     are_sure(body) && are_targets(body, txn.writes.as_slice())
 }

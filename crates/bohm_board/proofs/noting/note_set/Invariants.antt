@@ -3,5 +3,5 @@ use Rattle.bohm_place.specs.Plans.{keys_in}
 use Rattle.bohm_board.specs.Bases.{IsSetNoted}
 use Rattle.bohm_board.proofs.noting.note_set.Given as goal
 
-abbrev pub invariant-loop-index : goal.invariant-loop-index
-invariant-loop-index l = IsSetNoted l.initial.plan l.plan l.set (l.t - l.initial.plan.first) (keys_in l.set l.txn) l.entries l.index
+abbrev pub invariant-loop-place : goal.invariant-loop-place
+invariant-loop-place l = IsSetNoted l.initial.plan l.plan l.set (l.t - l.initial.plan.first) (keys_in l.set l.txn) l.entries l.place

@@ -11,18 +11,18 @@ use Rattle.bohm_exec.proofs.claiming.attempt.Goals as goal
 pub whole_as_front-reads : goal.whole_as_front-reads
 whole_as_front-reads g c =
     let b = batch_of c.args.board.now in
-    (omega (arith, few_reads b c.args.t c.requires.inside, long_reads b c.batch-batch.result.now c.args.t c.txn-txn.result.now c.as_slice.result.now c.batch-batch.ensures c.txn-txn.ensures c.as_slice.ensures), omega arith)
+    (omega (arith, few_reads b c.args.t c.requires.inside, long_reads b c.batch-batch.result.now c.args.t c.txn-txn.result c.reads.result c.batch-batch.ensures c.txn-txn.ensures c.reads.ensures), omega arith)
 
 pub whole_as_front-earlier : goal.whole_as_front-earlier
 whole_as_front-earlier g c =
     let b = batch_of c.args.board.now in
-    (omega (arith, few_writes b c.args.t c.requires.inside, long_writes b c.batch-batch.result.now c.args.t c.txn-txn.result.now c.as_slice-2.result.now c.batch-batch.ensures c.txn-txn.ensures c.as_slice-2.ensures), omega arith)
+    (omega (arith, few_writes b c.args.t c.requires.inside, long_writes b c.batch-batch.result.now c.args.t c.txn-txn.result c.writes.result c.batch-batch.ensures c.txn-txn.ensures c.writes.ensures), omega arith)
 
 pub find_wanted-requires-clause-paired : goal.find_wanted-requires-clause-paired
 find_wanted-requires-clause-paired g c =
     let b = batch_of c.args.board.now in
-    let reads = long_reads b c.batch-batch.result.now c.args.t c.txn-txn.result.now c.as_slice.result.now c.batch-batch.ensures c.txn-txn.ensures c.as_slice.ensures in
-    let writes = long_writes b c.batch-batch.result.now c.args.t c.txn-txn.result.now c.as_slice-2.result.now c.batch-batch.ensures c.txn-txn.ensures c.as_slice-2.ensures in
+    let reads = long_reads b c.batch-batch.result.now c.args.t c.txn-txn.result c.reads.result c.batch-batch.ensures c.txn-txn.ensures c.reads.ensures in
+    let writes = long_writes b c.batch-batch.result.now c.args.t c.txn-txn.result c.writes.result c.batch-batch.ensures c.txn-txn.ensures c.writes.ensures in
     let few = few_reads b c.args.t c.requires.inside in
     let few_too = few_writes b c.args.t c.requires.inside in
     record { of_reads = simp length-take (omega (arith, reads, few)); of_writes = simp length-take (omega (arith, writes, few_too)) }
@@ -31,8 +31,8 @@ pub evaluate-outcome-requires-clause-paired : goal.evaluate-outcome-requires-cla
 evaluate-outcome-requires-clause-paired g c =
     let b = batch_of c.args.board.now in
     let lent = c.batch-batch.result.now in
-    let reads = long_reads b lent c.args.t c.txn-txn.result.now c.as_slice.result.now c.batch-batch.ensures c.txn-txn.ensures c.as_slice.ensures in
-    let writes = long_writes b lent c.args.t c.txn-txn.result.now c.as_slice-2.result.now c.batch-batch.ensures c.txn-txn.ensures c.as_slice-2.ensures in
+    let reads = long_reads b lent c.args.t c.txn-txn.result c.reads.result c.batch-batch.ensures c.txn-txn.ensures c.reads.ensures in
+    let writes = long_writes b lent c.args.t c.txn-txn.result c.writes.result c.batch-batch.ensures c.txn-txn.ensures c.writes.ensures in
     let few = few_reads b c.args.t c.requires.inside in
     let few_too = few_writes b c.args.t c.requires.inside in
     let same_reads = simp length-take at c.find_wanted.auto.reads in

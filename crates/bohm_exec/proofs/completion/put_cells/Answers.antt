@@ -9,7 +9,7 @@ use Rattle.bohm_exec.proofs.completion.put_cells.Goals as goal
 use Rattle.bohm_exec.proofs.completion.put_cells.Goals.{After-slot_cell}
 
 below : (c : After-slot_cell) → c.loop-index.index < width_at (batch_of_closed c.args.closed.now) c.args.t
-below c = subst (λ (n : ℕ). c.loop-index.index < n) (c.width_at-width.ensures ∙ ap (λ (b : Batch). width_at b c.args.t) c.batch.ensures) c.loop-index-test.true
+below c = subst (λ (n : ℕ). c.loop-index.index < n) (c.width-width.ensures ∙ ap (λ (b : Batch). width_at b c.args.t) c.batch.ensures) c.loop-index-test.true
 
 pub loop-index-init : goal.loop-index-init
 loop-index-init c = record { batch = refl; statuses = λ u. refl; all = λ j l. absurd (omega arith) }
@@ -47,5 +47,5 @@ loop-index-preserved c =
 
 pub returns-clause-all : goal.returns-clause-all
 returns-clause-all c = λ j l.
-    let wide = c.width_at-width.ensures ∙ ap (λ (b : Batch). width_at b c.args.t) c.batch.ensures in
+    let wide = c.width-width.ensures ∙ ap (λ (b : Batch). width_at b c.args.t) c.batch.ensures in
     c.loop-index.invariant.all j (omega (arith, wide))

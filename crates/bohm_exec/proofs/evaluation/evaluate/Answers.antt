@@ -25,23 +25,23 @@ pub add_base-requires-then-not-sure-clause-few : goal.add_base-requires-then-not
 add_base-requires-then-not-sure-clause-few c = omega (arith, few_writes c.args.batch.now c.args.t c.requires.inside, c.requires.paired.of_writes)
 
 pub eval-requires-clause-well : goal.eval-requires-clause-well
-eval-requires-clause-well c = well_formed c.args.batch.now c.args.t c.txn-txn.result.now c.txn-txn.ensures
+eval-requires-clause-well c = well_formed c.args.batch.now c.args.t c.txn-txn.result c.txn-txn.ensures
 
 pub eval-requires-clause-earlier : goal.eval-requires-clause-earlier
-eval-requires-clause-earlier c = omega (arith, writes_paired c.args.batch.now c.args.t c.txn-txn.result.now c.txn-txn.ensures, c.requires.paired.of_writes, c.if-not-sure.auto.earlier)
+eval-requires-clause-earlier c = omega (arith, writes_paired c.args.batch.now c.args.t c.txn-txn.result c.txn-txn.ensures, c.requires.paired.of_writes, c.if-not-sure.auto.earlier)
 
-same_reads : (c : After-add_base) → map (state_before c.args.batch.now c.args.t) c.txn-txn.result.now.reads ≡ c.add_base.new.cells
-same_reads c = reads_before c.args.batch.now (position c.args.batch.now c.args.t) c.txn-txn.result.now c.add_base.new.cells c.txn-txn.ensures (c.add_base.ensures c.txn-txn.result.now c.txn-txn.ensures)
+same_reads : (c : After-add_base) → map (state_before c.args.batch.now c.args.t) c.txn-txn.result.reads ≡ c.add_base.new.cells
+same_reads c = reads_before c.args.batch.now (position c.args.batch.now c.args.t) c.txn-txn.result c.add_base.new.cells c.txn-txn.ensures (c.add_base.ensures c.txn-txn.result c.txn-txn.ensures)
 
 pub returns-clause-outcome : goal.returns-clause-outcome
 returns-clause-outcome c =
     let b = c.args.batch.now in
-    outcome_right b (position b c.args.t) c.txn-txn.result.now c.txn-txn.ensures ∙ ap Some (c.eval.ensures.outcome (state_before b c.args.t) (same_reads (goal.at.returns-clause-outcome c).After-add_base))
+    outcome_right b (position b c.args.t) c.txn-txn.result c.txn-txn.ensures ∙ ap Some (c.eval.ensures.outcome (state_before b c.args.t) (same_reads (goal.at.returns-clause-outcome c).After-add_base))
 
-written : (c : After-eval) → map (after (state_before c.args.batch.now c.args.t) c.txn-txn.result.now) c.txn-txn.result.now.writes ≡ c.eval.new.scratch.cells
+written : (c : After-eval) → map (after (state_before c.args.batch.now c.args.t) c.txn-txn.result) c.txn-txn.result.writes ≡ c.eval.new.scratch.cells
 written c =
     let b = c.args.batch.now in
-    let x = c.txn-txn.result.now in
+    let x = c.txn-txn.result in
     let reads = same_reads (goal.at.After-eval c).After-add_base in
     elim c.if-not-sure.branch [
       | then-not-sure w ↦
@@ -55,7 +55,7 @@ written c =
 pub returns-clause-cells : goal.returns-clause-cells
 returns-clause-cells c = λ j below.
     let b = c.args.batch.now in
-    let x = c.txn-txn.result.now in
+    let x = c.txn-txn.result in
     let looks = state_before b c.args.t in
     let r = c.eval.new.scratch in
     let n : ℕ = shows_in x.body in

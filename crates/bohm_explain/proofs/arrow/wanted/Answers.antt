@@ -1,5 +1,4 @@
-use Rattle.std.proofs.Common.{◌≡◌, length, slice_get, Some, true, false, arith, refl, sym, subst, ◌∙◌, rules, List, All}
-use Rattle.std.proofs.lemmas.Option.{slice_get_read}
+use Rattle.std.proofs.Common.{◌≡◌, length, true, false, arith, sym, subst, ◌∙◌, rules, List, All}
 use Rattle.bohm_explain.specs.declared.arrow.Arrow.{Arrow}
 use Rattle.bohm_explain.specs.Heaviest.{IsInside}
 use Rattle.bohm_explain.specs.Wanted.{arrows_below}
@@ -12,17 +11,16 @@ pub loop-to-preserved : goal.loop-to-preserved
 loop-to-preserved c =
     let txns = c.args.txns.now in
     let p = c.loop-to.to in
-    let x = c.index-txns-to.result in
-    let at : slice_get txns p ≡ Some x = slice_get_read txns (length txns) p x refl (omega arith) c.index-txns-to.is in
+    let x = c.txn.result in
     let before = c.loop-to.invariant.arrows in
     let reads = c.in_ok-put_arrows.ensures.arrows in
     elim c.if-not-sure.branch [
       | then-not-sure+in_ok-put_arrows-2 w ↦
           let unsure : c.sure.result ≡ false = search (rules, w.if-not-sure.true) in
-          rw w.out-is (record { arrows = of_unsure txns p x at _ _ before reads _ (sym c.sure.ensures ∙ unsure) w.in_ok-put_arrows-2.ensures.arrows; few = omega (arith, c.loop-to.invariant.few, c.in_ok-put_arrows.ensures.few, w.in_ok-put_arrows-2.ensures.few) })
+          rw w.out-is (record { arrows = of_unsure txns p x c.txn.ensures _ _ before reads _ (sym c.sure.ensures ∙ unsure) w.in_ok-put_arrows-2.ensures.arrows; few = omega (arith, c.loop-to.invariant.few, c.in_ok-put_arrows.ensures.few, w.in_ok-put_arrows-2.ensures.few) })
       | else-not-sure w ↦
           let is_sure : c.sure.result ≡ true = search (rules, w.if-not-sure.false) in
-          rw w.out-is (record { arrows = of_sure txns p x at _ _ before reads (sym c.sure.ensures ∙ is_sure); few = omega (arith, c.loop-to.invariant.few, c.in_ok-put_arrows.ensures.few) })
+          rw w.out-is (record { arrows = of_sure txns p x c.txn.ensures _ _ before reads (sym c.sure.ensures ∙ is_sure); few = omega (arith, c.loop-to.invariant.few, c.in_ok-put_arrows.ensures.few) })
     ]
 
 pub returns-clause-inside : goal.returns-clause-inside

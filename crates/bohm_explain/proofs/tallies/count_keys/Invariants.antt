@@ -3,8 +3,8 @@ use Rattle.bohm_txn.specs.Faulty.{is_among}
 use Rattle.bohm_explain.specs.Tallies.{lists, plus, tally}
 use Rattle.bohm_explain.proofs.tallies.count_keys.Given as goal
 
-abbrev pub invariant-loop-key : goal.invariant-loop-key
-invariant-loop-key l = record {
-  counts : (k : List ℕ) → tally l.tallies k ≡ (if is_among (take l.key-index l.keys) k then plus l.set (tally l.initial.tallies k) else tally l.initial.tallies k);
-  listed : (k : List ℕ) → lists l.tallies k ≡ (lists l.initial.tallies k || is_among (take l.key-index l.keys) k);
+abbrev pub invariant-loop-index : goal.invariant-loop-index
+invariant-loop-index l = record {
+  counts : (k : List ℕ) → tally l.tallies k ≡ (if is_among (take l.index l.keys) k then plus l.set (tally l.initial.tallies k) else tally l.initial.tallies k);
+  listed : (k : List ℕ) → lists l.tallies k ≡ (lists l.initial.tallies k || is_among (take l.index l.keys) k);
 }

@@ -1,6 +1,14 @@
-use Rattle.std.proofs.Common.{arith}
+use Rattle.std.proofs.Common.{append_assoc, rules}
+use Rattle.bohm_txn.proofs.ForCallers.{drop_at}
 use Rattle.bohm_explain.proofs.Usable.{usable_item}
 use Rattle.bohm_explain.proofs.weights.weights.Goals as goal
 
 pub weight-requires : goal.weight-requires
-weight-requires c = usable_item _ c.loop-txn.txn-index _ c.requires.formed (omega arith) c.txn-item.is
+weight-requires c = usable_item _ _ _ c.requires.formed c.txn.ensures
+
+pub loop-index-preserved : goal.loop-index-preserved
+loop-index-preserved c = record {
+  paired = search rules;
+  weights = rw (c.in_ok-push.ensures.items, append_assoc, c.weight.ensures.weight) (rw (drop_at c.args.txns.now c.loop-index.index c.txn.result c.txn.ensures) at c.loop-index.invariant.weights);
+  light = search rules;
+}

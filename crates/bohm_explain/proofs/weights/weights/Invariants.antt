@@ -1,6 +1,6 @@
-use Rattle.std.proofs.Common.{◌≡◌, ◌≤◌, length, take, map, All}
+use Rattle.std.proofs.Common.{◌≡◌, ◌≤◌, ◌++◌, length, drop, map, All}
 use Rattle.bohm_explain.specs.Weighing.{weight}
 use Rattle.bohm_explain.proofs.weights.weights.Given as goal
 
-abbrev pub invariant-loop-txn : goal.invariant-loop-txn
-invariant-loop-txn l = record { paired : length l.weights.items ≡ l.txn-index; weights : l.weights.items ≡ map weight (take l.txn-index l.txns); light : All (λ w. w ≤ 3072) l.weights.items }
+abbrev pub invariant-loop-index : goal.invariant-loop-index
+invariant-loop-index l = record { paired : length l.weights.items ≡ l.index; weights : l.weights.items ++ map weight (drop l.index l.txns) ≡ map weight l.txns; light : All (λ w. w ≤ 3072) l.weights.items }

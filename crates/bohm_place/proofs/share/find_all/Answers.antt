@@ -1,5 +1,6 @@
-use Rattle.std.proofs.Common.{arith, ◌≡◌, ◌+◌, ◌++◌, ◌<◌, ℕ, length, List, map, refl, take, if◌then◌else◌, sym, subst}
+use Rattle.std.proofs.Common.{arith, ◌≡◌, ◌+◌, ◌++◌, ◌<◌, ℕ, length, List, map, refl, take, if◌then◌else◌, subst}
 use Rattle.std.proofs.lemmas.List.{length-take-le}
+use Rattle.std.proofs.lemmas.Option.{get_or_from_slice_get}
 use Rattle.bohm_txn.specs.Faulty.{IsWellFormedTxn}
 use Rattle.bohm_txn.proofs.ForCallers.{usable, rising_writes}
 use Rattle.bohm_place.specs.declared.placeholder.Placeholder.{Placeholder}
@@ -12,15 +13,15 @@ use Rattle.bohm_place.proofs.share.find_all.Goals as goal
 
 pub find_and_place_writes-requires-clause-few : goal.find_and_place_writes-requires-clause-few
 find_and_place_writes-requires-clause-few g c κs lives =
-    let txn = c.index-txns-i.result in
-    let formed : IsWellFormedTxn txn = subst IsWellFormedTxn (sym c.index-txns-i.is) (c.requires.formed _ txn (omega arith)) in
-    rw c.as_slice-writes.ensures (usable txn formed).few_writes
+    let txn = c.txn-txn.result in
+    let formed : IsWellFormedTxn txn = subst IsWellFormedTxn (get_or_from_slice_get c.args.txns.now c.loop-i.i txn txn c.txn-txn.ensures) (c.requires.formed _ txn (omega arith)) in
+    rw c.writes-writes.ensures (usable txn formed).few_writes
 
 pub find_and_place_writes-requires-clause-distinct : goal.find_and_place_writes-requires-clause-distinct
 find_and_place_writes-requires-clause-distinct g c κs lives =
-    let txn = c.index-txns-i.result in
-    let formed : IsWellFormedTxn txn = subst IsWellFormedTxn (sym c.index-txns-i.is) (c.requires.formed _ txn (omega arith)) in
-    rw c.as_slice-writes.ensures (AreDistinct-rising txn.writes (rising_writes txn formed))
+    let txn = c.txn-txn.result in
+    let formed : IsWellFormedTxn txn = subst IsWellFormedTxn (get_or_from_slice_get c.args.txns.now c.loop-i.i txn txn c.txn-txn.ensures) (c.requires.formed _ txn (omega arith)) in
+    rw c.writes-writes.ensures (AreDistinct-rising txn.writes (rising_writes txn formed))
 
 pub find_and_place_writes-requires-clause-above : goal.find_and_place_writes-requires-clause-above
 find_and_place_writes-requires-clause-above g c κs lives k has =
@@ -42,13 +43,13 @@ loop-i-preserved g c =
     let new = placeholders_in part c.find_and_place_writes.new.hand in
     let txns = c.args.txns.now in
     let i = c.loop-i.i in
-    let txn = c.index-txns-i.result in
+    let txn = c.txn-txn.result in
     let inside : i < length txns = omega arith in
     let value : List ℕ → Placeholder = λ k. if mine k then within c.args.first (last_or none (hand k)) else none in
     let reads = c.in_ok-find_reads.ensures in
     let writes = c.in_ok-find_and_place_writes.ensures.found in
-    let added : c.find_and_place_writes.new.found.items ≡ (c.loop-i.found.items ++ map value txn.reads) ++ map value txn.writes = rw (writes, reads, c.as_slice-writes.ensures, c.as_slice-reads.ensures) refl in
+    let added : c.find_and_place_writes.new.found.items ≡ (c.loop-i.found.items ++ map value txn.reads) ++ map value txn.writes = rw (writes, reads, c.writes-writes.ensures, c.reads-reads.ensures) refl in
     record {
-      placed = λ k. chains_step mine base hand new c.args.first txns i txn inside k (c.loop-i.invariant.placed k) (rw (← c.index-txns-i.is) (rw c.as_slice-writes.ensures at c.in_ok-find_and_place_writes.ensures.placed k));
-      found = found_step mine base hand c.args.first txns i txn inside c.loop-i.invariant.placed c.loop-i.found.items c.find_and_place_writes.new.found.items c.loop-i.invariant.found (rw (← c.index-txns-i.is) added);
+      placed = λ k. chains_step mine base hand new c.args.first txns i txn inside k (c.loop-i.invariant.placed k) (rw (get_or_from_slice_get txns i txn txn c.txn-txn.ensures) (rw c.writes-writes.ensures at c.in_ok-find_and_place_writes.ensures.placed k));
+      found = found_step mine base hand c.args.first txns i txn inside c.loop-i.invariant.placed c.loop-i.found.items c.find_and_place_writes.new.found.items c.loop-i.invariant.found (rw (get_or_from_slice_get txns i txn txn c.txn-txn.ensures) added);
     }

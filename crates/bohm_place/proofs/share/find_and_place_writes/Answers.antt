@@ -1,5 +1,6 @@
 use Rattle.std.proofs.Common.{◌≡◌, ◌<◌, List, All, take, get_or, length, sym, subst, arith, if◌then◌else◌}
 use Rattle.std.proofs.lemmas.List.{length-take-le}
+use Rattle.std.proofs.lemmas.Option.{get_or_from_slice_get}
 use Rattle.bohm_place.specs.declared.placeholder.Placeholder.{Placeholder}
 use Rattle.bohm_place.specs.Chains.{placeholders_in, begins, none, last_or}
 use Rattle.bohm_place.specs.Shares.{has_part, within}
@@ -11,8 +12,8 @@ find_and_place-requires-clause-above g c κs lives has =
     let part = g.P.Partition.part_of c.args.partition.now in
     let keys = c.args.keys.now in
     let i = c.loop-i.i in
-    let key = c.index-keys-i.result in
-    let is : get_or keys i key ≡ key = sym c.index-keys-i.is in
+    let key = c.key.result.now in
+    let is : get_or keys i key ≡ key = get_or_from_slice_get keys i key key c.key.ensures in
     let mine = has_part part c.args.worker.count c.args.worker.number in
     let base = placeholders_in part c.args.hand.now in
     let hand = placeholders_in part c.loop-i.hand in
@@ -25,8 +26,8 @@ loop-i-preserved g c =
     let part = g.P.Partition.part_of c.args.partition.now in
     let keys = c.args.keys.now in
     let i = c.loop-i.i in
-    let key = c.index-keys-i.result in
-    let is : get_or keys i key ≡ key = sym c.index-keys-i.is in
+    let key = c.key.result.now in
+    let is : get_or keys i key ≡ key = get_or_from_slice_get keys i key key c.key.ensures in
     let inside : i < length keys = omega arith in
     let len : length (take i keys) ≡ i = length-take-le i keys (omega arith) in
     let mine = has_part part c.args.worker.count c.args.worker.number in

@@ -20,7 +20,7 @@ loop-place-preserved c =
     let log = cutting_of c.args.log in
     let goes = c.in_ok-run_batch.ensures in
     let next = c.batch-txns.ensures in
-    let on = walked_on c.args.history.now c.loop-place.history c.run_batch.new.history log c.loop-place.place c.loop-place.start c.args.keep c.loop-place.answered.items c.batch-txns.result.now c.requires.ordered (search rules) h.0 next.txns next.ahead h.1 goes.applied in (
+    let on = walked_on c.args.history.now c.loop-place.history c.run_batch.new.history log c.loop-place.place c.loop-place.start c.args.keep c.loop-place.answered.items c.batch-txns.result c.requires.ordered (search rules) h.0 next.txns next.ahead h.1 goes.applied in rw c.len-start.ensures (
       sym next.ahead,
       rw goes.answered on,
     )

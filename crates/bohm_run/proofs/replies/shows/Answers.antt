@@ -15,13 +15,13 @@ use Rattle.bohm_run.proofs.Replying.{show_more, show_ended, shows_few}
 use Rattle.bohm_run.proofs.replies.shows.Goals as goal
 use Rattle.bohm_run.proofs.replies.shows.Goals.{After-count-count, in-Present+in_ok-push, in_default}
 
-there : (c : After-count-count) → txn_at (batch_of_finished c.args.finished.now) c.args.t ≡ Some c.txn.result.now
-there c = subst (λ (b : Batch). txn_at b c.args.t ≡ Some c.txn.result.now) c.batch.ensures c.txn.ensures
+there : (c : After-count-count) → txn_at (batch_of_finished c.args.finished.now) c.args.t ≡ Some c.txn.result
+there c = subst (λ (b : Batch). txn_at b c.args.t ≡ Some c.txn.result) c.batch.ensures c.txn.ensures
 
-usable : (c : After-count-count) → IsUsable c.txn.result.now
-usable c = let b = batch_of_finished c.args.finished.now in formed_at (txns_of b) b.formed (position b c.args.t) c.txn.result.now (there c)
+usable : (c : After-count-count) → IsUsable c.txn.result
+usable c = let b = batch_of_finished c.args.finished.now in formed_at (txns_of b) b.formed (position b c.args.t) c.txn.result (there c)
 
-counted : (c : After-count-count) → c.count-count.result ≡ shows_in c.txn.result.now.body
+counted : (c : After-count-count) → c.count-count.result ≡ shows_in c.txn.result.body
 counted c = search rules
 
 pub overflow_cast-index-end : goal.overflow_cast-index-end
@@ -45,7 +45,7 @@ pub returns : goal.returns
 returns c = λ x at.
     let a = (goal.at.returns c).After-count-count in
     let look = state_before (batch_of_finished c.args.finished.now) c.args.t in
-    let same : x ≡ c.txn.result.now = same_Some x c.txn.result.now (sym at ∙ there a) in
+    let same : x ≡ c.txn.result = same_Some x c.txn.result (sym at ∙ there a) in
     let few = shows_few look x in
     let count = counted a ∙ ap (λ (y : Txn). shows_in y.body) (sym same) in
     let all : length (shows_of (body look x)) ≤ c.loop-index.index = omega (arith, few, count) in

@@ -16,10 +16,10 @@ few batch other t txn keys same here are =
 
 pub overflow_add-count : goal.overflow_add-count
 overflow_add-count c =
-    let bound = few (batch_of_finished c.args.finished.now) _ (c.first-first.result + c.loop-place.place) c.txn-txn.result.now c.as_slice.result.now c.batch.ensures c.txn-txn.ensures c.as_slice.ensures in
+    let bound = few (batch_of_finished c.args.finished.now) _ (c.first-first.result + c.loop-place.place) c.txn-txn.result c.writes.result c.batch.ensures c.txn-txn.ensures c.writes.ensures in
     omega (arith, bound, c.loop-place.invariant)
 
 pub loop-place-preserved : goal.loop-place-preserved
 loop-place-preserved c =
-    let bound = few (batch_of_finished c.args.finished.now) _ (c.first-first.result + c.loop-place.place) c.txn-txn.result.now c.as_slice.result.now c.batch.ensures c.txn-txn.ensures c.as_slice.ensures in
+    let bound = few (batch_of_finished c.args.finished.now) _ (c.first-first.result + c.loop-place.place) c.txn-txn.result c.writes.result c.batch.ensures c.txn-txn.ensures c.writes.ensures in
     omega (arith, bound, c.loop-place.invariant)

@@ -1,6 +1,5 @@
-use Rattle.std.proofs.Common.{◌≡◌, ◌++◌, ◌∷◌, [], ◌∙◌, ℕ, List, Some, length, ap, refl, arith}
+use Rattle.std.proofs.Common.{◌≡◌, ◌++◌, ◌∷◌, [], ◌∙◌, ℕ, List, Some, ap}
 use Rattle.std.specs.List.{slice_get}
-use Rattle.std.proofs.lemmas.Option.{slice_get_read}
 use Rattle.bohm_txn.specs.Meaning.{Look}
 use Rattle.bohm_exec.specs.Answers.{batch_of_finished}
 use Rattle.bohm_exec.specs.Moments.{state_after}
@@ -13,9 +12,9 @@ loop-i-preserved c =
     let (x, at, same, few) = c.requires.keys in
     let keys = c.args.keys.now in
     let i = c.loop-i.i in
-    let k = c.index-keys-i.result in
+    let k = c.key.result.now in
     let look : Look = state_after (batch_of_finished c.args.finished.now) c.args.t in
-    let here : slice_get keys i ≡ Some k = slice_get_read keys (length keys) i k refl (omega arith) c.index-keys-i.is in
+    let here : slice_get keys i ≡ Some k = c.key.ensures in
     let cell : look k ≡ c.cell-cell.result = c.cell-cell.ensures x k at (ap (λ (ks : List (List ℕ)). slice_get ks i) same ∙ here) in
     c.in_ok-push.ensures.items
     ∙ ap (λ (ws : List Write). ws ++ record { begin = c.args.t; key = k; cell = c.cell-cell.result } ∷ []) c.loop-i.invariant

@@ -50,7 +50,7 @@ loop-place-preserved g c =
     let there : IsSome c.take-note.result.plan = search rules in
     let goes = c.in_default-run_batch.ensures.ok in
     let next = c.batch-txns.ensures in
-    let on = walked_on c.args.progress.history c.loop-place.progress.history c.run_batch.new.progress.history log c.loop-place.place c.loop-place.start c.args.self.keep c.loop-place.progress.replies.items c.batch-txns.result.now c.requires.ordered (search rules) h.2 next.txns next.ahead (rw h.3 at h.4) (rw h.3 at goes.applied) in (
+    let on = walked_on c.args.progress.history c.loop-place.progress.history c.run_batch.new.progress.history log c.loop-place.place c.loop-place.start c.args.self.keep c.loop-place.progress.replies.items c.batch-txns.result c.requires.ordered (search rules) h.2 next.txns next.ahead (rw h.3 at h.4) (rw h.3 at goes.applied) in rw c.len-start.ensures (
       omega (arith, ap length c.take-note.ensures.taken, length-append c.loop-place.receiver (c.take-note.result ∷ []), h.0),
       rw c.take-note.ensures.taken (All-push (λ (x : PlanNote). IsSome x.plan) c.loop-place.receiver c.take-note.result h.1 there),
       sym next.ahead,

@@ -14,7 +14,7 @@ pub returns-clause-next : goal.returns-clause-next
 returns-clause-next c = rw (← c.self.view_is) (record {
   first = c.new.ensures.first;
   base = λ k declared.
-      (let here : list_any (declares k) c.args.txns.now ≡ true = subst (λ (ts : List Txn). list_any (declares k) ts ≡ true) c.new.ensures.txns declared in
+      (let here : list_any (declares k) c.args.txns.now ≡ true = subst (λ (ts : List Txn). list_any (declares k) ts ≡ true) (c.new.ensures.txns ∙ c.fork.ensures) declared in
       ap (λ (es : List (List ℕ × Cell)). newest es k Absent) c.new.ensures.base
       ∙ c.in_ok-base.ensures.cells k here
       ∙ ap (λ vs. cell_at c.self.inside.top vs Absent) (sym (lookup_table (bytes_eq k) c.self.inside.chains.entries)));

@@ -4,7 +4,7 @@ use Rattle.std.specs.List.{AllByRecursion}
 use Rattle.std.specs.Int.{w64, to_be_bytes, from_be_bytes}
 use Rattle.std.proofs.lemmas.List.{take-append-drop, length-take, length-drop}
 use Rattle.std.proofs.lemmas.Nat.{be_bytes_8}
-use Rattle.bohm_log.specs.Words.{padded, before_zero, words, spread, words_of, IsFilled, IsShort}
+use Rattle.bohm_tree.specs.Words.{padded, before_zero, words, spread, words_of, IsFilled, IsShort}
 
 -- ---- zeros behind
 

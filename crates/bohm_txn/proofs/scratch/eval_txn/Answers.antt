@@ -4,7 +4,7 @@ use Rattle.bohm_txn.specs.Room.{tables_of}
 use Rattle.bohm_txn.specs.Serial.{outcome_of, shows_of}
 use Rattle.bohm_txn.proofs.Answering.{all_at, commit, commit_cells, commit_sure, abort, abort_cells, never_aborts}
 use Rattle.bohm_txn.proofs.UseLaws.{usable, rising_reads}
-use Rattle.bohm_txn.proofs.scratch.eval.Goals as goal
+use Rattle.bohm_txn.proofs.scratch.eval_txn.Goals as goal
 
 pub run-requires-clause-few_reads : goal.run-requires-clause-few_reads
 run-requires-clause-few_reads c = (usable c.args.txn.now c.requires.well).few_reads

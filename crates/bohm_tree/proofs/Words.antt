@@ -17,11 +17,11 @@ use Rattle.std.proofs.lemmas.Bool.Decides.{nat_tests}
 use Rattle.std.specs.Prelude.{MatchOption, ◌==◌}
 use Rattle.std.specs.List.{position_from}
 use Rattle.bohm_tree.specs.Name.{is_name, key_of}
-use Rattle.bohm_log.specs.NameInside.{IsWorded, name_of}
-use Rattle.bohm_log.specs.Shortness.{short}
-use Rattle.bohm_log.specs.declared.name.Name.TheInside.{Inside}
-use Rattle.bohm_log.specs.Words.{padded, before_zero, spread, words, words_of, IsFilled, IsShort}
-use Rattle.bohm_log.specs.Spreading.{AreBytes, padded-length, padded-bytes, padded-behind, bytes-drop, bytes-take, named, read_back}
+use Rattle.bohm_tree.specs.KeyInside.{IsWorded, name_of}
+use Rattle.bohm_tree.specs.Shortness.{short}
+use Rattle.bohm_tree.specs.declared.key.Key.TheInside.{Inside}
+use Rattle.bohm_tree.specs.Words.{padded, before_zero, spread, words, words_of, IsFilled, IsShort}
+use Rattle.bohm_tree.specs.Spreading.{AreBytes, padded-length, padded-bytes, padded-behind, bytes-drop, bytes-take, named}
 
 -- ---- order
 
@@ -128,6 +128,7 @@ equal xs ys h k = sym (is_eq-slice_cmp (words_of xs) (words_of ys)) ∙ ap is_eq
 -- ---- bytes
 
 pub is_a_name : (k : Inside) → IsWorded k → is_name (name_of k) ≡ true
+unfolding name_of
 is_a_name k h = subst (λ x. is_name x ≡ true) (sym (named k.words h.name (short h.name h.is) h.made)) h.is
 
 abbrev IsCut : ℕ → List ℕ → Option ℕ → Type 0
@@ -157,6 +158,7 @@ before_no_zero bs e = sym (subst (IsCut 0 bs) (sym e) (cut 0 bs))
 -- ---- names in memory
 
 named_by_it : (k : Inside) (h : IsWorded k) → h.name ≡ name_of k
+unfolding name_of
 named_by_it k h = sym (named k.words h.name (short h.name h.is) h.made)
 
 pub same_words : (k l : Inside) → IsWorded k → IsWorded l → bytes_eq k.words l.words ≡ bytes_eq (name_of k) (name_of l)
@@ -170,9 +172,6 @@ same_order k l h g =
     (λ i. slice_cmp nat_cmp (h.made i) (g.made i))
     ∙ ordered h.name g.name (short h.name h.is) (short g.name g.is)
     ∙ (λ i. slice_cmp nat_cmp (named_by_it k h i) (named_by_it l g i))
-
-pub words_again : (k : Inside) → IsWorded k → k.words ≡ words_of (name_of k)
-words_again k h = sym (read_back k.words h.name (short h.name h.is) h.made)
 
 -- ---- a new name
 
@@ -191,6 +190,7 @@ four_words name bs a b c d t p q r s =
     (λ i. p i ∷ q i ∷ third i ∷ fourth i ∷ []) ∙ ap (words 4) t
 
 pub new_name : (name ws : List ℕ) → true ≡ is_name name → ws ≡ words_of name → Some (name_of (record { words = ws })) ≡ key_of name
+unfolding name_of
 new_name name ws e made = rw (sym e) (ap Some (named ws name (short name (sym e)) made))
 
 -- ---- the bytes of words

@@ -6,7 +6,7 @@ use Rattle.std.specs.Char.{is_ascii_lowercase}
 use Rattle.std.proofs.lemmas.Bool.{and_parts}
 use Rattle.std.proofs.lemmas.Bool.Decides.{nat_tests}
 use Rattle.bohm_tree.specs.Name.{is_name, is_name_byte}
-use Rattle.bohm_log.specs.Words.{IsFilled, IsShort}
+use Rattle.bohm_tree.specs.Words.{IsFilled, IsShort}
 
 some_byte : (c : ℕ) → is_name_byte c ≡ true → 0 < c
 some_byte c e = grind (arith, nat_tests)
