@@ -24,7 +24,12 @@ use std::alloc::Global;
 
 /// The plan of a batch that starts at a timestamp. What the batches before it wrote is `Before` to it, so
 /// its chains start empty.
-fn plan_batch(alloc: Global, seed: HashSeed, first: u32, txns: &LogPart<'_>) -> Result<Plan, NoMemory>
+fn plan_batch(
+    alloc: Global,
+    seed: HashSeed,
+    first: u32,
+    txns: &LogPart<'_>,
+) -> Result<Plan, NoMemory>
     requires position { 0 < first }
     requires room { first + length txns.now ≤ 2 ^ 32 }
     requires formed { All IsWellFormedTxn txns.now }

@@ -11,7 +11,8 @@ ghost use Rattle.std.specs.List.{zip};
 
 use crate::store::Store;
 use bohm_txn::{
-    Cell, Checked, Items, Key, Keys, LogPart, NoMemory, Outcome, Reply, Scratch, TxnView, Value, eval,
+    Cell, Checked, Items, Key, Keys, LogPart, NoMemory, Outcome, Reply, Scratch, TxnView, Value,
+    eval,
 };
 use std::alloc::Global;
 
@@ -76,7 +77,12 @@ impl Desk {
 }
 
 /// Runs one transaction over the store.
-fn execute(alloc: Global, store: &mut Store, desk: &mut Desk, txn: &TxnView<'_>) -> Result<Reply, NoMemory>
+fn execute(
+    alloc: Global,
+    store: &mut Store,
+    desk: &mut Desk,
+    txn: &TxnView<'_>,
+) -> Result<Reply, NoMemory>
     requires { IsWellFormedTxn txn.now }
     ensures reply { IfOk result (λ reply. reply ≡ reply_of (body (cell_in store.old) txn.now)) }
     ensures store { OnOk result (store.new ≡ put_all store.old (writes_of (body (cell_in store.old) txn.now))) }

@@ -27,7 +27,7 @@ use crate::version::Write;
 use bohm_board::Batch;
 use bohm_exec::Finished;
 use bohm_place::{HashSeed, Plan};
-use bohm_txn::{Cell, Key, NoMemory, LogPart, Value};
+use bohm_txn::{Cell, Key, LogPart, NoMemory, Value};
 use indexmap::IndexMap;
 use std::alloc::Global;
 use std::collections::VecDeque;

@@ -14,8 +14,8 @@ mod view;
 mod work;
 
 pub use bohm_tree::{
-    Atom, Boxed, Cell, Cmp, Cond, Doc, Edition, Items, Key, Keys, LogPart, NoMemory, Stmt, Sum, Term,
-    Txn, TxnView, Value,
+    Atom, Boxed, Cell, Cmp, Cond, Doc, Edition, Items, Key, Keys, LogPart, NoMemory, Stmt, Sum,
+    Term, Txn, TxnView, Value,
 };
 pub use checked::{Checked, check};
 pub use fault::{CheckFault, CheckKind};

@@ -80,12 +80,7 @@ fn eval_txn(txn: &Txn, reads: &[Cell], earlier: &[Cell], scratch: &mut Scratch) 
 /// Its time grows with the terms of the body. In a transaction of a checked document a term finds its
 /// key at once; in another one the key is sought among the reads. A local is sought among those that
 /// are bound, and the key that a statement tests or writes among the declared ones.
-pub fn eval(
-    txn: &TxnView<'_>,
-    reads: &[Cell],
-    earlier: &[Cell],
-    scratch: &mut Scratch,
-) -> Outcome
+pub fn eval(txn: &TxnView<'_>, reads: &[Cell], earlier: &[Cell], scratch: &mut Scratch) -> Outcome
     requires well { IsWellFormedTxn txn.now }
     requires reads { length txn.now.reads ≡ length reads.now }
     requires earlier { length txn.now.writes ≡ length earlier.now }
