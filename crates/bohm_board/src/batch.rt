@@ -11,8 +11,8 @@ use crate::noting::{note_places, search};
 use bohm_place::{Access, DeclaredSet, Plan, Source};
 use bohm_txn::{Cell, Items, Key, LogPart, TxnView};
 
-/// Transactions of a log that run as one, their plan, and what each key that they declare holds before
-/// them.
+/// Transactions of a log that run as one, their plan, and what each key that they declare holds
+/// before them.
 #[derive(Drop)]
 pub struct Batch<'a> {
     txns: LogPart<'a>,
@@ -31,10 +31,10 @@ impl<'a> Batch<'a> {
     ghost use Rattle.bohm_board.specs.Batches.{first_of, txns_of, plan_of, entries_of, base_of, txn_at, key_in, accesses_in, reads_at, writes_at, position, rights_of, width_at, IsIn};
     ghost use Rattle.std.specs.Option.{option_map};
 
-    /// A batch whose first transaction has the timestamp `first`. The base has an entry for each key that
-    /// a transaction declares and for no other, and its keys rise. The time grows with the number of
-    /// accesses, each by the logarithm of the base's length: the plan's accesses whose source is `Before`
-    /// have the place of their key in the base from now on.
+    /// A batch whose first transaction has the timestamp `first`. The base has an entry for each
+    /// key that a transaction declares and for no other, and its keys rise. The time grows with the
+    /// number of accesses, each by the logarithm of the base's length: the plan's accesses whose
+    /// source is `Before` have the place of their key in the base from now on.
     pub fn new(first: u32, txns: LogPart<'a>, plan: Plan, base: Vec<(Key, Cell)>) -> Batch<'a>
         requires some { 0 < length txns }
         requires few { length txns ≤ 4096 }
@@ -104,7 +104,8 @@ impl<'a> Batch<'a> {
         width(&self.txn(t))
     }
 
-    /// Where a declared read, counted from 0, of the transaction with a timestamp finds its version.
+    /// Where a declared read, counted from 0, of the transaction with a timestamp finds its
+    /// version.
     pub fn read(&self, t: u32, index: u32) -> Source
         requires txn { IsIn self.now t }
         requires index { index < length (reads_at self.now t) }
@@ -113,8 +114,8 @@ impl<'a> Batch<'a> {
         self.plan.read(t, index)
     }
 
-    /// Where the key of a declared write, counted from 0, of the transaction with a timestamp has its
-    /// version before it.
+    /// Where the key of a declared write, counted from 0, of the transaction with a timestamp has
+    /// its version before it.
     pub fn write(&self, t: u32, index: u32) -> Source
         requires txn { IsIn self.now t }
         requires index { index < length (writes_at self.now t) }
@@ -123,8 +124,8 @@ impl<'a> Batch<'a> {
         self.plan.write(t, index)
     }
 
-    /// The access of the key of this index, counted from 0, in a declared set of the transaction with a
-    /// timestamp. Its time is constant.
+    /// The access of the key of this index, counted from 0, in a declared set of the transaction
+    /// with a timestamp. Its time is constant.
     pub fn access(&self, set: DeclaredSet, t: u32, index: u32) -> Access
         requires txn { IsIn self.now t }
         requires index { index < length (accesses_in set self.now t) }
@@ -133,20 +134,22 @@ impl<'a> Batch<'a> {
         self.plan.access(set, t, index)
     }
 
-    /// What the key of this index, counted from 0, in a declared set of the transaction with a timestamp
-    /// holds before the batch, where that is the version that its access takes. Its time is constant.
+    /// What the key of this index, counted from 0, in a declared set of the transaction with a
+    /// timestamp holds before the batch, where that is the version that its access takes. Its time
+    /// is constant.
     pub fn cell_before(&self, set: DeclaredSet, t: u32, index: u32) -> Cell
         requires txn { IsIn self.now t }
         requires index { index < length (accesses_in set self.now t) }
-        requires source { source_in set (plan_of self.now) (position self.now t) index ≡ Some Before }
+        requires source { source_in set (plan_of self.now) (position self.now t) index
+            ≡ Some Before }
         ensures { option_map (base_of self.now) (key_in set self.now t index) ≡ Some result }
     {
         let access = self.plan.access(set, t, index);
         self.base.as_slice()[access.index as usize].1
     }
 
-    /// What a key holds before the batch: absence where no transaction of the batch declares it. The time
-    /// grows with the logarithm of the number of declared keys.
+    /// What a key holds before the batch: absence where no transaction of the batch declares it.
+    /// The time grows with the logarithm of the number of declared keys.
     pub fn before(&self, key: &Key) -> Cell
         ensures { result ≡ base_of self.now key.now }
     {

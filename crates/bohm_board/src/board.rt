@@ -25,8 +25,8 @@ impl<'a> TableRule<(), View, Batch<'a>> for BoardRule {
     ghost first = { λ batch. newcomer (rights_of batch) };
 }
 
-/// The shared words of a batch: a status word for each position, and behind them a presence word for
-/// each slot and a value word for each slot.
+/// The shared words of a batch: a status word for each position, and behind them a presence word
+/// for each slot and a value word for each slot.
 #[derive(Drop)]
 pub struct Board<'a> {
     pub(crate) table: Table<(), View, Batch<'a>, BoardRule, Global>,

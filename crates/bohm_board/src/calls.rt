@@ -23,9 +23,9 @@ use bohm_txn::{Cell, NoMemory, Outcome};
 use std::alloc::Global;
 
 impl<'a> Board<'a> {
-    /// Opens a board for a batch: all positions are Open, and all slots empty. The pass has seen nothing
-    /// and holds nothing. A refusal gives the batch up. The time and the room grow with the number of
-    /// transactions and of their slots.
+    /// Opens a board for a batch: all positions are Open, and all slots empty. The pass has seen
+    /// nothing and holds nothing. A refusal gives the batch up. The time and the room grow with the
+    /// number of transactions and of their slots.
     pub fn open(alloc: Global, batch: Batch<'a>) -> Result<(Board<'a>, Pass), NoMemory>
         ensures batch { IfOk result (λ b. batch_of b.0 ≡ batch.entry) }
         ensures own { IfOk result (λ b. IsPassOf b.0 b.1) }
@@ -122,8 +122,8 @@ impl<'a> Board<'a> {
         status_of_word(word)
     }
 
-    /// Claims the position with a timestamp, by a single exchange. An open one is the pass's from then
-    /// on.
+    /// Claims the position with a timestamp, by a single exchange. An open one is the pass's from
+    /// then on.
     pub fn claim(&self, pass: &mut Pass, t: u32) -> Claimed
         requires own { IsPassOf self.now pass.old }
         requires inside { IsIn (batch_of self.now) t }
@@ -201,16 +201,17 @@ impl<'a> Board<'a> {
         pass.held = None;
     }
 
-    /// What the steps of all passes left: the words of a state of the core, so of one that meets the
-    /// board law. What the pass saw Done is finished there. The time grows with
-    /// the number of words.
+    /// What the steps of all passes left: the words of a state of the core, so of one that meets
+    /// the board law. What the pass saw Done is finished there. The time grows with the number of
+    /// words.
     pub fn close(self, pass: Pass) -> Closed<'a>
         requires own { IsPassOf self pass }
         requires free { HoldsNothing (view pass) }
         ensures batch { batch_of_closed result ≡ batch_of self.entry }
         ensures state { IsLeft result }
         ensures done { (t : ℕ) → IsDone (batch_of self.entry) (view pass) t → IsFinished result t }
-        ensures untaken { (s : Slot) → IsSlot (batch_of self.entry) s → IsUntaken result s.txn → ¬ HasCell result s }
+        ensures untaken { (s : Slot) → IsSlot (batch_of self.entry) s → IsUntaken result s.txn
+            → ¬ HasCell result s }
     {
         let Board {
             table,

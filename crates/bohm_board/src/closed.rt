@@ -28,7 +28,8 @@ pub(crate) fn copy_words(words: &atomic_table::Closed<(), Global>, from: usize, 
     requires full { IsFull words.now.words }
     requires inside { from + vec_len into.old ≤ slots_len words.now.words }
     ensures len { length into.new.items ≡ length into.old.items }
-    ensures each { (j : ℕ) → j < length into.old.items → slice_index into.new.items j ≡ slice_index (slots_items words.now.words) (from + j) }
+    ensures each { (j : ℕ) → j < length into.old.items
+        → slice_index into.new.items j ≡ slice_index (slots_items words.now.words) (from + j) }
 {
     for j in 0..into.len() {
         into[j] = words.word(from + j);

@@ -66,7 +66,9 @@ impl<'a> Closed<'a> {
         requires right { IsRightCell (batch_of_closed self.old) slot cell }
         ensures batch { batch_of_closed self.new ≡ batch_of_closed self.old }
         ensures filled { HasCell self.new slot }
-        ensures others { (s : Slot) → number (batch_of_closed self.old) s ≢ number (batch_of_closed self.old) slot → presence_in self.new s ≡ presence_in self.old s }
+        ensures others { (s : Slot)
+            → number (batch_of_closed self.old) s ≢ number (batch_of_closed self.old) slot
+            → presence_in self.new s ≡ presence_in self.old s }
         ensures statuses { (t : ℕ) → status_in self.new t ≡ status_in self.old t }
     {
         let number = self.layout.number(&self.batch, slot);
@@ -79,11 +81,14 @@ impl<'a> Closed<'a> {
     pub fn set_outcome(&mut self, t: u32, outcome: Outcome)
         requires inside { IsIn (batch_of_closed self.old) t }
         requires unfinished { IsUnfinished self.old t }
-        requires filled { (j : ℕ) → j < width_at (batch_of_closed self.old) t → HasCell self.old (record { txn = t; index = j }) }
+        requires filled { (j : ℕ) → j < width_at (batch_of_closed self.old) t
+            → HasCell self.old (record { txn = t; index = j }) }
         requires right { IsRightOutcome (batch_of_closed self.old) t outcome }
         ensures batch { batch_of_closed self.new ≡ batch_of_closed self.old }
         ensures finished { IsFinished self.new t }
-        ensures others { (u : ℕ) → position (batch_of_closed self.old) u ≢ position (batch_of_closed self.old) t → status_in self.new u ≡ status_in self.old u }
+        ensures others { (u : ℕ)
+            → position (batch_of_closed self.old) u ≢ position (batch_of_closed self.old) t
+            → status_in self.new u ≡ status_in self.old u }
         ensures cells { (s : Slot) → presence_in self.new s ≡ presence_in self.old s }
     {
         let position = self.batch.position(t);

@@ -21,28 +21,67 @@ ghost use Rattle.bohm_board.specs.Steps.{IsFillable};
 ghost use Rattle.bohm_board.specs.Views.{Holds, HoldsNothing, HasFilledAll, HasStored, KnowsWanted, saw, claimed, learnt, stored, filled, finished, joined, spent};
 ghost use Rattle.bohm_board.specs.Words.{status_of, won_at, word_of, presence_at, filled_word, value_at, present_at};
 
-/// A table that meets the rule shows a state that meets the board law, so that no two passes hold one
-/// position.
+/// A table that meets the rule shows a state that meets the board law, so that no two passes hold
+/// one position.
 pub fn ruled_is_lawful()
-    ensures alone { (b : Batch) (s : State) (p q u : ℕ) → IsLawful b s → Holds b (s.views p) u → Holds b (s.views q) u → p ≡ q }
-    ensures lawful { (b : Batch) (t : Table (Unit {0}) View) (rule : IsRuled b t) → Shows b t rule.state × IsLawful b rule.state }
+    ensures alone { (b : Batch) (s : State) (p q u : ℕ) → IsLawful b s → Holds b (s.views p) u
+        → Holds b (s.views q) u → p ≡ q }
+    ensures lawful { (b : Batch) (t : Table (Unit {0}) View) (rule : IsRuled b t)
+        → Shows b t rule.state × IsLawful b rule.state }
 {}
 
-/// Each step on a word is the event of its name. Of a status word a load is a `Status`, an exchange of 0
-/// for 1 a `Claim`, and the store of an outcome a `Finish`; of a slot's words loads are a `LookPresence`
-/// and a `LookValue`, and stores a `FillValue` and a `FillPresence`.
+/// Each step on a word is the event of its name. Of a status word a load is a `Status`, an exchange
+/// of 0 for 1 a `Claim`, and the store of an outcome a `Finish`; of a slot's words loads are a
+/// `LookPresence` and a `LookValue`, and stores a `FillValue` and a `FillPresence`.
 pub fn steps_are_events()
-    ensures status { (b : Batch) (t : Table (Unit {0}) View) (s : State) (p : ℕ) (v : View) (u n : ℕ) → IsBefore b t s p v → IsIn b u → n ≡ slice_index t.words (position b u) → ¬ Holds b v u → IsStep b s (Status p u (status_of n)) (stepped_to t (position b u) n p (saw v u (status_of n))) }
-    ensures claim { (b : Batch) (t : Table (Unit {0}) View) (s : State) (p : ℕ) (v : View) (u n : ℕ) → IsBefore b t s p v → IsIn b u → n ≡ slice_index t.words (position b u) → HoldsNothing v → IsStep b s (Claim p u (won_at n)) (stepped_to t (position b u) (either (n == 0) 1 n) p (claimed v u (status_of n))) }
-    ensures finish { (b : Batch) (t : Table (Unit {0}) View) (s : State) (p : ℕ) (v : View) (u : ℕ) (o : Outcome) → IsBefore b t s p v → IsIn b u → Holds b v u → HasFilledAll b v u → KnowsWanted b v u → IsRightOutcome b u o → IsStep b s (Finish p u o) (stepped_to t (position b u) (word_of o) p (finished v u)) }
-    ensures look_presence { (b : Batch) (t : Table (Unit {0}) View) (s : State) (p : ℕ) (v : View) (x : Slot) (n : ℕ) → IsBefore b t s p v → IsSlot b x → n ≡ slice_index t.words (presence_place b x) → IsStep b s (LookPresence p x (presence_at n)) (stepped_to t (presence_place b x) n p (learnt v x (presence_at n))) }
-    ensures look_value { (b : Batch) (t : Table (Unit {0}) View) (s : State) (p : ℕ) (v : View) (x : Slot) (n : ℕ) → IsBefore b t s p v → IsSlot b x → n ≡ slice_index t.words (value_place b x) → Contains v.present x → IsStep b s (LookValue p x (value_at n)) (stepped_to t (value_place b x) n p v) }
-    ensures fill_value { (b : Batch) (t : Table (Unit {0}) View) (s : State) (p : ℕ) (v : View) (x : Slot) (n : ℕ) → IsBefore b t s p v → IsSlot b x → IsFillable b v x → ¬ Contains v.stored x → IsRightCell b x (present_at n) → IsStep b s (FillValue p x (value_at n)) (stepped_to t (value_place b x) n p (stored v x)) }
-    ensures fill_presence { (b : Batch) (t : Table (Unit {0}) View) (s : State) (p : ℕ) (v : View) (x : Slot) (c : Cell) → IsBefore b t s p v → IsSlot b x → IsFillable b v x → HasStored v x c → IsRightCell b x c → IsStep b s (FillPresence p x c) (stepped_to t (presence_place b x) (filled_word c) p (filled v x)) }
+    ensures status { (b : Batch) (t : Table (Unit {0}) View) (s : State) (p : ℕ) (v : View)
+        (u n : ℕ) → IsBefore b t s p v → IsIn b u → n ≡ slice_index t.words (position b u)
+        → ¬ Holds b v u
+        → IsStep b s (Status p u (status_of n))
+        (stepped_to t (position b u) n p (saw v u (status_of n))) }
+    ensures claim { (b : Batch) (t : Table (Unit {0}) View) (s : State) (p : ℕ) (v : View) (u n : ℕ)
+        → IsBefore b t s p v → IsIn b u → n ≡ slice_index t.words (position b u) → HoldsNothing v
+        → IsStep b s (Claim p u (won_at n))
+        (stepped_to t (position b u) (either (n == 0) 1 n) p (claimed v u (status_of n))) }
+    ensures finish { (b : Batch) (t : Table (Unit {0}) View) (s : State) (p : ℕ) (v : View) (u : ℕ)
+        (o : Outcome) → IsBefore b t s p v → IsIn b u → Holds b v u → HasFilledAll b v u
+        → KnowsWanted b v u → IsRightOutcome b u o
+        → IsStep b s (Finish p u o) (stepped_to t (position b u) (word_of o) p (finished v u)) }
+    ensures look_presence { (b : Batch) (t : Table (Unit {0}) View) (s : State) (p : ℕ) (v : View)
+        (x : Slot) (n : ℕ) → IsBefore b t s p v → IsSlot b x
+        → n ≡ slice_index t.words (presence_place b x)
+        → IsStep b s (LookPresence p x (presence_at n))
+        (stepped_to t (presence_place b x) n p (learnt v x (presence_at n))) }
+    ensures look_value { (b : Batch) (t : Table (Unit {0}) View) (s : State) (p : ℕ) (v : View)
+        (x : Slot) (n : ℕ) → IsBefore b t s p v → IsSlot b x
+        → n ≡ slice_index t.words (value_place b x) → Contains v.present x
+        → IsStep b s (LookValue p x (value_at n)) (stepped_to t (value_place b x) n p v) }
+    ensures fill_value { (b : Batch) (t : Table (Unit {0}) View) (s : State) (p : ℕ) (v : View)
+        (x : Slot) (n : ℕ) → IsBefore b t s p v → IsSlot b x → IsFillable b v x
+        → ¬ Contains v.stored x → IsRightCell b x (present_at n)
+        → IsStep b s (FillValue p x (value_at n))
+        (stepped_to t (value_place b x) n p (stored v x)) }
+    ensures fill_presence { (b : Batch) (t : Table (Unit {0}) View) (s : State) (p : ℕ) (v : View)
+        (x : Slot) (c : Cell) → IsBefore b t s p v → IsSlot b x → IsFillable b v x → HasStored v x c
+        → IsRightCell b x c
+        → IsStep b s (FillPresence p x c)
+        (stepped_to t (presence_place b x) (filled_word c) p (filled v x)) }
 {}
 
 /// A split adds a pass, and a join leaves one behind. They change no word.
 pub fn splits_and_joins_are_events()
-    ensures split { (b : Batch) (t : Table (Unit {0}) View) (s : State) (p : ℕ) (v : View) → IsBefore b t s p v → HoldsNothing v → IsStep b s (Split p (length t.views)) (record { words = t.words; homes = t.homes; views = slice_set t.views p v ++ v ∷ [] }) }
-    ensures join { (b : Batch) (t : Table (Unit {0}) View) (s : State) (p q : ℕ) (v w : View) → IsBefore b t s p v → get_elem? t.views q ≡ some w → q ≢ p → HoldsNothing v → HoldsNothing w → IsStep b s (Join p q) (record { words = t.words; homes = t.homes; views = slice_set (slice_set t.views p (joined v w)) q spent }) }
+    ensures split { (b : Batch) (t : Table (Unit {0}) View) (s : State) (p : ℕ) (v : View)
+        → IsBefore b t s p v → HoldsNothing v
+        → IsStep b s (Split p (length t.views))
+        (record { words = t.words; homes = t.homes; views = slice_set t.views p v ++ v ∷ [] }) }
+    ensures join { (b : Batch) (t : Table (Unit {0}) View) (s : State) (p q : ℕ) (v w : View)
+        → IsBefore b t s p v → get_elem? t.views q ≡ some w → q ≢ p → HoldsNothing v
+        → HoldsNothing w
+        → IsStep b s (Join p q)
+        (record {
+          words = t.words;
+          homes = t.homes;
+          views = slice_set
+              (slice_set t.views p (joined v w)) q spent;
+        }) }
 {}

@@ -1,6 +1,6 @@
-//! The shared words of a batch, which any number of threads step on, and what each of them may know.
-//! The design is that of BOHM: Faleiro and Abadi, "Rethinking Serializable Multiversion Concurrency
-//! Control", VLDB 2015.
+//! The shared words of a batch, which any number of threads step on, and what each of them may
+//! know. The design is that of BOHM: Faleiro and Abadi, "Rethinking Serializable Multiversion
+//! Concurrency Control", VLDB 2015.
 #![tactic(auto)]
 
 mod batch;

@@ -28,12 +28,15 @@ pub fn search(entries: &[(Key, Cell)], key: &Key) -> Result<usize, usize>
 /// Notes the places of the keys of one declared set of the transaction with the timestamp t.
 fn note_set(plan: &mut Plan, entries: &[(Key, Cell)], set: DeclaredSet, t: u32, txn: &TxnView<'_>)
     requires first { plan.old.first ≤ t }
-    requires paired { length (keys_in set txn.now) ≡ length (planned_in set plan.old (t - plan.old.first)) }
+    requires paired { length (keys_in set txn.now)
+        ≡ length (planned_in set plan.old (t - plan.old.first)) }
     requires few { length (keys_in set txn.now) ≤ 16 }
     requires rises { rising (keys_of entries.now) ≡ true }
     requires entries { length entries.now < 2 ^ 32 }
-    requires there { (k : List ℕ) → IsAmong (keys_in set txn.now) k → IsAmong (keys_of entries.now) k }
-    ensures { IsSetNoted plan.old plan.new set (t - plan.old.first) (keys_in set txn.now) entries.now (length (keys_in set txn.now)) }
+    requires there { (k : List ℕ) → IsAmong (keys_in set txn.now) k
+        → IsAmong (keys_of entries.now) k }
+    ensures { IsSetNoted plan.old plan.new set (t - plan.old.first)
+        (keys_in set txn.now) entries.now (length (keys_in set txn.now)) }
 {
     let keys = set.keys(txn);
     for place in 0..keys.len() {
@@ -49,8 +52,8 @@ fn note_set(plan: &mut Plan, entries: &[(Key, Cell)], set: DeclaredSet, t: u32, 
     }
 }
 
-/// Notes at each access whose source is `Before` the place of its key in the base. The time grows with
-/// these accesses, each by the logarithm of the base's length.
+/// Notes at each access whose source is `Before` the place of its key in the base. The time grows
+/// with these accesses, each by the logarithm of the base's length.
 pub fn note_places(plan: &mut Plan, txns: &LogPart<'_>, entries: &[(Key, Cell)])
     requires few { length txns.now ≤ 4096 }
     requires timestamps { plan.old.first + length txns.now ≤ 2 ^ 32 }

@@ -6,8 +6,8 @@ ghost use Rattle.bohm_board.specs.Views.{IsKept};
 use crate::view::View;
 use atomic_table::Seat;
 
-/// What a thread steps on a board with, and what it knows of it. Where a pass is dropped, the position
-/// that it held stays Busy for good.
+/// What a thread steps on a board with, and what it knows of it. Where a pass is dropped, the
+/// position that it held stays Busy for good.
 #[derive(Drop)]
 pub struct Pass {
     pub(crate) seat: Seat<(), View>,

@@ -26,7 +26,9 @@ impl<'a> Board<'a> {
 
     fn value_at(&self, slot: usize) -> usize
         requires { slot < length (rights_of (batch_of self.now)).slots }
-        ensures at { result ≡ length (rights_of (batch_of self.now)).outcomes + (length (rights_of (batch_of self.now)).slots + slot) }
+        ensures at { result
+            ≡ length (rights_of (batch_of self.now)).outcomes +
+            (length (rights_of (batch_of self.now)).slots + slot) }
         ensures inside { result < self.now.table.shared.table_id.words }
     {
         self.layout.positions + self.layout.slots + slot
@@ -38,8 +40,10 @@ impl<'a> Board<'a> {
         requires inside { position < length (rights_of (batch_of self.now)).outcomes }
         requires apart { seat.old.me.0.held ≢ Some (timestamp seat.old.me.0.right position) }
         ensures own { IsSeatOf self.now seat.new }
-        ensures view { seat.new.me.0 ≡ saw seat.old.me.0 (timestamp seat.old.me.0.right position) (status_of result) }
-        ensures recalls { Recalls seat.old.me.0 (timestamp seat.old.me.0.right position) (status_of result) }
+        ensures view { seat.new.me.0
+            ≡ saw seat.old.me.0 (timestamp seat.old.me.0.right position) (status_of result) }
+        ensures recalls { Recalls seat.old.me.0 (timestamp seat.old.me.0.right position)
+            (status_of result) }
     {
         self.table.shared.load::<SeeStatus>(seat, position)
     }
@@ -50,8 +54,10 @@ impl<'a> Board<'a> {
         requires inside { position < length (rights_of (batch_of self.now)).outcomes }
         requires free { seat.old.me.0.held ≡ None }
         ensures own { IsSeatOf self.now seat.new }
-        ensures view { seat.new.me.0 ≡ claimed seat.old.me.0 (timestamp seat.old.me.0.right position) (status_of result) }
-        ensures recalls { Recalls seat.old.me.0 (timestamp seat.old.me.0.right position) (status_of result) }
+        ensures view { seat.new.me.0
+            ≡ claimed seat.old.me.0 (timestamp seat.old.me.0.right position) (status_of result) }
+        ensures recalls { Recalls seat.old.me.0 (timestamp seat.old.me.0.right position)
+            (status_of result) }
     {
         self.table
             .shared
@@ -62,11 +68,15 @@ impl<'a> Board<'a> {
     pub(crate) fn store_outcome(&self, seat: &mut Seat<(), View>, position: usize, outcome: Outcome)
         requires own { IsSeatOf self.now seat.old }
         requires held { seat.old.me.0.held ≡ Some (timestamp seat.old.me.0.right position) }
-        requires wanted { KnowsWanted (batch_of self.now) seat.old.me.0 (timestamp seat.old.me.0.right position) }
-        requires filled { HasFilledAll (batch_of self.now) seat.old.me.0 (timestamp seat.old.me.0.right position) }
-        requires right { slice_get (rights_of (batch_of self.now)).outcomes position ≡ Some outcome }
+        requires wanted { KnowsWanted (batch_of self.now) seat.old.me.0
+            (timestamp seat.old.me.0.right position) }
+        requires filled { HasFilledAll (batch_of self.now) seat.old.me.0
+            (timestamp seat.old.me.0.right position) }
+        requires right { slice_get (rights_of (batch_of self.now)).outcomes position
+            ≡ Some outcome }
         ensures own { IsSeatOf self.now seat.new }
-        ensures view { seat.new.me.0 ≡ finished seat.old.me.0 (timestamp seat.old.me.0.right position) }
+        ensures view { seat.new.me.0
+            ≡ finished seat.old.me.0 (timestamp seat.old.me.0.right position) }
     {
         let word = outcome_word(outcome);
         self.table.shared.store::<Finish>(seat, position, word);
@@ -77,9 +87,12 @@ impl<'a> Board<'a> {
         requires own { IsSeatOf self.now seat.old }
         requires inside { slot < length (rights_of (batch_of self.now)).slots }
         ensures own { IsSeatOf self.now seat.new }
-        ensures view { seat.new.me.0 ≡ learnt seat.old.me.0 (slot_numbered seat.old.me.0.right slot) (presence_at result) }
-        ensures empty { result ≡ 0 → IsUnseen seat.old.me.0 (slot_numbered seat.old.me.0.right slot) }
-        ensures right { result ≢ 0 → (c : Cell) → right_cell (rights_of (batch_of self.now)) slot ≡ Some c → result ≡ filled_word c }
+        ensures view { seat.new.me.0
+            ≡ learnt seat.old.me.0 (slot_numbered seat.old.me.0.right slot) (presence_at result) }
+        ensures empty { result ≡ 0
+            → IsUnseen seat.old.me.0 (slot_numbered seat.old.me.0.right slot) }
+        ensures right { result ≢ 0 → (c : Cell)
+            → right_cell (rights_of (batch_of self.now)) slot ≡ Some c → result ≡ filled_word c }
     {
         let at = self.presence_at(slot);
         self.table.shared.load::<LookPresence>(seat, at)
@@ -101,11 +114,14 @@ impl<'a> Board<'a> {
     /// Stores the value word of a slot that isn't filled yet.
     pub(crate) fn store_value(&self, seat: &mut Seat<(), View>, slot: usize, value: Value)
         requires own { IsSeatOf self.now seat.old }
-        requires fillable { IsFillable (batch_of self.now) seat.old.me.0 (slot_numbered seat.old.me.0.right slot) }
+        requires fillable { IsFillable (batch_of self.now) seat.old.me.0
+            (slot_numbered seat.old.me.0.right slot) }
         requires once { ¬ Contains seat.old.me.0.stored (slot_numbered seat.old.me.0.right slot) }
-        requires right { right_cell (rights_of (batch_of self.now)) slot ≡ Some (Cell.Present value) }
+        requires right { right_cell (rights_of (batch_of self.now)) slot
+            ≡ Some (Cell.Present value) }
         ensures own { IsSeatOf self.now seat.new }
-        ensures view { seat.new.me.0 ≡ stored seat.old.me.0 (slot_numbered seat.old.me.0.right slot) }
+        ensures view { seat.new.me.0
+            ≡ stored seat.old.me.0 (slot_numbered seat.old.me.0.right slot) }
     {
         let at = self.value_at(slot);
         let word = value_word(value);
@@ -115,11 +131,13 @@ impl<'a> Board<'a> {
     /// Stores the presence word of a slot, which fills it.
     pub(crate) fn store_presence(&self, seat: &mut Seat<(), View>, slot: usize, cell: Cell)
         requires own { IsSeatOf self.now seat.old }
-        requires fillable { IsFillable (batch_of self.now) seat.old.me.0 (slot_numbered seat.old.me.0.right slot) }
+        requires fillable { IsFillable (batch_of self.now) seat.old.me.0
+            (slot_numbered seat.old.me.0.right slot) }
         requires stored { HasStored seat.old.me.0 (slot_numbered seat.old.me.0.right slot) cell }
         requires right { right_cell (rights_of (batch_of self.now)) slot ≡ Some cell }
         ensures own { IsSeatOf self.now seat.new }
-        ensures view { seat.new.me.0 ≡ filled seat.old.me.0 (slot_numbered seat.old.me.0.right slot) }
+        ensures view { seat.new.me.0
+            ≡ filled seat.old.me.0 (slot_numbered seat.old.me.0.right slot) }
     {
         let at = self.presence_at(slot);
         let word = presence_word(cell);

@@ -19,8 +19,8 @@ pub struct Rights {
     pub slots: LinkedList<RightSlot>,
 }
 
-/// What a pass knows. Positions are timestamps; they and slots stand in the order in which they were
-/// learnt.
+/// What a pass knows. Positions are timestamps; they and slots stand in the order in which they
+/// were learnt.
 pub struct View {
     /// What is right in the batch that the pass belongs to.
     pub right: Rights,

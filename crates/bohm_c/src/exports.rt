@@ -20,8 +20,8 @@ use bohm_txn::Key;
 use std::alloc::Global;
 use std::mem::replace;
 
-/// The least and the greatest timestamp that can be read, how many versions are kept, and how many replies
-/// wait.
+/// The least and the greatest timestamp that can be read, how many versions are kept, and how many
+/// replies wait.
 #[repr(C)]
 #[derive(Clone, Copy, Debug)]
 pub struct BohmCounts {
@@ -62,7 +62,8 @@ pub extern "C" fn bohm_open<'a>(
     out: &mut &'a mut [u8],
 ) -> u32
     requires { machine.old.is_open ≡ false }
-    ensures status { (result ≡ DONE) ⊎ (result ≡ REFUSED) ⊎ (result ≡ NO_MEMORY) ⊎ (result ≡ HAS_LOG) }
+    ensures status { (result ≡ DONE) ⊎ (result ≡ REFUSED) ⊎ (result ≡ NO_MEMORY)
+        ⊎ (result ≡ HAS_LOG) }
     ensures opened { result ≡ DONE → machine.new.is_open ≡ true }
     ensures done { result ≡ DONE → IsOpening text.now top machine.new.value }
     ensures refused { result ≡ REFUSED → IsRefusal text.now out.new.now }
@@ -91,10 +92,12 @@ pub extern "C" fn bohm_apply<'a>(
 ) -> u32
     requires { machine.old.is_open ≡ true }
     ensures open { machine.new.is_open ≡ true }
-    ensures status { (result ≡ DONE) ⊎ (result ≡ REFUSED) ⊎ (result ≡ NO_MEMORY) ⊎ (result ≡ HAS_STORE)
+    ensures status { (result ≡ DONE) ⊎ (result ≡ REFUSED) ⊎ (result ≡ NO_MEMORY)
+        ⊎ (result ≡ HAS_STORE)
         ⊎ (result ≡ TIMESTAMPS) ⊎ (result ≡ WAITING) ⊎ (result ≡ STOPPED) ⊎ (result ≡ KEPT) }
     ensures done { result ≡ DONE → IsDone machine.old.value machine.new.value text.now out.new.now }
-    ensures stopped { result ≡ STOPPED → IsStopped machine.old.value machine.new.value text.now out.new.now }
+    ensures stopped { result ≡ STOPPED
+        → IsStopped machine.old.value machine.new.value text.now out.new.now }
     ensures kept { result ≡ KEPT → IsKept machine.old.value machine.new.value text.now }
     ensures refused { result ≡ REFUSED → IsRefusal text.now out.new.now }
     ensures waiting { result ≡ WAITING → 0 < length machine.old.value.waiting }
@@ -117,7 +120,8 @@ pub extern "C" fn bohm_replies<'a>(
     ensures open { machine.new.is_open ≡ true }
     ensures status { (result ≡ DONE) ⊎ (result ≡ NO_MEMORY) }
     ensures machine { machine.new.value.machine ≡ machine.old.value.machine }
-    ensures says { result ≡ DONE → out.new.now ≡ print_numbered (machine.old.value.behind + 1) machine.old.value.waiting }
+    ensures says { result ≡ DONE
+        → out.new.now ≡ print_numbered (machine.old.value.behind + 1) machine.old.value.waiting }
     ensures handed { result ≡ DONE → machine.new.value.waiting ≡ [] }
     ensures unchanged { 0 < result → machine.new.value ≡ machine.old.value }
 {
@@ -141,7 +145,8 @@ pub extern "C" fn bohm_value_at(
     ensures open { machine.new.is_open ≡ true }
     ensures same { machine.new.value ≡ machine.old.value }
     ensures status { (result ≡ DONE) ⊎ (result ≡ TRIMMED) ⊎ (result ≡ FUTURE) ⊎ (result ≡ NO_KEY) }
-    ensures done { result ≡ DONE → past_of machine.old.value.machine ts key.now ≡ told present.new value.new }
+    ensures done { result ≡ DONE
+        → past_of machine.old.value.machine ts key.now ≡ told present.new value.new }
     ensures within { result ≡ DONE → IsReadable machine.old.value.machine ts }
     ensures trimmed { result ≡ TRIMMED → ts < floor_of machine.old.value.machine }
     ensures future { result ≡ FUTURE → top_of machine.old.value.machine < ts }
@@ -156,8 +161,8 @@ pub extern "C" fn bohm_value_at(
     status
 }
 
-/// Hands out a snapshot: the text of the store after the transaction with a timestamp, which `bohm_open`
-/// takes.
+/// Hands out a snapshot: the text of the store after the transaction with a timestamp, which
+/// `bohm_open` takes.
 #[unsafe(no_mangle)]
 pub extern "C" fn bohm_store_at<'a>(
     alloc: Global,
@@ -168,7 +173,8 @@ pub extern "C" fn bohm_store_at<'a>(
     requires { machine.old.is_open ≡ true }
     ensures open { machine.new.is_open ≡ true }
     ensures same { machine.new.value ≡ machine.old.value }
-    ensures status { (result ≡ DONE) ⊎ (result ≡ NO_MEMORY) ⊎ (result ≡ TRIMMED) ⊎ (result ≡ FUTURE) }
+    ensures status { (result ≡ DONE) ⊎ (result ≡ NO_MEMORY) ⊎ (result ≡ TRIMMED)
+        ⊎ (result ≡ FUTURE) }
     ensures done { result ≡ DONE → IsSnapshot machine.old.value.machine ts out.new.now }
     ensures trimmed { result ≡ TRIMMED → ts < floor_of machine.old.value.machine }
     ensures future { result ≡ FUTURE → top_of machine.old.value.machine < ts }
@@ -204,7 +210,8 @@ pub extern "C" fn bohm_counts(alloc: Global, machine: &mut BohmMachine, counts: 
     ensures same { machine.new.value ≡ machine.old.value }
     ensures floor { counts.new.floor ≡ floor_of machine.old.value.machine }
     ensures top { counts.new.top ≡ top_of machine.old.value.machine }
-    ensures versions { counts.new.versions ≡ min (total machine.old.value.machine.history.chains) 18446744073709551615 }
+    ensures versions { counts.new.versions
+        ≡ min (total machine.old.value.machine.history.chains) 18446744073709551615 }
     ensures waiting { counts.new.waiting ≡ length machine.old.value.waiting }
 {
     let keeper = take_back(alloc, replace(machine, closed()));

@@ -67,8 +67,8 @@ pub fn refuse<'a>(alloc: Global, fault: RunFault, out: &mut &'a mut [u8]) -> u32
 }
 
 impl Keeper {
-    /// Hands out the text of what a segment behind a timestamp answered. Where there is no memory for it the
-    /// replies wait.
+    /// Hands out the text of what a segment behind a timestamp answered. Where there is no memory
+    /// for it the replies wait.
     fn hand_out<'a>(
         &mut self,
         alloc: Global,
@@ -80,7 +80,8 @@ impl Keeper {
         ensures machine { self.new.machine ≡ self.old.machine }
         ensures status { (result ≡ DONE) ⊎ (result ≡ STOPPED) ⊎ (result ≡ KEPT) }
         ensures done { result ≡ DONE → is_ok applied.end ≡ true }
-        ensures says { result ≤ STOPPED → out.new.now ≡ print_numbered (behind + 1) applied.replies }
+        ensures says { result ≤ STOPPED
+            → out.new.now ≡ print_numbered (behind + 1) applied.replies }
         ensures handed { result ≤ STOPPED → self.new.waiting ≡ [] }
         ensures kept { result ≡ KEPT → self.new.waiting ≡ applied.replies }
         ensures behind { result ≡ KEPT → self.new.behind ≡ behind }
@@ -101,7 +102,8 @@ impl Keeper {
 
     /// Runs the segment that a text is.
     pub fn apply<'a>(&mut self, alloc: Global, text: &[u8], out: &mut &'a mut [u8]) -> u32
-        ensures status { (result ≡ DONE) ⊎ (result ≡ REFUSED) ⊎ (result ≡ NO_MEMORY) ⊎ (result ≡ HAS_STORE)
+        ensures status { (result ≡ DONE) ⊎ (result ≡ REFUSED) ⊎ (result ≡ NO_MEMORY)
+            ⊎ (result ≡ HAS_STORE)
             ⊎ (result ≡ TIMESTAMPS) ⊎ (result ≡ WAITING) ⊎ (result ≡ STOPPED) ⊎ (result ≡ KEPT) }
         ensures done { result ≡ DONE → IsDone self.old self.new text.now out.new.now }
         ensures stopped { result ≡ STOPPED → IsStopped self.old self.new text.now out.new.now }
@@ -129,7 +131,8 @@ impl Keeper {
     pub fn replies<'a>(&mut self, alloc: Global, out: &mut &'a mut [u8]) -> u32
         ensures status { (result ≡ DONE) ⊎ (result ≡ NO_MEMORY) }
         ensures machine { self.new.machine ≡ self.old.machine }
-        ensures says { result ≡ DONE → out.new.now ≡ print_numbered (self.old.behind + 1) self.old.waiting }
+        ensures says { result ≡ DONE
+            → out.new.now ≡ print_numbered (self.old.behind + 1) self.old.waiting }
         ensures handed { result ≡ DONE → self.new.waiting ≡ [] }
         ensures unchanged { result ≡ NO_MEMORY → self.new ≡ self.old }
     {
@@ -148,7 +151,8 @@ impl Keeper {
     /// Tells what a key holds after the transaction with a timestamp.
     pub fn value_at(&self, key: &Key, ts: u32, present: &mut bool, value: &mut i64) -> u32
         ensures status { (result ≡ DONE) ⊎ (result ≡ TRIMMED) ⊎ (result ≡ FUTURE) }
-        ensures done { result ≡ DONE → past_of self.now.machine ts key.now ≡ told present.new value.new }
+        ensures done { result ≡ DONE
+            → past_of self.now.machine ts key.now ≡ told present.new value.new }
         ensures within { result ≡ DONE → IsReadable self.now.machine ts }
         ensures trimmed { result ≡ TRIMMED → ts < floor_of self.now.machine }
         ensures future { result ≡ FUTURE → top_of self.now.machine < ts }
@@ -170,7 +174,8 @@ impl Keeper {
 
     /// Hands out the snapshot of a timestamp.
     pub fn store_at<'a>(&self, alloc: Global, ts: u32, out: &mut &'a mut [u8]) -> u32
-        ensures status { (result ≡ DONE) ⊎ (result ≡ NO_MEMORY) ⊎ (result ≡ TRIMMED) ⊎ (result ≡ FUTURE) }
+        ensures status { (result ≡ DONE) ⊎ (result ≡ NO_MEMORY) ⊎ (result ≡ TRIMMED)
+            ⊎ (result ≡ FUTURE) }
         ensures done { result ≡ DONE → IsSnapshot self.now.machine ts out.new.now }
         ensures trimmed { result ≡ TRIMMED → ts < floor_of self.now.machine }
         ensures future { result ≡ FUTURE → top_of self.now.machine < ts }
@@ -206,7 +211,8 @@ impl Keeper {
     }
 }
 
-/// Opens a machine on the store that a snapshot is, as it stands after the transaction with a timestamp.
+/// Opens a machine on the store that a snapshot is, as it stands after the transaction with a
+/// timestamp.
 pub fn open(alloc: Global, text: &[u8], top: u32) -> Result<Keeper, OpenFault>
     ensures ok { IfOk result (IsOpening text.now top) }
     ensures err { IfErr result (IsRefusedOpening text.now) }

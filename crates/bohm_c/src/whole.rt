@@ -14,8 +14,10 @@ use std::alloc::Global;
 
 /// The replies of a log, and the entries of the store that it leaves.
 fn executed(alloc: Global, checked: &Checked) -> Result<(Items<Reply>, Vec<(Key, Value)>), NoMemory>
-    ensures replies { IfOk result (λ a. a.0 ≡ replies (cell_in (store_of checked.now.store)) checked.now.log) }
-    ensures store { IfOk result (λ a. a.1.items ≡ entries (store_after (store_of checked.now.store) checked.now.log)) }
+    ensures replies { IfOk result
+        (λ a. a.0 ≡ replies (cell_in (store_of checked.now.store)) checked.now.log) }
+    ensures store { IfOk result
+        (λ a. a.1.items ≡ entries (store_after (store_of checked.now.store) checked.now.log)) }
 {
     let log = checked.log();
     let cuts = Cuts::even(alloc, log.len() as u32, LARGEST_BATCH)?;

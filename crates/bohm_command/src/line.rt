@@ -65,8 +65,8 @@ pub fn command_line<'a>(
     Ok(line)
 }
 
-/// What the command reads in a line that begins with its name. A line that it doesn't take is refused
-/// with clap's text.
+/// What the command reads in a line that begins with its name. A line that it doesn't take is
+/// refused with clap's text.
 pub fn parse_line<'a>(
     alloc: Global,
     command: Command<'a>,

@@ -14,8 +14,8 @@ use bohm_board::{Closed, Slot};
 use bohm_place::{DeclaredSet, Source};
 use bohm_txn::{Cell, Scratch, sure};
 
-/// Takes the cells of the versions of the batch among the accesses of a declared set, and puts them at
-/// their places.
+/// Takes the cells of the versions of the batch among the accesses of a declared set, and puts them
+/// at their places.
 fn take_cells(closed: &Closed, t: u32, set: DeclaredSet, cells: &mut [Cell])
     requires inside { IsIn (batch_of_closed closed.now) t }
     requires before { IsFinishedBefore closed.now t }
@@ -84,8 +84,8 @@ fn evaluate_left(closed: &mut Closed, t: u32, scratch: &mut Scratch)
     closed.set_outcome(t, outcome);
 }
 
-/// Evaluates in log order each position without an outcome. It allocates nothing. Such a position was
-/// set aside by a sweep, as one of the `Aside`s shows.
+/// Evaluates in log order each position without an outcome. It allocates nothing. Such a position
+/// was set aside by a sweep, as one of the `Aside`s shows.
 pub fn complete<'a>(mut closed: Closed<'a>, asides: &[Aside], scratch: &mut Scratch) -> Finished<'a>
     requires aside { (t : ℕ) →
         IsIn (batch_of_closed closed) t → IsUnfinished closed t → IsSetAside asides.now t }

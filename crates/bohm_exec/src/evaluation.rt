@@ -28,8 +28,8 @@ fn add_base(batch: &Batch, t: u32, set: DeclaredSet, cells: &mut [Cell])
     }
 }
 
-/// Evaluates a position over the cells before it, which have to be there but for those of the base. The
-/// scratch has the cells of its slots afterwards.
+/// Evaluates a position over the cells before it, which have to be there but for those of the base.
+/// The scratch has the cells of its slots afterwards.
 pub(crate) fn evaluate(
     batch: &Batch,
     t: u32,
@@ -53,8 +53,8 @@ pub(crate) fn evaluate(
     eval(&txn, reads, earlier, scratch)
 }
 
-/// The cell of a slot of the transaction that was evaluated last: of a declared write the key's cell
-/// afterwards, of a `show` its value, or absence on an abort.
+/// The cell of a slot of the transaction that was evaluated last: of a declared write the key's
+/// cell afterwards, of a `show` its value, or absence on an abort.
 pub(crate) fn slot_cell(scratch: &Scratch, index: u32) -> Cell
     ensures { result ≡ slot_cell scratch.now index }
 {

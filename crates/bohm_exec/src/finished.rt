@@ -7,8 +7,8 @@ ghost use Rattle.bohm_board.specs.Closings.{batch_of_closed, IsFinished};
 use bohm_board::{Batch, Closed, Slot};
 use bohm_txn::{Cell, Outcome};
 
-/// A batch whose positions have all been evaluated: what it answers is what the serial run answers. Only
-/// `complete` makes one.
+/// A batch whose positions have all been evaluated: what it answers is what the serial run answers.
+/// Only `complete` makes one.
 #[derive(Drop)]
 pub struct Finished<'a> {
     closed: Closed<'a>,

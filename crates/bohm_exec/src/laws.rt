@@ -23,7 +23,8 @@ pub fn reached_is_lawful()
     ensures { (b : Batch) (s : State) → Reached b s → IsLawful b s }
 {}
 
-/// In a list of events each position has at most one claim that is answered Mine, and at most one finish.
+/// In a list of events each position has at most one claim that is answered Mine, and at most one
+/// finish.
 pub fn claimed_and_finished_once()
     ensures claim { (b : Batch) (es : List Event) (t : ℕ) →
         IsRun b (empty b) es → count_by (wins t) es ≤ 1 }
@@ -49,8 +50,8 @@ pub fn input_is_by_access()
         slice_get (writes_at b t) j ≡ Some a → input b s t txn k ≡ cell_at b s k a }
 {}
 
-/// On a state that meets the board law, a position whose wanted slots are filled gets over its input the
-/// right outcome and the right cells, and no others.
+/// On a state that meets the board law, a position whose wanted slots are filled gets over its
+/// input the right outcome and the right cells, and no others.
 pub fn input_gives_what_is_right()
     ensures outcome { (b : Batch) (s : State) (t : ℕ) (o : Outcome) →
         IsLawful b s → IsIn b t → HasWanted b s t →
@@ -66,8 +67,8 @@ pub fn sure_wants_its_reads()
         txn_at b t ≡ Some txn → IsSure txn → wanted_at b t ≡ reads_at b t }
 {}
 
-/// So where a pass knows the wanted slots of the position that it holds, to fill one of its slots with
-/// the right cell, or to finish it with the right outcome, is what the core allows.
+/// So where a pass knows the wanted slots of the position that it holds, to fill one of its slots
+/// with the right cell, or to finish it with the right outcome, is what the core allows.
 pub fn right_steps_are_the_cores()
     ensures fill { (b : Batch) (s : State) (p : ℕ) (x : Slot) (c : Cell) →
         IsLawful b s → IsSlot b x → Holds b (s.views p) x.txn → ¬ Contains (s.views p).filled x →

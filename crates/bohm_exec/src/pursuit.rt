@@ -11,9 +11,9 @@ use crate::turns::Turned;
 use bohm_board::{Board, Pass};
 use bohm_txn::Scratch;
 
-/// Evaluates a position after all that it leads to, but for what other passes have. Answers a position
-/// that another pass has, where it leads to one. The stack has room for as many positions as the batch
-/// has, and none is left on it.
+/// Evaluates a position after all that it leads to, but for what other passes have. Answers a
+/// position that another pass has, where it leads to one. The stack has room for as many positions
+/// as the batch has, and none is left on it.
 pub(crate) fn pursue<G: Gate>(
     board: &Board,
     pass: &mut Pass,

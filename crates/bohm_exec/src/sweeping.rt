@@ -13,9 +13,9 @@ use bohm_board::{Board, Pass};
 use bohm_txn::{NoMemory, Scratch};
 use std::alloc::Global;
 
-/// Evaluates the positions of the share, in its order, each after all that it leads to, but for what
-/// other passes have: a position that leads to one of those is set aside. A refusal comes before the
-/// first step. The work stack has room for the batch, and the answer for the share.
+/// Evaluates the positions of the share, in its order, each after all that it leads to, but for
+/// what other passes have: a position that leads to one of those is set aside. A refusal comes
+/// before the first step. The work stack has room for the batch, and the answer for the share.
 pub fn sweep<G: Gate>(
     alloc: Global,
     board: &Board,

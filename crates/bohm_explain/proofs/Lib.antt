@@ -12,11 +12,11 @@ mod Tallying
 mod Raising
 mod Noting
 mod Cutting
-mod Pieces
+mod Parts
 mod Ranks
 mod Leads
 mod HeatLines
-mod Bands
+mod Banding
 mod Texts
 mod Shallow
 mod Surveys

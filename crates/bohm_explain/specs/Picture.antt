@@ -3,9 +3,9 @@ use Rattle.std.specs.Prelude.{ℕ, zero, suc, ◌+◌, ◌*◌, min, ◌==◌, n
 use Rattle.std.specs.Int.{div_ceil}
 use Rattle.bohm_place.specs.Chains.{greatest}
 use Rattle.bohm_explain.specs.declared.arrow.Arrow.{Arrow}
-use Rattle.bohm_explain.specs.declared.picture.Band.{Band}
-use Rattle.bohm_explain.specs.declared.picture.Node.{Node}
-use Rattle.bohm_explain.specs.declared.picture.TheConstants.{MOST_NODES}
+use Rattle.bohm_explain.specs.declared.bands.Band.{Band}
+use Rattle.bohm_explain.specs.declared.nodes.Node.{Node}
+use Rattle.bohm_explain.specs.declared.bands.TheConstants.{MOST_NODES}
 
 -- a text where this holds
 abbrev pub shown : Bool → List ℕ → List ℕ

@@ -12,8 +12,8 @@ use bohm_txn::{LogPart, NoMemory};
 use std::alloc::Global;
 
 /// The text of what is asked of a log, or `None` where that is the picture of a batch that the log
-/// doesn't have. The time grows with the number of declared keys, and for the table with the number n of
-/// different ones as n log n.
+/// doesn't have. The time grows with the number of declared keys, and for the table with the number
+/// n of different ones as n log n.
 pub fn answer(
     alloc: Global,
     seed: HashSeed,

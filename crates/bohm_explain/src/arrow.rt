@@ -50,8 +50,9 @@ fn put_arrows(
     Ok(())
 }
 
-/// The versions of the batch that its transactions want, in log order: those of their reads and, unless
-/// they are sure, those that their writes replace. The time grows with the number of declared keys.
+/// The versions of the batch that its transactions want, in log order: those of their reads and,
+/// unless they are sure, those that their writes replace. The time grows with the number of
+/// declared keys.
 pub fn wanted(alloc: Global, plan: &Plan, txns: &LogPart<'_>) -> Result<Vec<Arrow>, NoMemory>
     requires few { length txns.now ≤ 4096 }
     requires right { IsRightPlan txns.now plan.now }

@@ -76,8 +76,8 @@ fn survey_log(
     Ok(Survey { figures, keys })
 }
 
-/// The table of a log, its `top` hottest keys, and a line of words. The time grows with the number of
-/// declared keys, and with the number n of different ones as n log n.
+/// The table of a log, its `top` hottest keys, and a line of words. The time grows with the number
+/// of declared keys, and with the number n of different ones as n log n.
 pub fn print_table(
     alloc: Global,
     seed: HashSeed,

@@ -10,7 +10,7 @@ pub struct Heat {
     pub writers: u32,
     /// Those that declare to read it.
     pub readers: u32,
-    /// The transactions on the longest chain in a batch through an arrow for the key, 0 where nobody
-    /// wants it.
+    /// The transactions on the longest chain in a batch through an arrow for the key, 0 where
+    /// nobody wants it.
     pub chain: u32,
 }

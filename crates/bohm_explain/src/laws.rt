@@ -9,13 +9,14 @@ ghost use Rattle.bohm_explain.specs.Heaviest.{AreRising, greatest_wanted, greate
 ghost use Rattle.bohm_explain.specs.Ranking.{IsRanking};
 ghost use Rattle.bohm_explain.specs.Wanted.{arrows};
 
-/// Each transaction wants versions of earlier ones alone, and the wanted versions stand in log order.
+/// Each transaction wants versions of earlier ones alone, and the wanted versions stand in log
+/// order.
 pub fn arrows_rise()
     ensures { (txns : List Txn) → AreRising 0 (arrows txns) }
 {}
 
-/// The longest chain that ends at a transaction has one transaction more than the longest that ends at
-/// one whose version it wants, and one alone where it wants none.
+/// The longest chain that ends at a transaction has one transaction more than the longest that ends
+/// at one whose version it wants, and one alone where it wants none.
 pub fn depth_of_each()
     ensures { (txns : List Txn) (p : ℕ) → p < length txns → slice_index (depths txns) p
         ≡ 1 + greatest_wanted (slice_index (depths txns)) (arrows txns) p }

@@ -1,11 +1,13 @@
-//! Why a log scales or doesn't: the plan of each batch explained. Who wants whose version, the chains of
-//! that, and the keys that make them.
+//! Why a log scales or doesn't: the plan of each batch explained. Who wants whose version, the
+//! chains of that, and the keys that make them.
 #![tactic(auto)]
 
 mod answering;
 mod arrow;
+mod bands;
 mod batches;
 mod chains;
+mod decimal;
 mod drawing;
 mod explanation;
 mod figures;
@@ -13,7 +15,9 @@ mod gathering;
 mod heat;
 mod hottest;
 pub mod laws;
+mod nodes;
 mod picture;
+mod pieces;
 mod planning;
 mod ranking;
 mod request;

@@ -12,8 +12,8 @@ pub const LARGEST_BATCH: u32 = 4096;
 /// The most keys that are listed.
 pub const MOST_LISTED: u32 = 1000;
 
-/// The greatest number that a batch can have: a log has at most so many transactions, and a batch at
-/// least one.
+/// The greatest number that a batch can have: a log has at most so many transactions, and a batch
+/// at least one.
 pub const LAST_BATCH: u32 = 1_000_000;
 
 /// The transactions of a batch, how many keys are listed, the hottest first, and the number of the

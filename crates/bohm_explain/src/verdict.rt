@@ -3,10 +3,10 @@
 ghost use Rattle.std.specs.Prelude.{◌≡◌, ◌+◌, ◌<◌, ◌≤◌, ◌++◌, ◌^◌, length, codes, decimal, IfOk};
 ghost use Rattle.bohm_explain.specs.Verdict.{leading, speedup_limit, limit_words, key_words, verdict_words, verdict_text};
 
+use crate::decimal::put_decimal;
 use crate::figures::Totals;
 use crate::heat::Heat;
 use bohm_txn::NoMemory;
-use itoa::{Buffer, Integer};
 
 /// The hottest key on the longest chain, where there is a chain.
 fn leading(ranked: &[Heat]) -> Option<Heat>
@@ -23,8 +23,8 @@ fn leading(ranked: &[Heat]) -> Option<Heat>
     leading
 }
 
-/// How many times as fast as one executing workers can be at most: the terms over the heaviest chain,
-/// rounded up.
+/// How many times as fast as one executing workers can be at most: the terms over the heaviest
+/// chain, rounded up.
 fn speedup_limit(totals: Totals) -> u64
     ensures { result ≡ speedup_limit totals }
 {
@@ -32,14 +32,6 @@ fn speedup_limit(totals: Totals) -> u64
         return 0;
     }
     totals.terms.div_ceil(totals.heaviest)
-}
-
-/// A number among words.
-fn put_decimal<I: Integer>(out: &mut Vec<u8>, number: I) -> Result<(), NoMemory>
-    ensures { IfOk result (λ _. out.new.items ≡ out.old.items ++ I.text number) }
-{
-    out.extend_from_slice(Buffer::new().format(number).as_bytes())?;
-    Ok(())
 }
 
 /// What more executing workers are good for.
@@ -91,8 +83,8 @@ fn put_words(out: &mut Vec<u8>, totals: Totals, ranked: &[Heat]) -> Result<(), N
     Ok(())
 }
 
-/// An empty line and a line of words: which key is on the longest chain, and what more executing workers
-/// can at most be good for.
+/// An empty line and a line of words: which key is on the longest chain, and what more executing
+/// workers can at most be good for.
 pub fn put_verdict(out: &mut Vec<u8>, totals: Totals, ranked: &[Heat]) -> Result<(), NoMemory>
     ensures { IfOk result (λ _. out.new.items ≡ out.old.items ++ verdict_text totals ranked.now) }
 {

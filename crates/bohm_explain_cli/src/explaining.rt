@@ -12,8 +12,8 @@ use std::io::{Read, Write};
 use std::random::RandomSource;
 
 /// Reads a log to the reader's end, and writes the text of what is asked of it and nothing else. It
-/// refuses what a run refuses, and a failed write, as a run does, and as `Future` the picture of a batch
-/// that the log doesn't have. The whole text is made before the first byte is written.
+/// refuses what a run refuses, and a failed write, as a run does, and as `Future` the picture of a
+/// batch that the log doesn't have. The whole text is made before the first byte is written.
 pub fn explain_text<T: RandomSource, R: Read, W: Write>(
     rt: &T,
     alloc: Global,
@@ -21,8 +21,12 @@ pub fn explain_text<T: RandomSource, R: Read, W: Write>(
     writer: &mut W,
     request: Request,
 ) -> Result<(), RunFault>
-    ensures ok { OnOk result (Explains request (R.remaining reader.old) (R.remaining reader.new) (W.contents writer.old) (W.contents writer.new)) }
-    ensures err { IfErr result (RefusesLog request (R.remaining reader.old) (R.remaining reader.new) (W.contents writer.old) (W.contents writer.new)) }
+    ensures ok { OnOk result
+        (Explains request (R.remaining reader.old) (R.remaining reader.new) (W.contents writer.old)
+        (W.contents writer.new)) }
+    ensures err { IfErr result
+        (RefusesLog request (R.remaining reader.old) (R.remaining reader.new)
+        (W.contents writer.old) (W.contents writer.new)) }
 
     // Before all faults but those of the writing the writer isn't touched.
     ensures untouched { IfErr result (λ e. IsBeforeWriting e → writer.new ≡ writer.old) }

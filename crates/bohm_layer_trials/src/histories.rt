@@ -30,7 +30,8 @@ fn settle<R: Abort + Threads + Sync>(
     history.settle(alloc, &finished)
 }
 
-/// The floor, the top and the number of versions, and the store at each timestamp from the floor on.
+/// The floor, the top and the number of versions, and the store at each timestamp from the floor
+/// on.
 fn told(rt: &impl Abort, alloc: Global, history: &History) -> Result<String, Fail> {
     let (floor, top) = (history.floor(), history.top());
     let count = history.version_count();
@@ -64,8 +65,8 @@ fn trim(rt: &impl Abort, history: &mut History, floor: &str) -> Result<(), Fail>
     Ok(())
 }
 
-/// A history of the store before the first `#`. Of each further part what stands before `@` is run as a
-/// batch, or trims the history where it is a number; then the history is told so.
+/// A history of the store before the first `#`. Of each further part what stands before `@` is run
+/// as a batch, or trims the history where it is a number; then the history is told so.
 fn goes_so<R: Abort + Threads + Sync>(rt: &R, alloc: Global, row: &str) -> Result<(), Fail> {
     let (store, parts) = row.split_once('#').ok_or("a store")?;
     let mut history = History::open(alloc, checked(alloc, "log 1\n", store)?.store())?;

@@ -28,7 +28,8 @@ fn counters(alloc: Global, count: u32) -> Result<Checked, Fail> {
     )
 }
 
-/// Asserts that each of the first so many transactions shows how many are before it, and leaves one more.
+/// Asserts that each of the first so many transactions shows how many are before it, and leaves one
+/// more.
 fn assert_counted(rt: &impl Abort, finished: &Finished, len: u32) {
     let mut before = 0u32;
     for t in 1..=len {
@@ -78,7 +79,8 @@ fn backwards(rt: HostRuntime) -> Result<(), Fail> {
     Ok(())
 }
 
-/// Sets a flag at each of the two points of position 1, and goes on from its claim once it is let go.
+/// Sets a flag at each of the two points of position 1, and goes on from its claim once it is let
+/// go.
 #[derive(Drop)]
 struct FirstHeld {
     claimed: AtomicU64,

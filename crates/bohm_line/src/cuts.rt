@@ -50,7 +50,8 @@ fn total_of(sizes: &[u32]) -> Option<u32>
 }
 
 impl Cuts {
-    /// The cutting into batches of these sizes, if each is from 1 to 4096 and their total is at most
+    /// The cutting into batches of these sizes, if each is from 1 to 4096 and their total is at
+    /// most
     /// 4294967295.
     pub fn new(sizes: Vec<u32>) -> Option<Cuts>
         ensures { result ≡ cuts_of sizes.items }

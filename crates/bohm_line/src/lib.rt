@@ -1,6 +1,7 @@
-//! Batches ahead of their execution: how a log is cut into batches, the line along which their plans
-//! come in order, and the side that plans batch after batch and sends them. The design is that of BOHM:
-//! Faleiro and Abadi, "Rethinking Serializable Multiversion Concurrency Control", VLDB 2015.
+//! Batches ahead of their execution: how a log is cut into batches, the line along which their
+//! plans come in order, and the side that plans batch after batch and sends them. The design is
+//! that of BOHM: Faleiro and Abadi, "Rethinking Serializable Multiversion Concurrency Control",
+//! VLDB 2015.
 #![tactic(auto)]
 
 mod byte_sum;

@@ -12,10 +12,10 @@ use std::sync::Wait;
 use std::thread::Threads;
 
 /// Plans the batches of a log and sends a note for each, in order: its plan, or that planning was
-/// refused, behind which there is none. `planned` is told the number of each batch, counted from 1, once
-/// its plan is made and before it is sent. The chains are trimmed to the end of each batch once it is
-/// planned, since no later source is below it. It waits while the line is full, for ever where nobody
-/// takes.
+/// refused, behind which there is none. `planned` is told the number of each batch, counted from 1,
+/// once its plan is made and before it is sent. The chains are trimmed to the end of each batch
+/// once it is planned, since no later source is below it. It waits while the line is full, for ever
+/// where nobody takes.
 ///
 /// The time grows with the number of keys that the transactions declare.
 pub fn plan_ahead<L: Line, P: Partition, F: Fn(u32), R: Threads + Wait + Sync>(

@@ -101,7 +101,8 @@ impl<S: BuildHasher> Columns<S> {
 impl<S: BuildHasher + Drop> Columns<S> {
     /// Adds the number of a name.
     fn add_name(&mut self, name: Key) -> Result<(), LogFault>
-        ensures ok { OnOk result (NumbersCome (shared_of self.old) (shared_of self.new) (name ∷ [])) }
+        ensures ok { OnOk result
+            (NumbersCome (shared_of self.old) (shared_of self.new) (name ∷ [])) }
         ensures err { OnErr result (Interns (shared_of self.old) (shared_of self.new)) }
     {
         let id = self.names.id(name)?;

@@ -74,7 +74,8 @@ impl<S: BuildHasher> Names<S> {
         ensures kept { Begins self.old self.new }
         ensures err { OnErr result (self.new ≡ self.old) }
         ensures full { IfErr result (λ e. e ≡ faults.Full → length self.old ≡ 2 ^ 32) }
-        ensures new { IfErr result (λ e. e ≡ faults.Full → position (bytes_eq name) self.old ≡ None) }
+        ensures new { IfErr result
+            (λ e. e ≡ faults.Full → position (bytes_eq name) self.old ≡ None) }
     {
         if self.set.len() > u32::MAX as usize {
             return match self.find(&name) {

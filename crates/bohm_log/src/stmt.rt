@@ -71,8 +71,10 @@ impl<'a> Model for StmtView<'a> {
 /// The key at a place among declared keys, or else among the other names.
 fn key_by(seen: &Seen, keys: &[u32], declared: bool, place: u32) -> Key
     requires named { AllNamed seen.now.names.now keys.now }
-    requires within { KeyIn (names_at seen.now.names.now keys.now) seen.now.others.now declared place }
-    ensures { result ≡ key_at (names_at seen.now.names.now keys.now) seen.now.others.now declared place }
+    requires within { KeyIn
+        (names_at seen.now.names.now keys.now) seen.now.others.now declared place }
+    ensures { result
+        ≡ key_at (names_at seen.now.names.now keys.now) seen.now.others.now declared place }
 {
     if declared {
         seen.names[keys[place as usize] as usize]
@@ -179,7 +181,8 @@ impl<'a> StmtView<'a> {
 pub fn stmt_by<'a>(seen: &'a Seen<'a>, index: usize) -> StmtView<'a>
     requires inside { index < length seen.now.rows.now }
     requires seen { IsSeen seen.now }
-    ensures { slice_get (map (stmt_of (parts_seen seen.now)) seen.now.rows.now) index ≡ Some result }
+    ensures { slice_get (map (stmt_of (parts_seen seen.now)) seen.now.rows.now) index
+        ≡ Some result }
 {
     StmtView {
         seen,

@@ -10,8 +10,8 @@ ghost use Rattle.bohm_text.specs.Print.{print_answer, print_store};
 ghost use Rattle.bohm_machine.specs.Machines.{Ledger, GoesOn, HasRun, now_of, past_of, top_of};
 ghost use Rattle.bohm_machine.specs.Texts.{Run, GoesThrough, log_of, texts_of};
 
-/// The answers of a log's segments joined, and then the text of the store at the top, are the answer of the
-/// whole log.
+/// The answers of a log's segments joined, and then the text of the store at the top, are the
+/// answer of the whole log.
 pub fn answers_joined()
     ensures { (store : List (List ℕ × ℤ)) (opened now : Ledger) (runs : List Run)
         (listed : List (List ℕ × ℤ)) → HasRun (cell_in (store_of store)) 0 [] opened
@@ -21,9 +21,9 @@ pub fn answers_joined()
         (entries (store_after (store_of store) (log_of runs))) }
 {}
 
-/// A machine that holds at its top what another one holds there, and so one that is restored from its store
-/// at the top, goes on as that one does: by the same transactions it answers the same replies, and comes to
-/// the same past behind that timestamp.
+/// A machine that holds at its top what another one holds there, and so one that is restored from
+/// its store at the top, goes on as that one does: by the same transactions it answers the same
+/// replies, and comes to the same past behind that timestamp.
 pub fn restored_goes_on()
     ensures replies { (one other after1 after2 : Ledger) (txns : List Txn) (a b : List Reply)
         → top_of one ≡ top_of other → now_of one ≡ now_of other → GoesOn one after1 txns a

@@ -1,4 +1,5 @@
-//! A replicated state machine: a store with its past, which goes on by log segments as they are agreed on.
+//! A replicated state machine: a store with its past, which goes on by log segments as they are
+//! agreed on.
 #![tactic(auto)]
 
 mod fault;

@@ -20,8 +20,8 @@ use std::marker::Model;
 use std::sync::Wait;
 use std::thread::Threads;
 
-/// A store with its past from a floor up to a top, which are timestamps. Log segments take it on, one after
-/// another, each behind the top.
+/// A store with its past from a floor up to a top, which are timestamps. Log segments take it on,
+/// one after another, each behind the top.
 #[derive(Drop)]
 pub struct Machine {
     // The timestamp at which it was restored: the history's own timestamps count from there.
@@ -42,9 +42,9 @@ impl Model for Machine {
 }
 
 impl Machine {
-    /// The machine of a store, whose entries rise by their keys, as it stands after the transaction with
-    /// the timestamp `top`: a new one is that of the empty store at 0. Its time and memory grow with the
-    /// number of the entries.
+    /// The machine of a store, whose entries rise by their keys, as it stands after the transaction
+    /// with the timestamp `top`: a new one is that of the empty store at 0. Its time and memory
+    /// grow with the number of the entries.
     pub fn restore(alloc: Global, store: &[(Key, Value)], top: u32) -> Result<Machine, NoMemory>
         requires { rising (names_of store.now) ≡ true }
         ensures top { IfOk result (λ m. top_of m ≡ top) }
@@ -77,21 +77,22 @@ impl Machine {
         self.base + self.history.top()
     }
 
-    /// The number of kept versions, or the greatest number of 64 bits where there are more. Its time is
-    /// constant.
+    /// The number of kept versions, or the greatest number of 64 bits where there are more. Its
+    /// time is constant.
     pub fn version_count(&self) -> u64
         ensures { result ≡ min (total self.now.history.chains) 18446744073709551615 }
     {
         self.history.version_count()
     }
 
-    /// What a key holds after the transaction with a timestamp. `Trimmed` below the floor, `Future` above
-    /// the top. Its time is that of one look-up, and grows with how many versions of the key are newer. It
-    /// takes no memory.
+    /// What a key holds after the transaction with a timestamp. `Trimmed` below the floor, `Future`
+    /// above the top. Its time is that of one look-up, and grows with how many versions of the key
+    /// are newer. It takes no memory.
     pub fn value_at(&self, key: &Key, ts: u32) -> Result<Cell, PastFault>
         ensures trimmed { (result ≡ Err past_is.Trimmed) ↔ (ts < floor_of self.now) }
         ensures future { (result ≡ Err past_is.Future) ↔ (top_of self.now < ts) }
-        ensures within { floor_of self.now ≤ ts → ts ≤ top_of self.now → result ≡ Ok (past_of self.now ts key.now) }
+        ensures within { floor_of self.now ≤ ts → ts ≤ top_of self.now
+            → result ≡ Ok (past_of self.now ts key.now) }
     {
         if ts < self.base {
             return Err(PastFault::Trimmed);
@@ -99,14 +100,15 @@ impl Machine {
         self.history.value_at(key, ts - self.base)
     }
 
-    /// What each key holds after the transaction with a timestamp: the keys that have a value, rising, with
-    /// it. `Trimmed` below the floor and `Future` above the top, which are decided before any growth. At the
-    /// top it is a snapshot, which `restore` takes. Its time grows with the number n of all keys as n log n,
-    /// and with how many versions are newer.
+    /// What each key holds after the transaction with a timestamp: the keys that have a value,
+    /// rising, with it. `Trimmed` below the floor and `Future` above the top, which are decided
+    /// before any growth. At the top it is a snapshot, which `restore` takes. Its time grows with
+    /// the number n of all keys as n log n, and with how many versions are newer.
     pub fn store_at(&self, alloc: Global, ts: u32) -> Result<Vec<(Key, Value)>, StoreFault>
         ensures trimmed { (result ≡ Err store_is.Trimmed) ↔ (ts < floor_of self.now) }
         ensures future { (result ≡ Err store_is.Future) ↔ (top_of self.now < ts) }
-        ensures within { floor_of self.now ≤ ts → ts ≤ top_of self.now → OnErr result (result ≡ Err store_is.NoMemory) }
+        ensures within { floor_of self.now ≤ ts → ts ≤ top_of self.now
+            → OnErr result (result ≡ Err store_is.NoMemory) }
         ensures past { IfOk result (λ v. cell_in (store_of v.items) ≡ past_of self.now ts) }
         ensures entries { IfOk result (λ v. v.items ≡ entries (store_of v.items)) }
     {
@@ -116,19 +118,22 @@ impl Machine {
         self.history.store_at(alloc, ts - self.base)
     }
 
-    /// Where the floor is above the present one it becomes the floor, and the past below it is let go. Its
-    /// time grows with how many versions go. It takes no memory.
+    /// Where the floor is above the present one it becomes the floor, and the past below it is let
+    /// go. Its time grows with how many versions go. It takes no memory.
     pub fn trim(&mut self, floor: u32)
         requires { floor ≤ top_of self.old }
         ensures floor { floor_of self.new ≡ max (floor_of self.old) floor }
         ensures top { top_of self.new ≡ top_of self.old }
-        ensures past { (ts : _) → floor_of self.new ≤ ts → past_of self.new ts ≡ past_of self.old ts }
-        ensures run { (look : _) (start : _) (log : _) → HasRun look start log self.old → HasRun look start log self.new }
+        ensures past { (ts : _) → floor_of self.new ≤ ts
+            → past_of self.new ts ≡ past_of self.old ts }
+        ensures run { (look : _) (start : _) (log : _) → HasRun look start log self.old
+            → HasRun look start log self.new }
     {
         self.history.trim(floor.saturating_sub(self.base));
     }
 
-    /// Whether a segment may run: it has no store of its own, and its timestamps don't pass 4294967295.
+    /// Whether a segment may run: it has no store of its own, and its timestamps don't pass
+    /// 4294967295.
     fn admit(&self, segment: &Checked) -> Result<(), SegmentFault>
         ensures ok { OnOk result (IsTaken self.now segment.now) }
         ensures err { IfErr result (IsRefused self.now segment.now) }
@@ -144,23 +149,27 @@ impl Machine {
         Ok(())
     }
 
-    /// Runs the transactions of a segment behind the top, on the caller's thread, in batches of 4096. A
-    /// segment is a checked log without a store. The replies are those of the serial run, and the first is
-    /// the one of the transaction with the timestamp `top() + 1`. The floor stays.
+    /// Runs the transactions of a segment behind the top, on the caller's thread, in batches of
+    /// 4096. A segment is a checked log without a store. The replies are those of the serial run,
+    /// and the first is the one of the transaction with the timestamp `top() + 1`. The floor stays.
     ///
-    /// Where it is refused memory it stands at the end of a batch and answers the replies up to there:
-    /// nothing is lost, and the rest can be applied again.
+    /// Where it is refused memory it stands at the end of a batch and answers the replies up to
+    /// there: nothing is lost, and the rest can be applied again.
     ///
-    /// Its time grows with the number of the transactions' terms, and with the number n of keys that a batch
-    /// declares as n log n.
+    /// Its time grows with the number of the transactions' terms, and with the number n of keys
+    /// that a batch declares as n log n.
     pub fn apply(&mut self, alloc: Global, segment: &Checked) -> Result<Applied, SegmentFault>
         ensures taken { OnOk result (IsTaken self.old segment.now) }
         ensures refused { IfErr result (IsRefused self.old segment.now) }
         ensures unchanged { OnErr result (self.new ≡ self.old) }
-        ensures goes_on { IfOk result (λ a. GoesOn self.old self.new (take (length a.replies) segment.now.log) a.replies) }
-        ensures runs_on { IfOk result (λ a. RunsOn self.old self.new (take (length a.replies) segment.now.log) a.replies) }
-        ensures batches { IfOk result (λ a. 0 < length a.replies → AreWholeBatches segment.now.log 4096 (length a.replies)) }
-        ensures whole { IfOk result (λ a. is_ok a.end ≡ true → length a.replies ≡ length segment.now.log) }
+        ensures goes_on { IfOk result
+            (λ a. GoesOn self.old self.new (take (length a.replies) segment.now.log) a.replies) }
+        ensures runs_on { IfOk result
+            (λ a. RunsOn self.old self.new (take (length a.replies) segment.now.log) a.replies) }
+        ensures batches { IfOk result
+            (λ a. 0 < length a.replies → AreWholeBatches segment.now.log 4096 (length a.replies)) }
+        ensures whole { IfOk result
+            (λ a. is_ok a.end ≡ true → length a.replies ≡ length segment.now.log) }
     {
         self.admit(segment)?;
         let txns = segment.log();
@@ -177,8 +186,9 @@ impl Machine {
         }
     }
 
-    /// Runs the transactions of a segment as `apply` does, with as many workers, partitions and transactions
-    /// of a batch as the settings say. What they say of `keep` and `at` is left aside: the floor stays.
+    /// Runs the transactions of a segment as `apply` does, with as many workers, partitions and
+    /// transactions of a batch as the settings say. What they say of `keep` and `at` is left aside:
+    /// the floor stays.
     pub fn apply_on_workers<R: Threads + Wait + Sync>(
         &mut self,
         rt: &R,
@@ -189,10 +199,15 @@ impl Machine {
         ensures taken { OnOk result (IsTaken self.old segment.now) }
         ensures refused { IfErr result (IsRefused self.old segment.now) }
         ensures unchanged { OnErr result (self.new ≡ self.old) }
-        ensures goes_on { IfOk result (λ a. GoesOn self.old self.new (take (length a.replies) segment.now.log) a.replies) }
-        ensures runs_on { IfOk result (λ a. RunsOn self.old self.new (take (length a.replies) segment.now.log) a.replies) }
-        ensures batches { IfOk result (λ a. 0 < length a.replies → AreWholeBatches segment.now.log settings.batch (length a.replies)) }
-        ensures whole { IfOk result (λ a. is_ok a.end ≡ true → length a.replies ≡ length segment.now.log) }
+        ensures goes_on { IfOk result
+            (λ a. GoesOn self.old self.new (take (length a.replies) segment.now.log) a.replies) }
+        ensures runs_on { IfOk result
+            (λ a. RunsOn self.old self.new (take (length a.replies) segment.now.log) a.replies) }
+        ensures batches { IfOk result
+            (λ a. 0 < length a.replies
+            → AreWholeBatches segment.now.log settings.batch (length a.replies)) }
+        ensures whole { IfOk result
+            (λ a. is_ok a.end ≡ true → length a.replies ≡ length segment.now.log) }
     {
         self.admit(segment)?;
         let Some(partition) = ByteSum::new(settings.parts()) else {

@@ -13,7 +13,8 @@ pub enum Source {
 #[derive(Clone, Copy, Debug, PartialEq, Eq)]
 pub struct Access {
     pub source: Source,
-    /// Which declared write of the source is of the key, counted from 0. Where the source is `Before` it
-    /// names no write: it is 0 as planned, and a batch notes the place of the key in its base there.
+    /// Which declared write of the source is of the key, counted from 0. Where the source is
+    /// `Before` it names no write: it is 0 as planned, and a batch notes the place of the key in
+    /// its base there.
     pub index: u32,
 }

@@ -15,8 +15,8 @@ use crate::share::{Job, Share, Worker, plan_share};
 use bohm_txn::{LogPart, NoMemory};
 use std::alloc::Global;
 
-/// Plans a batch as `plan` does, by one worker on the caller's thread, for callers that can start no
-/// threads. A refusal gives the shards up. The time grows with the number of accesses.
+/// Plans a batch as `plan` does, by one worker on the caller's thread, for callers that can start
+/// no threads. A refusal gives the shards up. The time grows with the number of accesses.
 pub fn plan_alone<P: Partition>(
     alloc: Global,
     shards: Shards,
@@ -27,7 +27,8 @@ pub fn plan_alone<P: Partition>(
     requires position { 0 < first }
     requires room { first + length txns.now ≤ 2 ^ 32 }
     requires parts { length shards ≡ P.count partition.now }
-    requires earlier { (k : List ℕ) → All (λ b. b < first) (chain_in (P.part_of partition.now) shards k) }
+    requires earlier { (k : List ℕ)
+        → All (λ b. b < first) (chain_in (P.part_of partition.now) shards k) }
     requires formed { AreWellFormed txns.now }
     ensures first { IfOk result (λ r. r.1.first ≡ first) }
     ensures right { IfOk result (λ r. IsRightPlan txns.now r.1) }
@@ -36,7 +37,9 @@ pub fn plan_alone<P: Partition>(
     ensures chains { IfOk result (λ r. (k : List ℕ)
         → chain_in (P.part_of partition.now) r.0 k
         ≡ chain_in (P.part_of partition.now) shards k ++ writers first txns.now k) }
-    ensures below { IfOk result (λ r. (k : List ℕ) → All (λ b. b < first + length txns.now) (chain_in (P.part_of partition.now) r.0 k)) }
+    ensures below { IfOk result
+        (λ r. (k : List ℕ)
+        → All (λ b. b < first + length txns.now) (chain_in (P.part_of partition.now) r.0 k)) }
 {
     let rows = rows(alloc, txns)?;
     let accesses = accesses(&rows);

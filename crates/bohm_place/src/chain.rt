@@ -9,8 +9,8 @@ use bohm_txn::{Key, NoMemory};
 use std::alloc::Global;
 use std::collections::VecDeque;
 
-/// The placeholders of one key, rising. It is never empty, and takes no memory of its own for the newest
-/// one.
+/// The placeholders of one key, rising. It is never empty, and takes no memory of its own for the
+/// newest one.
 #[derive(Drop)]
 pub struct Chain {
     pub older: VecDeque<Placeholder>,
@@ -27,8 +27,8 @@ impl Chain {
         }
     }
 
-    /// Adds a placeholder, and answers the one that was the newest. The key is listed where it wasn't; a
-    /// refusal may leave it listed too.
+    /// Adds a placeholder, and answers the one that was the newest. The key is listed where it
+    /// wasn't; a refusal may leave it listed too.
     pub fn extend(
         &mut self,
         long: &mut Vec<Key>,
@@ -62,8 +62,8 @@ impl Chain {
         }
     }
 
-    /// Lets all go that are older than the newest one at or below the floor, and answers whether more
-    /// than one is left. Its time grows with how many go.
+    /// Lets all go that are older than the newest one at or below the floor, and answers whether
+    /// more than one is left. Its time grows with how many go.
     pub fn shorten(&mut self, floor: u32) -> bool
         ensures items { items self.new ≡ kept_items floor (items self.old) }
         ensures left { IsTrue result ↔ (1 < length (items self.new)) }
@@ -77,8 +77,8 @@ impl Chain {
         false
     }
 
-    /// The greatest begin below a timestamp, or 0. Its time grows with how many begins are not below
-    /// it.
+    /// The greatest begin below a timestamp, or 0. Its time grows with how many begins are not
+    /// below it.
     pub fn greatest_below(&self, ts: u32) -> u32
         requires { RisesFrom 0 (begins (items self.now)) }
         ensures { result ≡ greatest_below ts (begins (items self.now)) }

@@ -3,9 +3,9 @@
 use std::hash::{BuildHasher, FoldHasher, Hasher};
 use std::random::RandomSource;
 
-/// What the hash of each key of a map starts from. Keys that collide from a start that is known need not
-/// from another one: whoever writes a log can't choose keys that collide in a run that draws its own.
-/// No answer depends on it.
+/// What the hash of each key of a map starts from. Keys that collide from a start that is known
+/// need not from another one: whoever writes a log can't choose keys that collide in a run that
+/// draws its own. No answer depends on it.
 #[derive(Clone, Copy)]
 pub struct HashSeed {
     start: FoldHasher,

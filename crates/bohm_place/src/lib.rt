@@ -1,5 +1,5 @@
-//! Planning: placeholders for the versions of a batch, and the source of each access, by parts of the
-//! keys. The design is that of BOHM: Faleiro and Abadi, "Rethinking Serializable Multiversion
+//! Planning: placeholders for the versions of a batch, and the source of each access, by parts of
+//! the keys. The design is that of BOHM: Faleiro and Abadi, "Rethinking Serializable Multiversion
 //! Concurrency Control", VLDB 2015.
 #![tactic(auto)]
 

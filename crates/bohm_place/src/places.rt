@@ -42,7 +42,8 @@ fn shorten(chains: &mut HashMap<Key, Chain, HashSeed>, key: &Key, floor: u32) ->
     ensures chains { (k : List ℕ) → items_at chains.new k
         ≡ (if bytes_eq key.now k
         then kept_items floor (items_at chains.old k) else items_at chains.old k) }
-    ensures short { result ≡ false → (k : List ℕ) → bytes_eq key.now k ≡ true → length (items_at chains.new k) < 2 }
+    ensures short { result ≡ false → (k : List ℕ) → bytes_eq key.now k ≡ true
+        → length (items_at chains.new k) < 2 }
 {
     match chains.get_mut(key) {
         Some(chain) => chain.shorten(floor),
@@ -53,7 +54,8 @@ fn shorten(chains: &mut HashMap<Key, Chain, HashSeed>, key: &Key, floor: u32) ->
 // Shortens the listed chains, and keeps those listed that still have more than one begin.
 fn shorten_all(chains: &mut HashMap<Key, Chain, HashSeed>, long: &mut Vec<Key>, floor: u32)
     requires { (k : List ℕ) → 1 < length (items_at chains.old k) → IsAmong long.old.items k }
-    ensures chains { (k : List ℕ) → items_at chains.new k ≡ kept_items floor (items_at chains.old k) }
+    ensures chains { (k : List ℕ)
+        → items_at chains.new k ≡ kept_items floor (items_at chains.old k) }
     ensures listed { (k : List ℕ) → 1 < length (items_at chains.new k) → IsAmong long.new.items k }
 {
     let mut kept = 0;
@@ -109,7 +111,10 @@ impl Places {
     pub fn place(&mut self, alloc: Global, key: Key, ts: u32) -> Result<(), NoMemory>
         requires timestamp { 0 < ts }
         requires above { All (λ b. b < ts) (chain self.old key) }
-        ensures { (k : List ℕ) → chain self.new k ≡ (if (is_ok result && bytes_eq key k) then chain self.old k ++ ts ∷ [] else chain self.old k) }
+        ensures { (k : List ℕ)
+            → chain self.new k
+            ≡ (if (is_ok result && bytes_eq key k) then chain self.old k ++ ts
+            ∷ [] else chain self.old k) }
     {
         let next = Placeholder {
             begin: ts,
@@ -146,8 +151,9 @@ impl Places {
         }
     }
 
-    /// The greatest begin below a timestamp in the chain of a key, or 0 where there is none. Its time is
-    /// that of one look-up, and grows with how many begins of the chain are not below the timestamp.
+    /// The greatest begin below a timestamp in the chain of a key, or 0 where there is none. Its
+    /// time is that of one look-up, and grows with how many begins of the chain are not below the
+    /// timestamp.
     pub fn source(&self, key: &Key, ts: u32) -> u32
         ensures source { result ≡ greatest_below ts (chain self.now key.now) }
         ensures rises { RisesFrom 0 (chain self.now key.now) }
@@ -158,8 +164,8 @@ impl Places {
         }
     }
 
-    /// Keeps in each chain the newest begin at or below the floor, and all begins above it. Its time
-    /// grows with how many chains have more than one begin, and with how many begins go.
+    /// Keeps in each chain the newest begin at or below the floor, and all begins above it. Its
+    /// time grows with how many chains have more than one begin, and with how many begins go.
     pub(crate) fn trim(&mut self, floor: u32)
         ensures { (k : List ℕ) → chain self.new k ≡ kept floor (chain self.old k) }
     {

@@ -79,7 +79,8 @@ impl Plan {
     pub fn read(&self, t: u32, index: u32) -> Source
         requires first { self.now.first ≤ t }
         requires index { index < length (reads_of self.now (t - self.now.first)) }
-        ensures { IsSomeAnd (slice_get (reads_of self.now (t - self.now.first)) index) (λ a. a.source ≡ result) }
+        ensures { IsSomeAnd (slice_get (reads_of self.now (t - self.now.first)) index)
+            (λ a. a.source ≡ result) }
     {
         self.access(DeclaredSet::Reads, t, index).source
     }
@@ -89,13 +90,14 @@ impl Plan {
     pub fn write(&self, t: u32, index: u32) -> Source
         requires first { self.now.first ≤ t }
         requires index { index < length (writes_of self.now (t - self.now.first)) }
-        ensures { IsSomeAnd (slice_get (writes_of self.now (t - self.now.first)) index) (λ a. a.source ≡ result) }
+        ensures { IsSomeAnd (slice_get (writes_of self.now (t - self.now.first)) index)
+            (λ a. a.source ≡ result) }
     {
         self.access(DeclaredSet::Writes, t, index).source
     }
 
-    /// The access of the key of this index, counted from 0, in a declared set of the transaction with a
-    /// timestamp. Its time is constant.
+    /// The access of the key of this index, counted from 0, in a declared set of the transaction
+    /// with a timestamp. Its time is constant.
     pub fn access(&self, set: DeclaredSet, t: u32, index: u32) -> Access
         requires first { self.now.first ≤ t }
         requires index { index < length (planned_in set self.now (t - self.now.first)) }
@@ -105,8 +107,8 @@ impl Plan {
         Access::from(self.placeholders[row.place(set, index)])
     }
 
-    /// Notes the place of the key in the base of the batch at an access whose source is `Before`. All
-    /// other accesses stay as they are. Its time is constant.
+    /// Notes the place of the key in the base of the batch at an access whose source is `Before`.
+    /// All other accesses stay as they are. Its time is constant.
     pub fn note(&mut self, set: DeclaredSet, t: u32, index: u32, place: u32)
         requires first { self.old.first ≤ t }
         requires index { index < length (planned_in set self.old (t - self.old.first)) }

@@ -77,14 +77,15 @@ fn plan_shares<P: Partition, R: Threads + Sync>(
     Ok(shares)
 }
 
-/// Plans a batch: finds for each access of its transactions, in log order, the newest writer of the key
-/// among the transactions of the batch before it, and adds each declared write to its key's chain. The
-/// index of an access without such a writer is 0, and so the plan is the same for every number of
-/// workers and every partition. Of `cc` workers the one with number i takes the parts whose number is i
-/// modulo `cc`; each goes through all transactions, in a thread of its own where there is more than one.
+/// Plans a batch: finds for each access of its transactions, in log order, the newest writer of the
+/// key among the transactions of the batch before it, and adds each declared write to its key's
+/// chain. The index of an access without such a writer is 0, and so the plan is the same for every
+/// number of workers and every partition. Of `cc` workers the one with number i takes the parts
+/// whose number is i modulo `cc`; each goes through all transactions, in a thread of its own where
+/// there is more than one.
 ///
-/// A refusal gives the shards up. The time of one worker grows with the number of accesses, and with one
-/// look-up for each access of its own.
+/// A refusal gives the shards up. The time of one worker grows with the number of accesses, and
+/// with one look-up for each access of its own.
 pub fn plan<P: Partition, R: Threads + Sync>(
     rt: &R,
     alloc: Global,
@@ -98,7 +99,8 @@ pub fn plan<P: Partition, R: Threads + Sync>(
     requires position { 0 < first }
     requires room { first + length txns.now ≤ 2 ^ 32 }
     requires parts { length shards ≡ P.count partition.now }
-    requires earlier { (k : List ℕ) → All (λ b. b < first) (chain_in (P.part_of partition.now) shards k) }
+    requires earlier { (k : List ℕ)
+        → All (λ b. b < first) (chain_in (P.part_of partition.now) shards k) }
     requires formed { AreWellFormed txns.now }
     ensures first { IfOk result (λ r. r.1.first ≡ first) }
     ensures right { IfOk result (λ r. IsRightPlan txns.now r.1) }
@@ -107,7 +109,9 @@ pub fn plan<P: Partition, R: Threads + Sync>(
     ensures chains { IfOk result (λ r. (k : List ℕ)
         → chain_in (P.part_of partition.now) r.0 k
         ≡ chain_in (P.part_of partition.now) shards k ++ writers first txns.now k) }
-    ensures below { IfOk result (λ r. (k : List ℕ) → All (λ b. b < first + length txns.now) (chain_in (P.part_of partition.now) r.0 k)) }
+    ensures below { IfOk result
+        (λ r. (k : List ℕ)
+        → All (λ b. b < first + length txns.now) (chain_in (P.part_of partition.now) r.0 k)) }
 {
     let workers = cc.min(partition.parts());
     let rows = rows(alloc, txns)?;

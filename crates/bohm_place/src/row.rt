@@ -8,8 +8,8 @@ use crate::declared_set::DeclaredSet;
 use bohm_txn::{LogPart, NoMemory};
 use std::alloc::Global;
 
-/// The accesses of one transaction in a list of all: its reads from `start` on, and its writes behind
-/// them.
+/// The accesses of one transaction in a list of all: its reads from `start` on, and its writes
+/// behind them.
 #[derive(Clone, Copy, Debug)]
 pub struct Row {
     pub start: usize,

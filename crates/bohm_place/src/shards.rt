@@ -50,7 +50,8 @@ impl Shards {
     /// No chains, in this many parts. Keys are hashed from the fixed seed.
     pub fn new(alloc: Global, parts: u32) -> Result<Shards, NoMemory>
         ensures parts { IfOk result (λ s. length s ≡ parts) }
-        ensures empty { IfOk result (λ s. (part : List ℕ → ℕ) (k : List ℕ) → chain_in part s k ≡ []) }
+        ensures empty { IfOk result
+            (λ s. (part : List ℕ → ℕ) (k : List ℕ) → chain_in part s k ≡ []) }
     {
         Shards::with_seed(alloc, parts, HashSeed::fixed())
     }
@@ -58,7 +59,8 @@ impl Shards {
     /// The same, with keys hashed from this seed.
     pub fn with_seed(alloc: Global, parts: u32, seed: HashSeed) -> Result<Shards, NoMemory>
         ensures parts { IfOk result (λ s. length s ≡ parts) }
-        ensures empty { IfOk result (λ s. (part : List ℕ → ℕ) (k : List ℕ) → chain_in part s k ≡ []) }
+        ensures empty { IfOk result
+            (λ s. (part : List ℕ → ℕ) (k : List ℕ) → chain_in part s k ≡ []) }
     {
         let parts = empty_parts(alloc, parts as usize, seed)?;
         Ok(Shards { parts })
@@ -72,11 +74,12 @@ impl Shards {
         &self.parts[i as usize]
     }
 
-    /// Keeps in each chain the newest begin at or below the floor, and all begins above it. Its time
-    /// grows with how many chains have more than one begin, and with how many begins go.
+    /// Keeps in each chain the newest begin at or below the floor, and all begins above it. Its
+    /// time grows with how many chains have more than one begin, and with how many begins go.
     pub fn trim_places(&mut self, floor: u32)
         ensures parts { length self.new ≡ length self.old }
-        ensures chains { (part : List ℕ → ℕ) (k : List ℕ) → chain_in part self.new k ≡ kept floor (chain_in part self.old k) }
+        ensures chains { (part : List ℕ → ℕ) (k : List ℕ)
+            → chain_in part self.new k ≡ kept floor (chain_in part self.old k) }
         ensures below { (part : List ℕ → ℕ) (k : List ℕ) (ts : ℕ)
             → All (λ b. b < ts) (chain_in part self.old k)
             → All (λ b. b < ts) (chain_in part self.new k) }

@@ -36,8 +36,8 @@ pub struct Job {
     pub hand: Vec<Places>,
 }
 
-/// What a worker hands back: for each access of its keys the placeholder of its source, `none` for the
-/// other accesses, and its parts.
+/// What a worker hands back: for each access of its keys the placeholder of its source, `none` for
+/// the other accesses, and its parts.
 #[derive(Drop)]
 pub struct Share {
     pub found: Vec<Placeholder>,
@@ -198,8 +198,8 @@ fn find_all<P: Partition>(
     Ok(found)
 }
 
-/// Goes through all transactions in log order, and finds and places the accesses of the worker's keys.
-/// `accesses` is how many accesses the transactions have.
+/// Goes through all transactions in log order, and finds and places the accesses of the worker's
+/// keys. `accesses` is how many accesses the transactions have.
 pub fn plan_share<P: Partition>(
     alloc: Global,
     mut job: Job,

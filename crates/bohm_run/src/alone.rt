@@ -22,8 +22,8 @@ use bohm_store::History;
 use bohm_txn::{Items, LogPart, NoMemory, Reply, Scratch};
 use std::alloc::Global;
 
-/// The plan of a batch that starts at a timestamp. What the batches before it wrote is `Before` to it, so
-/// its chains start empty.
+/// The plan of a batch that starts at a timestamp. What the batches before it wrote is `Before` to
+/// it, so its chains start empty.
 fn plan_batch(
     alloc: Global,
     seed: HashSeed,
@@ -44,7 +44,8 @@ fn plan_batch(
     Ok(plan)
 }
 
-/// Executes a batch by one worker, and what it set aside in log order. A refusal gives the batch up.
+/// Executes a batch by one worker, and what it set aside in log order. A refusal gives the batch
+/// up.
 fn finish_alone<'a>(
     alloc: Global,
     batch: Batch<'a>,
@@ -62,8 +63,8 @@ fn finish_alone<'a>(
     Ok(complete(closed, &[aside], scratch))
 }
 
-/// Runs the batch that follows the history's top, and appends its replies. A refusal changes nothing that
-/// is seen.
+/// Runs the batch that follows the history's top, and appends its replies. A refusal changes
+/// nothing that is seen.
 fn run_batch(
     alloc: Global,
     history: &mut History,
@@ -76,8 +77,12 @@ fn run_batch(
     requires few { length txns.now ≤ 4096 }
     requires timestamps { history.old.top + 1 + length txns.now ≤ 2 ^ 32 }
     requires formed { All IsWellFormedTxn txns.now }
-    ensures applied { OnOk result (IsApplied history.old history.new txns.now keep (replies (past history.old history.old.top) txns.now)) }
-    ensures answered { OnOk result (answered.new.items ≡ answered.old.items ++ replies (past history.old history.old.top) txns.now) }
+    ensures applied { OnOk result
+        (IsApplied history.old history.new txns.now keep
+        (replies (past history.old history.old.top) txns.now)) }
+    ensures answered { OnOk result
+        (answered.new.items
+        ≡ answered.old.items ++ replies (past history.old history.old.top) txns.now) }
     ensures same { OnErr result (IsSame history.old history.new) }
     ensures unanswered { OnErr result (answered.new.items ≡ answered.old.items) }
 {
@@ -102,7 +107,8 @@ fn run_batches(
     requires first { (cutting_of log).first ≡ history.old.top + 1 }
     requires ordered { history.old.floor ≤ history.old.top }
     requires unanswered { answered.old.items ≡ [] }
-    ensures { IsWalked history.old history.new (cutting_of log.entry) keep answered.new.items (is_ok result) }
+    ensures { IsWalked history.old history.new (cutting_of log.entry) keep answered.new.items
+        (is_ok result) }
 {
     let mut start = 0usize;
     for place in 0..log.batches() {
@@ -113,13 +119,14 @@ fn run_batches(
     Ok(())
 }
 
-/// Runs the transactions upon a history as `apply` does, on the caller's thread alone, for callers that
-/// can start no threads: it plans, executes and settles one batch after another. The scratch serves any
-/// number of calls.
+/// Runs the transactions upon a history as `apply` does, on the caller's thread alone, for callers
+/// that can start no threads: it plans, executes and settles one batch after another. The scratch
+/// serves any number of calls.
 ///
-/// Where it is refused memory, the history stands at the end of a batch, and the replies up to there are
-/// answered: nothing is lost, and the rest can be applied again. The time grows with the number of the
-/// transactions' terms and with the number n of keys that a batch declares as n log n.
+/// Where it is refused memory, the history stands at the end of a batch, and the replies up to
+/// there are answered: nothing is lost, and the rest can be applied again. The time grows with the
+/// number of the transactions' terms and with the number n of keys that a batch declares as n log
+/// n.
 pub fn apply_alone(
     alloc: Global,
     history: &mut History,
@@ -131,7 +138,8 @@ pub fn apply_alone(
     requires total { sum cuts.now ≡ length txns.now }
     requires timestamps { history.old.top + length txns.now < 2 ^ 32 }
     requires formed { All IsWellFormedTxn txns.now }
-    ensures applied { IsApplied history.old history.new (take (length result.replies) txns.now) keep result.replies }
+    ensures applied { IsApplied history.old history.new
+        (take (length result.replies) txns.now) keep result.replies }
     ensures batches { IsEndOfBatch cuts.now (length result.replies) }
     ensures whole { is_ok result.end ≡ true → length result.replies ≡ length txns.now }
 {

@@ -29,7 +29,9 @@ use std::thread::Threads;
 /// The log that the reader holds, read to the reader's end, or why it is none. Its text is let go.
 pub fn read_log<R: Read>(alloc: Global, reader: &mut R) -> Result<Checked, RunFault>
     ensures ok { IfOk result (ReadsDocument (R.remaining reader.old) (R.remaining reader.new)) }
-    ensures err { IfErr result (λ e. (given : Given) → Refuses given (R.remaining reader.old) (R.remaining reader.new) None None e) }
+    ensures err { IfErr result
+        (λ e. (given : Given)
+        → Refuses given (R.remaining reader.old) (R.remaining reader.new) None None e) }
     ensures before { IfErr result IsBeforeWriting }
 {
     let text = read_all(alloc, reader)?;
@@ -37,8 +39,9 @@ pub fn read_log<R: Read>(alloc: Global, reader: &mut R) -> Result<Checked, RunFa
     Ok(check(doc)?)
 }
 
-/// The timestamp whose store is printed, if it will be readable once the log has run. It is known before
-/// anything runs: a timestamp above the log's length is refused, and then one below the final floor.
+/// The timestamp whose store is printed, if it will be readable once the log has run. It is known
+/// before anything runs: a timestamp above the log's length is refused, and then one below the
+/// final floor.
 fn readable_time(checked: &Checked, settings: Settings) -> Result<u32, RunFault>
     ensures time { IfOk result (λ ts. ts ≡ time_of settings checked.now) }
     ensures readable { IfOk result (λ ts. IsReadable settings checked.now) }
@@ -78,8 +81,10 @@ fn executed<T: Threads + Wait + Sync + RandomSource>(
 ) -> Result<(Items<Reply>, Vec<(Key, Value)>), NoMemory>
     requires there { ts ≤ length checked.log }
     requires kept { length checked.log - settings.keep ≤ ts }
-    ensures replies { IfOk result (λ a. a.0 ≡ replies (cell_in (store_of checked.store)) checked.log) }
-    ensures store { IfOk result (λ a. a.1.items ≡ entries (store_after (store_of checked.store) (take ts checked.log))) }
+    ensures replies { IfOk result
+        (λ a. a.0 ≡ replies (cell_in (store_of checked.store)) checked.log) }
+    ensures store { IfOk result
+        (λ a. a.1.items ≡ entries (store_after (store_of checked.store) (take ts checked.log))) }
 {
     let cuts = Cuts::even(alloc, checked.log().len() as u32, settings.batch())?;
     let Some(partition) = ByteSum::new(settings.parts()) else {
@@ -119,13 +124,13 @@ fn answer<T: Threads + Wait + Sync + RandomSource>(
     Ok(text)
 }
 
-/// Reads a log to the reader's end, runs it as the settings say, and writes the text of its answer and
-/// nothing else: all replies, and the store at the timestamp that is asked for. The whole answer is made
-/// before the first byte is written. Every failure of a reader or a writer counts, an interrupted call
-/// too.
+/// Reads a log to the reader's end, runs it as the settings say, and writes the text of its answer
+/// and nothing else: all replies, and the store at the timestamp that is asked for. The whole
+/// answer is made before the first byte is written. Every failure of a reader or a writer counts,
+/// an interrupted call too.
 ///
-/// The time grows with the text, with what the run takes (`run`) and with the number of the store's keys
-/// k as k log k. The memory grows with the text.
+/// The time grows with the text, with what the run takes (`run`) and with the number of the store's
+/// keys k as k log k. The memory grows with the text.
 pub fn run_text<T: Threads + Wait + Sync + RandomSource, R: Read, W: Write>(
     rt: &T,
     alloc: Global,
@@ -133,8 +138,12 @@ pub fn run_text<T: Threads + Wait + Sync + RandomSource, R: Read, W: Write>(
     writer: &mut W,
     settings: Settings,
 ) -> Result<(), RunFault>
-    ensures ok { OnOk result (Answers settings (R.remaining reader.old) (R.remaining reader.new) (W.contents writer.old) (W.contents writer.new)) }
-    ensures err { IfErr result (Refuses settings (R.remaining reader.old) (R.remaining reader.new) (W.contents writer.old) (W.contents writer.new)) }
+    ensures ok { OnOk result
+        (Answers settings (R.remaining reader.old) (R.remaining reader.new) (W.contents writer.old)
+        (W.contents writer.new)) }
+    ensures err { IfErr result
+        (Refuses settings (R.remaining reader.old) (R.remaining reader.new) (W.contents writer.old)
+        (W.contents writer.new)) }
 
     // Before all faults but those of the writing the writer isn't touched.
     ensures untouched { IfErr result (λ e. IsBeforeWriting e → writer.new ≡ writer.old) }

@@ -156,23 +156,24 @@ fn apply_on<L: Line + Send + Sync, P: Partition, G: Gate, R: Threads + Wait + Sy
     }
 }
 
-/// Runs the transactions upon a history, in batches of this cutting, the first of which starts behind
-/// the top.
+/// Runs the transactions upon a history, in batches of this cutting, the first of which starts
+/// behind the top.
 ///
-/// A planning side in a thread of its own plans batch after batch, with `cc` workers, and is up to three
-/// batches ahead; of each batch that it has planned `exec` workers sweep their shares at the same time.
-/// After a batch that ends at e the floor becomes `e - keep`, or stays where it is above that. Both
-/// numbers of workers may be larger than there is work for: no worker starts that has none. Planning
-/// hashes keys from the history's seed.
+/// A planning side in a thread of its own plans batch after batch, with `cc` workers, and is up to
+/// three batches ahead; of each batch that it has planned `exec` workers sweep their shares at the
+/// same time. After a batch that ends at e the floor becomes `e - keep`, or stays where it is above
+/// that. Both numbers of workers may be larger than there is work for: no worker starts that has
+/// none. Planning hashes keys from the history's seed.
 ///
-/// Where it is refused memory or the planning side's thread, the history stands at the end of a batch,
-/// and the replies up to there are answered: nothing is lost, and the rest can be applied again.
+/// Where it is refused memory or the planning side's thread, the history stands at the end of a
+/// batch, and the replies up to there are answered: nothing is lost, and the rest can be applied
+/// again.
 ///
 /// The time grows with the terms of the transactions, these spread over the executing workers where
-/// bodies don't wait for one another. On the executing side's one thread it grows besides with the number
-/// n of keys that a batch declares as n log n, and with a start of threads for each batch where there are
-/// several workers. The memory grows with the number of keys that the transactions declare and with the
-/// values that they show.
+/// bodies don't wait for one another. On the executing side's one thread it grows besides with the
+/// number n of keys that a batch declares as n log n, and with a start of threads for each batch
+/// where there are several workers. The memory grows with the number of keys that the transactions
+/// declare and with the values that they show.
 pub fn apply<P: Partition, G: Gate, R: Threads + Wait + Sync>(
     rt: &R,
     alloc: Global,

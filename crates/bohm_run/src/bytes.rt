@@ -18,7 +18,8 @@ const READ_SIZE: usize = 65_536;
 /// All that the reader has left. More than `LONGEST_TEXT` bytes are refused, and the rest may stay
 /// unread.
 pub fn read_all<R: Read>(alloc: Global, reader: &mut R) -> Result<Vec<u8>, RunFault>
-    ensures bytes { IfOk result (λ text. Consumes (R.remaining reader.old) (R.remaining reader.new) text.items) }
+    ensures bytes { IfOk result
+        (λ text. Consumes (R.remaining reader.old) (R.remaining reader.new) text.items) }
     ensures end { OnOk result (IsAtEnd (R.remaining reader.new)) }
     ensures short { IfOk result (λ text. length text.items ≤ LONGEST_TEXT) }
     ensures long { result ≡ Err RunFault.TooLong → (bytes : List ℕ) × (LONGEST_TEXT < length bytes)
@@ -43,7 +44,8 @@ pub fn read_all<R: Read>(alloc: Global, reader: &mut R) -> Result<Vec<u8>, RunFa
 /// Writes the bytes, and flushes. At an `Err` the first `sent` of them were written.
 pub fn write_all<W: Write>(writer: &mut W, bytes: &[u8]) -> Result<(), RunFault>
     ensures ok { OnOk result (Appends (W.contents writer.old) (W.contents writer.new) bytes.now) }
-    ensures err { IfErr result (IsWriteFault (W.contents writer.old) (W.contents writer.new) bytes.now) }
+    ensures err { IfErr result
+        (IsWriteFault (W.contents writer.old) (W.contents writer.new) bytes.now) }
 {
     let mut sent: usize = 0;
     'writes: while sent < bytes.len() {

@@ -67,7 +67,8 @@ impl Executor {
     }
 
     /// Runs the batches of a log, each once its plan has come. After a refusal it executes nothing
-    /// more; after one of its own it takes what planning still sends, so that the planning side ends.
+    /// more; after one of its own it takes what planning still sends, so that the planning side
+    /// ends.
     pub(crate) fn run_batches<L: Line, G: Gate, R: Threads + Wait + Sync>(
         mut self,
         rt: &R,

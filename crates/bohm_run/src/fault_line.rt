@@ -22,10 +22,11 @@ fn word_of(kind: CheckKind) -> &'static str
     }
 }
 
-/// Writes the line that says why a run was refused, with its newline byte. It takes no memory of its
-/// own, so there is a line also where there is none left.
+/// Writes the line that says why a run was refused, with its newline byte. It takes no memory of
+/// its own, so there is a line also where there is none left.
 pub fn write_fault<W: Write>(writer: &mut W, fault: &RunFault) -> io::Result<()>
-    ensures { OnOk result (Appends (W.contents writer.old) (W.contents writer.new) (fault_line fault.now)) }
+    ensures { OnOk result
+        (Appends (W.contents writer.old) (W.contents writer.new) (fault_line fault.now)) }
 {
     match fault {
         RunFault::Read => writeln!(writer, "refused: read"),

@@ -1,6 +1,6 @@
-//! Whole runs: a log upon a history, batch after batch, with planning ahead of execution in a thread of
-//! its own, and a log from bytes to bytes. The design is that of BOHM: Faleiro and Abadi, "Rethinking
-//! Serializable Multiversion Concurrency Control", VLDB 2015.
+//! Whole runs: a log upon a history, batch after batch, with planning ahead of execution in a
+//! thread of its own, and a log from bytes to bytes. The design is that of BOHM: Faleiro and Abadi,
+//! "Rethinking Serializable Multiversion Concurrency Control", VLDB 2015.
 #![tactic(auto)]
 
 mod alone;

@@ -15,7 +15,8 @@ use std::alloc::Global;
 /// The values that the transaction with a timestamp shows: none on an abort.
 fn shows(alloc: Global, finished: &Finished<'_>, t: u32) -> Result<Vec<Value>, NoMemory>
     requires { IsIn (batch_of_finished finished.now) t }
-    ensures { IfOk result (λ values. AreSerialShows (batch_of_finished finished.now) t values.items) }
+    ensures { IfOk result
+        (λ values. AreSerialShows (batch_of_finished finished.now) t values.items) }
 {
     let body = finished.batch().txn(t).get().body.as_slice();
     let count = body.iter().filter(|stmt| stmt.is_show()).count();
@@ -48,7 +49,8 @@ fn push_some(
     finished: &Finished<'_>,
 ) -> Result<(), NoMemory>
     ensures ok { OnOk result (replies.new.items ≡ replies.old.items ++ replies_of finished.now) }
-    ensures err { OnErr result ((more : List Reply) × (replies.new.items ≡ replies.old.items ++ more)) }
+    ensures err { OnErr result
+        ((more : List Reply) × (replies.new.items ≡ replies.old.items ++ more)) }
 {
     let first = finished.first();
     for place in 0..finished.len() {
@@ -58,8 +60,8 @@ fn push_some(
     Ok(())
 }
 
-/// Appends the reply of each transaction of a finished batch, in log order. A refusal leaves the list
-/// as it was. The time grows with the number of the batch's statements.
+/// Appends the reply of each transaction of a finished batch, in log order. A refusal leaves the
+/// list as it was. The time grows with the number of the batch's statements.
 fn push_replies(
     alloc: Global,
     replies: &mut Vec<Reply>,

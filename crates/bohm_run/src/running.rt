@@ -25,15 +25,15 @@ pub struct Answer {
 }
 
 /// Runs a checked log over its starting store, in batches of this cutting: opens the history of the
-/// store, and applies the log. For every number of workers, partition, cutting and gate the replies and
-/// the past, from the floor to the top, are those of running the transactions one after another in log
-/// order.
+/// store, and applies the log. For every number of workers, partition, cutting and gate the replies
+/// and the past, from the floor to the top, are those of running the transactions one after another
+/// in log order.
 ///
 /// The workers are those of `apply`; `keep` is how many timestamps below the last batch's end stay
 /// readable. `NoMemory` where a growth or the planning side's thread was refused.
 ///
-/// Keys are hashed from a seed that is drawn for this run, so nobody who writes a log can choose keys
-/// that collide. A caller without a source of randomness opens a history and calls `apply`.
+/// Keys are hashed from a seed that is drawn for this run, so nobody who writes a log can choose
+/// keys that collide. A caller without a source of randomness opens a history and calls `apply`.
 ///
 /// The time grows with the keys of the starting store and with what `apply` takes.
 pub fn run<P: Partition, G: Gate, R: Threads + Wait + Sync + RandomSource>(

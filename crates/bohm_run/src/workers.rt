@@ -105,12 +105,12 @@ fn gather(
     Ok((pass, asides))
 }
 
-/// Executes a batch by a crew of workers, or by as many as it has transactions where those are fewer.
-/// Each sweeps its share of the positions in a thread of its own, and then once more what it set aside;
-/// a single one takes no thread. What is left then is evaluated in log order.
+/// Executes a batch by a crew of workers, or by as many as it has transactions where those are
+/// fewer. Each sweeps its share of the positions in a thread of its own, and then once more what it
+/// set aside; a single one takes no thread. What is left then is evaluated in log order.
 ///
-/// A worker that is refused memory ends, and the others end their shares. A refusal gives the batch up,
-/// with the scratches of workers that weren't gathered yet.
+/// A worker that is refused memory ends, and the others end their shares. A refusal gives the batch
+/// up, with the scratches of workers that weren't gathered yet.
 pub fn finish_batch<'a, G: Gate, R: Threads + Sync>(
     rt: &R,
     alloc: Global,

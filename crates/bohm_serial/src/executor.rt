@@ -85,7 +85,8 @@ fn execute(
 ) -> Result<Reply, NoMemory>
     requires { IsWellFormedTxn txn.now }
     ensures reply { IfOk result (λ reply. reply ≡ reply_of (body (cell_in store.old) txn.now)) }
-    ensures store { OnOk result (store.new ≡ put_all store.old (writes_of (body (cell_in store.old) txn.now))) }
+    ensures store { OnOk result
+        (store.new ≡ put_all store.old (writes_of (body (cell_in store.old) txn.now))) }
 {
     let (reads, writes) = (txn.reads(), txn.writes());
     look_up(store, &reads, &mut desk.reads)?;
@@ -119,8 +120,12 @@ fn execute_all(alloc: Global, store: &mut Store, log: &LogPart<'_>) -> Result<Ve
 ///
 /// The time grows with the terms of the log and with the number of the store's keys k as k log k.
 pub fn run(alloc: Global, checked: &Checked) -> Result<Answer, NoMemory>
-    ensures replies { IfOk result (λ answer. answer.replies ≡ replies (cell_in (store_of checked.now.store)) checked.now.log) }
-    ensures store { IfOk result (λ answer. answer.store ≡ entries (store_after (store_of checked.now.store) checked.now.log)) }
+    ensures replies { IfOk result
+        (λ answer. answer.replies
+        ≡ replies (cell_in (store_of checked.now.store)) checked.now.log) }
+    ensures store { IfOk result
+        (λ answer. answer.store
+        ≡ entries (store_after (store_of checked.now.store) checked.now.log)) }
 {
     let mut store = Store::new(alloc, checked.store())?;
     let replies = execute_all(alloc, &mut store, &checked.log())?;

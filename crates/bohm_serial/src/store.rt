@@ -72,7 +72,8 @@ impl Store {
         Ok(())
     }
 
-    /// Its entries, in the order of their keys. The time grows with the number n of entries as n log n.
+    /// Its entries, in the order of their keys. The time grows with the number n of entries as n
+    /// log n.
     pub fn entries(&self, alloc: Global) -> Result<Vec<(Key, Value)>, NoMemory>
         ensures { IfOk result (λ list. list.items ≡ entries self.now) }
     {

@@ -42,7 +42,8 @@ fn declared(alloc: Global, txns: &LogPart<'_>) -> Result<Vec<Key>, NoMemory>
 // The same, each key once, and rising.
 fn declared_once(alloc: Global, txns: &LogPart<'_>) -> Result<Vec<Key>, NoMemory>
     ensures rises { IfOk result (λ v. rising v.items ≡ true) }
-    ensures keys { IfOk result (λ v. (k : List ℕ) → is_among v.items k ≡ list_any (declares k) txns.now) }
+    ensures keys { IfOk result
+        (λ v. (k : List ℕ) → is_among v.items k ≡ list_any (declares k) txns.now) }
 {
     let mut keys = declared(alloc, txns)?;
     keys.sort_unstable();
@@ -59,7 +60,9 @@ pub fn base_at(
     ts: u32,
 ) -> Result<Vec<(Key, Cell)>, NoMemory>
     ensures base { IfOk result (λ v. IsBase txns.now v.items) }
-    ensures cells { IfOk result (λ v. (k : List ℕ) → list_any (declares k) txns.now ≡ true → newest v.items k Absent ≡ cell_at ts (chain chains.now k) Absent) }
+    ensures cells { IfOk result
+        (λ v. (k : List ℕ) → list_any (declares k) txns.now ≡ true
+        → newest v.items k Absent ≡ cell_at ts (chain chains.now k) Absent) }
 {
     let keys = declared_once(alloc, txns)?;
     let mut base = Vec::with_capacity(alloc, keys.len())?;

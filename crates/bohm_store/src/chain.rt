@@ -66,7 +66,9 @@ impl Chain {
         begin: u32,
         cell: Cell,
     ) -> Result<(), NoMemory>
-        ensures { IsExtended (is_ok result) self.old self.new followers.old.items followers.new.items place (record { begin = begin; cell = cell }) }
+        ensures { IsExtended
+            (is_ok result) self.old self.new followers.old.items followers.new.items place
+            (record { begin = begin; cell = cell }) }
     {
         self.later.reserve(1)?;
         followers.push_back(Follower { begin, place })?;
@@ -82,7 +84,9 @@ impl Chain {
         begin: u32,
         cell: Cell,
     ) -> Result<(), NoMemory>
-        ensures { IsExtended (is_ok result) self.old self.new followers.old.items followers.new.items place (record { begin = begin; cell = cell }) }
+        ensures { IsExtended
+            (is_ok result) self.old self.new followers.old.items followers.new.items place
+            (record { begin = begin; cell = cell }) }
     {
         if self.second.is_some() || !self.later.is_empty() {
             return self.extend_later(followers, place, begin, cell);
@@ -111,7 +115,8 @@ impl Chain {
 
     /// Lets the newest version go, where it isn't the only one, and answers whether it went.
     pub fn drop_newest(&mut self) -> bool
-        ensures items { items self.new ≡ (if result then front (items self.old) else items self.old) }
+        ensures items { items self.new
+            ≡ (if result then front (items self.old) else items self.old) }
         ensures only { result ≡ false → front (items self.old) ≡ [] }
     {
         match self.later.pop_back() {

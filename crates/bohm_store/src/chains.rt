@@ -26,7 +26,8 @@ pub fn start(
     seed: HashSeed,
 ) -> Result<IndexMap<Key, Chain, HashSeed>, NoMemory>
     requires { rising (names_of entries.now) ≡ true }
-    ensures { IfOk result (λ chains. (k : List ℕ) → chain chains k ≡ started (cell_in (store_of entries.now) k)) }
+    ensures { IfOk result
+        (λ chains. (k : List ℕ) → chain chains k ≡ started (cell_in (store_of entries.now) k)) }
 {
     let mut chains = IndexMap::with_capacity_and_hasher(alloc, entries.len(), seed)?;
     for (key, value) in entries {
@@ -58,11 +59,22 @@ fn push(
     key: &Key,
     cell: Cell,
 ) -> Result<(), NoMemory>
-    ensures chains { (k : List ℕ) → chain chains.new k ≡ (if (is_ok result && bytes_eq key.now k) then chain chains.old k ++ record { begin = begin; cell = cell } ∷ [] else chain chains.old k) }
+    ensures chains { (k : List ℕ)
+        → chain chains.new k
+        ≡ (if (is_ok result && bytes_eq key.now k) then chain chains.old k
+        ++ record { begin = begin; cell = cell } ∷ [] else chain chains.old k) }
     ensures keys { (more : List (List ℕ)) × (keys chains.new ≡ keys chains.old ++ more) }
-    ensures waiting { ArePlaced (keys chains.old) followers.old.items → (k : List ℕ) → later_begins (chain chains.old k) ≡ waiting (keyed (keys chains.old) followers.old.items) k → later_begins (chain chains.new k) ≡ waiting (keyed (keys chains.new) followers.new.items) k }
-    ensures placed { ArePlaced (keys chains.old) followers.old.items → ArePlaced (keys chains.new) followers.new.items }
-    ensures grows { (followers.new.items ≡ followers.old.items) ⊎ ((place : ℕ) × (followers.new.items ≡ followers.old.items ++ record { begin = begin; place = place } ∷ [])) }
+    ensures waiting { ArePlaced (keys chains.old) followers.old.items → (k : List ℕ)
+        → later_begins (chain chains.old k)
+        ≡ waiting (keyed (keys chains.old) followers.old.items) k
+        → later_begins (chain chains.new k)
+        ≡ waiting (keyed (keys chains.new) followers.new.items) k }
+    ensures placed { ArePlaced (keys chains.old) followers.old.items
+        → ArePlaced (keys chains.new) followers.new.items }
+    ensures grows { (followers.new.items ≡ followers.old.items)
+        ⊎ ((place : ℕ)
+        × (followers.new.items
+        ≡ followers.old.items ++ record { begin = begin; place = place } ∷ [])) }
 {
     match chains.get_index_of(key) {
         Some(place) => {
@@ -78,8 +90,12 @@ fn push(
 
 // Lets the newest version of a key go, where it isn't the only one.
 fn drop_later(chains: &mut IndexMap<Key, Chain, HashSeed>, key: &Key) -> bool
-    ensures chains { (k : List ℕ) → chain chains.new k ≡ (if (result && bytes_eq key.now k) then front (chain chains.old k) else chain chains.old k) }
-    ensures only { result ≡ false → (k : List ℕ) → bytes_eq key.now k ≡ true → front (chain chains.old k) ≡ [] }
+    ensures chains { (k : List ℕ)
+        → chain chains.new k
+        ≡ (if (result && bytes_eq key.now k) then front
+        (chain chains.old k) else chain chains.old k) }
+    ensures only { result ≡ false → (k : List ℕ) → bytes_eq key.now k ≡ true
+        → front (chain chains.old k) ≡ [] }
     ensures keys { keys chains.new ≡ keys chains.old }
 {
     match chains.get_mut(key) {
@@ -91,8 +107,12 @@ fn drop_later(chains: &mut IndexMap<Key, Chain, HashSeed>, key: &Key) -> bool
 // Lets the newest version of a key go, and the key itself with its only one. The keys before it
 // keep their places.
 fn retreat(chains: &mut IndexMap<Key, Chain, HashSeed>, key: &Key)
-    ensures chains { (k : List ℕ) → chain chains.new k ≡ (if bytes_eq key.now k then front (chain chains.old k) else chain chains.old k) }
-    ensures keys { (ks more : List (List ℕ)) → keys chains.old ≡ ks ++ more → (front (chain chains.old key.now) ≡ [] → is_among ks key.now ≡ false) → (rest : List (List ℕ)) × (keys chains.new ≡ ks ++ rest) }
+    ensures chains { (k : List ℕ)
+        → chain chains.new k
+        ≡ (if bytes_eq key.now k then front (chain chains.old k) else chain chains.old k) }
+    ensures keys { (ks more : List (List ℕ)) → keys chains.old ≡ ks ++ more
+        → (front (chain chains.old key.now) ≡ [] → is_among ks key.now ≡ false)
+        → (rest : List (List ℕ)) × (keys chains.new ≡ ks ++ rest) }
 {
     if !drop_later(chains, key) {
         chains.shift_remove(key);
@@ -102,8 +122,13 @@ fn retreat(chains: &mut IndexMap<Key, Chain, HashSeed>, key: &Key)
 // Lets the versions of these writes go again, which came last. The keys that had versions before
 // them keep their places.
 fn take_back(chains: &mut IndexMap<Key, Chain, HashSeed>, writes: &[Write<'_>])
-    ensures chains { (base : List ℕ → List Version) → ((k : List ℕ) → chain chains.old k ≡ base k ++ made writes.now k) → (k : List ℕ) → chain chains.new k ≡ base k }
-    ensures keys { (base : List ℕ → List Version) (ks more : List (List ℕ)) → ((k : List ℕ) → chain chains.old k ≡ base k ++ made writes.now k) → keys chains.old ≡ ks ++ more → ((k : List ℕ) → base k ≡ [] → is_among ks k ≡ false) → (rest : List (List ℕ)) × (keys chains.new ≡ ks ++ rest) }
+    ensures chains { (base : List ℕ → List Version)
+        → ((k : List ℕ) → chain chains.old k ≡ base k ++ made writes.now k) → (k : List ℕ)
+        → chain chains.new k ≡ base k }
+    ensures keys { (base : List ℕ → List Version) (ks more : List (List ℕ))
+        → ((k : List ℕ) → chain chains.old k ≡ base k ++ made writes.now k)
+        → keys chains.old ≡ ks ++ more → ((k : List ℕ) → base k ≡ [] → is_among ks k ≡ false)
+        → (rest : List (List ℕ)) × (keys chains.new ≡ ks ++ rest) }
 {
     let mut i = writes.len();
     while i > 0 {
@@ -120,11 +145,23 @@ pub fn add(
     alloc: Global,
     writes: &[Write<'_>],
 ) -> Result<(), NoMemory>
-    ensures chains { (k : List ℕ) → chain chains.new k ≡ (if is_ok result then chain chains.old k ++ made writes.now k else chain chains.old k) }
+    ensures chains { (k : List ℕ)
+        → chain chains.new k
+        ≡ (if is_ok result then chain chains.old k ++ made writes.now k else chain chains.old k) }
     ensures keys { (more : List (List ℕ)) × (keys chains.new ≡ keys chains.old ++ more) }
-    ensures placed { OnOk result (ArePlaced (keys chains.old) followers.old.items → ArePlaced (keys chains.new) followers.new.items) }
-    ensures waiting { OnOk result (ArePlaced (keys chains.old) followers.old.items → ((k : List ℕ) → later_begins (chain chains.old k) ≡ waiting (keyed (keys chains.old) followers.old.items) k) → (k : List ℕ) → later_begins (chain chains.new k) ≡ waiting (keyed (keys chains.new) followers.new.items) k) }
-    ensures climbs { OnOk result ((n top : ℕ) → Climb n writes.now top → RisesTo n followers.old.items → RisesTo top followers.new.items) }
+    ensures placed { OnOk result
+        (ArePlaced (keys chains.old) followers.old.items
+        → ArePlaced (keys chains.new) followers.new.items) }
+    ensures waiting { OnOk result
+        (ArePlaced (keys chains.old) followers.old.items
+        → ((k : List ℕ)
+        → later_begins (chain chains.old k)
+        ≡ waiting (keyed (keys chains.old) followers.old.items) k) → (k : List ℕ)
+        → later_begins (chain chains.new k)
+        ≡ waiting (keyed (keys chains.new) followers.new.items) k) }
+    ensures climbs { OnOk result
+        ((n top : ℕ) → Climb n writes.now top → RisesTo n followers.old.items
+        → RisesTo top followers.new.items) }
     ensures err { OnErr result (followers.new.items ≡ followers.old.items) }
 {
     let before = followers.len();
@@ -142,7 +179,10 @@ pub fn add(
 // Lets the oldest version of the key at a place go, where another one follows.
 fn advance(chains: &mut IndexMap<Key, Chain, HashSeed>, place: usize)
     requires { place < length (keys chains.old) }
-    ensures chains { (k : List ℕ) → chain chains.new k ≡ (if bytes_eq (get_or (keys chains.old) place []) k then shift (chain chains.old k) else chain chains.old k) }
+    ensures chains { (k : List ℕ)
+        → chain chains.new k
+        ≡ (if bytes_eq (get_or (keys chains.old) place []) k then shift
+        (chain chains.old k) else chain chains.old k) }
     ensures keys { keys chains.new ≡ keys chains.old }
 {
     let (_, chain) = chains.pair_mut(place);
@@ -157,11 +197,15 @@ pub fn trim(
     floor: u32,
 )
     requires placed { ArePlaced (keys chains.old) followers.old.items }
-    requires waiting { (k : List ℕ) → later_begins (chain chains.old k) ≡ waiting (keyed (keys chains.old) followers.old.items) k }
+    requires waiting { (k : List ℕ)
+        → later_begins (chain chains.old k)
+        ≡ waiting (keyed (keys chains.old) followers.old.items) k }
     requires climbs { (n : ℕ) × RisesTo n followers.old.items }
     ensures chains { (k : List ℕ) → chain chains.new k ≡ kept floor (chain chains.old k) }
     ensures placed { ArePlaced (keys chains.new) followers.new.items }
-    ensures waiting { (k : List ℕ) → later_begins (chain chains.new k) ≡ waiting (keyed (keys chains.new) followers.new.items) k }
+    ensures waiting { (k : List ℕ)
+        → later_begins (chain chains.new k)
+        ≡ waiting (keyed (keys chains.new) followers.new.items) k }
     ensures climbs { (n : ℕ) → RisesTo n followers.old.items → RisesTo n followers.new.items }
 {
     while let Some(follower) = take_due(followers, floor) {

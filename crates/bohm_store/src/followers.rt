@@ -15,7 +15,9 @@ pub struct Follower {
 
 /// Takes the first follower, if it begins at or below the floor.
 pub fn take_due(followers: &mut VecDeque<Follower>, floor: u32) -> Option<Follower>
-    ensures { MatchOption result ((followers.new.items ≡ followers.old.items) × IsNotDue floor followers.old.items) (λ f. (followers.old.items ≡ f ∷ followers.new.items) × (f.begin ≤ floor)) }
+    ensures { MatchOption result
+        ((followers.new.items ≡ followers.old.items) × IsNotDue floor followers.old.items)
+        (λ f. (followers.old.items ≡ f ∷ followers.new.items) × (f.begin ≤ floor)) }
 {
     let next = *followers.front()?;
     if floor < next.begin {

@@ -64,7 +64,8 @@ impl History {
         requires { rising (names_of entries.now) ≡ true }
         ensures floor { IfOk result (λ h. h.floor ≡ 0) }
         ensures top { IfOk result (λ h. h.top ≡ 0) }
-        ensures versions { IfOk result (λ h. (k : List ℕ) → versions h k ≡ started (cell_in (store_of entries.now) k)) }
+        ensures versions { IfOk result
+            (λ h. (k : List ℕ) → versions h k ≡ started (cell_in (store_of entries.now) k)) }
         ensures past { IfOk result (λ h. past h 0 ≡ cell_in (store_of entries.now)) }
     {
         History::open_with_seed(alloc, entries, HashSeed::fixed())
@@ -79,7 +80,8 @@ impl History {
         requires { rising (names_of entries.now) ≡ true }
         ensures floor { IfOk result (λ h. h.floor ≡ 0) }
         ensures top { IfOk result (λ h. h.top ≡ 0) }
-        ensures versions { IfOk result (λ h. (k : List ℕ) → versions h k ≡ started (cell_in (store_of entries.now) k)) }
+        ensures versions { IfOk result
+            (λ h. (k : List ℕ) → versions h k ≡ started (cell_in (store_of entries.now) k)) }
         ensures past { IfOk result (λ h. past h 0 ≡ cell_in (store_of entries.now)) }
     {
         let chains = start(alloc, entries, seed)?;
@@ -132,7 +134,8 @@ impl History {
     pub fn value_at(&self, key: &Key, ts: u32) -> Result<Cell, PastFault>
         ensures trimmed { (result ≡ Err PastFault.Trimmed) ↔ (ts < self.now.floor) }
         ensures future { (result ≡ Err PastFault.Future) ↔ (self.now.top < ts) }
-        ensures within { self.now.floor ≤ ts → ts ≤ self.now.top → result ≡ Ok (past self.now ts key.now) }
+        ensures within { self.now.floor ≤ ts → ts ≤ self.now.top
+            → result ≡ Ok (past self.now ts key.now) }
         ensures newest { IfOk result (IsCellAt ts (versions self.now key.now)) }
     {
         if ts < self.floor {
@@ -151,7 +154,8 @@ impl History {
     pub fn store_at(&self, alloc: Global, ts: u32) -> Result<Vec<(Key, Value)>, StoreFault>
         ensures trimmed { (result ≡ Err StoreFault.Trimmed) ↔ (ts < self.now.floor) }
         ensures future { (result ≡ Err StoreFault.Future) ↔ (self.now.top < ts) }
-        ensures within { self.now.floor ≤ ts → ts ≤ self.now.top → OnErr result (result ≡ Err StoreFault.NoMemory) }
+        ensures within { self.now.floor ≤ ts → ts ≤ self.now.top
+            → OnErr result (result ≡ Err StoreFault.NoMemory) }
         ensures past { IfOk result (λ v. cell_in (store_of v.items) ≡ past self.now ts) }
         ensures entries { IfOk result (λ v. v.items ≡ entries (store_of v.items)) }
     {
@@ -211,7 +215,8 @@ impl History {
         writes: &[Write<'_>],
     ) -> Result<(), NoMemory>
         requires next { IsNext self.old batch.now }
-        requires writes { writes.now ≡ written_all (first_of batch.now) (base_of batch.now) (txns_of batch.now) }
+        requires writes { writes.now
+            ≡ written_all (first_of batch.now) (base_of batch.now) (txns_of batch.now) }
         ensures err { OnErr result (IsSame self.old self.new) }
         ensures ok { OnOk result (IsSettled self.old self.new (txns_of batch.now)) }
     {
@@ -234,7 +239,8 @@ impl History {
     pub fn settle(&mut self, alloc: Global, finished: &Finished<'_>) -> Result<(), NoMemory>
         requires { IsNext self.old (batch_of_finished finished.now) }
         ensures err { OnErr result (IsSame self.old self.new) }
-        ensures ok { OnOk result (IsSettled self.old self.new (txns_of (batch_of_finished finished.now))) }
+        ensures ok { OnOk result
+            (IsSettled self.old self.new (txns_of (batch_of_finished finished.now))) }
     {
         let writes = writes_of(alloc, finished)?;
         self.settle_writes(alloc, finished.batch(), &writes)
@@ -248,9 +254,12 @@ impl History {
         requires { floor ≤ self.old.top }
         ensures floor { self.new.floor ≡ max self.old.floor floor }
         ensures top { self.new.top ≡ self.old.top }
-        ensures versions { self.old.floor < floor → (k : List ℕ) → versions self.new k ≡ kept floor (versions self.old k) }
-        ensures unchanged { floor ≤ self.old.floor → (k : List ℕ) → versions self.new k ≡ versions self.old k }
-        ensures kept { self.old.floor < floor → (k : List ℕ) (v : Version) → Contains (versions self.new k) v ↔ IsKept floor (versions self.old k) v }
+        ensures versions { self.old.floor < floor → (k : List ℕ)
+            → versions self.new k ≡ kept floor (versions self.old k) }
+        ensures unchanged { floor ≤ self.old.floor → (k : List ℕ)
+            → versions self.new k ≡ versions self.old k }
+        ensures kept { self.old.floor < floor → (k : List ℕ) (v : Version)
+            → Contains (versions self.new k) v ↔ IsKept floor (versions self.old k) v }
         ensures past { (ts : ℕ) → self.new.floor ≤ ts → past self.new ts ≡ past self.old ts }
     {
         if floor <= self.floor {

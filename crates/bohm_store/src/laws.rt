@@ -24,21 +24,27 @@ pub fn cell_of_the_newest()
 /// Of versions that rise, there are kept those that begin above the floor, and the newest one at or
 /// below it.
 pub fn kept_members()
-    ensures { (floor : ℕ) (vs : List Version) (v : Version) → Rises vs → Contains (kept floor vs) v ↔ IsKept floor vs v }
+    ensures { (floor : ℕ) (vs : List Version) (v : Version) → Rises vs
+        → Contains (kept floor vs) v ↔ IsKept floor vs v }
 {}
 
 /// The versions that transactions behind n produce say of each timestamp what their serial run
 /// leaves.
 pub fn produced_is_serial()
-    ensures { (n ts : ℕ) (look : Look) (txns : List Txn) (k : List ℕ) → All IsWellFormedTxn txns → n ≤ ts → ts ≤ n + length txns → cell_at ts (produced (n + 1) look txns k) (look k) ≡ state look txns (ts - n) k }
+    ensures { (n ts : ℕ) (look : Look) (txns : List Txn) (k : List ℕ) → All IsWellFormedTxn txns
+        → n ≤ ts → ts ≤ n + length txns
+        → cell_at ts (produced (n + 1) look txns k) (look k) ≡ state look txns (ts - n) k }
 {}
 
 /// Two histories in which each key has the same versions have as many versions.
 pub fn same_versions_same_count()
-    ensures { (t r : Timeline) → IsDistinct bytes_eq (keys_of t.chains) → IsDistinct bytes_eq (keys_of r.chains) → ((k : List ℕ) → versions t k ≡ versions r k) → total t.chains ≡ total r.chains }
+    ensures { (t r : Timeline) → IsDistinct bytes_eq (keys_of t.chains)
+        → IsDistinct bytes_eq (keys_of r.chains) → ((k : List ℕ) → versions t k ≡ versions r k)
+        → total t.chains ≡ total r.chains }
 {}
 
 /// A history's next batch answers over its base what it answers over the past at the top.
 pub fn next_replies()
-    ensures { (t : Timeline) (b : Batch) → IsNext t b → replies (base_of b) (txns_of b) ≡ replies (past t t.top) (txns_of b) }
+    ensures { (t : Timeline) (b : Batch) → IsNext t b
+        → replies (base_of b) (txns_of b) ≡ replies (past t t.top) (txns_of b) }
 {}

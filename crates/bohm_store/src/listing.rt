@@ -15,7 +15,8 @@ use std::alloc::Global;
 
 // Lists a key with its value at a timestamp, where it has one.
 fn list_one(out: &mut Vec<(Key, Value)>, key: &Key, chain: &Chain, ts: u32) -> Result<(), NoMemory>
-    ensures { OnOk result (out.new.items ≡ out.old.items ++ pick key.now (cell_at ts (items chain.now) Absent) []) }
+    ensures { OnOk result
+        (out.new.items ≡ out.old.items ++ pick key.now (cell_at ts (items chain.now) Absent) []) }
 {
     if let Cell::Present(value) = chain.cell_at(ts) {
         out.push((*key, value))?;

@@ -20,7 +20,9 @@ fn list_writes<'a>(
 ) -> Result<(), NoMemory>
     requires txn { IsIn (batch_of_finished finished.now) t }
     requires keys { IsTxnWriting (batch_of_finished finished.now) t keys.now }
-    ensures { OnOk result (out.new.items ≡ out.old.items ++ written t (state_after (batch_of_finished finished.now) t) keys.now) }
+    ensures { OnOk result
+        (out.new.items
+        ≡ out.old.items ++ written t (state_after (batch_of_finished finished.now) t) keys.now) }
 {
     for i in 0..keys.len() {
         let cell = finished.cell(t, i as u32);
@@ -46,7 +48,10 @@ fn count_writes(finished: &Finished<'_>) -> usize {
 
 /// The writes of all transactions, in log order.
 pub fn writes_of<'a>(alloc: Global, finished: &Finished<'a>) -> Result<Vec<Write<'a>>, NoMemory>
-    ensures { IfOk result (λ v. v.items ≡ written_all (first_of (batch_of_finished finished.now)) (base_of (batch_of_finished finished.now)) (txns_of (batch_of_finished finished.now))) }
+    ensures { IfOk result
+        (λ v. v.items
+        ≡ written_all (first_of (batch_of_finished finished.now))
+        (base_of (batch_of_finished finished.now)) (txns_of (batch_of_finished finished.now))) }
 {
     let mut out = Vec::with_capacity(alloc, count_writes(finished))?;
     let first = finished.first();

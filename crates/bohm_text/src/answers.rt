@@ -29,7 +29,8 @@ fn reason_text(reason: Reason) -> &'static [u8]
 }
 
 fn put_shows(out: &mut Vec<u8>, shows: &[Value]) -> Result<(), NoMemory>
-    ensures { IfOk result (λ _. out.new.items ≡ out.old.items ++ spaced (map signed_decimal shows.now)) }
+    ensures { IfOk result
+        (λ _. out.new.items ≡ out.old.items ++ spaced (map signed_decimal shows.now)) }
 {
     for value in shows {
         out.push(b' ')?;
@@ -39,7 +40,8 @@ fn put_shows(out: &mut Vec<u8>, shows: &[Value]) -> Result<(), NoMemory>
 }
 
 fn put_reply(out: &mut Vec<u8>, number: u64, reply: &Reply) -> Result<(), NoMemory>
-    ensures { IfOk result (λ _. out.new.items ≡ out.old.items ++ line_text (reply_words number reply.now)) }
+    ensures { IfOk result
+        (λ _. out.new.items ≡ out.old.items ++ line_text (reply_words number reply.now)) }
 {
     put_count(out, number)?;
     match reply {
@@ -64,8 +66,8 @@ pub fn print_replies(alloc: Global, replies: &[Reply]) -> Result<Vec<u8>, NoMemo
     print_numbered(alloc, 1, replies)
 }
 
-/// A line for each reply, numbered from a first number on: the replies of a log's later segment. Its time
-/// and memory grow with the length of the text.
+/// A line for each reply, numbered from a first number on: the replies of a log's later segment.
+/// Its time and memory grow with the length of the text.
 pub fn print_numbered(alloc: Global, first: u64, replies: &[Reply]) -> Result<Vec<u8>, NoMemory>
     requires { first + length replies.now ≤ 2 ^ 64 }
     ensures { IfOk result (λ text. text.items ≡ print_numbered first replies.now) }
@@ -78,7 +80,8 @@ pub fn print_numbered(alloc: Global, first: u64, replies: &[Reply]) -> Result<Ve
     Ok(out)
 }
 
-/// The line `--`, and then a line for each key. Its time and memory grow with the length of the text.
+/// The line `--`, and then a line for each key. Its time and memory grow with the length of the
+/// text.
 pub fn print_store(alloc: Global, entries: &[(Key, Value)]) -> Result<Vec<u8>, NoMemory>
     ensures { IfOk result (λ text. text.items ≡ print_store entries.now) }
 {

@@ -48,8 +48,8 @@ impl From<bohm_tree::NoMemory> for ReadFault {
 /// Why a text is no document's. A whole line is what stands before a newline byte.
 #[derive(Clone, Copy, Debug, PartialEq, Eq)]
 pub enum TextFault {
-    /// The whole lines before this one begin a document's text, and with this one they do not. Lines
-    /// count from 1.
+    /// The whole lines before this one begin a document's text, and with this one they do not.
+    /// Lines count from 1.
     Line(u64),
     /// The whole lines begin a document's text, but the text is no document's.
     Short,

@@ -22,7 +22,8 @@ fn newline_at(bytes: &[u8]) -> Option<usize>
 /// The first whole line, and what follows its newline.
 fn split_line(text: &[u8]) -> Option<(&[u8], &[u8])>
     ensures none { IfNone result (whole_lines text.now ≡ []) }
-    ensures lines { IfSome result (λ cut. whole_lines text.now ≡ cut.0.now ∷ whole_lines cut.1.now) }
+    ensures lines { IfSome result
+        (λ cut. whole_lines text.now ≡ cut.0.now ∷ whole_lines cut.1.now) }
     ensures bytes { IfSome result (λ cut. text.now ≡ cut.0.now ++ 10 ∷ cut.1.now) }
 {
     match newline_at(text) {
@@ -58,8 +59,8 @@ fn read_text(alloc: Global, text: &[u8]) -> Result<Reader, TextFault>
     }
 }
 
-/// The document whose print the text is. Its time and memory grow with the length of the text, and a
-/// line that is refused takes little memory.
+/// The document whose print the text is. Its time and memory grow with the length of the text, and
+/// a line that is refused takes little memory.
 ///
 /// # Errors
 ///
@@ -68,7 +69,8 @@ fn read_text(alloc: Global, text: &[u8]) -> Result<Reader, TextFault>
 pub fn parse(alloc: Global, text: &[u8]) -> Result<Doc, TextFault>
     ensures found { IfOk result (λ doc. print_doc doc ≡ text.now) }
     ensures sound { IfOk result IsDocument }
-    ensures line { (n : ℕ) → result ≡ Err (TextFault.Line n) → IsFirstBadLine (whole_lines text.now) n }
+    ensures line { (n : ℕ) → result ≡ Err (TextFault.Line n)
+        → IsFirstBadLine (whole_lines text.now) n }
     ensures short { result ≡ Err TextFault.Short → IsShort text.now }
 {
     let Reader {

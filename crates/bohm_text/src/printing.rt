@@ -129,7 +129,8 @@ fn put_stmt(out: &mut Vec<u8>, stmt: &Stmt) -> Result<(), NoMemory>
 
 /// A line of keys after a word.
 fn put_set(out: &mut Vec<u8>, word: &[u8], keys: &[Key]) -> Result<(), NoMemory>
-    ensures { IfOk result (λ _. out.new.items ≡ out.old.items ++ line_text (word.now ∷ keys.now) ++ 10 ∷ []) }
+    ensures { IfOk result
+        (λ _. out.new.items ≡ out.old.items ++ line_text (word.now ∷ keys.now) ++ 10 ∷ []) }
 {
     out.extend_from_slice(word)?;
     for key in keys {
@@ -141,7 +142,8 @@ fn put_set(out: &mut Vec<u8>, word: &[u8], keys: &[Key]) -> Result<(), NoMemory>
 }
 
 fn put_body(out: &mut Vec<u8>, body: &[Stmt]) -> Result<(), NoMemory>
-    ensures { IfOk result (λ _. out.new.items ≡ out.old.items ++ lines_text (map stmt_words body.now)) }
+    ensures { IfOk result
+        (λ _. out.new.items ≡ out.old.items ++ lines_text (map stmt_words body.now)) }
 {
     for stmt in body {
         put_stmt(out, stmt)?;
@@ -162,7 +164,8 @@ fn put_txn(out: &mut Vec<u8>, txn: &Txn) -> Result<(), NoMemory>
 }
 
 fn put_log(out: &mut Vec<u8>, log: &[Txn]) -> Result<(), NoMemory>
-    ensures { IfOk result (λ _. out.new.items ≡ out.old.items ++ lines_text (flat_map txn_lines log.now)) }
+    ensures { IfOk result
+        (λ _. out.new.items ≡ out.old.items ++ lines_text (flat_map txn_lines log.now)) }
 {
     for txn in log {
         put_txn(out, txn)?;
@@ -179,7 +182,8 @@ pub fn put_value(out: &mut Vec<u8>, value: Value) -> Result<(), NoMemory>
 
 /// A line for each key of a store.
 pub fn put_entries(out: &mut Vec<u8>, entries: &[(Key, Value)]) -> Result<(), NoMemory>
-    ensures { IfOk result (λ _. out.new.items ≡ out.old.items ++ lines_text (map store_words entries.now)) }
+    ensures { IfOk result
+        (λ _. out.new.items ≡ out.old.items ++ lines_text (map store_words entries.now)) }
 {
     for (key, value) in entries {
         out.extend_from_slice(key.text().as_slice())?;

@@ -91,7 +91,8 @@ impl Reader {
     #[tactic(auto, unfolding(crate::specs::Step::after_between))]
     fn feed_between(&mut self, line: &[u8]) -> Result<(), ReadFault>
         requires { self.old.place ≡ places.Between }
-        ensures { Feeds result (after_between (document_in self.old) line.now) (progress_of self.new) }
+        ensures { Feeds result (after_between (document_in self.old) line.now)
+            (progress_of self.new) }
     {
         if line == b"txn".as_slice() {
             self.place = Place::Opened;
@@ -107,7 +108,10 @@ impl Reader {
 
     /// Adds the transaction that is open to the log.
     fn close(&mut self, alloc: Global) -> Result<(), ReadFault>
-        ensures { Feeds result (Some (Between (with_txn (document_in self.old) self.old.reads self.old.writes self.old.body.items))) (progress_of self.new) }
+        ensures { Feeds result
+            (Some (Between
+            (with_txn (document_in self.old) self.old.reads self.old.writes self.old.body.items)))
+            (progress_of self.new) }
     {
         let reads = mem::replace(&mut self.reads, Items::new(alloc));
         let writes = mem::replace(&mut self.writes, Items::new(alloc));

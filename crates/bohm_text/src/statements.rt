@@ -203,8 +203,8 @@ fn push_keys(words: &mut Words, keys: &mut Vec<Key>) -> Result<(), ReadFault>
     Ok(())
 }
 
-/// The keys that the words are, in just the room that they take. Where there are many, they are looked
-/// through first, so that a line that is refused takes little memory.
+/// The keys that the words are, in just the room that they take. Where there are many, they are
+/// looked through first, so that a line that is refused takes little memory.
 pub fn read_keys(alloc: Global, words: &mut Words) -> Result<Items<Key>, ReadFault>
     ensures { Gives result (keys_of words.old) }
 {

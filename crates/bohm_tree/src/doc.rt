@@ -55,10 +55,10 @@ impl Doc {
         }
     }
 
-    /// Notes for each term of one transaction, counted from 0, where the key that it reads stands among
-    /// the declared reads, if these rise: `place_among` then finds it there at once. The document stays
-    /// as it was. It takes no memory. Its time grows with the number of terms, times the logarithm of
-    /// that of the reads.
+    /// Notes for each term of one transaction, counted from 0, where the key that it reads stands
+    /// among the declared reads, if these rise: `place_among` then finds it there at once. The
+    /// document stays as it was. It takes no memory. Its time grows with the number of terms, times
+    /// the logarithm of that of the reads.
     pub fn note_places(&mut self, index: usize)
         requires { index < length self.old.log }
         ensures { self.new ≡ self.old }

@@ -12,8 +12,8 @@ enum Held<T> {
     Any(Vec<T>),
 }
 
-/// Values in order, which contracts see as a list. One value alone stands in place, and takes no room
-/// of its own.
+/// Values in order, which contracts see as a list. One value alone stands in place, and takes no
+/// room of its own.
 #[derive(Debug, Drop)]
 pub struct Few<T> {
     held: Held<T>,

@@ -15,8 +15,8 @@ use std::hash::{Hash, Hasher};
 use std::marker::Model;
 
 /// A name of 1 to 32 bytes: a lower-case letter, then lower-case letters, digits and underscores.
-/// It stands in four words, its first byte worth most, with zeros behind: the order of names is that
-/// of their words.
+/// It stands in four words, its first byte worth most, with zeros behind: the order of names is
+/// that of their words.
 #[derive(Clone, Copy, Debug)]
 pub struct Key {
     words: [u64; 4],

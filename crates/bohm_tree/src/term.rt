@@ -103,10 +103,11 @@ impl Term {
         }
     }
 
-    /// The place among these of the key that it reads, if it is one of them. It is found at once where
-    /// it was noted among the same keys, and else the keys are gone along.
+    /// The place among these of the key that it reads, if it is one of them. It is found at once
+    /// where it was noted among the same keys, and else the keys are gone along.
     pub fn place_among(&self, keys: &[Key]) -> Option<usize>
-        ensures place { MatchOption (key_read self.now.1) (result ≡ None) (λ k. IsPlaceOf keys.now k result) }
+        ensures place { MatchOption (key_read self.now.1) (result ≡ None)
+            (λ k. IsPlaceOf keys.now k result) }
         ensures inside { IfSome result (λ i. i < length keys.now) }
     {
         match &self.packed {

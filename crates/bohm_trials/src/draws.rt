@@ -81,8 +81,8 @@ const LITERALS: [&[u8]; 6] = [
 
 const COMPARISONS: [&[u8]; 5] = [b"<", b"<=", b"=", b">=", b">"];
 
-/// Statements: `?` stands for a key that is read, `^` for one that is written, `#` for a number and `~`
-/// for a comparison.
+/// Statements: `?` stands for a key that is read, `^` for one that is written, `#` for a number and
+/// `~` for a comparison.
 const STATEMENTS: [&[u8]; 22] = [
     b"set ^ = #",
     b"set ^ = ?",

@@ -64,8 +64,8 @@ impl Gate for Holds<'_> {
     }
 }
 
-/// A log with so many executing workers and batches of these sizes: each held thread saw what it waited
-/// for, and the log is answered so.
+/// A log with so many executing workers and batches of these sizes: each held thread saw what it
+/// waited for, and the log is answered so.
 fn held_so<R: Abort + AllocGlobal + Threads + Wait + Sync + RandomSource>(
     rt: &R,
     log: &Checked,

@@ -1,5 +1,5 @@
-//! Tests of whole runs: drawn logs against the plain program, workers that are held at gates, what runs
-//! leave behind, failing readers and writers, and the line of plans.
+//! Tests of whole runs: drawn logs against the plain program, workers that are held at gates, what
+//! runs leave behind, failing readers and writers, and the line of plans.
 #![tactic(auto)]
 
 #[cfg(test)]

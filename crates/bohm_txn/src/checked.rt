@@ -55,8 +55,9 @@ impl Checked {
 /// The document, if it has no faulty place; or else its first faulty place, by transaction and then
 /// by statement, with the least kind of fault there. A refused document is dropped.
 ///
-/// It notes in each term where its key stands among the reads, so that `eval` seeks none. It takes no
-/// memory. Its time grows with the number of the document's store entries, keys, terms and statements.
+/// It notes in each term where its key stands among the reads, so that `eval` seeks none. It takes
+/// no memory. Its time grows with the number of the document's store entries, keys, terms and
+/// statements.
 #[tactic(auto, using(crate::proofs::FirstLaw::well_formed))]
 pub fn check(doc: Doc) -> Result<Checked, CheckFault>
     ensures ok { IfOk result (λ checked. checked ≡ doc) }

@@ -9,10 +9,11 @@ pub enum CheckKind {
     Unread,
     /// A statement writes a key that is not among the writes.
     Unwritten,
-    /// A statement reads a local that no earlier one binds, or binds a name that an earlier one binds.
+    /// A statement reads a local that no earlier one binds, or binds a name that an earlier one
+    /// binds.
     Local,
-    /// A log has over 1,000,000 transactions, a transaction over 64 statements or 16 reads, writes or
-    /// shown values, or a sum over 16 terms.
+    /// A log has over 1,000,000 transactions, a transaction over 64 statements or 16 reads, writes
+    /// or shown values, or a sum over 16 terms.
     Limit,
 }
 

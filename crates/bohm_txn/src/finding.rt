@@ -93,8 +93,8 @@ fn first_in_txn(txn: &Txn) -> Option<(u32, CheckKind)>
     }
 }
 
-/// The first fault of a log's transactions, counted from 1. Each one's terms have the places of their
-/// keys noted first, which the check and each evaluation then need not seek.
+/// The first fault of a log's transactions, counted from 1. Each one's terms have the places of
+/// their keys noted first, which the check and each evaluation then need not seek.
 fn first_in_log(doc: &mut Doc) -> Option<CheckFault>
     requires { length doc.old.log ≤ 1000000 }
     ensures fault { result ≡ option_map fault_of (first_in_log doc.old.log) }

@@ -33,27 +33,32 @@ pub fn sets_are_rising()
 
 /// A well-formed transaction's body depends on its declared reads alone.
 pub fn same_body()
-    ensures { (t : Txn) (look other : Look) → IsWellFormedTxn t → ((k : List ℕ) → IsAmong t.reads k → look k ≡ other k) → body look t ≡ body other t }
+    ensures { (t : Txn) (look other : Look) → IsWellFormedTxn t
+        → ((k : List ℕ) → IsAmong t.reads k → look k ≡ other k) → body look t ≡ body other t }
 {}
 
 /// It changes its declared writes alone.
 pub fn unwritten_stay()
-    ensures { (t : Txn) (look : Look) (k : List ℕ) → IsWellFormedTxn t → ¬ IsAmong t.writes k → after look t k ≡ look k }
+    ensures { (t : Txn) (look : Look) (k : List ℕ) → IsWellFormedTxn t → ¬ IsAmong t.writes k
+        → after look t k ≡ look k }
 {}
 
 /// Each write that it performs is declared.
 pub fn writes_are_declared()
-    ensures { (t : Txn) (look : Look) → IsWellFormedTxn t → AllByRecursion (λ w. IsAmong t.writes w.0) (writes_of (body look t)) }
+    ensures { (t : Txn) (look : Look) → IsWellFormedTxn t
+        → AllByRecursion (λ w. IsAmong t.writes w.0) (writes_of (body look t)) }
 {}
 
 /// A commit shows one value for each `show` of the body.
 pub fn shows_are_counted()
-    ensures { (t : Txn) (look : Look) (run : Run) → body look t ≡ Ok run → length run.shows ≡ shows_in t.body }
+    ensures { (t : Txn) (look : Look) (run : Run) → body look t ≡ Ok run
+        → length run.shows ≡ shows_in t.body }
 {}
 
 /// Where the body does the same, a key that holds the same before holds the same afterwards.
 pub fn same_cell_after()
-    ensures { (t : Txn) (look other : Look) (k : List ℕ) → body look t ≡ body other t → look k ≡ other k → after look t k ≡ after other t k }
+    ensures { (t : Txn) (look other : Look) (k : List ℕ) → body look t ≡ body other t
+        → look k ≡ other k → after look t k ≡ after other t k }
 {}
 
 /// A sure transaction commits over every store.
@@ -68,12 +73,14 @@ pub fn sure_body_is_same()
 
 /// After a sure transaction its declared writes hold the same, whatever stood before.
 pub fn sure_cells_are_same()
-    ensures { (t : Txn) (look other : Look) → IsSure t → map (after look t) t.writes ≡ map (after other t) t.writes }
+    ensures { (t : Txn) (look other : Look) → IsSure t
+        → map (after look t) t.writes ≡ map (after other t) t.writes }
 {}
 
 /// The store that the serial run leaves has the cells of its last state.
 pub fn store_has_last_state()
-    ensures { (s : Store) (ts : List Txn) → cell_in (store_after s ts) ≡ state (cell_in s) ts (length ts) }
+    ensures { (s : Store) (ts : List Txn)
+        → cell_in (store_after s ts) ≡ state (cell_in s) ts (length ts) }
 {}
 
 /// Two stores whose keys hold the same are one.
@@ -83,5 +90,6 @@ pub fn same_cells_same_store()
 
 /// The next state is what the next transaction makes of the one before.
 pub fn next_state()
-    ensures { (look : Look) (ts : List Txn) (i : ℕ) (t : Txn) → slice_get ts i ≡ Some t → state look ts (suc i) ≡ after (state look ts i) t }
+    ensures { (look : Look) (ts : List Txn) (i : ℕ) (t : Txn) → slice_get ts i ≡ Some t
+        → state look ts (suc i) ≡ after (state look ts i) t }
 {}

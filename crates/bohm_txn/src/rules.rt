@@ -78,7 +78,8 @@ fn is_defined(before: &[Stmt], terms: &[Term]) -> bool
 /// Whether all sums of the statement pass: both sides of a condition, and of a guard.
 fn all_sums<F: Fn(&Sum) -> bool>(stmt: &Stmt, passes: F) -> bool
     requires { F.IsAlwaysCallable passes }
-    ensures { (p : List (Bool × Atom) → Bool) → Computes F.Fn p passes → result ≡ list_all p (sums stmt.now) }
+    ensures { (p : List (Bool × Atom) → Bool) → Computes F.Fn p passes
+        → result ≡ list_all p (sums stmt.now) }
 {
     match stmt {
         Stmt::Bind { sum, .. } | Stmt::Show(sum) => passes(sum),

@@ -59,10 +59,15 @@ fn eval_txn(txn: &Txn, reads: &[Cell], earlier: &[Cell], scratch: &mut Scratch) 
     requires well { IsWellFormedTxn txn.now }
     requires reads { length txn.now.reads ≡ length reads.now }
     requires earlier { length txn.now.writes ≡ length earlier.now }
-    ensures outcome { (look : Look) → map look txn.now.reads ≡ reads.now → outcome_of (body look txn.now) ≡ result }
-    ensures shows { (look : Look) → map look txn.now.reads ≡ reads.now → shows_of (body look txn.now) ≡ scratch.new.shows }
-    ensures cells { (look : Look) → map look txn.now.reads ≡ reads.now → map look txn.now.writes ≡ earlier.now → map (after look txn.now) txn.now.writes ≡ scratch.new.cells }
-    ensures sure { IsSure txn.now → (look : Look) → map look txn.now.reads ≡ reads.now → map (after look txn.now) txn.now.writes ≡ scratch.new.cells }
+    ensures outcome { (look : Look) → map look txn.now.reads ≡ reads.now
+        → outcome_of (body look txn.now) ≡ result }
+    ensures shows { (look : Look) → map look txn.now.reads ≡ reads.now
+        → shows_of (body look txn.now) ≡ scratch.new.shows }
+    ensures cells { (look : Look) → map look txn.now.reads ≡ reads.now
+        → map look txn.now.writes ≡ earlier.now
+        → map (after look txn.now) txn.now.writes ≡ scratch.new.cells }
+    ensures sure { IsSure txn.now → (look : Look) → map look txn.now.reads ≡ reads.now
+        → map (after look txn.now) txn.now.writes ≡ scratch.new.cells }
 {
     match scratch.work.run(txn, reads, earlier) {
         Ok(()) => Outcome::Commit,
@@ -77,17 +82,22 @@ fn eval_txn(txn: &Txn, reads: &[Cell], earlier: &[Cell], scratch: &mut Scratch) 
 /// it is sure, its declared writes have the cells `earlier`. It leaves in the scratch the cells of
 /// the declared writes after the transaction, and the shown values. It allocates nothing.
 ///
-/// Its time grows with the terms of the body. In a transaction of a checked document a term finds its
-/// key at once; in another one the key is sought among the reads. A local is sought among those that
-/// are bound, and the key that a statement tests or writes among the declared ones.
+/// Its time grows with the terms of the body. In a transaction of a checked document a term finds
+/// its key at once; in another one the key is sought among the reads. A local is sought among those
+/// that are bound, and the key that a statement tests or writes among the declared ones.
 pub fn eval(txn: &TxnView<'_>, reads: &[Cell], earlier: &[Cell], scratch: &mut Scratch) -> Outcome
     requires well { IsWellFormedTxn txn.now }
     requires reads { length txn.now.reads ≡ length reads.now }
     requires earlier { length txn.now.writes ≡ length earlier.now }
-    ensures outcome { (look : Look) → map look txn.now.reads ≡ reads.now → outcome_of (body look txn.now) ≡ result }
-    ensures shows { (look : Look) → map look txn.now.reads ≡ reads.now → shows_of (body look txn.now) ≡ scratch.new.shows }
-    ensures cells { (look : Look) → map look txn.now.reads ≡ reads.now → map look txn.now.writes ≡ earlier.now → map (after look txn.now) txn.now.writes ≡ scratch.new.cells }
-    ensures sure { IsSure txn.now → (look : Look) → map look txn.now.reads ≡ reads.now → map (after look txn.now) txn.now.writes ≡ scratch.new.cells }
+    ensures outcome { (look : Look) → map look txn.now.reads ≡ reads.now
+        → outcome_of (body look txn.now) ≡ result }
+    ensures shows { (look : Look) → map look txn.now.reads ≡ reads.now
+        → shows_of (body look txn.now) ≡ scratch.new.shows }
+    ensures cells { (look : Look) → map look txn.now.reads ≡ reads.now
+        → map look txn.now.writes ≡ earlier.now
+        → map (after look txn.now) txn.now.writes ≡ scratch.new.cells }
+    ensures sure { IsSure txn.now → (look : Look) → map look txn.now.reads ≡ reads.now
+        → map (after look txn.now) txn.now.writes ≡ scratch.new.cells }
 {
     eval_txn(txn.get(), reads, earlier, scratch)
 }

@@ -25,7 +25,8 @@ pub struct View<'a> {
 }
 
 fn last_bound<'a>(locals: &'a [(Key, Value)], name: &Key) -> Option<&'a (Key, Value)>
-    ensures { option_copied result ≡ find (λ local. bytes_eq local.0 name.now) (reverse locals.now) }
+    ensures { option_copied result
+        ≡ find (λ local. bytes_eq local.0 name.now) (reverse locals.now) }
 {
     locals.iter().rev().find(|local| local.0 == *name)
 }
@@ -67,7 +68,8 @@ impl View<'_> {
     fn cell_read(&self, term: &Term) -> Cell
         requires paired { length self.now.keys.now ≡ length self.now.cells.now }
         requires rising { rising self.now.keys.now ≡ true }
-        ensures { OnSomeKey (λ k. result ≡ cell_at self.now.keys.now self.now.cells.now k) (key_read term.now.1) }
+        ensures { OnSomeKey
+            (λ k. result ≡ cell_at self.now.keys.now self.now.cells.now k) (key_read term.now.1) }
     {
         match term.place_among(self.keys) {
             Some(i) => self.cells[i],
@@ -113,7 +115,9 @@ impl View<'_> {
         requires paired { length self.now.keys.now ≡ length self.now.cells.now }
         requires rising { rising self.now.keys.now ≡ true }
         requires few { length terms.now ≤ 16 }
-        ensures { result ≡ total_from (cell_at self.now.keys.now self.now.cells.now) self.now.locals.now (pos 0) terms.now }
+        ensures { result
+            ≡ total_from (cell_at self.now.keys.now self.now.cells.now) self.now.locals.now
+            (pos 0) terms.now }
     {
         let mut total: i128 = 0;
         for term in terms {
@@ -127,7 +131,8 @@ impl View<'_> {
         requires paired { length self.now.keys.now ≡ length self.now.cells.now }
         requires rising { rising self.now.keys.now ≡ true }
         requires few { length sum.now ≤ 16 }
-        ensures { result ≡ sum_value (cell_at self.now.keys.now self.now.cells.now) self.now.locals.now sum.now }
+        ensures { result
+            ≡ sum_value (cell_at self.now.keys.now self.now.cells.now) self.now.locals.now sum.now }
     {
         let total = self.total(sum.terms()).ok_or(Reason::Absent)?;
         match i64::try_from(total) {
@@ -154,7 +159,9 @@ impl View<'_> {
         requires paired { length self.now.keys.now ≡ length self.now.cells.now }
         requires rising { rising self.now.keys.now ≡ true }
         requires few { AllByRecursion (λ sum. length sum ≤ 16) (guard_sums guard.now) }
-        ensures { result ≡ guard_value (cell_at self.now.keys.now self.now.cells.now) self.now.locals.now guard.now }
+        ensures { result
+            ≡ guard_value
+            (cell_at self.now.keys.now self.now.cells.now) self.now.locals.now guard.now }
     {
         match guard {
             Some(cond) => self.holds(cond.get()),

@@ -17,7 +17,8 @@ pub trait Line {
     ghost cutting: { Cutting };
 }
 
-/// A call at `Brand` picks in its proof the cutting that its line is for, in place of the empty one here.
+/// A call at `Brand` picks in its proof the cutting that its line is for, in place of the empty one
+/// here.
 impl Line for Brand {
     ghost use Rattle.std.specs.Prelude.{[]};
 

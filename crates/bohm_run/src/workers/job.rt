@@ -10,8 +10,8 @@ use bohm_exec::{Aside, Gate, share_of, sweep};
 use bohm_txn::{NoMemory, Scratch};
 use std::alloc::Global;
 
-/// One of `count` workers: it has each position whose distance from the batch's first is its own number
-/// modulo `count`.
+/// One of `count` workers: it has each position whose distance from the batch's first is its own
+/// number modulo `count`.
 #[derive(Clone, Copy, Debug)]
 pub(crate) struct Worker {
     pub(crate) number: u32,

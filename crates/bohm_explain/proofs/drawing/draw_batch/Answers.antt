@@ -1,6 +1,6 @@
 use Rattle.std.proofs.Common.{◌∙◌, ◌≤◌, ◌^◌, All, List, ℕ, sym, subst, arith}
 use Rattle.bohm_explain.specs.Asked.{IsBetween}
-use Rattle.bohm_explain.proofs.Bands.{greatest_at_most}
+use Rattle.bohm_explain.proofs.Banding.{greatest_at_most}
 use Rattle.bohm_explain.proofs.Shallow.{depths_between}
 use Rattle.bohm_explain.proofs.drawing.draw_batch.Goals as goal
 

@@ -1,6 +1,6 @@
 use Rattle.std.proofs.Common.{◌∙◌, ℕ, List, ◌++◌, ap, codes, decimal}
 use Rattle.bohm_explain.specs.Verdict.{limit_words, speedup_limit}
-use Rattle.bohm_explain.proofs.Pieces.{ten}
+use Rattle.bohm_explain.proofs.Parts.{ten}
 use Rattle.bohm_explain.proofs.verdict.put_key_words.Goals as goal
 
 pub returns : goal.returns

@@ -1,5 +1,5 @@
 use Rattle.std.proofs.Common.{◌≡◌, false, codes, decimal, nat_le, arith}
-use Rattle.bohm_explain.proofs.Pieces.{three}
+use Rattle.bohm_explain.proofs.Parts.{three}
 use Rattle.bohm_explain.proofs.verdict.put_limit.Goals as goal
 
 pub returns : goal.returns

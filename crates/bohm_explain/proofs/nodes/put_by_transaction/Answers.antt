@@ -1,9 +1,9 @@
 use Rattle.std.proofs.Common.{ℕ, ◌∙◌, ◌++◌, length, ap, arith}
 use Rattle.bohm_place.specs.Chains.{greatest}
 use Rattle.bohm_explain.specs.Picture.{opening, legend, layout, head_style, column_lines, node_style, node_lines, arrow_style, arrow_lines, closing}
-use Rattle.bohm_explain.proofs.Bands.{greatest_at_most}
+use Rattle.bohm_explain.proofs.Banding.{greatest_at_most}
 use Rattle.bohm_explain.proofs.Texts.{one_more}
-use Rattle.bohm_explain.proofs.picture.put_by_transaction.Goals as goal
+use Rattle.bohm_explain.proofs.nodes.put_by_transaction.Goals as goal
 
 pub put_columns-requires : goal.put_columns-requires
 put_columns-requires c =

@@ -1,9 +1,9 @@
 use Rattle.std.proofs.Common.{◌≡◌, ◌∙◌, ℕ, ◌+◌, ◌*◌, ◌/◌, ◌%◌, ◌++◌, ◌<◌, ◌≤◌, min, slice_index, count_by, ap, arith, add-one}
-use Rattle.bohm_explain.specs.declared.picture.Band.{Band}
+use Rattle.bohm_explain.specs.declared.bands.Band.{Band}
 use Rattle.bohm_explain.specs.Picture.{band_at, band_line, bands_below, is_in}
-use Rattle.bohm_explain.proofs.Bands.{at_most_greatest, few_bands, greatest_at_most}
+use Rattle.bohm_explain.proofs.Banding.{at_most_greatest, few_bands, greatest_at_most}
 use Rattle.bohm_explain.proofs.Texts.{one_more}
-use Rattle.bohm_explain.proofs.picture.put_bands.Goals as goal
+use Rattle.bohm_explain.proofs.bands.put_bands.Goals as goal
 
 pub band_width-width-requires : goal.band_width-width-requires
 band_width-width-requires c =

@@ -2,8 +2,8 @@ use Rattle.std.proofs.Common.{◌∙◌, ℕ, ◌-◌, ◌/◌, ◌<◌, length,
 use Rattle.std.proofs.lemmas.List.{length-set, length-take, get_or-replicate}
 use Rattle.std.proofs.lemmas.List.Sums.{count_by-le-length}
 use Rattle.bohm_explain.specs.Picture.{band_at, is_in}
-use Rattle.bohm_explain.proofs.Bands.{band_below, counted}
-use Rattle.bohm_explain.proofs.picture.band_counts.Goals as goal
+use Rattle.bohm_explain.proofs.Banding.{band_below, counted}
+use Rattle.bohm_explain.proofs.bands.band_counts.Goals as goal
 
 pub overflow_add-counts : goal.overflow_add-counts
 overflow_add-counts c =

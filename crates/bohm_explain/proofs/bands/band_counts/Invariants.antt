@@ -1,6 +1,6 @@
 use Rattle.std.proofs.Common.{◌≡◌, ℕ, ◌<◌, count_by, length, slice_index, take}
 use Rattle.bohm_explain.specs.Picture.{band_at, is_in}
-use Rattle.bohm_explain.proofs.picture.band_counts.Given as goal
+use Rattle.bohm_explain.proofs.bands.band_counts.Given as goal
 
 abbrev pub invariant-loop-depth : goal.invariant-loop-depth
 invariant-loop-depth l = record {

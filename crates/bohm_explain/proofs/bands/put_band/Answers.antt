@@ -2,7 +2,7 @@ use Rattle.std.proofs.Common.{◌+◌, ◌++◌, codes, decimal}
 use Rattle.std.proofs.lemmas.Result.{IfOk-weaker}
 use Rattle.bohm_explain.specs.Picture.{count_text, joined}
 use Rattle.bohm_explain.proofs.Texts.{one_more}
-use Rattle.bohm_explain.proofs.picture.put_band.Goals as goal
+use Rattle.bohm_explain.proofs.bands.put_band.Goals as goal
 
 pub returns : goal.returns
 returns c = IfOk-weaker c.put_joined.result _ _ (λ x is.

@@ -1,8 +1,8 @@
 use Rattle.std.proofs.Common.{◌+◌, ◌++◌, codes, decimal}
 use Rattle.bohm_explain.specs.Picture.{shown}
-use Rattle.bohm_explain.proofs.Pieces.{ten}
+use Rattle.bohm_explain.proofs.Parts.{ten}
 use Rattle.bohm_explain.proofs.Texts.{one_more}
-use Rattle.bohm_explain.proofs.picture.put_arrow.Goals as goal
+use Rattle.bohm_explain.proofs.nodes.put_arrow.Goals as goal
 
 pub returns : goal.returns
 returns c =

@@ -1,0 +1,128 @@
+//! A picture of how many transactions each depth has.
+
+ghost use Rattle.std.specs.Prelude.{◌≡◌, ℕ, ◌+◌, ◌*◌, ◌++◌, ◌<◌, ◌≤◌, All, IfOk, count_by, length, slice_index};
+ghost use Rattle.bohm_place.specs.Chains.{greatest};
+ghost use Rattle.bohm_explain.specs.Asked.{IsBetween};
+ghost use Rattle.bohm_explain.specs.Picture.{band_at, band_line, band_lines, band_width, by_depth, count_text, depths_text, is_in};
+ghost use Rattle.bohm_explain.specs.declared.bands.Band.{Band};
+ghost use Rattle.bohm_explain.specs.declared.bands.TheConstants.{MOST_NODES};
+
+use crate::decimal::put_decimal;
+use crate::figures::greatest;
+use crate::pieces::{put_joined, put_opening, put_where};
+use bohm_txn::NoMemory;
+
+/// The most transactions that are drawn one by one, and the most bands of depths.
+pub const MOST_NODES: u32 = 200;
+
+/// Neighbouring depths that are drawn as one.
+#[derive(Clone, Copy, Debug, PartialEq, Eq)]
+struct Band {
+    first: u32,
+    last: u32,
+}
+
+/// So many depths are drawn as one that at most 200 nodes are drawn.
+fn band_width(deepest: u32) -> u32
+    requires few { deepest ≤ 4096 }
+    ensures { result ≡ band_width deepest }
+{
+    deepest.div_ceil(MOST_NODES)
+}
+
+/// The band behind so many others.
+fn band_at(deepest: u32, width: u32, before: u32) -> Band
+    requires width { width ≤ 21 }
+    requires few { before < 200 }
+    ensures { result ≡ band_at deepest width before }
+{
+    Band {
+        first: before * width + 1,
+        last: deepest.min((before + 1) * width),
+    }
+}
+
+/// How many of the depths are in each band.
+fn band_counts(deepest: u32, width: u32, depths: &[u32]) -> [u32; MOST_NODES as usize]
+    requires few { length depths.now ≤ 4096 }
+    requires depths { All (IsBetween 1 deepest) depths.now }
+    requires wide { deepest ≤ width * 200 }
+    ensures length { length result ≡ 200 }
+    ensures counts { (k : ℕ) → k < 200
+        → slice_index result k ≡ count_by (is_in (band_at deepest width k)) depths.now }
+{
+    let mut counts = [0; MOST_NODES as usize];
+    for depth in depths {
+        counts[((*depth - 1) / width) as usize] += 1;
+    }
+    counts
+}
+
+/// The depths of a band in words.
+fn put_depths(out: &mut Vec<u8>, band: Band) -> Result<(), NoMemory>
+    ensures { IfOk result (λ _. out.new.items ≡ out.old.items ++ depths_text band) }
+{
+    if band.first == band.last {
+        out.extend_from_slice(b"depth ")?;
+    } else {
+        out.extend_from_slice(b"depths ")?;
+        put_decimal(out, band.first)?;
+        out.extend_from_slice(b" to ")?;
+    }
+    put_decimal(out, band.last)
+}
+
+/// So many transactions in a band, in words.
+fn put_count(out: &mut Vec<u8>, band: Band, count: u32) -> Result<(), NoMemory>
+    ensures { IfOk result (λ _. out.new.items ≡ out.old.items ++ count_text band count) }
+{
+    put_depths(out, band)?;
+    out.extend_from_slice(b": ")?;
+    put_decimal(out, count)?;
+    out.extend_from_slice(b" transaction")?;
+    put_where(out, count != 1, b"s")
+}
+
+/// So many transactions in a band behind so many others.
+fn put_band(out: &mut Vec<u8>, before: u32, band: Band, count: u32) -> Result<(), NoMemory>
+    requires few { before < 200 }
+    ensures { IfOk result (λ _. out.new.items ≡ out.old.items ++ band_line before band count) }
+{
+    out.extend_from_slice(b"  d")?;
+    put_decimal(out, before + 1)?;
+    out.extend_from_slice(b" [label=\"")?;
+    put_count(out, band, count)?;
+    out.extend_from_slice(b"\"];\n")?;
+    put_joined(out, before)
+}
+
+fn put_bands(out: &mut Vec<u8>, depths: &[u32]) -> Result<(), NoMemory>
+    requires some { 0 < length depths.now }
+    requires few { length depths.now ≤ 4096 }
+    requires depths { All (IsBetween 1 4096) depths.now }
+    ensures { IfOk result (λ _. out.new.items ≡ out.old.items ++ band_lines depths.now) }
+{
+    let deepest = greatest(depths);
+    let width = band_width(deepest);
+    let counts = band_counts(deepest, width, depths);
+    for before in 0..deepest.div_ceil(width) {
+        let band = band_at(deepest, width, before);
+        put_band(out, before, band, counts[before as usize])?;
+    }
+    Ok(())
+}
+
+/// How many transactions each depth has.
+pub fn put_by_depth(out: &mut Vec<u8>, batch: u32, depths: &[u32]) -> Result<(), NoMemory>
+    requires some { 0 < length depths.now }
+    requires few { length depths.now ≤ 4096 }
+    requires depths { All (IsBetween 1 4096) depths.now }
+    ensures { IfOk result (λ _. out.new.items ≡ out.old.items ++ by_depth batch depths.now) }
+{
+    put_opening(out, batch)?;
+    out.extend_from_slice(b"\"];\n  labelloc=t;\n  ranksep=0.2;\n")?;
+    out.extend_from_slice(b"  node [fontname=Helvetica, shape=box, height=0.3];\n")?;
+    put_bands(out, depths)?;
+    out.extend_from_slice(b"}\n")?;
+    Ok(())
+}

@@ -1,0 +1,76 @@
+//! What pictures by transaction and by depth have in common.
+
+ghost use Rattle.std.specs.Prelude.{◌≡◌, ◌++◌, ◌<◌, ◌≤◌, IfOk};
+ghost use Rattle.bohm_explain.specs.Picture.{column_line, column_lines, joined, legend, opening, shown};
+
+use crate::decimal::put_decimal;
+use bohm_txn::NoMemory;
+
+/// The title of a batch, in a text that is still open.
+pub fn put_opening(out: &mut Vec<u8>, batch: u32) -> Result<(), NoMemory>
+    ensures { IfOk result (λ _. out.new.items ≡ out.old.items ++ opening batch) }
+{
+    out.extend_from_slice(b"digraph {\n  graph [fontname=Helvetica, label=\"Batch ")?;
+    put_decimal(out, batch)?;
+    out.extend_from_slice(b", transactions by depth")?;
+    Ok(())
+}
+
+/// What the marks mean, which ends that text.
+pub fn put_legend(out: &mut Vec<u8>) -> Result<(), NoMemory>
+    ensures { IfOk result (λ _. out.new.items ≡ out.old.items ++ legend) }
+{
+    out.extend_from_slice(b"\\narrow: to one that wants the key's version")?;
+    out.extend_from_slice(b"\\nbox: sure; filled, bold: on a longest chain")?;
+    out.extend_from_slice(b"\"];\n")?;
+    Ok(())
+}
+
+/// A text where this holds, and else nothing.
+pub fn put_where(out: &mut Vec<u8>, holds: bool, text: &[u8]) -> Result<(), NoMemory>
+    ensures { IfOk result (λ _. out.new.items ≡ out.old.items ++ shown holds text.now) }
+{
+    if holds {
+        out.extend_from_slice(text)?;
+    }
+    Ok(())
+}
+
+/// Joins a node of the row to the one before it, if there is one.
+pub fn put_joined(out: &mut Vec<u8>, before: u32) -> Result<(), NoMemory>
+    requires few { before < 4096 }
+    ensures { IfOk result (λ _. out.new.items ≡ out.old.items ++ joined before) }
+{
+    if before == 0 {
+        return Ok(());
+    }
+    out.extend_from_slice(b"  d")?;
+    put_decimal(out, before)?;
+    out.extend_from_slice(b" -> d")?;
+    put_decimal(out, before + 1)?;
+    out.extend_from_slice(b";\n")?;
+    Ok(())
+}
+
+/// The head of a column, behind so many others.
+fn put_column(out: &mut Vec<u8>, before: u32) -> Result<(), NoMemory>
+    requires few { before < 4096 }
+    ensures { IfOk result (λ _. out.new.items ≡ out.old.items ++ column_line before) }
+{
+    out.extend_from_slice(b"  d")?;
+    put_decimal(out, before + 1)?;
+    out.extend_from_slice(b" [label=\"depth ")?;
+    put_decimal(out, before + 1)?;
+    out.extend_from_slice(b"\"];\n")?;
+    put_joined(out, before)
+}
+
+pub fn put_columns(out: &mut Vec<u8>, deepest: u32) -> Result<(), NoMemory>
+    requires few { deepest ≤ 4096 }
+    ensures { IfOk result (λ _. out.new.items ≡ out.old.items ++ column_lines deepest) }
+{
+    for before in 0..deepest {
+        put_column(out, before)?;
+    }
+    Ok(())
+}
