@@ -9,7 +9,7 @@ use Rattle.std.proofs.lemmas.List.{append-nil}
 use Rattle.std.proofs.lemmas.List.Elements.{Contains-append_left, Contains-append_right}
 use Rattle.bohm_tree.specs.declared.cell.Cell.{Cell}
 use Rattle.bohm_tree.specs.declared.cell.Cell.TheVariants as cells
-use Rattle.bohm_tree.specs.declared.txn.Txn.{Txn}
+use Rattle.bohm_tree.specs.Txn.{Txn}
 use Rattle.bohm_txn.specs.Declares.{IsAmong, shows_in}
 use Rattle.bohm_txn.specs.Meaning.{Look, Ended, newest, body, ◌>>=◌}
 use Rattle.bohm_txn.specs.Serial.{after, state, shows_of, outcome_of}

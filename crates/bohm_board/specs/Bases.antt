@@ -2,7 +2,7 @@
 use Rattle.std.specs.Prelude.{◌≡◌, ℕ, ◌<◌, ◌⊎◌, List, [], ◌∷◌, ◌++◌, map, Bool, true, ◌||◌, Some, slice_get}
 use Rattle.std.specs.List.{list_any}
 use Rattle.bohm_tree.specs.declared.cell.Cell.{Cell}
-use Rattle.bohm_tree.specs.declared.txn.Txn.{Txn}
+use Rattle.bohm_tree.specs.Txn.{Txn}
 use Rattle.bohm_txn.specs.Faulty.{is_among, rising}
 use Rattle.bohm_place.specs.declared.access.Access.{Access}
 use Rattle.bohm_place.specs.declared.access.Source.TheVariants.{Before}

@@ -1,6 +1,6 @@
 -- Where the slots of a batch lie.
 use Rattle.std.specs.Prelude.{◌≡◌, ℕ, ◌<◌, ◌≤◌, List, length, slice_index}
-use Rattle.bohm_tree.specs.declared.txn.Txn.{Txn}
+use Rattle.bohm_tree.specs.Txn.{Txn}
 use Rattle.bohm_board.specs.declared.layout.Layout.{Layout}
 use Rattle.bohm_board.specs.Serial.{offset}
 

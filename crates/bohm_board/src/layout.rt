@@ -1,7 +1,6 @@
 //! Where the slots of a batch lie.
 
 ghost use Rattle.std.specs.Prelude.{◌≡◌, ℕ, ◌+◌, ◌<◌, ◌≤◌, length, slice_index, IfOk};
-ghost use Rattle.bohm_txn.specs.Declares.{shows_in};
 ghost use Rattle.bohm_txn.specs.Faulty.{IsWellFormedTxn};
 ghost use Rattle.bohm_board.specs.Serial.{width};
 ghost use Rattle.bohm_board.specs.Batches.{txns_of, number, rights_of, IsSlot};
@@ -9,7 +8,7 @@ ghost use Rattle.bohm_board.specs.Layouts.{IsLayoutOf};
 
 use crate::batch::Batch;
 use crate::slot::Slot;
-use bohm_txn::{LogPart, NoMemory, Stmt, TxnView};
+use bohm_txn::{LogPart, NoMemory, TxnView, shows};
 use std::alloc::Global;
 
 /// How many positions and slots there are, and how many slots before each position.
@@ -20,26 +19,13 @@ pub struct Layout {
     pub starts: Vec<u32>,
 }
 
-// How many values a commit shows.
-fn shows(body: &[Stmt]) -> usize
-    ensures { result ≡ shows_in body.now }
-{
-    let mut count = 0;
-    for stmt in body {
-        if stmt.is_show() {
-            count += 1;
-        }
-    }
-    count
-}
-
 // How many slots a transaction has.
 pub(crate) fn width(txn: &TxnView<'_>) -> u32
     requires { IsWellFormedTxn txn.now }
     ensures width { result ≡ width txn.now }
     ensures few { result ≤ 32 }
 {
-    (txn.writes().len() + shows(txn.get().body.as_slice())) as u32
+    (txn.writes().len() + shows(txn)) as u32
 }
 
 impl Layout {

@@ -4,6 +4,7 @@ ghost use Rattle.std.specs.Prelude.{◌≡◌, [], IfOk, IfErr};
 ghost use Rattle.bohm_text.specs.Print.{print_doc};
 ghost use Rattle.bohm_c.specs.Reading.{IsRead, IsRefused, snapshot_of};
 
+use bohm_log::{HashSeed, Log};
 use bohm_run::{LONGEST_TEXT, RunFault};
 use bohm_text::{parse, print_doc};
 use bohm_txn::{Checked, Doc, Edition, Key, NoMemory, Value, check};
@@ -25,7 +26,7 @@ pub fn read(alloc: Global, text: &[u8]) -> Result<Checked, RunFault>
 pub fn print_snapshot(alloc: Global, store: Vec<(Key, Value)>) -> Result<Vec<u8>, NoMemory>
     ensures { IfOk result (λ text. text.items ≡ print_doc (snapshot_of store.items)) }
 {
-    let Some(doc) = Doc::new(Edition::One, store, Vec::new(alloc)) else {
+    let Some(doc) = Doc::new(Edition::One, store, Log::new(alloc, HashSeed::fixed())) else {
         unreachable!()
     };
     print_doc(alloc, &doc)

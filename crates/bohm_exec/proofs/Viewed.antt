@@ -7,7 +7,7 @@ use mathlib.Core.Logic.{dite}
 use native.Mathlib.Decide.{ℕ_discrete}
 use Rattle.bohm_tree.specs.declared.cell.Cell.{Cell}
 use Rattle.bohm_tree.specs.declared.cell.Cell.TheVariants.{Absent, Present}
-use Rattle.bohm_tree.specs.declared.txn.Txn.{Txn}
+use Rattle.bohm_tree.specs.Txn.{Txn}
 use Rattle.bohm_txn.specs.Faulty.{IsWellFormedTxn}
 use Rattle.bohm_txn.specs.Sure.{is_sure}
 use Rattle.bohm_place.specs.declared.access.Access.{Access}

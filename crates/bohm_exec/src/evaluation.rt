@@ -1,7 +1,7 @@
 //! The evaluation of one position.
 
 ghost use Rattle.std.specs.Prelude.{◌≡◌, ◌≤◌, Some, length};
-ghost use Rattle.bohm_tree.specs.declared.txn.Txn.{Txn};
+ghost use Rattle.bohm_tree.specs.Txn.{Txn};
 ghost use Rattle.bohm_place.specs.Plans.{keys_in};
 ghost use Rattle.bohm_board.specs.Batches.{accesses_in, IsIn, IsRightOutcome, is_sure_at, txn_at};
 ghost use Rattle.bohm_board.specs.Inputs.{AreCellsOf};

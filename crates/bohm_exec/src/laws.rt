@@ -2,7 +2,7 @@
 
 ghost use Rattle.std.specs.Prelude.{◌≡◌, ℕ, ◌+◌, ◌-◌, ◌%◌, ◌<◌, ◌≤◌, List, All, Contains, count_by, Some, ◌↔◌, slice_get};
 ghost use Rattle.bohm_tree.specs.declared.cell.Cell.{Cell};
-ghost use Rattle.bohm_tree.specs.declared.txn.Txn.{Txn};
+ghost use Rattle.bohm_tree.specs.Txn.{Txn};
 ghost use Rattle.bohm_txn.specs.declared.outcome.Outcome.{Outcome};
 ghost use Rattle.bohm_txn.specs.Sure.{IsSure};
 ghost use Rattle.bohm_place.specs.declared.access.Access.{Access};

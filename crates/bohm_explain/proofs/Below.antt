@@ -1,6 +1,6 @@
 -- The arrows of one position more.
 use Rattle.std.proofs.Common.{◌≡◌, ℕ, ◌+◌, List, [], ◌++◌, Bool, true, false, cond, Some, slice_get, unwrap_or, option_map, sym, ap, ◌∙◌, append_assoc, append-nil, add-one}
-use Rattle.bohm_tree.specs.declared.txn.Txn.{Txn}
+use Rattle.bohm_tree.specs.Txn.{Txn}
 use Rattle.bohm_txn.specs.Sure.{is_sure}
 use Rattle.bohm_place.specs.declared.declared_set.DeclaredSet.TheVariants.{Reads, Writes}
 use Rattle.bohm_explain.specs.declared.arrow.Arrow.{Arrow}

@@ -1,7 +1,7 @@
 -- Depths lie between 1 and the number of transactions.
 use Rattle.std.proofs.Common.{◌≡◌, ◌∙◌, ℕ, zero, suc, ◌*◌, ◌<◌, ◌≤◌, List, length, replicate, slice_index, get_or, All, arith}
 use Rattle.std.proofs.lemmas.List.{length-replicate, get_or-replicate, get_or_default}
-use Rattle.bohm_tree.specs.declared.txn.Txn.{Txn}
+use Rattle.bohm_tree.specs.Txn.{Txn}
 use Rattle.bohm_explain.specs.Asked.{IsBetween}
 use Rattle.bohm_explain.specs.Figures.{alike, depths}
 use Rattle.bohm_explain.specs.Wanted.{arrows}

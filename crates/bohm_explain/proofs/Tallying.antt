@@ -6,7 +6,7 @@ use Rattle.std.proofs.lemmas.Bool.{false≢true}
 use Rattle.std.proofs.lemmas.List.{length-take-le}
 use Rattle.std.proofs.lemmas.List.Sums.{count_by-le-length}
 use Rattle.std.proofs.lemmas.Option.{get_or_from_slice_get, slice_get_within}
-use Rattle.bohm_tree.specs.declared.txn.Txn.{Txn}
+use Rattle.bohm_tree.specs.Txn.{Txn}
 use Rattle.bohm_txn.specs.declared.fault.CheckKind.TheVariants.{Order}
 use Rattle.bohm_txn.specs.Faulty.{IsWellFormedTxn, is_among, rising}
 use Rattle.bohm_txn.proofs.ForCallers.{none_before, rising_apart, rising_writes, same_key}

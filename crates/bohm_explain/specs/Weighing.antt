@@ -1,7 +1,7 @@
 -- What a transaction weighs: the terms of its body, and 1 where it has none.
 use Rattle.std.specs.Prelude.{ℕ, ◌+◌, List, length, map, max, sum_by}
-use Rattle.bohm_tree.specs.declared.stmt.Stmt.{Stmt}
-use Rattle.bohm_tree.specs.declared.txn.Txn.{Txn}
+use Rattle.bohm_tree.specs.Stmt.{Stmt}
+use Rattle.bohm_tree.specs.Txn.{Txn}
 use Rattle.bohm_tree.specs.Parts.{sums}
 
 abbrev pub terms_in : Stmt → ℕ

@@ -1,7 +1,7 @@
 //! A log explained.
 
 ghost use Rattle.std.specs.Prelude.{◌≡◌, ◌++◌, ◌∷◌, [], ◌≤◌, List, length, IfOk, OnOk};
-ghost use Rattle.bohm_tree.specs.declared.txn.Txn.{Txn};
+ghost use Rattle.bohm_tree.specs.Txn.{Txn};
 ghost use Rattle.bohm_place.specs.Shares.{AreWellFormed};
 ghost use Rattle.bohm_explain.specs.Asked.{IsBetween};
 ghost use Rattle.bohm_explain.specs.Figures.{figures_in, figures_of};

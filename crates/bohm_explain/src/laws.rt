@@ -1,7 +1,7 @@
 //! Laws over the definitions alone. No running call uses them.
 
 ghost use Rattle.std.specs.Prelude.{◌≡◌, ◌+◌, ◌<◌, ℕ, List, length, slice_index};
-ghost use Rattle.bohm_tree.specs.declared.txn.Txn.{Txn};
+ghost use Rattle.bohm_tree.specs.Txn.{Txn};
 ghost use Rattle.bohm_explain.specs.declared.arrow.Arrow.{Arrow};
 ghost use Rattle.bohm_explain.specs.declared.heat.Heat.{Heat};
 ghost use Rattle.bohm_explain.specs.Figures.{depths};

@@ -6,34 +6,24 @@ ghost use Rattle.bohm_place.specs.Shares.{AreWellFormed};
 ghost use Rattle.bohm_txn.specs.Declares.{AllShort, IsUsable};
 ghost use Rattle.bohm_explain.specs.Weighing.{terms_in, weight, weights, declared_by};
 
-use bohm_txn::{Cond, LogPart, NoMemory, Stmt, TxnView};
+use bohm_log::{StmtParts, StmtView};
+use bohm_txn::{LogPart, NoMemory, TxnView};
 use std::alloc::Global;
 
 /// The number of terms in a statement.
-fn terms_in(stmt: &Stmt) -> u32
+fn terms_in(stmt: &StmtView<'_>) -> u32
     requires { AllShort stmt.now }
     ensures terms { result ≡ terms_in stmt.now }
     ensures few { result ≤ 48 }
 {
-    match stmt {
-        Stmt::Bind { sum, .. } | Stmt::Show(sum) => sum.terms().len() as u32,
-        Stmt::Need(Cond { left, right, .. }) => {
-            left.terms().len() as u32 + right.terms().len() as u32
-        }
-        Stmt::Put {
-            sum,
-            guard: None,
-            ..
-        } => sum.terms().len() as u32,
-        Stmt::Put {
-            sum,
-            guard: Some(guard),
-            ..
-        } => {
-            let Cond { left, right, .. } = guard.get();
-            sum.terms().len() as u32 + left.terms().len() as u32 + right.terms().len() as u32
-        }
-        Stmt::Has(_) | Stmt::Lacks(_) | Stmt::Remove(_) | Stmt::Fail => 0,
+    match stmt.parts() {
+        StmtParts::Bind { sum, .. } | StmtParts::Show(sum) => sum.len() as u32,
+        StmtParts::Need(cond) => cond.left.len() as u32 + cond.right.len() as u32,
+        StmtParts::Put { sum, guard, .. } => match guard {
+            Some(cond) => sum.len() as u32 + cond.left.len() as u32 + cond.right.len() as u32,
+            None => sum.len() as u32,
+        },
+        StmtParts::Has(_) | StmtParts::Lacks(_) | StmtParts::Remove(_) | StmtParts::Fail => 0,
     }
 }
 
@@ -44,8 +34,8 @@ fn weight(txn: &TxnView<'_>) -> u32
     ensures light { result ≤ 3072 }
 {
     let mut terms = 0;
-    for stmt in txn.get().body.as_slice() {
-        terms += terms_in(stmt);
+    for index in 0..txn.body_len() {
+        terms += terms_in(&txn.stmt(index));
     }
     terms.max(1)
 }

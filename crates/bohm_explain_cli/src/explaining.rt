@@ -31,7 +31,7 @@ pub fn explain_text<T: RandomSource, R: Read, W: Write>(
     // Before all faults but those of the writing the writer isn't touched.
     ensures untouched { IfErr result (λ e. IsBeforeWriting e → writer.new ≡ writer.old) }
 {
-    let checked = read_log(alloc, reader)?;
+    let checked = read_log(alloc, HashSeed::drawn(rt), reader)?;
     let Some(text) = answer(alloc, HashSeed::drawn(rt), &checked.log(), request)? else {
         return Err(RunFault::Future);
     };

@@ -16,7 +16,7 @@ use bohm_board::{Batch, Board, Closed, Pass};
 use bohm_exec::{Aside, Finished, Gate, OpenGate, complete, share_of, sweep};
 use bohm_place::{Shards, plan};
 use bohm_store::History;
-use bohm_txn::{Cell, LogPart, NoMemory, Outcome, Scratch, Value};
+use bohm_txn::{Cell, LogPart, NoMemory, Outcome, Scratch, Value, shows};
 use std::alloc::Global;
 use std::process::Abort;
 use std::thread::Threads;
@@ -174,8 +174,7 @@ pub fn cell(rt: &impl Abort, finished: &Finished, t: u32) -> Cell {
 /// The cell of the first `show`.
 pub fn shown(rt: &impl Abort, finished: &Finished, t: u32) -> Cell {
     assert_in(rt, finished.batch(), t);
-    let body = finished.batch().txn(t).get().body.as_slice();
-    let shows = body.iter().filter(|stmt| stmt.is_show()).count();
-    assert!(rt; shows > 0);
+    let some = shows(&finished.batch().txn(t)) > 0;
+    assert!(rt; some);
     finished.show(t, 0)
 }

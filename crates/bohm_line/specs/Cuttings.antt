@@ -1,7 +1,7 @@
 -- Cuttings of a log into batches, and the plans that are right for them.
 use Rattle.std.specs.Prelude.{◌≡◌, ℕ, ◌+◌, ◌<◌, ◌≤◌, List, length, take, drop, slice_index, Bool, ◌&&◌, nat_le, Option, Some, None, if◌then◌else◌, All}
 use Rattle.std.specs.List.{sum, list_all}
-use Rattle.bohm_tree.specs.declared.txn.Txn.{Txn}
+use Rattle.bohm_tree.specs.Txn.{Txn}
 use Rattle.bohm_place.specs.Plans.{Planned, IsRightPlan}
 
 -- a log, the timestamp of its first transaction, and the sizes of its batches

@@ -3,9 +3,9 @@ use Rattle.std.proofs.Common.{◌≡◌, ℕ, ◌+◌, ◌^◌, ◌<◌, ◌≤�
 use Rattle.std.proofs.lemmas.List.{drop-append-le, drop_all, map-append}
 use Rattle.std.proofs.lemmas.List.Elements.{All-weaker, All-push, All-same, All-drop, All-nil}
 use Rattle.std.proofs.lemmas.Slice.{between_to_end}
-use Rattle.bohm_tree.specs.declared.term.Atom.{Atom}
+use Rattle.bohm_tree.specs.Term.{Atom}
 use Rattle.bohm_log.specs.declared.row.Action.{Action}
-use Rattle.bohm_tree.specs.declared.txn.Edition.{Edition}
+use Rattle.bohm_tree.specs.declared.edition.Edition.{Edition}
 use Rattle.bohm_log.specs.declared.row.StmtRow.{StmtRow}
 use Rattle.bohm_log.specs.declared.row.Pending.{Pending}
 use Rattle.bohm_log.specs.declared.row.Step.{Step}

@@ -1,7 +1,7 @@
 -- What the places of terms and statements stand for.
 use Rattle.std.proofs.Common.{true, ◌≡◌, ℕ, Bool, false, List, [], ◌∷◌, ◌++◌, Some, refl, sym, ◌∙◌, subst, arith, append-nil, slice_get}
 use Rattle.std.proofs.lemmas.Option.{get_or_from_slice_get, slice_get_within}
-use Rattle.bohm_tree.specs.declared.term.Atom.TheVariants as atoms
+use Rattle.bohm_tree.specs.Term as atoms
 use Rattle.bohm_log.specs.declared.row.AtomKind.TheVariants.{Large, Read, Unread, Local}
 use Rattle.bohm_log.specs.declared.row.Action.{Action}
 use Rattle.bohm_log.specs.declared.row.Action.TheVariants as actions

@@ -1,15 +1,15 @@
 -- The statements that sums make.
 use Rattle.std.proofs.Common.{◌≡◌, ℕ, ◌≤◌, Bool, List, [], ◌∷◌, Some, None, length, refl, ap, ◌∙◌, arith}
-use Rattle.bohm_tree.specs.declared.term.Atom.{Atom}
-use Rattle.bohm_tree.specs.declared.stmt.Cmp.{Cmp}
-use Rattle.bohm_tree.specs.declared.stmt.Stmt.TheVariants as stmts
+use Rattle.bohm_tree.specs.Term.{Atom}
+use Rattle.bohm_tree.specs.declared.cmp.Cmp.{Cmp}
+use Rattle.bohm_tree.specs.Stmt as stmts
 use Rattle.bohm_log.specs.declared.row.Action.{Action}
 use Rattle.bohm_log.specs.declared.row.Action.TheVariants as actions
-use Rattle.bohm_tree.specs.declared.txn.Edition.{Edition}
+use Rattle.bohm_tree.specs.declared.edition.Edition.{Edition}
 use Rattle.bohm_log.specs.declared.row.Pending.{Pending}
 use Rattle.bohm_log.specs.declared.row.Step.{Step}
 use Rattle.bohm_log.specs.declared.row.Step.TheVariants.{Whole, Left, Right}
-use Rattle.bohm_tree.specs.declared.txn.Txn.{Txn}
+use Rattle.bohm_tree.specs.Txn.{Txn}
 use Rattle.bohm_log.specs.Parts.{Parts, sum_between, stmt_made, txn_of}
 use Rattle.bohm_log.specs.Drafting.{Drafted, drafted_of, done_at, from_at, first_end, second_end, with_stmt, made_of, opened, put_of, need_of, AddsRow, IsDrafted}
 use Rattle.bohm_log.proofs.Drafts.{sum_done, added, added_within}

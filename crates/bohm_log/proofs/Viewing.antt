@@ -1,5 +1,5 @@
 -- An element of a mapped list.
-use Rattle.std.proofs.Common.{◌≡◌, ℕ, ◌<◌, List, [], length, get_or, map, Some, ap, sym, ◌∙◌, arith, slice_get}
+use Rattle.std.proofs.Common.{◌≡◌, ℕ, suc, ◌<◌, ◌+◌, List, [], ◌∷◌, length, get_or, map, Some, ap, sym, ◌∙◌, arith, slice_get, drop, add-one, drop-cons}
 use Rattle.std.proofs.lemmas.List.{length-map, get_or-map, get_or_default}
 use Rattle.std.specs.List.{All}
 use Rattle.bohm_log.specs.declared.row.StmtRow.{StmtRow}
@@ -20,6 +20,9 @@ pub mapped_get : {A B : Type 0} (f : A → B) (xs : List A) (i : ℕ) (x : A) �
 mapped_get f xs i x e =
     let within : i < length xs = slice_get_within xs i x e in
     mapped_at f xs i x within (sym (get_or_from_slice_get xs i x x e))
+
+pub drop_at : {A : Type 0} (xs : List A) (i : ℕ) (x : A) → slice_get xs i ≡ Some x → drop i xs ≡ x ∷ drop (i + 1) xs
+drop_at xs i x e = rw add-one (drop-cons xs i x (slice_get_within xs i x e) ∙ ap (λ y. y ∷ drop (suc i) xs) (get_or_from_slice_get xs i x x e))
 
 pub mapped_length : {A B : Type 0} (f : A → B) (xs : List A) → length (map f xs) ≡ length xs
 mapped_length f xs = length-map xs f

@@ -9,7 +9,7 @@ use Rattle.std.proofs.lemmas.Slice.{between_to_end}
 use Rattle.bohm_log.specs.Interning.{with_name}
 use Rattle.bohm_log.specs.Parts.{Parts, Begins, IsWithin, name_at, txn_of}
 use Rattle.bohm_log.specs.Columns.{Shared, parts_at, AllNamed, Spans, HeadIn, IsLogged, Widens, Interns, NumbersCome, Lands, SetsCome, Appends, txn_at}
-use Rattle.bohm_tree.specs.declared.txn.Edition.{Edition}
+use Rattle.bohm_tree.specs.declared.edition.Edition.{Edition}
 use Rattle.bohm_log.specs.declared.columns.Head.{Head}
 use Rattle.bohm_log.proofs.Growth.{Begins-itself, length-begins, get_or-begins, between-begins, map-all}
 

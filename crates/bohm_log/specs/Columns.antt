@@ -2,8 +2,8 @@
 use Rattle.std.specs.Prelude.{◌≡◌, ℕ, ◌<◌, ◌≤◌, List, [], ◌++◌, length}
 use Rattle.std.specs.List.{All, between, IsDistinct}
 use Rattle.std.specs.Str.{bytes_eq}
-use Rattle.bohm_tree.specs.declared.txn.Edition.{Edition}
-use Rattle.bohm_tree.specs.declared.txn.Txn.{Txn}
+use Rattle.bohm_tree.specs.declared.edition.Edition.{Edition}
+use Rattle.bohm_tree.specs.Txn.{Txn}
 use Rattle.bohm_log.specs.declared.row.TermRow.{TermRow}
 use Rattle.bohm_log.specs.declared.row.StmtRow.{StmtRow}
 use Rattle.bohm_log.specs.declared.columns.Head.{Head}

@@ -2,12 +2,12 @@
 use Rattle.std.specs.Prelude.{◌≡◌, ℕ, ◌<◌, ◌≤◌, List, [], ◌++◌, map, length, Bool, true, false, Some, None}
 use Rattle.std.specs.List.{All, between, slice_index_or, list_any}
 use Rattle.std.specs.Str.{bytes_eq}
-use Rattle.bohm_tree.specs.declared.term.Atom.{Atom}
-use Rattle.bohm_tree.specs.declared.term.Atom.TheVariants as atoms
-use Rattle.bohm_tree.specs.declared.stmt.Stmt.{Stmt}
-use Rattle.bohm_tree.specs.declared.stmt.Stmt.TheVariants as stmts
-use Rattle.bohm_tree.specs.declared.txn.Edition.{Edition}
-use Rattle.bohm_tree.specs.declared.txn.Txn.{Txn}
+use Rattle.bohm_tree.specs.Term.{Atom}
+use Rattle.bohm_tree.specs.Term as atoms
+use Rattle.bohm_tree.specs.Stmt.{Stmt}
+use Rattle.bohm_tree.specs.Stmt as stmts
+use Rattle.bohm_tree.specs.declared.edition.Edition.{Edition}
+use Rattle.bohm_tree.specs.Txn.{Txn}
 use Rattle.bohm_log.specs.declared.row.AtomKind.{AtomKind}
 use Rattle.bohm_log.specs.declared.row.AtomKind.TheVariants.{Small, Large, Read, Unread, Local}
 use Rattle.bohm_log.specs.declared.row.TermRow.{TermRow}

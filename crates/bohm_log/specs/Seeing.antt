@@ -2,12 +2,11 @@
 use Rattle.std.specs.Prelude.{◌≤◌, ℕ, Bool, length, Option, Some, None}
 use Rattle.std.specs.List.{IsDistinct}
 use Rattle.std.specs.Str.{bytes_eq}
-use Rattle.bohm_tree.specs.declared.term.Atom.{Atom}
-use Rattle.bohm_tree.specs.declared.term.Atom.TheVariants as atoms
-use Rattle.bohm_tree.specs.declared.stmt.Cond.{Cond}
-use Rattle.bohm_tree.specs.declared.stmt.Stmt.{Stmt}
-use Rattle.bohm_tree.specs.declared.stmt.Stmt.TheVariants as stmts
-use Rattle.bohm_tree.specs.declared.txn.Txn.{Txn}
+use Rattle.bohm_tree.specs.Term.{Atom}
+use Rattle.bohm_tree.specs.Term as atoms
+use Rattle.bohm_tree.specs.Stmt.{Cond, Stmt}
+use Rattle.bohm_tree.specs.Stmt as stmts
+use Rattle.bohm_tree.specs.Txn.{Txn}
 use Rattle.bohm_log.specs.declared.seen.Seen.{Seen}
 use Rattle.bohm_log.specs.declared.sum.TermParts.{TermParts}
 use Rattle.bohm_log.specs.declared.sum.AtomParts.{AtomParts}

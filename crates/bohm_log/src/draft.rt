@@ -1,8 +1,8 @@
 //! The transaction that is being read.
 
 ghost use Rattle.std.specs.Prelude.{◌≡◌, ◌<◌, [], OnOk, OnErr, length, Some, None};
-ghost use Rattle.bohm_tree.specs.declared.term.Atom.TheVariants.{Lit, Read, Local};
-ghost use Rattle.bohm_tree.specs.declared.stmt.Stmt.TheVariants as stmts;
+ghost use Rattle.bohm_tree.specs.Term.{Lit, Read, Local};
+ghost use Rattle.bohm_tree.specs.Stmt as stmts;
 ghost use Rattle.bohm_log.specs.Drafting.{fresh, with_read, with_write, with_term, with_sum, with_stmt, made_of, put_of, need_of, parts_of, IsBare, IsBetween, IsNamed, IsNameless};
 ghost use Rattle.bohm_log.specs.Parts.{txn_of, IsWithin};
 ghost use Rattle.bohm_log.specs.Seeing.{atom_shown};

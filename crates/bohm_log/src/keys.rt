@@ -1,80 +1,70 @@
-//! The keys that transactions declare, by number.
+//! The keys of one declared set.
 
-ghost use Rattle.std.specs.Prelude.{◌≡◌, ◌<◌, length, Some, slice_get, IsSomeAnd};
-ghost use Rattle.std.specs.List.{IsDistinct};
-ghost use Rattle.std.specs.Str.{bytes_eq};
+ghost use Rattle.std.specs.Prelude.{◌≡◌, ◌<◌, length, IfSome, Some, slice_get};
+ghost use Rattle.bohm_tree.specs.Name.{place};
+ghost use Rattle.bohm_log.specs.Parts.{names_at};
 ghost use Rattle.bohm_log.specs.Columns.{AllNamed};
-ghost use Rattle.bohm_log.specs.Numbering.{sets_at, IsNumbered};
 
-use crate::columns::Head;
 use bohm_tree::Key;
 use std::marker::Model;
 
-/// The names of a log's keys, and for the transactions of a part of it the numbers of the keys that
-/// each declares. It is apart from what the transactions do.
+/// Keys that a transaction declares to read, or to write, which contracts see as a list of them.
 #[derive(Drop)]
-pub struct DeclaredKeys<'a> {
+pub struct Keys<'a> {
     pub(crate) names: &'a [Key],
     pub(crate) ids: &'a [u32],
-    pub(crate) heads: &'a [Head],
 }
 
-impl<'a> Model for DeclaredKeys<'a> {
-    ghost use Rattle.std.specs.Prelude.{map};
-    ghost use Rattle.bohm_log.specs.Numbering.{Numbered, sets_at, IsNumbered};
+impl<'a> Model for Keys<'a> {
+    ghost use Rattle.std.specs.Prelude.{ℕ, List};
+    ghost use Rattle.bohm_log.specs.Parts.{names_at};
+    ghost use Rattle.bohm_log.specs.Columns.{AllNamed};
 
-    ghost Value = { Numbered };
+    ghost Value = { List (List ℕ) };
 
-    ghost view = { λ k. record { names = k.names.now; sets = map (sets_at k.ids.now) k.heads.now } };
+    ghost view = { λ k. names_at k.names.now k.ids.now };
 
-    ghost invariant = { λ k. IsNumbered k.names.now k.ids.now k.heads.now };
+    ghost invariant = { λ k. AllNamed k.names.now k.ids.now };
 }
 
-/// The numbers of the keys that the transaction at a head reads, and of those that it writes.
-#[tactic(auto, using(crate::proofs::Dividing::named_between))]
-fn sets_by<'a>(
-    names: &[Key],
-    ids: &'a [u32],
-    heads: &[Head],
-    index: usize,
-) -> (&'a [u32], &'a [u32])
-    requires index { index < length heads.now }
-    requires numbered { IsNumbered names.now ids.now heads.now }
-    ensures sets { IsSomeAnd (slice_get heads.now index)
-        (λ h. sets_at ids.now h ≡ (result.0.now, result.1.now)) }
-    ensures reads { AllNamed names.now result.0.now }
-    ensures writes { AllNamed names.now result.1.now }
+/// The name whose number stands at a place.
+#[tactic(auto, using(crate::proofs::Viewing::read_at))]
+pub(crate) fn name_by<'a>(names: &'a [Key], ids: &'a [u32], place: usize) -> &'a Key
+    requires place { place < length ids.now }
+    requires named { AllNamed names.now ids.now }
+    ensures { slice_get (names_at names.now ids.now) place ≡ Some result.now }
 {
-    let head = &heads[index];
-    let reads = &ids[head.ids as usize..head.reads as usize];
-    let writes = &ids[head.reads as usize..head.writes as usize];
-    (reads, writes)
+    let id = ids[place];
+    &names[id as usize]
 }
 
-impl<'a> DeclaredKeys<'a> {
-    /// How many transactions there are.
+impl<'a> Keys<'a> {
+    /// How many keys there are.
+    #[tactic(auto, using(crate::proofs::Viewing::mapped_length))]
     pub fn len(&self) -> usize
-        ensures { result ≡ length self.now.sets }
+        ensures { result ≡ length self.now }
     {
-        self.heads.len()
+        self.ids.len()
     }
 
-    /// All names of the log's keys, each at its number.
-    pub fn names(&self) -> &'a [Key]
-        ensures names { result.now ≡ self.now.names }
-        ensures apart { IsDistinct bytes_eq self.now.names }
+    /// A key, counted from 0.
+    #[tactic(auto, using(crate::proofs::Viewing::mapped_length))]
+    pub fn key(&self, place: usize) -> &'a Key
+        requires { place < length self.now }
+        ensures { slice_get self.now place ≡ Some result.now }
     {
-        self.names
+        name_by(self.names, self.ids, place)
     }
-
-    /// The numbers of the keys that a transaction, counted from 0, reads, and of those that it
-    /// writes.
-    pub fn sets(&self, index: usize) -> (&'a [u32], &'a [u32])
-        requires { index < length self.now.sets }
-        ensures sets { slice_get self.now.sets index ≡ Some (result.0.now, result.1.now) }
-        ensures reads { AllNamed self.now.names result.0.now }
-        ensures writes { AllNamed self.now.names result.1.now }
+    /// The first place of a key, if it is one of them. The time grows with their number.
+    pub fn place_of(&self, key: &Key) -> Option<usize>
+        ensures place { result ≡ place self.now key.now }
+        ensures inside { IfSome result (λ i. i < length self.now) }
     {
-        sets_by(self.names, self.ids, self.heads, index)
+        for place in 0..self.len() {
+            if *self.key(place) == *key {
+                return Some(place);
+            }
+        }
+        None
     }
 }

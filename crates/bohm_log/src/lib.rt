@@ -3,8 +3,11 @@
 #![tactic(auto)]
 
 mod columns;
+mod declared;
+mod doc;
 mod draft;
 mod fault;
+mod hash_seed;
 mod keys;
 mod log;
 mod names;
@@ -18,9 +21,12 @@ mod sum;
 mod table;
 mod view;
 
+pub use declared::DeclaredKeys;
+pub use doc::Doc;
 pub use draft::Draft;
 pub use fault::LogFault;
-pub use keys::DeclaredKeys;
+pub use hash_seed::HashSeed;
+pub use keys::Keys;
 pub use log::Log;
 pub use names::Names;
 pub use part::LogPart;

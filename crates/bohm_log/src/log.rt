@@ -19,7 +19,7 @@ pub struct Log<S: BuildHasher = BuildHasherDefault<FoldHasher>> {
 
 impl<S: BuildHasher> Model for Log<S> {
     ghost use Rattle.std.specs.Prelude.{List, map};
-    ghost use Rattle.bohm_tree.specs.declared.txn.Txn.{Txn};
+    ghost use Rattle.bohm_tree.specs.Txn.{Txn};
 
     ghost Value = { List Txn };
 

@@ -5,7 +5,7 @@ ghost use Rattle.std.specs.List.{between};
 ghost use Rattle.bohm_log.specs.Numbering.{Numbers};
 
 use crate::columns::Head;
-use crate::keys::DeclaredKeys;
+use crate::declared::DeclaredKeys;
 use crate::table::{Table, txn_by};
 use crate::view::TxnView;
 use std::marker::Model;
@@ -20,7 +20,7 @@ pub struct LogPart<'a> {
 
 impl<'a> Model for LogPart<'a> {
     ghost use Rattle.std.specs.Prelude.{List, map};
-    ghost use Rattle.bohm_tree.specs.declared.txn.Txn.{Txn};
+    ghost use Rattle.bohm_tree.specs.Txn.{Txn};
 
     ghost Value = { List Txn };
 

@@ -1,10 +1,12 @@
 //! A transaction by places.
 
-ghost use Rattle.std.specs.Prelude.{◌≡◌, ◌≤◌, length};
+ghost use Rattle.std.specs.Prelude.{◌≡◌, ◌<◌, ◌≤◌, IfSome, length};
 ghost use Rattle.std.specs.List.{All, between, IsDistinct};
 ghost use Rattle.std.specs.Str.{bytes_eq};
-ghost use Rattle.bohm_log.specs.Parts.{RowIn, TermIn};
+ghost use Rattle.bohm_tree.specs.Name.{place};
+ghost use Rattle.bohm_log.specs.Parts.{RowIn, TermIn, name_at};
 
+use crate::keys::{Keys, name_by};
 use crate::row::{StmtRow, TermRow};
 use crate::seen::Seen;
 use bohm_tree::Key;
@@ -44,6 +46,22 @@ impl<'a> PlacedTxn<'a> {
         ensures { result ≡ length self.now.writes }
     {
         self.seen.writes.len()
+    }
+
+    /// The place among the reads of the key that it declares to write at a place.
+    pub fn read_of_write(&self, write: u32) -> Option<usize>
+        requires { write < length self.now.writes }
+        ensures place { result ≡ place self.now.reads (name_at self.now.writes write) }
+        ensures inside { IfSome result (λ i. i < length self.now.reads) }
+    {
+        let Seen {
+            names,
+            reads,
+            writes,
+            ..
+        } = self.seen;
+        let key = name_by(names, writes, write as usize);
+        Keys { names, ids: reads }.place_of(key)
     }
 
     /// Its other names: locals, and keys that it doesn't declare.

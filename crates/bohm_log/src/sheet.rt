@@ -1,7 +1,7 @@
 //! The columns of one transaction, while it is read.
 
 ghost use Rattle.std.specs.Prelude.{◌≡◌, ◌<◌, [], Some, IfOk, OnOk, OnErr, IfSome, IfNone, slice_get};
-ghost use Rattle.bohm_tree.specs.declared.term.Atom.TheVariants.{Lit, Read, Local};
+ghost use Rattle.bohm_tree.specs.Term.{Lit, Read, Local};
 ghost use Rattle.bohm_log.specs.Parts.{Begins, IsApart};
 ghost use Rattle.bohm_log.specs.Drafting.{parts_of, NamesGrow, Stands, AddsTerm, KeyStands, AddsRow, IsNamed, IsNameless, keys_of, no_parts, with_one_read, with_one_write};
 ghost use Rattle.bohm_log.specs.Seeing.{atom_shown};

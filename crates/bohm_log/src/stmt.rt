@@ -56,7 +56,7 @@ pub struct StmtView<'a> {
 }
 
 impl<'a> Model for StmtView<'a> {
-    ghost use Rattle.bohm_tree.specs.declared.stmt.Stmt.{Stmt};
+    ghost use Rattle.bohm_tree.specs.Stmt.{Stmt};
 
     ghost Value = { Stmt };
 

@@ -36,7 +36,7 @@ pub struct SumView<'a> {
 
 impl<'a> Model for SumView<'a> {
     ghost use Rattle.std.specs.Prelude.{Bool, List};
-    ghost use Rattle.bohm_tree.specs.declared.term.Atom.{Atom};
+    ghost use Rattle.bohm_tree.specs.Term.{Atom};
 
     ghost Value = { List (Bool × Atom) };
 

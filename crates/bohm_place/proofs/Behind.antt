@@ -1,6 +1,6 @@
 -- What planning comes to, by one worker or by several: the rows of the plan, and the chains behind the batch.
 use Rattle.std.proofs.Common.{◌≡◌, ℕ, ◌+◌, ◌^◌, ◌<◌, ◌≤◌, ◌++◌, List, length, All, true, refl, arith}
-use Rattle.bohm_tree.specs.declared.txn.Txn.{Txn}
+use Rattle.bohm_tree.specs.Txn.{Txn}
 use Rattle.bohm_place.specs.declared.row.Row.{Row}
 use Rattle.bohm_place.specs.Chains.{Keyed, placeholders_in, chain_in}
 use Rattle.bohm_place.specs.Writers.{writers}

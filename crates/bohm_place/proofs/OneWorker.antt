@@ -1,7 +1,7 @@
 -- What one worker finds that has all parts.
 use Rattle.std.proofs.Common.{◌≡◌, ◌∙◌, ℕ, ◌%◌, List, [], ◌++◌, refl, arith, nat_lt}
 use Rattle.std.proofs.lemmas.Nat.{mod_below}
-use Rattle.bohm_tree.specs.declared.txn.Txn.{Txn}
+use Rattle.bohm_tree.specs.Txn.{Txn}
 use Rattle.bohm_place.specs.declared.placeholder.Placeholder.{Placeholder}
 use Rattle.bohm_place.specs.Chains.{Keyed, placeholders_in}
 use Rattle.bohm_place.specs.Shares.{has_part, found_by, made, newest_ahead, IsShareOf}

@@ -1,6 +1,6 @@
 -- What a worker owes for its own parts of all.
 use Rattle.std.proofs.Common.{◌≡◌, ℕ, ◌<◌, Bool, true, false, List, [], ◌++◌, length, slice_get, Some, refl, ap, ◌∙◌, if◌then◌else◌}
-use Rattle.bohm_tree.specs.declared.txn.Txn.{Txn}
+use Rattle.bohm_tree.specs.Txn.{Txn}
 use Rattle.bohm_txn.proofs.ForCallers.{rising_writes}
 use Rattle.bohm_place.specs.declared.placeholder.Placeholder.{Placeholder}
 use Rattle.bohm_place.specs.Chains.{Keyed, placeholders_in, none}

@@ -5,12 +5,12 @@ ghost use Rattle.std.specs.Prelude.{length, All, IfOk, OnOk, slice_get, slice_in
 ghost use Rattle.bohm_place.specs.Chains.{placeholders_in};
 ghost use Rattle.bohm_place.specs.Shares.{AreParts, made, found_by, newest_ahead, greater, IsHand, KeepsOthers, IsPartOf};
 
-use crate::hash_seed::HashSeed;
 use crate::partition::Partition;
 use crate::placeholder::Placeholder;
 use crate::places::Places;
 use crate::shards::empty_parts;
 use crate::share::{Job, Share, Worker};
+use bohm_log::HashSeed;
 use bohm_txn::{LogPart, NoMemory};
 use std::alloc::Global;
 use std::mem;

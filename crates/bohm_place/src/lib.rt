@@ -8,7 +8,6 @@ mod alone;
 mod chain;
 mod deal;
 mod declared_set;
-mod hash_seed;
 pub mod laws;
 mod partition;
 mod placeholder;
@@ -21,8 +20,8 @@ mod share;
 
 pub use access::{Access, Source};
 pub use alone::plan_alone;
+pub use bohm_log::HashSeed;
 pub use declared_set::DeclaredSet;
-pub use hash_seed::HashSeed;
 pub use partition::Partition;
 pub use places::Places;
 pub use planned::Plan;

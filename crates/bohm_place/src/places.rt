@@ -6,8 +6,8 @@ ghost use Rattle.bohm_txn.specs.Declares.{IsAmong};
 ghost use Rattle.bohm_place.specs.Chains.{items_at, begins, kept_items, last_or, none};
 
 use crate::chain::Chain;
-use crate::hash_seed::HashSeed;
 use crate::placeholder::Placeholder;
+use bohm_log::HashSeed;
 use bohm_txn::{Key, NoMemory};
 use std::alloc::Global;
 use std::collections::HashMap;

@@ -3,8 +3,8 @@
 ghost use Rattle.std.specs.Prelude.{◌≡◌, ℕ, List, [], ◌<◌, length, slice_get, Some, All, IfOk};
 ghost use Rattle.bohm_place.specs.Chains.{AreEmpty, AreKept};
 
-use crate::hash_seed::HashSeed;
 use crate::places::Places;
+use bohm_log::HashSeed;
 use bohm_txn::NoMemory;
 use std::alloc::Global;
 use std::marker::Model;

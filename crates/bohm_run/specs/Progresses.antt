@@ -1,7 +1,7 @@
 -- How the executing side goes on.
 use Rattle.std.specs.Prelude.{◌≡◌, ℕ, List, ◌++◌, Result, is_ok}
 use Rattle.bohm_tree.specs.declared.memory.NoMemory.{NoMemory}
-use Rattle.bohm_tree.specs.declared.txn.Txn.{Txn}
+use Rattle.bohm_tree.specs.Txn.{Txn}
 use Rattle.bohm_txn.specs.Serial.{replies}
 use Rattle.bohm_store.specs.Versions.{Timeline, past}
 use Rattle.bohm_store.specs.Nexts.{IsSame}

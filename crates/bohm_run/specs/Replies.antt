@@ -1,6 +1,6 @@
 -- What batches and their transactions answer.
 use Rattle.std.specs.Prelude.{◌≡◌, ℕ, ℤ, List, Some}
-use Rattle.bohm_tree.specs.declared.txn.Txn.{Txn}
+use Rattle.bohm_tree.specs.Txn.{Txn}
 use Rattle.bohm_txn.specs.declared.outcome.Reply.{Reply}
 use Rattle.bohm_txn.specs.Meaning.{body}
 use Rattle.bohm_txn.specs.Serial.{replies, reply_of, shows_of}

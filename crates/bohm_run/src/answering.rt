@@ -17,8 +17,9 @@ use crate::running::{Answer, run};
 use crate::settings::Settings;
 use bohm_exec::OpenGate;
 use bohm_line::{ByteSum, Cuts};
+use bohm_log::HashSeed;
 use bohm_store::History;
-use bohm_text::{parse, print_replies, print_store};
+use bohm_text::{parse_with_seed, print_replies, print_store};
 use bohm_txn::{Checked, Items, Key, NoMemory, Reply, Value, check};
 use std::alloc::Global;
 use std::io::{Read, Write};
@@ -27,7 +28,8 @@ use std::sync::Wait;
 use std::thread::Threads;
 
 /// The log that the reader holds, read to the reader's end, or why it is none. Its text is let go.
-pub fn read_log<R: Read>(alloc: Global, reader: &mut R) -> Result<Checked, RunFault>
+/// Names are hashed from the seed.
+pub fn read_log<R: Read>(alloc: Global, seed: HashSeed, reader: &mut R) -> Result<Checked, RunFault>
     ensures ok { IfOk result (ReadsDocument (R.remaining reader.old) (R.remaining reader.new)) }
     ensures err { IfErr result
         (λ e. (given : Given)
@@ -35,7 +37,7 @@ pub fn read_log<R: Read>(alloc: Global, reader: &mut R) -> Result<Checked, RunFa
     ensures before { IfErr result IsBeforeWriting }
 {
     let text = read_all(alloc, reader)?;
-    let doc = parse(alloc, text.as_slice())?;
+    let doc = parse_with_seed(alloc, seed, text.as_slice())?;
     Ok(check(doc)?)
 }
 
@@ -148,7 +150,7 @@ pub fn run_text<T: Threads + Wait + Sync + RandomSource, R: Read, W: Write>(
     // Before all faults but those of the writing the writer isn't touched.
     ensures untouched { IfErr result (λ e. IsBeforeWriting e → writer.new ≡ writer.old) }
 {
-    let checked = read_log(alloc, reader)?;
+    let checked = read_log(alloc, HashSeed::drawn(rt), reader)?;
     let ts = readable_time(&checked, settings)?;
     let text = answer(rt, alloc, checked, settings, ts)?;
     write_all(writer, text.as_slice())

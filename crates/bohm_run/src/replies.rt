@@ -9,17 +9,16 @@ ghost use Rattle.bohm_run.specs.Replies.{AreSerialShows, IsSerialReply, replies_
 
 use bohm_exec::Finished;
 use bohm_store::History;
-use bohm_txn::{Cell, Items, NoMemory, Outcome, Reply, Value};
+use bohm_txn::{Cell, Items, NoMemory, Outcome, Reply, Value, shows};
 use std::alloc::Global;
 
 /// The values that the transaction with a timestamp shows: none on an abort.
-fn shows(alloc: Global, finished: &Finished<'_>, t: u32) -> Result<Vec<Value>, NoMemory>
+fn values_shown(alloc: Global, finished: &Finished<'_>, t: u32) -> Result<Vec<Value>, NoMemory>
     requires { IsIn (batch_of_finished finished.now) t }
     ensures { IfOk result
         (λ values. AreSerialShows (batch_of_finished finished.now) t values.items) }
 {
-    let body = finished.batch().txn(t).get().body.as_slice();
-    let count = body.iter().filter(|stmt| stmt.is_show()).count();
+    let count = shows(&finished.batch().txn(t));
     let mut values = Vec::with_capacity(alloc, count)?;
     for index in 0..count as u32 {
         if let Cell::Present(value) = finished.show(t, index) {
@@ -36,7 +35,7 @@ fn reply(alloc: Global, finished: &Finished<'_>, t: u32) -> Result<Reply, NoMemo
 {
     Ok(match finished.outcome(t) {
         Outcome::Commit => Reply::Commit {
-            shows: Items::from(shows(alloc, finished, t)?),
+            shows: Items::from(values_shown(alloc, finished, t)?),
         },
         Outcome::Abort { reason, stmt } => Reply::Abort { reason, stmt },
     })

@@ -4,7 +4,7 @@ use Rattle.std.specs.Prelude.{ℤ, ◌⊎◌, ◌||◌, cond}
 use Rattle.std.specs.List.{zip, list_any, slice_get}
 use Rattle.std.specs.Str.{bytes_eq}
 use Rattle.bohm_tree.specs.declared.cell.Cell.{Cell}
-use Rattle.bohm_tree.specs.declared.txn.Txn.{Txn}
+use Rattle.bohm_tree.specs.Txn.{Txn}
 use Rattle.bohm_txn.specs.declared.outcome.Outcome.{Outcome}
 use Rattle.bohm_txn.specs.declared.outcome.Reply.{Reply}
 use Rattle.bohm_txn.specs.Declares.{IsAmong}

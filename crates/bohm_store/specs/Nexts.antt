@@ -1,7 +1,7 @@
 -- The batch that follows what a history has.
 use Rattle.std.specs.Prelude.{◌≡◌, ℕ, ◌+◌, ◌-◌, ◌≤◌, ◌++◌, List, length, true}
 use Rattle.std.specs.List.{list_any}
-use Rattle.bohm_tree.specs.declared.txn.Txn.{Txn}
+use Rattle.bohm_tree.specs.Txn.{Txn}
 use Rattle.bohm_txn.specs.Meaning.{Look}
 use Rattle.bohm_txn.specs.Serial.{state}
 use Rattle.bohm_board.specs.declared.batch.Batch.{Batch}

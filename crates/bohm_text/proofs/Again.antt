@@ -13,12 +13,9 @@ use Rattle.std.proofs.lemmas.Str.Parse.{digit_from_value}
 use Rattle.std.proofs.lemmas.Fmt.{decimal_by_steps, decimal_is_IsNumeral, first_decimal, decimal_digit}
 use Rattle.bohm_tree.specs.Name.{is_name, is_name_byte, key_of}
 use Rattle.bohm_tree.specs.Shape.{is_term, term_of}
-use Rattle.bohm_tree.specs.declared.term.Atom.{Atom}
-use Rattle.bohm_tree.specs.declared.term.Atom.TheVariants.{Lit, Read, Local}
-use Rattle.bohm_tree.specs.declared.stmt.Cmp.TheVariants.{Lt, Le, Eq, Ge, Gt}
-use Rattle.bohm_tree.specs.declared.stmt.Cond.{Cond}
-use Rattle.bohm_tree.specs.declared.stmt.Stmt.{Stmt}
-use Rattle.bohm_tree.specs.declared.stmt.Stmt.TheVariants.{Bind, Need, Has, Lacks, Put, Remove, Show, Fail}
+use Rattle.bohm_tree.specs.Term.{Atom, Lit, Read, Local}
+use Rattle.bohm_tree.specs.declared.cmp.Cmp.TheVariants.{Lt, Le, Eq, Ge, Gt}
+use Rattle.bohm_tree.specs.Stmt.{Cond, Stmt, Bind, Need, Has, Lacks, Put, Remove, Show, Fail}
 use Rattle.bohm_text.specs.Print.{Words, atom_word, first_word, further_words, sum_words, cmp_word, cond_words, stmt_words, store_words}
 use Rattle.bohm_text.specs.Reading.{◌>>=◌, digits_of, whole_of, lit_of, number_of, atom_of, first_of, sign_of, further_of, cmp_of, stop_of, Ending, End, When, Compared, terms_of, sum_from, last_sum, keys_of, cond_of, bind_of, put_of, presence_of, need_of, remove_of, fail_of, stmt_of, entry_of}
 use Rattle.bohm_tree.specs.Sound.{IsAtom, IsTerm, IsSum, IsCond, IsStmt, IsNumber, IsEntry}

@@ -1,9 +1,8 @@
 -- Words without a cut are found again.
-use Rattle.std.proofs.Common.{◌≡◌, ℕ, ◌+◌, ◌-◌, ◌<◌, true, false, cond, List, [], ◌∷◌, ◌++◌, length, arith, refl, ap, ◌∙◌, append_assoc}
-use Rattle.std.specs.Prelude.{◌==◌, count_by, Bool}
+use Rattle.std.proofs.Common.{◌≡◌, ℕ, ◌<◌, true, false, cond, List, [], ◌∷◌, ◌++◌, length, arith, refl, ap, ◌∙◌, append_assoc}
+use Rattle.std.specs.Prelude.{◌==◌, Bool}
 use Rattle.std.proofs.lemmas.Bool.{eq-eqb}
 use Rattle.std.proofs.lemmas.List.{append-nil}
-use Rattle.std.proofs.lemmas.List.Recursion.{is_count_by}
 use Rattle.std.specs.List.{AllByRecursion}
 use Rattle.bohm_text.specs.Cut.{onto_first, split, whole_lines}
 use Rattle.bohm_text.specs.Print.{line_text, text_of}
@@ -49,19 +48,3 @@ split-some c [] = omega arith
 split-some c (b ∷ bs) =
     let P : Bool → Type 0 = λ (t : Bool). 0 < length (cond t ([] ∷ split c bs) (onto_first b (split c bs))) in
     elim (b == c) as P [ true ↦ omega arith | false ↦ omega (arith, split-some c bs, length-onto_first b (split c bs)) ]
-
-one_longer : (c b : ℕ) (bs : List ℕ) → length (split c (b ∷ bs)) - 1 ≡ cond (b == c) (1 + (length (split c bs) - 1)) (length (split c bs) - 1)
-unfolding split
-one_longer c b bs =
-    let P : Bool → Type 0 = λ (t : Bool). length (cond t ([] ∷ split c bs) (onto_first b (split c bs))) - 1 ≡ cond t (1 + (length (split c bs) - 1)) (length (split c bs) - 1) in
-    elim (b == c) as P [ true ↦ omega (arith, split-some c bs) | false ↦ omega (arith, length-onto_first b (split c bs)) ]
-
-no_cut : (c : ℕ) → length (split c []) - 1 ≡ 0
-unfolding split
-no_cut c = refl
-
--- one part more than there are cuts
-pub length-split : (c : ℕ) (bs : List ℕ) → count_by (λ b. b == c) bs + 1 ≡ length (split c bs)
-length-split c bs =
-    let cuts : length (split c bs) - 1 ≡ count_by (λ b. b == c) bs = is_count_by (λ xs. length (split c xs) - 1) (λ b. b == c) (no_cut c) (one_longer c) bs in
-    omega (arith, cuts, split-some c bs)

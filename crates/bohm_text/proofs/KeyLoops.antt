@@ -1,22 +1,13 @@
--- Keys, one after the other.
-use Rattle.std.proofs.Common.{◌≡◌, ℕ, true, false, List, [], ◌∷◌, ◌++◌, Some, None, refl, ap, sym, ◌∙◌, append_assoc}
-use Rattle.std.specs.Prelude.{Option, is_some}
+-- Keys that are declared, one after the other.
+use Rattle.std.proofs.Common.{◌≡◌, ℕ, List, [], ◌∷◌, Some, None, refl, ap, sym, ◌∙◌, append_assoc}
+use Rattle.std.specs.Prelude.{Option}
 use Rattle.std.specs.Option.{option_map}
 use Rattle.std.proofs.lemmas.List.{append-nil}
 use Rattle.bohm_tree.specs.Name.{key_of}
+use Rattle.bohm_log.specs.Drafting.{Drafted, with_read, with_write}
 use Rattle.bohm_text.specs.Print.{Words}
 use Rattle.bohm_text.specs.Reading.{◌>>=◌, keys_of}
-
-abbrev pub with_front : Words → Option Words → Option Words
-with_front before read = option_map (λ (keys : Words). before ++ keys) read
-
-with_front-none : (before : Words) (read : Option Words) → with_front before read ≡ None → read ≡ None
-with_front-none before None e = refl
-with_front-none before (Some keys) e = absurd cc
-
-regroup : (before : Words) (key : List ℕ) (read : Option Words) → with_front before (read >>= λ keys. Some (key ∷ keys)) ≡ with_front (before ++ key ∷ []) read
-regroup before key None = refl
-regroup before key (Some keys) = ap Some (sym (append_assoc before (key ∷ []) keys))
+use Rattle.bohm_text.specs.Taking.{with_reads, with_writes}
 
 keys_of-cons : (words rest : Words) (word key : List ℕ) → words ≡ word ∷ rest → key_of word ≡ Some key → keys_of words ≡ (keys_of rest >>= λ keys. Some (key ∷ keys))
 unfolding keys_of
@@ -30,26 +21,34 @@ keys_of-nil : (words : Words) → words ≡ [] → keys_of words ≡ Some []
 unfolding keys_of
 keys_of-nil words e = rw e refl
 
-module _ (before now old words : Words) (so_far : with_front now (keys_of words) ≡ with_front before (keys_of old)) where
-  pub keys_more : (rest : Words) (word key : List ℕ) → words ≡ word ∷ rest → key_of word ≡ Some key → with_front (now ++ key ∷ []) (keys_of rest) ≡ with_front before (keys_of old)
-  keys_more rest word key e k = sym (regroup now key (keys_of rest)) ∙ (sym (ap (with_front now) (keys_of-cons words rest word key e k)) ∙ so_far)
+map-none : {X Y : Type 0} (f : X → Y) (read : Option X) → option_map f read ≡ None → read ≡ None
+map-none f None e = refl
+map-none f (Some x) e = absurd cc
 
-  pub keys_bad : (rest : Words) (word : List ℕ) → words ≡ word ∷ rest → key_of word ≡ None → keys_of old ≡ None
-  keys_bad rest word e k = with_front-none before (keys_of old) (sym so_far ∙ ap (with_front now) (keys_of-bad words rest word e k))
+-- a set that keys are added to, one by one or all at once
+module _ (one : Drafted → List ℕ → Drafted) (all : Drafted → Words → Drafted) (steps : (d : Drafted) (key : List ℕ) (keys : Words) → all d (key ∷ keys) ≡ all (one d key) keys) (stays : (d : Drafted) → all d [] ≡ d) where
+  regroup : (d : Drafted) (key : List ℕ) (read : Option Words) → option_map (all d) (read >>= λ keys. Some (key ∷ keys)) ≡ option_map (all (one d key)) read
+  regroup d key None = refl
+  regroup d key (Some keys) = ap Some (steps d key keys)
 
-  pub keys_end : words ≡ [] → with_front before (keys_of old) ≡ Some now
-  keys_end e = sym so_far ∙ (ap (with_front now) (keys_of-nil words e) ∙ ap Some (append-nil now))
+  module _ (before now : Drafted) (old words : Words) (so_far : option_map (all now) (keys_of words) ≡ option_map (all before) (keys_of old)) where
+    pub keys_more : (rest : Words) (word key : List ℕ) → words ≡ word ∷ rest → key_of word ≡ Some key → option_map (all (one now key)) (keys_of rest) ≡ option_map (all before) (keys_of old)
+    keys_more rest word key e k = sym (regroup now key (keys_of rest)) ∙ (sym (ap (option_map (all now)) (keys_of-cons words rest word key e k)) ∙ so_far)
 
-is_some-with : (key : List ℕ) (read : Option Words) → is_some (read >>= λ keys. Some (key ∷ keys)) ≡ is_some read
-is_some-with key None = refl
-is_some-with key (Some keys) = refl
+    pub keys_bad : (rest : Words) (word : List ℕ) → words ≡ word ∷ rest → key_of word ≡ None → keys_of old ≡ None
+    keys_bad rest word e k = map-none (all before) (keys_of old) (sym so_far ∙ ap (option_map (all now)) (keys_of-bad words rest word e k))
 
-module _ (old words : Words) (so_far : is_some (keys_of words) ≡ is_some (keys_of old)) where
-  pub tried_more : (rest : Words) (word key : List ℕ) → words ≡ word ∷ rest → key_of word ≡ Some key → is_some (keys_of rest) ≡ is_some (keys_of old)
-  tried_more rest word key e k = sym (is_some-with key (keys_of rest)) ∙ (sym (ap is_some (keys_of-cons words rest word key e k)) ∙ so_far)
+    pub keys_end : words ≡ [] → option_map (all before) (keys_of old) ≡ Some now
+    keys_end e = sym so_far ∙ (ap (option_map (all now)) (keys_of-nil words e) ∙ ap Some (stays now))
 
-  pub tried_bad : (rest : Words) (word : List ℕ) → words ≡ word ∷ rest → key_of word ≡ None → false ≡ is_some (keys_of old)
-  tried_bad rest word e k = sym (ap is_some (keys_of-bad words rest word e k)) ∙ so_far
+pub reads_step : (d : Drafted) (key : List ℕ) (keys : Words) → with_reads d (key ∷ keys) ≡ with_reads (with_read d key) keys
+reads_step d key keys = ap (λ (ks : Words). record d { txn = record d.txn { reads = ks } }) (sym (append_assoc d.txn.reads (key ∷ []) keys))
 
-  pub tried_end : words ≡ [] → true ≡ is_some (keys_of old)
-  tried_end e = sym (ap is_some (keys_of-nil words e)) ∙ so_far
+pub reads_stay : (d : Drafted) → with_reads d [] ≡ d
+reads_stay d = ap (λ (ks : Words). record d { txn = record d.txn { reads = ks } }) (append-nil d.txn.reads)
+
+pub writes_step : (d : Drafted) (key : List ℕ) (keys : Words) → with_writes d (key ∷ keys) ≡ with_writes (with_write d key) keys
+writes_step d key keys = ap (λ (ks : Words). record d { txn = record d.txn { writes = ks } }) (sym (append_assoc d.txn.writes (key ∷ []) keys))
+
+pub writes_stay : (d : Drafted) → with_writes d [] ≡ d
+writes_stay d = ap (λ (ks : Words). record d { txn = record d.txn { writes = ks } }) (append-nil d.txn.writes)

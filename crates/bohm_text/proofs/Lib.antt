@@ -1,9 +1,9 @@
 mod Digits
 mod Cuts
 mod Cutting
+mod Printed
 mod TermLoops
 mod KeyLoops
-mod CondLemmas
 mod Takes
 mod Sounds
 mod Again

@@ -5,8 +5,8 @@ use Rattle.std.proofs.lemmas.List.{take_at, append-nil}
 use Rattle.bohm_text.specs.Print.{text_of}
 use Rattle.bohm_text.specs.Cut.{whole_lines}
 use Rattle.bohm_text.specs.Reading.{◌>>=◌}
-use Rattle.bohm_tree.specs.declared.stmt.Stmt.{Stmt}
-use Rattle.bohm_tree.specs.declared.txn.Edition.{Edition}
+use Rattle.bohm_tree.specs.Stmt.{Stmt}
+use Rattle.bohm_tree.specs.declared.edition.Edition.{Edition}
 use Rattle.bohm_tree.specs.Document.{Document}
 use Rattle.bohm_text.specs.declared.reader.Place.{Place}
 use Rattle.bohm_text.specs.declared.reader.Place.TheVariants as places
@@ -114,5 +114,5 @@ module _ (text : List ℕ) (count : ℕ) (rest : List ℕ) (reader : Reader) (so
   txn_open elsewhere = record {
     progress = progress_of reader;
     read = all_read;
-    unfinished = λ d between _. absurd (elsewhere (between_place reader.place (document_in reader) d reader.reads reader.writes reader.body.items between));
+    unfinished = λ d between _. absurd (elsewhere (between_place reader.place (document_in reader) d reader.draft.txn.reads reader.draft.txn.writes reader.draft.txn.body between));
   }

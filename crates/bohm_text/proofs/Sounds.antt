@@ -8,12 +8,9 @@ use Rattle.std.specs.Char.{is_ascii_digit}
 use Rattle.std.proofs.lemmas.Option.{same_Some}
 use Rattle.bohm_tree.specs.Name.{key_of}
 use Rattle.bohm_tree.specs.Shape.{is_term, term_of}
-use Rattle.bohm_tree.specs.declared.term.Atom.{Atom}
-use Rattle.bohm_tree.specs.declared.term.Atom.TheVariants.{Lit, Read, Local}
-use Rattle.bohm_tree.specs.declared.stmt.Cond.{Cond}
-use Rattle.bohm_tree.specs.declared.stmt.Stmt.{Stmt}
-use Rattle.bohm_tree.specs.declared.stmt.Stmt.TheVariants.{Bind, Need, Has, Lacks, Put, Remove, Show, Fail}
-use Rattle.bohm_tree.specs.declared.txn.Txn.{Txn}
+use Rattle.bohm_tree.specs.Term.{Atom, Lit, Read, Local}
+use Rattle.bohm_tree.specs.Stmt.{Cond, Stmt, Bind, Need, Has, Lacks, Put, Remove, Show, Fail}
+use Rattle.bohm_tree.specs.Txn.{Txn}
 use Rattle.bohm_text.specs.Cut.{split}
 use Rattle.bohm_text.specs.Reading.{◌>>=◌, whole_of, lit_of, negative, number_of, atom_of, first_of, sign_of, further_of, stop_of, End, When, Compared, ending, Terms, stopped, longer, one_more, terms_of, sum_from, at_end, last_sum, keys_of, local_of, after, right_side, cond_of, guarded, assigned_of, bind_of, put_of, presence_of, need_of, remove_of, fail_of, stmt_of, entry_of}
 use Rattle.bohm_text.specs.Print.{Words}

@@ -5,11 +5,10 @@ use Rattle.std.specs.List.{flat_map, AllByRecursion}
 use Rattle.std.specs.Str.{bytes_eq}
 use Rattle.std.proofs.lemmas.List.{map-append, append-nil}
 use Rattle.bohm_tree.specs.Document.{Document}
-use Rattle.bohm_tree.specs.declared.stmt.Stmt.{Stmt}
-use Rattle.bohm_tree.specs.declared.stmt.Stmt.TheVariants.{Bind, Need, Has, Lacks, Put, Remove, Show, Fail}
-use Rattle.bohm_tree.specs.declared.txn.Txn.{Txn}
-use Rattle.bohm_tree.specs.declared.txn.Edition.{Edition}
-use Rattle.bohm_tree.specs.declared.txn.Edition.TheVariants.{One, Two}
+use Rattle.bohm_tree.specs.Stmt.{Stmt, Bind, Need, Has, Lacks, Put, Remove, Show, Fail}
+use Rattle.bohm_tree.specs.Txn.{Txn}
+use Rattle.bohm_tree.specs.declared.edition.Edition.{Edition}
+use Rattle.bohm_tree.specs.declared.edition.Edition.TheVariants.{One, Two}
 use Rattle.bohm_txn.proofs.ForCallers.{same_key}
 use Rattle.bohm_text.specs.Print.{Words, line_text, stmt_words, store_words, txn_lines, head_words}
 use Rattle.bohm_text.specs.Cut.{split}

@@ -1,20 +1,21 @@
--- Further terms, one after the other.
-use Rattle.std.proofs.Common.{◌≡◌, ℕ, Bool, true, false, cond, List, [], ◌∷◌, ◌++◌, Some, None, refl, ap, sym, subst, ◌∙◌, append_assoc}
-use Rattle.std.specs.Prelude.{Option, Result, codes, is_some}
-use Rattle.std.specs.Option.{option_map, ok_or}
+-- Terms that are added to a draft, one after the other.
+use Rattle.std.proofs.Common.{◌≡◌, ℕ, Bool, true, false, cond, List, [], ◌∷◌, Some, None, Ok, Err, inl, inr, refl, ap, sym, subst, ◌∙◌, append_assoc}
+use Rattle.std.specs.Prelude.{Option, Result, ◌⊎◌, codes}
+use Rattle.std.specs.Option.{option_map}
 use Rattle.std.specs.Str.{bytes_eq}
 use Rattle.std.proofs.lemmas.List.{append-nil}
+use Rattle.std.proofs.lemmas.Option.{same_Some}
 use Rattle.std.proofs.lemmas.Slice.Eq.{bytes_eq-Decides}
-use Rattle.bohm_tree.specs.Shape.{sum_of}
-use Rattle.bohm_tree.specs.declared.term.Atom.{Atom}
+use Rattle.bohm_tree.specs.declared.cmp.Cmp.{Cmp}
+use Rattle.bohm_tree.specs.Term.{Atom}
+use Rattle.bohm_log.specs.Drafting.{Drafted, with_term}
 use Rattle.bohm_text.specs.declared.fault.ReadFault.{ReadFault}
 use Rattle.bohm_text.specs.declared.fault.ReadFault.TheVariants.{Bad, NoMemory}
 use Rattle.bohm_text.specs.declared.sums.Stop.{Stop}
 use Rattle.bohm_text.specs.declared.sums.Stop.TheVariants as stops
-use Rattle.bohm_text.specs.declared.sums.SumText.{SumText}
 use Rattle.bohm_text.specs.Print.{Words}
-use Rattle.bohm_text.specs.Reading.{◌>>=◌, Fails, Gives, first_of, sign_of, further_of, cmp_of, stop_of, Ending, End, When, Compared, ending, Terms, stopped, longer, terms_of, GivesEnding, sum_from, at_end, last_sum}
-use Rattle.bohm_text.specs.SumText.{is_ended, sum_in, with_ending}
+use Rattle.bohm_text.specs.Reading.{◌>>=◌, Fails, first_of, sign_of, further_of, cmp_of, stop_of, Ending, End, When, Compared, ending, Terms, stopped, longer, terms_of, sum_from, at_end, last_sum}
+use Rattle.bohm_text.specs.Taking.{TakesTerms, taken, with_terms}
 
 -- ---- one term more, or the end
 
@@ -56,161 +57,91 @@ pub terms_of-end : (words : Words) → words ≡ [] → terms_of words ≡ Some 
 unfolding terms_of
 terms_of-end words e = rw e refl
 
--- ---- passing terms
-
-abbrev pub ends : Option Terms → Option Ending
-ends read = option_map (λ (p : Terms). p.1) read
-
-ends-none : (read : Option Terms) → ends read ≡ None → read ≡ None
-ends-none None e = refl
-ends-none (Some p) e = absurd cc
-
-ends-longer : (term : Bool × Atom) (read : Option Terms) → ends (longer term read) ≡ ends read
-ends-longer term None = refl
-ends-longer term (Some p) = refl
-
-module _ (old words : Words) (so_far : ends (terms_of words) ≡ ends (terms_of old)) where
-  pub pass_more : (w2 : Words) (term : Bool × Atom) → terms_of words ≡ longer term (terms_of w2) → ends (terms_of w2) ≡ ends (terms_of old)
-  pass_more w2 term e = sym (ends-longer term (terms_of w2)) ∙ (sym (ap ends e) ∙ so_far)
-
-  pub pass_none : terms_of words ≡ None → terms_of old ≡ None
-  pass_none e = ends-none (terms_of old) (sym so_far ∙ ap ends e)
-
-  stop_case : (r : Option Stop) (w1 : Words) → ends (terms_of old) ≡ ends (r >>= λ stop. Some ([], ending stop w1)) → GivesEnding r old w1
-  stop_case None w1 e = ends-none (terms_of old) e
-  stop_case (Some stop) w1 e = e
-
-  pub pass_stop : (r : Option Stop) (w1 : Words) (sign : List ℕ) → terms_of words ≡ stopped sign w1 → r ≡ stop_of sign → GivesEnding r old w1
-  pass_stop r w1 sign e is = stop_case r w1 (sym so_far ∙ (ap ends e ∙ ap (λ (o : Option Stop). ends (o >>= λ stop. Some ([], ending stop w1))) (sym is)))
-
-  pub pass_end : (rest : Words) → terms_of words ≡ Some ([], End) → GivesEnding (Some stops.End) old rest
-  pass_end rest e = sym so_far ∙ ap ends e
-
 -- ---- adding terms
 
-abbrev pub added : List (Bool × Atom) → Option Terms → Option (List (Bool × Atom))
-added before read = option_map (λ (p : Terms). before ++ p.0) read
+taken-none : (d : Drafted) (read : Option Terms) → taken d read ≡ None → read ≡ None
+taken-none d None e = refl
+taken-none d (Some p) e = absurd cc
 
-added-none : (before : List (Bool × Atom)) (read : Option Terms) → added before read ≡ None → read ≡ None
-added-none before None e = refl
-added-none before (Some p) e = absurd cc
+taken-longer : (d : Drafted) (minus : Bool) (atom : Atom) (read : Option Terms) → taken d (longer (minus, atom) read) ≡ taken (with_term d minus atom) read
+taken-longer d minus atom None = refl
+taken-longer d minus atom (Some p) = ap (λ (ts : List (Bool × Atom)). Some (record d { latest = ts }, p.1)) (sym (append_assoc d.latest ((minus, atom) ∷ []) p.0))
 
-added-longer : (before : List (Bool × Atom)) (term : Bool × Atom) (read : Option Terms) → added before (longer term read) ≡ added (before ++ term ∷ []) read
-added-longer before term None = refl
-added-longer before term (Some p) = ap Some (sym (append_assoc before (term ∷ []) p.0))
+nothing_more : (d : Drafted) → with_terms d [] ≡ d
+nothing_more d = ap (λ (ts : List (Bool × Atom)). record d { latest = ts }) (append-nil d.latest)
 
-module _ (before now : List (Bool × Atom)) (old words : Words) (so_far : added now (terms_of words) ≡ added before (terms_of old)) where
-  pub add_more : (w2 : Words) (term : Bool × Atom) → terms_of words ≡ longer term (terms_of w2) → added (now ++ term ∷ []) (terms_of w2) ≡ added before (terms_of old)
-  add_more w2 term e = sym (added-longer now term (terms_of w2)) ∙ (sym (ap (added now) e) ∙ so_far)
+module _ (before now : Drafted) (old words : Words) (so_far : taken now (terms_of words) ≡ taken before (terms_of old)) where
+  pub take_more : (w2 : Words) (minus : Bool) (atom : Atom) → terms_of words ≡ longer (minus, atom) (terms_of w2) → taken (with_term now minus atom) (terms_of w2) ≡ taken before (terms_of old)
+  take_more w2 minus atom e = sym (taken-longer now minus atom (terms_of w2)) ∙ (sym (ap (taken now) e) ∙ so_far)
 
-  pub add_none : terms_of words ≡ None → terms_of old ≡ None
-  add_none e = added-none before (terms_of old) (sym so_far ∙ ap (added now) e)
+  pub take_none : terms_of words ≡ None → terms_of old ≡ None
+  take_none e = taken-none before (terms_of old) (sym so_far ∙ ap (taken now) e)
 
-  pub add_stop : (w1 : Words) (sign : List ℕ) (stop : Stop) → terms_of words ≡ stopped sign w1 → stop_of sign ≡ Some stop → added before (terms_of old) ≡ Some now
-  add_stop w1 sign stop e is =
+  pub take_stop : (w1 : Words) (sign : List ℕ) (stop : Stop) → terms_of words ≡ stopped sign w1 → stop_of sign ≡ Some stop → taken before (terms_of old) ≡ Some (now, ending stop w1)
+  take_stop w1 sign stop e is =
       let one : terms_of words ≡ Some ([], ending stop w1) = e ∙ ap (λ (o : Option Stop). o >>= λ s. Some ([], ending s w1)) is in
-      sym so_far ∙ (ap (added now) one ∙ ap Some (append-nil now))
+      sym so_far ∙ (ap (taken now) one ∙ ap (λ (d : Drafted). Some (d, ending stop w1)) (nothing_more now))
 
-  pub add_stop_bad : (w1 : Words) (sign : List ℕ) → terms_of words ≡ stopped sign w1 → stop_of sign ≡ None → terms_of old ≡ None
-  add_stop_bad w1 sign e is = add_none (e ∙ ap (λ (o : Option Stop). o >>= λ s. Some ([], ending s w1)) is)
+  pub take_stop_bad : (w1 : Words) (sign : List ℕ) → terms_of words ≡ stopped sign w1 → stop_of sign ≡ None → terms_of old ≡ None
+  take_stop_bad w1 sign e is = take_none (e ∙ ap (λ (o : Option Stop). o >>= λ s. Some ([], ending s w1)) is)
 
-  pub add_end : terms_of words ≡ Some ([], End) → added before (terms_of old) ≡ Some now
-  add_end e = sym so_far ∙ (ap (added now) e ∙ ap Some (append-nil now))
+  pub take_end : terms_of words ≡ Some ([], End) → taken before (terms_of old) ≡ Some (now, End)
+  take_end e = sym so_far ∙ (ap (taken now) e ∙ ap (λ (d : Drafted). Some (d, End)) (nothing_more now))
 
 -- ---- whole sums
 
-sum_case : (first : Bool × Atom) (read : Option Terms) (end : Ending) → ends read ≡ Some end → longer first read ≡ with_ending (read >>= λ p. Some (first ∷ p.0)) end
-sum_case first None end e = absurd cc
-sum_case first (Some p) end e = let same : p.1 ≡ end = cc in ap (λ (x : Ending). Some (first ∷ p.0, x)) same
-
-pub scan_found : (words w1 rest : Words) (word : List ℕ) (text : SumText) → words ≡ word ∷ w1 → first_of word ≡ Some text.first → text.rest ≡ w1 → GivesEnding (Some text.stop) w1 rest → sum_from words ≡ with_ending (sum_in text) (ending text.stop rest)
-unfolding sum_from sum_in
-scan_found words w1 rest word text e first same stop = rw (e, first, same) (sum_case text.first (terms_of w1) (ending text.stop rest) stop)
-
-pub scan_empty : (words : Words) → words ≡ [] → sum_from words ≡ None
+pub sum_empty : (words : Words) → words ≡ [] → sum_from words ≡ None
 unfolding sum_from
-scan_empty words e = rw e refl
+sum_empty words e = rw e refl
 
-pub scan_bad_first : (words w1 : Words) (word : List ℕ) → words ≡ word ∷ w1 → first_of word ≡ None → sum_from words ≡ None
+pub sum_bad_first : (words w1 : Words) (word : List ℕ) → words ≡ word ∷ w1 → first_of word ≡ None → sum_from words ≡ None
 unfolding sum_from
-scan_bad_first words w1 word e first = rw (e, first) refl
+sum_bad_first words w1 word e first = rw (e, first) refl
 
-pub scan_bad_terms : (words w1 : Words) (word : List ℕ) (t : Bool × Atom) → words ≡ word ∷ w1 → first_of word ≡ Some t → terms_of w1 ≡ None → sum_from words ≡ None
+sum_goes_on : (words w1 : Words) (word : List ℕ) (term : Bool × Atom) → words ≡ word ∷ w1 → first_of word ≡ Some term → sum_from words ≡ longer term (terms_of w1)
 unfolding sum_from
-scan_bad_terms words w1 word t e first none = rw (e, first, none) refl
+sum_goes_on words w1 word term e first = rw (e, first) refl
 
--- the sum, where it ends the line
-last_of : Option (List (Bool × Atom)) → Ending → Option (List (Bool × Atom))
-last_of read End = read
-last_of read (When words) = None
-last_of read (Compared cmp words) = None
+longer-none : (term : Bool × Atom) (read : Option Terms) → read ≡ None → longer term read ≡ None
+longer-none term read e = rw e refl
 
-at_end-with : (read : Option (List (Bool × Atom))) (end : Ending) → (with_ending read end >>= at_end) ≡ last_of read end
-unfolding last_of
-at_end-with None End = refl
-at_end-with None (When words) = refl
-at_end-with None (Compared cmp words) = refl
-at_end-with (Some sum) End = refl
-at_end-with (Some sum) (When words) = refl
-at_end-with (Some sum) (Compared cmp words) = refl
+pub sum_taken : (r : Result Stop ReadFault) (d now : Drafted) (minus : Bool) (atom : Atom) (words w1 rest : Words) (word : List ℕ) → words ≡ word ∷ w1 → first_of word ≡ Some (minus, atom)
+    → TakesTerms r (terms_of w1) rest (with_term d minus atom) now → TakesTerms r (sum_from words) rest d now
+sum_taken (Ok stop) d now minus atom words w1 rest word e first h = ap (taken d) (sum_goes_on words w1 word (minus, atom) e first) ∙ (taken-longer d minus atom (terms_of w1) ∙ h)
+sum_taken (Err Bad) d now minus atom words w1 rest word e first h = sum_goes_on words w1 word (minus, atom) e first ∙ longer-none (minus, atom) (terms_of w1) h
+sum_taken (Err NoMemory) d now minus atom words w1 rest word e first h = tt
 
-last_sum-with : (words : Words) (read : Option (List (Bool × Atom))) (end : Ending) → sum_from words ≡ with_ending read end → last_sum words ≡ last_of read end
+-- ---- the last sum of a line
+
+taken_same : (d now : Drafted) (sum : List (Bool × Atom)) (end other : Ending) → taken d (Some (sum, end)) ≡ Some (now, other) → (with_terms d sum ≡ now) × (end ≡ other)
+taken_same d now sum end other e =
+    let p : Drafted × Ending = (with_terms d sum, end) in
+    let q : Drafted × Ending = (now, other) in
+    let same : p ≡ q = same_Some p q e in
+    (ap (λ (x : Drafted × Ending). x.0) same, ap (λ (x : Drafted × Ending). x.1) same)
+
+ended : (d now : Drafted) (read : Option Terms) → taken d read ≡ Some (now, End) → option_map (with_terms d) (read >>= at_end) ≡ Some now
+ended d now None e = absurd cc
+ended d now (Some (sum, End)) e = ap Some (taken_same d now sum End End e).0
+ended d now (Some (sum, When words)) e = let other = (taken_same d now sum (When words) End e).1 in absurd cc
+ended d now (Some (sum, Compared cmp words)) e = let other = (taken_same d now sum (Compared cmp words) End e).1 in absurd cc
+
+goes_on : (d now : Drafted) (read : Option Terms) (end : Ending) → taken d read ≡ Some (now, end) → (end ≡ End → ⊥) → (read >>= at_end) ≡ None
+goes_on d now None end e other = absurd cc
+goes_on d now (Some (sum, End)) end e other = absurd (other (sym (taken_same d now sum End end e).1))
+goes_on d now (Some (sum, When words)) end e other = refl
+goes_on d now (Some (sum, Compared cmp words)) end e other = refl
+
+pub last_taken : (d now : Drafted) (words : Words) → taken d (sum_from words) ≡ Some (now, End) → option_map (with_terms d) (last_sum words) ≡ Some now
 unfolding last_sum
-last_sum-with words read end e = rw e (at_end-with read end)
+last_taken d now words e = ended d now (sum_from words) e
 
-pub last_none : (words : Words) → sum_from words ≡ None → last_sum words ≡ None
+pub last_not_ended : (stop : Stop) (d now : Drafted) (words rest : Words) → taken d (sum_from words) ≡ Some (now, ending stop rest) → (stop ≡ stops.When) ⊎ ((cmp : Cmp) × (stop ≡ stops.Compared cmp)) → last_sum words ≡ None
 unfolding last_sum
-last_none words e = rw e refl
+last_not_ended stop d now words rest e (inl when) = goes_on d now (sum_from words) (ending stop rest) e (λ end. let s : ending stop rest ≡ When rest = rw when refl in absurd cc)
+last_not_ended stop d now words rest e (inr (cmp, compared)) = goes_on d now (sum_from words) (ending stop rest) e (λ end. let s : ending stop rest ≡ Compared cmp rest = rw compared refl in absurd cc)
 
-last_of-stop : (read : Option (List (Bool × Atom))) (stop : Stop) (words : Words) → (stop ≡ stops.End → ⊥) → last_of read (ending stop words) ≡ None
-unfolding last_of
-last_of-stop read stops.End words other = absurd (other refl)
-last_of-stop read stops.When words other = refl
-last_of-stop read (stops.Compared cmp) words other = refl
-
-last_of-end : (read : Option (List (Bool × Atom))) (stop : Stop) (words : Words) → stop ≡ stops.End → last_of read (ending stop words) ≡ read
-unfolding last_of
-last_of-end read stop words e = rw e refl
-
-module _ (words rest : Words) (text : SumText) (found : sum_from words ≡ with_ending (sum_in text) (ending text.stop rest)) where
-  pub last_found : text.stop ≡ stops.End → last_sum words ≡ sum_in text
-  last_found e = last_sum-with words (sum_in text) (ending text.stop rest) found ∙ last_of-end (sum_in text) text.stop rest e
-
-  pub last_other : (text.stop ≡ stops.End → ⊥) → last_sum words ≡ None
-  last_other other = last_sum-with words (sum_in text) (ending text.stop rest) found ∙ last_of-stop (sum_in text) text.stop rest other
-
--- ---- building
-
-no_sign : (word : List ℕ) (sign : Option Bool) → sign_of word ≡ sign → is_some (stop_of word) ≡ true → sign ≡ None
-no_sign word None s e = refl
-no_sign word (Some minus) s e = let none = no_stop word minus s in absurd (subst (λ (o : Option Stop). is_some o ≡ true → ⊥) (sym none) (λ f. cc) e)
-
-abbrev none_before : Ending → Terms
-none_before end = ([], end)
-
-ends_sum : (r : Option Stop) (w1 : Words) → is_some r ≡ true → (end : Ending) × ((r >>= λ stop. Some (none_before (ending stop w1))) ≡ Some (none_before end))
-ends_sum None w1 e = absurd cc
-ends_sum (Some stop) w1 e = (ending stop w1, refl)
-
-ended : (words : Words) → is_ended words ≡ true → (end : Ending) × (terms_of words ≡ Some (none_before end))
-ended [] e = (End, terms_of-end [] refl)
-ended (word ∷ words) e =
-    let s = ends_sum (stop_of word) words e in
-    (s.0, stops_at words word (no_sign word (sign_of word) refl e) ∙ s.1)
-
-pub alone : (text : SumText) → is_ended text.rest ≡ true → sum_in text ≡ Some (text.first ∷ [])
-unfolding sum_in
-alone text e = let p = ended text.rest e in rw p.1 refl
-
-built_case : (first : Bool × Atom) (read : Option Terms) (now : List (Bool × Atom)) → added (first ∷ []) read ≡ Some now → ((read >>= λ p. Some (first ∷ p.0)) ≡ Some now) × (sum_of now ≡ Some now)
-built_case first None now e = absurd cc
-built_case first (Some p) now e = let same : first ∷ p.0 ≡ now = cc in (ap Some same, subst (λ (ts : List (Bool × Atom)). sum_of ts ≡ Some ts) same refl)
-
-pub built : (text : SumText) (now : List (Bool × Atom)) (r : Result (List (Bool × Atom)) ReadFault) → added (text.first ∷ []) (terms_of text.rest) ≡ Some now → r ≡ ok_or (sum_of now) Bad → Gives r (sum_in text)
-unfolding sum_in
-built text now r e is = let b = built_case text.first (terms_of text.rest) now e in rw (is, b.1) b.0
-
-pub not_built : (text : SumText) (fault : ReadFault) → Fails fault (terms_of text.rest) → Fails fault (sum_in text)
-unfolding sum_in
-not_built text Bad e = rw e refl
-not_built text NoMemory e = tt
+pub last_fails : (fault : ReadFault) (words : Words) → Fails fault (sum_from words) → Fails fault (last_sum words)
+unfolding last_sum
+last_fails Bad words e = rw e refl
+last_fails NoMemory words e = tt

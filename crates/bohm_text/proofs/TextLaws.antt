@@ -5,10 +5,10 @@ use Rattle.std.specs.List.{list_all, AllByRecursion}
 use Rattle.std.proofs.lemmas.List.{append-nil}
 use Rattle.std.proofs.lemmas.Option.{same_Some}
 use Rattle.bohm_tree.specs.Document.{Document, same_edition, in_edition, document_of}
-use Rattle.bohm_tree.specs.declared.stmt.Stmt.{Stmt}
-use Rattle.bohm_tree.specs.declared.txn.Txn.{Txn}
-use Rattle.bohm_tree.specs.declared.txn.Edition.{Edition}
-use Rattle.bohm_tree.specs.declared.txn.Edition.TheVariants.{One, Two}
+use Rattle.bohm_tree.specs.Stmt.{Stmt}
+use Rattle.bohm_tree.specs.Txn.{Txn}
+use Rattle.bohm_tree.specs.declared.edition.Edition.{Edition}
+use Rattle.bohm_tree.specs.declared.edition.Edition.TheVariants.{One, Two}
 use Rattle.bohm_txn.proofs.ForCallers.{each_append}
 use Rattle.bohm_text.specs.Print.{Words, line_text, spaced, text_of, doc_lines, print_doc}
 use Rattle.bohm_text.specs.Cut.{whole_lines}

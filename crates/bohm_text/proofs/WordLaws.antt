@@ -10,16 +10,13 @@ use Rattle.std.proofs.lemmas.Bool.Decides.{nat_tests}
 use Rattle.std.proofs.lemmas.Str.Parse.{digit_from_value}
 use Rattle.std.proofs.lemmas.Fmt.{decimal_is_IsNumeral}
 use Rattle.bohm_tree.specs.Name.{is_name_byte}
-use Rattle.bohm_tree.specs.declared.term.Atom.{Atom}
-use Rattle.bohm_tree.specs.declared.term.Atom.TheVariants.{Lit, Read, Local}
-use Rattle.bohm_tree.specs.declared.stmt.Cmp.{Cmp}
-use Rattle.bohm_tree.specs.declared.stmt.Cmp.TheVariants.{Lt, Le, Eq, Ge, Gt}
-use Rattle.bohm_tree.specs.declared.stmt.Cond.{Cond}
-use Rattle.bohm_tree.specs.declared.stmt.Stmt.{Stmt}
-use Rattle.bohm_tree.specs.declared.stmt.Stmt.TheVariants.{Bind, Need, Has, Lacks, Put, Remove, Show, Fail}
-use Rattle.bohm_tree.specs.declared.txn.Txn.{Txn}
-use Rattle.bohm_tree.specs.declared.txn.Edition.{Edition}
-use Rattle.bohm_tree.specs.declared.txn.Edition.TheVariants.{One, Two}
+use Rattle.bohm_tree.specs.Term.{Atom, Lit, Read, Local}
+use Rattle.bohm_tree.specs.declared.cmp.Cmp.{Cmp}
+use Rattle.bohm_tree.specs.declared.cmp.Cmp.TheVariants.{Lt, Le, Eq, Ge, Gt}
+use Rattle.bohm_tree.specs.Stmt.{Cond, Stmt, Bind, Need, Has, Lacks, Put, Remove, Show, Fail}
+use Rattle.bohm_tree.specs.Txn.{Txn}
+use Rattle.bohm_tree.specs.declared.edition.Edition.{Edition}
+use Rattle.bohm_tree.specs.declared.edition.Edition.TheVariants.{One, Two}
 use Rattle.bohm_tree.specs.Document.{Document}
 use Rattle.bohm_tree.specs.Sound.{IsName, IsAtom, IsTerm, IsCond, IsGuard, IsStmt, IsNumber, IsEntry, IsTxn, IsDocument}
 use Rattle.bohm_txn.proofs.ForCallers.{each_append}

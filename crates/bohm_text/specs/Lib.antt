@@ -2,7 +2,7 @@ pub mod Print
 pub mod Cut
 pub mod Reading
 pub mod WordsInside
-pub mod SumText
+pub mod Taking
 pub mod Step
 pub mod Parse
 pub mod Front

@@ -1,17 +1,14 @@
 -- Reading the words of a line from left to right. Nothing is read where nothing is spelled so.
-use Rattle.std.specs.Prelude.{◌≡◌, ℕ, zero, suc, ℤ, pos, negsuc, ◌+◌, ◌-◌, ◌*◌, ◌^◌, List, [], ◌∷◌, ◌++◌, Bool, true, false, ◌&&◌, ◌==◌, nat_lt, nat_le, Option, Some, None, Result, Ok, Err, if◌then◌else◌, codes, length}
+use Rattle.std.specs.Prelude.{◌≡◌, ℕ, zero, suc, ℤ, pos, negsuc, ◌+◌, ◌-◌, ◌*◌, ◌^◌, List, [], ◌∷◌, Bool, true, false, ◌&&◌, ◌==◌, nat_lt, nat_le, Option, Some, None, Result, Ok, Err, if◌then◌else◌, codes, length}
 use Rattle.std.specs.Option.{option_map}
 use Rattle.std.specs.Str.{bytes_eq}
 use Rattle.std.specs.Char.{is_ascii_digit}
 use Rattle.bohm_tree.specs.Name.{key_of}
 use Rattle.bohm_tree.specs.Shape.{term_of}
-use Rattle.bohm_tree.specs.declared.term.Atom.{Atom}
-use Rattle.bohm_tree.specs.declared.term.Atom.TheVariants.{Lit, Read, Local}
-use Rattle.bohm_tree.specs.declared.stmt.Cmp.{Cmp}
-use Rattle.bohm_tree.specs.declared.stmt.Cmp.TheVariants.{Lt, Le, Eq, Ge, Gt}
-use Rattle.bohm_tree.specs.declared.stmt.Cond.{Cond}
-use Rattle.bohm_tree.specs.declared.stmt.Stmt.{Stmt}
-use Rattle.bohm_tree.specs.declared.stmt.Stmt.TheVariants.{Bind, Need, Has, Lacks, Put, Remove, Show, Fail}
+use Rattle.bohm_tree.specs.Term.{Atom, Lit, Read, Local}
+use Rattle.bohm_tree.specs.declared.cmp.Cmp.{Cmp}
+use Rattle.bohm_tree.specs.declared.cmp.Cmp.TheVariants.{Lt, Le, Eq, Ge, Gt}
+use Rattle.bohm_tree.specs.Stmt.{Cond, Stmt, Bind, Need, Has, Lacks, Put, Remove, Show, Fail}
 use Rattle.bohm_text.specs.declared.fault.ReadFault.{ReadFault}
 use Rattle.bohm_text.specs.declared.fault.ReadFault.TheVariants.{Bad, NoMemory}
 use Rattle.bohm_text.specs.declared.sums.Stop.{Stop}
@@ -118,16 +115,6 @@ terms_of [] = Some ([], End)
 terms_of (word ∷ []) = stopped word []
 terms_of (sign ∷ word ∷ words) = one_more (sign_of sign) word (terms_of words) (stopped sign (word ∷ words))
 
--- what ends the terms that stand first
-abbrev pub GivesEnding : Option Stop → Words → Words → Type 0
-GivesEnding None words rest = terms_of words ≡ None
-GivesEnding (Some stop) words rest = option_map (λ (p : Terms). p.1) (terms_of words) ≡ Some (ending stop rest)
-
--- the terms that stand first are added to those before, unless memory ran out
-abbrev pub GivesTerms : Result (Unit {0}) ReadFault → Words → List (Bool × Atom) → List (Bool × Atom) → Type 0
-GivesTerms (Ok done) words before now = option_map (λ (p : Terms). before ++ p.0) (terms_of words) ≡ Some now
-GivesTerms (Err e) words before now = Fails e (terms_of words)
-
 unfoldable pub sum_from : Words → Option Terms
 sum_from [] = None
 sum_from (word ∷ words) = first_of word >>= λ term. longer term (terms_of words)
@@ -146,11 +133,6 @@ keys_of (word ∷ words) = do
   key ← key_of word
   keys ← keys_of words
   Some (key ∷ keys)
-
--- the keys that the words are are added to those before, unless memory ran out
-abbrev pub GivesKeys : Result (Unit {0}) ReadFault → Words → Words → Words → Type 0
-GivesKeys (Ok done) words before now = option_map (λ (keys : Words). before ++ keys) (keys_of words) ≡ Some now
-GivesKeys (Err e) words before now = Fails e (keys_of words)
 
 abbrev pub local_of : List ℕ → Option (List ℕ)
 local_of [] = None

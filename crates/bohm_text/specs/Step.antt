@@ -1,11 +1,12 @@
 -- What a line makes of the lines before it.
 use Rattle.std.specs.Prelude.{◌≡◌, ℕ, ℤ, List, [], ◌∷◌, ◌++◌, Option, Some, None, Result, Ok, Err, if◌then◌else◌, codes}
 use Rattle.std.specs.Str.{bytes_eq}
-use Rattle.bohm_tree.specs.declared.stmt.Stmt.{Stmt}
-use Rattle.bohm_tree.specs.declared.txn.Edition.{Edition}
-use Rattle.bohm_tree.specs.declared.txn.Edition.TheVariants.{One, Two}
-use Rattle.bohm_tree.specs.declared.txn.Txn.{Txn}
+use Rattle.bohm_tree.specs.Stmt.{Stmt}
+use Rattle.bohm_tree.specs.declared.edition.Edition.{Edition}
+use Rattle.bohm_tree.specs.declared.edition.Edition.TheVariants.{One, Two}
+use Rattle.bohm_tree.specs.Txn.{Txn}
 use Rattle.bohm_tree.specs.Document.{Document}
+use Rattle.bohm_log.specs.Drafting.{Drafted, IsBare, IsBetween, fresh}
 use Rattle.bohm_text.specs.declared.fault.ReadFault.{ReadFault}
 use Rattle.bohm_text.specs.declared.reader.Place.{Place}
 use Rattle.bohm_text.specs.declared.reader.Place.TheVariants as places
@@ -33,7 +34,7 @@ abbrev pub document_in : Reader → Document
 document_in r = record { edition = r.edition; store = r.store; log = r.log }
 
 abbrev pub progress_of : Reader → Progress
-progress_of r = progress_at r.place (document_in r) r.reads r.writes r.body.items
+progress_of r = progress_at r.place (document_in r) r.draft.txn.reads r.draft.txn.writes r.draft.txn.body
 
 -- a reader took a line in, unless memory ran out
 abbrev pub Feeds : Result (Unit {0}) ReadFault → Option Progress → Progress → Type 0
@@ -75,3 +76,13 @@ step (Body d reads writes body) line = after_body d reads writes body line
 abbrev pub steps : Progress → List (List ℕ) → Option Progress
 steps progress [] = Some progress
 steps progress (line ∷ lines) = step progress line >>= λ next. steps next lines
+
+-- the draft is ready for the line that comes next
+abbrev pub IsReadyAt : Place → Edition → Drafted → Type 0
+IsReadyAt places.Between edition d = Unit {0}
+IsReadyAt places.Opened edition d = d ≡ fresh edition
+IsReadyAt places.Reading edition d = IsBare d × (d.txn.edition ≡ edition) × (d.txn.writes ≡ [])
+IsReadyAt places.Body edition d = IsBetween d × (d.txn.edition ≡ edition)
+
+abbrev pub IsReady : Reader → Type 0
+IsReady r = IsReadyAt r.place r.edition r.draft

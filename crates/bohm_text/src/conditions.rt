@@ -1,48 +1,25 @@
-//! Conditions, as sums: found first, and then built.
+//! Conditions, as two sums with a comparison between them.
 
-ghost use Rattle.bohm_text.specs.Reading.{Gives, cond_of};
-ghost use Rattle.bohm_text.specs.SumText.{ScansCond, cond_in};
+ghost use Rattle.std.specs.Prelude.{◌<◌, length};
+ghost use Rattle.bohm_text.specs.Reading.{cond_of};
+ghost use Rattle.bohm_text.specs.Taking.{TakesCond};
 
 use crate::fault::ReadFault;
-use crate::sums::{Stop, SumText, build_sum, scan_last_sum, scan_sum};
+use crate::sums::{Stop, read_last_sum, read_sum};
 use crate::words::Words;
-use bohm_tree::{Cmp, Cond};
-use std::alloc::Global;
+use bohm_log::{Draft, HashSeed};
+use bohm_tree::Cmp;
 
-/// A condition that stands in a line.
-#[derive(Drop)]
-pub struct CondText<'a> {
-    pub left: SumText<'a>,
-    pub cmp: Cmp,
-    pub right: SumText<'a>,
-}
-
-/// The condition that the words are. It takes no memory.
-pub fn scan_cond<'a>(words: &mut Words<'a>) -> Option<CondText<'a>>
-    ensures { ScansCond result words.old }
+/// Adds both sums of the condition that the words are, and answers its comparison.
+#[tactic(auto, unfolding(crate::specs::Reading::cond_of))]
+pub fn read_cond(draft: &mut Draft<HashSeed>, words: &mut Words) -> Result<Cmp, ReadFault>
+    requires { length draft.old.done < 2 }
+    ensures { TakesCond result (cond_of words.old) draft.old draft.new }
 {
-    let left = scan_sum(words)?;
-    match left.stop {
-        Stop::Compared(cmp) => {
-            let right = scan_last_sum(words)?;
-            Some(CondText { left, cmp, right })
-        }
-        _ => None,
-    }
-}
-
-pub fn build_cond(alloc: Global, text: CondText) -> Result<Cond, ReadFault>
-    ensures { Gives result (cond_in text.entry) }
-{
-    let CondText { left, cmp, right } = text;
-    let left = build_sum(alloc, left)?;
-    let right = build_sum(alloc, right)?;
-    Ok(Cond { left, cmp, right })
-}
-
-pub fn read_cond(alloc: Global, words: &mut Words) -> Result<Cond, ReadFault>
-    ensures { Gives result (cond_of words.old) }
-{
-    let text = scan_cond(words).ok_or(ReadFault::Bad)?;
-    build_cond(alloc, text)
+    let Stop::Compared(cmp) = read_sum(draft, words)? else {
+        return Err(ReadFault::Bad);
+    };
+    draft.next_sum();
+    read_last_sum(draft, words)?;
+    Ok(cmp)
 }

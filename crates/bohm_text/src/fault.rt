@@ -2,6 +2,7 @@
 
 ghost use Rattle.std.specs.Prelude.{◌≡◌};
 
+use bohm_log::LogFault;
 use std::alloc::{AllocError, AllocFailed};
 
 /// Why a line could not be read.
@@ -41,6 +42,18 @@ impl From<bohm_tree::NoMemory> for ReadFault {
     ghost from_gives = { λ _ e. e ≡ NoMemory };
 
     fn from(_e: bohm_tree::NoMemory) -> ReadFault {
+        ReadFault::NoMemory
+    }
+}
+
+/// Places and numbers have 32 bits, and a log that needs more takes more memory than that.
+impl From<LogFault> for ReadFault {
+    ghost use Rattle.std.specs.Prelude.{◌≡◌};
+    ghost use Rattle.bohm_text.specs.declared.fault.ReadFault.TheVariants.{NoMemory};
+
+    ghost from_gives = { λ _ e. e ≡ NoMemory };
+
+    fn from(_e: LogFault) -> ReadFault {
         ReadFault::NoMemory
     }
 }

@@ -16,5 +16,5 @@ mod words;
 
 pub use answers::{print_numbered, print_replies, print_store};
 pub use fault::TextFault;
-pub use parsing::parse;
+pub use parsing::{parse, parse_with_seed};
 pub use printing::print_doc;

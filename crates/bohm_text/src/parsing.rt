@@ -9,7 +9,7 @@ ghost use Rattle.bohm_text.specs.Faults.{IsFirstBadLine, IsShort};
 
 use crate::fault::{ReadFault, TextFault};
 use crate::reader::{Place, Reader, read_head};
-use bohm_tree::Doc;
+use bohm_log::{Doc, HashSeed};
 use std::alloc::Global;
 
 fn newline_at(bytes: &[u8]) -> Option<usize>
@@ -32,7 +32,7 @@ fn split_line(text: &[u8]) -> Option<(&[u8], &[u8])>
     }
 }
 
-fn read_text(alloc: Global, text: &[u8]) -> Result<Reader, TextFault>
+fn read_text(alloc: Global, seed: HashSeed, text: &[u8]) -> Result<Reader, TextFault>
     ensures { Reads text.now result }
 {
     let Some((head, others)) = split_line(text) else {
@@ -41,12 +41,12 @@ fn read_text(alloc: Global, text: &[u8]) -> Result<Reader, TextFault>
     let Some(edition) = read_head(head) else {
         return Err(TextFault::Line(1));
     };
-    let mut reader = Reader::new(alloc, edition);
+    let mut reader = Reader::new(alloc, seed, edition);
     let mut rest = others;
     let mut count: u64 = 1;
     'lines: while let Some((line, others)) = split_line(rest) {
         count += 1;
-        match reader.feed(alloc, line) {
+        match reader.feed(line) {
             Ok(()) => {}
             Err(ReadFault::Bad) => return Err(TextFault::Line(count)),
             Err(ReadFault::NoMemory) => return Err(TextFault::NoMemory),
@@ -60,7 +60,8 @@ fn read_text(alloc: Global, text: &[u8]) -> Result<Reader, TextFault>
 }
 
 /// The document whose print the text is. Its time and memory grow with the length of the text, and
-/// a line that is refused takes little memory.
+/// a line that is refused takes memory in proportion to its length at most. Names are hashed from a
+/// fixed seed: where strangers choose them, use `parse_with_seed`.
 ///
 /// # Errors
 ///
@@ -73,15 +74,25 @@ pub fn parse(alloc: Global, text: &[u8]) -> Result<Doc, TextFault>
         → IsFirstBadLine (whole_lines text.now) n }
     ensures short { result ≡ Err TextFault.Short → IsShort text.now }
 {
+    parse_with_seed(alloc, HashSeed::fixed(), text)
+}
+
+/// The same, with names hashed from this seed.
+pub fn parse_with_seed(alloc: Global, seed: HashSeed, text: &[u8]) -> Result<Doc, TextFault>
+    ensures found { IfOk result (λ doc. print_doc doc ≡ text.now) }
+    ensures sound { IfOk result IsDocument }
+    ensures line { (n : ℕ) → result ≡ Err (TextFault.Line n)
+        → IsFirstBadLine (whole_lines text.now) n }
+    ensures short { result ≡ Err TextFault.Short → IsShort text.now }
+{
     let Reader {
         edition,
         mut store,
-        mut log,
+        log,
         ..
-    } = read_text(alloc, text)?;
+    } = read_text(alloc, seed, text)?;
     store.shrink_to_fit();
-    log.shrink_to_fit();
-    match Doc::new(edition, store.into_vec(), log.into_vec()) {
+    match Doc::new(edition, store.into_vec(), log) {
         Some(doc) => Ok(doc),
         None => unreachable!(),
     }

@@ -3,21 +3,25 @@
 ghost use Rattle.std.specs.Prelude.{◌≡◌, ◌++◌, ◌∷◌, [], IfOk, map};
 ghost use Rattle.std.specs.List.{flat_map};
 ghost use Rattle.std.specs.Fmt.{signed_decimal};
+ghost use Rattle.bohm_log.specs.Seeing.{atom_shown, term_shown, cond_shown, guard_shown};
 ghost use Rattle.bohm_text.specs.Print.{atom_word, first_word, further_words, sum_words, cmp_word, cond_words};
 ghost use Rattle.bohm_text.specs.Print.{guard_words, stmt_words, store_words, txn_lines, spaced};
 ghost use Rattle.bohm_text.specs.Print.{line_text, lines_text, print_doc};
 
-use bohm_tree::{Atom, Boxed, Cmp, Cond, Doc, Edition, Key, NoMemory, Stmt, Sum, Term, Txn, Value};
+use bohm_log::{
+    AtomParts, CondView, Doc, Keys, LogPart, StmtParts, StmtView, SumView, TermParts, TxnView,
+};
+use bohm_tree::{Cmp, Edition, Key, NoMemory, Value};
 use itoa::Buffer;
 use std::alloc::Global;
 
-fn put_atom(out: &mut Vec<u8>, atom: &Atom) -> Result<(), NoMemory>
-    ensures { IfOk result (λ _. out.new.items ≡ out.old.items ++ atom_word atom.now) }
+fn put_atom(out: &mut Vec<u8>, atom: AtomParts) -> Result<(), NoMemory>
+    ensures { IfOk result (λ _. out.new.items ≡ out.old.items ++ atom_word (atom_shown atom)) }
 {
     match atom {
-        Atom::Lit(number) => out.extend_from_slice(Buffer::new().format(*number).as_bytes())?,
-        Atom::Read(key) => out.extend_from_slice(key.text().as_slice())?,
-        Atom::Local(name) => {
+        AtomParts::Lit(number) => out.extend_from_slice(Buffer::new().format(number).as_bytes())?,
+        AtomParts::Read(key) => out.extend_from_slice(key.text().as_slice())?,
+        AtomParts::Local(name) => {
             out.push(b'$')?;
             out.extend_from_slice(name.text().as_slice())?;
         }
@@ -25,32 +29,34 @@ fn put_atom(out: &mut Vec<u8>, atom: &Atom) -> Result<(), NoMemory>
     Ok(())
 }
 
-fn put_first(out: &mut Vec<u8>, term: &Term) -> Result<(), NoMemory>
-    ensures { IfOk result (λ _. out.new.items ≡ out.old.items ++ first_word term.now) }
+fn put_first(out: &mut Vec<u8>, term: TermParts) -> Result<(), NoMemory>
+    ensures { IfOk result (λ _. out.new.items ≡ out.old.items ++ first_word (term_shown term)) }
 {
-    if term.minus() {
+    if term.minus {
         out.push(b'-')?;
     }
-    put_atom(out, &term.atom())
+    put_atom(out, term.atom)
 }
 
-fn put_further(out: &mut Vec<u8>, term: &Term) -> Result<(), NoMemory>
-    ensures { IfOk result (λ _. out.new.items ≡ out.old.items ++ spaced (further_words term.now)) }
+fn put_further(out: &mut Vec<u8>, term: TermParts) -> Result<(), NoMemory>
+    ensures { IfOk result
+        (λ _. out.new.items ≡ out.old.items ++ spaced (further_words (term_shown term))) }
 {
-    out.extend_from_slice(if term.minus() { b" - " } else { b" + " })?;
-    put_atom(out, &term.atom())
+    out.extend_from_slice(if term.minus { b" - " } else { b" + " })?;
+    put_atom(out, term.atom)
 }
 
 /// A sum, with a space before it.
-fn put_sum(out: &mut Vec<u8>, sum: &Sum) -> Result<(), NoMemory>
+fn put_sum(out: &mut Vec<u8>, sum: &SumView<'_>) -> Result<(), NoMemory>
     ensures { IfOk result (λ _. out.new.items ≡ out.old.items ++ spaced (sum_words sum.now)) }
 {
-    if let [first, others @ ..] = sum.terms() {
-        out.push(b' ')?;
-        put_first(out, first)?;
-        for term in others {
-            put_further(out, term)?;
-        }
+    if sum.len() == 0 {
+        return Ok(());
+    }
+    out.push(b' ')?;
+    put_first(out, sum.term(0))?;
+    for index in 1..sum.len() {
+        put_further(out, sum.term(index))?;
     }
     Ok(())
 }
@@ -68,8 +74,9 @@ fn cmp_text(cmp: Cmp) -> &'static [u8]
 }
 
 /// A condition, with a space before it.
-fn put_cond(out: &mut Vec<u8>, cond: &Cond) -> Result<(), NoMemory>
-    ensures { IfOk result (λ _. out.new.items ≡ out.old.items ++ spaced (cond_words cond.now)) }
+fn put_cond(out: &mut Vec<u8>, cond: &CondView<'_>) -> Result<(), NoMemory>
+    ensures { IfOk result
+        (λ _. out.new.items ≡ out.old.items ++ spaced (cond_words (cond_shown cond.now))) }
 {
     put_sum(out, &cond.left)?;
     out.push(b' ')?;
@@ -77,12 +84,13 @@ fn put_cond(out: &mut Vec<u8>, cond: &Cond) -> Result<(), NoMemory>
     put_sum(out, &cond.right)
 }
 
-fn put_guard(out: &mut Vec<u8>, guard: &Option<Boxed<Cond>>) -> Result<(), NoMemory>
-    ensures { IfOk result (λ _. out.new.items ≡ out.old.items ++ spaced (guard_words guard.now)) }
+fn put_guard(out: &mut Vec<u8>, guard: &Option<CondView<'_>>) -> Result<(), NoMemory>
+    ensures { IfOk result
+        (λ _. out.new.items ≡ out.old.items ++ spaced (guard_words (guard_shown guard.now))) }
 {
     if let Some(cond) = guard {
         out.extend_from_slice(b" when")?;
-        put_cond(out, cond.get())?;
+        put_cond(out, cond)?;
     }
     Ok(())
 }
@@ -96,79 +104,79 @@ fn put_key(out: &mut Vec<u8>, word: &[u8], key: Key) -> Result<(), NoMemory>
     Ok(())
 }
 
-fn put_stmt(out: &mut Vec<u8>, stmt: &Stmt) -> Result<(), NoMemory>
+fn put_stmt(out: &mut Vec<u8>, stmt: &StmtView<'_>) -> Result<(), NoMemory>
     ensures { IfOk result (λ _. out.new.items ≡ out.old.items ++ line_text (stmt_words stmt.now)) }
 {
-    match stmt {
-        Stmt::Bind { name, sum } => {
-            put_key(out, b"let $", *name)?;
+    match stmt.parts() {
+        StmtParts::Bind { name, sum } => {
+            put_key(out, b"let $", name)?;
             out.extend_from_slice(b" =")?;
-            put_sum(out, sum)?;
+            put_sum(out, &sum)?;
         }
-        Stmt::Need(cond) => {
+        StmtParts::Need(cond) => {
             out.extend_from_slice(b"need")?;
-            put_cond(out, cond)?;
+            put_cond(out, &cond)?;
         }
-        Stmt::Has(key) => put_key(out, b"need has ", *key)?,
-        Stmt::Lacks(key) => put_key(out, b"need no ", *key)?,
-        Stmt::Put { key, sum, guard } => {
-            put_key(out, b"set ", *key)?;
+        StmtParts::Has(key) => put_key(out, b"need has ", key)?,
+        StmtParts::Lacks(key) => put_key(out, b"need no ", key)?,
+        StmtParts::Put { key, sum, guard } => {
+            put_key(out, b"set ", key)?;
             out.extend_from_slice(b" =")?;
-            put_sum(out, sum)?;
-            put_guard(out, guard)?;
+            put_sum(out, &sum)?;
+            put_guard(out, &guard)?;
         }
-        Stmt::Remove(key) => put_key(out, b"drop ", *key)?,
-        Stmt::Show(sum) => {
+        StmtParts::Remove(key) => put_key(out, b"drop ", key)?,
+        StmtParts::Show(sum) => {
             out.extend_from_slice(b"show")?;
-            put_sum(out, sum)?;
+            put_sum(out, &sum)?;
         }
-        Stmt::Fail => out.extend_from_slice(b"fail")?,
+        StmtParts::Fail => out.extend_from_slice(b"fail")?,
     }
     Ok(())
 }
 
 /// A line of keys after a word.
-fn put_set(out: &mut Vec<u8>, word: &[u8], keys: &[Key]) -> Result<(), NoMemory>
+fn put_set(out: &mut Vec<u8>, word: &[u8], keys: &Keys<'_>) -> Result<(), NoMemory>
     ensures { IfOk result
         (λ _. out.new.items ≡ out.old.items ++ line_text (word.now ∷ keys.now) ++ 10 ∷ []) }
 {
     out.extend_from_slice(word)?;
-    for key in keys {
+    for place in 0..keys.len() {
         out.push(b' ')?;
-        out.extend_from_slice(key.text().as_slice())?;
+        out.extend_from_slice(keys.key(place).text().as_slice())?;
     }
     out.push(b'\n')?;
     Ok(())
 }
 
-fn put_body(out: &mut Vec<u8>, body: &[Stmt]) -> Result<(), NoMemory>
+fn put_body(out: &mut Vec<u8>, txn: &TxnView<'_>) -> Result<(), NoMemory>
     ensures { IfOk result
-        (λ _. out.new.items ≡ out.old.items ++ lines_text (map stmt_words body.now)) }
+        (λ _. out.new.items ≡ out.old.items ++ lines_text (map stmt_words txn.now.body)) }
 {
-    for stmt in body {
-        put_stmt(out, stmt)?;
+    for index in 0..txn.body_len() {
+        put_stmt(out, &txn.stmt(index))?;
         out.push(b'\n')?;
     }
     Ok(())
 }
 
-fn put_txn(out: &mut Vec<u8>, txn: &Txn) -> Result<(), NoMemory>
+fn put_txn(out: &mut Vec<u8>, txn: &TxnView<'_>) -> Result<(), NoMemory>
     ensures { IfOk result (λ _. out.new.items ≡ out.old.items ++ lines_text (txn_lines txn.now)) }
 {
     out.extend_from_slice(b"txn\n")?;
-    put_set(out, b"reads", txn.reads.as_slice())?;
-    put_set(out, b"writes", txn.writes.as_slice())?;
-    put_body(out, txn.body.as_slice())?;
+    put_set(out, b"reads", &txn.reads())?;
+    put_set(out, b"writes", &txn.writes())?;
+    put_body(out, txn)?;
     out.extend_from_slice(b"end\n")?;
     Ok(())
 }
 
-fn put_log(out: &mut Vec<u8>, log: &[Txn]) -> Result<(), NoMemory>
+fn put_log(out: &mut Vec<u8>, log: &LogPart<'_>) -> Result<(), NoMemory>
     ensures { IfOk result
         (λ _. out.new.items ≡ out.old.items ++ lines_text (flat_map txn_lines log.now)) }
 {
-    for txn in log {
-        put_txn(out, txn)?;
+    for index in 0..log.len() {
+        put_txn(out, &log.txn(index))?;
     }
     Ok(())
 }
@@ -204,6 +212,6 @@ pub fn print_doc(alloc: Global, doc: &Doc) -> Result<Vec<u8>, NoMemory>
         Edition::Two => b"log 2\n",
     })?;
     put_entries(&mut out, doc.store())?;
-    put_log(&mut out, doc.log())?;
+    put_log(&mut out, &doc.log())?;
     Ok(out)
 }

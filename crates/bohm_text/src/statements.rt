@@ -1,17 +1,21 @@
 //! Statements and the other lines that are read by words.
 
-ghost use Rattle.std.specs.Prelude.{◌≡◌, codes, is_some};
-ghost use Rattle.bohm_text.specs.Reading.{Gives, GivesKeys, keys_of, local_of, after, last_sum};
+ghost use Rattle.std.specs.Prelude.{◌≡◌, codes};
+ghost use Rattle.std.specs.Option.{option_map};
+ghost use Rattle.bohm_tree.specs.Stmt.{Show};
+ghost use Rattle.bohm_log.specs.Drafting.{IsBare, IsBetween};
+ghost use Rattle.bohm_text.specs.Reading.{Gives, keys_of, local_of, after, last_sum};
 ghost use Rattle.bohm_text.specs.Reading.{assigned_of, bind_of, put_of, presence_of, need_of};
 ghost use Rattle.bohm_text.specs.Reading.{remove_of, fail_of, stmt_of, entry_of};
+ghost use Rattle.bohm_text.specs.Taking.{Takes, TakesStmt, with_reads, with_terms, with_writes};
 
-use crate::conditions::{build_cond, read_cond, scan_cond};
+use crate::conditions::read_cond;
 use crate::fault::ReadFault;
 use crate::numbers::read_number;
-use crate::sums::{Stop, build_sum, read_last_sum, scan_sum};
+use crate::sums::{Stop, read_last_sum, read_sum};
 use crate::words::Words;
-use bohm_tree::{Boxed, Items, Key, Stmt, Sum, Value};
-use std::alloc::Global;
+use bohm_log::{Draft, HashSeed};
+use bohm_tree::{Key, Value};
 
 fn read_local(word: &[u8]) -> Option<Key>
     ensures { result ≡ local_of word.now }
@@ -22,87 +26,83 @@ fn read_local(word: &[u8]) -> Option<Key>
     }
 }
 
-/// The sum after an equals sign.
-fn read_bound(alloc: Global, words: &mut Words) -> Result<Sum, ReadFault>
-    ensures { Gives result (after (codes "=") last_sum words.old) }
+/// Adds the sum after an equals sign.
+fn read_bound(draft: &mut Draft<HashSeed>, words: &mut Words) -> Result<(), ReadFault>
+    ensures { Takes result (after (codes "=") last_sum words.old) (with_terms draft.old) draft.new }
 {
     match words.next() {
-        Some(word) if word == b"=".as_slice() => read_last_sum(alloc, words),
+        Some(word) if word == b"=".as_slice() => read_last_sum(draft, words),
         _ => Err(ReadFault::Bad),
     }
 }
 
 #[tactic(auto, unfolding(crate::specs::Reading::bind_of))]
-fn read_bind(alloc: Global, words: &mut Words) -> Result<Stmt, ReadFault>
-    ensures { Gives result (bind_of words.old) }
+fn read_bind(draft: &mut Draft<HashSeed>, words: &mut Words) -> Result<(), ReadFault>
+    requires { IsBetween draft.old }
+    ensures { TakesStmt result (bind_of words.old) draft.old draft.new }
 {
     let Some(word) = words.next() else {
         return Err(ReadFault::Bad);
     };
     let name = read_local(word).ok_or(ReadFault::Bad)?;
-    let sum = read_bound(alloc, words)?;
-    Ok(Stmt::Bind { name, sum })
+    read_bound(draft, words)?;
+    draft.bind(name)?;
+    Ok(())
 }
 
 /// What a key is set to, and when.
-fn read_assigned(alloc: Global, key: Key, words: &mut Words) -> Result<Stmt, ReadFault>
-    ensures { Gives result (assigned_of key words.old) }
+fn read_assigned(draft: &mut Draft<HashSeed>, key: Key, words: &mut Words) -> Result<(), ReadFault>
+    requires { IsBetween draft.old }
+    ensures { TakesStmt result (assigned_of key words.old) draft.old draft.new }
 {
-    let text = scan_sum(words).ok_or(ReadFault::Bad)?;
-    match text.stop {
-        Stop::End => {
-            let sum = build_sum(alloc, text)?;
-            Ok(Stmt::Put {
-                key,
-                sum,
-                guard: None,
-            })
-        }
+    match read_sum(draft, words)? {
+        Stop::End => draft.put(key)?,
         Stop::When => {
-            let guard = scan_cond(words).ok_or(ReadFault::Bad)?;
-            let sum = build_sum(alloc, text)?;
-            let guard = build_cond(alloc, guard)?;
-            Ok(Stmt::Put {
-                key,
-                sum,
-                guard: Some(Boxed::new(alloc, guard)?),
-            })
+            draft.next_sum();
+            let cmp = read_cond(draft, words)?;
+            draft.put_when(key, cmp)?;
         }
-        Stop::Compared(_) => Err(ReadFault::Bad),
+        Stop::Compared(_) => return Err(ReadFault::Bad),
     }
+    Ok(())
 }
 
 #[tactic(auto, unfolding(crate::specs::Reading::put_of))]
-fn read_put(alloc: Global, words: &mut Words) -> Result<Stmt, ReadFault>
-    ensures { Gives result (put_of words.old) }
+fn read_put(draft: &mut Draft<HashSeed>, words: &mut Words) -> Result<(), ReadFault>
+    requires { IsBetween draft.old }
+    ensures { TakesStmt result (put_of words.old) draft.old draft.new }
 {
     let Some(word) = words.next() else {
         return Err(ReadFault::Bad);
     };
     let key = Key::new(word).ok_or(ReadFault::Bad)?;
     match words.next() {
-        Some(word) if word == b"=".as_slice() => read_assigned(alloc, key, words),
+        Some(word) if word == b"=".as_slice() => read_assigned(draft, key, words),
         _ => Err(ReadFault::Bad),
     }
 }
 
 #[tactic(auto, unfolding(crate::specs::Reading::presence_of))]
-fn read_presence(word: &[u8], name: &[u8]) -> Option<Stmt>
-    ensures { result ≡ presence_of word.now name.now }
+fn read_presence(draft: &mut Draft<HashSeed>, word: &[u8], name: &[u8]) -> Result<(), ReadFault>
+    requires { IsBetween draft.old }
+    ensures { TakesStmt result (presence_of word.now name.now) draft.old draft.new }
 {
+    let key = Key::new(name).ok_or(ReadFault::Bad)?;
     if word == b"has".as_slice() {
-        Some(Stmt::Has(Key::new(name)?))
+        draft.has(key)?;
     } else if word == b"no".as_slice() {
-        Some(Stmt::Lacks(Key::new(name)?))
+        draft.lacks(key)?;
     } else {
-        None
+        return Err(ReadFault::Bad);
     }
+    Ok(())
 }
 
 /// Two words test a key's presence, more are a condition.
 #[tactic(auto, unfolding(crate::specs::Reading::need_of))]
-fn read_need(alloc: Global, words: &mut Words) -> Result<Stmt, ReadFault>
-    ensures { Gives result (need_of words.old) }
+fn read_need(draft: &mut Draft<HashSeed>, words: &mut Words) -> Result<(), ReadFault>
+    requires { IsBetween draft.old }
+    ensures { TakesStmt result (need_of words.old) draft.old draft.new }
 {
     let mut ahead = words.fork();
     let Some(word) = ahead.next() else {
@@ -111,53 +111,69 @@ fn read_need(alloc: Global, words: &mut Words) -> Result<Stmt, ReadFault>
     let Some(name) = ahead.next() else {
         return Err(ReadFault::Bad);
     };
-    match ahead.next() {
-        None => read_presence(word, name).ok_or(ReadFault::Bad),
-        Some(_) => Ok(Stmt::Need(read_cond(alloc, words)?)),
+    if ahead.next().is_none() {
+        return read_presence(draft, word, name);
     }
+    let cmp = read_cond(draft, words)?;
+    draft.need(cmp)?;
+    Ok(())
+}
+
+fn read_show(draft: &mut Draft<HashSeed>, words: &mut Words) -> Result<(), ReadFault>
+    requires { IsBetween draft.old }
+    ensures { TakesStmt result (option_map Show (last_sum words.old)) draft.old draft.new }
+{
+    read_last_sum(draft, words)?;
+    draft.show()?;
+    Ok(())
 }
 
 #[tactic(auto, unfolding(crate::specs::Reading::remove_of))]
-fn read_remove(words: &mut Words) -> Result<Stmt, ReadFault>
-    ensures { Gives result (remove_of words.old) }
+fn read_remove(draft: &mut Draft<HashSeed>, words: &mut Words) -> Result<(), ReadFault>
+    requires { IsBetween draft.old }
+    ensures { TakesStmt result (remove_of words.old) draft.old draft.new }
 {
     let (Some(name), None) = (words.next(), words.next()) else {
         return Err(ReadFault::Bad);
     };
     let key = Key::new(name).ok_or(ReadFault::Bad)?;
-    Ok(Stmt::Remove(key))
+    draft.remove(key)?;
+    Ok(())
 }
 
 #[tactic(auto, unfolding(crate::specs::Reading::fail_of))]
-fn read_fail(words: &mut Words) -> Result<Stmt, ReadFault>
-    ensures { Gives result (fail_of words.old) }
+fn read_fail(draft: &mut Draft<HashSeed>, words: &mut Words) -> Result<(), ReadFault>
+    requires { IsBetween draft.old }
+    ensures { TakesStmt result (fail_of words.old) draft.old draft.new }
 {
     match words.next() {
-        None => Ok(Stmt::Fail),
-        Some(_) => Err(ReadFault::Bad),
+        None => draft.fail()?,
+        Some(_) => return Err(ReadFault::Bad),
     }
+    Ok(())
 }
 
-/// The statement that the words are. A statement that is refused took no memory.
+/// Adds the statement that the words are. After an `Err` the draft may hold a part of it.
 #[tactic(auto, unfolding(crate::specs::Reading::stmt_of))]
-pub fn read_stmt(alloc: Global, words: &mut Words) -> Result<Stmt, ReadFault>
-    ensures { Gives result (stmt_of words.old) }
+pub fn read_stmt(draft: &mut Draft<HashSeed>, words: &mut Words) -> Result<(), ReadFault>
+    requires { IsBetween draft.old }
+    ensures { TakesStmt result (stmt_of words.old) draft.old draft.new }
 {
     let Some(verb) = words.next() else {
         return Err(ReadFault::Bad);
     };
     if verb == b"set".as_slice() {
-        read_put(alloc, words)
+        read_put(draft, words)
     } else if verb == b"let".as_slice() {
-        read_bind(alloc, words)
+        read_bind(draft, words)
     } else if verb == b"need".as_slice() {
-        read_need(alloc, words)
+        read_need(draft, words)
     } else if verb == b"show".as_slice() {
-        Ok(Stmt::Show(read_last_sum(alloc, words)?))
+        read_show(draft, words)
     } else if verb == b"drop".as_slice() {
-        read_remove(words)
+        read_remove(draft, words)
     } else if verb == b"fail".as_slice() {
-        read_fail(words)
+        read_fail(draft, words)
     } else {
         Err(ReadFault::Bad)
     }
@@ -176,43 +192,30 @@ pub fn read_entry(words: &mut Words) -> Result<(Key, Value), ReadFault>
     Ok((key, Value::from(number)))
 }
 
-/// How many keys are read without a look ahead.
-const FEW_KEYS: usize = 16;
-
-/// Whether the words are keys.
-fn are_keys(words: &mut Words) -> bool
-    ensures { result ≡ is_some (keys_of words.old) }
-{
-    'words: while let Some(word) = words.next() {
-        let Some(_key) = Key::new(word) else {
-            return false;
-        };
-    }
-    true
-}
-
-fn push_keys(words: &mut Words, keys: &mut Vec<Key>) -> Result<(), ReadFault>
-    ensures { GivesKeys result words.old keys.old.items keys.new.items }
+/// Declares the keys that the words are to be read.
+pub fn read_reads(draft: &mut Draft<HashSeed>, words: &mut Words) -> Result<(), ReadFault>
+    requires { IsBare draft.old }
+    ensures { Takes result (keys_of words.old) (with_reads draft.old) draft.new }
 {
     'words: while let Some(word) = words.next() {
         let Some(key) = Key::new(word) else {
             return Err(ReadFault::Bad);
         };
-        keys.push(key)?;
+        draft.read(key)?;
     }
     Ok(())
 }
 
-/// The keys that the words are, in just the room that they take. Where there are many, they are
-/// looked through first, so that a line that is refused takes little memory.
-pub fn read_keys(alloc: Global, words: &mut Words) -> Result<Items<Key>, ReadFault>
-    ensures { Gives result (keys_of words.old) }
+/// Declares the keys that the words are to be written.
+pub fn read_writes(draft: &mut Draft<HashSeed>, words: &mut Words) -> Result<(), ReadFault>
+    requires { IsBare draft.old }
+    ensures { Takes result (keys_of words.old) (with_writes draft.old) draft.new }
 {
-    let count = words.count();
-    if count > FEW_KEYS && !are_keys(&mut words.fork()) {
-        return Err(ReadFault::Bad);
+    'words: while let Some(word) = words.next() {
+        let Some(key) = Key::new(word) else {
+            return Err(ReadFault::Bad);
+        };
+        draft.write(key)?;
     }
-    let mut keys = Vec::with_capacity(alloc, count)?;
-    push_keys(words, &mut keys)?;
-    Ok(Items::from(keys))
+    Ok(())
 }

@@ -1,6 +1,6 @@
 //! The words of a line.
 
-ghost use Rattle.std.specs.Prelude.{◌≡◌, List, ◌∷◌, [], MatchOption, IfSome, ◌==◌, ◌<◌, ◌^◌, length, count_by};
+ghost use Rattle.std.specs.Prelude.{◌≡◌, List, ◌∷◌, [], MatchOption, IfSome, ◌==◌, ◌<◌, length};
 ghost use Rattle.std.specs.List.{position_from};
 ghost use Rattle.bohm_text.specs.Cut.{split};
 
@@ -27,13 +27,6 @@ fn space_in(bytes: &[u8]) -> Option<usize>
     ensures inside { IfSome result (λ at. at < length bytes.now) }
 {
     bytes.iter().position(|byte| *byte == b' ')
-}
-
-fn spaces_in(bytes: &[u8]) -> usize
-    ensures value { result ≡ count_by (λ byte. byte == 32) bytes.now }
-    ensures inside { result < 2 ^ 63 }
-{
-    bytes.iter().filter(|byte| **byte == b' ').count()
 }
 
 impl<'a> Words<'a> {
@@ -64,16 +57,6 @@ impl<'a> Words<'a> {
                 self.rest = Some(&rest[at + 1..]);
                 Some(&rest[..at])
             }
-        }
-    }
-
-    /// How many words are left.
-    pub fn count(&self) -> usize
-        ensures { result ≡ length self.now }
-    {
-        match self.rest {
-            None => 0,
-            Some(rest) => spaces_in(rest) + 1,
         }
     }
 }

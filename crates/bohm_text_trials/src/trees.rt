@@ -1,41 +1,25 @@
 //! Terms that find the keys that they read, and the text of a want of memory.
 
+ghost use Rattle.bohm_log.specs.Parts.{RowIn};
+
+use bohm_log::{AtomKind, PlacedTxn, StmtRow};
 use bohm_text::parse;
-use bohm_tree::{Cond, Doc, Key, NoMemory, Stmt, Sum};
+use bohm_tree::NoMemory;
 use std::process::Abort;
 use std::test::Fail;
 
-/// Each term finds its key at this place among keys that are all that one.
-fn assert_sum(rt: &impl Abort, sum: &Sum, key: Key, place: usize) {
-    for term in sum.terms() {
-        assert_eq!(rt; term.place_among(&[key, key, key]), Some(place));
+/// Each term of the statement's sums reads the key at this place among the declared reads.
+fn assert_row(rt: &impl Abort, txn: &PlacedTxn<'_>, row: StmtRow, place: u32)
+    requires { RowIn txn.now row }
+{
+    for term in txn.terms(row.start, row.third) {
+        assert_eq!(rt; (term.kind, term.place), (AtomKind::Read, place));
     }
 }
 
-fn assert_cond(rt: &impl Abort, cond: &Cond, key: Key, place: usize) {
-    assert_sum(rt, &cond.left, key, place);
-    assert_sum(rt, &cond.right, key, place);
-}
-
-fn assert_stmt(rt: &impl Abort, stmt: &Stmt, key: Key, place: usize) {
-    match stmt {
-        Stmt::Bind { sum, .. } | Stmt::Show(sum) => assert_sum(rt, sum, key, place),
-        Stmt::Need(cond) => assert_cond(rt, cond, key, place),
-        Stmt::Put { sum, guard, .. } => {
-            assert_sum(rt, sum, key, place);
-            if let Some(cond) = guard {
-                assert_cond(rt, cond.get(), key, place);
-            }
-        }
-        Stmt::Has(_) | Stmt::Lacks(_) | Stmt::Remove(_) | Stmt::Fail => {}
-    }
-}
-
-fn assert_doc(rt: &impl Abort, doc: &Doc, key: Key, place: usize) {
-    for txn in doc.log() {
-        for stmt in txn.body.as_slice() {
-            assert_stmt(rt, stmt, key, place);
-        }
+fn assert_txn(rt: &impl Abort, txn: &PlacedTxn<'_>, place: u32) {
+    for row in txn.rows() {
+        assert_row(rt, txn, *row, place);
     }
 }
 
@@ -53,16 +37,18 @@ show c - c
 end
 ";
 
-/// They find it where it stands among the reads, once that is noted.
+/// They find it where it stands among the reads.
 #[test]
-fn places_are_noted(rt: HostRuntime) -> Result<(), Fail> {
-    let c = Key::new(b"c").ok_or("no name")?;
-    let mut doc = parse(rt.alloc(), READING)?;
-    let one = doc.log().len() == 1;
-    assert!(rt; one);
-    assert_doc(&rt, &doc, c, 0);
-    doc.note_places(0);
-    assert_doc(&rt, &doc, c, 2);
+fn terms_find_their_keys(rt: HostRuntime) -> Result<(), Fail> {
+    let doc = parse(rt.alloc(), READING)?;
+    let log = doc.log();
+    assert_eq!(rt; log.len(), 1);
+    if log.len() == 1 {
+        let txn = log.txn(0).placed();
+        let ends = txn.rows().iter().map(|row| row.third);
+        assert!(rt; ends.eq([1, 3, 4, 7, 9]));
+        assert_txn(&rt, &txn, 2);
+    }
     Ok(())
 }
 

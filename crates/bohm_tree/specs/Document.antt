@@ -1,9 +1,9 @@
 -- A document: an edition, the starting store and the log.
 use Rattle.std.specs.Prelude.{ℕ, ℤ, List, Bool, true, false, Option, Some, None, if◌then◌else◌}
 use Rattle.std.specs.List.{list_all}
-use Rattle.bohm_tree.specs.declared.txn.Edition.{Edition}
-use Rattle.bohm_tree.specs.declared.txn.Edition.TheVariants.{One, Two}
-use Rattle.bohm_tree.specs.declared.txn.Txn.{Txn}
+use Rattle.bohm_tree.specs.declared.edition.Edition.{Edition}
+use Rattle.bohm_tree.specs.declared.edition.Edition.TheVariants.{One, Two}
+use Rattle.bohm_tree.specs.Txn.{Txn}
 
 pub record Document : Type 0 where
   pub edition : Edition

@@ -3,8 +3,9 @@ pub mod Words
 pub mod Spreading
 pub mod Shortness
 pub mod KeyInside
-pub mod TermInside
-pub mod FewInside
+pub mod Term
+pub mod Stmt
+pub mod Txn
 pub mod Shape
 pub mod Parts
 pub mod Document

@@ -1,10 +1,7 @@
 -- The parts of terms and statements that the check asks for.
 use Rattle.std.specs.Prelude.{ℕ, List, [], ◌∷◌, Bool, true, false, Option, Some, None}
-use Rattle.bohm_tree.specs.declared.term.Atom.{Atom}
-use Rattle.bohm_tree.specs.declared.term.Atom.TheVariants.{Lit, Read, Local}
-use Rattle.bohm_tree.specs.declared.stmt.Cond.{Cond}
-use Rattle.bohm_tree.specs.declared.stmt.Stmt.{Stmt}
-use Rattle.bohm_tree.specs.declared.stmt.Stmt.TheVariants.{Bind, Need, Has, Lacks, Put, Remove, Show, Fail}
+use Rattle.bohm_tree.specs.Term.{Atom, Lit, Read, Local}
+use Rattle.bohm_tree.specs.Stmt.{Cond, Stmt, Bind, Need, Has, Lacks, Put, Remove, Show, Fail}
 
 -- the key that it reads
 abbrev pub key_read : Atom → Option (List ℕ)

@@ -1,7 +1,6 @@
 -- Which terms and sums there are.
 use Rattle.std.specs.Prelude.{◌^◌, List, [], ◌∷◌, Bool, true, ◌&&◌, ◌==◌, not, nat_lt, Option, Some, None, if◌then◌else◌}
-use Rattle.bohm_tree.specs.declared.term.Atom.{Atom}
-use Rattle.bohm_tree.specs.declared.term.Atom.TheVariants.{Lit, Read, Local}
+use Rattle.bohm_tree.specs.Term.{Atom, Lit, Read, Local}
 
 -- a literal is at most the greatest 64-bit value, and is not 0 after a minus
 abbrev pub is_term : Bool → Atom → Bool

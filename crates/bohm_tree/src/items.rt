@@ -1,11 +1,8 @@
 //! A list of values, which contracts see as a list.
 
-ghost use Rattle.std.specs.Prelude.{◌≡◌, ◌<◌, [], ◌∷◌, ◌++◌, OnOk, OnErr, length};
+ghost use Rattle.std.specs.Prelude.{◌≡◌, [], ◌∷◌, ◌++◌, OnOk, OnErr};
 
-use crate::key::Key;
 use crate::memory::NoMemory;
-use crate::noting::{Noting, note_all};
-use crate::txn::Txn;
 use std::alloc::Global;
 use std::marker::Model;
 
@@ -69,21 +66,5 @@ impl<T> Items<T> {
         ensures { result.now ≡ self.now }
     {
         self.values.as_slice()
-    }
-}
-
-impl<T: Noting> Noting for Items<T> {
-    fn note(&mut self, keys: &[Key]) {
-        note_all(self.values.as_mut_slice(), keys);
-    }
-}
-
-impl Items<Txn> {
-    /// Notes the places of the keys that one of these transactions reads.
-    pub fn note_places(&mut self, index: usize)
-        requires { index < length self.old }
-        ensures { self.new ≡ self.old }
-    {
-        self.values[index].note_places();
     }
 }

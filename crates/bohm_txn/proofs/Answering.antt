@@ -3,7 +3,9 @@ use Rattle.std.proofs.Common.{◌≡◌, ℕ, zero, suc, List, [], ◌∷◌, le
 use Rattle.std.specs.Prelude.{Result, All}
 use Rattle.std.specs.List.{AllByRecursion}
 use Rattle.bohm_tree.specs.declared.cell.Cell.{Cell}
-use Rattle.bohm_tree.specs.declared.txn.Txn.{Txn}
+use Rattle.bohm_tree.specs.declared.edition.Edition.{Edition}
+use Rattle.bohm_tree.specs.Txn.{Txn}
+use Rattle.bohm_log.specs.Parts.{Parts, txn_of}
 use Rattle.bohm_txn.specs.declared.outcome.Reason.{Reason}
 use Rattle.bohm_txn.specs.Faulty.{IsWellFormedTxn}
 use Rattle.bohm_txn.specs.Meaning.{Look, Ended, newest, body}
@@ -49,3 +51,8 @@ abort_cells t look earlier f same e = ap (λ (r : Ended). map (λ k. newest (wri
 
 pub never_aborts : {A : Type 0} (t : Txn) (look : Look) (f : Reason × ℕ) → IsSure t → body look t ≡ Err f → A
 never_aborts t look f sure e = let (run, is) = sure_commits look t sure in absurd (let both = sym is ∙ e in cc)
+
+-- what a run by places says of the transaction
+pub placed_run : (e : Edition) (p : Parts) (t : Txn) (reads earlier : List Cell) (r : Result Tables (Reason × ℕ)) → e ≡ t.edition → txn_of t.edition p ≡ t → tables_from (txn_of e p) (start reads earlier) 1 (txn_of e p).body ≡ r
+    → tables_from t (start reads earlier) 1 t.body ≡ r
+placed_run e p t reads earlier r same placed ran = subst (λ (x : Txn). tables_from x (start reads earlier) 1 x.body ≡ r) (ap (λ (x : Edition). txn_of x p) same ∙ placed) ran

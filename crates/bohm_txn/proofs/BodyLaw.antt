@@ -3,13 +3,10 @@ use Rattle.std.proofs.Common.{◌≡◌, ℕ, ◌+◌, Bool, List, [], ◌∷◌
 use Rattle.std.specs.Prelude.{ℤ, pos, if◌then◌else◌}
 use Rattle.std.specs.List.{AllByRecursion}
 use Rattle.bohm_tree.specs.declared.cell.Cell.TheVariants.{Present}
-use Rattle.bohm_tree.specs.declared.stmt.Cond.{Cond}
-use Rattle.bohm_tree.specs.declared.stmt.Stmt.{Stmt}
-use Rattle.bohm_tree.specs.declared.stmt.Stmt.TheVariants.{Bind, Need, Has, Lacks, Put, Remove, Show, Fail}
-use Rattle.bohm_tree.specs.declared.term.Atom.{Atom}
-use Rattle.bohm_tree.specs.declared.term.Atom.TheVariants.{Lit, Read, Local}
-use Rattle.bohm_tree.specs.declared.txn.Edition.{Edition}
-use Rattle.bohm_tree.specs.declared.txn.Edition.TheVariants.{One, Two}
+use Rattle.bohm_tree.specs.Stmt.{Cond, Stmt, Bind, Need, Has, Lacks, Put, Remove, Show, Fail}
+use Rattle.bohm_tree.specs.Term.{Atom, Lit, Read, Local}
+use Rattle.bohm_tree.specs.declared.edition.Edition.{Edition}
+use Rattle.bohm_tree.specs.declared.edition.Edition.TheVariants.{One, Two}
 use Rattle.bohm_tree.specs.Parts.{guard_sums}
 use Rattle.bohm_txn.specs.declared.outcome.Reason.TheVariants as reasons
 use Rattle.bohm_txn.specs.Meaning.{Look, Locals, Run, number_in, atom_value, signed, ◌>>=◌, total_from, in_range, sum_value, then_try, then_do, compares, cond_value, guard_value, is_present, seen, newest, bind, write, show, needs, perform, or_stop, body_from}

@@ -2,13 +2,15 @@ mod Searches
 mod FirstLaw
 mod UseLaws
 mod Rises
-mod Passing
 mod Lookups
 mod BodyLaw
 mod Bodies
 mod States
 mod Apart
 mod Places
+mod Placing
+mod Checking
+mod Evaluating
 mod Tracking
 mod SureLaws
 mod Stores

@@ -5,8 +5,7 @@ use Rattle.std.specs.List.{list_all}
 use Rattle.std.proofs.lemmas.Bool.Decides.{nat_tests}
 use Rattle.std.proofs.lemmas.Int.{ints}
 use Rattle.bohm_tree.specs.declared.cell.Cell.TheVariants.{Absent}
-use Rattle.bohm_tree.specs.declared.term.Atom.{Atom}
-use Rattle.bohm_tree.specs.declared.term.Atom.TheVariants.{Lit, Read, Local}
+use Rattle.bohm_tree.specs.Term.{Atom, Lit, Read, Local}
 use Rattle.bohm_txn.specs.declared.outcome.Reason.TheVariants.{Range}
 use Rattle.bohm_txn.specs.declared.sureness.Literals.{Literals}
 use Rattle.bohm_txn.specs.Literals.{none_yet, with_literal, literals_from, total_fits}

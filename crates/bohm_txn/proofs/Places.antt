@@ -7,9 +7,8 @@ use Rattle.std.specs.Str.{bytes_eq}
 use Rattle.std.proofs.lemmas.Bool.{or_parts, false_from_ne_true}
 use Rattle.bohm_tree.specs.Name.{place, IsPlaceOf}
 use Rattle.bohm_tree.specs.declared.cell.Cell.{Cell}
-use Rattle.bohm_tree.specs.declared.term.Atom.{Atom}
-use Rattle.bohm_tree.specs.declared.term.Atom.TheVariants.{Lit, Read}
-use Rattle.bohm_tree.specs.declared.term.Atom.TheVariants as atoms
+use Rattle.bohm_tree.specs.Term.{Atom, Lit, Read}
+use Rattle.bohm_tree.specs.Term as atoms
 use Rattle.bohm_tree.specs.Parts.{key_read}
 use Rattle.bohm_txn.specs.Declares.{OnSomeKey}
 use Rattle.bohm_txn.specs.Faulty.{is_among, reads_among, rising}
@@ -29,7 +28,7 @@ pub place-cons : (x : List ℕ) (xs : List (List ℕ)) (k : List ℕ) → place 
 place-cons x xs k = ap (λ o. cond (bytes_eq x k) (Some 0) o) (later (λ y. bytes_eq y k) 0 xs)
 
 -- a place of a key is its only one
-only_place : (keys : List (List ℕ)) (k : List ℕ) (o : Option ℕ) → AllApart keys → IsPlaceOf keys k o → place keys k ≡ o
+pub only_place : (keys : List (List ℕ)) (k : List ℕ) (o : Option ℕ) → AllApart keys → IsPlaceOf keys k o → place keys k ≡ o
 only_place [] k None apart h = refl
 only_place [] k (Some i) apart h = absurd cc
 only_place (x ∷ xs) k None apart h =

@@ -27,10 +27,3 @@ rising_answer f [] true h = refl
 rising_answer f [] false h = absurd (omega (arith, h.1))
 rising_answer f (x ∷ xs) true h = rise f x xs (λ k d l. subst (λ n. true ≡ below (f (get_or (x ∷ xs) k d)) (f (get_or (x ∷ xs) n d))) (add-one k) (h k d (omega arith)))
 rising_answer f (x ∷ xs) false h = fall f x xs h.0 (omega (arith, h.1)) (λ d. subst (λ n. false ≡ below (f (get_or (x ∷ xs) h.0 d)) (f (get_or (x ∷ xs) n d))) (add-one h.0) (h.2 d))
-
-map_same : (xs : List (List ℕ)) → map (λ k. k) xs ≡ xs
-map_same [] = refl
-map_same (x ∷ xs) = λ i. x ∷ map_same xs i
-
-pub rising_keys : (xs : List (List ℕ)) (r : Bool) → IsAllAdjacentAnswer (λ x y b. b ≡ below x y) xs r → r ≡ rising xs
-rising_keys xs r h = subst (λ ks. r ≡ rising ks) (map_same xs) (rising_answer (λ k. k) xs r h)

@@ -6,15 +6,14 @@ use Rattle.std.specs.Option.{option_map, option_or}
 use Rattle.std.specs.Str.{bytes_eq}
 use Rattle.std.proofs.lemmas.List.{reverse-append}
 use Rattle.std.proofs.lemmas.List.Folds.{find-append}
-use Rattle.bohm_tree.specs.declared.term.Atom.{Atom}
+use Rattle.bohm_tree.specs.Term.{Atom}
 use Rattle.bohm_txn.specs.Meaning.{newest, Look, Locals, atom_value, total_from, signed, ◌>>=◌}
-use Rattle.bohm_txn.proofs.Lists.{front}
 
-pub total_step : (look : Look) (locals : Locals) (terms : List (Bool × Atom)) (i : ℕ) (t : Bool × Atom) (z n : ℤ) → i < length terms → t ≡ get_or terms i t → option_map (λ x. signed z t.0 x) (atom_value look locals t.1) ≡ Some n
-    → total_from look locals z (drop i terms) ≡ total_from look locals n (drop (i + 1) terms)
-total_step look locals terms i t z n within is value = rw (front terms i t within is) (after (atom_value look locals t.1) value)
+pub total_step : (look : Look) (locals : Locals) (terms rest : List (Bool × Atom)) (t : Bool × Atom) (z n : ℤ) → terms ≡ t ∷ rest → option_map (λ x. signed z t.0 x) (atom_value look locals t.1) ≡ Some n
+    → total_from look locals z terms ≡ total_from look locals n rest
+total_step look locals terms rest t z n is value = rw is (after (atom_value look locals t.1) value)
   where
-    after : (o : Option ℤ) → option_map (λ x. signed z t.0 x) o ≡ Some n → (o >>= λ x. total_from look locals (signed z t.0 x) (drop (i + 1) terms)) ≡ total_from look locals n (drop (i + 1) terms)
+    after : (o : Option ℤ) → option_map (λ x. signed z t.0 x) o ≡ Some n → (o >>= λ x. total_from look locals (signed z t.0 x) rest) ≡ total_from look locals n rest
     after None e = absurd cc
     after (Some x) e = let same : signed z t.0 x ≡ n = cc in rw same refl
 

@@ -5,11 +5,10 @@ use Rattle.std.specs.List.{All, AllByRecursion, list_all, slice_get}
 use Rattle.std.proofs.lemmas.Bool.Decides.{nat_tests}
 use Rattle.bohm_txn.specs.declared.fault.CheckKind.{CheckKind}
 use Rattle.bohm_txn.specs.declared.fault.CheckKind.TheVariants.{Order, Unread, Unwritten, Local, Limit}
-use Rattle.bohm_tree.specs.declared.term.Atom.{Atom}
-use Rattle.bohm_tree.specs.declared.term.Atom.TheVariants.{Lit, Read}
-use Rattle.bohm_tree.specs.declared.term.Atom.TheVariants as atoms
-use Rattle.bohm_tree.specs.declared.stmt.Stmt.{Stmt}
-use Rattle.bohm_tree.specs.declared.txn.Txn.{Txn}
+use Rattle.bohm_tree.specs.Term.{Atom, Lit, Read}
+use Rattle.bohm_tree.specs.Term as atoms
+use Rattle.bohm_tree.specs.Stmt.{Stmt}
+use Rattle.bohm_tree.specs.Txn.{Txn}
 use Rattle.bohm_tree.specs.Document.{Document}
 use Rattle.bohm_tree.specs.Parts.{sums, tested, target}
 use Rattle.bohm_txn.specs.Faulty.{passes_at, txn_faulty, stmt_faulty, faulty, WellFormed, alone, IsWellFormedTxn, reads_among, some_passes, is_among, rising, names_of}

@@ -9,4 +9,6 @@ pub mod Sure
 pub mod Results
 pub mod Room
 pub mod Tables
+pub mod Rows
+pub mod Seeing
 pub mod Literals

@@ -1,7 +1,6 @@
 -- Sums of literals: what is added, and what is taken away.
 use Rattle.std.specs.Prelude.{ℕ, ◌+◌, ◌^◌, List, [], ◌∷◌, Bool, true, false, ◌&&◌, nat_lt, nat_le, Option, Some, None}
-use Rattle.bohm_tree.specs.declared.term.Atom.{Atom}
-use Rattle.bohm_tree.specs.declared.term.Atom.TheVariants.{Lit, Read, Local}
+use Rattle.bohm_tree.specs.Term.{Atom, Lit, Read, Local}
 use Rattle.bohm_txn.specs.declared.sureness.Literals.{Literals}
 
 abbrev pub none_yet : Literals

@@ -1,6 +1,6 @@
 -- Room for a transaction's work.
 use Rattle.std.specs.Prelude.{◌≡◌, ◌+◌, ◌≤◌, length}
-use Rattle.bohm_tree.specs.declared.txn.Txn.{Txn}
+use Rattle.bohm_tree.specs.Txn.{Txn}
 use Rattle.bohm_txn.specs.declared.work.Work.{Work}
 use Rattle.bohm_txn.specs.Tables.{Tables}
 

@@ -1,7 +1,7 @@
 -- Transactions one after another, in log order, over what each key holds.
 use Rattle.std.specs.Prelude.{ℕ, zero, suc, ℤ, List, [], ◌∷◌, Ok, Err}
 use Rattle.bohm_tree.specs.declared.cell.Cell.{Cell}
-use Rattle.bohm_tree.specs.declared.txn.Txn.{Txn}
+use Rattle.bohm_tree.specs.Txn.{Txn}
 use Rattle.bohm_txn.specs.declared.outcome.Outcome.{Outcome}
 use Rattle.bohm_txn.specs.declared.outcome.Outcome.TheVariants as outcomes_are
 use Rattle.bohm_txn.specs.declared.outcome.Reply.{Reply}

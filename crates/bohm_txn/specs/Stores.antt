@@ -5,7 +5,7 @@ use Rattle.std.specs.Cmp.Lexicographic.{slice_cmp}
 use Rattle.std.specs.FinMap as map
 use Rattle.bohm_tree.specs.declared.cell.Cell.{Cell}
 use Rattle.bohm_tree.specs.declared.cell.Cell.TheVariants.{Absent, Present}
-use Rattle.bohm_tree.specs.declared.txn.Txn.{Txn}
+use Rattle.bohm_tree.specs.Txn.{Txn}
 use Rattle.bohm_txn.specs.Meaning.{Look, body}
 use Rattle.bohm_txn.specs.Serial.{writes_of}
 

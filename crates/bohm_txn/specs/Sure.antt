@@ -3,12 +3,9 @@ use Rattle.std.specs.Prelude.{◌≡◌, ℕ, List, [], Bool, true, false, ◌&&
 use Rattle.std.specs.List.{list_all, list_any}
 use Rattle.std.specs.Str.{bytes_eq}
 use Rattle.bohm_tree.specs.declared.cell.Cell.TheVariants.{Absent}
-use Rattle.bohm_tree.specs.declared.stmt.Cond.{Cond}
-use Rattle.bohm_tree.specs.declared.stmt.Stmt.{Stmt}
-use Rattle.bohm_tree.specs.declared.stmt.Stmt.TheVariants.{Bind, Need, Has, Lacks, Put, Remove, Show, Fail}
-use Rattle.bohm_tree.specs.declared.term.Atom.{Atom}
-use Rattle.bohm_tree.specs.declared.term.Atom.TheVariants.{Lit, Read, Local}
-use Rattle.bohm_tree.specs.declared.txn.Txn.{Txn}
+use Rattle.bohm_tree.specs.Stmt.{Cond, Stmt, Bind, Need, Has, Lacks, Put, Remove, Show, Fail}
+use Rattle.bohm_tree.specs.Term.{Atom, Lit, Read, Local}
+use Rattle.bohm_tree.specs.Txn.{Txn}
 use Rattle.bohm_tree.specs.Parts.{target}
 use Rattle.bohm_txn.specs.Faulty.{some_passes}
 use Rattle.bohm_txn.specs.Meaning.{sum_value}

@@ -5,11 +5,12 @@ ghost use Rattle.bohm_txn.specs.Faulty.{WellFormed, IsFirstFault, IsWellFormedTx
 
 use crate::fault::CheckFault;
 use crate::finding::first_fault;
-use bohm_tree::{Doc, Edition, Key, LogPart, Value};
+use bohm_log::{Doc, LogPart};
+use bohm_tree::{Edition, Key, Value};
 use std::marker::Model;
 
 /// A well-formed document: only `check` makes one.
-#[derive(Debug, Drop)]
+#[derive(Drop)]
 pub struct Checked {
     doc: Doc,
 }
@@ -48,24 +49,22 @@ impl Checked {
         ensures few { length result ≤ 1000000 }
         ensures well_formed { All IsWellFormedTxn result }
     {
-        LogPart::new(self.doc.log())
+        self.doc.log()
     }
 }
 
 /// The document, if it has no faulty place; or else its first faulty place, by transaction and then
 /// by statement, with the least kind of fault there. A refused document is dropped.
 ///
-/// It notes in each term where its key stands among the reads, so that `eval` seeks none. It takes
-/// no memory. Its time grows with the number of the document's store entries, keys, terms and
-/// statements.
+/// It takes no memory. Its time grows with the number of the document's store entries, keys, terms
+/// and statements.
 #[tactic(auto, using(crate::proofs::FirstLaw::well_formed))]
 pub fn check(doc: Doc) -> Result<Checked, CheckFault>
     ensures ok { IfOk result (λ checked. checked ≡ doc) }
     ensures well_formed { IfOk result WellFormed }
     ensures err { IfErr result (IsFirstFault doc) }
 {
-    let mut doc = doc;
-    match first_fault(&mut doc) {
+    match first_fault(&doc) {
         None => Ok(Checked { doc }),
         Some(fault) => Err(fault),
     }

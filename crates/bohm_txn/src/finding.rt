@@ -1,14 +1,17 @@
 //! The first fault of a document.
 
-ghost use Rattle.std.specs.Prelude.{◌≡◌, ◌≤◌, true, length};
+ghost use Rattle.std.specs.Prelude.{◌≡◌, ◌≤◌, ◌<◌, true, length, map, take, All};
 ghost use Rattle.std.specs.Option.{option_map};
+ghost use Rattle.bohm_log.specs.Parts.{RowIn, stmt_of, txn_of};
 ghost use Rattle.bohm_txn.specs.declared.fault.CheckKind.TheVariants.{Limit};
 ghost use Rattle.bohm_txn.specs.Faulty.{rising, sets_faulty, stmt_faulty, names_of};
 ghost use Rattle.bohm_txn.specs.FirstFault.{least, first_in_body, first_in_txn, first_in_log, first_in_doc, fault_of};
 
 use crate::fault::{CheckFault, CheckKind};
 use crate::rules::{is_long, is_misnamed, is_unread, is_unwritten};
-use bohm_tree::{Doc, Key, Stmt, Txn, Value};
+use crate::showing::shows;
+use bohm_log::{Doc, Keys, LogPart, PlacedTxn, StmtRow, TxnView};
+use bohm_tree::{Key, Value};
 
 /// The greatest number of transactions of a log.
 const MOST_TXNS: usize = 1_000_000;
@@ -22,10 +25,15 @@ const MOST_KEYS: usize = 16;
 /// The greatest number of values that a transaction shows.
 const MOST_SHOWS: usize = 16;
 
-fn are_rising(keys: &[Key]) -> bool
+fn are_rising(keys: &Keys<'_>) -> bool
     ensures { result ≡ rising keys.now }
 {
-    keys.is_sorted_by(|key, next| key < next)
+    for place in 1..keys.len() {
+        if keys.key(place - 1) >= keys.key(place) {
+            return false;
+        }
+    }
+    true
 }
 
 fn is_store_rising(store: &[(Key, Value)]) -> bool
@@ -35,29 +43,33 @@ fn is_store_rising(store: &[(Key, Value)]) -> bool
 }
 
 /// Whether the transaction has too many statements, keys or shown values.
-fn is_large(txn: &Txn) -> bool
+fn is_large(txn: &TxnView<'_>) -> bool
     ensures { result ≡ sets_faulty txn.now Limit }
 {
-    let body = txn.body.as_slice();
-    body.len() > MOST_STMTS
-        || txn.reads.as_slice().len() > MOST_KEYS
-        || txn.writes.as_slice().len() > MOST_KEYS
-        || body.iter().filter(|stmt| stmt.is_show()).count() > MOST_SHOWS
+    txn.body_len() > MOST_STMTS
+        || txn.reads().len() > MOST_KEYS
+        || txn.writes().len() > MOST_KEYS
+        || shows(txn) > MOST_SHOWS
 }
 
 /// The least kind of fault of a statement that stands behind these others.
-fn stmt_fault(txn: &Txn, before: &[Stmt], stmt: &Stmt) -> Option<CheckKind>
-    requires reads { rising txn.now.reads ≡ true }
-    requires writes { rising txn.now.writes ≡ true }
-    ensures { result ≡ least (stmt_faulty txn.now before.now stmt.now) }
+fn stmt_fault(txn: &PlacedTxn<'_>, before: &[StmtRow], row: &StmtRow) -> Option<CheckKind>
+    requires reads { length txn.now.reads ≤ 16 }
+    requires writes { length txn.now.writes ≤ 16 }
+    requires before { All (RowIn txn.now) before.now }
+    requires row { RowIn txn.now row.now }
+    ensures { (e : _)
+        → result ≡ least
+        (stmt_faulty (txn_of e txn.now) (map (stmt_of txn.now) before.now)
+        (stmt_of txn.now row.now)) }
 {
-    if is_unread(txn.reads.as_slice(), stmt) {
+    if is_unread(txn, row) {
         Some(CheckKind::Unread)
-    } else if is_unwritten(txn.writes.as_slice(), stmt) {
+    } else if is_unwritten(txn, row) {
         Some(CheckKind::Unwritten)
-    } else if is_misnamed(before, stmt) {
+    } else if is_misnamed(txn, before, row) {
         Some(CheckKind::Local)
-    } else if is_long(stmt) {
+    } else if is_long(txn, row) {
         Some(CheckKind::Limit)
     } else {
         None
@@ -65,15 +77,15 @@ fn stmt_fault(txn: &Txn, before: &[Stmt], stmt: &Stmt) -> Option<CheckKind>
 }
 
 /// The first faulty statement, counted from 1.
-fn first_in_body(txn: &Txn) -> Option<(u32, CheckKind)>
-    requires reads { rising txn.now.reads ≡ true }
-    requires writes { rising txn.now.writes ≡ true }
-    requires stmts { length txn.now.body ≤ 64 }
-    ensures { result ≡ first_in_body txn.now }
+fn first_in_body(txn: &PlacedTxn<'_>) -> Option<(u32, CheckKind)>
+    requires reads { length txn.now.reads ≤ 16 }
+    requires writes { length txn.now.writes ≤ 16 }
+    requires stmts { length txn.now.rows ≤ 64 }
+    ensures { (e : _) → result ≡ first_in_body (txn_of e txn.now) }
 {
-    let body = txn.body.as_slice();
-    for (i, stmt) in body.iter().enumerate() {
-        if let Some(kind) = stmt_fault(txn, &body[..i], stmt) {
+    let rows = txn.rows();
+    for (i, row) in rows.iter().enumerate() {
+        if let Some(kind) = stmt_fault(txn, &rows[..i], row) {
             return Some((i as u32 + 1, kind));
         }
     }
@@ -81,28 +93,25 @@ fn first_in_body(txn: &Txn) -> Option<(u32, CheckKind)>
 }
 
 /// The first fault of a transaction: its sets and counts are statement 0.
-fn first_in_txn(txn: &Txn) -> Option<(u32, CheckKind)>
+fn first_in_txn(txn: &TxnView<'_>) -> Option<(u32, CheckKind)>
     ensures { result ≡ first_in_txn txn.now }
 {
-    if !are_rising(txn.reads.as_slice()) || !are_rising(txn.writes.as_slice()) {
+    if !are_rising(&txn.reads()) || !are_rising(&txn.writes()) {
         Some((0, CheckKind::Order))
     } else if is_large(txn) {
         Some((0, CheckKind::Limit))
     } else {
-        first_in_body(txn)
+        first_in_body(&txn.placed())
     }
 }
 
-/// The first fault of a log's transactions, counted from 1. Each one's terms have the places of
-/// their keys noted first, which the check and each evaluation then need not seek.
-fn first_in_log(doc: &mut Doc) -> Option<CheckFault>
-    requires { length doc.old.log ≤ 1000000 }
-    ensures fault { result ≡ option_map fault_of (first_in_log doc.old.log) }
-    ensures same { doc.new ≡ doc.old }
+/// The first fault of a log's transactions, counted from 1.
+fn first_in_log(log: &LogPart<'_>) -> Option<CheckFault>
+    requires { length log.now ≤ 1000000 }
+    ensures { result ≡ option_map fault_of (first_in_log log.now) }
 {
-    for i in 0..doc.log().len() {
-        doc.note_places(i);
-        if let Some((stmt, kind)) = first_in_txn(&doc.log()[i]) {
+    for i in 0..log.len() {
+        if let Some((stmt, kind)) = first_in_txn(&log.txn(i)) {
             return Some(CheckFault {
                 txn: i as u32 + 1,
                 stmt,
@@ -114,9 +123,8 @@ fn first_in_log(doc: &mut Doc) -> Option<CheckFault>
 }
 
 /// The first fault of a document: its store and the length of its log are transaction 0.
-pub fn first_fault(doc: &mut Doc) -> Option<CheckFault>
-    ensures fault { result ≡ option_map fault_of (first_in_doc doc.old) }
-    ensures same { doc.new ≡ doc.old }
+pub fn first_fault(doc: &Doc) -> Option<CheckFault>
+    ensures { result ≡ option_map fault_of (first_in_doc doc.now) }
 {
     let whole = |kind| {
         Some(CheckFault {
@@ -125,11 +133,12 @@ pub fn first_fault(doc: &mut Doc) -> Option<CheckFault>
             kind,
         })
     };
+    let log = doc.log();
     if !is_store_rising(doc.store()) {
         whole(CheckKind::Order)
-    } else if doc.log().len() > MOST_TXNS {
+    } else if log.len() > MOST_TXNS {
         whole(CheckKind::Limit)
     } else {
-        first_in_log(doc)
+        first_in_log(&log)
     }
 }

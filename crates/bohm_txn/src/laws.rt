@@ -2,7 +2,7 @@
 
 ghost use Rattle.std.specs.Prelude.{◌≡◌, true, All, ℕ, suc, ◌+◌, List, length, map, Some, Ok};
 ghost use Rattle.bohm_tree.specs.Document.{Document};
-ghost use Rattle.bohm_tree.specs.declared.txn.Txn.{Txn};
+ghost use Rattle.bohm_tree.specs.Txn.{Txn};
 ghost use Rattle.bohm_txn.specs.Declares.{IsUsable, IsAmong, shows_in};
 ghost use Rattle.bohm_txn.specs.Faulty.{WellFormed, IsWellFormedTxn, rising};
 ghost use Rattle.std.specs.List.{AllByRecursion, slice_get};

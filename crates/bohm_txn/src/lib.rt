@@ -9,16 +9,16 @@ mod outcome;
 mod room;
 mod rules;
 mod scratch;
+mod showing;
 mod sureness;
 mod view;
 mod work;
 
-pub use bohm_tree::{
-    Atom, Boxed, Cell, Cmp, Cond, Doc, Edition, Items, Key, Keys, LogPart, NoMemory, Stmt, Sum,
-    Term, Txn, TxnView, Value,
-};
+pub use bohm_log::{Doc, Keys, LogPart, StmtView, SumView, TxnView};
+pub use bohm_tree::{Cell, Cmp, Edition, Items, Key, NoMemory, Value};
 pub use checked::{Checked, check};
 pub use fault::{CheckFault, CheckKind};
 pub use outcome::{Outcome, Reason, Reply};
 pub use scratch::{Scratch, eval};
+pub use showing::shows;
 pub use sureness::sure;

@@ -1,136 +1,178 @@
-//! What the check asks of keys, names and sums.
+//! What the check asks of a statement's sums and names, by places.
 
-ghost use Rattle.std.specs.Prelude.{◌≡◌, List, Bool, true, not};
-ghost use Rattle.std.specs.List.{list_all};
-ghost use Rattle.bohm_tree.specs.declared.term.Atom.{Atom};
-ghost use Rattle.bohm_tree.specs.Parts.{sums};
-ghost use Rattle.bohm_txn.specs.Computing.{Computes};
-ghost use Rattle.bohm_txn.specs.Faulty.{rising, some_passes, is_among, is_bound, binds, reads_among, locals_bound, is_unread, is_unwritten, is_misnamed, is_long};
+ghost use Rattle.std.specs.Prelude.{◌≡◌, ◌<◌, ◌≤◌, not, length, map, All};
+ghost use Rattle.std.specs.List.{flat_map, list_all, list_any};
+ghost use Rattle.bohm_tree.specs.Parts.{bound, sums};
+ghost use Rattle.bohm_log.specs.Parts.{RowIn, TermIn, name_at, stmt_of, term_of};
+ghost use Rattle.bohm_txn.specs.Faulty.{is_bound, locals_bound, some_passes, is_unread, is_unwritten, is_misnamed, is_long};
+ghost use Rattle.bohm_txn.specs.Rows.{end_of, is_declared, tests_key, writes_key, binds_at};
 
-use bohm_tree::{Atom, Key, Stmt, Sum, Term};
+use bohm_log::{Action, AtomKind, PlacedTxn, StmtRow, TermRow};
 
 /// The greatest number of terms of a sum.
-const MOST_TERMS: usize = 16;
+const MOST_TERMS: u32 = 16;
 
-/// Whether the key is one of these.
-fn is_among(keys: &[Key], key: &Key) -> bool
-    requires { rising keys.now ≡ true }
-    ensures { result ≡ is_among keys.now key.now }
+/// Where the last sum of a statement ends.
+fn end_of(row: &StmtRow) -> u32
+    ensures { result ≡ end_of row.now }
 {
-    keys.binary_search(key).is_ok()
-}
-
-#[tactic(auto, using(crate::proofs::Passing::some_passes_answer))]
-fn binds(stmt: &Stmt, name: &Key) -> bool
-    ensures { result ≡ binds name.now stmt.now }
-{
-    stmt.bound().is_some_and(|bound| bound == *name)
-}
-
-/// Whether one of these statements binds the name.
-fn is_bound(before: &[Stmt], name: &Key) -> bool
-    ensures { result ≡ is_bound before.now name.now }
-{
-    before.iter().any(|stmt| binds(stmt, name))
-}
-
-/// Whether there is a key, and it is none of these.
-#[tactic(auto, using(crate::proofs::Passing::some_passes_answer))]
-fn is_missing(keys: &[Key], key: Option<Key>) -> bool
-    requires { rising keys.now ≡ true }
-    ensures { result ≡ some_passes (λ k. not (is_among keys.now k)) key }
-{
-    key.is_some_and(|key| !is_among(keys, &key))
-}
-
-fn reads_among(keys: &[Key], term: &Term) -> bool
-    ensures { result ≡ reads_among keys.now term.now.1 }
-{
-    match term.atom() {
-        Atom::Read(_) => term.place_among(keys).is_some(),
-        Atom::Lit(_) | Atom::Local(_) => true,
+    match row.action {
+        Action::Bind | Action::Put | Action::Show => row.first,
+        Action::Need(_) => row.second,
+        Action::PutWhen(_) => row.third,
+        Action::Has | Action::Lacks | Action::Remove | Action::Fail => row.start,
     }
 }
 
-fn locals_bound(before: &[Stmt], atom: &Atom) -> bool
-    ensures { result ≡ locals_bound before.now atom.now }
+/// The terms of all sums of a statement.
+#[tactic(auto, using(crate::proofs::Placing::all_terms, crate::proofs::Placing::end_within))]
+fn terms_of<'a>(txn: &PlacedTxn<'a>, row: &StmtRow) -> &'a [TermRow]
+    requires { RowIn txn.now row.now }
+    ensures terms { map (term_of txn.now) result.now
+        ≡ flat_map (λ sum. sum) (sums (stmt_of txn.now row.now)) }
+    ensures within { All (TermIn txn.now) result.now }
 {
-    match atom {
-        Atom::Local(name) => is_bound(before, name),
-        Atom::Lit(_) | Atom::Read(_) => true,
+    txn.terms(row.start, end_of(row))
+}
+
+fn tests_key(row: &StmtRow) -> bool
+    ensures { result ≡ tests_key row.now.action }
+{
+    matches!(row.action, Action::Has | Action::Lacks)
+}
+
+fn writes_key(row: &StmtRow) -> bool
+    ensures { result ≡ writes_key row.now.action }
+{
+    matches!(
+        row.action,
+        Action::Put | Action::PutWhen(_) | Action::Remove
+    )
+}
+
+/// Whether a term reads no key that isn't declared.
+fn is_declared(term: &TermRow) -> bool
+    ensures { result ≡ is_declared term.now.kind }
+{
+    !matches!(term.kind, AtomKind::Unread)
+}
+
+fn are_declared(terms: &[TermRow]) -> bool
+    ensures { result ≡ list_all (λ t. is_declared t.kind) terms.now }
+{
+    terms.iter().all(|term| is_declared(term))
+}
+
+/// Whether the statement reads or tests a key that isn't declared to be read.
+pub fn is_unread(txn: &PlacedTxn<'_>, row: &StmtRow) -> bool
+    requires row { RowIn txn.now row.now }
+    requires few { length txn.now.reads ≤ 16 }
+    ensures { result ≡ is_unread txn.now.reads (stmt_of txn.now row.now) }
+{
+    !are_declared(terms_of(txn, row)) || tests_key(row) && !row.declared
+}
+
+/// Whether the statement writes a key that isn't declared to be written.
+#[tactic(auto, using(crate::proofs::Placing::unwritten_row))]
+pub fn is_unwritten(txn: &PlacedTxn<'_>, row: &StmtRow) -> bool
+    requires row { RowIn txn.now row.now }
+    requires few { length txn.now.writes ≤ 16 }
+    ensures { result ≡ is_unwritten txn.now.writes (stmt_of txn.now row.now) }
+{
+    let _ = txn;
+    writes_key(row) && !row.declared
+}
+
+fn binds(row: &StmtRow, place: u32) -> bool
+    ensures { result ≡ binds_at place row.now }
+{
+    matches!(row.action, Action::Bind) && row.name == place
+}
+
+fn are_binding(rows: &[StmtRow], place: u32) -> bool
+    ensures { result ≡ list_any (binds_at place) rows.now }
+{
+    rows.iter().any(|row| binds(row, place))
+}
+
+/// Whether one of these statements binds the name at a place. Equal names stand at one place.
+#[tactic(auto, using(crate::proofs::Placing::bound_at))]
+fn is_bound(txn: &PlacedTxn<'_>, before: &[StmtRow], place: u32) -> bool
+    requires inside { place < length txn.now.others }
+    requires before { All (RowIn txn.now) before.now }
+    ensures { result ≡ is_bound (map (stmt_of txn.now) before.now) (name_at txn.now.others place) }
+{
+    let _ = txn.others();
+    are_binding(before, place)
+}
+
+/// Whether a term reads no local, or one that these statements bind.
+fn is_defined(txn: &PlacedTxn<'_>, before: &[StmtRow], term: &TermRow) -> bool
+    requires term { TermIn txn.now term.now }
+    requires before { All (RowIn txn.now) before.now }
+    ensures { result
+        ≡ locals_bound (map (stmt_of txn.now) before.now) (term_of txn.now term.now).1 }
+{
+    match term.kind {
+        AtomKind::Local => is_bound(txn, before, term.place),
+        _ => true,
     }
 }
 
-/// Whether each key that the terms read is among these.
-fn is_declared(keys: &[Key], terms: &[Term]) -> bool
-    ensures { result ≡ list_all (λ term. reads_among keys.now term.1) terms.now }
+/// Whether these statements bind each local that the terms read.
+fn are_defined(txn: &PlacedTxn<'_>, before: &[StmtRow], terms: &[TermRow]) -> bool
+    requires terms { All (TermIn txn.now) terms.now }
+    requires before { All (RowIn txn.now) before.now }
+    ensures { result
+        ≡ list_all (λ term. locals_bound (map (stmt_of txn.now) before.now) term.1)
+        (map (term_of txn.now) terms.now) }
 {
-    terms.iter().all(|term| reads_among(keys, term))
-}
-
-/// Whether one of these statements binds each local that the terms read.
-fn is_defined(before: &[Stmt], terms: &[Term]) -> bool
-    ensures { result ≡ list_all (λ term. locals_bound before.now term.1) terms.now }
-{
-    terms.iter().all(|term| locals_bound(before, &term.atom()))
-}
-
-/// Whether all sums of the statement pass: both sides of a condition, and of a guard.
-fn all_sums<F: Fn(&Sum) -> bool>(stmt: &Stmt, passes: F) -> bool
-    requires { F.IsAlwaysCallable passes }
-    ensures { (p : List (Bool × Atom) → Bool) → Computes F.Fn p passes
-        → result ≡ list_all p (sums stmt.now) }
-{
-    match stmt {
-        Stmt::Bind { sum, .. } | Stmt::Show(sum) => passes(sum),
-        Stmt::Need(cond) => passes(&cond.left) && passes(&cond.right),
-        Stmt::Put { sum, guard, .. } => {
-            passes(sum)
-                && match guard {
-                    Some(cond) => passes(&cond.get().left) && passes(&cond.get().right),
-                    None => true,
-                }
+    for term in terms {
+        if !is_defined(txn, before, term) {
+            return false;
         }
-        Stmt::Has(_) | Stmt::Lacks(_) | Stmt::Remove(_) | Stmt::Fail => true,
     }
+    true
 }
 
-/// Whether each key that the statement's sums read is among these.
-fn are_sums_declared(reads: &[Key], stmt: &Stmt) -> bool
-    ensures { result ≡ list_all (list_all (λ term. reads_among reads.now term.1)) (sums stmt.now) }
+/// Whether the statement binds a name that one of these binds.
+fn rebinds(txn: &PlacedTxn<'_>, before: &[StmtRow], row: &StmtRow) -> bool
+    requires row { RowIn txn.now row.now }
+    requires before { All (RowIn txn.now) before.now }
+    ensures { result
+        ≡ some_passes (is_bound (map (stmt_of txn.now) before.now))
+        (bound (stmt_of txn.now row.now)) }
 {
-    all_sums(stmt, |sum| is_declared(reads, sum.terms()))
-}
-
-/// Whether the statement reads or tests a key that is not among these.
-pub fn is_unread(reads: &[Key], stmt: &Stmt) -> bool
-    requires { rising reads.now ≡ true }
-    ensures { result ≡ is_unread reads.now stmt.now }
-{
-    !are_sums_declared(reads, stmt) || is_missing(reads, stmt.tested())
-}
-
-/// Whether the statement writes a key that is not among these.
-pub fn is_unwritten(writes: &[Key], stmt: &Stmt) -> bool
-    requires { rising writes.now ≡ true }
-    ensures { result ≡ is_unwritten writes.now stmt.now }
-{
-    is_missing(writes, stmt.target())
+    match row.action {
+        Action::Bind => is_bound(txn, before, row.name),
+        _ => false,
+    }
 }
 
 /// Whether the statement reads a local that none of the statements before it binds, or binds a name
 /// that one of them binds.
-#[tactic(auto, using(crate::proofs::Passing::some_passes_answer))]
-pub fn is_misnamed(before: &[Stmt], stmt: &Stmt) -> bool
-    ensures { result ≡ is_misnamed before.now stmt.now }
+#[tactic(auto, using(crate::proofs::Placing::all_flat))]
+pub fn is_misnamed(txn: &PlacedTxn<'_>, before: &[StmtRow], row: &StmtRow) -> bool
+    requires row { RowIn txn.now row.now }
+    requires before { All (RowIn txn.now) before.now }
+    ensures { result ≡ is_misnamed (map (stmt_of txn.now) before.now) (stmt_of txn.now row.now) }
 {
-    !all_sums(stmt, |sum| is_defined(before, sum.terms()))
-        || stmt.bound().is_some_and(|name| is_bound(before, &name))
+    !are_defined(txn, before, terms_of(txn, row)) || rebinds(txn, before, row)
 }
 
 /// Whether a sum of the statement has too many terms.
-pub fn is_long(stmt: &Stmt) -> bool
-    ensures { result ≡ is_long stmt.now }
+pub fn is_long(txn: &PlacedTxn<'_>, row: &StmtRow) -> bool
+    requires { RowIn txn.now row.now }
+    ensures { result ≡ is_long (stmt_of txn.now row.now) }
 {
-    !all_sums(stmt, |sum| sum.terms().len() <= MOST_TERMS)
+    let _ = txn;
+    let first = row.first - row.start > MOST_TERMS;
+    let second = row.second - row.first > MOST_TERMS;
+    let third = row.third - row.second > MOST_TERMS;
+    match row.action {
+        Action::Bind | Action::Put | Action::Show => first,
+        Action::Need(_) => first || second,
+        Action::PutWhen(_) => first || second || third,
+        Action::Has | Action::Lacks | Action::Remove | Action::Fail => false,
+    }
 }

@@ -8,7 +8,8 @@ ghost use Rattle.bohm_txn.specs.Sure.{IsSure};
 
 use crate::outcome::Outcome;
 use crate::work::Work;
-use bohm_tree::{Cell, NoMemory, Txn, TxnView, Value};
+use bohm_log::TxnView;
+use bohm_tree::{Cell, NoMemory, Value};
 use std::alloc::Global;
 use std::marker::Model;
 
@@ -55,36 +56,12 @@ impl Scratch {
     }
 }
 
-fn eval_txn(txn: &Txn, reads: &[Cell], earlier: &[Cell], scratch: &mut Scratch) -> Outcome
-    requires well { IsWellFormedTxn txn.now }
-    requires reads { length txn.now.reads ≡ length reads.now }
-    requires earlier { length txn.now.writes ≡ length earlier.now }
-    ensures outcome { (look : Look) → map look txn.now.reads ≡ reads.now
-        → outcome_of (body look txn.now) ≡ result }
-    ensures shows { (look : Look) → map look txn.now.reads ≡ reads.now
-        → shows_of (body look txn.now) ≡ scratch.new.shows }
-    ensures cells { (look : Look) → map look txn.now.reads ≡ reads.now
-        → map look txn.now.writes ≡ earlier.now
-        → map (after look txn.now) txn.now.writes ≡ scratch.new.cells }
-    ensures sure { IsSure txn.now → (look : Look) → map look txn.now.reads ≡ reads.now
-        → map (after look txn.now) txn.now.writes ≡ scratch.new.cells }
-{
-    match scratch.work.run(txn, reads, earlier) {
-        Ok(()) => Outcome::Commit,
-        Err((reason, stmt)) => {
-            scratch.work.take_back(earlier);
-            Outcome::Abort { reason, stmt }
-        }
-    }
-}
-
 /// Runs a transaction over any store in which its declared reads have the cells `reads` and, unless
 /// it is sure, its declared writes have the cells `earlier`. It leaves in the scratch the cells of
 /// the declared writes after the transaction, and the shown values. It allocates nothing.
 ///
-/// Its time grows with the terms of the body. In a transaction of a checked document a term finds
-/// its key at once; in another one the key is sought among the reads. A local is sought among those
-/// that are bound, and the key that a statement tests or writes among the declared ones.
+/// Its time grows with the terms of the body. A term has its key's place; a local is sought among
+/// those that are bound.
 pub fn eval(txn: &TxnView<'_>, reads: &[Cell], earlier: &[Cell], scratch: &mut Scratch) -> Outcome
     requires well { IsWellFormedTxn txn.now }
     requires reads { length txn.now.reads ≡ length reads.now }
@@ -99,5 +76,12 @@ pub fn eval(txn: &TxnView<'_>, reads: &[Cell], earlier: &[Cell], scratch: &mut S
     ensures sure { IsSure txn.now → (look : Look) → map look txn.now.reads ≡ reads.now
         → map (after look txn.now) txn.now.writes ≡ scratch.new.cells }
 {
-    eval_txn(txn.get(), reads, earlier, scratch)
+    let placed = txn.placed();
+    match scratch.work.run(txn.edition(), &placed, reads, earlier) {
+        Ok(()) => Outcome::Commit,
+        Err((reason, stmt)) => {
+            scratch.work.take_back(earlier);
+            Outcome::Abort { reason, stmt }
+        }
+    }
 }

@@ -1,13 +1,12 @@
 //! Transactions that commit over every store, with the same cells.
 
-ghost use Rattle.std.specs.Prelude.{◌≡◌, ◌+◌, ◌^◌, ◌<◌, IfSome};
+ghost use Rattle.std.specs.Prelude.{◌≡◌, ◌+◌, ◌^◌, ◌<◌, ◌≤◌, IfSome, All, length, map};
 ghost use Rattle.std.specs.List.{list_all};
-ghost use Rattle.std.specs.Str.{bytes_eq};
-ghost use Rattle.bohm_tree.specs.Parts.{target};
-ghost use Rattle.bohm_txn.specs.Faulty.{some_passes};
+ghost use Rattle.bohm_log.specs.Parts.{RowIn, TermIn, stmt_of, sum_between, term_of};
 ghost use Rattle.bohm_txn.specs.Sure.{is_sure_sum, is_sure_stmt, is_target, is_sure};
 
-use bohm_tree::{Atom, Key, Stmt, Sum, Term, TxnView};
+use bohm_log::{Action, AtomKind, PlacedTxn, StmtRow, TermRow, TxnView};
+use bohm_tree::Key;
 
 /// The totals of a sum's literals: of those that it adds, and of those that it takes away.
 /// They have room for as many literals as a sum can have.
@@ -42,19 +41,22 @@ impl Literals {
         }
     }
 
-    /// The literals of a sum, if it has nothing else.
-    fn of(terms: &[Term]) -> Option<Literals>
-        ensures value { result ≡ literals_from none_yet terms.now }
+    /// The literals of some terms, if they have nothing else.
+    fn of(txn: &PlacedTxn<'_>, terms: &[TermRow]) -> Option<Literals>
+        requires { All (TermIn txn.now) terms.now }
+        ensures value { result ≡ literals_from none_yet (map (term_of txn.now) terms.now) }
         ensures added { IfSome result (λ l. l.added + 2 ^ 64 < 2 ^ 128) }
         ensures taken { IfSome result (λ l. l.taken + 2 ^ 64 < 2 ^ 128) }
     {
         let _count = terms.len();
         let mut literals = Literals { added: 0, taken: 0 };
         for term in terms {
-            let Atom::Lit(number) = term.atom() else {
-                return None;
+            let number = match term.kind {
+                AtomKind::Small => u64::from(term.place),
+                AtomKind::Large => txn.large()[term.place as usize],
+                AtomKind::Read | AtomKind::Unread | AtomKind::Local => return None,
             };
-            literals = literals.with(term.minus(), number);
+            literals = literals.with(term.minus, number);
         }
         Some(literals)
     }
@@ -68,55 +70,63 @@ impl Literals {
     }
 }
 
-fn is_sure_sum(sum: &Sum) -> bool
-    ensures { result ≡ is_sure_sum sum.now }
+/// Whether the sum of the terms between two offsets has only literals and is in range.
+fn is_sure_sum(txn: &PlacedTxn<'_>, from: u32, to: u32) -> bool
+    requires rises { from ≤ to }
+    requires end { to ≤ length txn.now.terms }
+    ensures { result ≡ is_sure_sum (sum_between txn.now from to) }
 {
-    match Literals::of(sum.terms()) {
+    match Literals::of(txn, txn.terms(from, to)) {
         Some(literals) => literals.is_in_range(),
         None => false,
     }
 }
 
-fn is_sure_stmt(stmt: &Stmt) -> bool
-    ensures { result ≡ is_sure_stmt stmt.now }
+fn is_sure_stmt(txn: &PlacedTxn<'_>, row: &StmtRow) -> bool
+    requires { RowIn txn.now row.now }
+    ensures { result ≡ is_sure_stmt (stmt_of txn.now row.now) }
 {
-    match stmt {
-        Stmt::Put {
-            sum,
-            guard: None,
-            ..
+    match row.action {
+        Action::Put | Action::Show => is_sure_sum(txn, row.start, row.first),
+        Action::Remove => true,
+        _ => false,
+    }
+}
+
+fn are_sure(txn: &PlacedTxn<'_>) -> bool
+    ensures { result ≡ list_all is_sure_stmt (map (stmt_of txn.now) txn.now.rows) }
+{
+    for row in txn.rows() {
+        if !is_sure_stmt(txn, row) {
+            return false;
         }
-        | Stmt::Show(sum) => is_sure_sum(sum),
-        Stmt::Remove(_) => true,
-        _ => false,
     }
+    true
 }
 
-fn writes(stmt: &Stmt, key: &Key) -> bool
-    ensures { result ≡ some_passes (λ x. bytes_eq x key.now) (target stmt.now) }
+/// Whether a statement writes the key.
+fn is_target(txn: &TxnView<'_>, key: &Key) -> bool
+    ensures { result ≡ is_target txn.now.body key.now }
 {
-    match stmt {
-        Stmt::Put { key: target, .. } | Stmt::Remove(target) => *target == *key,
-        _ => false,
+    for index in 0..txn.body_len() {
+        if txn.stmt(index).target() == Some(*key) {
+            return true;
+        }
     }
+    false
 }
 
-fn is_target(body: &[Stmt], key: &Key) -> bool
-    ensures { result ≡ is_target body.now key.now }
+/// Whether each declared write is the target of a statement.
+fn are_targets(txn: &TxnView<'_>) -> bool
+    ensures { result ≡ list_all (is_target txn.now.body) txn.now.writes }
 {
-    body.iter().any(|stmt| writes(stmt, key))
-}
-
-fn are_sure(body: &[Stmt]) -> bool
-    ensures { result ≡ list_all is_sure_stmt body.now }
-{
-    body.iter().all(|stmt| is_sure_stmt(stmt))
-}
-
-fn are_targets(body: &[Stmt], keys: &[Key]) -> bool
-    ensures { result ≡ list_all (is_target body.now) keys.now }
-{
-    keys.iter().all(|key| is_target(body, key))
+    let keys = txn.writes();
+    for place in 0..keys.len() {
+        if !is_target(txn, keys.key(place)) {
+            return false;
+        }
+    }
+    true
 }
 
 /// Whether the transaction commits over every store, with the same cells: its body has only `set`
@@ -126,7 +136,5 @@ fn are_targets(body: &[Stmt], keys: &[Key]) -> bool
 pub fn sure(txn: &TxnView<'_>) -> bool
     ensures { result ≡ is_sure txn.now }
 {
-    let txn = txn.get();
-    let body = txn.body.as_slice();
-    are_sure(body) && are_targets(body, txn.writes.as_slice())
+    are_sure(&txn.placed()) && are_targets(txn)
 }

@@ -1,27 +1,31 @@
 //! Sums and conditions over what a statement sees.
 
-ghost use Rattle.std.specs.Prelude.{◌≡◌, ◌≤◌, ◌<◌, ℤ, pos, ◌+ℤ◌, ◌≤ℤ◌, ◌^◌, List, length, reverse, true, IfSome};
+ghost use Rattle.std.specs.Prelude.{◌≡◌, ◌≤◌, ◌<◌, ℤ, pos, ◌+◌, ◌+ℤ◌, ◌≤ℤ◌, ◌^◌, List, length, map, reverse, true, All, IfSome};
 ghost use Rattle.std.specs.Option.{option_map, option_copied};
 ghost use Rattle.std.specs.Ordering.{int_cmp};
-ghost use Rattle.std.specs.List.{AllByRecursion, find};
+ghost use Rattle.std.specs.List.{find};
 ghost use Rattle.std.specs.Str.{bytes_eq};
-ghost use Rattle.bohm_tree.specs.Parts.{guard_sums, key_read};
-ghost use Rattle.bohm_txn.specs.Declares.{OnSomeKey};
+ghost use Rattle.bohm_log.specs.Parts.{KeyIn, TermIn, key_at, term_of, sum_between};
 ghost use Rattle.bohm_txn.specs.Faulty.{rising};
-ghost use Rattle.bohm_txn.specs.Meaning.{newest, atom_value, total_from, sum_value, compares, cond_value, guard_value, signed};
+ghost use Rattle.bohm_txn.specs.Meaning.{newest, is_present, number_in, atom_value, total_from, sum_value, compares, cond_value, signed};
 ghost use Rattle.bohm_txn.specs.Tables.{cell_at};
 ghost use lib.IntN.{neg_ℤ};
 
 use crate::outcome::Reason;
-use bohm_tree::{Atom, Boxed, Cell, Cmp, Cond, Key, Sum, Term, Value};
+use bohm_log::{AtomKind, PlacedTxn, TermRow};
+use bohm_tree::{Cell, Cmp, Key, Value};
 use std::cmp::Ordering;
 
-/// What a statement sees: the cells of the keys that it may read, and the locals.
+/// What a statement sees: the terms of its transaction, the cells of the declared reads, and the
+/// locals.
 #[derive(Clone, Copy)]
 pub struct View<'a> {
-    pub keys: &'a [Key],
+    pub txn: &'a PlacedTxn<'a>,
     pub cells: &'a [Cell],
     pub locals: &'a [(Key, Value)],
+    ghost paired: { length txn.now.reads ≡ length cells.now },
+    ghost rising: { rising txn.now.reads ≡ true },
+    ghost few: { length txn.now.reads ≤ 16 },
 }
 
 fn last_bound<'a>(locals: &'a [(Key, Value)], name: &Key) -> Option<&'a (Key, Value)>
@@ -53,71 +57,65 @@ fn compares(cmp: Cmp, ordering: Ordering) -> bool
     }
 }
 
+fn number_in(cell: Cell) -> Option<i128>
+    ensures value { result ≡ number_in cell }
+    ensures low { IfSome result (λ z. neg_ℤ (pos (2 ^ 64)) ≤ℤ z) }
+    ensures high { IfSome result (λ z. z ≤ℤ pos (2 ^ 64)) }
+{
+    match cell {
+        Cell::Absent => None,
+        Cell::Present(value) => Some(i128::from(value.get())),
+    }
+}
+
 impl View<'_> {
-    pub fn cell(&self, key: &Key) -> Cell
-        requires { length self.now.keys.now ≡ length self.now.cells.now }
-        ensures { result ≡ cell_at self.now.keys.now self.now.cells.now key.now }
-    {
-        match key.place_among(self.keys) {
-            Some(i) => self.cells[i],
-            None => Cell::Absent,
-        }
-    }
+    ghost use Rattle.bohm_txn.specs.Seeing.{look_of};
 
-    /// The cell of the key that a term reads.
-    fn cell_read(&self, term: &Term) -> Cell
-        requires paired { length self.now.keys.now ≡ length self.now.cells.now }
-        requires rising { rising self.now.keys.now ≡ true }
-        ensures { OnSomeKey
-            (λ k. result ≡ cell_at self.now.keys.now self.now.cells.now k) (key_read term.now.1) }
-    {
-        match term.place_among(self.keys) {
-            Some(i) => self.cells[i],
-            None => Cell::Absent,
-        }
-    }
-
-    fn atom(&self, term: &Term) -> Option<i128>
-        requires paired { length self.now.keys.now ≡ length self.now.cells.now }
-        requires rising { rising self.now.keys.now ≡ true }
-        ensures value { result ≡ atom_value (cell_at self.now.keys.now self.now.cells.now) self.now.locals.now term.now.1 }
+    /// The number of a term's atom, if its key isn't missing.
+    fn atom(&self, term: TermRow) -> Option<i128>
+        requires { TermIn self.now.txn.now term }
+        ensures value { result
+            ≡ atom_value (look_of self.now) self.now.locals.now (term_of self.now.txn.now term).1 }
         ensures low { IfSome result (λ z. neg_ℤ (pos (2 ^ 64)) ≤ℤ z) }
         ensures high { IfSome result (λ z. z ≤ℤ pos (2 ^ 64)) }
     {
-        match term.atom() {
-            Atom::Lit(number) => Some(i128::from(number)),
-            Atom::Read(_) => match self.cell_read(term) {
-                Cell::Absent => None,
-                Cell::Present(value) => Some(i128::from(value.get())),
-            },
-            Atom::Local(name) => Some(i128::from(local_among(self.locals, &name).get())),
+        let place = term.place as usize;
+        match term.kind {
+            AtomKind::Small => Some(i128::from(term.place)),
+            AtomKind::Large => Some(i128::from(self.txn.large()[place])),
+            AtomKind::Read => number_in(self.cells[place]),
+            AtomKind::Unread => None,
+            AtomKind::Local => {
+                let name = &self.txn.others()[place];
+                Some(i128::from(local_among(self.locals, name).get()))
+            }
         }
     }
 
-    fn add(&self, total: i128, term: &Term) -> Option<i128>
-        requires paired { length self.now.keys.now ≡ length self.now.cells.now }
-        requires rising { rising self.now.keys.now ≡ true }
+    fn add(&self, total: i128, term: &TermRow) -> Option<i128>
+        requires within { TermIn self.now.txn.now term.now }
         requires low { neg_ℤ (pos (2 ^ 70)) ≤ℤ total }
         requires high { total ≤ℤ pos (2 ^ 70) }
-        ensures value { result ≡ option_map (λ z. signed total term.now.0 z) (atom_value (cell_at self.now.keys.now self.now.cells.now) self.now.locals.now term.now.1) }
+        ensures value { result
+            ≡ option_map (λ z. signed total term.now.minus z)
+            (atom_value (look_of self.now) self.now.locals.now (term_of self.now.txn.now term.now).1) }
         ensures low { IfSome result (λ z. (neg_ℤ (pos (2 ^ 64)) +ℤ total) ≤ℤ z) }
         ensures high { IfSome result (λ z. z ≤ℤ (total +ℤ pos (2 ^ 64))) }
     {
-        let number = self.atom(term)?;
-        Some(if term.minus() {
+        let number = self.atom(*term)?;
+        Some(if term.minus {
             total - number
         } else {
             total + number
         })
     }
 
-    fn total(&self, terms: &[Term]) -> Option<i128>
-        requires paired { length self.now.keys.now ≡ length self.now.cells.now }
-        requires rising { rising self.now.keys.now ≡ true }
+    fn total(&self, terms: &[TermRow]) -> Option<i128>
+        requires within { All (TermIn self.now.txn.now) terms.now }
         requires few { length terms.now ≤ 16 }
         ensures { result
-            ≡ total_from (cell_at self.now.keys.now self.now.cells.now) self.now.locals.now
-            (pos 0) terms.now }
+            ≡ total_from (look_of self.now) self.now.locals.now (pos 0)
+            (map (term_of self.now.txn.now) terms.now) }
     {
         let mut total: i128 = 0;
         for term in terms {
@@ -126,46 +124,59 @@ impl View<'_> {
         Some(total)
     }
 
-    /// The value of a sum. A partial total may be out of range.
-    pub fn sum(&self, sum: &Sum) -> Result<Value, Reason>
-        requires paired { length self.now.keys.now ≡ length self.now.cells.now }
-        requires rising { rising self.now.keys.now ≡ true }
-        requires few { length sum.now ≤ 16 }
+    /// The value of the sum of the terms between two offsets. A partial total may be out of range.
+    pub fn sum(&self, from: u32, to: u32) -> Result<Value, Reason>
+        requires rises { from ≤ to }
+        requires end { to ≤ length self.now.txn.now.terms }
+        requires few { to ≤ from + 16 }
         ensures { result
-            ≡ sum_value (cell_at self.now.keys.now self.now.cells.now) self.now.locals.now sum.now }
+            ≡ sum_value (look_of self.now) self.now.locals.now
+            (sum_between self.now.txn.now from to) }
     {
-        let total = self.total(sum.terms()).ok_or(Reason::Absent)?;
+        let terms = self.txn.terms(from, to);
+        let total = self.total(terms).ok_or(Reason::Absent)?;
         match i64::try_from(total) {
             Ok(number) => Ok(Value::from(number)),
             Err(_) => Err(Reason::Range),
         }
     }
 
-    /// Whether a comparison holds.
-    pub fn holds(&self, cond: &Cond) -> Result<bool, Reason>
-        requires paired { length self.now.keys.now ≡ length self.now.cells.now }
-        requires rising { rising self.now.keys.now ≡ true }
-        requires few_left { length cond.now.left ≤ 16 }
-        requires few_right { length cond.now.right ≤ 16 }
-        ensures { result ≡ cond_value (cell_at self.now.keys.now self.now.cells.now) self.now.locals.now cond.now }
+    /// Whether a comparison of two sums, one behind the other, holds.
+    pub fn holds(&self, cmp: Cmp, from: u32, middle: u32, to: u32) -> Result<bool, Reason>
+        requires left { from ≤ middle }
+        requires right { middle ≤ to }
+        requires end { to ≤ length self.now.txn.now.terms }
+        requires few_left { middle ≤ from + 16 }
+        requires few_right { to ≤ middle + 16 }
+        ensures { result ≡ cond_value (look_of self.now) self.now.locals.now (record { left = sum_between self.now.txn.now from middle; cmp = cmp; right = sum_between self.now.txn.now middle to }) }
     {
-        let left = self.sum(&cond.left)?;
-        let right = self.sum(&cond.right)?;
-        Ok(compares(cond.cmp, left.get().cmp(&right.get())))
+        let left = self.sum(from, middle)?;
+        let right = self.sum(middle, to)?;
+        Ok(compares(cmp, left.get().cmp(&right.get())))
     }
 
-    /// Whether a guard lets its statement through: no guard always does.
-    pub fn lets_through(&self, guard: &Option<Boxed<Cond>>) -> Result<bool, Reason>
-        requires paired { length self.now.keys.now ≡ length self.now.cells.now }
-        requires rising { rising self.now.keys.now ≡ true }
-        requires few { AllByRecursion (λ sum. length sum ≤ 16) (guard_sums guard.now) }
+    /// The cell of a key that is tested, at its place among the reads if it is declared.
+    fn cell(&self, declared: bool, place: u32) -> Cell
+        requires { KeyIn self.now.txn.now.reads self.now.txn.now.others declared place }
         ensures { result
-            ≡ guard_value
-            (cell_at self.now.keys.now self.now.cells.now) self.now.locals.now guard.now }
+            ≡ look_of self.now
+            (key_at self.now.txn.now.reads self.now.txn.now.others declared place) }
     {
-        match guard {
-            Some(cond) => self.holds(cond.get()),
-            None => Ok(true),
+        if declared {
+            self.cells[place as usize]
+        } else {
+            Cell::Absent
         }
+    }
+
+    /// Whether a key that is tested is present.
+    pub fn has(&self, declared: bool, place: u32) -> bool
+        requires { KeyIn self.now.txn.now.reads self.now.txn.now.others declared place }
+        ensures { result
+            ≡ is_present
+            (look_of self.now
+            (key_at self.now.txn.now.reads self.now.txn.now.others declared place)) }
+    {
+        matches!(self.cell(declared, place), Cell::Present(_))
     }
 }

@@ -1,14 +1,17 @@
 //! Running a body, statement by statement.
 
-ghost use Rattle.std.specs.Prelude.{◌≡◌, ◌≤◌, ◌<◌, List, [], ◌∷◌, length, true, MatchResult, IfOk, Ok, Err, All};
-ghost use Rattle.bohm_txn.specs.Declares.{AllShort};
-ghost use Rattle.bohm_txn.specs.Faulty.{rising};
-ghost use Rattle.bohm_txn.specs.Tables.{start, replaced, written, step, tables_from};
+ghost use Rattle.std.specs.Prelude.{◌≡◌, ◌≤◌, ◌<◌, List, [], ◌∷◌, length, true, MatchResult, IfOk, Ok, Err};
+ghost use Rattle.bohm_log.specs.Parts.{RowIn, name_at, stmt_of, txn_of};
+ghost use Rattle.bohm_txn.specs.Declares.{AllShort, IsAmong, StmtWrites};
+ghost use Rattle.bohm_txn.specs.Faulty.{rising, IsWellFormedTxn};
+ghost use Rattle.bohm_txn.specs.Seeing.{look_of};
+ghost use Rattle.bohm_txn.specs.Tables.{cell_at, start, replaced, written, step, tables_from};
 
 use crate::outcome::Reason;
 use crate::room::Room;
 use crate::view::View;
-use bohm_tree::{Cell, Edition, Key, NoMemory, Stmt, Txn, Value};
+use bohm_log::{Action, PlacedTxn, StmtRow};
+use bohm_tree::{Cell, Edition, Key, NoMemory, Value};
 use std::alloc::Global;
 
 const MOST_STMTS: usize = 64;
@@ -28,18 +31,6 @@ pub struct Work {
     pub shows: Room<Value>,
 }
 
-/// Replaces a key's cell, where it is among the keys.
-fn replace(cells: &mut Room<Cell>, keys: &[Key], key: &Key, cell: &Cell)
-    requires { length keys.now ≡ length cells.old.0 }
-    ensures after { cells.new ≡ (replaced keys.now cells.old.0 key.now cell.now, cells.old.1) }
-    ensures long { length cells.new.0 ≡ length cells.old.0 }
-{
-    let Some(place) = key.place_among(keys) else {
-        return;
-    };
-    cells.set(place, *cell);
-}
-
 impl Work {
     ghost use Rattle.bohm_txn.specs.Room.{tables_of, IsRoomy, IsSized, Grows};
 
@@ -56,77 +47,116 @@ impl Work {
         })
     }
 
-    fn view<'a>(&'a self, keys: &'a [Key]) -> View<'a>
-        ensures keys { result.keys.now ≡ keys.now }
-        ensures cells { result.cells.now ≡ self.now.seen.0 }
+    fn view<'a>(&'a self, txn: &'a PlacedTxn<'a>) -> View<'a>
+        requires sized { length self.now.seen.0 ≡ length txn.now.reads }
+        requires rising { rising txn.now.reads ≡ true }
+        requires few { length txn.now.reads ≤ 16 }
+        ensures cells { look_of result ≡ cell_at txn.now.reads self.now.seen.0 }
         ensures locals { result.locals.now ≡ self.now.locals.0 }
+        ensures txn { result.txn.now ≡ txn.now }
     {
         View {
-            keys,
+            txn,
             cells: self.seen.as_slice(),
             locals: self.locals.as_slice(),
         }
     }
 
-    /// Writes a key's cell: in edition two, later statements see it.
-    fn write(&mut self, txn: &Txn, key: &Key, cell: Cell)
-        requires { IsSized txn.now self.old }
-        ensures after { tables_of self.new ≡ written txn.now (tables_of self.old) key.now cell }
-        ensures sized { IsSized txn.now self.new }
-        ensures room { Grows self.old self.new }
+    /// Writes what later statements see of the key at a place among the declared writes, where it
+    /// is declared to be read.
+    fn write_seen(&mut self, txn: &PlacedTxn<'_>, place: u32, cell: &Cell)
+        requires sized { length self.old.seen.0 ≡ length txn.now.reads }
+        requires place { place < length txn.now.writes }
+        ensures locals { self.new.locals ≡ self.old.locals }
+        ensures seen { self.new.seen
+            ≡ (replaced txn.now.reads self.old.seen.0 (name_at txn.now.writes place) cell.now, self.old.seen.1) }
+        ensures cells { self.new.cells ≡ self.old.cells }
+        ensures shows { self.new.shows ≡ self.old.shows }
     {
-        replace(&mut self.cells, txn.writes.as_slice(), key, &cell);
-        if txn.edition == Edition::One {
-            return;
+        if let Some(read) = txn.read_of_write(place) {
+            self.seen.set(read, *cell);
         }
-        replace(&mut self.seen, txn.reads.as_slice(), key, &cell);
     }
 
-    fn perform(&mut self, txn: &Txn, stmt: &Stmt) -> Result<(), Reason>
-        requires sized { IsSized txn.now self.old }
-        requires rising { rising txn.now.reads ≡ true }
-        requires short { AllShort stmt.now }
+    /// Writes the cell of the key at a place among the declared writes: in edition two, later
+    /// statements see it.
+    fn write(&mut self, edition: Edition, txn: &PlacedTxn<'_>, place: u32, cell: Cell)
+        requires sized { IsSized (txn_of edition txn.now) self.old }
+        requires rising { rising txn.now.writes ≡ true }
+        requires place { place < length txn.now.writes }
+        ensures after { tables_of self.new
+            ≡ written (txn_of edition txn.now) (tables_of self.old)
+            (name_at txn.now.writes place) cell }
+        ensures sized { IsSized (txn_of edition txn.now) self.new }
+        ensures room { Grows self.old self.new }
+    {
+        self.cells.set(place as usize, cell);
+        match edition {
+            Edition::One => {}
+            Edition::Two => self.write_seen(txn, place, &cell),
+        }
+    }
+
+    fn perform(
+        &mut self,
+        edition: Edition,
+        txn: &PlacedTxn<'_>,
+        row: &StmtRow,
+    ) -> Result<(), Reason>
+        requires sized { IsSized (txn_of edition txn.now) self.old }
+        requires rising_reads { rising txn.now.reads ≡ true }
+        requires rising_writes { rising txn.now.writes ≡ true }
+        requires few_reads { length txn.now.reads ≤ 16 }
+        requires few_writes { length txn.now.writes ≤ 16 }
+        requires row { RowIn txn.now row.now }
+        requires short { AllShort (stmt_of txn.now row.now) }
+        requires declared { StmtWrites (IsAmong txn.now.writes) (stmt_of txn.now row.now) }
         requires locals { length self.old.locals.0 < self.old.locals.1 }
         requires shows { length self.old.shows.0 < self.old.shows.1 }
         ensures outcome { MatchResult result
-            (λ _. step txn.now (tables_of self.old) stmt.now ≡ Ok (tables_of self.new))
-            (λ reason. step txn.now (tables_of self.old) stmt.now ≡ Err reason) }
-        ensures sized { IsSized txn.now self.new }
+            (λ _. step (txn_of edition txn.now) (tables_of self.old) (stmt_of txn.now row.now) ≡ Ok (tables_of self.new))
+            (λ reason. step (txn_of edition txn.now) (tables_of self.old) (stmt_of txn.now row.now) ≡ Err reason) }
+        ensures sized { IsSized (txn_of edition txn.now) self.new }
         ensures room { Grows self.old self.new }
     {
-        let keys = txn.reads.as_slice();
-        match stmt {
-            Stmt::Bind { name, sum } => {
-                let value = self.view(keys).sum(sum)?;
-                self.locals.push((*name, value));
+        let (start, first, second, third) = (row.start, row.first, row.second, row.third);
+        match row.action {
+            Action::Bind => {
+                let value = self.view(txn).sum(start, first)?;
+                let name = txn.others()[row.name as usize];
+                self.locals.push((name, value));
             }
-            Stmt::Need(cond) => {
-                if !self.view(keys).holds(cond)? {
+            Action::Need(cmp) => {
+                if !self.view(txn).holds(cmp, start, first, second)? {
                     return Err(Reason::Need);
                 }
             }
-            Stmt::Has(key) => {
-                if self.view(keys).cell(key) == Cell::Absent {
+            Action::Has => {
+                if !self.view(txn).has(row.declared, row.name) {
                     return Err(Reason::Need);
                 }
             }
-            Stmt::Lacks(key) => {
-                if self.view(keys).cell(key) != Cell::Absent {
+            Action::Lacks => {
+                if self.view(txn).has(row.declared, row.name) {
                     return Err(Reason::Need);
                 }
             }
-            Stmt::Put { key, sum, guard } => {
-                if self.view(keys).lets_through(guard)? {
-                    let value = self.view(keys).sum(sum)?;
-                    self.write(txn, key, Cell::Present(value));
+            Action::Put => {
+                let value = self.view(txn).sum(start, first)?;
+                self.write(edition, txn, row.name, Cell::Present(value));
+            }
+            Action::PutWhen(cmp) => {
+                if self.view(txn).holds(cmp, first, second, third)? {
+                    let value = self.view(txn).sum(start, first)?;
+                    self.write(edition, txn, row.name, Cell::Present(value));
                 }
             }
-            Stmt::Remove(key) => self.write(txn, key, Cell::Absent),
-            Stmt::Show(sum) => {
-                let value = self.view(keys).sum(sum)?;
+            Action::Remove => self.write(edition, txn, row.name, Cell::Absent),
+            Action::Show => {
+                let value = self.view(txn).sum(start, first)?;
                 self.shows.push(value);
             }
-            Stmt::Fail => return Err(Reason::Fail),
+            Action::Fail => return Err(Reason::Fail),
         }
         Ok(())
     }
@@ -145,23 +175,27 @@ impl Work {
     }
 
     /// Runs the body; or why, and at which statement, it fails.
-    pub fn run(&mut self, txn: &Txn, reads: &[Cell], earlier: &[Cell]) -> Result<(), (Reason, u32)>
+    pub fn run(
+        &mut self,
+        edition: Edition,
+        txn: &PlacedTxn<'_>,
+        reads: &[Cell],
+        earlier: &[Cell],
+    ) -> Result<(), (Reason, u32)>
         requires room { IsRoomy self.old }
+        requires well { IsWellFormedTxn (txn_of edition txn.now) }
         requires reads { length txn.now.reads ≡ length reads.now }
         requires earlier { length txn.now.writes ≡ length earlier.now }
-        requires few_reads { length txn.now.reads ≤ 16 }
-        requires few_writes { length txn.now.writes ≤ 16 }
-        requires rising { rising txn.now.reads ≡ true }
-        requires few_stmts { length txn.now.body ≤ 64 }
-        requires short { All AllShort txn.now.body }
-        ensures outcome { MatchResult result
-            (λ _. tables_from txn.now (start reads.now earlier.now) 1 txn.now.body ≡ Ok (tables_of self.new))
-            (λ fault. tables_from txn.now (start reads.now earlier.now) 1 txn.now.body ≡ Err fault) }
+        ensures outcome { let start = start reads.now earlier.now in
+            let txn = txn_of edition txn.now in
+            MatchResult result
+            (λ _. tables_from txn start 1 txn.body ≡ Ok (tables_of self.new))
+            (λ fault. tables_from txn start 1 txn.body ≡ Err fault) }
         ensures room { IsRoomy self.new }
     {
         self.begin(reads, earlier);
-        for (i, stmt) in txn.body.as_slice().iter().enumerate() {
-            if let Err(reason) = self.perform(txn, stmt) {
+        for (i, row) in txn.rows().iter().enumerate() {
+            if let Err(reason) = self.perform(edition, txn, row) {
                 return Err((reason, i as u32 + 1));
             }
         }

@@ -1,20 +1,24 @@
-use Rattle.std.proofs.Common.{arith, ap, length, ◌∙◌}
-use Rattle.bohm_txn.specs.Declares.{shows_in}
+use Rattle.std.proofs.Common.{arith, ap, length}
 use Rattle.bohm_txn.proofs.ForCallers.{usable}
 use Rattle.bohm_board.proofs.layout.width.Goals as goal
+
+pub overflow_add-result : goal.overflow_add-result
+overflow_add-result c =
+    let keeps = usable c.args.txn.now c.requires in
+    let writes = ap length c.writes.ensures in
+    let shows = c.shows.ensures.shows in
+    omega (arith, keeps.few_writes, keeps.few_shows)
 
 pub overflow_cast-result : goal.overflow_cast-result
 overflow_cast-result c =
     let keeps = usable c.args.txn.now c.requires in
     let writes = ap length c.writes.ensures in
-    let body = ap shows_in (c.as_slice.ensures ∙ ap (λ t. t.body) c.get.ensures) in
-    let shows = c.shows.ensures in
+    let shows = c.shows.ensures.shows in
     omega (arith, keeps.few_writes, keeps.few_shows)
 
 pub returns-clause-few : goal.returns-clause-few
 returns-clause-few c =
     let keeps = usable c.args.txn.now c.requires in
     let writes = ap length c.writes.ensures in
-    let body = ap shows_in (c.as_slice.ensures ∙ ap (λ t. t.body) c.get.ensures) in
-    let shows = c.shows.ensures in
+    let shows = c.shows.ensures.shows in
     omega (arith, keeps.few_writes, keeps.few_shows)

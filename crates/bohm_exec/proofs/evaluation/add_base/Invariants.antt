@@ -1,4 +1,4 @@
-use Rattle.bohm_tree.specs.declared.txn.Txn.{Txn}
+use Rattle.bohm_tree.specs.Txn.{Txn}
 use Rattle.std.specs.Prelude.{◌≡◌, Some}
 use Rattle.bohm_place.specs.Plans.{keys_in}
 use Rattle.bohm_board.specs.Batches.{accesses_in, txn_at}

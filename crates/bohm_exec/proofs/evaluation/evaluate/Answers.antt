@@ -4,7 +4,7 @@ use Rattle.std.specs.Option.{option_map}
 use Rattle.std.specs.List.{slice_get}
 use Rattle.std.proofs.lemmas.List.{length-map}
 use Rattle.bohm_tree.specs.declared.cell.Cell.{Cell}
-use Rattle.bohm_tree.specs.declared.txn.Txn.{Txn}
+use Rattle.bohm_tree.specs.Txn.{Txn}
 use Rattle.bohm_txn.specs.Declares.{shows_in}
 use Rattle.bohm_txn.specs.Serial.{after}
 use Rattle.bohm_txn.specs.Sure.{is_sure}

@@ -1,5 +1,5 @@
 use Rattle.std.proofs.Common.{◌≡◌, List, Some, ap, sym, subst, ◌∙◌, slice_get}
-use Rattle.bohm_tree.specs.declared.txn.Txn.{Txn}
+use Rattle.bohm_tree.specs.Txn.{Txn}
 use Rattle.bohm_log.specs.Columns.{txn_at}
 use Rattle.bohm_log.specs.Partial.{shared_seen}
 use Rattle.bohm_log.proofs.Viewing.{mapped_get}

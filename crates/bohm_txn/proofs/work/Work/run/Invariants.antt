@@ -1,13 +1,16 @@
-use Rattle.std.proofs.Common.{◌≡◌, ◌+◌, ◌≤◌, drop, length}
+use Rattle.std.proofs.Common.{◌≡◌, ◌+◌, ◌≤◌, drop, length, map}
+use Rattle.bohm_log.specs.Parts.{stmt_of, txn_of}
 use Rattle.bohm_txn.specs.Room.{tables_of, IsRoomy, IsSized}
 use Rattle.bohm_txn.specs.Tables.{start, tables_from}
 use Rattle.bohm_txn.proofs.work.Work.run.Given as goal
 
 abbrev pub invariant-loop-i : goal.invariant-loop-i
-invariant-loop-i l = record {
-  room : IsRoomy l.self;
-  sized : IsSized l.txn l.self;
-  locals : length l.self.locals.0 ≤ l.i;
-  shows : length l.self.shows.0 ≤ l.i;
-  so_far : tables_from l.txn (tables_of l.self) (l.i + 1) (drop l.i l.txn.body) ≡ tables_from l.txn (start l.reads l.earlier) 1 l.txn.body;
-}
+invariant-loop-i l =
+    let txn = txn_of l.edition l.txn in
+    record {
+      room : IsRoomy l.self;
+      sized : IsSized txn l.self;
+      locals : length l.self.locals.0 ≤ l.i;
+      shows : length l.self.shows.0 ≤ l.i;
+      so_far : tables_from txn (tables_of l.self) (l.i + 1) (map (stmt_of l.txn) (drop l.i l.txn.rows)) ≡ tables_from txn (start l.reads l.earlier) 1 txn.body;
+    }

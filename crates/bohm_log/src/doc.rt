@@ -1,0 +1,82 @@
+//! Documents: a store and a log.
+
+ghost use Rattle.std.specs.Prelude.{◌≡◌};
+ghost use Rattle.std.specs.List.{list_all};
+ghost use Rattle.bohm_tree.specs.Document.{in_edition};
+
+use crate::hash_seed::HashSeed;
+use crate::log::Log;
+use crate::part::LogPart;
+use bohm_tree::{Edition, Items, Key, Value};
+use std::marker::Model;
+
+/// A starting store and a log of transactions of one edition.
+#[derive(Drop)]
+pub struct Doc {
+    edition: Edition,
+    store: Items<(Key, Value)>,
+    log: Log<HashSeed>,
+}
+
+impl Model for Doc {
+    ghost use Rattle.bohm_tree.specs.Document.{Document, in_edition};
+    ghost use Rattle.std.specs.Prelude.{IsTrue};
+    ghost use Rattle.std.specs.List.{list_all};
+
+    ghost Value = { Document };
+
+    ghost view = { λ d. record { edition = d.edition; store = d.store; log = d.log } };
+
+    ghost invariant = { λ d. IsTrue (list_all (in_edition d.edition) d.log) };
+}
+
+fn are_in(edition: Edition, log: &LogPart<'_>) -> bool
+    ensures { result ≡ list_all (in_edition edition) log.now }
+{
+    for index in 0..log.len() {
+        if log.txn(index).edition() != edition {
+            return false;
+        }
+    }
+    true
+}
+
+impl Doc {
+    ghost use Rattle.bohm_tree.specs.Document.{document_of};
+
+    /// The document, if all its transactions are of its edition. Its time grows with the number of
+    /// transactions.
+    pub fn new(edition: Edition, store: Vec<(Key, Value)>, log: Log<HashSeed>) -> Option<Doc>
+        ensures { result ≡ document_of edition store.items log }
+    {
+        if are_in(edition, &log.part()) {
+            Some(Doc {
+                edition,
+                store: Items::from(store),
+                log,
+            })
+        } else {
+            None
+        }
+    }
+
+    pub fn edition(&self) -> Edition
+        ensures { result ≡ self.now.edition }
+    {
+        self.edition
+    }
+
+    /// The entries of the starting store, in the order in which they were given.
+    pub fn store(&self) -> &[(Key, Value)]
+        ensures { result.now ≡ self.now.store }
+    {
+        self.store.as_slice()
+    }
+
+    /// Its transactions.
+    pub fn log(&self) -> LogPart<'_>
+        ensures { result ≡ self.now.log }
+    {
+        self.log.part()
+    }
+}

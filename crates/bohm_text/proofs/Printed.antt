@@ -1,0 +1,21 @@
+-- A list that is printed element by element.
+use Rattle.std.proofs.Common.{◌≡◌, ℕ, suc, ◌+◌, List, [], ◌∷◌, map, ◌++◌, Some, ap, sym, ◌∙◌, slice_get, drop, add-one, drop-cons, append_assoc}
+use Rattle.std.proofs.lemmas.Grind.{flat_map-append}
+use Rattle.std.proofs.lemmas.List.{map-append}
+use Rattle.std.proofs.lemmas.Option.{slice_get_within, get_or_from_slice_get}
+use Rattle.bohm_text.specs.Print.{Words, line_text, lines_text, spaced}
+
+drop_at : {A : Type 0} (xs : List A) (i : ℕ) (x : A) → slice_get xs i ≡ Some x → drop i xs ≡ x ∷ drop (i + 1) xs
+drop_at xs i x e = rw add-one (drop-cons xs i x (slice_get_within xs i x e) ∙ ap (λ y. y ∷ drop (suc i) xs) (get_or_from_slice_get xs i x x e))
+
+-- the text of the list from a place on: once its first element is printed, the text of the others is left
+pub print_more : {A : Type 0} (text : List A → List ℕ) (xs : List A) (i : ℕ) (x : A) (out piece longer whole : List ℕ) → slice_get xs i ≡ Some x → text (x ∷ drop (i + 1) xs) ≡ piece ++ text (drop (i + 1) xs) → longer ≡ out ++ piece → out ++ text (drop i xs) ≡ whole → longer ++ text (drop (i + 1) xs) ≡ whole
+print_more text xs i x out piece longer whole at first printed so_far =
+    let rest : text (drop i xs) ≡ piece ++ text (drop (i + 1) xs) = ap text (drop_at xs i x at) ∙ first in
+    rw printed (append_assoc out piece (text (drop (i + 1) xs)) ∙ (ap (λ (ys : List ℕ). out ++ ys) (sym rest) ∙ so_far))
+
+pub spaced_append : (xs ys : Words) → spaced (xs ++ ys) ≡ spaced xs ++ spaced ys
+spaced_append xs ys = flat_map-append (λ (w : List ℕ). 32 ∷ w) xs ys
+
+pub lines_append : (xs ys : List Words) → lines_text (xs ++ ys) ≡ lines_text xs ++ lines_text ys
+lines_append xs ys = rw (map-append line_text xs ys) (flat_map-append (λ (line : List ℕ). line ++ 10 ∷ []) (map line_text xs) (map line_text ys))

@@ -1,0 +1,53 @@
+-- What reading adds to the transaction that is read.
+use Rattle.std.specs.Prelude.{◌≡◌, List, ◌++◌, Bool, Option, Some, Result, Ok, Err}
+use Rattle.std.specs.Option.{option_map}
+use Rattle.bohm_tree.specs.Term.{Atom}
+use Rattle.bohm_tree.specs.declared.cmp.Cmp.{Cmp}
+use Rattle.bohm_tree.specs.Stmt.{Cond, Stmt}
+use Rattle.bohm_log.specs.Drafting.{Drafted, with_stmt, with_sum}
+use Rattle.bohm_text.specs.declared.fault.ReadFault.{ReadFault}
+use Rattle.bohm_text.specs.declared.sums.Stop.{Stop}
+use Rattle.bohm_text.specs.Print.{Words}
+use Rattle.bohm_text.specs.Reading.{Fails, Terms, Ending, ending}
+
+-- more terms of the sum that is read
+abbrev pub with_terms : Drafted → List (Bool × Atom) → Drafted
+with_terms d terms = record d { latest = d.latest ++ terms }
+
+-- both sides of a condition, the right one open
+abbrev pub with_cond : Drafted → Cond → Drafted
+with_cond d c = with_terms (with_sum (with_terms d c.left)) c.right
+
+-- more keys to be read, and to be written
+abbrev pub with_reads : Drafted → Words → Drafted
+with_reads d keys = record d { txn = record d.txn { reads = d.txn.reads ++ keys } }
+
+abbrev pub with_writes : Drafted → Words → Drafted
+with_writes d keys = record d { txn = record d.txn { writes = d.txn.writes ++ keys } }
+
+-- what was read was added so, unless memory ran out
+abbrev pub Takes : {X : Type 0} → Result (Unit {0}) ReadFault → Option X → (X → Drafted) → Drafted → Type 0
+Takes (Ok done) read add now = option_map add read ≡ Some now
+Takes (Err e) read add now = Fails e read
+
+-- the draft with the terms, and what ends them
+abbrev pub taken : Drafted → Option Terms → Option (Drafted × Ending)
+taken before read = option_map (λ (p : Terms). (with_terms before p.0, p.1)) read
+
+-- terms were added, and these words and this stop are behind them
+abbrev pub TakesTerms : Result Stop ReadFault → Option Terms → Words → Drafted → Drafted → Type 0
+TakesTerms (Ok stop) read rest before now = taken before read ≡ Some (now, ending stop rest)
+TakesTerms (Err e) read rest before now = Fails e read
+
+-- the draft with the condition, and its comparison
+abbrev pub compared : Drafted → Option Cond → Option (Drafted × Cmp)
+compared before read = option_map (λ (c : Cond). (with_cond before c, c.cmp)) read
+
+-- a condition was added, and is compared so
+abbrev pub TakesCond : Result Cmp ReadFault → Option Cond → Drafted → Drafted → Type 0
+TakesCond (Ok cmp) read before now = compared before read ≡ Some (now, cmp)
+TakesCond (Err e) read before now = Fails e read
+
+-- a statement was added
+abbrev pub TakesStmt : Result (Unit {0}) ReadFault → Option Stmt → Drafted → Drafted → Type 0
+TakesStmt r read before now = Takes r read (with_stmt before) now

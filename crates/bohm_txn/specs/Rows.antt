@@ -1,0 +1,69 @@
+-- What a statement's row does, and which of the transaction's terms it has.
+use Rattle.std.specs.Prelude.{ℕ, Bool, true, false, ◌==◌}
+use Rattle.bohm_log.specs.declared.row.Action.{Action}
+use Rattle.bohm_log.specs.declared.row.Action.TheVariants.{Bind, Need, Has, Lacks, Put, PutWhen, Remove, Show, Fail}
+use Rattle.bohm_log.specs.declared.row.AtomKind.{AtomKind}
+use Rattle.bohm_log.specs.declared.row.AtomKind.TheVariants.{Small, Large, Read, Unread, Local}
+use Rattle.bohm_log.specs.declared.row.StmtRow.{StmtRow}
+
+-- where its last sum ends
+abbrev pub end_by : Action → ℕ → ℕ → ℕ → ℕ → ℕ
+end_by Bind start first second third = first
+end_by (Need cmp) start first second third = second
+end_by Has start first second third = start
+end_by Lacks start first second third = start
+end_by Put start first second third = first
+end_by (PutWhen cmp) start first second third = third
+end_by Remove start first second third = start
+end_by Show start first second third = first
+end_by Fail start first second third = start
+
+abbrev pub end_of : StmtRow → ℕ
+end_of r = end_by r.action r.start r.first r.second r.third
+
+-- a term of this kind reads no key that isn't declared
+abbrev pub is_declared : AtomKind → Bool
+is_declared Small = true
+is_declared Large = true
+is_declared Read = true
+is_declared Unread = false
+is_declared Local = true
+
+-- it tests whether a key is there
+abbrev pub tests_key : Action → Bool
+tests_key Bind = false
+tests_key (Need cmp) = false
+tests_key Has = true
+tests_key Lacks = true
+tests_key Put = false
+tests_key (PutWhen cmp) = false
+tests_key Remove = false
+tests_key Show = false
+tests_key Fail = false
+
+-- it writes a key
+abbrev pub writes_key : Action → Bool
+writes_key Bind = false
+writes_key (Need cmp) = false
+writes_key Has = false
+writes_key Lacks = false
+writes_key Put = true
+writes_key (PutWhen cmp) = true
+writes_key Remove = true
+writes_key Show = false
+writes_key Fail = false
+
+abbrev pub binds_by : Action → ℕ → ℕ → Bool
+binds_by Bind name i = name == i
+binds_by (Need cmp) name i = false
+binds_by Has name i = false
+binds_by Lacks name i = false
+binds_by Put name i = false
+binds_by (PutWhen cmp) name i = false
+binds_by Remove name i = false
+binds_by Show name i = false
+binds_by Fail name i = false
+
+-- it binds the name at this place
+abbrev pub binds_at : ℕ → StmtRow → Bool
+binds_at i r = binds_by r.action r.name i
