@@ -140,7 +140,7 @@ module _ (b : Batch) (s : State) (t : ℕ) (x : Txn) (at : txn_at b t ≡ Some x
 
   same_cell_by : (k : List ℕ) (i j : ℕ) (o : Source) → IsIndexOf (first_of b) (txns_of b) k i o → IsIndexOf (first_of b) (txns_of b) k j o → cell_from b s k i o ≡ cell_from b s k j o
   same_cell_by k i j Before n m = refl
-  same_cell_by k i j (Within u) n m = ap (λ (index : ℕ). cell_in s (record { txn = u; index = index })) (same_index (first_of b) (txns_of b) k u i j b.formed n m)
+  same_cell_by k i j (Within u) n m = ap (λ (index : ℕ). cell_in s (record { txn = u; index = index })) (same_index (first_of b) (txns_of b) k u i j b.batched.formed n m)
 
   same_cell : (k : List ℕ) (a d : Access) → Right k a → Right k d → cell_at b s k a ≡ cell_at b s k d
   same_cell k a d n m =
@@ -223,7 +223,7 @@ module _ (b : Batch) (s : State) (t : ℕ) (x : Txn) (at : txn_at b t ≡ Some x
 
   unsure_alike : EndsAlike (input b s t x) before x
   unsure_alike =
-      let bodies : body (input b s t x) x ≡ body before x = same_reads (input b s t x) before x (usable_at (txns_of b) b.formed (position b t) x at) unsure_read in
+      let bodies : body (input b s t x) x ≡ body before x = same_reads (input b s t x) before x (usable_at (txns_of b) b.batched.formed (position b t) x at) unsure_read in
       let own : map (after (input b s t x) x) x.writes ≡ map (after before x) x.writes = same_cells (input b s t x) before x x.writes bodies unsure_write in
       record { bodies = bodies; cells = λ d. own d ++ show_cells (shows_in x.body) (shows_of (bodies d)) }
 

@@ -5,7 +5,8 @@ pub use Rattle.bohm_board.proofs.Keeping.{keeps_same, keeps_then, keeps_along, k
 -- a batch's transactions, accesses and wanted sources
 pub use Rattle.bohm_board.proofs.Numbers.{txn_there, width_there}
 pub use Rattle.bohm_board.proofs.Wanted.{keys_paired, reads_paired, writes_paired, IsEarlier, in_either, wanted_earlier}
-pub use Rattle.bohm_board.proofs.PlacesOfKeys.{member_among, declared_any}
+pub use Rattle.bohm_board.proofs.PlacesOfKeys.{member_among, declared_any, rising_distinct}
+pub use Rattle.bohm_board.proofs.Numbered.{gathered_base}
 pub use Rattle.bohm_board.proofs.Evaluated.{contains_at}
 -- what is right for a position
 pub use Rattle.bohm_board.proofs.Inputs.{own_right, outcome_right, reads_before, writes_before}

@@ -54,9 +54,9 @@ slot_right b k u index w =
 
 -- the cell of the right access is the key's cell before the position
 pub cell_before : (b : Batch) (i : ℕ) (k : List ℕ) (index : ℕ) (c : Cell) (s : Source) → i ≤ length (txns_of b) → IsNewest (first_of b) (txns_of b) k (first_of b + i) s → IsIndexOf (first_of b) (txns_of b) k index s → IsCellFrom b k index c s → state (base_of b) (txns_of b) i k ≡ c
-cell_before b i k index c Before inside n w is = newest_state_by (base_of b) (txns_of b) (first_of b) i k Before b.formed inside n ∙ sym is
+cell_before b i k index c Before inside n w is = newest_state_by (base_of b) (txns_of b) (first_of b) i k Before b.batched.formed inside n ∙ sym is
 cell_before b i k index c (Within u) inside n w is =
-    newest_state_by (base_of b) (txns_of b) (first_of b) i k (Within u) b.formed inside n ∙ same_Some (state (base_of b) (txns_of b) ((u + 1) - first_of b) k) c (sym (slot_right b k u index w) ∙ is)
+    newest_state_by (base_of b) (txns_of b) (first_of b) i k (Within u) b.batched.formed inside n ∙ same_Some (state (base_of b) (txns_of b) ((u + 1) - first_of b) k) c (sym (slot_right b k u index w) ∙ is)
 
 access_before : (b : Batch) (i : ℕ) (k : List ℕ) (a : Access) (c : Cell) → i ≤ length (txns_of b) → IsRightAccess (first_of b) (txns_of b) (first_of b + i) k a → IsCellOf b k a c → state (base_of b) (txns_of b) i k ≡ c
 access_before b i k a c inside r is = cell_before b i k a.index c a.source inside r.newest r.write is
@@ -66,7 +66,7 @@ cell_set = Coded-set the_row.coded
 
 -- what the right plan says of one key's cell
 pub cell_planned : (b : Batch) (k : List ℕ) (look : Look) (c : Cell) → (IsRightPlan (txns_of b) (plan_of b) → look k ≡ c) → look k ≡ c
-cell_planned b k look c f = ∥∥₁_elim b.right (cell_set (look k) c) f
+cell_planned b k look c f = ∥∥₁_elim b.batched.right (cell_set (look k) c) f
 
 right_among : (b : Batch) (i : ℕ) (keys : List (List ℕ)) (accesses : List Access) (j : ℕ) (k : List ℕ) (c : Cell) → i ≤ length (txns_of b) → AreRightAccesses (first_of b) (txns_of b) (first_of b + i) keys accesses → slice_get keys j ≡ Some k
     → ((a : Access) → slice_get accesses j ≡ Some a → IsCellOf b k a c) → state (base_of b) (txns_of b) i k ≡ c
@@ -132,7 +132,7 @@ short_outcome b i o e =
     let within = slice_get_within (rights_of b).outcomes i o e in
     let long = outcomes_long b in
     let (x, at) = there (txns_of b) i (omega arith) in
-    let keeps = usable_at (txns_of b) b.formed i x at in
+    let keeps = usable_at (txns_of b) b.batched.formed i x at in
     let before : Look = state (base_of b) (txns_of b) i in
     let same : outcome_of (body before x) ≡ o = same_Some (outcome_of (body before x)) o (sym (outcome_right b i x at) ∙ e) in
     subst (λ (z : Outcome). stmt_of z < 1000) same (few_of x (body before x) (λ fault h. let few = keeps.few_stmts in omega (arith, fault_within x.edition before fresh 1 x.body fault h)))

@@ -13,4 +13,5 @@ mod Places
 mod Searched
 mod Keeping
 mod PlacesOfKeys
+mod Numbered
 pub mod ForCallers

@@ -2,22 +2,23 @@
 use Rattle.std.proofs.Common.{◌≡◌, ℕ, zero, suc, ◌<◌, List, [], ◌∷◌, length, get_or, true, false, cond, Result, Ok, Err, Some, ⊎_elim, refl, sym, subst, ap, ◌∙◌, add-one, arith}
 use Rattle.std.specs.Option.{option_map}
 use Rattle.std.specs.Result.{IfOk, OnErr}
-use Rattle.std.specs.List.{slice_get}
+use Rattle.std.specs.List.{slice_get, AllByRecursion, IsDistinct}
 use Rattle.std.specs.declared.cmp.Ordering.{Ordering}
 use Rattle.std.specs.declared.cmp.Ordering.TheVariants.{Less, Equal, Greater}
-use Rattle.std.specs.Ordering.{nat_cmp, is_lt, ordering_reverse}
+use Rattle.std.specs.Ordering.{nat_cmp, is_lt}
 use Rattle.std.specs.Str.{bytes_eq}
 use Rattle.std.specs.Cmp.Lexicographic.{slice_cmp, nat_list_cmp_total}
 use Rattle.std.specs.List.Sorted.{IsBinarySearchResult, IsSearchInRange, IsSortedBy}
 use Rattle.std.proofs.lemmas.List.Sorted.{searchable_from_sorted}
 use Rattle.std.proofs.lemmas.Bool.{and_parts, cases_lt, or_parts}
+use Rattle.std.proofs.lemmas.Map.Keys.{IsDistinct-head, IsDistinct-tail}
 use Rattle.std.proofs.lemmas.Option.{same_Some, slice_get-map, slice_get-get_or}
 use Rattle.std.proofs.lemmas.Slice.Eq.{bytes_eq-Decides}
 use Rattle.bohm_tree.specs.declared.cell.Cell.{Cell}
 use Rattle.bohm_tree.specs.declared.cell.Cell.TheVariants.{Absent}
 use Rattle.bohm_txn.specs.Faulty.{is_among, rising, rises_from}
 use Rattle.bohm_txn.specs.Meaning.{newest}
-use Rattle.bohm_txn.proofs.ForCallers.{less, no_fall, same_at}
+use Rattle.bohm_txn.proofs.ForCallers.{no_fall, other_key, same_at}
 use Rattle.bohm_board.specs.Bases.{keys_of}
 
 abbrev pub Entry : Type 0
@@ -30,40 +31,8 @@ key_cmp = slice_cmp nat_cmp
 abbrev pub against : List ℕ → Entry → Ordering
 against k e = key_cmp e.0 k
 
-above_differs : (k x : List ℕ) → key_cmp k x ≡ Less → bytes_eq x k ≡ false
-above_differs k x e = same_at x k Greater (nat_list_cmp_total.antisymm x k ∙ ap ordering_reverse e)
-
--- no entry behind one that is above the key has it
-none_behind : (es : List Entry) (k x : List ℕ) (before : Cell) → key_cmp k x ≡ Less → rises_from x (keys_of es) ≡ true → newest es k before ≡ before
-none_behind [] k x before low up = refl
-none_behind (e ∷ es) k x before low up =
-    let (first, rest) = and_parts (is_lt (key_cmp x e.0)) (rises_from e.0 (keys_of es)) up in
-    let next : key_cmp k e.0 ≡ Less = nat_list_cmp_total.trans k x e.0 low (less (key_cmp x e.0) first) in
-    rw (above_differs k e.0 next) (none_behind es k e.0 before next rest)
-
--- nor one behind the entry of the key itself
-one_alone : (es : List Entry) (k : List ℕ) (before : Cell) → rises_from k (keys_of es) ≡ true → newest es k before ≡ before
-one_alone [] k before up = refl
-one_alone (e ∷ es) k before up =
-    let (first, rest) = and_parts (is_lt (key_cmp k e.0)) (rises_from e.0 (keys_of es)) up in
-    let next : key_cmp k e.0 ≡ Less = less (key_cmp k e.0) first in
-    rw (above_differs k e.0 next) (none_behind es k e.0 before next rest)
-
-rises_on : (x : List ℕ) (ks : List (List ℕ)) → rises_from x ks ≡ true → rising ks ≡ true
-rises_on x [] up = refl
-rises_on x (k ∷ ks) up = (and_parts (is_lt (key_cmp x k)) (rises_from k ks) up).1
-
 equal_at : (a b : List ℕ) → key_cmp a b ≡ Equal → bytes_eq a b ≡ true
 equal_at a b e = same_at a b Equal e
-
-at_equal : (es : List Entry) (i : ℕ) (k : List ℕ) (before : Cell) (x : Entry) → rising (keys_of es) ≡ true → slice_get es i ≡ Some x → bytes_eq x.0 k ≡ true → x.0 ≡ k → newest es k before ≡ x.1
-at_equal [] i k before x up at same is = absurd cc
-at_equal (e ∷ es) zero k before x up at same is =
-    let first : e ≡ x = cc in
-    let here : bytes_eq e.0 k ≡ true = ap (λ (y : Entry). bytes_eq y.0 k) first ∙ same in
-    let key : e.0 ≡ k = ap (λ (y : Entry). y.0) first ∙ is in
-    rw here (one_alone es k e.1 (subst (λ (z : List ℕ). rises_from z (keys_of es) ≡ true) key up) ∙ ap (λ (y : Entry). y.1) first)
-at_equal (e ∷ es) (suc i) k before x up at same is = at_equal es i k (cond (bytes_eq e.0 k) e.1 before) x (rises_on e.0 (keys_of es) up) at same is
 
 -- ---- where no entry has the key
 
@@ -98,13 +67,27 @@ searched_some es k (Err i) inside h = tt
 
 -- ---- what a key has by its entry
 
-pub newest_there : (es : List Entry) (i : ℕ) (k : List ℕ) (before : Cell) (x : Entry) → rising (keys_of es) ≡ true → slice_get es i ≡ Some x → slice_get (keys_of es) i ≡ Some k → newest es k before ≡ x.1
-newest_there es i k before x up at key =
-    let same : x.0 ≡ k = same_Some x.0 k (ap (option_map (λ (e : Entry). e.0)) (sym at) ∙ sym (slice_get-map (λ (e : Entry). e.0) es i) ∙ key) in
-    at_equal es i k before x up at ((bytes_eq-Decides x.0 k).1 same) same
-
 pub newest_missing : (es : List Entry) (k : List ℕ) (before : Cell) → is_among (keys_of es) k ≡ false → newest es k before ≡ before
 newest_missing [] k before h = refl
 newest_missing (e ∷ es) k before h =
     let (first, rest) = or_parts (bytes_eq e.0 k) (is_among (keys_of es) k) h in
     rw first (newest_missing es k before rest)
+
+none_equal : (ks : List (List ℕ)) (k : List ℕ) → AllByRecursion (λ y. bytes_eq k y ≡ false) ks → is_among ks k ≡ false
+none_equal [] k h = refl
+none_equal (x ∷ ks) k h = rw (other_key k x h.0) (none_equal ks k h.1)
+
+at_equal : (es : List Entry) (i : ℕ) (k : List ℕ) (before : Cell) (x : Entry) → IsDistinct bytes_eq (keys_of es) → slice_get es i ≡ Some x → x.0 ≡ k → newest es k before ≡ x.1
+at_equal [] i k before x apart at is = absurd cc
+at_equal (e ∷ es) zero k before x apart at is =
+    let first : e ≡ x = same_Some e x at in
+    let key : e.0 ≡ k = ap (λ (y : Entry). y.0) first ∙ is in
+    let here : bytes_eq e.0 k ≡ true = (bytes_eq-Decides e.0 k).1 key in
+    let none : is_among (keys_of es) k ≡ false = subst (λ (z : List ℕ). is_among (keys_of es) z ≡ false) key (none_equal (keys_of es) e.0 (IsDistinct-head bytes_eq e.0 (keys_of es) apart)) in
+    rw here (newest_missing es k e.1 none ∙ ap (λ (y : Entry). y.1) first)
+at_equal (e ∷ es) (suc i) k before x apart at is = at_equal es i k (cond (bytes_eq e.0 k) e.1 before) x (IsDistinct-tail bytes_eq e.0 (keys_of es) apart) at is
+
+pub newest_there : (es : List Entry) (i : ℕ) (k : List ℕ) (before : Cell) (x : Entry) → IsDistinct bytes_eq (keys_of es) → slice_get es i ≡ Some x → slice_get (keys_of es) i ≡ Some k → newest es k before ≡ x.1
+newest_there es i k before x apart at key =
+    let same : x.0 ≡ k = same_Some x.0 k (ap (option_map (λ (e : Entry). e.0)) (sym at) ∙ sym (slice_get-map (λ (e : Entry). e.0) es i) ∙ key) in
+    at_equal es i k before x apart at same

@@ -23,7 +23,7 @@ use Rattle.bohm_board.proofs.Numbers.{txn_there, width_there}
 
 -- there is an access for each declared key
 pub keys_paired : (b : Batch) (set : DeclaredSet) (t : ℕ) (x : Txn) → txn_at b t ≡ Some x → length (keys_in set x) ≡ length (accesses_in set b t)
-keys_paired b set t x at = row_paired (txns_of b) (plan_of b) set (position b t) x b.right at
+keys_paired b set t x at = row_paired (txns_of b) (plan_of b) set (position b t) x b.batched.right at
 
 pub reads_paired : (b : Batch) (t : ℕ) (x : Txn) → txn_at b t ≡ Some x → length x.reads ≡ length (reads_at b t)
 reads_paired b = keys_paired b Reads
@@ -68,7 +68,7 @@ in_either false xs ys a h = ⊎_elim (λ c. inl c) (λ (c : Contains ys a). inr 
 pub wanted_earlier : (b : Batch) (t : ℕ) (a : Access) (u : ℕ) → IsIn b t → Contains (wanted_at b t) a → a.source ≡ Within u → IsEarlier b t a u
 wanted_earlier b t a u inside in_it e =
     let (x, at) = txn_there b t inside in
-    ∥∥₁_elim b.right (earlier_prop b t a u) (λ plan. ⊎_elim
+    ∥∥₁_elim b.batched.right (earlier_prop b t a u) (λ plan. ⊎_elim
     (λ (h : Contains (reads_at b t) a). among_right b t x.reads (reads_at b t) a u inside (plan.reads (position b t) x at) h e)
     (λ (h : (is_sure_at b t ≡ false) × Contains (writes_at b t) a). among_right b t x.writes (writes_at b t) a u inside (plan.writes (position b t) x at) h.1 e)
     (in_either (is_sure_at b t) (reads_at b t) (writes_at b t) a in_it))

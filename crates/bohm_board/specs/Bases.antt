@@ -1,9 +1,10 @@
--- What the keys of a batch hold before it.
-use Rattle.std.specs.Prelude.{◌≡◌, ℕ, ◌<◌, ◌⊎◌, List, [], ◌∷◌, ◌++◌, map, Bool, true, ◌||◌, Some, slice_get}
-use Rattle.std.specs.List.{list_any}
+-- What a batch is made of: its transactions and plan, and what its keys hold before it.
+use Rattle.std.specs.Prelude.{◌≡◌, ℕ, ◌+◌, ◌<◌, ◌≤◌, ◌^◌, ◌⊎◌, All, List, [], ◌∷◌, ◌++◌, length, map, Bool, ◌||◌, Some, slice_get}
+use Rattle.std.specs.List.{list_any, IsDistinct}
+use Rattle.std.specs.Str.{bytes_eq}
 use Rattle.bohm_tree.specs.declared.cell.Cell.{Cell}
 use Rattle.bohm_tree.specs.Txn.{Txn}
-use Rattle.bohm_txn.specs.Faulty.{is_among, rising}
+use Rattle.bohm_txn.specs.Faulty.{is_among, IsWellFormedTxn}
 use Rattle.bohm_place.specs.declared.access.Access.{Access}
 use Rattle.bohm_place.specs.declared.access.Source.TheVariants.{Before}
 use Rattle.bohm_place.specs.declared.declared_set.DeclaredSet.{DeclaredSet}
@@ -20,22 +21,32 @@ abbrev pub declared_in : List Txn → List (List ℕ)
 declared_in [] = []
 declared_in (t ∷ ts) = (t.reads ++ t.writes) ++ declared_in ts
 
--- the keys rise, and a key has an entry exactly where a transaction declares it
+-- a plan of so many transactions as a batch may have
+pub record IsBatched (txns : List Txn) (plan : Planned) : Type 0 where
+  pub some : 0 < length txns
+  pub few : length txns ≤ 4096
+  pub timestamps : plan.first + length txns ≤ 2 ^ 32
+  pub formed : All IsWellFormedTxn txns
+  pub right : ∥ IsRightPlan txns plan ∥₁
+
+-- no key has two entries, and a key has one exactly where a transaction declares it
 pub record IsBase (txns : List Txn) (entries : List (List ℕ × Cell)) : Type 0 where
-  pub rises : rising (keys_of entries) ≡ true
+  pub apart : IsDistinct bytes_eq (keys_of entries)
   pub keys : (k : List ℕ) → is_among (keys_of entries) k ≡ list_any (declares k) txns
 
--- the index is the place of key n among the entries
-abbrev pub HasPlace : List (List ℕ × Cell) → List (List ℕ) → ℕ → Access → Type 0
-HasPlace entries keys n a = (k : List ℕ) → slice_get keys n ≡ Some k → slice_get (keys_of entries) a.index ≡ Some k
+-- ---- places in a base, of keys or of their numbers
 
--- each access whose source is `Before` has the place of its key among the entries
-abbrev pub AreNoted : List Txn → Planned → List (List ℕ × Cell) → Type 0
-AreNoted txns p entries = (set : DeclaredSet) (i n : ℕ) (x : Txn) (a : Access) → slice_get txns i ≡ Some x → slice_get (planned_in set p i) n ≡ Some a → a.source ≡ Before → HasPlace entries (keys_in set x) n a
+-- the index is the place of key n in the base
+abbrev pub HasPlace : {K : Type 0} → List K → List K → ℕ → Access → Type 0
+HasPlace {K} base keys n a = (k : K) → slice_get keys n ≡ Some k → slice_get base a.index ≡ Some k
+
+-- each access whose source is `Before` has the place of its key in the base
+abbrev pub AreNoted : List Txn → Planned → List (List ℕ) → Type 0
+AreNoted txns p base = (set : DeclaredSet) (i n : ℕ) (x : Txn) (a : Access) → slice_get txns i ≡ Some x → slice_get (planned_in set p i) n ≡ Some a → a.source ≡ Before → HasPlace base (keys_in set x) n a
 
 -- the second plan is the first with the places of the first `count` keys of the set in row i
-pub record IsSetNoted (p q : Planned) (set : DeclaredSet) (i : ℕ) (keys : List (List ℕ)) (entries : List (List ℕ × Cell)) (count : ℕ) : Type 0 where
+pub record IsSetNoted {K : Type 0} (p q : Planned) (set : DeclaredSet) (i : ℕ) (keys base : List K) (count : ℕ) : Type 0 where
   pub sources : HasSourcesOf p q
   pub right : (txns : List Txn) → IsRightPlan txns p → IsRightPlan txns q
-  pub each : (other : DeclaredSet) (m n : ℕ) (a : Access) → slice_get (planned_in other q m) n ≡ Some a → (slice_get (planned_in other p m) n ≡ Some a) ⊎ ((other ≡ set) × (m ≡ i) × HasPlace entries keys n a)
-  pub done : (n : ℕ) (a : Access) → n < count → slice_get (planned_in set q i) n ≡ Some a → a.source ≡ Before → HasPlace entries keys n a
+  pub each : (other : DeclaredSet) (m n : ℕ) (a : Access) → slice_get (planned_in other q m) n ≡ Some a → (slice_get (planned_in other p m) n ≡ Some a) ⊎ ((other ≡ set) × (m ≡ i) × HasPlace base keys n a)
+  pub done : (n : ℕ) (a : Access) → n < count → slice_get (planned_in set q i) n ≡ Some a → a.source ≡ Before → HasPlace base keys n a

@@ -1,15 +1,37 @@
 //! Batches.
 
-ghost use Rattle.std.specs.Prelude.{◌≡◌, ◌+◌, ◌<◌, ◌≤◌, ◌^◌, All, length, Some, IsSomeAnd, slice_get};
-ghost use Rattle.bohm_txn.specs.Faulty.{IsWellFormedTxn};
-ghost use Rattle.bohm_place.specs.Plans.{source_in, HasSourcesOf, IsRightPlan};
+ghost use Rattle.std.specs.Prelude.{◌≡◌, ◌<◌, length, Some, IsSomeAnd, slice_get, true};
+ghost use Rattle.std.specs.List.{IsDistinct};
+ghost use Rattle.std.specs.Str.{bytes_eq};
+ghost use Rattle.std.proofs.Props.{props};
+ghost use Rattle.bohm_tree.specs.declared.cell.Cell.TheVariants.{Absent};
+ghost use Rattle.bohm_log.specs.Numbering.{Numbers};
+ghost use Rattle.bohm_log.specs.Parts.{names_at};
+ghost use Rattle.bohm_txn.specs.Faulty.{rising};
+ghost use Rattle.bohm_txn.specs.Meaning.{newest};
+ghost use Rattle.bohm_place.specs.Gathering.{AreGathered};
+ghost use Rattle.bohm_place.specs.Plans.{source_in, HasSourcesOf};
 ghost use Rattle.bohm_place.specs.declared.access.Source.TheVariants.{Before};
-ghost use Rattle.bohm_board.specs.Bases.{AreNoted, IsBase};
+ghost use Rattle.bohm_board.specs.Bases.{keys_of, AreNoted, IsBase, IsBatched};
 
 use crate::layout::width;
-use crate::noting::{note_places, search};
-use bohm_place::{Access, DeclaredSet, Plan, Source};
+use crate::noting::{note_gathered, note_places};
+use bohm_log::DeclaredKeys;
+use bohm_place::{Access, BatchKeys, DeclaredSet, Plan, Source};
 use bohm_txn::{Cell, Items, Key, LogPart, TxnView};
+
+// The cell of a key among entries of distinct keys, or absence.
+fn cell_of(entries: &[(Key, Cell)], key: &Key) -> Cell
+    requires { IsDistinct bytes_eq (keys_of entries.now) }
+    ensures { result ≡ newest entries.now key.now Absent }
+{
+    for (other, cell) in entries {
+        if *other == *key {
+            return *cell;
+        }
+    }
+    Cell::Absent
+}
 
 /// Transactions of a log that run as one, their plan, and what each key that they declare holds
 /// before them.
@@ -18,13 +40,9 @@ pub struct Batch<'a> {
     txns: LogPart<'a>,
     plan: Plan,
     base: Items<(Key, Cell)>,
-    ghost some: { 0 < length txns },
-    ghost few: { length txns ≤ 4096 },
-    ghost timestamps: { plan.first + length txns ≤ 2 ^ 32 },
-    ghost formed: { All IsWellFormedTxn txns },
-    ghost right: { ∥ IsRightPlan txns plan ∥₁ },
-    ghost based: { IsBase txns base },
-    ghost noted: { AreNoted txns plan base },
+    ghost batched: { IsBatched txns plan },
+    ghost based: { IsBase txns base } by { Prim.hlevel props },
+    ghost noted: { AreNoted txns plan (keys_of base) },
 }
 
 impl<'a> Batch<'a> {
@@ -36,12 +54,9 @@ impl<'a> Batch<'a> {
     /// number of accesses, each by the logarithm of the base's length: the plan's accesses whose
     /// source is `Before` have the place of their key in the base from now on.
     pub fn new(first: u32, txns: LogPart<'a>, plan: Plan, base: Vec<(Key, Cell)>) -> Batch<'a>
-        requires some { 0 < length txns }
-        requires few { length txns ≤ 4096 }
-        requires timestamps { first + length txns ≤ 2 ^ 32 }
-        requires formed { All IsWellFormedTxn txns }
+        requires batched { IsBatched txns plan }
         requires first { plan.first ≡ first }
-        requires right { ∥ IsRightPlan txns plan ∥₁ }
+        requires rises { rising (keys_of base.items) ≡ true }
         requires base { IsBase txns base.items }
         ensures first { first_of result ≡ first }
         ensures txns { txns_of result ≡ txns.entry }
@@ -51,6 +66,34 @@ impl<'a> Batch<'a> {
         let _ = first;
         let mut plan = plan;
         note_places(&mut plan, &txns, &base);
+        Batch {
+            txns,
+            plan,
+            base: Items::from(base),
+        }
+    }
+
+    /// A batch whose base has an entry for each of the gathered keys, in their order. The time
+    /// grows with the number of accesses: the place of a key is found by its number, and not
+    /// searched for.
+    pub fn by_number(
+        txns: LogPart<'a>,
+        plan: Plan,
+        base: Vec<(Key, Cell)>,
+        keys: &DeclaredKeys<'_>,
+        gathered: &BatchKeys,
+    ) -> Batch<'a>
+        requires batched { IsBatched txns plan }
+        requires numbers { Numbers keys.now txns }
+        requires gathered { AreGathered keys.now gathered.now }
+        requires base { keys_of base.items ≡ names_at keys.now.names gathered.now.numbers }
+        ensures first { first_of result ≡ plan.first }
+        ensures txns { txns_of result ≡ txns.entry }
+        ensures plan { HasSourcesOf plan (plan_of result) }
+        ensures base { entries_of result ≡ base.items }
+    {
+        let mut plan = plan;
+        note_gathered(&mut plan, &txns, keys, gathered);
         Batch {
             txns,
             plan,
@@ -149,14 +192,10 @@ impl<'a> Batch<'a> {
     }
 
     /// What a key holds before the batch: absence where no transaction of the batch declares it.
-    /// The time grows with the logarithm of the number of declared keys.
+    /// It goes over the base from its start: the time grows with the number of declared keys.
     pub fn before(&self, key: &Key) -> Cell
         ensures { result ≡ base_of self.now key.now }
     {
-        let entries = self.base.as_slice();
-        match search(entries, key) {
-            Ok(i) => entries[i].1,
-            Err(_) => Cell::Absent,
-        }
+        cell_of(self.base.as_slice(), key)
     }
 }

@@ -44,13 +44,13 @@ then_looks u v w a b = record { keeps = keeps_then u v w a.keeps b.keeps; done =
 pub few_reads : (b : Batch) (t : ℕ) → IsIn b t → length (reads_at b t) ≤ 16
 few_reads b t is =
     let (x, at) = txn_there b t is in
-    let few = (usable_at (txns_of b) b.formed (position b t) x at).few_reads in
+    let few = (usable_at (txns_of b) b.batched.formed (position b t) x at).few_reads in
     omega (arith, few, reads_paired b t x at)
 
 pub few_writes : (b : Batch) (t : ℕ) → IsIn b t → length (writes_at b t) ≤ 16
 few_writes b t is =
     let (x, at) = txn_there b t is in
-    let few = (usable_at (txns_of b) b.formed (position b t) x at).few_writes in
+    let few = (usable_at (txns_of b) b.batched.formed (position b t) x at).few_writes in
     omega (arith, few, writes_paired b t x at)
 
 pub reads_wanted : (b : Batch) (t : ℕ) → AreWanted b t (reads_at b t)
@@ -83,7 +83,7 @@ pub same_sure : (b lent : Batch) (t : ℕ) (x : Txn) (answer : Bool) → lent �
 same_sure b lent t x answer same at e = e ∙ sym (ap (λ (o : Option Txn). unwrap_or (option_map is_sure o) false) (subst (λ (z : Batch). txn_at z t ≡ Some x) same at))
 
 pub well_formed : (b : Batch) (t : ℕ) (x : Txn) → txn_at b t ≡ Some x → IsWellFormedTxn x
-well_formed b t x at = formed_at (txns_of b) b.formed (position b t) x at
+well_formed b t x at = formed_at (txns_of b) b.batched.formed (position b t) x at
 
 -- ---- fills
 

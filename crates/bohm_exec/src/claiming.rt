@@ -11,6 +11,7 @@ use crate::finding::find_wanted;
 use crate::gate::{Gate, Point};
 use crate::turns::Turned;
 use bohm_board::{Board, Claimed, Pass, Status};
+use bohm_tree::MOST_KEYS;
 use bohm_txn::{Cell, Outcome, Scratch, sure};
 
 /// Fills all slots of the position that the pass holds, and gives it its outcome.
@@ -43,8 +44,8 @@ fn attempt<G: Gate>(
     let batch = board.batch();
     let txn = batch.txn(t);
     let sure = sure(&txn);
-    let mut read_cells = [Cell::Absent; 16];
-    let mut earlier_cells = [Cell::Absent; 16];
+    let mut read_cells = [Cell::Absent; MOST_KEYS];
+    let mut earlier_cells = [Cell::Absent; MOST_KEYS];
     let reads = &mut read_cells[..txn.reads().len()];
     let earlier = &mut earlier_cells[..txn.writes().len()];
     if let Some(u) = find_wanted(board, pass, t, sure, reads, earlier) {

@@ -12,6 +12,7 @@ use crate::evaluation::{evaluate, slot_cell};
 use crate::finished::Finished;
 use bohm_board::{Closed, Slot};
 use bohm_place::{DeclaredSet, Source};
+use bohm_tree::MOST_KEYS;
 use bohm_txn::{Cell, Scratch, sure};
 
 /// Takes the cells of the versions of the batch among the accesses of a declared set, and puts them
@@ -71,8 +72,8 @@ fn evaluate_left(closed: &mut Closed, t: u32, scratch: &mut Scratch)
 {
     let txn = closed.batch().txn(t);
     let sure = sure(&txn);
-    let mut read_cells = [Cell::Absent; 16];
-    let mut earlier_cells = [Cell::Absent; 16];
+    let mut read_cells = [Cell::Absent; MOST_KEYS];
+    let mut earlier_cells = [Cell::Absent; MOST_KEYS];
     let reads = &mut read_cells[..txn.reads().len()];
     let earlier = &mut earlier_cells[..txn.writes().len()];
     take_cells(closed, t, DeclaredSet::Reads, reads);

@@ -11,3 +11,4 @@ pub mod Hottest
 pub mod Verdict
 pub mod Printed
 pub mod Picture
+pub mod Waiting

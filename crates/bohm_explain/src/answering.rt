@@ -30,6 +30,6 @@ pub fn answer(
             let text = print_table(alloc, seed, log, request.batch(), request.top())?;
             Ok(Some(text))
         }
-        Some(number) => print_picture(alloc, seed, log, request.batch(), number),
+        Some(number) => print_picture(alloc, log, request.batch(), number),
     }
 }

@@ -12,7 +12,7 @@ use crate::chains::on_longest;
 use crate::figures::greatest;
 use crate::picture::put_picture;
 use crate::waits::waits_in;
-use bohm_place::HashSeed;
+use bohm_place::{Newest, plan_alone};
 use bohm_txn::{LogPart, NoMemory, sure};
 use std::alloc::Global;
 
@@ -29,17 +29,13 @@ fn sure_marks(alloc: Global, txns: &LogPart<'_>) -> Result<Vec<bool>, NoMemory>
 }
 
 /// The picture of a batch of this number.
-fn draw_batch(
-    alloc: Global,
-    seed: HashSeed,
-    number: u32,
-    txns: &LogPart<'_>,
-) -> Result<Vec<u8>, NoMemory>
+fn draw_batch(alloc: Global, number: u32, txns: &LogPart<'_>) -> Result<Vec<u8>, NoMemory>
     requires few { length txns.now ≤ 4096 }
     requires formed { AreWellFormed txns.now }
     ensures { IfOk result (λ text. text.items ≡ picture_of number txns.now) }
 {
-    let waits = waits_in(alloc, seed, txns)?;
+    let (_, plan) = plan_alone(alloc, Newest::new(alloc), 1, txns)?;
+    let waits = waits_in(alloc, &plan, txns)?;
     let sure = sure_marks(alloc, txns)?;
     let depths = waits.depths.as_slice();
     let longest = on_longest(alloc, depths, waits.heights.as_slice(), greatest(depths))?;
@@ -58,7 +54,6 @@ fn draw_batch(
 /// The picture of the batch of this number, counted from 1, or `None` where the log has fewer.
 pub fn print_picture(
     alloc: Global,
-    seed: HashSeed,
     log: &LogPart<'_>,
     size: u32,
     number: u32,
@@ -76,5 +71,5 @@ pub fn print_picture(
         return Ok(None);
     }
     let txns = batch_at(log, size, number - 1);
-    Ok(Some(draw_batch(alloc, seed, number, &txns)?))
+    Ok(Some(draw_batch(alloc, number, &txns)?))
 }

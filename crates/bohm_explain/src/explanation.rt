@@ -2,6 +2,7 @@
 
 ghost use Rattle.std.specs.Prelude.{◌≡◌, ◌++◌, ◌∷◌, [], ◌≤◌, List, length, IfOk, OnOk};
 ghost use Rattle.bohm_tree.specs.Txn.{Txn};
+ghost use Rattle.bohm_place.specs.Plans.{IsPlannable, IsRightPlan};
 ghost use Rattle.bohm_place.specs.Shares.{AreWellFormed};
 ghost use Rattle.bohm_explain.specs.Asked.{IsBetween};
 ghost use Rattle.bohm_explain.specs.Figures.{figures_in, figures_of};
@@ -18,7 +19,7 @@ use crate::ranking::rank;
 use crate::table::put_table;
 use crate::verdict::put_verdict;
 use crate::waits::waits_in;
-use bohm_place::HashSeed;
+use bohm_place::{HashSeed, Newest, Plan, plan_alone};
 use bohm_txn::{LogPart, NoMemory};
 use std::alloc::Global;
 
@@ -30,22 +31,23 @@ struct Survey {
     keys: Gathering,
 }
 
-/// The figures of a batch, whose keys are noted.
+/// The figures of a batch, of which this is the plan, and whose keys are noted.
 fn explain_batch(
     alloc: Global,
-    seed: HashSeed,
+    plan: &Plan,
     txns: &LogPart<'_>,
     keys: &mut Gathering,
 ) -> Result<Figures, NoMemory>
     requires few { length txns.now ≤ 4096 }
-    requires formed { AreWellFormed txns.now }
+    requires plannable { IsPlannable plan.now.first txns.now }
+    requires right { IsRightPlan txns.now plan.now }
     requires room { CanTake (length txns.now) keys.old }
     ensures figures { IfOk result (λ f. f ≡ figures_of txns.now) }
     ensures noted { OnOk result ((log : List Txn) (batches : List Chained)
         → IsGathered log batches keys.old
         → IsGathered (log ++ txns.now) (batches ++ chained txns.now ∷ []) keys.new) }
 {
-    let waits = waits_in(alloc, seed, txns)?;
+    let waits = waits_in(alloc, plan, txns)?;
     let arrows = waits.arrows.as_slice();
     let depths = waits.depths.as_slice();
     let through = chains_through(alloc, arrows, depths, waits.heights.as_slice())?;
@@ -69,9 +71,12 @@ fn survey_log(
 {
     let mut figures = Vec::new(alloc);
     let mut keys = Gathering::new(alloc, seed);
+    let mut newest = Newest::new(alloc);
     for index in 0..batch_count(log, size) {
         let txns = batch_at(log, size, index);
-        figures.push(explain_batch(alloc, seed, &txns, &mut keys)?)?;
+        let (next, plan) = plan_alone(alloc, newest, index * size + 1, &txns)?;
+        newest = next;
+        figures.push(explain_batch(alloc, &plan, &txns, &mut keys)?)?;
     }
     Ok(Survey { figures, keys })
 }

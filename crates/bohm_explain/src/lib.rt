@@ -18,7 +18,6 @@ pub mod laws;
 mod nodes;
 mod picture;
 mod pieces;
-mod planning;
 mod ranking;
 mod request;
 mod table;

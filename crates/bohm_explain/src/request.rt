@@ -7,14 +7,14 @@ ghost use Rattle.bohm_explain.specs.Asked.{Asked, AreInRange, IsBetween, default
 use std::marker::Model;
 
 /// The most transactions of a batch.
-pub const LARGEST_BATCH: u32 = 4096;
+pub const LARGEST_BATCH: u32 = bohm_tree::LARGEST_BATCH;
 
 /// The most keys that are listed.
 pub const MOST_LISTED: u32 = 1000;
 
 /// The greatest number that a batch can have: a log has at most so many transactions, and a batch
 /// at least one.
-pub const LAST_BATCH: u32 = 1_000_000;
+pub const LAST_BATCH: u32 = bohm_tree::MOST_TXNS as u32;
 
 /// The transactions of a batch, how many keys are listed, the hottest first, and the number of the
 /// batch whose picture is printed in the place of the table, from 1 on (`None`: the table).

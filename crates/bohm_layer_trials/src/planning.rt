@@ -5,7 +5,9 @@ ghost use Rattle.std.proofs.Math.Nat.{mod-lt};
 ghost use Rattle.bohm_place.specs.Plans.{IsRightPlan};
 
 use crate::logs::checked;
-use bohm_place::{Access, DeclaredSet, Partition, Plan, Shards, Source, plan};
+use bohm_place::{
+    Access, DeclaredSet, Newest, Partition, Plan, Shards, Source, plan, plan_by_number,
+};
 use bohm_txn::{Checked, Key, LogPart};
 use std::alloc::Global;
 use std::process::Abort;
@@ -247,6 +249,30 @@ fn plan_batch<R: Abort + Threads + Sync>(
     Ok(())
 }
 
+// Plans the batch behind an earlier one of another log, by the numbers of keys, and looks at the
+// plan.
+fn plan_numbered<P: Partition, R: Abort + Threads + Sync>(
+    rt: &R,
+    alloc: Global,
+    earlier: &Checked,
+    batch: &Checked,
+    parts: &P,
+    cc: u32,
+) -> Result<(), Fail>
+    requires { 0 < cc }
+{
+    let one = earlier.log().len() == 1;
+    assert!(rt; one);
+    let txns = batch.log();
+    let four = txns.len() == 4;
+    assert!(rt; four);
+    let newest = Newest::several(alloc, cc)?;
+    let (newest, _) = plan_by_number(rt, alloc, newest, 2, &earlier.log(), parts)?;
+    let (_, plan) = plan_by_number(rt, alloc, newest, 5, &txns, parts)?;
+    assert_plan(rt, &plan, &txns);
+    Ok(())
+}
+
 #[test]
 fn every_number_of_workers_and_parts_gives_the_same_plan(rt: HostRuntime) -> Result<(), Fail> {
     let earlier = checked(rt.alloc(), "log 1\n", EARLIER)?;
@@ -254,6 +280,8 @@ fn every_number_of_workers_and_parts_gives_the_same_plan(rt: HostRuntime) -> Res
     for parts in [1, 7, 64] {
         for cc in [1, 2, 16] {
             plan_batch(&rt, rt.alloc(), &earlier, &batch, FirstByte::new(parts), cc)?;
+            let parts = FirstByte::new(parts);
+            plan_numbered(&rt, rt.alloc(), &earlier, &batch, &parts, cc)?;
         }
     }
     Ok(())
@@ -278,14 +306,32 @@ fn plan_alone<P: Partition, R: Abort + Threads + Sync>(
     Ok(())
 }
 
+impl Meeting {
+    fn new() -> Meeting
+        ensures { result.bytes.parts ≡ 2 }
+    {
+        Meeting {
+            bytes: FirstByte::new(2),
+            calls: AtomicU64::new(0),
+            met: AtomicU64::new(0),
+        }
+    }
+}
+
 #[test]
 fn two_workers_plan_at_once(rt: HostRuntime) -> Result<(), Fail> {
-    let meeting = Meeting {
-        bytes: FirstByte::new(2),
-        calls: AtomicU64::new(0),
-        met: AtomicU64::new(0),
-    };
+    let meeting = Meeting::new();
     plan_alone(&rt, rt.alloc(), &meeting, 2)?;
+    assert_eq!(rt; meeting.met.load(Ordering::SeqCst), 1);
+    Ok(())
+}
+
+#[test]
+fn two_workers_plan_by_number_at_once(rt: HostRuntime) -> Result<(), Fail> {
+    let meeting = Meeting::new();
+    let earlier = checked(rt.alloc(), "log 1\n", EARLIER)?;
+    let batch = checked(rt.alloc(), "log 1\n", BATCH)?;
+    plan_numbered(&rt, rt.alloc(), &earlier, &batch, &meeting, 2)?;
     assert_eq!(rt; meeting.met.load(Ordering::SeqCst), 1);
     Ok(())
 }

@@ -9,7 +9,7 @@ use std::alloc::Global;
 use std::marker::Model;
 
 /// The most transactions of a batch.
-pub const LARGEST_BATCH: u32 = 4096;
+pub const LARGEST_BATCH: u32 = bohm_tree::LARGEST_BATCH;
 
 /// The sizes of the batches of a log, in order. Contracts see it as the list of these.
 #[derive(Debug, Drop)]

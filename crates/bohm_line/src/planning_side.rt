@@ -6,31 +6,29 @@ ghost use Rattle.bohm_line.specs.Planning.{CanPlan};
 
 use crate::cut_log::CutLog;
 use crate::line::{Line, PlanNote, PlanSender};
-use bohm_place::{Partition, Shards, plan};
+use bohm_place::{Newest, Partition, plan_by_number};
 use std::alloc::Global;
 use std::sync::Wait;
 use std::thread::Threads;
 
 /// Plans the batches of a log and sends a note for each, in order: its plan, or that planning was
 /// refused, behind which there is none. `planned` is told the number of each batch, counted from 1,
-/// once its plan is made and before it is sent. The chains are trimmed to the end of each batch
-/// once it is planned, since no later source is below it. It waits while the line is full, for ever
-/// where nobody takes.
+/// once its plan is made and before it is sent. It waits while the line is full, for ever where
+/// nobody takes.
 ///
-/// The time grows with the number of keys that the transactions declare.
+/// There are as many planning workers as arrays of newest placeholders. The time grows with the
+/// number of keys that the transactions declare.
 pub fn plan_ahead<L: Line, P: Partition, F: Fn(u32), R: Threads + Wait + Sync>(
     rt: &R,
     alloc: Global,
     mut sender: PlanSender<L>,
-    mut shards: Shards,
+    mut newest: Vec<Newest>,
     log: CutLog<'_>,
-    planners: u32,
     partition: &P,
     planned: &F,
 ) -> PlanSender<L>
     requires told { F.IsAlwaysCallable planned.now }
-    requires plans { let part = P.part_of partition.now in let count = P.count partition.now in
-        CanPlan L.cutting (cutting_of log) sender part count shards planners }
+    requires plans { CanPlan L.cutting (cutting_of log) sender newest.items }
     ensures whole { All (λ note. IsSome note.plan) result → length result ≡ length L.cutting.sizes }
 {
     let mut start = 0usize;
@@ -38,12 +36,11 @@ pub fn plan_ahead<L: Line, P: Partition, F: Fn(u32), R: Threads + Wait + Sync>(
         let number = place + 1;
         let txns = log.batch(place, start);
         let first = log.first() + start as u32;
-        let Ok((left, plan)) = plan(rt, alloc, shards, first, &txns, planners, partition) else {
+        let Ok((left, plan)) = plan_by_number(rt, alloc, newest, first, &txns, partition) else {
             sender.send(rt, PlanNote { number, plan: None });
             return sender;
         };
-        shards = left;
-        shards.trim_places(first + (txns.len() as u32 - 1));
+        newest = left;
         planned(number);
         sender.send(
             rt,

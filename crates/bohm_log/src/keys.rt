@@ -38,6 +38,12 @@ pub(crate) fn name_by<'a>(names: &'a [Key], ids: &'a [u32], place: usize) -> &'a
     &names[id as usize]
 }
 
+fn number_at(ids: &[u32], place: usize) -> u32
+    requires { place < length ids.now }
+{
+    ids[place]
+}
+
 impl<'a> Keys<'a> {
     /// How many keys there are.
     #[tactic(auto, using(crate::proofs::Viewing::mapped_length))]
@@ -55,6 +61,15 @@ impl<'a> Keys<'a> {
     {
         name_by(self.names, self.ids, place)
     }
+
+    /// The number of a key, counted from 0, among the names of the log's keys.
+    #[tactic(auto, using(crate::proofs::Viewing::mapped_length))]
+    pub fn number(&self, place: usize) -> u32
+        requires { place < length self.now }
+    {
+        number_at(self.ids, place)
+    }
+
     /// The first place of a key, if it is one of them. The time grows with their number.
     pub fn place_of(&self, key: &Key) -> Option<usize>
         ensures place { result ≡ place self.now key.now }

@@ -10,13 +10,9 @@ use crate::fault::LogFault;
 use crate::names::Names;
 use crate::row::{Action, AtomKind, StmtRow, TermRow};
 use crate::sum::AtomParts;
-use bohm_tree::Key;
+use bohm_tree::{Key, MOST_KEYS};
 use std::alloc::Global;
 use std::hash::BuildHasher;
-
-/// How many declared keys a name is sought among. A set with more is refused whole by the check,
-/// before it asks whether a key is in it.
-const MOST_DECLARED: usize = 16;
 
 #[derive(Drop)]
 pub struct Sheet<S: BuildHasher> {
@@ -28,13 +24,14 @@ pub struct Sheet<S: BuildHasher> {
     pub rows: Vec<StmtRow>,
 }
 
-/// The place of a key among a few.
+/// The place of a key among a few. A set with more is refused whole by the check, before it asks
+/// whether a key is in it.
 #[tactic(auto, using(crate::proofs::Seeking::found, crate::proofs::Seeking::not_found))]
 fn place_in(keys: &[Key], key: &Key) -> Option<u32>
     ensures found { IfSome result (λ i. slice_get keys.now i ≡ Some key.now) }
     ensures none { IfNone result (IsApart keys.now key.now) }
 {
-    if keys.len() > MOST_DECLARED {
+    if keys.len() > MOST_KEYS {
         return None;
     }
     let place = key.place_among(keys)?;

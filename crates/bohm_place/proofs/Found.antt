@@ -1,8 +1,8 @@
 -- What a worker finds, transaction by transaction, and what several found together.
-use Rattle.std.proofs.Common.{◌≡◌, ◌≢◌, ℕ, ◌+◌, ◌<◌, ◌≤◌, ◌%◌, ◌==◌, ◌||◌, Bool, true, false, List, [], ◌∷◌, ◌++◌, length, map, take, drop, get_or, slice_get, refl, sym, ap, ◌∙◌, arith, if◌then◌else◌, max, nat_lt, append_assoc, append-nil, add-zero}
+use Rattle.std.proofs.Common.{◌≡◌, ◌≢◌, ℕ, ◌+◌, ◌<◌, ◌≤◌, ◌%◌, ◌==◌, ◌||◌, Bool, true, false, List, [], ◌∷◌, ◌++◌, length, map, take, drop, get_or, slice_get, refl, sym, ap, ◌∙◌, arith, if◌then◌else◌, max, nat_lt, append_assoc, append-nil, add-zero, length-append}
 use Rattle.std.proofs.Math.Bool.{or-false}
 use Rattle.std.proofs.lemmas.Bool.Decides.{nat_tests}
-use Rattle.std.proofs.lemmas.List.{drop_more, take_more, map-append, length-take-le}
+use Rattle.std.proofs.lemmas.List.{drop_more, take_more, map-append, length-take-le, length-map}
 use Rattle.std.specs.List.{AllByRecursion}
 use Rattle.std.specs.Str.{bytes_eq}
 use Rattle.bohm_tree.specs.Txn.{Txn}
@@ -24,6 +24,19 @@ row_same : (mine : List ℕ → Bool) (base hand : List ℕ → List Placeholder
 row_same mine base hand first ahead k h true e = rw (h, e) refl
 row_same mine base hand first ahead k h false e = rw e refl
 
+-- one more transaction of which f was told what is ahead
+pub found_on : (mine : List ℕ → Bool) (f : List Txn → List ℕ → Placeholder) (xs : List Txn) (i : ℕ) (d : Txn) → i < length xs
+    → (out more : List Placeholder) → out ++ found_by mine f (take i xs) (drop i xs) ≡ found_by mine f [] xs
+    → more ≡ (out ++ map (λ k. if mine k then f (take i xs) k else none) (get_or xs i d).reads) ++ map (λ k. if mine k then f (take i xs) k else none) (get_or xs i d).writes
+    → more ++ found_by mine f (take (i + 1) xs) (drop (i + 1) xs) ≡ found_by mine f [] xs
+found_on mine f xs i d inside out more so_far is =
+    let F : List ℕ → Placeholder = λ k. if mine k then f (take i xs) k else none in
+    let x : Txn = get_or xs i d in
+    let at : drop i xs ≡ x ∷ drop (i + 1) xs = drop_more xs i d inside in
+    let taken : take (i + 1) xs ≡ take i xs ++ x ∷ [] = take_more xs i d inside in
+    let whole = rw at at so_far in
+    rw (taken, is, append_assoc, append_assoc) (rw (map-append F x.reads x.writes, append_assoc) at whole)
+
 pub found_step : (mine : List ℕ → Bool) (base hand : List ℕ → List Placeholder) (first : ℕ) (xs : List Txn) (i : ℕ) (d : Txn) → i < length xs
     → ((k : List ℕ) → hand k ≡ (if mine k then base k ++ made first (take i xs) k else base k))
     → (out more : List Placeholder) → out ++ found_by mine (newest_ahead first base) (take i xs) (drop i xs) ≡ found_by mine (newest_ahead first base) [] xs
@@ -33,11 +46,7 @@ found_step mine base hand first xs i d inside chains out more so_far is =
     let G : List ℕ → Placeholder = λ k. if mine k then within first (last_or none (hand k)) else none in
     let F : List ℕ → Placeholder = λ k. if mine k then newest_ahead first base (take i xs) k else none in
     let same : (ks : List (List ℕ)) → map G ks ≡ map F ks = λ ks. map_same G F ks (λ j k e. row_same mine base hand first (take i xs) k (chains k) (mine k) refl) in
-    let x : Txn = get_or xs i d in
-    let at : drop i xs ≡ x ∷ drop (i + 1) xs = drop_more xs i d inside in
-    let taken : take (i + 1) xs ≡ take i xs ++ x ∷ [] = take_more xs i d inside in
-    let whole = rw at at so_far in
-    rw (taken, is, same x.reads, same x.writes, append_assoc, append_assoc) (rw (map-append F x.reads x.writes, append_assoc) at whole)
+    found_on mine (newest_ahead first base) xs i d inside out more so_far (rw (← same (get_or xs i d).reads, ← same (get_or xs i d).writes) is)
 
 chains_by : (mine : List ℕ → Bool) (base hand new : List ℕ → List Placeholder) (first : ℕ) (xs : List Txn) (i : ℕ) (d : Txn) → i < length xs → (k : List ℕ)
     → hand k ≡ (if mine k then base k ++ made first (take i xs) k else base k)
@@ -109,6 +118,16 @@ greater_found a b f done (x ∷ xs) =
 pub found_same : (a b : List ℕ → Bool) (f g : List Txn → List ℕ → Placeholder) → ((done : List Txn) (k : List ℕ) → (if a k then f done k else none) ≡ (if b k then g done k else none)) → (done xs : List Txn) → found_by a f done xs ≡ found_by b g done xs
 found_same a b f g same done [] = refl
 found_same a b f g same done (x ∷ xs) = rw (map_same _ _ (x.reads ++ x.writes) (λ j k e. same done k), found_same a b f g same (done ++ x ∷ []) xs) refl
+
+-- the number of accesses doesn't depend on the worker
+pub length-found_by : (a b : List ℕ → Bool) (f : List Txn → List ℕ → Placeholder) (done xs : List Txn) → length (found_by a f done xs) ≡ length (found_by b f done xs)
+length-found_by a b f done [] = refl
+length-found_by a b f done (x ∷ xs) =
+    let ks = x.reads ++ x.writes in
+    let more = length-found_by a b f (done ++ x ∷ []) xs in
+    let left : length (found_by a f done (x ∷ xs)) ≡ length ks + length (found_by a f (done ++ x ∷ []) xs) = length-append (map (λ k. if a k then f done k else none) ks) (found_by a f (done ++ x ∷ []) xs) ∙ ap (λ n. n + length (found_by a f (done ++ x ∷ []) xs)) (length-map ks (λ k. if a k then f done k else none)) in
+    let right : length (found_by b f done (x ∷ xs)) ≡ length ks + length (found_by b f (done ++ x ∷ []) xs) = length-append (map (λ k. if b k then f done k else none) ks) (found_by b f (done ++ x ∷ []) xs) ∙ ap (λ n. n + length (found_by b f (done ++ x ∷ []) xs)) (length-map ks (λ k. if b k then f done k else none)) in
+    left ∙ ap (λ n. length ks + n) more ∙ sym right
 
 next_or_by : (m w : ℕ) (b : Bool) → (m == w) ≡ b → (nat_lt m w || (m == w)) ≡ nat_lt m (w + 1)
 next_or_by m w true e = let s : m ≡ w = grind (arith, nat_tests) in let l : nat_lt m w ≡ false = grind (arith, nat_tests) in let r : nat_lt m (w + 1) ≡ true = grind (arith, nat_tests) in rw (l, r, e) refl

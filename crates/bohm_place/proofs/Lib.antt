@@ -10,9 +10,11 @@ mod Found
 mod Right
 mod Nested
 mod Parted
-mod Newest
+mod NewestCell
 mod Members
 mod Noted
 mod OneWorker
 mod Behind
+mod Numbers
+mod Gathering
 pub mod ForCallers

@@ -24,6 +24,10 @@ set_other (x ∷ qs) zero (suc j) q apart = refl
 set_other (x ∷ qs) (suc p) zero q apart = refl
 set_other (x ∷ qs) (suc p) (suc j) q apart = set_other qs p j q (λ e. apart (ap suc e))
 
+pub first_of : {A : Type 0} (xs : List A) → 0 < length xs → A
+first_of [] h = absurd (omega arith)
+first_of (x ∷ xs) h = x
+
 -- what holds of each element at its place, after a push
 pub each_pushed : {A : Type 0} (P : ℕ → A → Type 0) (xs : List A) (x : A) → ((w : ℕ) (d : A) → w < length xs → P w (get_or xs w d)) → P (length xs) x → (w : ℕ) (d : A) → w < length xs + 1 → P w (get_or (xs ++ x ∷ []) w d)
 each_pushed P [] x h p zero d lt = p

@@ -11,9 +11,9 @@ use Rattle.bohm_place.specs.declared.declared_set.DeclaredSet.{DeclaredSet}
 use Rattle.bohm_place.specs.declared.declared_set.DeclaredSet.TheVariants.{Reads, Writes}
 use Rattle.bohm_place.specs.declared.placeholder.Placeholder.{Placeholder}
 use Rattle.bohm_place.specs.declared.row.Row.{Row}
-use Rattle.bohm_place.specs.Chains.{Keyed, placeholders_in, none, last_or}
-use Rattle.bohm_place.specs.Shares.{found_by, rows_from, made, newest_ahead}
-use Rattle.bohm_place.specs.Plans.{Accesses, Planned, access_of, accesses_of, reads_of, writes_of, AreLaidFrom, planned_in, AreRightAccesses, IsRightPlan, HasNoPlaces}
+use Rattle.bohm_place.specs.Chains.{Keyed, placeholders_in, none}
+use Rattle.bohm_place.specs.Shares.{found_by, rows_from, newest_ahead, ahead_of}
+use Rattle.bohm_place.specs.Plans.{Accesses, Planned, access_of, accesses_of, reads_of, writes_of, AreLaidFrom, planned_in, AreRightAccesses, IsRightPlan, HasNoPlaces, IsPlanned}
 use Rattle.bohm_place.proofs.Placed.{Below}
 use Rattle.bohm_place.proofs.Found.{found_same}
 use Rattle.bohm_place.proofs.Right.{right_access, index_before, newest_ahead-base}
@@ -72,10 +72,6 @@ nested_at f done [] i t e = absurd cc
 nested_at f done (x ∷ ts) zero t e = let same : x ≡ t = same_Some x t e in rw (append-nil done, same) refl
 nested_at f done (x ∷ ts) (suc i) t e = let more = nested_at f (done ++ x ∷ []) ts i t e in rw append_assoc at more
 
--- the source that the transactions ahead give
-abbrev pub ahead_of : ℕ → List Txn → List ℕ → Placeholder
-ahead_of first done k = last_or none (made first done k)
-
 right_row : (first : ℕ) (ts : List Txn) (i : ℕ) (keys : List (List ℕ)) → 0 < first → i ≤ length ts → AreRightAccesses first ts (first + i) keys (map access_of (map (ahead_of first (take i ts)) keys))
 right_row first ts i keys above inside = record {
   paired = sym (length-map (map (ahead_of first (take i ts)) keys) access_of ∙ length-map keys (ahead_of first (take i ts)));
@@ -124,21 +120,30 @@ no_places first ts p above rows set i j a e =
     in_nested (λ x. x.source ≡ Before → x.index ≡ 0) (ahead_of first) (λ done k. index_before first done k above) set p.first [] ts i j a
     (subst (λ (rs : List Accesses). slice_get (planned_in set (record { first = p.first; rows = rs }) i) j ≡ Some a) rows e)
 
--- ---- several workers
+-- ---- one worker or several
+
+-- the rows of the plan, where they are laid out one behind another
+pub rows_found : (first : ℕ) (ts : List Txn) (found : List Placeholder) (rows : List Row) → found ≡ found_by (λ _. true) (ahead_of first) [] ts → rows ≡ rows_from 0 ts → map (accesses_of found) rows ≡ nested (ahead_of first) [] ts
+rows_found first ts found rows e laid = rw (e, laid) (found_nested (ahead_of first) ts)
 
 whole_by : (m n : ℕ) (v w : Placeholder) → m < n → v ≡ w → (if nat_lt m n then v else none) ≡ w
 whole_by m n v w lt e = let t : nat_lt m n ≡ true = grind (arith, nat_tests) in rw t e
 
--- what all workers found together
-found_whole : (part : List ℕ → ℕ) (n first : ℕ) (ts : List Txn) (given : List Keyed) → 0 < n → 0 < first → ((k : List ℕ) → Below first (placeholders_in part given k))
-    → found_by (λ k. nat_lt (part k % n) n) (newest_ahead first (placeholders_in part given)) [] ts ≡ found_by (λ _. true) (ahead_of first) [] ts
-found_whole part n first ts given some above low =
-    found_same (λ k. nat_lt (part k % n) n) (λ _. true) (newest_ahead first (placeholders_in part given)) (ahead_of first)
-    (λ done k. whole_by (part k % n) n (newest_ahead first (placeholders_in part given) done k) (ahead_of first done k) (omega arith) (newest_ahead-base first (placeholders_in part given) done k above (low k))) [] ts
+-- what all workers found together, of which f says the same as g
+pub found_whole : (part : List ℕ → ℕ) (n : ℕ) (f g : List Txn → List ℕ → Placeholder) (ts : List Txn) → 0 < n → ((done : List Txn) (k : List ℕ) → f done k ≡ g done k)
+    → found_by (λ k. nat_lt (part k % n) n) f [] ts ≡ found_by (λ _. true) g [] ts
+found_whole part n f g ts some same =
+    found_same (λ k. nat_lt (part k % n) n) (λ _. true) f g (λ done k. whole_by (part k % n) n (f done k) (g done k) (omega arith) (same done k)) [] ts
 
--- the rows of the plan, where they are laid out one behind another
+-- the same where chains stood before the batch
 pub rows_whole : (part : List ℕ → ℕ) (n first : ℕ) (ts : List Txn) (given : List Keyed) (found : List Placeholder) (rows : List Row) → 0 < n → 0 < first → ((k : List ℕ) → Below first (placeholders_in part given k))
     → found ≡ found_by (λ k. nat_lt (part k % n) n) (newest_ahead first (placeholders_in part given)) [] ts → rows ≡ rows_from 0 ts → map (accesses_of found) rows ≡ nested (ahead_of first) [] ts
 rows_whole part n first ts given found rows some above low e laid =
-    let whole : found ≡ found_by (λ _. true) (ahead_of first) [] ts = e ∙ found_whole part n first ts given some above low in
-    rw (whole, laid) (found_nested (ahead_of first) ts)
+    let base = placeholders_in part given in
+    rows_found first ts found rows (e ∙ found_whole part n (newest_ahead first base) (ahead_of first) ts some (λ done k. newest_ahead-base first base done k above (low k))) laid
+
+-- the plan that was found in one list, where each transaction was told what is ahead
+pub planned : (first : ℕ) (ts : List Txn) (found : List Placeholder) (rows : List Row) (p : Planned) → 0 < first → found ≡ found_by (λ _. true) (ahead_of first) [] ts → rows ≡ rows_from 0 ts → p.first ≡ first → p.rows ≡ map (accesses_of found) rows → IsPlanned first ts p
+planned first ts found rows p above e laid start is =
+    let whole : p.rows ≡ nested (ahead_of first) [] ts = is ∙ rows_found first ts found rows e laid in
+    record { first = start; right = right_plan first ts p above start whole; unplaced = no_places first ts p above whole }

@@ -7,7 +7,7 @@ use Rattle.bohm_place.specs.Chains.{Keyed, placeholders_in, none}
 use Rattle.bohm_place.specs.Shares.{AreWellFormed, AreDistinct, has_part, made, newest_ahead, IsHand, IsShareOf, IsPartOf}
 use Rattle.bohm_place.proofs.Distinct.{AreDistinct-rising}
 use Rattle.bohm_place.proofs.Found.{found_same}
-use Rattle.bohm_place.proofs.Newest.{formed_at}
+use Rattle.bohm_place.proofs.NewestCell.{formed_at}
 
 module _ (part : List ℕ → ℕ) (n first : ℕ) (txns : List Txn) (all hand left : List Keyed) (w : ℕ) where
   held : IsHand n w all hand → ((k : List ℕ) → part k < length all) → (k : List ℕ) → has_part part n w k ≡ true → placeholders_in part hand k ≡ placeholders_in part all k

@@ -43,7 +43,7 @@ written_none : (u index : ℕ) (ws : List (List ℕ)) (k : List ℕ) → is_amon
 written_none u index [] k absent = refl
 written_none u index (w ∷ ws) k absent = skipped u index w ws k (bytes_eq w k) refl absent (written_none u (index + 1) ws k)
 
-written_more : (u index : ℕ) (ws : List (List ℕ)) (w k : List ℕ) (at : ℕ) → at ≡ index + length ws → written u index (ws ++ w ∷ []) k ≡ written u index ws k ++ (if bytes_eq w k then record { begin = u; index = at } ∷ [] else [])
+pub written_more : (u index : ℕ) (ws : List (List ℕ)) (w k : List ℕ) (at : ℕ) → at ≡ index + length ws → written u index (ws ++ w ∷ []) k ≡ written u index ws k ++ (if bytes_eq w k then record { begin = u; index = at } ∷ [] else [])
 written_more u index [] w k at e = let s : at ≡ index = omega arith in rw s (append-nil _)
 written_more u index (x ∷ ws) w k at e = rw (written_more u (index + 1) ws w k at (omega arith), append_assoc) refl
 
@@ -63,9 +63,13 @@ write_placed m base hand new u i keys k d inside len h n =
     = ap (λ ws. written u 0 ws k) (take_more keys i d inside) ∙ written_more u 0 (take i keys) (get_or keys i d) k i (omega arith) in
     rw more (step_by m (bytes_eq (get_or keys i d) k) base hand new (written u 0 (take i keys) k) record { begin = u; index = i } h n)
 
--- the key of the next write has its chain as it was before the transaction
+-- the key of the next write has none yet of the transaction
+pub not_yet_written : (u i : ℕ) (keys : List (List ℕ)) (d : List ℕ) → i < length keys → AreDistinct keys → written u 0 (take i keys) (get_or keys i d) ≡ []
+not_yet_written u i keys d inside distinct = written_none u 0 (take i keys) (get_or keys i d) (none_before keys i d inside (apart-AreDistinct keys distinct))
+
+-- and its chain is as it was before the transaction
 pub not_yet_placed : (m : Bool) (base hand : List Placeholder) (u i : ℕ) (keys : List (List ℕ)) (d : List ℕ) → i < length keys → AreDistinct keys → hand ≡ (if m then base ++ written u 0 (take i keys) (get_or keys i d) else base) → hand ≡ base
-not_yet_placed true base hand u i keys d inside distinct h = h ∙ ap (λ ws. base ++ ws) (written_none u 0 (take i keys) (get_or keys i d) (none_before keys i d inside (apart-AreDistinct keys distinct))) ∙ append-nil base
+not_yet_placed true base hand u i keys d inside distinct h = h ∙ ap (λ ws. base ++ ws) (not_yet_written u i keys d inside distinct) ∙ append-nil base
 not_yet_placed false base hand u i keys d inside distinct h = h
 
 -- ---- begins below a timestamp
@@ -118,5 +122,5 @@ trimmed_past floor o r e f = rw (e, f) tt
 
 -- ---- what the writes of a transaction find
 
-pub found_write : (F : List ℕ → Placeholder) (before now new : List Placeholder) (v : Placeholder) (keys : List (List ℕ)) (i : ℕ) (key : List ℕ) → i < length keys → get_or keys i key ≡ key → now ≡ before ++ map F (take i keys) → new ≡ now ++ v ∷ [] → v ≡ F key → new ≡ before ++ map F (take (i + 1) keys)
+pub found_write : {A : Type 0} (F : A → Placeholder) (before now new : List Placeholder) (v : Placeholder) (keys : List A) (i : ℕ) (key : A) → i < length keys → get_or keys i key ≡ key → now ≡ before ++ map F (take i keys) → new ≡ now ++ v ∷ [] → v ≡ F key → new ≡ before ++ map F (take (i + 1) keys)
 found_write F before now new v keys i key inside at is n f = rw (map_more F keys i key inside, at, n, is, f, append_assoc) refl

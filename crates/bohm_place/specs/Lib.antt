@@ -2,3 +2,5 @@ pub mod Chains
 pub mod Writers
 pub mod Plans
 pub mod Shares
+pub mod Numbered
+pub mod Gathering

@@ -1,7 +1,8 @@
 -- The right plan of a batch.
-use Rattle.std.specs.Prelude.{◌≡◌, ℕ, ◌+◌, ◌<◌, ◌≤◌, ◌^◌, ◌⊎◌, List, [], ◌∷◌, length, map, take, drop, Option, Some, slice_get, unwrap_or, ◌==◌, if◌then◌else◌}
+use Rattle.std.specs.Prelude.{◌≡◌, ℕ, ◌+◌, ◌<◌, ◌≤◌, ◌^◌, ◌⊎◌, List, [], ◌∷◌, length, map, take, drop, All, Option, Some, slice_get, unwrap_or, ◌==◌, if◌then◌else◌}
 use Rattle.std.specs.Option.{option_map}
 use Rattle.bohm_tree.specs.Txn.{Txn}
+use Rattle.bohm_txn.specs.Faulty.{IsWellFormedTxn}
 use Rattle.bohm_place.specs.declared.access.Access.{Access}
 use Rattle.bohm_place.specs.declared.access.Source.{Source}
 use Rattle.bohm_place.specs.declared.access.Source.TheVariants.{Before, Within}
@@ -85,6 +86,20 @@ pub record IsNoted (p q : Planned) (set : DeclaredSet) (i j place : ℕ) : Type 
   pub sources : HasSourcesOf p q
   pub here : slice_get (planned_in set q i) j ≡ Some (record { source = Before; index = place })
   pub each : (other : DeclaredSet) (m n : ℕ) (a : Access) → slice_get (planned_in other q m) n ≡ Some a → (slice_get (planned_in other p m) n ≡ Some a) ⊎ IsNote set other i m j n place a
+
+-- ---- what planning by the numbers of keys asks for and owes
+
+-- the batch can have the timestamps from `first` on, and each transaction is well-formed
+pub record IsPlannable (first : ℕ) (txns : List Txn) : Type 0 where
+  pub position : 0 < first
+  pub room : first + length txns ≤ 2 ^ 32
+  pub formed : All IsWellFormedTxn txns
+
+-- the right plan of the batch that starts at this timestamp, in which no place is noted
+pub record IsPlanned (start : ℕ) (txns : List Txn) (plan : Planned) : Type 0 where
+  pub first : plan.first ≡ start
+  pub right : IsRightPlan txns plan
+  pub unplaced : HasNoPlaces plan
 
 -- ---- how a plan lies in memory
 

@@ -47,6 +47,10 @@ found_by mine f ahead (t ∷ ts) = map (λ k. if mine k then f ahead k else none
 abbrev pub newest_ahead : ℕ → (List ℕ → List Placeholder) → List Txn → List ℕ → Placeholder
 newest_ahead first base ahead k = within first (last_or none (base k ++ made first ahead k))
 
+-- the newest placeholder of the key that the transactions ahead make
+abbrev pub ahead_of : ℕ → List Txn → List ℕ → Placeholder
+ahead_of first ahead k = last_or none (made first ahead k)
+
 -- where the accesses of each transaction lie, the first of which lie at `start`
 abbrev pub rows_from : ℕ → List Txn → List Row
 rows_from start [] = []

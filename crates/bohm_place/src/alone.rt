@@ -1,61 +1,42 @@
 //! Planning a batch on the caller's thread.
 
-ghost use Rattle.std.specs.Prelude.{◌≡◌, ℕ, List, ◌+◌, ◌++◌, ◌^◌, ◌<◌, ◌≤◌, length, All, IfOk};
-ghost use Rattle.bohm_place.specs.Chains.{chain_in};
-ghost use Rattle.bohm_place.specs.Writers.{writers};
-ghost use Rattle.bohm_place.specs.Plans.{IsRightPlan, HasNoPlaces};
-ghost use Rattle.bohm_place.specs.Shares.{AreWellFormed};
+ghost use Rattle.std.specs.Prelude.{◌+◌, ◌<◌, length, All, IfOk};
+ghost use Rattle.bohm_place.specs.Plans.{IsPlannable, IsPlanned};
 
-use crate::partition::Partition;
+use crate::by_number::{Walked, walk};
+use crate::lot::Lot;
+use crate::newest::Newest;
+use crate::partition::Undivided;
 use crate::planned::Plan;
-use crate::planning::{accesses, each_key_has_a_part};
+use crate::planning::accesses;
 use crate::row::rows;
-use crate::shards::Shards;
-use crate::share::{Job, Share, Worker, plan_share};
 use bohm_txn::{LogPart, NoMemory};
 use std::alloc::Global;
 
-/// Plans a batch as `plan` does, by one worker on the caller's thread, for callers that can start
-/// no threads. A refusal gives the shards up. The time grows with the number of accesses.
-pub fn plan_alone<P: Partition>(
+/// Plans a batch on the caller's thread, by the numbers of its log's keys: finds for each access of
+/// its transactions, in log order, the newest writer of the key among the transactions of the batch
+/// before it. The plan is the one that `plan` makes.
+///
+/// The array is the one that was handed back for the batch before, or a new one. A refusal gives it
+/// up. The time grows with the number of accesses, and with how many keys of the log are new to the
+/// array.
+pub fn plan_alone(
     alloc: Global,
-    shards: Shards,
+    newest: Newest,
     first: u32,
     txns: &LogPart<'_>,
-    partition: &P,
-) -> Result<(Shards, Plan), NoMemory>
-    requires position { 0 < first }
-    requires room { first + length txns.now ≤ 2 ^ 32 }
-    requires parts { length shards ≡ P.count partition.now }
-    requires earlier { (k : List ℕ)
-        → All (λ b. b < first) (chain_in (P.part_of partition.now) shards k) }
-    requires formed { AreWellFormed txns.now }
-    ensures first { IfOk result (λ r. r.1.first ≡ first) }
-    ensures right { IfOk result (λ r. IsRightPlan txns.now r.1) }
-    ensures unplaced { IfOk result (λ r. HasNoPlaces r.1) }
-    ensures parts { IfOk result (λ r. length r.0 ≡ length shards) }
-    ensures chains { IfOk result (λ r. (k : List ℕ)
-        → chain_in (P.part_of partition.now) r.0 k
-        ≡ chain_in (P.part_of partition.now) shards k ++ writers first txns.now k) }
-    ensures below { IfOk result
-        (λ r. (k : List ℕ)
-        → All (λ b. b < first + length txns.now) (chain_in (P.part_of partition.now) r.0 k)) }
+) -> Result<(Newest, Plan), NoMemory>
+    requires plannable { IsPlannable first txns.now }
+    requires earlier { All (λ v. v.begin < first) newest }
+    ensures planned { IfOk result (λ r. IsPlanned first txns.now r.1) }
+    ensures below { IfOk result (λ r. All (λ v. v.begin < first + length txns.now) r.0) }
 {
     let rows = rows(alloc, txns)?;
     let accesses = accesses(&rows);
-    each_key_has_a_part(partition);
-    let worker = Worker {
+    let lot = Lot {
         number: 0,
         count: 1,
     };
-    let hand = shards.into_parts();
-    let Share { found, hand } = plan_share(
-        alloc,
-        Job { worker, hand },
-        first,
-        txns,
-        partition,
-        accesses,
-    )?;
-    Ok((Shards::from_parts(hand), Plan::new(first, found, rows)))
+    let Walked { found, newest } = walk(alloc, newest, first, txns, &Undivided, lot, accesses)?;
+    Ok((newest, Plan::new(first, found, rows)))
 }

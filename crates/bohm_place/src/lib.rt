@@ -5,10 +5,15 @@
 
 mod access;
 mod alone;
+mod batch_keys;
+mod by_number;
 mod chain;
+mod crew;
 mod deal;
 mod declared_set;
 pub mod laws;
+mod lot;
+mod newest;
 mod partition;
 mod placeholder;
 mod places;
@@ -20,8 +25,11 @@ mod share;
 
 pub use access::{Access, Source};
 pub use alone::plan_alone;
+pub use batch_keys::BatchKeys;
 pub use bohm_log::HashSeed;
+pub use crew::plan_by_number;
 pub use declared_set::DeclaredSet;
+pub use newest::Newest;
 pub use partition::Partition;
 pub use places::Places;
 pub use planned::Plan;

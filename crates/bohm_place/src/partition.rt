@@ -1,6 +1,7 @@
 //! Partitions of the keys.
 
 ghost use Rattle.std.specs.Prelude.{◌≡◌, ℕ, List, ◌<◌};
+ghost use Rattle.std.proofs.Common.{rules};
 
 use bohm_txn::Key;
 
@@ -21,4 +22,23 @@ pub trait Partition: Sync {
         ensures below { result < count self.now };
 
     ghost in_range: { (s : Self) (k : List ℕ) → part_of s k < count s };
+}
+
+/// All keys in one part.
+pub(crate) struct Undivided;
+
+impl Partition for Undivided {
+    ghost count = { λ _. 1 };
+
+    ghost part_of = { λ _ _. 0 };
+
+    fn parts(&self) -> u32 {
+        1
+    }
+
+    fn part(&self, _key: &Key) -> u32 {
+        0
+    }
+
+    ghost in_range = { λ _ _. Prim.search rules };
 }

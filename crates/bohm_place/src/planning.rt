@@ -4,7 +4,7 @@ ghost use Rattle.std.specs.Prelude.{◌≡◌, ℕ, List, ◌+◌, ◌++◌, ◌
 ghost use denote.Param.Send.{IsSync};
 ghost use Rattle.bohm_place.specs.Chains.{chain_in};
 ghost use Rattle.bohm_place.specs.Writers.{writers};
-ghost use Rattle.bohm_place.specs.Plans.{IsRightPlan, HasNoPlaces};
+ghost use Rattle.bohm_place.specs.Plans.{IsPlannable, IsPlanned};
 ghost use Rattle.bohm_place.specs.Shares.{AreParts, AreWellFormed, IsShareOf, has_part};
 
 use crate::deal::{deal, gather};
@@ -96,15 +96,11 @@ pub fn plan<P: Partition, R: Threads + Sync>(
     partition: &P,
 ) -> Result<(Shards, Plan), NoMemory>
     requires workers { 0 < cc }
-    requires position { 0 < first }
-    requires room { first + length txns.now ≤ 2 ^ 32 }
+    requires plannable { IsPlannable first txns.now }
     requires parts { length shards ≡ P.count partition.now }
     requires earlier { (k : List ℕ)
         → All (λ b. b < first) (chain_in (P.part_of partition.now) shards k) }
-    requires formed { AreWellFormed txns.now }
-    ensures first { IfOk result (λ r. r.1.first ≡ first) }
-    ensures right { IfOk result (λ r. IsRightPlan txns.now r.1) }
-    ensures unplaced { IfOk result (λ r. HasNoPlaces r.1) }
+    ensures planned { IfOk result (λ r. IsPlanned first txns.now r.1) }
     ensures parts { IfOk result (λ r. length r.0 ≡ length shards) }
     ensures chains { IfOk result (λ r. (k : List ℕ)
         → chain_in (P.part_of partition.now) r.0 k

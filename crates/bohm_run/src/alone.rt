@@ -4,7 +4,7 @@ ghost use Rattle.std.specs.Prelude.{◌≡◌, ◌+◌, ◌++◌, ◌<◌, ◌�
 ghost use Rattle.std.specs.List.{sum};
 ghost use Rattle.bohm_txn.specs.Faulty.{IsWellFormedTxn};
 ghost use Rattle.bohm_txn.specs.Serial.{replies};
-ghost use Rattle.bohm_place.specs.Plans.{IsRightPlan};
+ghost use Rattle.bohm_place.specs.Plans.{IsPlannable, IsPlanned};
 ghost use Rattle.bohm_exec.specs.Answers.{batch_of_finished};
 ghost use Rattle.bohm_store.specs.Nexts.{IsSame};
 ghost use Rattle.bohm_store.specs.Versions.{past};
@@ -16,33 +16,11 @@ use crate::replies::settle_batch;
 use crate::workers::{Worker, sweep_share};
 use bohm_board::{Batch, Board};
 use bohm_exec::{Finished, OpenGate, complete};
-use bohm_line::{ByteSum, CutLog, Cuts};
-use bohm_place::{HashSeed, Plan, Shards, plan_alone};
-use bohm_store::History;
+use bohm_line::{CutLog, Cuts};
+use bohm_place::{Newest, Plan, plan_alone};
+use bohm_store::{History, Seats};
 use bohm_txn::{Items, LogPart, NoMemory, Reply, Scratch};
 use std::alloc::Global;
-
-/// The plan of a batch that starts at a timestamp. What the batches before it wrote is `Before` to
-/// it, so its chains start empty.
-fn plan_batch(
-    alloc: Global,
-    seed: HashSeed,
-    first: u32,
-    txns: &LogPart<'_>,
-) -> Result<Plan, NoMemory>
-    requires position { 0 < first }
-    requires room { first + length txns.now ≤ 2 ^ 32 }
-    requires formed { All IsWellFormedTxn txns.now }
-    ensures first { IfOk result (λ p. p.first ≡ first) }
-    ensures right { IfOk result (IsRightPlan txns.now) }
-{
-    let Some(partition) = ByteSum::new(1) else {
-        unreachable!()
-    };
-    let shards = Shards::with_seed(alloc, 1, seed)?;
-    let (_, plan) = plan_alone(alloc, shards, first, txns, &partition)?;
-    Ok(plan)
-}
 
 /// Executes a batch by one worker, and what it set aside in log order. A refusal gives the batch
 /// up.
@@ -63,20 +41,22 @@ fn finish_alone<'a>(
     Ok(complete(closed, &[aside], scratch))
 }
 
-/// Runs the batch that follows the history's top, and appends its replies. A refusal changes
-/// nothing that is seen.
+/// Runs the batch that follows the history's top, of which this is the plan, and appends its
+/// replies. A refusal changes nothing that is seen.
 fn run_batch(
     alloc: Global,
     history: &mut History,
     answered: &mut Vec<Reply>,
     txns: &LogPart<'_>,
+    plan: Plan,
     keep: u32,
     scratch: &mut Scratch,
+    seats: &mut Seats,
 ) -> Result<(), NoMemory>
     requires some { 0 < length txns.now }
     requires few { length txns.now ≤ 4096 }
-    requires timestamps { history.old.top + 1 + length txns.now ≤ 2 ^ 32 }
-    requires formed { All IsWellFormedTxn txns.now }
+    requires plannable { IsPlannable (history.old.top + 1) txns.now }
+    requires planned { IsPlanned (history.old.top + 1) txns.now plan }
     ensures applied { OnOk result
         (IsApplied history.old history.new txns.now keep
         (replies (past history.old history.old.top) txns.now)) }
@@ -86,10 +66,9 @@ fn run_batch(
     ensures same { OnErr result (IsSame history.old history.new) }
     ensures unanswered { OnErr result (answered.new.items ≡ answered.old.items) }
 {
-    let plan = plan_batch(alloc, history.seed(), history.top() + 1, txns)?;
-    let batch = history.batch(alloc, txns, plan)?;
+    let batch = history.batch_with(alloc, seats, txns, plan)?;
     let finished = finish_alone(alloc, batch, scratch)?;
-    settle_batch(alloc, history, answered, &finished)?;
+    settle_batch(alloc, history, answered, seats, &finished)?;
     let floor = history.top().saturating_sub(keep);
     history.trim(floor);
     Ok(())
@@ -111,9 +90,15 @@ fn run_batches(
         (is_ok result) }
 {
     let mut start = 0usize;
+    let mut newest = Newest::new(alloc);
+    let mut seats = Seats::new(alloc);
     for place in 0..log.batches() {
         let txns = log.batch(place, start);
-        run_batch(alloc, history, answered, &txns, keep, scratch)?;
+        let (next, plan) = plan_alone(alloc, newest, history.top() + 1, &txns)?;
+        newest = next;
+        run_batch(
+            alloc, history, answered, &txns, plan, keep, scratch, &mut seats,
+        )?;
         start += txns.len();
     }
     Ok(())
@@ -125,8 +110,7 @@ fn run_batches(
 ///
 /// Where it is refused memory, the history stands at the end of a batch, and the replies up to
 /// there are answered: nothing is lost, and the rest can be applied again. The time grows with the
-/// number of the transactions' terms and with the number n of keys that a batch declares as n log
-/// n.
+/// numbers of the transactions' terms, of the keys that each batch declares and of the log's keys.
 pub fn apply_alone(
     alloc: Global,
     history: &mut History,

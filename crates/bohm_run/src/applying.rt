@@ -4,7 +4,6 @@ ghost use Rattle.std.specs.Prelude.{◌≡◌, ℕ, List, ◌+◌, ◌<◌, ◌�
 ghost use Rattle.std.specs.List.{sum};
 ghost use denote.Param.Send.{IsSend, IsSync};
 ghost use Rattle.bohm_txn.specs.Faulty.{IsWellFormedTxn};
-ghost use Rattle.bohm_place.specs.Chains.{chain_in};
 ghost use Rattle.bohm_line.specs.CutLogs.{cutting_of};
 ghost use Rattle.bohm_line.specs.Planning.{CanPlan};
 ghost use Rattle.bohm_run.specs.Progresses.{IsWalkOf};
@@ -15,8 +14,8 @@ use crate::executing::{Executor, Progress};
 use crate::workers::Crew;
 use bohm_exec::{Gate, Point};
 use bohm_line::{CutLog, Cuts, Line, PlanReceiver, PlanSender, plan_ahead, plan_line};
-use bohm_place::{HashSeed, Partition, Shards};
-use bohm_store::History;
+use bohm_place::{Newest, Partition};
+use bohm_store::{History, Seats};
 use bohm_txn::{Items, LogPart, NoMemory, Reply};
 use std::alloc::Global;
 use std::marker::Brand;
@@ -37,32 +36,35 @@ pub struct Applied {
 #[derive(Drop)]
 struct Sides<L: Line> {
     executor: Executor,
-    shards: Shards,
+    newest: Vec<Newest>,
     sender: PlanSender<L>,
     receiver: PlanReceiver<L>,
 }
 
-fn set_up<L: Line, P: Partition>(
+fn set_up<L: Line>(
     alloc: Global,
+    planners: u32,
     executors: u32,
     keep: u32,
-    partition: &P,
-    seed: HashSeed,
 ) -> Result<Sides<L>, NoMemory>
     requires executors { 0 < executors }
     ensures keep { IfOk result (λ s. s.executor.keep ≡ keep) }
-    ensures parts { IfOk result (λ s. length s.shards ≡ P.count partition.now) }
-    ensures empty { IfOk result (λ s.
-        (k : List ℕ) → chain_in (P.part_of partition.now) s.shards k ≡ []) }
+    ensures planners { IfOk result (λ s. length s.newest.items ≡ planners) }
+    ensures unplanned { IfOk result
+        (λ s. (t : ℕ) → All (λ a. All (λ v. v.begin < t) a) s.newest.items) }
     ensures unsent { IfOk result (λ s. s.sender ≡ []) }
     ensures untaken { IfOk result (λ s. s.receiver ≡ []) }
 {
     let crew = Crew::new(alloc, executors)?;
-    let shards = Shards::with_seed(alloc, partition.parts(), seed)?;
+    let newest = Newest::several(alloc, planners)?;
     let (sender, receiver) = plan_line::<L>(alloc)?;
     Ok(Sides {
-        executor: Executor { crew, keep },
-        shards,
+        executor: Executor {
+            crew,
+            seats: Seats::new(alloc),
+            keep,
+        },
+        newest,
         sender,
         receiver,
     })
@@ -75,18 +77,16 @@ fn walk<L: Line + Send + Sync, P: Partition, G: Gate, R: Threads + Wait + Sync>(
     sides: Sides<L>,
     progress: Progress,
     log: CutLog<'_>,
-    planners: u32,
     partition: &P,
     gate: &G,
 ) -> (Progress, Result<(), NoMemory>)
-    requires plans { let part = P.part_of partition.now in let count = P.count partition.now in
-        CanPlan L.cutting (cutting_of log) sides.sender part count sides.shards planners }
+    requires plans { CanPlan L.cutting (cutting_of log) sides.sender sides.newest.items }
     requires executes { CanExecute L.cutting (cutting_of log) sides.receiver progress }
     ensures { IsWalkOf progress.history (cutting_of log.entry) sides.executor.keep result }
 {
     let Sides {
         executor,
-        shards,
+        newest,
         sender,
         receiver,
     } = sides;
@@ -95,21 +95,17 @@ fn walk<L: Line + Send + Sync, P: Partition, G: Gate, R: Threads + Wait + Sync>(
         rt,
         move |scope| -> (Progress, Result<(), NoMemory>)
             requires { IsSync R.row × IsSync P.row × IsSync G.row × IsSend L.row
-                × CanPlan L.cutting (cutting_of log) sender
-                (P.part_of partition.now) (P.count partition.now) shards planners
+                × CanPlan L.cutting (cutting_of log) sender newest.items
                 × CanExecute L.cutting (cutting_of log) receiver progress }
             ensures { IsWalkOf progress.history (cutting_of log.entry) executor.keep result }
         {
             let planning = scope.spawn(
                 move ||
                     requires { IsSync R.row × IsSync P.row × IsSync G.row × IsSend L.row
-                        × CanPlan L.cutting (cutting_of log) sender
-                        (P.part_of partition.now) (P.count partition.now) shards planners }
+                        × CanPlan L.cutting (cutting_of log) sender newest.items }
                 {
                     let planned = |batch: u32| gate.at(Point::Planned(batch));
-                    plan_ahead(
-                        rt, alloc, sender, shards, log, planners, partition, &planned,
-                    );
+                    plan_ahead(rt, alloc, sender, newest, log, partition, &planned);
                 },
             );
             if planning.is_err() {
@@ -143,15 +139,14 @@ fn apply_on<L: Line + Send + Sync, P: Partition, G: Gate, R: Threads + Wait + Sy
     ensures { IsWalkOf history (cutting_behind history txns.entry.now cuts.entry.now) keep result }
 {
     let log = CutLog::new(history.top() + 1, txns, cuts);
-    let seed = history.seed();
     let mut replies = Vec::new(alloc);
     let reserved = replies.reserve(txns.len());
     let progress = Progress { history, replies };
     if reserved.is_err() {
         return (progress, Err(NoMemory));
     }
-    match set_up(alloc, executors, keep, partition, seed) {
-        Ok(sides) => walk::<L, P, G, R>(rt, alloc, sides, progress, log, planners, partition, gate),
+    match set_up(alloc, planners.min(partition.parts()), executors, keep) {
+        Ok(sides) => walk::<L, P, G, R>(rt, alloc, sides, progress, log, partition, gate),
         Err(refusal) => (progress, Err(refusal)),
     }
 }
@@ -163,7 +158,7 @@ fn apply_on<L: Line + Send + Sync, P: Partition, G: Gate, R: Threads + Wait + Sy
 /// three batches ahead; of each batch that it has planned `exec` workers sweep their shares at the
 /// same time. After a batch that ends at e the floor becomes `e - keep`, or stays where it is above
 /// that. Both numbers of workers may be larger than there is work for: no worker starts that has
-/// none. Planning hashes keys from the history's seed.
+/// none.
 ///
 /// Where it is refused memory or the planning side's thread, the history stands at the end of a
 /// batch, and the replies up to there are answered: nothing is lost, and the rest can be applied
@@ -171,9 +166,10 @@ fn apply_on<L: Line + Send + Sync, P: Partition, G: Gate, R: Threads + Wait + Sy
 ///
 /// The time grows with the terms of the transactions, these spread over the executing workers where
 /// bodies don't wait for one another. On the executing side's one thread it grows besides with the
-/// number n of keys that a batch declares as n log n, and with a start of threads for each batch
-/// where there are several workers. The memory grows with the number of keys that the transactions
-/// declare and with the values that they show.
+/// number of the log's keys, with that of the keys that each batch declares, and with a start of
+/// threads for each batch where there are several workers. The memory grows with the number of the
+/// log's keys, on the planning side once for each worker, and with the values that the transactions
+/// show.
 pub fn apply<P: Partition, G: Gate, R: Threads + Wait + Sync>(
     rt: &R,
     alloc: Global,

@@ -12,7 +12,7 @@ use crate::workers::{Crew, finish_batch};
 use bohm_exec::Gate;
 use bohm_line::{CutLog, Line, PlanReceiver};
 use bohm_place::Plan;
-use bohm_store::History;
+use bohm_store::{History, Seats};
 use bohm_txn::{LogPart, NoMemory, Reply};
 use std::alloc::Global;
 use std::sync::Wait;
@@ -25,10 +25,12 @@ pub(crate) struct Progress {
     pub(crate) replies: Vec<Reply>,
 }
 
-/// What executes batches: the workers, and how many timestamps below a batch's end stay readable.
+/// What executes batches: the workers, where the log's keys stand in the history, and how many
+/// timestamps below a batch's end stay readable.
 #[derive(Drop)]
 pub(crate) struct Executor {
     pub(crate) crew: Crew,
+    pub(crate) seats: Seats,
     pub(crate) keep: u32,
 }
 
@@ -53,12 +55,15 @@ impl Executor {
         ensures ok { OnOk result (GoesOn progress.old progress.new txns.now self.old.keep) }
         ensures err { OnErr result (StaysPut progress.old progress.new) }
     {
-        let batch = progress.history.batch(alloc, txns, plan)?;
+        let batch = progress
+            .history
+            .batch_with(alloc, &mut self.seats, txns, plan)?;
         let finished = finish_batch(rt, alloc, batch, &mut self.crew, gate)?;
         settle_batch(
             alloc,
             &mut progress.history,
             &mut progress.replies,
+            &mut self.seats,
             &finished,
         )?;
         let floor = progress.history.top().saturating_sub(self.keep);

@@ -8,7 +8,7 @@ ghost use Rattle.bohm_store.specs.Nexts.{IsNext, IsSame, IsSettled};
 ghost use Rattle.bohm_run.specs.Replies.{AreSerialShows, IsSerialReply, replies_behind, replies_of};
 
 use bohm_exec::Finished;
-use bohm_store::History;
+use bohm_store::{History, Seats};
 use bohm_txn::{Cell, Items, NoMemory, Outcome, Reply, Value, shows};
 use std::alloc::Global;
 
@@ -83,6 +83,7 @@ pub(crate) fn settle_batch(
     alloc: Global,
     history: &mut History,
     replies: &mut Vec<Reply>,
+    seats: &mut Seats,
     finished: &Finished<'_>,
 ) -> Result<(), NoMemory>
     requires { IsNext history.old (batch_of_finished finished.now) }
@@ -95,7 +96,7 @@ pub(crate) fn settle_batch(
 {
     let before = replies.len();
     push_replies(alloc, replies, finished)?;
-    let settled = history.settle(alloc, finished);
+    let settled = history.settle_with(alloc, seats, finished);
     if settled.is_err() {
         replies.truncate(before);
     }

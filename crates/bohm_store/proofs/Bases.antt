@@ -1,46 +1,11 @@
--- The keys that transactions declare, and what they hold.
-use Rattle.std.proofs.Common.{◌≡◌, ℕ, Bool, true, false, ◌||◌, List, [], ◌∷◌, map, refl, sym, ap, ◌∙◌, if◌then◌else◌}
-use Rattle.std.specs.List.{dedup, Contains}
-use Rattle.std.specs.List.Sorted.{IsPermutation, IsSorted, IsStrictlySortedBy}
+-- What keys hold.
+use Rattle.std.proofs.Common.{◌≡◌, ℕ, Bool, true, false, ◌||◌, List, [], ◌∷◌, map, refl, ap, if◌then◌else◌}
 use Rattle.std.specs.Str.{bytes_eq}
-use Rattle.std.specs.Cmp.{both_ways}
-use Rattle.std.specs.Ordering.{nat_cmp}
-use Rattle.std.specs.Cmp.Lexicographic.{slice_cmp, nat_list_cmp_total, nat_list_eq_equiv, texts_ties}
-use Rattle.std.proofs.lemmas.List.Kept.{IsStrictlySortedBy-dedup, Contains-dedup, Contains-from_dedup}
-use Rattle.std.proofs.lemmas.List.Sorted.{Contains-permutation, IsPermutation-sym}
-use Rattle.std.proofs.lemmas.Map.Views.{Contains-from_any, list_any-from_Contains}
 use Rattle.bohm_tree.specs.declared.cell.Cell.{Cell}
 use Rattle.bohm_txn.specs.Meaning.{newest}
-use Rattle.bohm_txn.specs.Faulty.{is_among, rising}
+use Rattle.bohm_txn.specs.Faulty.{is_among}
 use Rattle.bohm_txn.proofs.ForCallers.{same_key}
 use Rattle.bohm_board.specs.Bases.{keys_of}
-use Rattle.bohm_board.proofs.ForCallers.{member_among}
-
--- ---- which keys
-
-among_contains : (ks : List (List ℕ)) (k : List ℕ) → is_among ks k ≡ true → Contains ks k
-among_contains ks k h = Contains-from_any same_key k ks (member_among ks k ∙ h)
-
-contains_among : (ks : List (List ℕ)) (k : List ℕ) → Contains ks k → is_among ks k ≡ true
-contains_among ks k h = sym (member_among ks k) ∙ list_any-from_Contains nat_list_eq_equiv k ks h
-
--- sorting and leaving out what stands there twice keep the same keys
-pub sorted_among : (xs ys : List (List ℕ)) (k : List ℕ) → IsPermutation xs ys → is_among (dedup bytes_eq ys) k ≡ is_among xs k
-sorted_among xs ys k p = both_ways (is_among (dedup bytes_eq ys) k) (is_among xs k)
-    (λ h. contains_among xs k (Contains-permutation ys xs k (IsPermutation-sym xs ys p) (Contains-from_dedup bytes_eq ys k (among_contains (dedup bytes_eq ys) k h))))
-    (λ h. contains_among (dedup bytes_eq ys) k (Contains-dedup nat_list_eq_equiv same_key ys k (Contains-permutation xs ys k p (among_contains xs k h))))
-
--- each is below the next
-rises : (ks : List (List ℕ)) → IsStrictlySortedBy (slice_cmp nat_cmp) ks → rising ks ≡ true
-unfolding IsStrictlySortedBy
-rises [] h = refl
-rises (k ∷ []) h = refl
-rises (k ∷ j ∷ ks) h = rw (h.0.0) (rises (j ∷ ks) h.1)
-
-pub sorted_rises : (ks : List (List ℕ)) → IsSorted (slice_cmp nat_cmp) ks → rising (dedup bytes_eq ks) ≡ true
-sorted_rises ks h = rises (dedup bytes_eq ks) (IsStrictlySortedBy-dedup nat_list_cmp_total texts_ties ks h)
-
--- ---- what they hold
 
 pub keys_paired : (f : List ℕ → Cell) (ks : List (List ℕ)) → keys_of (map (λ k. (k, f k)) ks) ≡ ks
 keys_paired f [] = refl

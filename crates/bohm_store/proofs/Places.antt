@@ -5,7 +5,7 @@ use Rattle.std.specs.Map.{keys_of, lookup}
 use Rattle.std.specs.Set.{remove_key}
 use Rattle.std.specs.Str.{bytes_eq}
 use Rattle.std.specs.Cmp.Lexicographic.{nat_list_eq_equiv}
-use Rattle.std.specs.Prelude.{option_to_list}
+use Rattle.std.specs.Prelude.{option_to_list, IfSome}
 use Rattle.std.specs.HashMap.{HashMap, IsUnique, get, keys}
 use Rattle.std.proofs.lemmas.List.{map-append}
 use Rattle.std.proofs.lemmas.Map.Entries.{lookup_from_place}
@@ -60,6 +60,11 @@ key_at_position k ks i e = by (nat_lt (position_or_len (bytes_eq k) ks) (length 
         let inside : position_or_len (bytes_eq k) ks < length ks = grind (arith, nat_tests) in
         rw same (sym ((bytes_eq-Decides k (get_or ks (position_or_len (bytes_eq k) ks) [])).0 (passes_at_first (bytes_eq k) ks [] inside)))
     by false lt e = absurd cc
+
+-- a look-up finds a place that has it
+pub found_at : (k : List ℕ) (ks : List (List ℕ)) (r : Option ℕ) → r ≡ position (bytes_eq k) ks → IfSome r (λ i. get_or ks i [] ≡ k)
+found_at k ks None e = tt
+found_at k ks (Some i) e = key_at_position k ks i e
 
 pub length_keys : (es : List (List ℕ × Chain)) → length (keys_of es) ≡ length es
 length_keys [] = refl

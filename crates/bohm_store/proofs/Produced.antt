@@ -108,4 +108,4 @@ replies_same look other (t ∷ txns) well same =
 
 -- so the next batch answers over its base what it answers over the past at the top
 pub next_replies : (t : Timeline) (b : Batch) → IsNext t b → replies (base_of b) (txns_of b) ≡ replies (past t t.top) (txns_of b)
-next_replies t b next = replies_same (base_of b) (past t t.top) (txns_of b) b.formed next.base
+next_replies t b next = replies_same (base_of b) (past t t.top) (txns_of b) b.batched.formed next.base

@@ -1,73 +1,67 @@
 //! What the keys of a batch hold before it.
 
-ghost use Rattle.std.specs.Prelude.{◌≡◌, ℕ, List, ◌++◌, true, map, IfOk, OnOk};
-ghost use Rattle.std.specs.List.{list_any};
+ghost use Rattle.std.specs.Prelude.{◌≡◌, ◌<◌, length, map, IfOk};
 ghost use Rattle.bohm_tree.specs.declared.cell.Cell.TheVariants.{Absent};
-ghost use Rattle.bohm_txn.specs.Meaning.{newest};
-ghost use Rattle.bohm_txn.specs.Faulty.{is_among, rising};
-ghost use Rattle.bohm_board.specs.Bases.{IsBase, declared_in, declares};
+ghost use Rattle.bohm_log.specs.Columns.{AllNamed};
+ghost use Rattle.bohm_log.specs.Parts.{name_at, names_at};
 ghost use Rattle.bohm_store.specs.Versions.{cell_at};
 ghost use Rattle.bohm_store.specs.Chains.{chain};
 
 use crate::chain::Chain;
-use crate::chains::cell_of;
+use crate::chains::{cell_in, seat_of};
+use crate::seats::Hints;
 use bohm_place::HashSeed;
-use bohm_txn::{Cell, Key, Keys, LogPart, NoMemory};
+use bohm_txn::{Cell, Key, NoMemory};
 use indexmap::IndexMap;
 use std::alloc::Global;
 
-// Adds keys behind others.
-fn add_keys(list: &mut Vec<Key>, keys: &Keys<'_>) -> Result<(), NoMemory>
-    ensures { OnOk result (list.new.items ≡ list.old.items ++ keys.now) }
+// The cell of the newest version of a key that begins at or below a timestamp, or absence. It takes
+// down where the key stands.
+fn cell_by(
+    chains: &IndexMap<Key, Chain, HashSeed>,
+    hints: &mut Hints,
+    number: u32,
+    key: &Key,
+    ts: u32,
+) -> Cell
+    ensures { result ≡ cell_at ts (chain chains.now key.now) Absent }
 {
-    for place in 0..keys.len() {
-        list.push(*keys.key(place))?;
+    match seat_of(chains, hints.place(number), key) {
+        Some(place) => {
+            hints.note(number, place);
+            cell_in(chains, place, ts)
+        }
+        None => Cell::Absent,
     }
-    Ok(())
 }
 
-// The keys that the transactions declare, each as often as it is declared.
-fn declared(alloc: Global, txns: &LogPart<'_>) -> Result<Vec<Key>, NoMemory>
-    ensures { IfOk result (λ v. v.items ≡ declared_in txns.now) }
+// The key with a number.
+fn named(names: &[Key], number: u32) -> &Key
+    requires { number < length names.now }
+    ensures { result.now ≡ name_at names.now number }
 {
-    let mut keys = Vec::new(alloc);
-    for index in 0..txns.len() {
-        let txn = txns.txn(index);
-        add_keys(&mut keys, &txn.reads())?;
-        add_keys(&mut keys, &txn.writes())?;
-    }
-    Ok(keys)
+    &names[number as usize]
 }
 
-// The same, each key once, and rising.
-fn declared_once(alloc: Global, txns: &LogPart<'_>) -> Result<Vec<Key>, NoMemory>
-    ensures rises { IfOk result (λ v. rising v.items ≡ true) }
-    ensures keys { IfOk result
-        (λ v. (k : List ℕ) → is_among v.items k ≡ list_any (declares k) txns.now) }
-{
-    let mut keys = declared(alloc, txns)?;
-    keys.sort_unstable();
-    keys.dedup();
-    Ok(keys)
-}
-
-/// Each key that the transactions declare, rising, with the cell of its newest version that begins
-/// at or below a timestamp.
+/// Each of the keys with these numbers, with the cell of its newest version that begins at or below
+/// a timestamp. Only a key is hashed that doesn't stand where it was last seen.
 pub fn base_at(
     chains: &IndexMap<Key, Chain, HashSeed>,
     alloc: Global,
-    txns: &LogPart<'_>,
+    hints: &mut Hints,
+    names: &[Key],
+    numbers: &[u32],
     ts: u32,
 ) -> Result<Vec<(Key, Cell)>, NoMemory>
-    ensures base { IfOk result (λ v. IsBase txns.now v.items) }
-    ensures cells { IfOk result
-        (λ v. (k : List ℕ) → list_any (declares k) txns.now ≡ true
-        → newest v.items k Absent ≡ cell_at ts (chain chains.now k) Absent) }
+    requires { AllNamed names.now numbers.now }
+    ensures { IfOk result
+        (λ v. v.items
+        ≡ map (λ k. (k, cell_at ts (chain chains.now k) Absent)) (names_at names.now numbers.now)) }
 {
-    let keys = declared_once(alloc, txns)?;
-    let mut base = Vec::with_capacity(alloc, keys.len())?;
-    for key in &keys {
-        base.push((*key, cell_of(chains, key, ts)))?;
+    let mut base = Vec::with_capacity(alloc, numbers.len())?;
+    for number in numbers {
+        let key = named(names, *number);
+        base.push((*key, cell_by(chains, hints, *number, key, ts)))?;
     }
     Ok(base)
 }

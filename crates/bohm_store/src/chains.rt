@@ -1,7 +1,7 @@
 //! The versions of all keys.
 
-ghost use Rattle.std.specs.Prelude.{◌≡◌, ℕ, List, [], ◌∷◌, ◌++◌, ◌<◌, ◌≤◌, ◌&&◌, ◌⊎◌, is_ok, true, false, get_or, if◌then◌else◌, length, IfOk, OnOk, OnErr};
-ghost use Rattle.std.specs.HashMap.{keys};
+ghost use Rattle.std.specs.Prelude.{◌≡◌, ℕ, List, [], ◌∷◌, ◌++◌, ◌<◌, ◌≤◌, ◌&&◌, ◌⊎◌, is_ok, true, false, get_or, if◌then◌else◌, length, None, IfOk, IfSome, OnOk, OnErr};
+ghost use Rattle.std.specs.HashMap.{get, keys};
 ghost use Rattle.std.specs.Str.{bytes_eq};
 ghost use Rattle.bohm_tree.specs.declared.cell.Cell.TheVariants.{Absent};
 ghost use Rattle.bohm_txn.specs.Faulty.{is_among, rising, names_of};
@@ -12,6 +12,7 @@ ghost use Rattle.bohm_store.specs.Chains.{chain, keyed, ArePlaced, shift, front,
 
 use crate::chain::Chain;
 use crate::followers::{Follower, take_due};
+use crate::seats::Hints;
 use crate::version::{Version, Write};
 use bohm_place::HashSeed;
 use bohm_txn::{Cell, Key, NoMemory, Value};
@@ -50,19 +51,45 @@ pub fn cell_of(chains: &IndexMap<Key, Chain, HashSeed>, key: &Key, ts: u32) -> C
     }
 }
 
-// Adds a version to a key's chain, and to the queue where it isn't the first one.
+/// The place of a key. Where the key stands at the hint, nothing is hashed.
+pub fn seat_of(chains: &IndexMap<Key, Chain, HashSeed>, hint: usize, key: &Key) -> Option<usize>
+    ensures within { IfSome result (λ i. i < length (keys chains.now)) }
+    ensures stands { IfSome result (λ i. get_or (keys chains.now) i [] ≡ key.now) }
+    ensures none { result ≡ None → get bytes_eq chains.now key.now ≡ None }
+{
+    if let Some((stored, _)) = chains.get_index(hint)
+        && *stored == *key
+    {
+        return Some(hint);
+    }
+    chains.get_index_of(key)
+}
+
+/// The cell of the newest version of the key at a place that begins at or below a timestamp, or
+/// absence.
+pub fn cell_in(chains: &IndexMap<Key, Chain, HashSeed>, place: usize, ts: u32) -> Cell
+    requires { place < length (keys chains.now) }
+    ensures { result ≡ cell_at ts (chain chains.now (get_or (keys chains.now) place [])) Absent }
+{
+    match chains.get_index(place) {
+        Some((_, chain)) => chain.cell_at(ts),
+        None => unreachable!(),
+    }
+}
+
+// Adds the version of a write to its key's chain, and to the queue where it isn't the first one.
+// Where its key stands it takes down.
 fn push(
     chains: &mut IndexMap<Key, Chain, HashSeed>,
     followers: &mut VecDeque<Follower>,
     alloc: Global,
-    begin: u32,
-    key: &Key,
-    cell: Cell,
+    hints: &mut Hints,
+    write: &Write<'_>,
 ) -> Result<(), NoMemory>
     ensures chains { (k : List ℕ)
         → chain chains.new k
-        ≡ (if (is_ok result && bytes_eq key.now k) then chain chains.old k
-        ++ record { begin = begin; cell = cell } ∷ [] else chain chains.old k) }
+        ≡ (if (is_ok result && bytes_eq write.now.key k) then chain chains.old k
+        ++ record { begin = write.now.begin; cell = write.now.cell } ∷ [] else chain chains.old k) }
     ensures keys { (more : List (List ℕ)) × (keys chains.new ≡ keys chains.old ++ more) }
     ensures waiting { ArePlaced (keys chains.old) followers.old.items → (k : List ℕ)
         → later_begins (chain chains.old k)
@@ -74,15 +101,21 @@ fn push(
     ensures grows { (followers.new.items ≡ followers.old.items)
         ⊎ ((place : ℕ)
         × (followers.new.items
-        ≡ followers.old.items ++ record { begin = begin; place = place } ∷ [])) }
+        ≡ followers.old.items ++ record { begin = write.now.begin; place = place } ∷ [])) }
 {
-    match chains.get_index_of(key) {
+    match seat_of(chains, hints.place(write.number), write.key) {
         Some(place) => {
+            hints.note(write.number, place);
             let (_, chain) = chains.pair_mut(place);
-            chain.extend(followers, place, begin, cell)
+            chain.extend(followers, place, write.begin, write.cell)
         }
         None => {
-            chains.insert(*key, Chain::new(alloc, Version { begin, cell }))?;
+            hints.note(write.number, chains.len());
+            let first = Version {
+                begin: write.begin,
+                cell: write.cell,
+            };
+            chains.insert(*write.key, Chain::new(alloc, first))?;
             Ok(())
         }
     }
@@ -138,11 +171,12 @@ fn take_back(chains: &mut IndexMap<Key, Chain, HashSeed>, writes: &[Write<'_>])
     }
 }
 
-/// Adds the versions of a batch. A refusal leaves everything as it was.
+/// Adds the versions of a batch. A refusal leaves everything as it was but the hints.
 pub fn add(
     chains: &mut IndexMap<Key, Chain, HashSeed>,
     followers: &mut VecDeque<Follower>,
     alloc: Global,
+    hints: &mut Hints,
     writes: &[Write<'_>],
 ) -> Result<(), NoMemory>
     ensures chains { (k : List ℕ)
@@ -167,7 +201,7 @@ pub fn add(
     let before = followers.len();
     for i in 0..writes.len() {
         let write = &writes[i];
-        if push(chains, followers, alloc, write.begin, write.key, write.cell).is_err() {
+        if push(chains, followers, alloc, hints, write).is_err() {
             take_back(chains, &writes[..i]);
             followers.truncate(before);
             return Err(NoMemory);

@@ -5,11 +5,12 @@ ghost use Rattle.std.specs.FinMap.{entries};
 ghost use Rattle.std.specs.List.{IsDistinct};
 ghost use Rattle.std.specs.Map.{keys_of};
 ghost use Rattle.std.specs.Str.{bytes_eq};
-ghost use Rattle.bohm_txn.specs.Faulty.{rising, names_of, IsWellFormedTxn};
+ghost use Rattle.bohm_txn.specs.Faulty.{rising, names_of};
 ghost use Rattle.bohm_txn.specs.Stores.{cell_in, store_of};
 ghost use Rattle.bohm_store.specs.declared.version.Version.{Version};
 ghost use Rattle.bohm_store.specs.Versions.{IsCellAt, IsKept, kept, past, total, versions};
-ghost use Rattle.bohm_place.specs.Plans.{HasSourcesOf, IsRightPlan};
+ghost use Rattle.bohm_place.specs.Plans.{HasSourcesOf};
+ghost use Rattle.bohm_board.specs.Bases.{IsBatched};
 ghost use Rattle.bohm_board.specs.Batches.{base_of, first_of, plan_of, txns_of};
 ghost use Rattle.bohm_exec.specs.Answers.{batch_of_finished};
 ghost use Rattle.bohm_store.specs.Chains.{started};
@@ -22,6 +23,7 @@ use crate::chains::{add, cell_of, start, trim};
 use crate::fault::{PastFault, StoreFault};
 use crate::followers::Follower;
 use crate::listing::present;
+use crate::seats::{Hints, Seats};
 use crate::settling::writes_of;
 use crate::version::Write;
 use bohm_board::Batch;
@@ -107,11 +109,6 @@ impl History {
         }
     }
 
-    /// What keys are hashed from.
-    pub fn seed(&self) -> HashSeed {
-        *self.chains.hasher()
-    }
-
     /// The least timestamp of which the past is kept.
     pub fn floor(&self) -> u32
         ensures { result ≡ self.now.floor }
@@ -185,32 +182,56 @@ impl History {
     }
 
     /// The batch of these transactions that starts behind the top, with what their keys hold there.
-    /// The plan is given up on a refusal. The time grows with the number n of keys that the
-    /// transactions declare as n log n, whatever other keys there are.
+    /// The plan is given up on a refusal. The time grows with the number of keys that the
+    /// transactions declare and with that of the log's keys.
     pub fn batch<'a>(
         &self,
         alloc: Global,
         txns: &LogPart<'a>,
         plan: Plan,
     ) -> Result<Batch<'a>, NoMemory>
-        requires some { 0 < length txns.now }
-        requires few { length txns.now ≤ 4096 }
-        requires timestamps { self.now.top + 1 + length txns.now ≤ 2 ^ 32 }
-        requires formed { All IsWellFormedTxn txns.now }
+        requires batched { IsBatched txns.now plan }
         requires first { plan.first ≡ self.now.top + 1 }
-        requires right { ∥ IsRightPlan txns.now plan ∥₁ }
         ensures txns { IfOk result (λ b. txns_of b ≡ txns.entry.now) }
         ensures plan { IfOk result (λ b. HasSourcesOf plan (plan_of b)) }
         ensures next { IfOk result (IsNext self.now) }
     {
-        let base = base_at(&self.chains, alloc, txns, self.top)?;
-        Ok(Batch::new(self.top + 1, txns.fork(), plan, base))
+        self.batch_with(alloc, &mut Seats::new(alloc), txns, plan)
+    }
+
+    /// The same, with what the run keeps from batch to batch: a key is hashed only where it doesn't
+    /// stand where it was last seen, and none is sorted or searched for. A key that the history
+    /// lacks, as one that is only ever read, stands nowhere: it is looked up in each batch that
+    /// declares it. The time grows with the number of keys that the transactions declare; only
+    /// where the log has more keys than ever before does it grow with these too.
+    pub fn batch_with<'a>(
+        &self,
+        alloc: Global,
+        seats: &mut Seats,
+        txns: &LogPart<'a>,
+        plan: Plan,
+    ) -> Result<Batch<'a>, NoMemory>
+        requires batched { IsBatched txns.now plan }
+        requires first { plan.first ≡ self.now.top + 1 }
+        ensures txns { IfOk result (λ b. txns_of b ≡ txns.entry.now) }
+        ensures plan { IfOk result (λ b. HasSourcesOf plan (plan_of b)) }
+        ensures next { IfOk result (IsNext self.now) }
+    {
+        let keys = txns.keys();
+        let names = keys.names();
+        seats.keys.gather(&keys)?;
+        let hints = &mut seats.hints;
+        hints.cover(names.len())?;
+        let numbers = seats.keys.numbers();
+        let base = base_at(&self.chains, alloc, hints, names, numbers, self.top)?;
+        Ok(Batch::by_number(txns.fork(), plan, base, &keys, &seats.keys))
     }
 
     // Adds the versions of the next batch, by the list of its writes.
     fn settle_writes(
         &mut self,
         alloc: Global,
+        hints: &mut Hints,
         batch: &Batch<'_>,
         writes: &[Write<'_>],
     ) -> Result<(), NoMemory>
@@ -220,7 +241,7 @@ impl History {
         ensures err { OnErr result (IsSame self.old self.new) }
         ensures ok { OnOk result (IsSettled self.old self.new (txns_of batch.now)) }
     {
-        match add(&mut self.chains, &mut self.followers, alloc, writes) {
+        match add(&mut self.chains, &mut self.followers, alloc, hints, writes) {
             Ok(()) => {
                 self.top += batch.len();
                 Ok(())
@@ -242,8 +263,24 @@ impl History {
         ensures ok { OnOk result
             (IsSettled self.old self.new (txns_of (batch_of_finished finished.now))) }
     {
+        self.settle_with(alloc, &mut Seats::new(alloc), finished)
+    }
+
+    /// The same, with what the run keeps from batch to batch: no key is hashed that stands where it
+    /// was last seen.
+    pub fn settle_with(
+        &mut self,
+        alloc: Global,
+        seats: &mut Seats,
+        finished: &Finished<'_>,
+    ) -> Result<(), NoMemory>
+        requires { IsNext self.old (batch_of_finished finished.now) }
+        ensures err { OnErr result (IsSame self.old self.new) }
+        ensures ok { OnOk result
+            (IsSettled self.old self.new (txns_of (batch_of_finished finished.now))) }
+    {
         let writes = writes_of(alloc, finished)?;
-        self.settle_writes(alloc, finished.batch(), &writes)
+        self.settle_writes(alloc, &mut seats.hints, finished.batch(), &writes)
     }
 
     /// Where the floor is above the present one it becomes the floor, and of each key there stay

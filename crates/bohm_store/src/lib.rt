@@ -9,8 +9,10 @@ mod followers;
 mod history;
 pub mod laws;
 mod listing;
+mod seats;
 mod settling;
 mod version;
 
 pub use fault::{PastFault, StoreFault};
 pub use history::History;
+pub use seats::Seats;

@@ -28,6 +28,7 @@ fn list_writes<'a>(
         let cell = finished.cell(t, i as u32);
         out.push(Write {
             begin: t,
+            number: keys.number(i),
             key: keys.key(i),
             cell,
         })?;

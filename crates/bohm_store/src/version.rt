@@ -22,10 +22,12 @@ impl Version {
     }
 }
 
-/// A version of a key. The key is that of the transaction, so that none is copied.
+/// A version of a key. The key is that of the transaction, so that none is copied, and its number
+/// is that among the log's keys, which contracts don't see.
 #[derive(Drop)]
 pub struct Write<'a> {
     pub begin: u32,
+    pub number: u32,
     pub key: &'a Key,
     pub cell: Cell,
 }

@@ -11,5 +11,6 @@ mod WordLaws
 mod StepTakes
 mod StepAgain
 mod Lines
+mod Newlines
 mod TextLaws
 mod TidyLaws

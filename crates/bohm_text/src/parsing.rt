@@ -10,13 +10,15 @@ ghost use Rattle.bohm_text.specs.Faults.{IsFirstBadLine, IsShort};
 use crate::fault::{ReadFault, TextFault};
 use crate::reader::{Place, Reader, read_head};
 use bohm_log::{Doc, HashSeed};
+use memchr::memchr;
 use std::alloc::Global;
 
+#[tactic(auto, using(crate::proofs::Newlines::first_newline))]
 fn newline_at(bytes: &[u8]) -> Option<usize>
     ensures first { result ≡ newline_in bytes.now }
     ensures inside { IfSome result (λ at. at < length bytes.now) }
 {
-    bytes.iter().position(|byte| *byte == b'\n')
+    memchr(b'\n', bytes)
 }
 
 /// The first whole line, and what follows its newline.

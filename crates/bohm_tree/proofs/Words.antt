@@ -1,7 +1,7 @@
 -- The order of names as words.
-use Rattle.std.proofs.Common.{◌≡◌, ℕ, zero, suc, ◌+◌, ◌*◌, ◌^◌, ◌<◌, ◌≤◌, List, [], ◌∷◌, ◌++◌, length, get_or, take, drop, refl, ap, sym, ◌∙◌, subst, arith}
+use Rattle.std.proofs.Common.{◌≡◌, ℕ, zero, suc, ◌+◌, ◌*◌, ◌^◌, ◌<◌, ◌≤◌, List, [], ◌∷◌, ◌++◌, length, take, drop, refl, ap, sym, ◌∙◌, subst, arith}
 use Rattle.std.specs.List.{AllByRecursion}
-use Rattle.std.specs.Int.{w64, from_be_bytes, to_be_bytes}
+use Rattle.std.specs.Int.{w64, from_be_bytes}
 use Rattle.std.specs.Ordering.{nat_cmp, ordering_then, is_eq, MatchOrdering}
 use Rattle.std.specs.declared.cmp.Ordering.{Ordering}
 use Rattle.std.specs.declared.cmp.Ordering.TheVariants.{Less, Equal, Greater}
@@ -12,15 +12,12 @@ use Rattle.std.proofs.lemmas.List.{take-append-drop, length-take, length-drop, d
 use Rattle.std.proofs.lemmas.Nat.{mul-add-lt}
 use Rattle.std.proofs.lemmas.Map.Text.{is_eq-slice_cmp}
 use Rattle.std.proofs.Math.Nat.{mul_comm, pow-succ'}
-use Rattle.std.proofs.Common.{true, false, cond, Option, Some, None, replicate}
-use Rattle.std.proofs.lemmas.Bool.Decides.{nat_tests}
-use Rattle.std.specs.Prelude.{MatchOption, ◌==◌}
-use Rattle.std.specs.List.{position_from}
+use Rattle.std.proofs.Common.{true, Some, replicate}
 use Rattle.bohm_tree.specs.Name.{is_name, key_of}
 use Rattle.bohm_tree.specs.KeyInside.{IsWorded, name_of}
 use Rattle.bohm_tree.specs.Shortness.{short}
 use Rattle.bohm_tree.specs.declared.key.Key.TheInside.{Inside}
-use Rattle.bohm_tree.specs.Words.{padded, before_zero, spread, words, words_of, IsFilled, IsShort}
+use Rattle.bohm_tree.specs.Words.{padded, words, words_of, IsFilled, IsShort}
 use Rattle.bohm_tree.specs.Spreading.{AreBytes, padded-length, padded-bytes, padded-behind, bytes-drop, bytes-take, named}
 
 -- ---- order
@@ -131,30 +128,6 @@ pub is_a_name : (k : Inside) → IsWorded k → is_name (name_of k) ≡ true
 unfolding name_of
 is_a_name k h = subst (λ x. is_name x ≡ true) (sym (named k.words h.name (short h.name h.is) h.made)) h.is
 
-abbrev IsCut : ℕ → List ℕ → Option ℕ → Type 0
-IsCut n bs o = MatchOption o (before_zero bs ≡ bs) (λ i. (j : ℕ) × (i ≡ n + j) × (take j bs ≡ before_zero bs))
-
-not_zero : (b : ℕ) → (suc b == 0) ≡ false
-not_zero b = grind (arith, nat_tests)
-
-cut : (n : ℕ) (bs : List ℕ) → IsCut n bs (position_from (λ b. b == 0) n bs)
-cut n [] = refl
-cut n (zero ∷ bs) = (0, omega arith, refl)
-cut n (suc b ∷ bs) = subst (λ t. IsCut n (suc b ∷ bs) (cond t (Some n) (position_from (λ x. x == 0) (n + 1) bs))) (sym (not_zero b)) (
-    elim (position_from (λ x. x == 0) (n + 1) bs) as (λ o. IsCut (n + 1) bs o → IsCut n (suc b ∷ bs) o) [
-      | None ↦ λ h. ap (λ xs. suc b ∷ xs) h
-      | Some i ↦ λ h. (suc h.0, omega (arith, h.1), ap (λ xs. suc b ∷ xs) h.2)
-    ] (cut (n + 1) bs))
-
-cut_there : (bs : List ℕ) (i : ℕ) → IsCut 0 bs (Some i) → take i bs ≡ before_zero bs
-cut_there bs i h = let same : h.0 ≡ i = omega (arith, h.1) in subst (λ n. take n bs ≡ before_zero bs) same h.2
-
-pub before_first_zero : (bs : List ℕ) (i : ℕ) → Some i ≡ position_from (λ b. b == 0) 0 bs → take i bs ≡ before_zero bs
-before_first_zero bs i e = cut_there bs i (subst (IsCut 0 bs) (sym e) (cut 0 bs))
-
-pub before_no_zero : (bs : List ℕ) → None ≡ position_from (λ b. b == 0) 0 bs → bs ≡ before_zero bs
-before_no_zero bs e = sym (subst (IsCut 0 bs) (sym e) (cut 0 bs))
-
 -- ---- names in memory
 
 named_by_it : (k : Inside) (h : IsWorded k) → h.name ≡ name_of k
@@ -192,16 +165,3 @@ four_words name bs a b c d t p q r s =
 pub new_name : (name ws : List ℕ) → true ≡ is_name name → ws ≡ words_of name → Some (name_of (record { words = ws })) ≡ key_of name
 unfolding name_of
 new_name name ws e made = rw (sym e) (ap Some (named ws name (short name (sym e)) made))
-
--- ---- the bytes of words
-
--- each word byte by byte
-pub spread_bytes : (ws a b c d : List ℕ) → length ws ≡ 4 → a ≡ to_be_bytes w64 (get_or ws 0 0) → b ≡ to_be_bytes w64 (get_or ws 1 0) → c ≡ to_be_bytes w64 (get_or ws 2 0) → d ≡ to_be_bytes w64 (get_or ws 3 0)
-    → get_or a 0 0 ∷ get_or a 1 0 ∷ get_or a 2 0 ∷ get_or a 3 0 ∷ get_or a 4 0 ∷ get_or a 5 0 ∷ get_or a 6 0 ∷ get_or a 7 0 ∷ get_or b 0 0 ∷ get_or b 1 0 ∷ get_or b 2 0 ∷ get_or b 3 0 ∷ get_or b 4 0 ∷ get_or b 5 0 ∷ get_or b 6 0 ∷ get_or b 7 0 ∷ get_or c 0 0 ∷ get_or c 1 0 ∷ get_or c 2 0 ∷ get_or c 3 0 ∷ get_or c 4 0 ∷ get_or c 5 0 ∷ get_or c 6 0 ∷ get_or c 7 0 ∷ get_or d 0 0 ∷ get_or d 1 0 ∷ get_or d 2 0 ∷ get_or d 3 0 ∷ get_or d 4 0 ∷ get_or d 5 0 ∷ get_or d 6 0 ∷ get_or d 7 0 ∷ [] ≡ spread ws
-spread_bytes [] a b c d four p q r s = absurd (omega (arith, four))
-spread_bytes (w ∷ []) a b c d four p q r s = absurd (omega (arith, four))
-spread_bytes (w ∷ x ∷ []) a b c d four p q r s = absurd (omega (arith, four))
-spread_bytes (w ∷ x ∷ y ∷ []) a b c d four p q r s = absurd (omega (arith, four))
-spread_bytes (w ∷ x ∷ y ∷ z ∷ []) a b c d four p q r s =
-    λ i. get_or (p i) 0 0 ∷ get_or (p i) 1 0 ∷ get_or (p i) 2 0 ∷ get_or (p i) 3 0 ∷ get_or (p i) 4 0 ∷ get_or (p i) 5 0 ∷ get_or (p i) 6 0 ∷ get_or (p i) 7 0 ∷ get_or (q i) 0 0 ∷ get_or (q i) 1 0 ∷ get_or (q i) 2 0 ∷ get_or (q i) 3 0 ∷ get_or (q i) 4 0 ∷ get_or (q i) 5 0 ∷ get_or (q i) 6 0 ∷ get_or (q i) 7 0 ∷ get_or (r i) 0 0 ∷ get_or (r i) 1 0 ∷ get_or (r i) 2 0 ∷ get_or (r i) 3 0 ∷ get_or (r i) 4 0 ∷ get_or (r i) 5 0 ∷ get_or (r i) 6 0 ∷ get_or (r i) 7 0 ∷ get_or (s i) 0 0 ∷ get_or (s i) 1 0 ∷ get_or (s i) 2 0 ∷ get_or (s i) 3 0 ∷ get_or (s i) 4 0 ∷ get_or (s i) 5 0 ∷ get_or (s i) 6 0 ∷ get_or (s i) 7 0 ∷ []
-spread_bytes (w ∷ x ∷ y ∷ z ∷ v ∷ ws) a b c d four p q r s = absurd (omega (arith, four))

@@ -4,9 +4,6 @@ ghost use Rattle.std.specs.Prelude.{◌≡◌, Some};
 
 use std::marker::Model;
 
-/// The greatest literal.
-pub const GREATEST_LITERAL: u64 = 9_223_372_036_854_775_807;
-
 /// A whole number of 64 bits.
 #[derive(Clone, Copy, Debug, PartialEq, Eq)]
 pub struct Value {

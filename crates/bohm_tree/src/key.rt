@@ -1,12 +1,12 @@
 //! Keys and names of locals.
 
-ghost use Rattle.std.specs.Prelude.{◌≡◌, ◌<◌, ◌≤◌, ◌+◌, List, ℕ, Some, IfSome, true, length, nat_eq, take, drop, ◌==◌};
+ghost use Rattle.std.specs.Prelude.{◌≡◌, ◌<◌, ◌≤◌, ◌+◌, ◌/◌, List, ℕ, Some, IfSome, true, length, nat_eq, take, drop};
 ghost use Rattle.std.specs.Ordering.{nat_cmp};
 ghost use Rattle.std.specs.Cmp.{partial_equiv_from_equiv};
 ghost use Rattle.std.specs.Cmp.Lexicographic.{pointwise, slice_cmp, nat_list_eq_equiv, nat_list_cmp_total, texts_ties, texts_po};
 ghost use Rattle.std.proofs.Common.{refl};
-ghost use Rattle.std.specs.Int.{w64, from_be_bytes, to_be_bytes};
-ghost use Rattle.std.specs.List.{list_all, position_from};
+ghost use Rattle.std.specs.Int.{w64, from_be_bytes, trailing_zeros};
+ghost use Rattle.std.specs.List.{list_all};
 ghost use Rattle.bohm_tree.specs.Name.{key_of, is_name, is_name_byte, place};
 ghost use Rattle.bohm_tree.specs.Words.{padded, words_of, spread};
 
@@ -108,49 +108,63 @@ fn words_of(name: &[u8]) -> [u64; 4]
 fn spread(words: &[u64; 4]) -> [u8; 32]
     ensures { result ≡ spread words.now }
 {
-    let (a, b) = (words[0].to_be_bytes(), words[1].to_be_bytes());
-    let (c, d) = (words[2].to_be_bytes(), words[3].to_be_bytes());
-    [
-        a[0], a[1], a[2], a[3], a[4], a[5], a[6], a[7], b[0], b[1], b[2], b[3], b[4], b[5], b[6],
-        b[7], c[0], c[1], c[2], c[3], c[4], c[5], c[6], c[7], d[0], d[1], d[2], d[3], d[4], d[5],
-        d[6], d[7],
-    ]
+    let mut bytes = [0; 32];
+    bytes[..8].copy_from_slice(&words[0].to_be_bytes());
+    bytes[8..16].copy_from_slice(&words[1].to_be_bytes());
+    bytes[16..24].copy_from_slice(&words[2].to_be_bytes());
+    bytes[24..].copy_from_slice(&words[3].to_be_bytes());
+    bytes
+}
+
+/// How many bytes of 0 a word ends with.
+fn zeros_behind(word: u64) -> usize
+    ensures { result ≡ trailing_zeros w64 word / 8 }
+{
+    (word.trailing_zeros() / 8) as usize
+}
+
+/// The length of the name that four words are: behind it there are zeros alone.
+fn size_of(words: &[u64; 4]) -> usize
+    ensures short { result ≤ 32 }
+    ensures size { (name : List ℕ) → is_name name ≡ true → words.now ≡ words_of name
+        → result ≡ length name }
+{
+    if words[3] != 0 {
+        return 32 - zeros_behind(words[3]);
+    }
+    if words[2] != 0 {
+        return 24 - zeros_behind(words[2]);
+    }
+    if words[1] != 0 {
+        return 16 - zeros_behind(words[1]);
+    }
+    8 - zeros_behind(words[0])
 }
 
 /// The bytes of a name, in a room of their own.
 #[derive(Debug, Drop)]
 pub struct KeyText {
     bytes: [u8; 32],
+    size: usize,
 }
 
 impl Model for KeyText {
-    ghost use Rattle.std.specs.Prelude.{ℕ, List};
+    ghost use Rattle.std.specs.Prelude.{◌≤◌, ℕ, List, take};
 
     ghost Value = { List ℕ };
 
-    ghost use Rattle.bohm_tree.specs.Words.{before_zero};
+    ghost view = { λ t. take t.size t.bytes };
 
-    ghost view = { λ t. before_zero t.bytes };
-}
-
-fn first_zero(bytes: &[u8]) -> Option<usize>
-    ensures place { result ≡ position_from (λ b. b == 0) 0 bytes.now }
-    ensures inside { IfSome result (λ i. i < length bytes.now) }
-{
-    bytes.iter().position(|byte| *byte == 0)
+    ghost invariant = { λ t. t.size ≤ 32 };
 }
 
 impl KeyText {
     /// The name itself.
-    #[tactic(auto, using(crate::proofs::Words::before_first_zero, crate::proofs::Words::before_no_zero))]
     pub fn as_slice(&self) -> &[u8]
         ensures name { result.now ≡ self.now }
         ensures short { length result.now ≤ 32 }
     {
-        match first_zero(self.bytes.as_slice()) {
-            Some(size) => &self.bytes[..size],
-            None => self.bytes.as_slice(),
-        }
+        &self.bytes[..self.size]
     }
 }
 
@@ -176,6 +190,7 @@ impl Key {
     {
         KeyText {
             bytes: spread(&self.words),
+            size: size_of(&self.words),
         }
     }
 

@@ -7,11 +7,15 @@ mod cmp;
 mod edition;
 mod items;
 mod key;
+mod limits;
 mod memory;
 
-pub use cell::{Cell, GREATEST_LITERAL, Value};
+pub use cell::{Cell, Value};
 pub use cmp::Cmp;
 pub use edition::Edition;
 pub use items::Items;
 pub use key::{Key, KeyText};
+pub use limits::{
+    GREATEST_LITERAL, LARGEST_BATCH, MOST_KEYS, MOST_SHOWS, MOST_STMTS, MOST_TERMS, MOST_TXNS,
+};
 pub use memory::NoMemory;

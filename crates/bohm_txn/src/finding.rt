@@ -11,19 +11,7 @@ use crate::fault::{CheckFault, CheckKind};
 use crate::rules::{is_long, is_misnamed, is_unread, is_unwritten};
 use crate::showing::shows;
 use bohm_log::{Doc, Keys, LogPart, PlacedTxn, StmtRow, TxnView};
-use bohm_tree::{Key, Value};
-
-/// The greatest number of transactions of a log.
-const MOST_TXNS: usize = 1_000_000;
-
-/// The greatest number of statements of a transaction.
-const MOST_STMTS: usize = 64;
-
-/// The greatest number of keys that a transaction reads, and that it writes.
-const MOST_KEYS: usize = 16;
-
-/// The greatest number of values that a transaction shows.
-const MOST_SHOWS: usize = 16;
+use bohm_tree::{Key, MOST_KEYS, MOST_SHOWS, MOST_STMTS, MOST_TXNS, Value};
 
 fn are_rising(keys: &Keys<'_>) -> bool
     ensures { result ≡ rising keys.now }

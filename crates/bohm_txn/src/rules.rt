@@ -8,9 +8,7 @@ ghost use Rattle.bohm_txn.specs.Faulty.{is_bound, locals_bound, some_passes, is_
 ghost use Rattle.bohm_txn.specs.Rows.{end_of, is_declared, tests_key, writes_key, binds_at};
 
 use bohm_log::{Action, AtomKind, PlacedTxn, StmtRow, TermRow};
-
-/// The greatest number of terms of a sum.
-const MOST_TERMS: u32 = 16;
+use bohm_tree::MOST_TERMS;
 
 /// Where the last sum of a statement ends.
 fn end_of(row: &StmtRow) -> u32

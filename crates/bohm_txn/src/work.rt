@@ -11,12 +11,8 @@ use crate::outcome::Reason;
 use crate::room::Room;
 use crate::view::View;
 use bohm_log::{Action, PlacedTxn, StmtRow};
-use bohm_tree::{Cell, Edition, Key, NoMemory, Value};
+use bohm_tree::{Cell, Edition, Key, MOST_KEYS, MOST_STMTS, NoMemory, Value};
 use std::alloc::Global;
-
-const MOST_STMTS: usize = 64;
-
-const MOST_KEYS: usize = 16;
 
 /// What the statements so far did, with room for what a well-formed transaction does.
 #[derive(Debug, Drop)]

@@ -1,4 +1,5 @@
 use Rattle.bohm_place.specs.Plans.{HasSourcesOf, IsRightPlan}
+use Rattle.bohm_board.specs.Bases.{keys_of}
 use Rattle.bohm_board.proofs.PlacesOfKeys.{AreNotedBelow}
 use Rattle.bohm_board.proofs.noting.note_places.Given as goal
 
@@ -6,5 +7,5 @@ abbrev pub invariant-loop-i : goal.invariant-loop-i
 invariant-loop-i l = record {
   sources : HasSourcesOf l.initial.plan l.plan;
   right : ∥ IsRightPlan l.txns l.plan ∥₁;
-  noted : AreNotedBelow l.txns l.plan l.entries l.i;
+  noted : AreNotedBelow l.txns l.plan (keys_of l.entries) l.i;
 }

@@ -13,7 +13,7 @@ use Rattle.bohm_board.proofs.noting.note_set.Goals as goal
 use Rattle.bohm_board.proofs.noting.note_set.Goals.{After-key-key, in-Before+in-Ok, in-Before+in-Err, in-Within}
 
 pub loop-place-init : goal.loop-place-init
-loop-place-init c = none_noted c.args.plan.now c.args.set (c.args.t - c.args.plan.now.first) (keys_in c.args.set c.args.txn.now) c.args.entries.now
+loop-place-init c = none_noted c.args.plan.now c.args.set (c.args.t - c.args.plan.now.first) (keys_in c.args.set c.args.txn.now) (keys_of c.args.entries.now)
 
 pub access-requires-clause-first : goal.access-requires-clause-first
 access-requires-clause-first c = omega (arith, c.requires.first, c.loop-place.invariant.sources.first)
@@ -48,7 +48,7 @@ loop-place-preserved c =
     let set = c.args.set in
     let i = c.args.t - p.first in
     let keys = keys_in set c.args.txn.now in
-    let entries = c.args.entries.now in
+    let base = keys_of c.args.entries.now in
     let q = c.loop-place.plan in
     let n = c.loop-place.place in
     let k = c.key-key.result.now in
@@ -60,16 +60,16 @@ loop-place-preserved c =
           let now = subst (λ (f : ℕ). IsNoted q w.note.new.self set (c.args.t - f) n w.in-Ok.entry) noted.sources.first w.note.ensures in
           let before = ap (option_map (λ (a : Access). a.source)) at ∙ ap (λ o. Some o) w.in-Before.is in
           let found = rw w.in-Ok.is at w.search.ensures.found in
-          rw w.plan-is (next_noted p set i keys entries q w.note.new.self n w.in-Ok.entry k noted now before key found)
+          rw w.plan-is (next_noted p set i keys base q w.note.new.self n w.in-Ok.entry k noted now before key found)
       | in-Before+in-Err w ↦
           let missing = rw w.in-Err.is at w.search.ensures.missing in
           let there = c.requires.there k (among_at keys n k key) in
           absurd (let h : true ≡ false = sym there ∙ missing in cc)
-      | in-Within w ↦ rw w.plan-is (next_passed p set i keys entries q n w.in-Within.field-0 c.access.result noted at w.in-Within.is)
+      | in-Within w ↦ rw w.plan-is (next_passed p set i keys base q n w.in-Within.field-0 c.access.result noted at w.in-Within.is)
     ]
 
 pub returns : goal.returns
 returns c =
     let long = ap length c.keys-keys.ensures in
     let end : c.loop-place.place ≡ length (keys_in c.args.set c.args.txn.now) = omega arith in
-    subst (λ (n : ℕ). IsSetNoted c.args.plan.now c.loop-place.plan c.args.set (c.args.t - c.args.plan.now.first) (keys_in c.args.set c.args.txn.now) c.args.entries.now n) end c.loop-place.invariant
+    subst (λ (n : ℕ). IsSetNoted c.args.plan.now c.loop-place.plan c.args.set (c.args.t - c.args.plan.now.first) (keys_in c.args.set c.args.txn.now) (keys_of c.args.entries.now) n) end c.loop-place.invariant

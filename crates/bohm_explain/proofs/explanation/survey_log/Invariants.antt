@@ -1,4 +1,4 @@
-use Rattle.std.proofs.Common.{◌≡◌, ◌*◌, ◌≤◌, length, take}
+use Rattle.std.proofs.Common.{◌≡◌, ◌+◌, ◌*◌, ◌<◌, ◌≤◌, All, length, take}
 use Rattle.bohm_explain.specs.Figures.{figures_below}
 use Rattle.bohm_explain.specs.Printed.{chained_below}
 use Rattle.bohm_explain.specs.Tallies.{IsGathered}
@@ -8,5 +8,6 @@ abbrev pub invariant-loop-index : goal.invariant-loop-index
 invariant-loop-index l = record {
   figures : l.figures.items ≡ figures_below l.size l.log l.index;
   few : length l.figures.items ≤ l.index;
+  newest : All (λ v. v.begin < l.index * l.size + 1) l.newest;
   keys : IsGathered (take (l.index * l.size) l.log) (chained_below l.size l.log l.index) l.keys;
 }

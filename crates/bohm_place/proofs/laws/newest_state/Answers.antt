@@ -1,4 +1,4 @@
-use Rattle.bohm_place.proofs.Newest.{newest_state_by}
+use Rattle.bohm_place.proofs.NewestCell.{newest_state_by}
 use Rattle.bohm_place.proofs.laws.newest_state.Goals as goal
 
 pub returns : goal.returns

@@ -1,19 +1,16 @@
-use Rattle.std.proofs.Common.{arith, ◌≡◌, ℕ, ◌<◌, ◌∙◌, ◌++◌, [], ◌∷◌, ap, List, length, take, drop, slice_index_or}
+use Rattle.std.proofs.Common.{arith, ◌≡◌, ℕ, ◌<◌, ◌∙◌, ◌++◌, [], ap, List, length, take, drop, slice_index_or}
 use Rattle.std.proofs.lemmas.Grind.{common_steps}
 use Rattle.std.proofs.lemmas.Result.{IfOk-weaker}
 use Rattle.bohm_place.specs.declared.share.Job.{Job}
 use Rattle.bohm_place.specs.Chains.{placeholders_in}
-use Rattle.bohm_place.specs.Shares.{IsHand, made}
-use Rattle.bohm_place.proofs.Nested.{nested, ahead_of, right_plan, no_places, rows_whole}
+use Rattle.bohm_place.specs.Shares.{IsHand, made, ahead_of}
+use Rattle.bohm_place.proofs.Nested.{nested, right_plan, no_places, rows_whole}
+use Rattle.bohm_place.proofs.Lists.{first_of}
 use Rattle.bohm_place.proofs.Parted.{part_of_share}
 use Rattle.bohm_place.proofs.Behind.{are_rows, early, chain_on, chain_below}
 use Rattle.bohm_place.proofs.planning.plan.Given as given
 use Rattle.bohm_place.proofs.planning.plan.Goals.{After-new}
 use Rattle.bohm_place.proofs.planning.plan.Goals as goal
-
-first_of : {X : Type 0} (xs : List X) → 0 < length xs → X
-first_of [] h = absurd (omega arith)
-first_of (x ∷ xs) h = x
 
 pub gather-requires-clause-shares : goal.gather-requires-clause-shares
 gather-requires-clause-shares g c κs lives w d low =
@@ -33,7 +30,7 @@ gather-requires-clause-shares g c κs lives w d low =
     rw c.of-given.ensures (IfOk-weaker (slice_index_or c.in_ok-shares.shares.items w d) _ _ (λ s right. part_of_share part n c.args.first txns given job.hand.items s.hand.items w s.found.items (rw worker at right) hand inside long) each)
 
 pub new-requires : goal.new-requires
-new-requires g c = are_rows c.args.first c.args.txns.now c.in_ok-rows.rows.items c.requires.position c.requires.room c.in_ok-rows.ensures
+new-requires g c = are_rows c.args.first c.args.txns.now c.in_ok-rows.rows.items c.requires.plannable.position c.requires.plannable.room c.in_ok-rows.ensures
 
 -- each access has the source that the transactions ahead of its own give
 rows_planned : (g : given.Over) (c : After-new g) → c.new.result.rows ≡ nested (ahead_of c.args.first) [] c.args.txns.now
@@ -44,7 +41,7 @@ rows_planned g c =
     let some : 0 < c.min-workers.result = omega (arith, c.parts.ensures.some, c.requires.workers, c.min-workers.ensures) in
     let given = c.into_parts-parts.result.items in
     let before = early part c.args.first c.args.shards given c.into_parts-parts.ensures c.requires.earlier in
-    c.new.ensures.rows ∙ rows_whole part c.min-workers.result c.args.first c.args.txns.now given c.in_ok-found.found.items c.in_ok-rows.rows.items some c.requires.position before found c.in_ok-rows.ensures
+    c.new.ensures.rows ∙ rows_whole part c.min-workers.result c.args.first c.args.txns.now given c.in_ok-found.found.items c.in_ok-rows.rows.items some c.requires.plannable.position before found c.in_ok-rows.ensures
 
 -- the chains of the shards are those before the batch with what its transactions make
 made_behind : (g : given.Over) (c : After-new g) (k : List ℕ) → placeholders_in (g.P.Partition.part_of c.args.partition.now) c.from_parts.result k ≡ placeholders_in (g.P.Partition.part_of c.args.partition.now) c.into_parts-parts.result.items k ++ made c.args.first c.args.txns.now k
@@ -55,17 +52,23 @@ made_behind g c k =
     let more = rw c.of-given.ensures at h in
     rw (c.from_parts.ensures, same) more
 
-pub returns-clause-right : goal.returns-clause-right
-returns-clause-right g c = right_plan c.args.first c.args.txns.now c.new.result c.requires.position c.new.ensures.first (rows_planned g (goal.at.returns-clause-right g c).After-new)
-
-pub returns-clause-unplaced : goal.returns-clause-unplaced
-returns-clause-unplaced g c = no_places c.args.first c.args.txns.now c.new.result c.requires.position (rows_planned g (goal.at.returns-clause-unplaced g c).After-new)
+pub returns-clause-planned : goal.returns-clause-planned
+returns-clause-planned g c =
+    let first = c.args.first in
+    let txns = c.args.txns.now in
+    let above = c.requires.plannable.position in
+    let rows = rows_planned g (goal.at.returns-clause-planned g c).After-new in
+    record {
+      first = c.new.ensures.first;
+      right = right_plan first txns c.new.result above c.new.ensures.first rows;
+      unplaced = no_places first txns c.new.result above rows;
+    }
 
 pub returns-clause-chains : goal.returns-clause-chains
 returns-clause-chains g c k =
     let part = g.P.Partition.part_of c.args.partition.now in
     let behind = made_behind g (goal.at.returns-clause-chains g c).After-new k in
-    chain_on part c.args.first c.args.txns.now c.args.shards c.into_parts-parts.result.items c.from_parts.result c.into_parts-parts.ensures k behind c.requires.formed
+    chain_on part c.args.first c.args.txns.now c.args.shards c.into_parts-parts.result.items c.from_parts.result c.into_parts-parts.ensures k behind c.requires.plannable.formed
 
 pub returns-clause-below : goal.returns-clause-below
 returns-clause-below g c k =

@@ -1,8 +1,17 @@
-use Rattle.std.proofs.Common.{rules, ◌≡◌, is_ok, sym, take, true, false}
+use Rattle.std.proofs.Common.{rules, arith, ◌≡◌, ◌+◌, ◌<◌, is_ok, length, sym, take, true, false}
+use Rattle.std.proofs.lemmas.List.Elements.{All-weaker}
+use Rattle.bohm_place.specs.declared.placeholder.Placeholder.{Placeholder}
 use Rattle.bohm_line.specs.CutLogs.{cutting_of}
 use Rattle.bohm_run.proofs.Going.{stayed}
 use Rattle.bohm_run.proofs.Walks.{walked_on, walk_ends}
 use Rattle.bohm_run.proofs.alone.run_batches.Goals as goal
+
+pub returns-in_err-next : goal.returns-in_err-next
+returns-in_err-next c =
+    let h = c.loop-place.invariant in
+    let log = cutting_of c.args.log in
+    let refused : is_ok c.from_residual.result ≡ false = search rules in
+    rw refused (walk_ends c.args.history.now c.loop-place.history log c.loop-place.place c.loop-place.start c.args.keep c.loop-place.answered.items false c.args.log.whole h.0 (λ t. absurd cc) h.1)
 
 pub returns-in_err-run_batch : goal.returns-in_err-run_batch
 returns-in_err-run_batch c =
@@ -10,7 +19,7 @@ returns-in_err-run_batch c =
     let same = c.in_err-run_batch.ensures.same in
     let kept = c.in_err-run_batch.ensures.unanswered in
     let log = cutting_of c.args.log in
-    let refused : is_ok c.from_residual.result ≡ false = search rules in
+    let refused : is_ok c.from_residual-in_err-run_batch.result ≡ false = search rules in
     let on = stayed c.args.history.now c.loop-place.history c.run_batch.new.history (take c.loop-place.start log.log) c.args.keep c.loop-place.answered.items same h.1 in
     rw refused (walk_ends c.args.history.now c.run_batch.new.history log c.loop-place.place c.loop-place.start c.args.keep c.run_batch.new.answered.items false c.args.log.whole h.0 (λ t. absurd cc) (rw kept on))
 
@@ -23,6 +32,7 @@ loop-place-preserved c =
     let on = walked_on c.args.history.now c.loop-place.history c.run_batch.new.history log c.loop-place.place c.loop-place.start c.args.keep c.loop-place.answered.items c.batch-txns.result c.requires.ordered (search rules) h.0 next.txns next.ahead h.1 goes.applied in rw c.len-start.ensures (
       sym next.ahead,
       rw goes.answered on,
+      All-weaker (λ (v : Placeholder). v.begin < (c.top.result + 1) + length c.batch-txns.result) (λ (v : Placeholder). v.begin < c.run_batch.new.history.top + 1) (λ v lt. omega (arith, lt, goes.applied.top, c.top.ensures.top)) c.in_ok-next.next c.in_ok-next.ensures.below,
     )
 
 pub returns : goal.returns

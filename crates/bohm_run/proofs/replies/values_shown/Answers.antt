@@ -19,7 +19,7 @@ there : (c : After-shows-count) → txn_at (batch_of_finished c.args.finished.no
 there c = subst (λ (b : Batch). txn_at b c.args.t ≡ Some c.txn.result) c.batch.ensures c.txn.ensures
 
 usable : (c : After-shows-count) → IsUsable c.txn.result
-usable c = let b = batch_of_finished c.args.finished.now in formed_at (txns_of b) b.formed (position b c.args.t) c.txn.result (there c)
+usable c = let b = batch_of_finished c.args.finished.now in formed_at (txns_of b) b.batched.formed (position b c.args.t) c.txn.result (there c)
 
 counted : (c : After-shows-count) → c.shows-count.result ≡ shows_in c.txn.result.body
 counted c = c.shows-count.ensures.shows

@@ -33,8 +33,8 @@ pub loop-i-preserved : goal.loop-i-preserved
 loop-i-preserved c =
     let ws = c.args.writes.now in
     let i = c.loop-i.i in
-    let w : KeyedVersion = record { begin = c.write.inside.begin; key = c.write.inside.key.now; cell = c.write.inside.cell } in
-    let is : w ≡ get_or ws i c.index-writes-i.result = c.write.view_is ∙ c.index-writes-i.is in
+    let w : KeyedVersion = c.index-writes-i.result in
+    let is : w ≡ get_or ws i c.index-writes-i.result = c.index-writes-i.is in
     let inside : i < length ws = omega arith in
     let taken : is_ok c.push.result ≡ true = grind (arith, common_steps) in
     let more = c.push.ensures.grows in

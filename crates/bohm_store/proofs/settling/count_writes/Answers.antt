@@ -11,7 +11,7 @@ use Rattle.bohm_store.proofs.settling.count_writes.Goals as goal
 -- a transaction of a batch declares few writes
 few : (batch other : Batch) (t : ℕ) (txn : Txn) (keys : List (List ℕ)) → other ≡ batch → txn_at other t ≡ Some txn → keys ≡ txn.writes → length keys ≤ 16
 few batch other t txn keys same here are =
-    let formed : IsWellFormedTxn txn = all_at IsWellFormedTxn (txns_of batch) (t - first_of batch) txn batch.formed (subst (λ (b : Batch). txn_at b t ≡ Some txn) same here) in
+    let formed : IsWellFormedTxn txn = all_at IsWellFormedTxn (txns_of batch) (t - first_of batch) txn batch.batched.formed (subst (λ (b : Batch). txn_at b t ≡ Some txn) same here) in
     rw are ((usable txn formed).few_writes)
 
 pub overflow_add-count : goal.overflow_add-count

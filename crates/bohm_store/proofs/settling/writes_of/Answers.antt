@@ -16,7 +16,7 @@ list_writes-requires-clause-keys c =
     let txn = c.txn-txn.result in
     let t = c.first-first.result + c.loop-place.place in
     let here : txn_at batch t ≡ Some txn = subst (λ (b : Batch). txn_at b t ≡ Some txn) c.batch.ensures c.txn-txn.ensures in
-    let formed : IsWellFormedTxn txn = all_at IsWellFormedTxn (txns_of batch) (t - first_of batch) txn batch.formed here in
+    let formed : IsWellFormedTxn txn = all_at IsWellFormedTxn (txns_of batch) (t - first_of batch) txn batch.batched.formed here in
     (txn, here, sym c.writes.ensures, rw c.writes.ensures ((usable txn formed).few_writes))
 
 pub loop-place-preserved : goal.loop-place-preserved

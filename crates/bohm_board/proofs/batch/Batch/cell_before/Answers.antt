@@ -40,4 +40,4 @@ returns c =
     let x : Entry = c.index-as_slice-access.result in
     let (k, named, at) = key_placed here in
     let entry : slice_get (entries_of b) i ≡ Some x = subst (λ (l : List Entry). slice_get l i ≡ Some x) c.as_slice.ensures (slice_get_read xs (length xs) i x refl (inside here) c.index-as_slice-access.is) in
-    ap (option_map (base_of b)) named ∙ ap (λ z. Some z) (newest_there (entries_of b) i k Absent x b.based.rises entry at ∙ ap (λ (e : Entry). e.1) c.index-as_slice-access.is)
+    ap (option_map (base_of b)) named ∙ ap (λ z. Some z) (newest_there (entries_of b) i k Absent x b.based.apart entry at ∙ ap (λ (e : Entry). e.1) c.index-as_slice-access.is)

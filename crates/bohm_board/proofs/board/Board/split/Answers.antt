@@ -8,7 +8,7 @@ pub split_seat-other-requires : goal.split_seat-other-requires
 split_seat-other-requires c =
     let words = c.args.self.now.sized in
     let positions = c.args.self.now.laid.positions in
-    let some = c.args.self.now.batch.some in
+    let some = c.args.self.now.batch.batched.some in
     (c.requires.own.seat.table, omega arith, splits _ _ _ (rw c.args.self.now.keyed c.requires.own.seat.right) c.requires.free)
 
 pub invariant_of-left : goal.invariant_of-left

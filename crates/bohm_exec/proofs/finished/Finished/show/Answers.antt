@@ -17,7 +17,7 @@ there : (c : After-len-writes) → txn_at (batch_of_finished c.args.self.now) c.
 there c = subst (λ (b : Batch). txn_at b c.args.t ≡ Some c.txn.result) c.batch.ensures c.txn.ensures
 
 usable : (c : After-len-writes) → IsUsable c.txn.result
-usable c = let b = batch_of_finished c.args.self.now in usable_at (txns_of b) b.formed (position b c.args.t) c.txn.result (there c)
+usable c = let b = batch_of_finished c.args.self.now in usable_at (txns_of b) b.batched.formed (position b c.args.t) c.txn.result (there c)
 
 shows : (c : After-len-writes) → c.args.index < shows_in c.txn.result.body
 shows c = subst (λ (o : Option Txn). c.args.index < unwrap_or (option_map (λ (x : Txn). shows_in x.body) o) 0) (there c) c.requires.index

@@ -1,13 +1,18 @@
-use Rattle.std.proofs.Common.{rules, arith, ◌≡◌, ◌+◌, ◌∷◌, [], length, length-append, IsSome, ap, sym, ◌∙◌, take, true, false}
+use Rattle.std.proofs.Common.{rules, arith, refl, ◌≡◌, ◌+◌, ◌∷◌, [], length, length-append, IsSome, ap, sym, ◌∙◌, take, true, false}
 use Rattle.std.proofs.lemmas.List.Elements.{All-push}
 use Rattle.std.proofs.lemmas.List.{length-take-le}
 use Rattle.bohm_place.specs.Plans.{Planned}
 use Rattle.bohm_line.specs.CutLogs.{cutting_of}
 use Rattle.bohm_line.specs.Cuttings.{IsPlanAt}
 use Rattle.bohm_line.specs.declared.line.note.PlanNote.{PlanNote}
-use Rattle.bohm_run.proofs.Going.{stayed}
+use Rattle.bohm_run.proofs.Going.{at_rest, stayed}
 use Rattle.bohm_run.proofs.Walks.{walked_on, walk_ends, inside}
 use Rattle.bohm_run.proofs.executing.Executor.run_batches.Goals as goal
+
+pub loop-place-init : goal.loop-place-init
+loop-place-init g c =
+    let none : length c.args.receiver ≡ 0 = ap length c.requires.untaken in
+    (none, (λ k d within. absurd (omega (arith, none, within))), refl, refl, rw c.requires.unanswered (at_rest c.args.progress.history c.args.self.keep))
 
 pub returns-in_default : goal.returns-in_default
 returns-in_default g c =

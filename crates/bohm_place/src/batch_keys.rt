@@ -1,0 +1,134 @@
+//! The keys of a batch, by number.
+
+ghost use Rattle.std.specs.Prelude.{◌≡◌, ◌+◌, ◌<◌, ◌≤◌, ◌^◌, ◌==◌, All, [], length, OnOk};
+ghost use Rattle.std.specs.List.{list_any};
+ghost use Rattle.bohm_place.specs.Gathering.{with_number, with_numbers, AreFew, AreGathered, ArePlaced};
+
+use bohm_log::DeclaredKeys;
+use bohm_txn::NoMemory;
+use std::alloc::Global;
+use std::marker::Model;
+
+// Whether a number is one of these, of which each has its place noted. Its time is constant.
+fn stands(numbers: &[u32], places: &[u32], number: u32) -> bool
+    requires known { number < length places.now }
+    requires placed { ArePlaced numbers.now places.now }
+    ensures { result ≡ list_any (λ m. m == number) numbers.now }
+{
+    let place = places[number as usize] as usize;
+    place < numbers.len() && numbers[place] == number
+}
+
+// Adds a number behind the others, unless it is one of them.
+fn add(numbers: &mut Vec<u32>, places: &mut [u32], number: u32) -> Result<(), NoMemory>
+    requires known { number < length places.old }
+    requires few { length numbers.old.items < 2 ^ 32 }
+    requires placed { ArePlaced numbers.old.items places.old }
+    ensures numbers { OnOk result (numbers.new.items ≡ with_number numbers.old.items number) }
+    ensures placed { OnOk result (ArePlaced numbers.new.items places.new) }
+{
+    if stands(numbers, places, number) {
+        return Ok(());
+    }
+    places[number as usize] = numbers.len() as u32;
+    numbers.push(number)?;
+    Ok(())
+}
+
+// The same of each of these.
+fn add_all(numbers: &mut Vec<u32>, places: &mut [u32], more: &[u32]) -> Result<(), NoMemory>
+    requires known { All (λ n. n < length places.old) more.now }
+    requires few { length numbers.old.items + length more.now ≤ 2 ^ 32 }
+    requires placed { ArePlaced numbers.old.items places.old }
+    ensures numbers { OnOk result (numbers.new.items ≡ with_numbers numbers.old.items more.now) }
+    ensures placed { OnOk result (ArePlaced numbers.new.items places.new) }
+{
+    for number in more {
+        add(numbers, places, *number)?;
+    }
+    Ok(())
+}
+
+// Adds all numbers that are declared, where there is no other yet.
+fn add_sets(
+    numbers: &mut Vec<u32>,
+    places: &mut [u32],
+    keys: &DeclaredKeys<'_>,
+) -> Result<(), NoMemory>
+    requires none { numbers.old.items ≡ [] }
+    requires room { length keys.now.names ≤ length places.old }
+    requires txns { length keys.now.sets ≤ 4096 }
+    requires sets { All AreFew keys.now.sets }
+    ensures { OnOk result
+        (AreGathered keys.now (record { numbers = numbers.new.items; places = places.new })) }
+{
+    let _ = keys.names();
+    for index in 0..keys.len() {
+        let (reads, writes) = keys.sets(index);
+        add_all(numbers, places, reads)?;
+        add_all(numbers, places, writes)?;
+    }
+    Ok(())
+}
+
+/// The keys that a batch declares, each once, by number, in the order in which they are declared
+/// first, and by number where each of them stands among these. It keeps its room from one batch to
+/// the next.
+#[derive(Drop)]
+pub struct BatchKeys {
+    numbers: Vec<u32>,
+    // What stands here for a number that is none of those above is left from batches before.
+    places: Vec<u32>,
+}
+
+impl Model for BatchKeys {
+    ghost use Rattle.bohm_place.specs.Gathering.{Gathered};
+
+    ghost Value = { Gathered };
+
+    ghost view = { λ k. record { numbers = k.numbers.items; places = k.places.items } };
+}
+
+impl BatchKeys {
+    /// No keys. It takes no memory.
+    pub fn new(alloc: Global) -> BatchKeys
+        ensures { result.numbers ≡ [] }
+    {
+        BatchKeys {
+            numbers: Vec::new(alloc),
+            places: Vec::new(alloc),
+        }
+    }
+
+    /// The keys that these transactions declare, in the stead of those before. Its time grows with
+    /// how many keys each of them declares: a key is neither hashed nor compared with another. Only
+    /// where the log has more names than ever before does it grow with these too. After a refusal
+    /// it stands for no batch.
+    pub fn gather(&mut self, keys: &DeclaredKeys<'_>) -> Result<(), NoMemory>
+        requires txns { length keys.now.sets ≤ 4096 }
+        requires sets { All AreFew keys.now.sets }
+        ensures { OnOk result (AreGathered keys.now self.new) }
+    {
+        let names = keys.names().len();
+        if self.places.len() < names {
+            self.places.resize(names, 0)?;
+        }
+        self.numbers.clear();
+        add_sets(&mut self.numbers, self.places.as_mut_slice(), keys)
+    }
+
+    /// The numbers of the keys.
+    pub fn numbers(&self) -> &[u32]
+        ensures { result.now ≡ self.now.numbers }
+    {
+        &self.numbers
+    }
+
+    /// At the number of each of the keys its place among them. What stands at other numbers means
+    /// nothing.
+    pub fn places(&self) -> &[u32]
+        ensures { result.now ≡ self.now.places }
+    {
+        &self.places
+    }
+}
