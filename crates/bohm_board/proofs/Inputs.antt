@@ -11,9 +11,9 @@ use Rattle.std.proofs.lemmas.Option.{same_Some, slice_get_within}
 use Rattle.std.proofs.lemmas.Slice.Eq.{bytes_eq-Decides}
 use Rattle.bohm_tree.specs.declared.cell.Cell.{Cell}
 use Rattle.bohm_tree.specs.Txn.{Txn}
+use Rattle.bohm_tree.specs.Keys.{IsAmong}
 use Rattle.bohm_txn.specs.declared.outcome.Outcome.{Outcome}
 use Rattle.bohm_txn.specs.declared.outcome.Reason.{Reason}
-use Rattle.bohm_txn.specs.Declares.{IsAmong}
 use Rattle.bohm_txn.specs.Meaning.{Look, Ended, body, fresh}
 use Rattle.bohm_txn.specs.Serial.{after, state, outcome_of}
 use Rattle.bohm_txn.proofs.ForCallers.{there, next}
@@ -23,14 +23,14 @@ use Rattle.bohm_place.specs.declared.access.Source.TheVariants.{Before, Within}
 use Rattle.bohm_place.specs.Plans.{IsRightPlan, IsRightAccess, AreRightAccesses, IsIndexOf, reads_of, writes_of}
 use Rattle.bohm_place.specs.Writers.{IsNewest, WritesAt}
 use Rattle.bohm_board.specs.declared.batch.Batch.{Batch}
-use Rattle.bohm_board.specs.declared.view.RightSlot.{RightSlot}
-use Rattle.bohm_board.specs.declared.view.Rights.{Rights}
+use Rattle.bohm_board.specs.declared.knowledge.RightSlot.{RightSlot}
+use Rattle.bohm_board.specs.declared.knowledge.Rights.{Rights}
 use Rattle.bohm_board.specs.Serial.{own_cells, offset}
 use Rattle.bohm_board.specs.Batches.{base_of, txns_of, plan_of, first_of, rights_of, right_cell, number}
 use Rattle.bohm_board.specs.Inputs.{IsCellFrom, IsCellOf, AreCellsOf, AreRight}
 use Rattle.bohm_place.proofs.ForCallers.{usable_at, newest_state_by}
-use Rattle.bohm_board.specs.Words.{stmt_of}
-use Rattle.bohm_board.proofs.Places.{outcomes_long}
+use Rattle.bohm_board.specs.Encoding.{stmt_of}
+use Rattle.bohm_board.proofs.SlotPlaces.{outcomes_long}
 use Rattle.bohm_board.proofs.SerialSlots.{slot_serial, own_write, outcome_serial, fault_within}
 
 -- what position i leaves in its slots is right

@@ -4,7 +4,8 @@ use Rattle.std.specs.List.{list_any, IsDistinct}
 use Rattle.std.specs.Str.{bytes_eq}
 use Rattle.bohm_tree.specs.declared.cell.Cell.{Cell}
 use Rattle.bohm_tree.specs.Txn.{Txn}
-use Rattle.bohm_txn.specs.Faulty.{is_among, IsWellFormedTxn}
+use Rattle.bohm_tree.specs.Keys.{is_among}
+use Rattle.bohm_txn.specs.Faulty.{IsWellFormedTxn}
 use Rattle.bohm_place.specs.declared.access.Access.{Access}
 use Rattle.bohm_place.specs.declared.access.Source.TheVariants.{Before}
 use Rattle.bohm_place.specs.declared.declared_set.DeclaredSet.{DeclaredSet}
@@ -13,13 +14,13 @@ use Rattle.bohm_place.specs.Plans.{Planned, keys_in, planned_in, HasSourcesOf, I
 abbrev pub keys_of : List (List ℕ × Cell) → List (List ℕ)
 keys_of entries = map (λ e. e.0) entries
 
-abbrev pub declares : List ℕ → Txn → Bool
-declares k t = is_among t.reads k || is_among t.writes k
+abbrev pub declares_key : List ℕ → Txn → Bool
+declares_key k t = is_among t.reads k || is_among t.writes k
 
 -- the keys that transactions declare, the reads of each before its writes
-abbrev pub declared_in : List Txn → List (List ℕ)
-declared_in [] = []
-declared_in (t ∷ ts) = (t.reads ++ t.writes) ++ declared_in ts
+abbrev pub declared_keys : List Txn → List (List ℕ)
+declared_keys [] = []
+declared_keys (t ∷ ts) = (t.reads ++ t.writes) ++ declared_keys ts
 
 -- a plan of so many transactions as a batch may have
 pub record IsBatched (txns : List Txn) (plan : Planned) : Type 0 where
@@ -32,7 +33,7 @@ pub record IsBatched (txns : List Txn) (plan : Planned) : Type 0 where
 -- no key has two entries, and a key has one exactly where a transaction declares it
 pub record IsBase (txns : List Txn) (entries : List (List ℕ × Cell)) : Type 0 where
   pub apart : IsDistinct bytes_eq (keys_of entries)
-  pub keys : (k : List ℕ) → is_among (keys_of entries) k ≡ list_any (declares k) txns
+  pub keys : (k : List ℕ) → is_among (keys_of entries) k ≡ list_any (declares_key k) txns
 
 -- ---- places in a base, of keys or of their numbers
 

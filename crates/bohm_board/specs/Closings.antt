@@ -5,7 +5,7 @@ use Rattle.bohm_board.specs.declared.closed.Closed.{Closed}
 use Rattle.bohm_board.specs.declared.slot.Slot.{Slot}
 use Rattle.bohm_board.specs.Batches.{position, number}
 use Rattle.bohm_board.specs.Core.{State}
-use Rattle.bohm_board.specs.Events.{Reached}
+use Rattle.bohm_board.specs.Events.{IsReached}
 use Rattle.bohm_board.specs.Law.{IsLawful}
 use Rattle.bohm_board.specs.Shown.{AreShown, words_of}
 
@@ -22,7 +22,7 @@ presence_in c s = slice_index c.columns.presences.items (number (batch_of_closed
 pub record IsLeft (c : Closed) : Type 0 where
   pub state : State
   pub shown : AreShown (batch_of_closed c) (words_of c.columns) state
-  pub reached : Reached (batch_of_closed c) state
+  pub reached : IsReached (batch_of_closed c) state
   pub lawful : IsLawful (batch_of_closed c) state
 
 -- the position has an outcome

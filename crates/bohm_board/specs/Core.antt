@@ -12,10 +12,10 @@ use Rattle.bohm_place.specs.declared.access.Source.{Source}
 use Rattle.bohm_place.specs.declared.access.Source.TheVariants.{Before, Within}
 use Rattle.bohm_board.specs.declared.batch.Batch.{Batch}
 use Rattle.bohm_board.specs.declared.slot.Slot.{Slot}
-use Rattle.bohm_board.specs.declared.view.View.{View}
+use Rattle.bohm_board.specs.declared.knowledge.View.{View}
 use Rattle.bohm_board.specs.Serial.{own_cells}
 use Rattle.bohm_board.specs.Batches.{base_of, rights_of, txn_at, reads_at, writes_at, wanted_at, slot_in}
-use Rattle.bohm_board.specs.Views.{Presence, Absent, Present, newcomer}
+use Rattle.bohm_board.specs.Views.{Presence, Absent, Present, new_view}
 
 -- ---- states
 
@@ -33,8 +33,8 @@ pub record State : Type 0 where
   pub views : ℕ → View
 
 -- the empty board
-abbrev pub empty : Batch → State
-empty b = record { positions = λ t. Open; presences = λ x. None; values = λ x. pos 0; views = λ p. newcomer (rights_of b) }
+abbrev pub empty_state : Batch → State
+empty_state b = record { positions = λ t. Open; presences = λ x. None; values = λ x. pos 0; views = λ p. new_view (rights_of b) }
 
 abbrev pub IsFull : State → Slot → Type 0
 IsFull s x = (presence : Presence) × (s.presences x ≡ Some presence)

@@ -9,11 +9,11 @@ use Rattle.bohm_board.specs.declared.status.Status.{Status as Seen}
 use Rattle.bohm_board.specs.declared.status.Status.TheVariants as seen
 use Rattle.bohm_board.specs.declared.status.Claimed.{Claimed as Won}
 use Rattle.bohm_board.specs.declared.status.Claimed.TheVariants as won
-use Rattle.bohm_board.specs.declared.view.View.{View}
+use Rattle.bohm_board.specs.declared.knowledge.View.{View}
 use Rattle.bohm_board.specs.Batches.{IsIn, IsSlot, rights_of}
-use Rattle.bohm_board.specs.Core.{Progress, Open, Claimed, Done, State, empty, outcome_over, cell_over}
-use Rattle.bohm_board.specs.Views.{Presence, presence_of, newcomer, spent, saw, claimed, learnt, stored, filled, finished, joined, Holds, HoldsNothing, HasStored, KnowsWanted, HasFilledAll}
-use Rattle.bohm_board.specs.Words.{found_by}
+use Rattle.bohm_board.specs.Core.{Progress, Open, Claimed, Done, State, empty_state, outcome_over, cell_over}
+use Rattle.bohm_board.specs.Views.{Presence, presence_of, new_view, spent_view, after_status, after_claim, after_presence_look, after_value_store, after_presence_store, after_finish, after_join, Holds, HoldsNothing, HasStored, KnowsWanted, HasFilledAll}
+use Rattle.bohm_board.specs.Encoding.{status_of_claim}
 
 -- an event of the pass p (and of q), with what it was answered or what it put
 pub data Event : Type 0 where
@@ -29,10 +29,10 @@ pub data Event : Type 0 where
 
 -- ---- where an event is allowed
 
-abbrev pub seen_as : Progress → Seen
-seen_as Open = seen.Open
-seen_as (Claimed p) = seen.Busy
-seen_as (Done o) = seen.Done
+abbrev pub status_of_progress : Progress → Seen
+status_of_progress Open = seen.Open
+status_of_progress (Claimed p) = seen.Busy
+status_of_progress (Done o) = seen.Done
 
 -- the pass may fill the slot, and the cell is the one for it
 pub record MayFill (b : Batch) (s : State) (p : ℕ) (x : Slot) (c : Cell) : Type 0 where
@@ -58,66 +58,66 @@ IsOf b s p = (s.views p).right ≡ rights_of b
 abbrev pub IsAllowed : Batch → State → Event → Type 0
 IsAllowed b s (LookPresence p x answer) = IsOf b s p × IsSlot b x × (answer ≡ s.presences x)
 IsAllowed b s (LookValue p x answer) = IsOf b s p × Contains (s.views p).present x × (answer ≡ s.values x)
-IsAllowed b s (Status p t answer) = IsOf b s p × IsIn b t × ¬ Holds b (s.views p) t × (answer ≡ seen_as (s.positions t))
-IsAllowed b s (Claim p t answer) = IsOf b s p × IsIn b t × HoldsNothing (s.views p) × (found_by answer ≡ seen_as (s.positions t))
+IsAllowed b s (Status p t answer) = IsOf b s p × IsIn b t × ¬ Holds b (s.views p) t × (answer ≡ status_of_progress (s.positions t))
+IsAllowed b s (Claim p t answer) = IsOf b s p × IsIn b t × HoldsNothing (s.views p) × (status_of_claim answer ≡ status_of_progress (s.positions t))
 IsAllowed b s (FillValue p x z) = IsOf b s p × MayFill b s p x (cells.Present z) × ¬ Contains (s.views p).stored x
 IsAllowed b s (FillPresence p x c) = IsOf b s p × MayFill b s p x c × HasStored (s.views p) x c
 IsAllowed b s (Finish p t o) = IsOf b s p × MayFinish b s p t o
-IsAllowed b s (Split p q) = IsOf b s p × HoldsNothing (s.views p) × (s.views q ≡ newcomer (rights_of b))
+IsAllowed b s (Split p q) = IsOf b s p × HoldsNothing (s.views p) × (s.views q ≡ new_view (rights_of b))
 IsAllowed b s (Join p q) = IsOf b s p × (q ≢ p) × HoldsNothing (s.views p) × HoldsNothing (s.views q)
 
 -- ---- what it changes
 
 -- the same but at t
-abbrev pub put : {A : Type 0} → (ℕ → A) → ℕ → A → ℕ → A
-put f t a = λ u. if u == t then a else f u
+abbrev pub point_update : {A : Type 0} → (ℕ → A) → ℕ → A → ℕ → A
+point_update f t a = λ u. if u == t then a else f u
 
 abbrev pub is_slot : Slot → Slot → Bool
 is_slot x y = (y.txn == x.txn) && (y.index == x.index)
 
 -- the same but at the slot x
-abbrev pub put_slot : {A : Type 0} → (Slot → A) → Slot → A → Slot → A
-put_slot f x a = λ y. if is_slot x y then a else f y
+abbrev pub slot_update : {A : Type 0} → (Slot → A) → Slot → A → Slot → A
+slot_update f x a = λ y. if is_slot x y then a else f y
 
 -- the words stay, and the view of p becomes v
-abbrev pub seeing : State → ℕ → View → State
-seeing s p v = record s { views = put s.views p v }
+abbrev pub with_view : State → ℕ → View → State
+with_view s p v = record s { views = point_update s.views p v }
 
 -- a claim that doesn't win changes what a status would
-abbrev pub next : State → Event → State
-next s (LookPresence p x answer) = seeing s p (learnt (s.views p) x answer)
-next s (LookValue p x answer) = s
-next s (Status p t answer) = seeing s p (saw (s.views p) t answer)
-next s (Claim p t won.Mine) = record s { positions = put s.positions t (Claimed p); views = put s.views p (claimed (s.views p) t seen.Open) }
-next s (Claim p t won.Busy) = seeing s p (claimed (s.views p) t seen.Busy)
-next s (Claim p t won.Done) = seeing s p (claimed (s.views p) t seen.Done)
-next s (FillValue p x z) = record s { values = put_slot s.values x z; views = put s.views p (stored (s.views p) x) }
-next s (FillPresence p x c) = record s { presences = put_slot s.presences x (Some (presence_of c)); views = put s.views p (filled (s.views p) x) }
-next s (Finish p t o) = record s { positions = put s.positions t (Done o); views = put s.views p (finished (s.views p) t) }
-next s (Split p q) = seeing s q (s.views p)
-next s (Join p q) = seeing (seeing s p (joined (s.views p) (s.views q))) q spent
+abbrev pub next_state : State → Event → State
+next_state s (LookPresence p x answer) = with_view s p (after_presence_look (s.views p) x answer)
+next_state s (LookValue p x answer) = s
+next_state s (Status p t answer) = with_view s p (after_status (s.views p) t answer)
+next_state s (Claim p t won.Mine) = record s { positions = point_update s.positions t (Claimed p); views = point_update s.views p (after_claim (s.views p) t seen.Open) }
+next_state s (Claim p t won.Busy) = with_view s p (after_claim (s.views p) t seen.Busy)
+next_state s (Claim p t won.Done) = with_view s p (after_claim (s.views p) t seen.Done)
+next_state s (FillValue p x z) = record s { values = slot_update s.values x z; views = point_update s.views p (after_value_store (s.views p) x) }
+next_state s (FillPresence p x c) = record s { presences = slot_update s.presences x (Some (presence_of c)); views = point_update s.views p (after_presence_store (s.views p) x) }
+next_state s (Finish p t o) = record s { positions = point_update s.positions t (Done o); views = point_update s.views p (after_finish (s.views p) t) }
+next_state s (Split p q) = with_view s q (s.views p)
+next_state s (Join p q) = with_view (with_view s p (after_join (s.views p) (s.views q))) q spent_view
 
 -- ---- lists of events
 
 -- each event is allowed in the state that those before it leave
 abbrev pub IsRun : Batch → State → List Event → Type 0
 IsRun b s [] = Unit {0}
-IsRun b s (e ∷ es) = IsAllowed b s e × IsRun b (next s e) es
+IsRun b s (e ∷ es) = IsAllowed b s e × IsRun b (next_state s e) es
 
 -- the state that the events leave
-abbrev pub leave : State → List Event → State
-leave s [] = s
-leave s (e ∷ es) = leave (next s e) es
+abbrev pub final_state : State → List Event → State
+final_state s [] = s
+final_state s (e ∷ es) = final_state (next_state s e) es
 
 -- events lead from the empty board to the state
-abbrev pub Reached : Batch → State → Type 0
-Reached b s = (es : List Event) × IsRun b (empty b) es × (leave (empty b) es ≡ s)
+abbrev pub IsReached : Batch → State → Type 0
+IsReached b s = (es : List Event) × IsRun b (empty_state b) es × (final_state (empty_state b) es ≡ s)
 
 -- a claim of t that is answered Mine
-abbrev pub wins : ℕ → Event → Bool
-wins t (Claim p u won.Mine) = u == t
-wins t _ = false
+abbrev pub is_win : ℕ → Event → Bool
+is_win t (Claim p u won.Mine) = u == t
+is_win t _ = false
 
-abbrev pub finishes : ℕ → Event → Bool
-finishes t (Finish p u o) = u == t
-finishes t _ = false
+abbrev pub is_finish : ℕ → Event → Bool
+is_finish t (Finish p u o) = u == t
+is_finish t _ = false

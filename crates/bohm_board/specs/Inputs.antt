@@ -7,7 +7,7 @@ use Rattle.bohm_place.specs.declared.access.Access.{Access}
 use Rattle.bohm_place.specs.declared.access.Source.{Source}
 use Rattle.bohm_place.specs.declared.access.Source.TheVariants.{Before, Within}
 use Rattle.bohm_board.specs.declared.batch.Batch.{Batch}
-use Rattle.bohm_board.specs.declared.view.Rights.{Rights}
+use Rattle.bohm_board.specs.declared.knowledge.Rights.{Rights}
 use Rattle.bohm_board.specs.Serial.{own_cells}
 use Rattle.bohm_board.specs.Batches.{base_of, right_cell, IsRightCell}
 

@@ -4,10 +4,10 @@ use Rattle.bohm_tree.specs.declared.cell.Cell.TheVariants as cells
 use Rattle.bohm_txn.specs.declared.outcome.Outcome.{Outcome}
 use Rattle.bohm_board.specs.declared.batch.Batch.{Batch}
 use Rattle.bohm_board.specs.declared.slot.Slot.{Slot}
-use Rattle.bohm_board.specs.declared.view.View.{View}
+use Rattle.bohm_board.specs.declared.knowledge.View.{View}
 use Rattle.bohm_board.specs.Batches.{IsIn, IsSlot, IsRightCell, IsRightOutcome, rights_of}
 use Rattle.bohm_board.specs.Core.{Open, Claimed, Done, State, IsFull}
-use Rattle.bohm_board.specs.Views.{Presence, Absent, Present, Holds, spent}
+use Rattle.bohm_board.specs.Views.{Presence, Absent, Present, Holds, spent_view}
 
 -- (a), (b) and (c): of what is there
 pub record IsSound (b : Batch) (s : State) : Type 0 where
@@ -34,7 +34,7 @@ pub record IsTrueOf (b : Batch) (s : State) (p : ℕ) (v : View) : Type 0 where
   pub absent : (x : Slot) → Contains v.absent x → s.presences x ≡ Some Absent
   pub present : (x : Slot) → Contains v.present x → s.presences x ≡ Some Present
   -- it names the batch, or is what a join left behind
-  pub named : (v ≡ spent) ⊎ (v.right ≡ rights_of b)
+  pub named : (v ≡ spent_view) ⊎ (v.right ≡ rights_of b)
 
 -- a position is claimed by the pass that holds it, and by no other; so no two passes hold one
 pub record IsLawful (b : Batch) (s : State) : Type 0 where

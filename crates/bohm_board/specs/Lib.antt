@@ -4,7 +4,7 @@ pub mod Batches
 pub mod Inputs
 pub mod Views
 pub mod Core
-pub mod Words
+pub mod Encoding
 pub mod Events
 pub mod Law
 pub mod Shown

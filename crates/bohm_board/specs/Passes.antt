@@ -4,7 +4,7 @@ use Rattle.atomic_table.specs.declared.shared.Seat.{Seat}
 use Rattle.bohm_board.specs.declared.batch.Batch.{Batch}
 use Rattle.bohm_board.specs.declared.board.Board.{Board}
 use Rattle.bohm_board.specs.declared.pass.Pass.{Pass}
-use Rattle.bohm_board.specs.declared.view.View.{View}
+use Rattle.bohm_board.specs.declared.knowledge.View.{View}
 use Rattle.bohm_board.specs.Batches.{first_of, rights_of}
 pub use Rattle.bohm_board.specs.Views.{IsDone, IsBusy, Holds, HoldsNothing, IsKnown, IsFilled, KnowsWanted, HasFilledAll, Continues, Keeps}
 
@@ -26,5 +26,5 @@ pub record IsPassOf (b : Board) (p : Pass) : Type 0 where
   pub first : p.first ≡ first_of (batch_of b)
 
 -- the timestamp of the position that the pass holds
-abbrev pub held_by : Pass → Option ℕ
-held_by p = (view p).held
+abbrev pub held_timestamp : Pass → Option ℕ
+held_timestamp p = (view p).held

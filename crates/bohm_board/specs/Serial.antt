@@ -7,7 +7,7 @@ use Rattle.bohm_txn.specs.declared.outcome.Outcome.{Outcome}
 use Rattle.bohm_txn.specs.Declares.{shows_in}
 use Rattle.bohm_txn.specs.Meaning.{Look, body}
 use Rattle.bohm_txn.specs.Serial.{after, outcome_of, shows_of}
-use Rattle.bohm_board.specs.declared.view.RightSlot.{RightSlot}
+use Rattle.bohm_board.specs.declared.knowledge.RightSlot.{RightSlot}
 
 -- n cells: the values, and absence where there are no more
 abbrev pub show_cells : ℕ → List ℤ → List Cell

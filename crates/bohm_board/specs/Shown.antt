@@ -8,13 +8,13 @@ use Rattle.bohm_tree.specs.declared.cell.Cell.{Cell}
 use Rattle.bohm_board.specs.declared.batch.Batch.{Batch}
 use Rattle.bohm_board.specs.declared.columns.Columns.{Columns}
 use Rattle.bohm_board.specs.declared.slot.Slot.{Slot}
-use Rattle.bohm_board.specs.declared.view.Rights.{Rights}
-use Rattle.bohm_board.specs.declared.view.View.{View}
+use Rattle.bohm_board.specs.declared.knowledge.Rights.{Rights}
+use Rattle.bohm_board.specs.declared.knowledge.View.{View}
 use Rattle.bohm_board.specs.Batches.{rights_of, position, number, IsIn, IsSlot, IsRightCell, IsRightOutcome}
 use Rattle.bohm_board.specs.Core.{State}
-use Rattle.bohm_board.specs.Events.{Event, IsAllowed, Reached, next}
-use Rattle.bohm_board.specs.Views.{newcomer}
-use Rattle.bohm_board.specs.Words.{progress_word, presence_word, filled_word, value_at, present_at, outcome_at}
+use Rattle.bohm_board.specs.Events.{Event, IsAllowed, IsReached, next_state}
+use Rattle.bohm_board.specs.Views.{new_view}
+use Rattle.bohm_board.specs.Encoding.{progress_word, presence_word, filled_word, value_at, present_at, outcome_at}
 
 -- a status word for each position, and a presence and a value word for each slot
 pub record Words : Type 0 where
@@ -22,9 +22,9 @@ pub record Words : Type 0 where
   pub presences : List ℕ
   pub values : List ℕ
 
--- how they lie in one list
-abbrev pub in_line : Words → List ℕ
-in_line w = w.statuses ++ (w.presences ++ w.values)
+-- all of them, as they lie in a table
+abbrev pub all_words : Words → List ℕ
+all_words w = w.statuses ++ (w.presences ++ w.values)
 
 abbrev pub words_of : Columns → Words
 words_of c = record { statuses = c.statuses.items; presences = c.presences.items; values = c.values.items }
@@ -44,31 +44,31 @@ pub record AreShown (b : Batch) (w : Words) (s : State) : Type 0 where
 -- the table shows the state: the view of each pass, by its number, and a newcomer's where there is no such pass yet
 pub record Shows (b : Batch) (t : Table (Unit {0}) View) (s : State) : Type 0 where
   pub words : Words
-  pub line : t.words ≡ in_line words
+  pub line : t.words ≡ all_words words
   pub shown : AreShown b words s
-  pub views : (p : ℕ) → s.views p ≡ slice_index_or t.views p (newcomer (rights_of b))
+  pub views : (p : ℕ) → s.views p ≡ slice_index_or t.views p (new_view (rights_of b))
 
 -- the rule: the words and views show a state that events of the core have led to from the empty board
 pub record IsRuled (b : Batch) (t : Table (Unit {0}) View) : Type 0 where
   pub state : State
   pub shows : Shows b t state
-  pub reached : Reached b state
+  pub reached : IsReached b state
 
 -- a table that shows a reached state, and a pass of the batch, which has this view
 pub record IsBefore (b : Batch) (t : Table (Unit {0}) View) (s : State) (p : ℕ) (v : View) : Type 0 where
   pub shows : Shows b t s
-  pub reached : Reached b s
+  pub reached : IsReached b s
   pub view : get_elem? t.views p ≡ some v
   pub right : v.right ≡ rights_of b
 
 -- the step that leads from a table that shows the state to this one is the event: it is allowed, and the table shows what it leaves
 pub record IsStep (b : Batch) (s : State) (e : Event) (after : Table (Unit {0}) View) : Type 0 where
   pub allowed : IsAllowed b s e
-  pub shows : Shows b after (next s e)
+  pub shows : Shows b after (next_state s e)
 
 -- the word i is n now, and the view of p is v
-abbrev pub stepped_to : Table (Unit {0}) View → ℕ → ℕ → ℕ → View → Table (Unit {0}) View
-stepped_to t i n p v = record { words = slice_set t.words i n; homes = t.homes; views = slice_set t.views p v }
+abbrev pub table_after_step : Table (Unit {0}) View → ℕ → ℕ → ℕ → View → Table (Unit {0}) View
+table_after_step t i n p v = record { words = slice_set t.words i n; homes = t.homes; views = slice_set t.views p v }
 
 -- where the words of a slot lie
 abbrev pub presence_place : Batch → Slot → ℕ

@@ -9,8 +9,8 @@ use Rattle.bohm_board.specs.declared.batch.Batch.{Batch}
 use Rattle.bohm_board.specs.declared.slot.Slot.{Slot}
 use Rattle.bohm_board.specs.declared.status.Status.{Status}
 use Rattle.bohm_board.specs.declared.status.Status.TheVariants.{Open, Busy, Done}
-use Rattle.bohm_board.specs.declared.view.Rights.{Rights}
-use Rattle.bohm_board.specs.declared.view.View.{View}
+use Rattle.bohm_board.specs.declared.knowledge.Rights.{Rights}
+use Rattle.bohm_board.specs.declared.knowledge.View.{View}
 use Rattle.bohm_board.specs.Batches.{wanted_at, slot_in, width_at}
 
 -- what a filled slot is filled with
@@ -23,53 +23,53 @@ presence_of cells.Absent = Absent
 presence_of (cells.Present z) = Present
 
 -- it knows what is right in its batch, and nothing else
-abbrev pub newcomer : Rights → View
-newcomer r = record { right = r; done = []; busy = []; absent = []; present = []; held = None; stored = []; filled = [] }
+abbrev pub new_view : Rights → View
+new_view r = record { right = r; done = []; busy = []; absent = []; present = []; held = None; stored = []; filled = [] }
 
 -- what a join leaves behind
-abbrev pub spent : View
-spent = newcomer (record { first = 0; outcomes = []; slots = [] })
+abbrev pub spent_view : View
+spent_view = new_view (record { first = 0; outcomes = []; slots = [] })
 
 -- ---- what steps change
 
-abbrev pub saw : View → ℕ → Status → View
-saw v t Open = v
-saw v t Busy = record v { busy = v.busy ++ t ∷ [] }
-saw v t Done = record v { done = v.done ++ t ∷ [] }
+abbrev pub after_status : View → ℕ → Status → View
+after_status v t Open = v
+after_status v t Busy = record v { busy = v.busy ++ t ∷ [] }
+after_status v t Done = record v { done = v.done ++ t ∷ [] }
 
 -- an open position is claimed; of another one the status was seen
-abbrev pub claimed : View → ℕ → Status → View
-claimed v t Open = record v { held = Some t; stored = []; filled = [] }
-claimed v t Busy = saw v t Busy
-claimed v t Done = saw v t Done
+abbrev pub after_claim : View → ℕ → Status → View
+after_claim v t Open = record v { held = Some t; stored = []; filled = [] }
+after_claim v t Busy = after_status v t Busy
+after_claim v t Done = after_status v t Done
 
 -- an empty slot tells nothing that lasts
-abbrev pub learnt : View → Slot → Option Presence → View
-learnt v x None = v
-learnt v x (Some Absent) = record v { absent = v.absent ++ x ∷ [] }
-learnt v x (Some Present) = record v { present = v.present ++ x ∷ [] }
+abbrev pub after_presence_look : View → Slot → Option Presence → View
+after_presence_look v x None = v
+after_presence_look v x (Some Absent) = record v { absent = v.absent ++ x ∷ [] }
+after_presence_look v x (Some Present) = record v { present = v.present ++ x ∷ [] }
 
 -- after a look with this answer
-abbrev pub looked : View → Slot → Option Cell → View
-looked v x answer = learnt v x (option_map presence_of answer)
+abbrev pub after_look : View → Slot → Option Cell → View
+after_look v x answer = after_presence_look v x (option_map presence_of answer)
 
-abbrev pub stored : View → Slot → View
-stored v x = record v { stored = v.stored ++ x ∷ [] }
+abbrev pub after_value_store : View → Slot → View
+after_value_store v x = record v { stored = v.stored ++ x ∷ [] }
 
-abbrev pub filled : View → Slot → View
-filled v x = record v { filled = v.filled ++ x ∷ [] }
+abbrev pub after_presence_store : View → Slot → View
+after_presence_store v x = record v { filled = v.filled ++ x ∷ [] }
 
 -- after a fill: a value is stored first
-abbrev pub filled_with : View → Slot → Cell → View
-filled_with v x cells.Absent = filled v x
-filled_with v x (cells.Present z) = filled (stored v x) x
+abbrev pub after_fill : View → Slot → Cell → View
+after_fill v x cells.Absent = after_presence_store v x
+after_fill v x (cells.Present z) = after_presence_store (after_value_store v x) x
 
-abbrev pub finished : View → ℕ → View
-finished v t = record v { done = v.done ++ t ∷ []; held = None; stored = []; filled = [] }
+abbrev pub after_finish : View → ℕ → View
+after_finish v t = record v { done = v.done ++ t ∷ []; held = None; stored = []; filled = [] }
 
 -- of passes that hold nothing
-abbrev pub joined : View → View → View
-joined v w = record v { done = v.done ++ w.done; busy = v.busy ++ w.busy; absent = v.absent ++ w.absent; present = v.present ++ w.present }
+abbrev pub after_join : View → View → View
+after_join v w = record v { done = v.done ++ w.done; busy = v.busy ++ w.busy; absent = v.absent ++ w.absent; present = v.present ++ w.present }
 
 -- ---- positions, by their timestamps
 

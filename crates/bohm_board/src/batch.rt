@@ -5,20 +5,22 @@ ghost use Rattle.std.specs.List.{IsDistinct};
 ghost use Rattle.std.specs.Str.{bytes_eq};
 ghost use Rattle.std.proofs.Props.{props};
 ghost use Rattle.bohm_tree.specs.declared.cell.Cell.TheVariants.{Absent};
+ghost use Rattle.bohm_tree.specs.Keys.{rising};
 ghost use Rattle.bohm_log.specs.Numbering.{Numbers};
 ghost use Rattle.bohm_log.specs.Parts.{names_at};
-ghost use Rattle.bohm_txn.specs.Faulty.{rising};
 ghost use Rattle.bohm_txn.specs.Meaning.{newest};
 ghost use Rattle.bohm_place.specs.Gathering.{AreGathered};
 ghost use Rattle.bohm_place.specs.Plans.{source_in, HasSourcesOf};
 ghost use Rattle.bohm_place.specs.declared.access.Source.TheVariants.{Before};
 ghost use Rattle.bohm_board.specs.Bases.{keys_of, AreNoted, IsBase, IsBatched};
 
-use crate::layout::width;
-use crate::noting::{note_gathered, note_places};
-use bohm_log::DeclaredKeys;
+mod base_places;
+
+use crate::batch::base_places::{note_gathered, note_places};
+use crate::slot::width;
+use bohm_log::{DeclaredKeys, LogPart, TxnView};
 use bohm_place::{Access, BatchKeys, DeclaredSet, Plan, Source};
-use bohm_txn::{Cell, Items, Key, LogPart, TxnView};
+use bohm_tree::{Cell, Items, Key};
 
 // The cell of a key among entries of distinct keys, or absence.
 fn cell_of(entries: &[(Key, Cell)], key: &Key) -> Cell
@@ -46,7 +48,9 @@ pub struct Batch<'a> {
 }
 
 impl<'a> Batch<'a> {
-    ghost use Rattle.bohm_board.specs.Batches.{first_of, txns_of, plan_of, entries_of, base_of, txn_at, key_in, accesses_in, reads_at, writes_at, position, rights_of, width_at, IsIn};
+    ghost use Rattle.bohm_board.specs.Batches.{first_of, txns_of, plan_of, entries_of, base_of};
+    ghost use Rattle.bohm_board.specs.Batches.{txn_at, key_in, accesses_in, reads_at, writes_at};
+    ghost use Rattle.bohm_board.specs.Batches.{position, rights_of, width_at, IsIn};
     ghost use Rattle.std.specs.Option.{option_map};
 
     /// A batch whose first transaction has the timestamp `first`. The base has an entry for each

@@ -5,10 +5,14 @@ ghost use Rattle.bohm_board.specs.Batches.{rights_of, txns_of};
 ghost use Rattle.bohm_board.specs.Shown.{IsSized, words_of};
 ghost use Rattle.bohm_board.specs.Layouts.{IsLayoutOf};
 
+mod calls;
+mod step_kinds;
+mod steps;
+
 use crate::batch::Batch;
 use crate::columns::Columns;
+use crate::knowledge::View;
 use crate::layout::Layout;
-use crate::view::View;
 use atomic_table::{Table, TableRule};
 use std::alloc::Global;
 
@@ -18,25 +22,26 @@ pub struct BoardRule;
 impl<'a> TableRule<(), View, Batch<'a>> for BoardRule {
     ghost use Rattle.bohm_board.specs.Batches.{rights_of};
     ghost use Rattle.bohm_board.specs.Shown.{IsRuled};
-    ghost use Rattle.bohm_board.specs.Views.{newcomer};
+    ghost use Rattle.bohm_board.specs.Views.{new_view};
 
     ghost holds = { IsRuled };
 
-    ghost first = { λ batch. newcomer (rights_of batch) };
+    ghost first = { λ batch. new_view (rights_of batch) };
 }
 
 /// The shared words of a batch: a status word for each position, and behind them a presence word
 /// for each slot and a value word for each slot.
 #[derive(Drop)]
 pub struct Board<'a> {
-    pub(crate) table: Table<(), View, Batch<'a>, BoardRule, Global>,
-    pub(crate) batch: Batch<'a>,
-    pub(crate) layout: Layout,
+    table: Table<(), View, Batch<'a>, BoardRule, Global>,
+    batch: Batch<'a>,
+    layout: Layout,
     // Room for the words once the board is closed.
-    pub(crate) columns: Columns,
+    columns: Columns,
     ghost keyed: { table.shared.key ≡ batch },
     ghost laid: { IsLayoutOf (txns_of batch) layout },
-    ghost lengths: { (length (rights_of batch).outcomes ≡ layout.positions) × (length (rights_of batch).slots ≡ layout.slots) },
+    ghost positions: { length (rights_of batch).outcomes ≡ layout.positions },
+    ghost slots: { length (rights_of batch).slots ≡ layout.slots },
     ghost sized: { table.shared.table_id.words ≡ layout.positions + (layout.slots + layout.slots) },
     ghost bare: { table.shared.table_id.slots ≡ 0 },
     ghost room: { IsSized (rights_of batch) (words_of columns) },

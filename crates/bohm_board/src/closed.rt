@@ -6,6 +6,8 @@ ghost use Rattle.bohm_board.specs.Batches.{rights_of, txns_of};
 ghost use Rattle.bohm_board.specs.Shown.{AreSound, IsSized, words_of};
 ghost use Rattle.bohm_board.specs.Layouts.{IsLayoutOf};
 
+mod finals;
+
 use crate::batch::Batch;
 use crate::columns::Columns;
 use crate::layout::Layout;
@@ -18,7 +20,8 @@ pub struct Closed<'a> {
     pub(crate) layout: Layout,
     pub(crate) columns: Columns,
     ghost laid: { IsLayoutOf (txns_of batch) layout },
-    ghost lengths: { (length (rights_of batch).outcomes ≡ layout.positions) × (length (rights_of batch).slots ≡ layout.slots) },
+    ghost positions: { length (rights_of batch).outcomes ≡ layout.positions },
+    ghost slots: { length (rights_of batch).slots ≡ layout.slots },
     ghost sized: { IsSized (rights_of batch) (words_of columns) },
     ghost sound: { AreSound batch (words_of columns) },
 }

@@ -1,6 +1,7 @@
 //! Laws that tie the steps on a board's words to the core. No running call uses them.
 
-ghost use Rattle.std.specs.Prelude.{◌≡◌, ◌≢◌, ℕ, Contains, List, ◌∷◌, [], ◌++◌, length, slice_index};
+ghost use Rattle.std.specs.Prelude.{◌≡◌, ◌≢◌, ℕ, Contains, ◌∷◌, [], ◌++◌, length};
+ghost use Rattle.std.specs.Prelude.{slice_index};
 ghost use Rattle.std.specs.List.{slice_set};
 ghost use mathlib.Core.Option.{some};
 ghost use lib.ListN.{get_elem?};
@@ -11,15 +12,21 @@ ghost use Rattle.bohm_tree.specs.declared.cell.Cell.{Cell};
 ghost use Rattle.bohm_txn.specs.declared.outcome.Outcome.{Outcome};
 ghost use Rattle.bohm_board.specs.declared.batch.Batch.{Batch};
 ghost use Rattle.bohm_board.specs.declared.slot.Slot.{Slot};
-ghost use Rattle.bohm_board.specs.declared.view.View.{View};
+ghost use Rattle.bohm_board.specs.declared.knowledge.View.{View};
 ghost use Rattle.bohm_board.specs.Batches.{position, IsIn, IsSlot, IsRightCell, IsRightOutcome};
 ghost use Rattle.bohm_board.specs.Core.{State};
-ghost use Rattle.bohm_board.specs.Events.{LookPresence, LookValue, Status, Claim, FillValue, FillPresence, Finish, Split, Join};
+ghost use Rattle.bohm_board.specs.Events.{LookPresence, LookValue, Status, Claim, FillValue};
+ghost use Rattle.bohm_board.specs.Events.{FillPresence, Finish, Split, Join};
 ghost use Rattle.bohm_board.specs.Law.{IsLawful};
-ghost use Rattle.bohm_board.specs.Shown.{IsBefore, IsRuled, IsStep, Shows, stepped_to, presence_place, value_place};
+ghost use Rattle.bohm_board.specs.Shown.{IsBefore, IsRuled, IsStep, Shows, table_after_step};
+ghost use Rattle.bohm_board.specs.Shown.{presence_place, value_place};
 ghost use Rattle.bohm_board.specs.Steps.{IsFillable};
-ghost use Rattle.bohm_board.specs.Views.{Holds, HoldsNothing, HasFilledAll, HasStored, KnowsWanted, saw, claimed, learnt, stored, filled, finished, joined, spent};
-ghost use Rattle.bohm_board.specs.Words.{status_of, won_at, word_of, presence_at, filled_word, value_at, present_at};
+ghost use Rattle.bohm_board.specs.Views.{Holds, HoldsNothing, HasFilledAll, HasStored, KnowsWanted};
+ghost use Rattle.bohm_board.specs.Views.{after_status, after_claim, after_presence_look};
+ghost use Rattle.bohm_board.specs.Views.{after_value_store, after_presence_store, after_finish};
+ghost use Rattle.bohm_board.specs.Views.{after_join, spent_view};
+ghost use Rattle.bohm_board.specs.Encoding.{status_of, claim_of_word, word_of, presence_at};
+ghost use Rattle.bohm_board.specs.Encoding.{filled_word, value_at, present_at};
 
 /// A table that meets the rule shows a state that meets the board law, so that no two passes hold
 /// one position.
@@ -38,34 +45,36 @@ pub fn steps_are_events()
         (u n : ℕ) → IsBefore b t s p v → IsIn b u → n ≡ slice_index t.words (position b u)
         → ¬ Holds b v u
         → IsStep b s (Status p u (status_of n))
-        (stepped_to t (position b u) n p (saw v u (status_of n))) }
+        (table_after_step t (position b u) n p (after_status v u (status_of n))) }
     ensures claim { (b : Batch) (t : Table (Unit {0}) View) (s : State) (p : ℕ) (v : View) (u n : ℕ)
         → IsBefore b t s p v → IsIn b u → n ≡ slice_index t.words (position b u) → HoldsNothing v
-        → IsStep b s (Claim p u (won_at n))
-        (stepped_to t (position b u) (either (n == 0) 1 n) p (claimed v u (status_of n))) }
+        → IsStep b s (Claim p u (claim_of_word n))
+        (table_after_step t (position b u) (either (n == 0) 1 n) p
+        (after_claim v u (status_of n))) }
     ensures finish { (b : Batch) (t : Table (Unit {0}) View) (s : State) (p : ℕ) (v : View) (u : ℕ)
         (o : Outcome) → IsBefore b t s p v → IsIn b u → Holds b v u → HasFilledAll b v u
         → KnowsWanted b v u → IsRightOutcome b u o
-        → IsStep b s (Finish p u o) (stepped_to t (position b u) (word_of o) p (finished v u)) }
+        → IsStep b s (Finish p u o)
+        (table_after_step t (position b u) (word_of o) p (after_finish v u)) }
     ensures look_presence { (b : Batch) (t : Table (Unit {0}) View) (s : State) (p : ℕ) (v : View)
         (x : Slot) (n : ℕ) → IsBefore b t s p v → IsSlot b x
         → n ≡ slice_index t.words (presence_place b x)
         → IsStep b s (LookPresence p x (presence_at n))
-        (stepped_to t (presence_place b x) n p (learnt v x (presence_at n))) }
+        (table_after_step t (presence_place b x) n p (after_presence_look v x (presence_at n))) }
     ensures look_value { (b : Batch) (t : Table (Unit {0}) View) (s : State) (p : ℕ) (v : View)
         (x : Slot) (n : ℕ) → IsBefore b t s p v → IsSlot b x
         → n ≡ slice_index t.words (value_place b x) → Contains v.present x
-        → IsStep b s (LookValue p x (value_at n)) (stepped_to t (value_place b x) n p v) }
+        → IsStep b s (LookValue p x (value_at n)) (table_after_step t (value_place b x) n p v) }
     ensures fill_value { (b : Batch) (t : Table (Unit {0}) View) (s : State) (p : ℕ) (v : View)
         (x : Slot) (n : ℕ) → IsBefore b t s p v → IsSlot b x → IsFillable b v x
         → ¬ Contains v.stored x → IsRightCell b x (present_at n)
         → IsStep b s (FillValue p x (value_at n))
-        (stepped_to t (value_place b x) n p (stored v x)) }
+        (table_after_step t (value_place b x) n p (after_value_store v x)) }
     ensures fill_presence { (b : Batch) (t : Table (Unit {0}) View) (s : State) (p : ℕ) (v : View)
         (x : Slot) (c : Cell) → IsBefore b t s p v → IsSlot b x → IsFillable b v x → HasStored v x c
         → IsRightCell b x c
         → IsStep b s (FillPresence p x c)
-        (stepped_to t (presence_place b x) (filled_word c) p (filled v x)) }
+        (table_after_step t (presence_place b x) (filled_word c) p (after_presence_store v x)) }
 {}
 
 /// A split adds a pass, and a join leaves one behind. They change no word.
@@ -82,6 +91,6 @@ pub fn splits_and_joins_are_events()
           words = t.words;
           homes = t.homes;
           views = slice_set
-              (slice_set t.views p (joined v w)) q spent;
+              (slice_set t.views p (after_join v w)) q spent_view;
         }) }
 {}

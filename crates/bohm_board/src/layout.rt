@@ -1,14 +1,14 @@
 //! Where the slots of a batch lie.
 
-ghost use Rattle.std.specs.Prelude.{◌≡◌, ℕ, ◌+◌, ◌<◌, ◌≤◌, length, slice_index, IfOk};
+ghost use Rattle.std.specs.Prelude.{◌≡◌, ◌<◌, ◌≤◌, length, IfOk};
 ghost use Rattle.bohm_txn.specs.Faulty.{IsWellFormedTxn};
-ghost use Rattle.bohm_board.specs.Serial.{width};
 ghost use Rattle.bohm_board.specs.Batches.{txns_of, number, rights_of, IsSlot};
 ghost use Rattle.bohm_board.specs.Layouts.{IsLayoutOf};
 
 use crate::batch::Batch;
-use crate::slot::Slot;
-use bohm_txn::{LogPart, NoMemory, TxnView, shows};
+use crate::slot::{Slot, width};
+use bohm_log::LogPart;
+use bohm_tree::NoMemory;
 use std::alloc::Global;
 
 /// How many positions and slots there are, and how many slots before each position.
@@ -17,15 +17,6 @@ pub struct Layout {
     pub positions: usize,
     pub slots: usize,
     pub starts: Vec<u32>,
-}
-
-// How many slots a transaction has.
-pub(crate) fn width(txn: &TxnView<'_>) -> u32
-    requires { IsWellFormedTxn txn.now }
-    ensures width { result ≡ width txn.now }
-    ensures few { result ≤ 32 }
-{
-    (txn.writes().len() + shows(txn)) as u32
 }
 
 impl Layout {

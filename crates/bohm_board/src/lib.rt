@@ -5,25 +5,20 @@
 
 mod batch;
 mod board;
-mod calls;
 mod closed;
 mod columns;
-mod finals;
+mod encoding;
+mod knowledge;
 pub mod laws;
 mod layout;
-mod noting;
 mod pass;
-mod plays;
 mod slot;
 mod status;
-mod steps;
-mod view;
-mod words;
 
 pub use batch::Batch;
 pub use board::Board;
 pub use closed::Closed;
+pub use knowledge::{RightSlot, Rights, View};
 pub use pass::Pass;
 pub use slot::Slot;
 pub use status::{Claimed, Status};
-pub use view::{RightSlot, Rights, View};

@@ -3,7 +3,7 @@
 ghost use Rattle.std.specs.Prelude.{◌≡◌, []};
 ghost use Rattle.bohm_board.specs.Views.{IsKept};
 
-use crate::view::View;
+use crate::knowledge::View;
 use atomic_table::Seat;
 
 /// What a thread steps on a board with, and what it knows of it. Where a pass is dropped, the

@@ -16,7 +16,7 @@ use crate::status::{
     TRIMMED, WAITING,
 };
 use crate::whole::answer;
-use bohm_txn::Key;
+use bohm_tree::Key;
 use std::alloc::Global;
 use std::mem::replace;
 
@@ -219,7 +219,7 @@ pub extern "C" fn bohm_counts(alloc: Global, machine: &mut BohmMachine, counts: 
         floor: keeper.machine.floor(),
         top: keeper.machine.top(),
         versions: keeper.machine.version_count(),
-        waiting: keeper.waiting.as_slice().len() as u64,
+        waiting: keeper.waiting.len() as u64,
     };
     *machine = hold(keeper);
 }

@@ -12,18 +12,20 @@ use crate::reading::{print_snapshot, read};
 use crate::status::{
     DONE, FUTURE, HAS_STORE, KEPT, NO_MEMORY, REFUSED, STOPPED, TIMESTAMPS, TRIMMED, WAITING,
 };
-use bohm_machine::{Applied, Machine, SegmentFault};
-use bohm_run::{RunFault, print_fault};
+use bohm_machine::{Machine, SegmentFault};
+use bohm_run::{Applied, RunFault, print_fault};
 use bohm_store::{PastFault, StoreFault};
 use bohm_text::print_numbered;
-use bohm_txn::{Cell, Items, Key, Reply};
+use bohm_tree::{Cell, Key};
+use bohm_txn::Replies;
 use std::alloc::Global;
+use std::mem;
 
 /// A machine, and the replies of its last segment where their text found no memory.
 #[derive(Drop)]
 pub struct Keeper {
     pub machine: Machine,
-    pub waiting: Items<Reply>,
+    pub waiting: Replies,
     /// The timestamp that they stand behind.
     pub behind: u32,
 }
@@ -87,7 +89,7 @@ impl Keeper {
         ensures behind { result ≡ KEPT → self.new.behind ≡ behind }
     {
         let Applied { replies, end } = applied;
-        match print_numbered(alloc, u64::from(behind) + 1, replies.as_slice()) {
+        match print_numbered(alloc, u64::from(behind) + 1, &replies) {
             Ok(text) => {
                 *out = text.leak();
                 if end.is_ok() { DONE } else { STOPPED }
@@ -112,7 +114,7 @@ impl Keeper {
         ensures waiting { result ≡ WAITING → 0 < length self.old.waiting }
         ensures unchanged { 0 < result → result < STOPPED → self.new ≡ self.old }
     {
-        if !self.waiting.as_slice().is_empty() {
+        if !self.waiting.is_empty() {
             return WAITING;
         }
         let segment = match read(alloc, text) {
@@ -136,13 +138,16 @@ impl Keeper {
         ensures handed { result ≡ DONE → self.new.waiting ≡ [] }
         ensures unchanged { result ≡ NO_MEMORY → self.new ≡ self.old }
     {
-        match print_numbered(alloc, u64::from(self.behind) + 1, self.waiting.as_slice()) {
+        let replies = mem::replace(&mut self.waiting, Replies::new(alloc));
+        match print_numbered(alloc, u64::from(self.behind) + 1, &replies) {
             Ok(text) => {
                 *out = text.leak();
-                self.waiting = Items::new(alloc);
                 DONE
             }
-            Err(_) => NO_MEMORY,
+            Err(_) => {
+                self.waiting = replies;
+                NO_MEMORY
+            }
         }
     }
 }
@@ -227,7 +232,7 @@ pub fn open(alloc: Global, text: &[u8], top: u32) -> Result<Keeper, OpenFault>
     match Machine::restore(alloc, snapshot.store(), top) {
         Ok(machine) => Ok(Keeper {
             machine,
-            waiting: Items::new(alloc),
+            waiting: Replies::new(alloc),
             behind: top,
         }),
         Err(_) => Err(OpenFault::Text(RunFault::NoMemory)),

@@ -1,13 +1,14 @@
 //! Texts that come over the border.
 
-ghost use Rattle.std.specs.Prelude.{◌≡◌, [], IfOk, IfErr};
+ghost use Rattle.std.specs.Prelude.{◌≡◌, IfOk, IfErr};
 ghost use Rattle.bohm_text.specs.Print.{print_doc};
 ghost use Rattle.bohm_c.specs.Reading.{IsRead, IsRefused, snapshot_of};
 
-use bohm_log::{HashSeed, Log};
+use bohm_log::{Doc, HashSeed, Log};
 use bohm_run::{LONGEST_TEXT, RunFault};
 use bohm_text::{parse, print_doc};
-use bohm_txn::{Checked, Doc, Edition, Key, NoMemory, Value, check};
+use bohm_tree::{Edition, Key, NoMemory, Value};
+use bohm_txn::{Checked, check};
 use std::alloc::Global;
 
 /// The well-formed document that a text is.

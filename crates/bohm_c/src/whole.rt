@@ -8,12 +8,13 @@ ghost use Rattle.bohm_run.specs.Headline.{answer_of};
 
 use bohm_run::{Applied, Cuts, LARGEST_BATCH, apply_alone};
 use bohm_store::History;
-use bohm_text::{print_replies, print_store};
-use bohm_txn::{Checked, Items, Key, NoMemory, Reply, Scratch, Value};
+use bohm_text::print_answer;
+use bohm_tree::{Key, NoMemory, Value};
+use bohm_txn::{Checked, Replies, Scratch};
 use std::alloc::Global;
 
 /// The replies of a log, and the entries of the store that it leaves.
-fn executed(alloc: Global, checked: &Checked) -> Result<(Items<Reply>, Vec<(Key, Value)>), NoMemory>
+fn executed(alloc: Global, checked: &Checked) -> Result<(Replies, Vec<(Key, Value)>), NoMemory>
     ensures replies { IfOk result
         (λ a. a.0 ≡ replies (cell_in (store_of checked.now.store)) checked.now.log) }
     ensures store { IfOk result
@@ -36,8 +37,5 @@ pub fn answer(alloc: Global, checked: &Checked) -> Result<Vec<u8>, NoMemory>
     ensures { IfOk result (λ text. text.items ≡ answer_of checked.now (length checked.now.log)) }
 {
     let (replies, store) = executed(alloc, checked)?;
-    let mut text = print_replies(alloc, replies.as_slice())?;
-    let last = print_store(alloc, store.as_slice())?;
-    text.extend_from_slice(last.as_slice())?;
-    Ok(text)
+    print_answer(alloc, &replies, store.as_slice())
 }

@@ -1,12 +1,12 @@
 -- What a sweep has set aside so far.
 use Rattle.std.proofs.Common.{◌≡◌, ℕ, ◌+◌, ◌<◌, List, [], ◌∷◌, ◌++◌, get_or, refl, sym, ap, ◌∙◌, subst, ⊎_elim, inl, inr, append_assoc, arith}
-use Rattle.std.specs.Prelude.{Contains}
+use Rattle.std.specs.Prelude.{All, Contains, ◌⊎◌}
 use mathlib.Core.List.{map-append}
 use mathlib.Core.Logic.{dite}
 use native.Mathlib.Decide.{ℕ_discrete}
 use Rattle.std.proofs.lemmas.List.Elements.{Contains-push, Contains-append_left}
 use Rattle.bohm_board.specs.declared.batch.Batch.{Batch}
-use Rattle.bohm_board.specs.declared.view.View.{View}
+use Rattle.bohm_board.specs.declared.knowledge.View.{View}
 use Rattle.bohm_board.specs.Passes.{IsDone, Keeps}
 use Rattle.bohm_board.proofs.ForCallers.{still_done}
 use Rattle.bohm_exec.specs.Asides.{Pairs, IsAccountedFor, IsPickedFrom, positions_in, busy_in}
@@ -28,6 +28,10 @@ accounted_pushed b v pairs p t a = ⊎_elim (λ (d : IsDone b v t). inl d)
 
 pub accounted_here : (b : Batch) (v : View) (pairs : Pairs) (p : ℕ × ℕ) → IsAccountedFor b v (pairs ++ p ∷ []) p.0
 accounted_here b v pairs p = inr (subst (λ (xs : List ℕ). Contains xs p.0) (sym (positions_push pairs p)) (Contains-push (positions_in pairs) p.0))
+
+-- where the same ones were seen Done
+pub accounted_as : (b : Batch) (v : View) (pairs : Pairs) (share done : List ℕ) → done ≡ v.done → All (IsAccountedFor b v pairs) share → All (λ t. Contains done t ⊎ Contains (positions_in pairs) t) share
+accounted_as b v pairs share done same all = subst (λ (xs : List ℕ). All (λ t. Contains xs t ⊎ Contains (positions_in pairs) t) share) (sym same) all
 
 -- one more of the share
 pub next : (P : ℕ → Type 0) (share : List ℕ) (n : ℕ) → ((i : ℕ) → i < n → P (get_or share i 0)) → P (get_or share n 0) → (i : ℕ) → i < n + 1 → P (get_or share i 0)

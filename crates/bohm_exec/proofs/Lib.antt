@@ -2,6 +2,7 @@ mod Serials
 mod Strides
 mod Seen
 mod Viewed
+mod Steppers
 mod Based
 mod Descents
 mod Accounts

@@ -1,26 +1,57 @@
 -- Cells at the places of their accesses, as far as a loop has come.
-use Rattle.std.proofs.Common.{◌≡◌, ◌≢◌, ℕ, ◌+◌, ◌<◌, List, length, set, Some, refl, sym, ap, ◌∙◌, subst, arith}
+use Rattle.std.proofs.Common.{◌≡◌, ◌≢◌, ℕ, ◌+◌, ◌<◌, List, length, set, take, length-take, None, Some, refl, sym, ap, ◌∙◌, subst, arith}
 use Rattle.std.specs.Prelude.{Contains}
 use Rattle.std.specs.List.{slice_get}
-use Rattle.std.proofs.lemmas.Option.{same_Some, slice_get_within, slice_get-get_or}
+use Rattle.std.proofs.lemmas.Option.{same_Some, slice_get_within, slice_get-get_or, get_or_from_slice_get}
+use Rattle.std.proofs.lemmas.List.{get_or-take}
 use mathlib.Core.Logic.{dite}
 use native.Mathlib.Decide.{ℕ_discrete}
 use Rattle.bohm_tree.specs.declared.cell.Cell.{Cell}
 use Rattle.bohm_place.specs.declared.access.Access.{Access}
 use Rattle.bohm_place.specs.declared.access.Source.{Source}
 use Rattle.bohm_place.specs.declared.access.Source.TheVariants.{Before, Within}
+use Rattle.bohm_place.specs.declared.declared_set.DeclaredSet.{DeclaredSet}
 use Rattle.bohm_place.proofs.ForCallers.{set_same, set_other}
 use Rattle.bohm_board.specs.declared.batch.Batch.{Batch}
-use Rattle.bohm_board.specs.declared.view.View.{View}
-use Rattle.bohm_board.specs.Batches.{IsRightCell, slot_in}
+use Rattle.bohm_board.specs.declared.slot.Slot.{Slot}
+use Rattle.bohm_board.specs.declared.knowledge.View.{View}
+use Rattle.bohm_board.specs.Batches.{IsIn, IsRightCell, accesses_in, slot_in}
 use Rattle.bohm_board.specs.Passes.{IsKnown, Keeps}
-use Rattle.bohm_board.proofs.ForCallers.{still_known}
-use Rattle.bohm_exec.specs.Handed.{KnowsAll, AreFound}
+use Rattle.bohm_board.proofs.ForCallers.{IsEarlier, contains_at, still_known, wanted_earlier}
+use Rattle.bohm_exec.specs.Handed.{WantsAllOf, KnowsAll, AreFound, TakesSlot, slot_from, slot_of}
 
 -- ---- lists
 
 pub place : {A : Type 0} (xs : List A) (x : A) → Contains xs x → (j : ℕ) × (slice_get xs j ≡ Some x)
 place xs x c = (c.0, slice_get-get_or xs c.0 x c.1 ∙ ap Some c.2)
+
+in_front : {A : Type 0} (n : ℕ) (xs : List A) (j : ℕ) (x : A) → slice_get (take n xs) j ≡ Some x → slice_get xs j ≡ Some x
+in_front n xs j x at =
+    let within : j < length (take n xs) = slice_get_within (take n xs) j x at in
+    let inside = simp length-take at within in
+    slice_get-get_or xs j x (omega arith) ∙ ap Some (sym (get_or-take n xs j x (omega arith)) ∙ get_or_from_slice_get (take n xs) j x x at)
+
+-- the version that a wanted access takes is earlier in the batch
+pub earlier_at : (b : Batch) (t : ℕ) (keys : DeclaredSet) (n : ℕ) (a : Access) (u : ℕ) → IsIn b t → WantsAllOf b t keys → slice_get (accesses_in keys b t) n ≡ Some a → a.source ≡ Within u → IsEarlier b t a u
+earlier_at b t keys n a u is wants at source = wanted_earlier b t a u is (wants a (contains_at (accesses_in keys b t) n a at)) source
+
+before_of : (x : Source) (j : ℕ) → None ≡ slot_from x j → x ≡ Before
+before_of Before j e = refl
+before_of (Within u) j e = cc
+
+within_of : (x : Source) (j : ℕ) (s : Slot) → Some s ≡ slot_from x j → (x ≡ Within s.txn) × (slot_of s.txn j ≡ s)
+within_of Before j s e = cc
+within_of (Within u) j s e =
+    let same : slot_of u j ≡ s = same_Some (slot_of u j) s (sym e) in
+    (ap (λ (z : Slot). Within z.txn) same, ap (λ (z : Slot). slot_of z.txn j) (sym same) ∙ same)
+
+-- the version stands before the batch
+pub taken_before : (accesses : List Access) (n : ℕ) (e : TakesSlot accesses n None) → e.access.source ≡ Before
+taken_before accesses n e = before_of e.access.source e.access.index e.taken
+
+-- the version is of the batch
+pub taken_within : (accesses : List Access) (n : ℕ) (s : Slot) (e : TakesSlot accesses n (Some s)) → (e.access.source ≡ Within s.txn) × (slot_in s.txn e.access ≡ s)
+taken_within accesses n s e = within_of e.access.source e.access.index s e.taken
 
 -- ---- what is known and found of the accesses below a place
 
@@ -77,3 +108,6 @@ pub are_found : (b : Batch) (accesses : List Access) (cells : List Cell) (n : �
 are_found b accesses cells n long below = λ j a u c at is cell.
     let within = slice_get_within accesses j a at in
     below j a u c (omega arith) at is cell
+
+pub found_front : (b : Batch) (accesses : List Access) (cells : List Cell) (n : ℕ) → AreFound b accesses cells → AreFound b accesses (take n cells)
+found_front b accesses cells n found = λ j a u c at is cell. found j a u c at is (in_front n cells j c cell)

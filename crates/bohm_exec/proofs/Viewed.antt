@@ -11,29 +11,31 @@ use Rattle.bohm_tree.specs.Txn.{Txn}
 use Rattle.bohm_txn.specs.Faulty.{IsWellFormedTxn}
 use Rattle.bohm_txn.specs.Sure.{is_sure}
 use Rattle.bohm_place.specs.declared.access.Access.{Access}
+use Rattle.bohm_place.specs.declared.declared_set.DeclaredSet.{DeclaredSet}
+use Rattle.bohm_place.specs.declared.declared_set.DeclaredSet.TheVariants.{Reads, Writes}
 use Rattle.bohm_board.specs.declared.batch.Batch.{Batch}
 use Rattle.bohm_board.specs.declared.slot.Slot.{Slot}
-use Rattle.bohm_board.specs.declared.view.View.{View}
-use Rattle.bohm_board.specs.Batches.{position, txns_of, txn_at, IsIn, reads_at, writes_at, is_sure_at, slot_in}
+use Rattle.bohm_board.specs.declared.knowledge.View.{View}
+use Rattle.bohm_board.specs.Batches.{position, txns_of, txn_at, IsIn, accesses_in, reads_at, writes_at, is_sure_at, slot_in}
 use Rattle.bohm_board.specs.Passes.{KnowsWanted}
-use Rattle.bohm_board.specs.Views.{Knows, looked, filled_with}
+use Rattle.bohm_board.specs.Views.{Knows, after_look, after_fill}
 use Rattle.bohm_board.proofs.ForCallers.{keeps_same, keeps_then, keeps_looked, txn_there, reads_paired, writes_paired, in_either}
 use Rattle.bohm_place.proofs.ForCallers.{formed_at, usable_at}
-use Rattle.bohm_exec.specs.Handed.{AreWanted, KnowsAll, slot_of}
-use Rattle.bohm_exec.specs.Turns.{LooksOnly, FillsOnly}
+use Rattle.bohm_exec.specs.Handed.{WantsAllOf, KnowsAll, slot_of}
+use Rattle.bohm_exec.specs.Turns.{LooksOnly}
 
 -- ---- looks
 
 pub no_looks : (v : View) → LooksOnly v v
 no_looks v = record { keeps = keeps_same v; done = refl; busy = refl; held = refl; stored = refl; filled = refl }
 
-looks_on : (v w : View) (k : Slot) (answer : Option Cell) → LooksOnly v w → LooksOnly v (looked w k answer)
+looks_on : (v w : View) (k : Slot) (answer : Option Cell) → LooksOnly v w → LooksOnly v (after_look w k answer)
 looks_on v w k None l = l
-looks_on v w k (Some Absent) l = record { keeps = keeps_then v w (looked w k (Some Absent)) l.keeps (keeps_looked w k (Some Absent)); done = l.done; busy = l.busy; held = l.held; stored = l.stored; filled = l.filled }
-looks_on v w k (Some (Present z)) l = record { keeps = keeps_then v w (looked w k (Some (Present z))) l.keeps (keeps_looked w k (Some (Present z))); done = l.done; busy = l.busy; held = l.held; stored = l.stored; filled = l.filled }
+looks_on v w k (Some Absent) l = record { keeps = keeps_then v w (after_look w k (Some Absent)) l.keeps (keeps_looked w k (Some Absent)); done = l.done; busy = l.busy; held = l.held; stored = l.stored; filled = l.filled }
+looks_on v w k (Some (Present z)) l = record { keeps = keeps_then v w (after_look w k (Some (Present z))) l.keeps (keeps_looked w k (Some (Present z))); done = l.done; busy = l.busy; held = l.held; stored = l.stored; filled = l.filled }
 
 -- one more look
-pub one_look : (v w u : View) (k : Slot) (answer : Option Cell) → LooksOnly v w → u ≡ looked w k answer → LooksOnly v u
+pub one_look : (v w u : View) (k : Slot) (answer : Option Cell) → LooksOnly v w → u ≡ after_look w k answer → LooksOnly v u
 one_look v w u k answer l e = subst (λ (z : View). LooksOnly v z) (sym e) (looks_on v w k answer l)
 
 pub then_looks : (u v w : View) → LooksOnly u v → LooksOnly v w → LooksOnly u w
@@ -41,22 +43,20 @@ then_looks u v w a b = record { keeps = keeps_then u v w a.keeps b.keeps; done =
 
 -- ---- what is wanted
 
-pub few_reads : (b : Batch) (t : ℕ) → IsIn b t → length (reads_at b t) ≤ 16
-few_reads b t is =
+pub few_in : (b : Batch) (set : DeclaredSet) (t : ℕ) → IsIn b t → length (accesses_in set b t) ≤ 16
+few_in b Reads t is =
     let (x, at) = txn_there b t is in
     let few = (usable_at (txns_of b) b.batched.formed (position b t) x at).few_reads in
     omega (arith, few, reads_paired b t x at)
-
-pub few_writes : (b : Batch) (t : ℕ) → IsIn b t → length (writes_at b t) ≤ 16
-few_writes b t is =
+few_in b Writes t is =
     let (x, at) = txn_there b t is in
     let few = (usable_at (txns_of b) b.batched.formed (position b t) x at).few_writes in
     omega (arith, few, writes_paired b t x at)
 
-pub reads_wanted : (b : Batch) (t : ℕ) → AreWanted b t (reads_at b t)
+pub reads_wanted : (b : Batch) (t : ℕ) → WantsAllOf b t Reads
 reads_wanted b t = λ a in_it. Contains-append_left (reads_at b t) (if is_sure_at b t then [] else writes_at b t) a in_it
 
-pub writes_wanted : (b : Batch) (t : ℕ) → is_sure_at b t ≡ false → AreWanted b t (writes_at b t)
+pub writes_wanted : (b : Batch) (t : ℕ) → is_sure_at b t ≡ false → WantsAllOf b t Writes
 writes_wanted b t unsure = λ a in_it.
     let P : Bool → Type 0 = λ s. Contains (reads_at b t ++ (if s then [] else writes_at b t)) a in
     subst P (sym unsure) (Contains-append_right (reads_at b t) (writes_at b t) a in_it)
@@ -71,13 +71,6 @@ knows_wanted b v t reads writes = λ a u in_it is. ⊎_elim
 pub knows_later : (b : Batch) (v w : View) (accesses : List Access) → ((x : Slot) → Knows v x → Knows w x) → KnowsAll b v accesses → KnowsAll b w accesses
 knows_later b v w accesses later all = λ a u in_it is. later (slot_in u a) (all a u in_it is)
 
--- as many reads are declared as there are accesses, in the transaction that was lent
-pub long_reads : (b lent : Batch) (t : ℕ) (x : Txn) (keys : List (List ℕ)) → lent ≡ b → txn_at lent t ≡ Some x → keys ≡ x.reads → length (reads_at b t) ≡ length keys
-long_reads b lent t x keys same at e = sym (ap length e ∙ reads_paired b t x (subst (λ (z : Batch). txn_at z t ≡ Some x) same at))
-
-pub long_writes : (b lent : Batch) (t : ℕ) (x : Txn) (keys : List (List ℕ)) → lent ≡ b → txn_at lent t ≡ Some x → keys ≡ x.writes → length (writes_at b t) ≡ length keys
-long_writes b lent t x keys same at e = sym (ap length e ∙ writes_paired b t x (subst (λ (z : Batch). txn_at z t ≡ Some x) same at))
-
 -- whether the transaction that was lent is sure
 pub same_sure : (b lent : Batch) (t : ℕ) (x : Txn) (answer : Bool) → lent ≡ b → txn_at lent t ≡ Some x → answer ≡ is_sure x → answer ≡ is_sure_at b t
 same_sure b lent t x answer same at e = e ∙ sym (ap (λ (o : Option Txn). unwrap_or (option_map is_sure o) false) (subst (λ (z : Batch). txn_at z t ≡ Some x) same at))
@@ -87,15 +80,24 @@ well_formed b t x at = formed_at (txns_of b) b.batched.formed (position b t) x a
 
 -- ---- fills
 
+-- slots of the held position were filled, and nothing else changed
+pub record FillsOnly (v w : View) : Type 0 where
+  pub right : w.right ≡ v.right
+  pub done : w.done ≡ v.done
+  pub busy : w.busy ≡ v.busy
+  pub absent : w.absent ≡ v.absent
+  pub present : w.present ≡ v.present
+  pub held : w.held ≡ v.held
+
 pub no_fills : (v : View) → FillsOnly v v
 no_fills v = record { right = refl; done = refl; busy = refl; absent = refl; present = refl; held = refl }
 
-fills_on : (v w : View) (k : Slot) (c : Cell) → FillsOnly v w → FillsOnly v (filled_with w k c) × ((filled_with w k c).filled ≡ w.filled ++ k ∷ [])
+fills_on : (v w : View) (k : Slot) (c : Cell) → FillsOnly v w → FillsOnly v (after_fill w k c) × ((after_fill w k c).filled ≡ w.filled ++ k ∷ [])
 fills_on v w k Absent f = (record { right = f.right; done = f.done; busy = f.busy; absent = f.absent; present = f.present; held = f.held }, refl)
 fills_on v w k (Present z) f = (record { right = f.right; done = f.done; busy = f.busy; absent = f.absent; present = f.present; held = f.held }, refl)
 
 -- one more fill
-pub one_fill : (v w u : View) (k : Slot) (c : Cell) → FillsOnly v w → u ≡ filled_with w k c → FillsOnly v u × (u.filled ≡ w.filled ++ k ∷ [])
+pub one_fill : (v w u : View) (k : Slot) (c : Cell) → FillsOnly v w → u ≡ after_fill w k c → FillsOnly v u × (u.filled ≡ w.filled ++ k ∷ [])
 one_fill v w u k c f e = subst (λ (z : View). FillsOnly v z × (z.filled ≡ w.filled ++ k ∷ [])) (sym e) (fills_on v w k c f)
 
 -- a position's known slots stay known while it is filled

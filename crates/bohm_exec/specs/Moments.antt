@@ -36,8 +36,10 @@ IsSerialOutcome b t o = (x : Txn) → txn_at b t ≡ Some x → outcome_of (body
 
 -- the cell of the declared write's key after the transaction
 abbrev pub IsSerialCell : Batch → ℕ → ℕ → Cell → Type 0
-IsSerialCell b t j c = (x : Txn) (k : List ℕ) → txn_at b t ≡ Some x → slice_get x.writes j ≡ Some k → state_after b t k ≡ c
+IsSerialCell b t j c = (x : Txn) (k : List ℕ) → txn_at b t ≡ Some x → slice_get x.writes j ≡ Some k
+    → state_after b t k ≡ c
 
 -- the value of the `show`, or absence on an abort
 abbrev pub IsSerialShow : Batch → ℕ → ℕ → Cell → Type 0
-IsSerialShow b t j c = (x : Txn) → txn_at b t ≡ Some x → shown (shows_of (body (state_before b t) x)) j ≡ c
+IsSerialShow b t j c = (x : Txn) → txn_at b t ≡ Some x
+    → shown (shows_of (body (state_before b t) x)) j ≡ c

@@ -2,6 +2,8 @@
 use Rattle.std.specs.Prelude.{ℕ, ◌-◌, ◌%◌, ◌==◌, List}
 use Rattle.std.specs.List.{filter, range_with_len}
 
--- the positions from `first` on, as many as `len`, whose distance from the first is `worker` modulo `workers`
+-- the positions from `first` on, as many as `len`, whose distance from the first is `worker` modulo
+-- `workers`
 abbrev pub share : ℕ → ℕ → ℕ → ℕ → List ℕ
-share first len worker workers = filter (λ t. (t - first) % workers == worker) (range_with_len first len)
+share first len worker workers =
+    filter (λ t. (t - first) % workers == worker) (range_with_len first len)

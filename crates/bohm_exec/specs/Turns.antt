@@ -6,9 +6,10 @@ use Rattle.bohm_board.specs.declared.board.Board.{Board}
 use Rattle.bohm_board.specs.declared.pass.Pass.{Pass}
 use Rattle.bohm_board.specs.declared.status.Claimed.{Claimed}
 use Rattle.bohm_board.specs.declared.status.Claimed.TheVariants as claimed
-use Rattle.bohm_board.specs.declared.view.View.{View}
+use Rattle.bohm_board.specs.declared.knowledge.View.{View}
 use Rattle.bohm_board.specs.Batches.{IsIn, Wants, txns_of}
 use Rattle.bohm_board.specs.Passes.{IsPassOf, Holds, HoldsNothing, IsDone, Keeps, KnowsWanted, batch_of, view}
+use Rattle.bohm_exec.specs.declared.stepper.Stepper.{Stepper}
 use Rattle.bohm_exec.specs.declared.turns.Turned.{Turned}
 use Rattle.bohm_exec.specs.declared.turns.Turned.TheVariants.{Done, Busy, Needs}
 
@@ -17,22 +18,42 @@ pub record IsFree (b : Board) (p : Pass) : Type 0 where
   pub own : IsPassOf b p
   pub free : HoldsNothing (view p)
 
+-- ---- a pass on its board
+
+-- the batch of the board
+abbrev pub batch_on : Stepper → Batch
+batch_on s = batch_of s.board.now
+
+-- what the pass knows
+abbrev pub seen_by : Stepper → View
+seen_by s = view s.pass.now
+
+-- the board and the pass are the same ones, whatever the pass learned
+pub record IsSame (s z : Stepper) : Type 0 where
+  pub board : z.board ≡ s.board
+  pub pass : z.pass.ghost_name ≡ s.pass.ghost_name
+
+-- a pass that is free for a position of the board's batch
+pub record IsFreeFor (s : Stepper) (t : ℕ) : Type 0 where
+  pub free : IsFree s.board.now s.pass.now
+  pub inside : IsIn (batch_on s) t
+
 -- a pass of the board, and a position of the board's batch
-pub record IsPassFor (b : Board) (p : Pass) (t : ℕ) : Type 0 where
-  pub own : IsPassOf b p
-  pub inside : IsIn (batch_of b) t
+pub record IsPassFor (s : Stepper) (t : ℕ) : Type 0 where
+  pub own : IsPassOf s.board.now s.pass.now
+  pub inside : IsIn (batch_on s) t
 
 -- a pass that has claimed the position, knows its wanted slots, and has filled none of its own
-pub record HasClaimed (b : Board) (p : Pass) (t : ℕ) : Type 0 where
-  pub own : IsPassOf b p
-  pub inside : IsIn (batch_of b) t
-  pub held : Holds (batch_of b) (view p) t
-  pub wanted : KnowsWanted (batch_of b) (view p) t
-  pub empty : (view p).filled ≡ []
+pub record HasClaimed (s : Stepper) (t : ℕ) : Type 0 where
+  pub own : IsPassOf s.board.now s.pass.now
+  pub inside : IsIn (batch_on s) t
+  pub held : Holds (batch_on s) (seen_by s) t
+  pub wanted : KnowsWanted (batch_on s) (seen_by s) t
+  pub empty : (seen_by s).filled ≡ []
 
 -- a position wants this one, which the pass hasn't seen Done
-abbrev pub IsMissing : Batch → View → ℕ → ℕ → Type 0
-IsMissing b v t u = Wants b t u × ¬ IsDone b v u
+abbrev pub IsMissing : Stepper → ℕ → ℕ → Type 0
+IsMissing s t u = Wants (batch_on s) t u × ¬ IsDone (batch_on s) (seen_by s) u
 
 -- nothing is on the stack, and all positions of the batch have room on it
 pub record IsEmptyFor (b : Batch) (stack : Vec ℕ Global) : Type 0 where
@@ -48,14 +69,11 @@ pub record LooksOnly (v w : View) : Type 0 where
   pub stored : w.stored ≡ v.stored
   pub filled : w.filled ≡ v.filled
 
--- slots of the held position were filled, and nothing else changed
-pub record FillsOnly (v w : View) : Type 0 where
-  pub right : w.right ≡ v.right
-  pub done : w.done ≡ v.done
-  pub busy : w.busy ≡ v.busy
-  pub absent : w.absent ≡ v.absent
-  pub present : w.present ≡ v.present
-  pub held : w.held ≡ v.held
+-- and the pass is still one of the board
+pub record Looks (s z : Stepper) : Type 0 where
+  pub same : IsSame s z
+  pub own : IsPassOf s.board.now z.pass.now
+  pub view : LooksOnly (seen_by s) (seen_by z)
 
 -- the position was seen Done, and nothing Busy
 pub record SeesDone (b : Batch) (v : View) (t : ℕ) (w : View) : Type 0 where
@@ -85,3 +103,10 @@ abbrev pub TookTurn : Batch → View → ℕ → Turned → View → Type 0
 TookTurn b v t Done w = SeesDone b v t w
 TookTurn b v t Busy w = SeesBusy b v t w
 TookTurn b v t (Needs u) w = SeesNeed b v t u w
+
+-- what a turn on t makes of a free pass
+pub record Turns (s : Stepper) (t : ℕ) (turned : Turned) (z : Stepper) : Type 0 where
+  pub same : IsSame s z
+  pub free : IsFree s.board.now z.pass.now
+  pub keeps : Keeps (seen_by s) (seen_by z)
+  pub took : TookTurn (batch_on s) (seen_by s) t turned (seen_by z)

@@ -2,52 +2,46 @@
 
 ghost use Rattle.std.specs.Prelude.{◌≡◌, ◌≢◌, ◌<◌, ℕ};
 ghost use Rattle.bohm_board.specs.Batches.{accesses_in, IsIn, position, width_at};
-ghost use Rattle.bohm_board.specs.Closings.{batch_of_closed, status_in, IsFinished, IsUnfinished, HasCell};
+ghost use Rattle.bohm_board.specs.Closings.{batch_of_closed, status_in, IsFinished, IsUnfinished};
+ghost use Rattle.bohm_board.specs.Closings.{HasCell};
 ghost use Rattle.bohm_exec.specs.Answers.{batch_of_finished, IsFinishedBefore};
 ghost use Rattle.bohm_exec.specs.Asides.{IsSetAside};
-ghost use Rattle.bohm_exec.specs.Handed.{AwaitsCells, AreFound, AreRightSlots, slot_of};
+ghost use Rattle.bohm_exec.specs.Handed.{WantsAllOf, AreFound, AreRightSlots, slot_of};
 
 use crate::aside::Aside;
-use crate::evaluation::{evaluate, slot_cell};
+use crate::evaluation::Evaluator;
 use crate::finished::Finished;
+use crate::wanted::{count, slot_at};
 use bohm_board::{Closed, Slot};
-use bohm_place::{DeclaredSet, Source};
-use bohm_tree::MOST_KEYS;
-use bohm_txn::{Cell, Scratch, sure};
+use bohm_place::DeclaredSet;
+use bohm_tree::{Cell, MOST_KEYS};
+use bohm_txn::{Scratch, sure};
 
 /// Takes the cells of the versions of the batch among the accesses of a declared set, and puts them
 /// at their places.
-fn take_cells(closed: &Closed, t: u32, set: DeclaredSet, cells: &mut [Cell])
+fn take_cells(closed: &Closed, t: u32, set: DeclaredSet, cells: &mut [Cell; MOST_KEYS])
     requires inside { IsIn (batch_of_closed closed.now) t }
     requires before { IsFinishedBefore closed.now t }
-    requires awaits { AwaitsCells (batch_of_closed closed.now) t set cells.old }
+    requires wanted { WantsAllOf (batch_of_closed closed.now) t set }
     ensures { AreFound (batch_of_closed closed.now)
         (accesses_in set (batch_of_closed closed.now) t) cells.new }
 {
     let batch = closed.batch();
-    for index in 0..cells.len() {
-        let access = batch.access(set, t, index as u32);
-        match access.source {
-            Source::Before => {}
-            Source::Within(u) => {
-                let slot = Slot {
-                    txn: u,
-                    index: access.index,
-                };
-                match closed.cell(slot) {
-                    Some(cell) => cells[index] = cell,
-                    None => unreachable!(),
-                }
+    for index in 0..count(batch, t, set) {
+        if let Some(slot) = slot_at(batch, t, set, index as u32) {
+            match closed.cell(slot) {
+                Some(cell) => cells[index] = cell,
+                None => unreachable!(),
             }
         }
     }
 }
 
 /// Puts the cells of all slots of a position without an outcome.
-fn put_cells(closed: &mut Closed, t: u32, scratch: &Scratch)
+fn put_cells(closed: &mut Closed, t: u32, evaluator: &Evaluator)
     requires inside { IsIn (batch_of_closed closed.old) t }
     requires unfinished { IsUnfinished closed.old t }
-    requires right { AreRightSlots (batch_of_closed closed.old) t scratch.now }
+    requires right { AreRightSlots (batch_of_closed closed.old) t evaluator.now.scratch.now }
     ensures batch { batch_of_closed closed.new ≡ batch_of_closed closed.old }
     ensures statuses { (u : ℕ) → status_in closed.new u ≡ status_in closed.old u }
     ensures all { (j : ℕ) →
@@ -55,12 +49,12 @@ fn put_cells(closed: &mut Closed, t: u32, scratch: &Scratch)
 {
     let width = closed.batch().width(t);
     for index in 0..width {
-        closed.set_cell(Slot { txn: t, index }, slot_cell(scratch, index));
+        closed.set_cell(Slot { txn: t, index }, evaluator.slot_cell(index));
     }
 }
 
 /// Evaluates a position without an outcome, where all positions before it have theirs.
-fn evaluate_left(closed: &mut Closed, t: u32, scratch: &mut Scratch)
+fn evaluate_left(closed: &mut Closed, t: u32, evaluator: &mut Evaluator)
     requires inside { IsIn (batch_of_closed closed.old) t }
     requires unfinished { IsUnfinished closed.old t }
     requires before { IsFinishedBefore closed.old t }
@@ -70,18 +64,13 @@ fn evaluate_left(closed: &mut Closed, t: u32, scratch: &mut Scratch)
         position (batch_of_closed closed.old) u ≢ position (batch_of_closed closed.old) t →
         status_in closed.new u ≡ status_in closed.old u }
 {
-    let txn = closed.batch().txn(t);
-    let sure = sure(&txn);
-    let mut read_cells = [Cell::Absent; MOST_KEYS];
-    let mut earlier_cells = [Cell::Absent; MOST_KEYS];
-    let reads = &mut read_cells[..txn.reads().len()];
-    let earlier = &mut earlier_cells[..txn.writes().len()];
-    take_cells(closed, t, DeclaredSet::Reads, reads);
-    if !sure {
-        take_cells(closed, t, DeclaredSet::Writes, earlier);
+    take_cells(closed, t, DeclaredSet::Reads, &mut evaluator.reads);
+    evaluator.sure = sure(&closed.batch().txn(t));
+    if !evaluator.sure {
+        take_cells(closed, t, DeclaredSet::Writes, &mut evaluator.earlier);
     }
-    let outcome = evaluate(closed.batch(), t, sure, reads, earlier, scratch);
-    put_cells(closed, t, scratch);
+    let outcome = evaluator.evaluate(closed.batch(), t);
+    put_cells(closed, t, evaluator);
     closed.set_outcome(t, outcome);
 }
 
@@ -93,11 +82,12 @@ pub fn complete<'a>(mut closed: Closed<'a>, asides: &[Aside], scratch: &mut Scra
     ensures batch { batch_of_finished result ≡ batch_of_closed closed.entry }
 {
     let _ = asides;
+    let mut evaluator = Evaluator::new(scratch);
     let (first, len) = (closed.batch().first(), closed.batch().len());
     for distance in 0..len {
         let t = first + distance;
         if closed.outcome(t).is_none() {
-            evaluate_left(&mut closed, t, scratch);
+            evaluate_left(&mut closed, t, &mut evaluator);
         }
     }
     Finished::new(closed)

@@ -3,13 +3,15 @@
 ghost use Rattle.std.specs.Prelude.{◌≡◌, ◌≤◌, Some, length};
 ghost use Rattle.bohm_tree.specs.Txn.{Txn};
 ghost use Rattle.bohm_place.specs.Plans.{keys_in};
-ghost use Rattle.bohm_board.specs.Batches.{accesses_in, IsIn, IsRightOutcome, is_sure_at, txn_at};
+ghost use Rattle.bohm_board.specs.Batches.{accesses_in, IsIn, IsRightOutcome, txn_at};
 ghost use Rattle.bohm_board.specs.Inputs.{AreCellsOf};
-ghost use Rattle.bohm_exec.specs.Handed.{AreFound, ArePaired, IsFound, IsHanded, AreRightSlots, slot_cell};
+ghost use Rattle.bohm_exec.specs.Handed.{AreFound, IsReady, AreRightSlots, slot_cell};
 
+use crate::wanted::count;
 use bohm_board::Batch;
 use bohm_place::{DeclaredSet, Source};
-use bohm_txn::{Cell, Outcome, Scratch, eval};
+use bohm_tree::{Cell, MOST_KEYS};
+use bohm_txn::{Outcome, Scratch, eval};
 
 /// Puts the base's cells at the places of the accesses whose version stands when the batch starts.
 fn add_base(batch: &Batch, t: u32, set: DeclaredSet, cells: &mut [Cell])
@@ -28,43 +30,60 @@ fn add_base(batch: &Batch, t: u32, set: DeclaredSet, cells: &mut [Cell])
     }
 }
 
-/// Evaluates a position over the cells before it, which have to be there but for those of the base.
-/// The scratch has the cells of its slots afterwards.
-pub(crate) fn evaluate(
-    batch: &Batch,
-    t: u32,
-    sure: bool,
-    reads: &mut [Cell],
-    earlier: &mut [Cell],
-    scratch: &mut Scratch,
-) -> Outcome
-    requires inside { IsIn batch.now t }
-    requires sure { sure ≡ is_sure_at batch.now t }
-    requires paired { ArePaired batch.now t reads.old earlier.old }
-    requires found { IsFound batch.now t reads.old earlier.old }
-    ensures outcome { IsRightOutcome batch.now t result }
-    ensures cells { AreRightSlots batch.now t scratch.new }
-{
-    let txn = batch.txn(t);
-    add_base(batch, t, DeclaredSet::Reads, reads);
-    if !sure {
-        add_base(batch, t, DeclaredSet::Writes, earlier);
-    }
-    eval(&txn, reads, earlier, scratch)
+/// Evaluates one position after another. What it works in is made once, and nothing of it is
+/// cleared between two positions.
+#[derive(Drop)]
+pub(crate) struct Evaluator<'a> {
+    /// The cells of the position's declared reads, at their places. What lies behind them is of
+    /// other positions.
+    pub(crate) reads: [Cell; MOST_KEYS],
+    /// The same of its declared writes, before it. A sure position needs none of them.
+    pub(crate) earlier: [Cell; MOST_KEYS],
+    /// Whether the position is sure.
+    pub(crate) sure: bool,
+    scratch: &'a mut Scratch,
 }
 
-/// The cell of a slot of the transaction that was evaluated last: of a declared write the key's
-/// cell afterwards, of a `show` its value, or absence on an abort.
-pub(crate) fn slot_cell(scratch: &Scratch, index: u32) -> Cell
-    ensures { result ≡ slot_cell scratch.now index }
-{
-    let (cells, shows) = (scratch.cells(), scratch.shows());
-    let index = index as usize;
-    match cells.get(index) {
-        Some(cell) => *cell,
-        None => match shows.get(index - cells.len()) {
-            Some(value) => Cell::Present(*value),
-            None => Cell::Absent,
-        },
+impl<'a> Evaluator<'a> {
+    pub(crate) fn new(scratch: &'a mut Scratch) -> Evaluator<'a> {
+        Evaluator {
+            reads: [Cell::Absent; MOST_KEYS],
+            earlier: [Cell::Absent; MOST_KEYS],
+            sure: false,
+            scratch,
+        }
+    }
+
+    /// Evaluates the position over its cells, which have to be there but for those of the base. The
+    /// cells of its slots stand ready afterwards.
+    pub(crate) fn evaluate(&mut self, batch: &Batch, t: u32) -> Outcome
+        requires inside { IsIn batch.now t }
+        requires ready { IsReady batch.now t self.old }
+        ensures outcome { IsRightOutcome batch.now t result }
+        ensures cells { AreRightSlots batch.now t self.new.scratch.now }
+    {
+        let reads = &mut self.reads[..count(batch, t, DeclaredSet::Reads)];
+        let earlier = &mut self.earlier[..count(batch, t, DeclaredSet::Writes)];
+        add_base(batch, t, DeclaredSet::Reads, reads);
+        if !self.sure {
+            add_base(batch, t, DeclaredSet::Writes, earlier);
+        }
+        eval(&batch.txn(t), reads, earlier, self.scratch)
+    }
+
+    /// The cell of a slot of the position that was evaluated last: of a declared write the key's
+    /// cell afterwards, of a `show` its value, or absence on an abort.
+    pub(crate) fn slot_cell(&self, index: u32) -> Cell
+        ensures { result ≡ slot_cell self.now.scratch.now index }
+    {
+        let (cells, shows) = (self.scratch.cells(), self.scratch.shows());
+        let index = index as usize;
+        match cells.get(index) {
+            Some(cell) => *cell,
+            None => match shows.get(index - cells.len()) {
+                Some(value) => Cell::Present(*value),
+                None => Cell::Absent,
+            },
+        }
     }
 }

@@ -1,23 +1,34 @@
-//! Filling the slots of a position.
+//! Filling the slots of a position, and finishing it.
 
-ghost use Rattle.bohm_board.specs.Passes.{IsPassOf, HasFilledAll, batch_of, view};
+ghost use Rattle.std.specs.Prelude.{◌≡◌};
+ghost use Rattle.bohm_board.specs.Batches.{IsRightOutcome};
 ghost use Rattle.bohm_exec.specs.Handed.{AreRightSlots};
-ghost use Rattle.bohm_exec.specs.Turns.{FillsOnly, HasClaimed};
+ghost use Rattle.bohm_exec.specs.Turns.{HasClaimed, Turns, batch_on};
+ghost use Rattle.bohm_exec.specs.declared.turns.Turned.TheVariants.{Done};
 
-use crate::evaluation::slot_cell;
-use bohm_board::{Board, Pass, Slot};
-use bohm_txn::Scratch;
+use crate::sweeper::Sweeper;
+use bohm_board::Slot;
+use bohm_txn::Outcome;
 
-/// Fills all slots of the position that the pass holds.
-pub(crate) fn fill_all(board: &Board, pass: &mut Pass, t: u32, scratch: &Scratch)
-    requires claimed { HasClaimed board.now pass.old t }
-    requires right { AreRightSlots (batch_of board.now) t scratch.now }
-    ensures own { IsPassOf board.now pass.new }
-    ensures view { FillsOnly (view pass.old) (view pass.new) }
-    ensures all { HasFilledAll (batch_of board.now) (view pass.new) t }
-{
-    let width = board.batch().width(t);
-    for index in 0..width {
-        board.fill(pass, Slot { txn: t, index }, slot_cell(scratch, index));
+impl<G> Sweeper<'_, '_, G> {
+    /// Fills all slots of the position that the pass holds, and gives it its outcome.
+    pub(crate) fn settle(&mut self, t: u32, outcome: Outcome)
+        requires claimed { HasClaimed self.old.stepper t }
+        requires outcome { IsRightOutcome (batch_on self.old.stepper) t outcome }
+        requires all { AreRightSlots (batch_on self.old.stepper) t self.old.evaluator.scratch.now }
+        ensures turn { Turns self.old.stepper t Done self.new.stepper }
+        ensures stack { self.new.stack.now ≡ self.old.stack.now }
+    {
+        let board = self.stepper.board;
+        let pass = &mut *self.stepper.pass;
+        let width = board.batch().width(t);
+        for index in 0..width {
+            board.fill(
+                pass,
+                Slot { txn: t, index },
+                self.evaluator.slot_cell(index),
+            );
+        }
+        board.finish(pass, t, outcome);
     }
 }

@@ -5,7 +5,8 @@ ghost use Rattle.bohm_board.specs.Batches.{IsIn, first_of, txns_of};
 ghost use Rattle.bohm_board.specs.Closings.{batch_of_closed, IsFinished};
 
 use bohm_board::{Batch, Closed, Slot};
-use bohm_txn::{Cell, Outcome};
+use bohm_tree::Cell;
+use bohm_txn::Outcome;
 
 /// A batch whose positions have all been evaluated: what it answers is what the serial run answers.
 /// Only `complete` makes one.
@@ -18,7 +19,8 @@ pub struct Finished<'a> {
 impl<'a> Finished<'a> {
     ghost use Rattle.bohm_board.specs.Batches.{IsSlot, IsRightCell};
     ghost use Rattle.bohm_exec.specs.Answers.{batch_of_finished};
-    ghost use Rattle.bohm_exec.specs.Moments.{writes_in_txn, shows_in_txn, IsSerialOutcome, IsSerialCell, IsSerialShow};
+    ghost use Rattle.bohm_exec.specs.Moments.{writes_in_txn, shows_in_txn, IsSerialOutcome};
+    ghost use Rattle.bohm_exec.specs.Moments.{IsSerialCell, IsSerialShow};
 
     /// Of a closed board whose positions all have outcomes.
     pub(crate) fn new(closed: Closed<'a>) -> Finished<'a>

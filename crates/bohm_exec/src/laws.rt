@@ -1,6 +1,7 @@
 //! Laws of the core, over the definitions alone. No running call uses them.
 
-ghost use Rattle.std.specs.Prelude.{◌≡◌, ℕ, ◌+◌, ◌-◌, ◌%◌, ◌<◌, ◌≤◌, List, All, Contains, count_by, Some, ◌↔◌, slice_get};
+ghost use Rattle.std.specs.Prelude.{◌≡◌, ℕ, ◌+◌, ◌-◌, ◌%◌, ◌<◌, ◌≤◌, List, All, Contains, count_by};
+ghost use Rattle.std.specs.Prelude.{Some, ◌↔◌, slice_get};
 ghost use Rattle.bohm_tree.specs.declared.cell.Cell.{Cell};
 ghost use Rattle.bohm_tree.specs.Txn.{Txn};
 ghost use Rattle.bohm_txn.specs.declared.outcome.Outcome.{Outcome};
@@ -8,9 +9,12 @@ ghost use Rattle.bohm_txn.specs.Sure.{IsSure};
 ghost use Rattle.bohm_place.specs.declared.access.Access.{Access};
 ghost use Rattle.bohm_board.specs.declared.batch.Batch.{Batch};
 ghost use Rattle.bohm_board.specs.declared.slot.Slot.{Slot};
-ghost use Rattle.bohm_board.specs.Batches.{txn_at, reads_at, writes_at, wanted_at, IsIn, IsSlot, IsRightCell, IsRightOutcome};
-ghost use Rattle.bohm_board.specs.Core.{State, empty, HasWanted, input, cell_at, cell_over, outcome_over};
-ghost use Rattle.bohm_board.specs.Events.{Event, IsRun, leave, Reached, MayFill, MayFinish, wins, finishes};
+ghost use Rattle.bohm_board.specs.Batches.{txn_at, reads_at, writes_at, wanted_at, IsIn, IsSlot};
+ghost use Rattle.bohm_board.specs.Batches.{IsRightCell, IsRightOutcome};
+ghost use Rattle.bohm_board.specs.Core.{State, empty_state, HasWanted, input};
+ghost use Rattle.bohm_board.specs.Core.{cell_at, cell_over, outcome_over};
+ghost use Rattle.bohm_board.specs.Events.{Event, IsRun, final_state, MayFill, MayFinish};
+ghost use Rattle.bohm_board.specs.Events.{IsReached, is_win, is_finish};
 ghost use Rattle.bohm_board.specs.Law.{IsLawful, Stays};
 ghost use Rattle.bohm_board.specs.Views.{Holds, HasFilledAll, KnowsWanted};
 ghost use Rattle.bohm_exec.specs.Asides.{IsPickedFrom};
@@ -20,22 +24,22 @@ ghost use Rattle.bohm_exec.specs.Shares.{share};
 
 /// Every list of events meets the board law.
 pub fn reached_is_lawful()
-    ensures { (b : Batch) (s : State) → Reached b s → IsLawful b s }
+    ensures { (b : Batch) (s : State) → IsReached b s → IsLawful b s }
 {}
 
 /// In a list of events each position has at most one claim that is answered Mine, and at most one
 /// finish.
 pub fn claimed_and_finished_once()
     ensures claim { (b : Batch) (es : List Event) (t : ℕ) →
-        IsRun b (empty b) es → count_by (wins t) es ≤ 1 }
+        IsRun b (empty_state b) es → count_by (is_win t) es ≤ 1 }
     ensures finish { (b : Batch) (es : List Event) (t : ℕ) →
-        IsRun b (empty b) es → count_by (finishes t) es ≤ 1 }
+        IsRun b (empty_state b) es → count_by (is_finish t) es ≤ 1 }
 {}
 
 /// Whatever events follow, presences, outcomes, and the values of slots that are `Present` stay.
 pub fn filled_and_done_stay()
     ensures { (b : Batch) (s : State) (es : List Event) →
-        Reached b s → IsRun b s es → Stays s (leave s es) }
+        IsReached b s → IsRun b s es → Stays s (final_state s es) }
 {}
 
 // ---- of inputs

@@ -5,18 +5,20 @@
 #![tactic(auto)]
 
 mod aside;
-mod claiming;
 mod completion;
 mod evaluation;
 mod filling;
-mod finding;
 mod finished;
 mod gate;
 pub mod laws;
+mod lookup;
 mod pursuit;
 mod shares;
+mod stepper;
+mod sweeper;
 mod sweeping;
 mod turns;
+mod wanted;
 
 pub use aside::Aside;
 pub use completion::complete;

@@ -3,7 +3,7 @@
 ghost use Rattle.std.specs.Prelude.{◌≡◌, ◌+◌, ◌-◌, ◌%◌, ◌<◌, ◌≤◌, ◌^◌, ◌==◌, IfOk};
 ghost use Rattle.std.specs.List.{filter, range_with_len};
 
-use bohm_txn::NoMemory;
+use bohm_tree::NoMemory;
 use std::alloc::Global;
 
 /// The positions of a batch of this first position and length that one of the workers sweeps: those

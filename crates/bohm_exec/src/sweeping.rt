@@ -8,9 +8,11 @@ ghost use Rattle.bohm_exec.specs.Turns.{IsFree};
 
 use crate::aside::Aside;
 use crate::gate::Gate;
-use crate::pursuit::pursue;
+use crate::stepper::Stepper;
+use crate::sweeper::Sweeper;
 use bohm_board::{Board, Pass};
-use bohm_txn::{NoMemory, Scratch};
+use bohm_tree::NoMemory;
+use bohm_txn::Scratch;
 use std::alloc::Global;
 
 /// Evaluates the positions of the share, in its order, each after all that it leads to, but for
@@ -36,12 +38,24 @@ pub fn sweep<G: Gate>(
 {
     let mut stack = Vec::with_capacity(alloc, board.batch().len() as usize)?;
     let mut pairs = Vec::with_capacity(alloc, share.len())?;
+    let mut sweeper = Sweeper::new(board, pass, &mut stack, gate, scratch);
     for start in share {
-        if let Some(busy) = pursue(board, pass, &mut stack, *start, gate, scratch) {
+        if let Some(busy) = sweeper.pursue(*start) {
             let Ok(()) = pairs.push((*start, busy)) else {
                 unreachable!()
             };
         }
     }
+    // Taken apart, the sweeper leaves the pass as it is now.
+    let Sweeper {
+        stepper,
+        stack: _,
+        gate: _,
+        evaluator: _,
+    } = sweeper;
+    let Stepper {
+        board: _,
+        pass: _pass,
+    } = stepper;
     Ok(Aside::new(pairs))
 }

@@ -1,4 +1,11 @@
-//! What a turn on a position comes to.
+//! A turn of a sweeper on one position.
+
+ghost use Rattle.std.specs.Prelude.{◌≡◌};
+ghost use Rattle.bohm_exec.specs.Turns.{IsFreeFor, Turns};
+
+use crate::gate::{Gate, Point};
+use crate::sweeper::Sweeper;
+use bohm_board::{Claimed, Status};
 
 /// What a turn on a position comes to.
 #[derive(Clone, Copy)]
@@ -9,4 +16,41 @@ pub(crate) enum Turned {
     Busy,
     /// The version of this transaction has to be there first.
     Needs(u32),
+}
+
+impl<G: Gate> Sweeper<'_, '_, G> {
+    /// Claims a position and evaluates it, if the versions that it wants are there.
+    fn attempt(&mut self, t: u32) -> Turned
+        requires { IsFreeFor self.old.stepper t }
+        ensures turn { Turns self.old.stepper t result self.new.stepper }
+        ensures stack { self.new.stack.now ≡ self.old.stack.now }
+    {
+        if let Some(u) = self.find_wanted(t) {
+            return Turned::Needs(u);
+        }
+        match self.stepper.board.claim(self.stepper.pass, t) {
+            Claimed::Mine => {
+                self.gate.at(Point::Claimed(t));
+                let outcome = self.evaluator.evaluate(self.stepper.board.batch(), t);
+                self.settle(t, outcome);
+                self.gate.at(Point::Finished(t));
+                Turned::Done
+            }
+            Claimed::Busy => Turned::Busy,
+            Claimed::Done => Turned::Done,
+        }
+    }
+
+    /// A turn on a position: nothing is done for one that is Done or Busy.
+    pub(crate) fn turn(&mut self, t: u32) -> Turned
+        requires { IsFreeFor self.old.stepper t }
+        ensures turn { Turns self.old.stepper t result self.new.stepper }
+        ensures stack { self.new.stack.now ≡ self.old.stack.now }
+    {
+        match self.stepper.board.status(self.stepper.pass, t) {
+            Status::Open => self.attempt(t),
+            Status::Busy => Turned::Busy,
+            Status::Done => Turned::Done,
+        }
+    }
 }

@@ -8,7 +8,7 @@ use Rattle.std.proofs.lemmas.List.Elements.{All-append, All-nil}
 use Rattle.std.proofs.lemmas.List.Folds.{list_any-append, list_any_at}
 use Rattle.std.proofs.lemmas.List.Sums.{sum_by-append}
 use Rattle.bohm_tree.specs.Txn.{Txn}
-use Rattle.bohm_txn.specs.Faulty.{is_among}
+use Rattle.bohm_tree.specs.Keys.{is_among}
 use Rattle.bohm_txn.proofs.ForCallers.{among_first, among_then, key_itself}
 use Rattle.bohm_place.specs.declared.declared_set.DeclaredSet.{DeclaredSet}
 use Rattle.bohm_place.specs.declared.declared_set.DeclaredSet.TheVariants.{Reads, Writes}

@@ -3,7 +3,7 @@ use Rattle.std.specs.Prelude.{◌≡◌, ℕ, List, map, filter, count_by, Bool,
 use Rattle.std.specs.List.{list_any}
 use Rattle.std.specs.Str.{bytes_eq}
 use Rattle.bohm_tree.specs.Txn.{Txn}
-use Rattle.bohm_txn.specs.Faulty.{is_among}
+use Rattle.bohm_tree.specs.Keys.{is_among}
 use Rattle.bohm_place.specs.Chains.{greatest}
 use Rattle.bohm_place.specs.Shares.{AreDistinct}
 use Rattle.bohm_explain.specs.declared.arrow.Arrow.{Arrow}

@@ -1,14 +1,14 @@
 //! What is printed of a log.
 
-ghost use Rattle.std.specs.Prelude.{◌≡◌, ◌<◌, ◌≤◌, length, IfNone, IfOk, IfSome};
+ghost use Rattle.std.specs.Prelude.{◌≤◌, length, IfNone, IfOk, IfSome};
 ghost use Rattle.bohm_place.specs.Shares.{AreWellFormed};
 ghost use Rattle.bohm_explain.specs.Printed.{IsAnswerTo, LacksBatch};
 
 use crate::drawing::print_picture;
 use crate::explanation::print_table;
 use crate::request::Request;
-use bohm_place::HashSeed;
-use bohm_txn::{LogPart, NoMemory};
+use bohm_log::{HashSeed, LogPart};
+use bohm_tree::NoMemory;
 use std::alloc::Global;
 
 /// The text of what is asked of a log, or `None` where that is the picture of a batch that the log

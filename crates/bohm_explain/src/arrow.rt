@@ -6,8 +6,10 @@ ghost use Rattle.bohm_place.specs.Shares.{AreWellFormed};
 ghost use Rattle.bohm_explain.specs.Heaviest.{IsInside};
 ghost use Rattle.bohm_explain.specs.Wanted.{arrows, arrows_in};
 
+use bohm_log::LogPart;
 use bohm_place::{DeclaredSet, Plan, Source};
-use bohm_txn::{Key, LogPart, NoMemory, sure};
+use bohm_tree::{Key, NoMemory};
+use bohm_txn::sure;
 use std::alloc::Global;
 
 /// The transaction at `to` wants the version of the key that the one at `from` produces. Both are

@@ -1,16 +1,14 @@
 //! A picture of how many transactions each depth has.
 
-ghost use Rattle.std.specs.Prelude.{◌≡◌, ℕ, ◌+◌, ◌*◌, ◌++◌, ◌<◌, ◌≤◌, All, IfOk, count_by, length, slice_index};
-ghost use Rattle.bohm_place.specs.Chains.{greatest};
+ghost use Rattle.std.specs.Prelude.{◌≡◌, ℕ, ◌*◌, ◌++◌, ◌<◌, ◌≤◌, All, IfOk, count_by, length};
+ghost use Rattle.std.specs.Prelude.{slice_index};
 ghost use Rattle.bohm_explain.specs.Asked.{IsBetween};
 ghost use Rattle.bohm_explain.specs.Picture.{band_at, band_line, band_lines, band_width, by_depth, count_text, depths_text, is_in};
-ghost use Rattle.bohm_explain.specs.declared.bands.Band.{Band};
-ghost use Rattle.bohm_explain.specs.declared.bands.TheConstants.{MOST_NODES};
 
 use crate::decimal::put_decimal;
 use crate::figures::greatest;
 use crate::pieces::{put_joined, put_opening, put_where};
-use bohm_txn::NoMemory;
+use bohm_tree::NoMemory;
 
 /// The most transactions that are drawn one by one, and the most bands of depths.
 pub const MOST_NODES: u32 = 200;

@@ -1,11 +1,11 @@
 //! A log cut into batches.
 
-ghost use Rattle.std.specs.Prelude.{◌≡◌, ◌*◌, ◌+◌, ◌-◌, ◌<◌, ◌≤◌, length};
+ghost use Rattle.std.specs.Prelude.{◌≡◌, ◌*◌, ◌≤◌, length};
 ghost use Rattle.bohm_place.specs.Shares.{AreWellFormed};
 ghost use Rattle.bohm_explain.specs.Asked.{IsBetween};
 ghost use Rattle.bohm_explain.specs.Figures.{batch_at, batch_count};
 
-use bohm_txn::LogPart;
+use bohm_log::LogPart;
 
 /// The transactions of the batch of this index, counted from 0.
 pub fn batch_at<'a>(log: &LogPart<'a>, size: u32, index: u32) -> LogPart<'a>

@@ -2,7 +2,7 @@
 
 ghost use Rattle.std.specs.Prelude.{◌≡◌, ◌++◌, IfOk};
 
-use bohm_txn::NoMemory;
+use bohm_tree::NoMemory;
 use itoa::{Buffer, Integer};
 
 /// A number among words.

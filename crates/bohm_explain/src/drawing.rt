@@ -1,6 +1,6 @@
 //! A batch of a log, drawn.
 
-ghost use Rattle.std.specs.Prelude.{◌≡◌, ◌-◌, ◌<◌, ◌≤◌, length, map, IfNone, IfOk, IfSome};
+ghost use Rattle.std.specs.Prelude.{◌≡◌, ◌<◌, ◌≤◌, length, map, IfNone, IfOk, IfSome};
 ghost use Rattle.bohm_place.specs.Shares.{AreWellFormed};
 ghost use Rattle.bohm_txn.specs.Sure.{is_sure};
 ghost use Rattle.bohm_explain.specs.Asked.{IsBetween};
@@ -12,8 +12,10 @@ use crate::chains::on_longest;
 use crate::figures::greatest;
 use crate::picture::put_picture;
 use crate::waits::waits_in;
+use bohm_log::LogPart;
 use bohm_place::{Newest, plan_alone};
-use bohm_txn::{LogPart, NoMemory, sure};
+use bohm_tree::NoMemory;
+use bohm_txn::sure;
 use std::alloc::Global;
 
 /// Whether each transaction is sure.

@@ -19,8 +19,9 @@ use crate::ranking::rank;
 use crate::table::put_table;
 use crate::verdict::put_verdict;
 use crate::waits::waits_in;
-use bohm_place::{HashSeed, Newest, Plan, plan_alone};
-use bohm_txn::{LogPart, NoMemory};
+use bohm_log::{HashSeed, LogPart};
+use bohm_place::{Newest, Plan, plan_alone};
+use bohm_tree::NoMemory;
 use std::alloc::Global;
 
 /// What is found out of a log.

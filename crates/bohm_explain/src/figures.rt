@@ -1,6 +1,6 @@
 //! The figures of a batch, and of a whole log.
 
-ghost use Rattle.std.specs.Prelude.{◌≡◌, ℕ, ◌+◌, ◌*◌, ◌<◌, ◌≤◌, ◌^◌, All, length, max, sum, count_by, IfOk};
+ghost use Rattle.std.specs.Prelude.{◌≡◌, ℕ, ◌+◌, ◌≤◌, ◌^◌, All, length, sum, count_by, IfOk};
 ghost use Rattle.bohm_txn.specs.Sure.{is_sure};
 ghost use Rattle.bohm_place.specs.Chains.{greatest};
 ghost use Rattle.bohm_place.specs.Shares.{AreWellFormed};
@@ -10,7 +10,9 @@ ghost use Rattle.bohm_explain.specs.Wanted.{arrows as wanted_in};
 use crate::arrow::Arrow;
 use crate::chains::heaviest_to;
 use crate::weights::{declared, weights};
-use bohm_txn::{LogPart, NoMemory, sure};
+use bohm_log::LogPart;
+use bohm_tree::NoMemory;
+use bohm_txn::sure;
 use std::alloc::Global;
 
 /// What is counted of one batch.

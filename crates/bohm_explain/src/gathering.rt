@@ -11,8 +11,8 @@ ghost use Rattle.bohm_explain.specs.Wanted.{arrows as wanted_in};
 use crate::arrow::Arrow;
 use crate::heat::Heat;
 use crate::tallies::{Tally, count_all, raise_all};
-use bohm_place::HashSeed;
-use bohm_txn::{Key, LogPart, NoMemory};
+use bohm_log::{HashSeed, LogPart};
+use bohm_tree::{Key, NoMemory};
 use indexmap::IndexMap;
 use std::alloc::Global;
 

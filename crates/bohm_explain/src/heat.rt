@@ -1,6 +1,6 @@
 //! How hot a key is.
 
-use bohm_txn::Key;
+use bohm_tree::Key;
 
 /// A key of a log, and how much is done with it.
 #[derive(Clone, Copy, Debug, PartialEq, Eq)]

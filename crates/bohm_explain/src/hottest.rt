@@ -1,11 +1,11 @@
 //! The lines of the hottest keys.
 
-ghost use Rattle.std.specs.Prelude.{◌≡◌, ◌+◌, ◌-◌, ◌<◌, ◌≤◌, ◌++◌, ◌^◌, length, codes, IfOk};
+ghost use Rattle.std.specs.Prelude.{◌≡◌, ◌++◌, IfOk};
 ghost use Rattle.bohm_explain.specs.Hottest.{left_cell, heat_line, heat_lines, hottest_text};
 
 use crate::heat::Heat;
 use crate::table::{put_blanks, put_number};
-use bohm_txn::NoMemory;
+use bohm_tree::NoMemory;
 
 /// The columns end where `sure`, `taken` and `depth` do in the table.
 const HEAD: &[u8] = b"hottest keys                      writers   readers    chain\n";

@@ -1,7 +1,6 @@
 //! A picture of each transaction.
 
-ghost use Rattle.std.specs.Prelude.{◌≡◌, ◌++◌, ◌<◌, ◌≤◌, All, IfOk, length, slice_index};
-ghost use Rattle.bohm_place.specs.Chains.{greatest};
+ghost use Rattle.std.specs.Prelude.{◌≡◌, ◌++◌, ◌≤◌, All, IfOk, length};
 ghost use Rattle.bohm_explain.specs.Asked.{IsBetween};
 ghost use Rattle.bohm_explain.specs.Heaviest.{IsInside};
 ghost use Rattle.bohm_explain.specs.Picture.{arrow_line, arrow_lines, by_transaction, is_bold, node_line, node_lines};
@@ -10,7 +9,7 @@ use crate::arrow::Arrow;
 use crate::decimal::put_decimal;
 use crate::figures::greatest;
 use crate::pieces::{put_columns, put_legend, put_opening, put_where};
-use bohm_txn::{Key, NoMemory};
+use bohm_tree::{Key, NoMemory};
 
 /// A transaction as it is drawn.
 #[derive(Clone, Copy, Debug, PartialEq, Eq)]

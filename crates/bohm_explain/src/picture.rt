@@ -8,7 +8,7 @@ ghost use Rattle.bohm_explain.specs.Picture.{picture_text};
 use crate::arrow::Arrow;
 use crate::bands::{MOST_NODES, put_by_depth};
 use crate::nodes::put_by_transaction;
-use bohm_txn::NoMemory;
+use bohm_tree::NoMemory;
 
 /// Draws the batch of this number, from what holds at each position: whether the transaction there
 /// is sure, its depth, and whether it is on a longest chain. A batch of more than 200 transactions

@@ -4,7 +4,7 @@ ghost use Rattle.std.specs.Prelude.{◌≡◌, ◌++◌, ◌<◌, ◌≤◌, IfO
 ghost use Rattle.bohm_explain.specs.Picture.{column_line, column_lines, joined, legend, opening, shown};
 
 use crate::decimal::put_decimal;
-use bohm_txn::NoMemory;
+use bohm_tree::NoMemory;
 
 /// The title of a batch, in a text that is still open.
 pub fn put_opening(out: &mut Vec<u8>, batch: u32) -> Result<(), NoMemory>

@@ -1,12 +1,11 @@
 //! The table, as text.
 
-ghost use Rattle.std.specs.Prelude.{◌≡◌, ◌+◌, ◌-◌, ◌<◌, ◌≤◌, ◌++◌, ◌^◌, length, replicate, codes, IfOk};
-ghost use Rattle.bohm_explain.specs.Table.{cell, hundredths, hundredths_cell, head_line, row_line, rows_from, table_text};
+ghost use Rattle.std.specs.Prelude.{◌≡◌, ◌-◌, ◌≤◌, ◌++◌, length, replicate, IfOk};
+ghost use Rattle.bohm_explain.specs.Table.{cell, hundredths, hundredths_cell, row_line, table_text};
 
 use crate::figures::{Figures, Totals};
-use bohm_txn::NoMemory;
+use bohm_tree::NoMemory;
 use itoa::{Buffer, Integer};
-use std::alloc::Global;
 
 const HEAD: &[u8] =
     b"  batch  transactions      keys      sure     taken    depth     width       terms   heaviest     width\n";

@@ -1,12 +1,12 @@
 //! What keeps a log from being faster, in words.
 
-ghost use Rattle.std.specs.Prelude.{◌≡◌, ◌+◌, ◌<◌, ◌≤◌, ◌++◌, ◌^◌, length, codes, decimal, IfOk};
+ghost use Rattle.std.specs.Prelude.{◌≡◌, ◌++◌, IfOk};
 ghost use Rattle.bohm_explain.specs.Verdict.{leading, speedup_limit, limit_words, key_words, verdict_words, verdict_text};
 
 use crate::decimal::put_decimal;
 use crate::figures::Totals;
 use crate::heat::Heat;
-use bohm_txn::NoMemory;
+use bohm_tree::NoMemory;
 
 /// The hottest key on the longest chain, where there is a chain.
 fn leading(ranked: &[Heat]) -> Option<Heat>

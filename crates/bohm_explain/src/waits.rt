@@ -7,8 +7,9 @@ ghost use Rattle.bohm_explain.specs.Waiting.{AreWaits};
 use crate::arrow::{Arrow, wanted};
 use crate::chains::{heaviest_from, heaviest_to};
 use crate::weights::alike;
+use bohm_log::LogPart;
 use bohm_place::Plan;
-use bohm_txn::{LogPart, NoMemory};
+use bohm_tree::NoMemory;
 use std::alloc::Global;
 
 /// The wanted versions of a batch, and the chains of them.

@@ -1,13 +1,12 @@
 //! What transactions weigh.
 
-ghost use Rattle.std.specs.Prelude.{◌≡◌, ◌+◌, ◌*◌, ◌<◌, ◌≤◌, All, length, replicate, sum_by, IfOk};
-ghost use Rattle.std.specs.List.{AllByRecursion};
+ghost use Rattle.std.specs.Prelude.{◌≡◌, ◌≤◌, All, length, replicate, sum_by, IfOk};
 ghost use Rattle.bohm_place.specs.Shares.{AreWellFormed};
 ghost use Rattle.bohm_txn.specs.Declares.{AllShort, IsUsable};
 ghost use Rattle.bohm_explain.specs.Weighing.{terms_in, weight, weights, declared_by};
 
-use bohm_log::{StmtParts, StmtView};
-use bohm_txn::{LogPart, NoMemory, TxnView};
+use bohm_log::{LogPart, StmtParts, StmtView, TxnView};
+use bohm_tree::NoMemory;
 use std::alloc::Global;
 
 /// The number of terms in a statement.

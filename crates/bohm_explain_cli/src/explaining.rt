@@ -5,7 +5,7 @@ ghost use Rattle.bohm_run.specs.Headline.{IsBeforeWriting};
 ghost use Rattle.bohm_explain_cli.specs.Explaining.{Explains, RefusesLog};
 
 use bohm_explain::{Request, answer};
-use bohm_place::HashSeed;
+use bohm_log::HashSeed;
 use bohm_run::{RunFault, read_log, write_all};
 use std::alloc::Global;
 use std::io::{Read, Write};

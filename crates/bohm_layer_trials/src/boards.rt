@@ -1,7 +1,6 @@
 //! Boards over histories, what passes do on them, and what completing them leaves.
 
-ghost use Rattle.std.specs.Prelude.{◌≡◌, ◌==◌, ◌<◌, ◌≤◌, All, length, IfOk};
-ghost use Rattle.std.specs.List.{list_any};
+ghost use Rattle.std.specs.Prelude.{◌≡◌, ◌<◌, ◌≤◌, All, length, IfOk};
 ghost use Rattle.bohm_txn.specs.Faulty.{IsWellFormedTxn};
 ghost use Rattle.bohm_board.specs.Batches.{IsIn};
 ghost use Rattle.bohm_board.specs.Closings.{batch_of_closed};
@@ -14,9 +13,11 @@ ghost use Rattle.bohm_layer_trials.specs.Samples.{has_position, is_set_aside, Ar
 use crate::planning::FirstByte;
 use bohm_board::{Batch, Board, Closed, Pass};
 use bohm_exec::{Aside, Finished, Gate, OpenGate, complete, share_of, sweep};
+use bohm_log::LogPart;
 use bohm_place::{Shards, plan};
 use bohm_store::History;
-use bohm_txn::{Cell, LogPart, NoMemory, Outcome, Scratch, Value, shows};
+use bohm_tree::{Cell, NoMemory, Value};
+use bohm_txn::{Outcome, Scratch, shows};
 use std::alloc::Global;
 use std::process::Abort;
 use std::thread::Threads;

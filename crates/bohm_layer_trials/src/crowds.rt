@@ -1,6 +1,6 @@
 //! Four threads that claim the positions of one board.
 
-ghost use Rattle.std.specs.Prelude.{◌<◌, All};
+ghost use Rattle.std.specs.Prelude.{All};
 ghost use denote.Param.Send.{IsSync};
 ghost use Rattle.bohm_board.specs.Batches.{IsIn};
 ghost use Rattle.bohm_board.specs.Passes.{batch_of};
@@ -13,7 +13,6 @@ use bohm_board::{Board, Claimed, Pass};
 use bohm_txn::Checked;
 use std::alloc::Global;
 use std::process::Abort;
-use std::test::Fail;
 use std::thread;
 use std::thread::Threads;
 
@@ -87,39 +86,46 @@ fn claim_all(rt: &impl Abort, alloc: Global, board: &Board, job: Job) -> Vec<u32
 }
 
 // The positions that four threads get of a board of this log, and how many are without an outcome.
-fn race<R: Abort + Threads + Sync>(
-    rt: &R,
-    alloc: Global,
-    log: &Checked,
-) -> Result<(Vec<u32>, u32), Fail> {
-    let (board, pass, other) = Sweeper::new(rt, alloc, log)?.split();
+fn race<R: Abort + Threads + Sync>(rt: &R, alloc: Global, log: &Checked) -> (Vec<u32>, u32) {
+    let (board, pass, other) = Sweeper::new(rt, alloc, log).split();
     let claimed = thread::map_vec(
         rt,
         jobs(rt, alloc, &board, other),
         &|job: Job| -> Vec<u32>
             requires { IsSync R.row × IsFree board job.pass }
         { claim_all(rt, alloc, &board, job) },
-    )?;
+    );
+    let all = sorted(rt, alloc, claimed.expect(rt, "threads"));
+    (all, board.close(pass).unfinished())
+}
+
+// All of these, in order.
+fn sorted(rt: &impl Abort, alloc: Global, lists: Vec<Vec<u32>>) -> Vec<u32> {
     let mut all = Vec::new(alloc);
-    for mine in claimed {
-        all.extend_from_slice(mine.as_slice())?;
+    for list in lists {
+        all.extend_from_slice(list.as_slice()).expect(rt, "memory");
     }
-    all.sort()?;
-    Ok((all, board.close(pass).unfinished()))
+    all.sort().expect(rt, "memory");
+    all
+}
+
+// The numbers from 1 to this one.
+fn up_to(rt: &impl Abort, alloc: Global, last: u32) -> Vec<u32> {
+    let mut all = Vec::new(alloc);
+    for t in 1..=last {
+        all.push(t).ok().expect(rt, "memory");
+    }
+    all
 }
 
 #[test]
-fn threads_that_race_get_each_position_once(rt: HostRuntime) -> Result<(), Fail> {
+fn threads_that_race_get_each_position_once(rt: HostRuntime) {
     let alloc: Global = rt.alloc();
-    let idle = repeated(alloc, "txn\nreads\nwrites\nend\n", 4096)?;
-    let log = checked(alloc, "log 1\n", idle.as_str())?;
-    let mut each = Vec::new(alloc);
-    for t in 1..4097 {
-        each.push(t)?;
-    }
+    let idle = repeated(&rt, alloc, "txn\nreads\nwrites\nend\n", 4096);
+    let log = checked(&rt, alloc, "log 1\n", idle.as_str());
+    let each = up_to(&rt, alloc, 4096);
     for _ in 0..20 {
-        let (claimed, unfinished) = race(&rt, alloc, &log)?;
+        let (claimed, unfinished) = race(&rt, alloc, &log);
         assert_eq!(rt; (claimed.as_slice(), unfinished), (each.as_slice(), 4096));
     }
-    Ok(())
 }

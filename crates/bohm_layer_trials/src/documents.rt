@@ -1,9 +1,8 @@
 //! Which transactions are sure.
 
 use crate::logs::checked;
-use bohm_txn::sure;
+use bohm_txn::{Checked, sure};
 use std::process::Abort;
-use std::test::Fail;
 
 /// Transactions that are sure.
 const SURE: &str = "\
@@ -82,19 +81,22 @@ show 1
 end
 ";
 
+fn assert_each(rt: &impl Abort, log: &Checked, count: usize, want: bool) {
+    assert_eq!(rt; log.log().len(), count);
+    for index in 0..log.log().len() {
+        assert_eq!(rt; sure(&log.log().txn(index)), want, "{index}");
+    }
+}
+
 #[test]
-fn literals_alone_are_sure(rt: HostRuntime) -> Result<(), Fail> {
+fn literals_alone_are_sure(rt: HostRuntime) {
     for (head, log, count, want) in [
         ("log 1\n", SURE, 4, true),
         ("log 2\n", SURE, 4, true),
         ("log 1\n", UNSURE, 9, false),
         ("log 2\n", UNSURE, 9, false),
     ] {
-        let checked = checked(rt.alloc(), head, log)?;
-        assert_eq!(rt; checked.log().len(), count);
-        for index in 0..checked.log().len() {
-            assert_eq!(rt; sure(&checked.log().txn(index)), want, "{index}");
-        }
+        let log = checked(&rt, rt.alloc(), head, log);
+        assert_each(&rt, &log, count, want);
     }
-    Ok(())
 }

@@ -1,16 +1,16 @@
 //! Histories in use: batches are settled, the past is read and trimmed.
 
-ghost use Rattle.std.specs.Prelude.{◌≡◌, ◌<◌, ◌≤◌, ◌+◌, All, length, OnOk};
+ghost use Rattle.std.specs.Prelude.{◌<◌, ◌≤◌, All, length};
 ghost use Rattle.bohm_txn.specs.Faulty.{IsWellFormedTxn};
 
 use crate::boards::{execute, next_batch, present};
 use crate::logs::checked;
+use bohm_log::LogPart;
 use bohm_store::{History, PastFault, StoreFault};
 use bohm_text::print_store;
-use bohm_txn::{Cell, Key, LogPart, NoMemory};
+use bohm_tree::{Cell, Key, NoMemory, Value};
 use std::alloc::Global;
 use std::process::Abort;
-use std::test::Fail;
 use std::thread::Threads;
 
 // Runs the transactions as the next batch of the history.
@@ -32,54 +32,65 @@ fn settle<R: Abort + Threads + Sync>(
 
 /// The floor, the top and the number of versions, and the store at each timestamp from the floor
 /// on.
-fn told(rt: &impl Abort, alloc: Global, history: &History) -> Result<String, Fail> {
+fn told(rt: &impl Abort, alloc: Global, history: &History) -> String {
     let (floor, top) = (history.floor(), history.top());
     let count = history.version_count();
-    let mut text = format!(in alloc; "{floor} to {top}, {count} versions\n")?;
+    let head = format!(in alloc; "{floor} to {top}, {count} versions\n");
+    let mut text = head.expect(rt, "memory");
     for ts in floor..=top {
         let store = history.store_at(alloc, ts).expect(rt, "a store");
-        text.push_str(str::from_utf8(print_store(alloc, store.as_slice())?.as_slice())?)?;
+        put_store(rt, alloc, &mut text, store.as_slice());
     }
-    Ok(text)
+    text
+}
+
+fn put_store(rt: &impl Abort, alloc: Global, text: &mut String, store: &[(Key, Value)]) {
+    let printed = print_store(alloc, store).expect(rt, "memory");
+    let printed = str::from_utf8(printed.as_slice()).expect(rt, "a text");
+    text.push_str(printed).expect(rt, "memory");
 }
 
 // Runs the log as the next batch.
-fn settle_log<R: Abort + Threads + Sync>(
-    rt: &R,
-    alloc: Global,
-    history: &mut History,
-    log: &str,
-) -> Result<(), Fail> {
-    let log = checked(alloc, "log 1\n", log)?;
+fn settle_log<R: Abort + Threads + Sync>(rt: &R, alloc: Global, history: &mut History, log: &str) {
+    let log = checked(rt, alloc, "log 1\n", log);
     let txns = log.log();
     let fits = txns.len() > 0 && txns.len() <= 4096 && history.top() <= 1000;
     assert!(rt; fits);
-    Ok(settle(rt, alloc, history, &txns)?)
+    settle(rt, alloc, history, &txns).expect(rt, "memory");
 }
 
-fn trim(rt: &impl Abort, history: &mut History, floor: &str) -> Result<(), Fail> {
-    let floor = floor.trim().parse::<u32>().ok().ok_or("a floor")?;
+fn trim(rt: &impl Abort, history: &mut History, floor: u32) {
     let below = floor <= history.top();
     assert!(rt; below);
     history.trim(floor);
-    Ok(())
+}
+
+// A history of this store.
+fn opened(rt: &impl Abort, alloc: Global, store: &str) -> History {
+    let doc = checked(rt, alloc, "log 1\n", store);
+    History::open(alloc, doc.store()).expect(rt, "memory")
+}
+
+// Goes one step, and tells the history.
+fn goes_on_so<R: Abort + Threads + Sync>(rt: &R, alloc: Global, history: &mut History, part: &str) {
+    let (step, want) = part.split_once('@').expect(rt, "a step");
+    if step.starts_with("txn") {
+        settle_log(rt, alloc, history, step);
+    } else if !step.is_empty() {
+        let floor = step.parse::<u32>().ok();
+        trim(rt, history, floor.expect(rt, "a floor"));
+    }
+    assert_eq!(rt; told(rt, alloc, history).as_str(), want, "{part}");
 }
 
 /// A history of the store before the first `#`. Of each further part what stands before `@` is run
 /// as a batch, or trims the history where it is a number; then the history is told so.
-fn goes_so<R: Abort + Threads + Sync>(rt: &R, alloc: Global, row: &str) -> Result<(), Fail> {
-    let (store, parts) = row.split_once('#').ok_or("a store")?;
-    let mut history = History::open(alloc, checked(alloc, "log 1\n", store)?.store())?;
+fn goes_so<R: Abort + Threads + Sync>(rt: &R, alloc: Global, row: &str) {
+    let (store, parts) = row.split_once('#').expect(rt, "a store");
+    let mut history = opened(rt, alloc, store);
     for part in parts.split('#') {
-        let (step, want) = part.split_once('@').ok_or("a step")?;
-        if step.starts_with("txn") {
-            settle_log(rt, alloc, &mut history, step)?;
-        } else if !step.is_empty() {
-            trim(rt, &mut history, step)?;
-        }
-        assert_eq!(rt; told(rt, alloc, &history)?.as_str(), want, "{part}");
+        goes_on_so(rt, alloc, &mut history, part);
     }
-    Ok(())
 }
 
 /// A removal, of which a trim leaves the version that says so.
@@ -289,12 +300,28 @@ c_1 7
 ";
 
 #[test]
-fn batches_and_trims(rt: HostRuntime) -> Result<(), Fail> {
+fn batches_and_trims(rt: HostRuntime) {
     for row in [REMOVAL, ABORTED, COUNTERS, IN_TURN, NAMES] {
-        goes_so(&rt, rt.alloc(), row)?;
+        goes_so(&rt, rt.alloc(), row);
     }
-    Ok(())
 }
+
+/// The transactions of the removal.
+const DROPPING: &str = "\
+txn
+reads
+writes a
+drop a
+end
+txn
+reads a
+writes
+end
+txn
+reads
+writes
+end
+";
 
 /// What keys held, each at a timestamp.
 fn assert_values(
@@ -313,20 +340,17 @@ fn assert_no_store(rt: &impl Abort, alloc: Global, history: &History, ts: u32, w
     assert_eq!(rt; history.store_at(alloc, ts).err(), Some(want), "at {ts}");
 }
 
-/// The log of the removal, run.
-fn removed<R: Abort + Threads + Sync>(rt: &R, alloc: Global) -> Result<History, Fail> {
-    let (store, parts) = REMOVAL.split_once('#').ok_or("a store")?;
-    let log = parts.split('#').nth(1).ok_or("a log")?;
-    let log = log.split('@').next().ok_or("a log")?;
-    let mut history = History::open(alloc, checked(alloc, "log 1\n", store)?.store())?;
-    settle_log(rt, alloc, &mut history, log)?;
-    Ok(history)
+/// A history of a store with `a`, which the first transaction of a batch has dropped.
+fn removed<R: Abort + Threads + Sync>(rt: &R, alloc: Global) -> History {
+    let mut history = opened(rt, alloc, "a 5\n");
+    settle_log(rt, alloc, &mut history, DROPPING);
+    history
 }
 
 /// What single keys held, and what is said outside the past.
 #[test]
-fn values_of_the_past(rt: HostRuntime) -> Result<(), Fail> {
-    let mut history = removed(&rt, rt.alloc())?;
+fn values_of_the_past(rt: HostRuntime) {
+    let mut history = removed(&rt, rt.alloc());
     let rows = [
         (b"a".as_slice(), 0, Ok(present(5))),
         (b"a", 1, Ok(Cell::Absent)),
@@ -335,12 +359,11 @@ fn values_of_the_past(rt: HostRuntime) -> Result<(), Fail> {
     ];
     assert_values(&rt, &history, rows.as_slice());
     assert_no_store(&rt, rt.alloc(), &history, 4, StoreFault::Future);
-    trim(&rt, &mut history, "2")?;
+    trim(&rt, &mut history, 2);
     let rows = [
         (b"a".as_slice(), 1, Err(PastFault::Trimmed)),
         (b"a", 2, Ok(Cell::Absent)),
     ];
     assert_values(&rt, &history, rows.as_slice());
     assert_no_store(&rt, rt.alloc(), &history, 1, StoreFault::Trimmed);
-    Ok(())
 }

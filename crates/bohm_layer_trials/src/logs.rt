@@ -3,19 +3,20 @@
 use bohm_text::parse;
 use bohm_txn::{Checked, check};
 use std::alloc::Global;
-use std::test::Fail;
+use std::process::Abort;
 
-pub fn checked(alloc: Global, head: &str, log: &str) -> Result<Checked, Fail> {
-    let mut text = String::from_str(alloc, head)?;
-    text.push_str(log)?;
-    Ok(check(parse(alloc, text.as_bytes())?)?)
+pub fn checked(rt: &impl Abort, alloc: Global, head: &str, log: &str) -> Checked {
+    let mut text = String::from_str(alloc, head).expect(rt, "memory");
+    text.push_str(log).expect(rt, "memory");
+    let doc = parse(alloc, text.as_bytes()).expect(rt, "a text");
+    check(doc).expect(rt, "a document")
 }
 
 /// The text as often as this.
-pub fn repeated(alloc: Global, text: &str, count: u32) -> Result<String, Fail> {
+pub fn repeated(rt: &impl Abort, alloc: Global, text: &str, count: u32) -> String {
     let mut whole = String::new(alloc);
     for _ in 0..count {
-        whole.push_str(text)?;
+        whole.push_str(text).expect(rt, "memory");
     }
-    Ok(whole)
+    whole
 }

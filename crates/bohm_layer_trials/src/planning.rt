@@ -1,18 +1,20 @@
 //! Plans of a batch behind an earlier one, and the chains that they leave.
 
-ghost use Rattle.std.specs.Prelude.{◌≡◌, ◌%◌, ◌<◌, length, slice_index};
+ghost use Rattle.std.specs.Prelude.{◌≡◌, ◌%◌, ◌<◌, ℕ, List, [], length, slice_index};
 ghost use Rattle.std.proofs.Math.Nat.{mod-lt};
+ghost use Rattle.bohm_place.specs.Chains.{chain_in};
 ghost use Rattle.bohm_place.specs.Plans.{IsRightPlan};
 
 use crate::logs::checked;
+use bohm_log::LogPart;
 use bohm_place::{
     Access, DeclaredSet, Newest, Partition, Plan, Shards, Source, plan, plan_by_number,
 };
-use bohm_txn::{Checked, Key, LogPart};
+use bohm_tree::Key;
+use bohm_txn::Checked;
 use std::alloc::Global;
 use std::process::Abort;
 use std::sync::atomic::{AtomicU64, Ordering};
-use std::test::Fail;
 use std::thread;
 use std::thread::Threads;
 
@@ -153,11 +155,9 @@ fn before() -> Access {
     }
 }
 
-fn assert_plan(rt: &impl Abort, plan: &Plan, txns: &LogPart<'_>)
+fn assert_reads(rt: &impl Abort, plan: &Plan, txns: &LogPart<'_>)
     requires { IsRightPlan txns.now plan.now }
 {
-    assert_eq!(rt; plan.first(), 5);
-    assert_eq!(rt; plan.len(), 4);
     for (t, index, want) in [
         (6, 0, within(5, 0)),
         (7, 0, within(6, 0)),
@@ -171,6 +171,11 @@ fn assert_plan(rt: &impl Abort, plan: &Plan, txns: &LogPart<'_>)
             "read {index} of {t}"
         );
     }
+}
+
+fn assert_writes(rt: &impl Abort, plan: &Plan, txns: &LogPart<'_>)
+    requires { IsRightPlan txns.now plan.now }
+{
     for (t, index, want) in [
         (5, 0, before()),
         (5, 1, before()),
@@ -184,6 +189,14 @@ fn assert_plan(rt: &impl Abort, plan: &Plan, txns: &LogPart<'_>)
             "write {index} of {t}"
         );
     }
+}
+
+fn assert_plan(rt: &impl Abort, plan: &Plan, txns: &LogPart<'_>)
+    requires { IsRightPlan txns.now plan.now }
+{
+    assert_eq!(rt; (plan.first(), plan.len()), (5, 4));
+    assert_reads(rt, plan, txns);
+    assert_writes(rt, plan, txns);
 }
 
 // What `source` answers of a key at some timestamps.
@@ -216,6 +229,14 @@ fn assert_chains(
     assert_chain(rt, shards, 99 % parts.parts, b"c", c);
 }
 
+// Chains of no key, in so many parts.
+fn no_chains(rt: &impl Abort, alloc: Global, parts: u32) -> Shards
+    ensures parts { length result ≡ parts }
+    ensures empty { (part : List ℕ → ℕ) (k : List ℕ) → chain_in part result k ≡ [] }
+{
+    Shards::new(alloc, parts).expect(rt, "memory")
+}
+
 // Plans the batch behind an earlier one, looks at the plan and the chains, and trims them twice.
 fn plan_batch<R: Abort + Threads + Sync>(
     rt: &R,
@@ -224,17 +245,19 @@ fn plan_batch<R: Abort + Threads + Sync>(
     batch: &Checked,
     parts: FirstByte,
     cc: u32,
-) -> Result<(), Fail>
+)
     requires { 0 < cc }
 {
-    let shards = Shards::new(alloc, parts.parts)?;
+    let shards = no_chains(rt, alloc, parts.parts);
     let one = earlier.log().len() == 1;
     assert!(rt; one);
-    let (shards, _) = plan(rt, alloc, shards, 2, &earlier.log(), cc, &parts)?;
+    let planned = plan(rt, alloc, shards, 2, &earlier.log(), cc, &parts);
+    let (shards, _) = planned.expect(rt, "memory");
     let txns = batch.log();
     let four = txns.len() == 4;
     assert!(rt; four);
-    let (mut shards, plan) = plan(rt, alloc, shards, 5, &txns, cc, &parts)?;
+    let planned = plan(rt, alloc, shards, 5, &txns, cc, &parts);
+    let (mut shards, plan) = planned.expect(rt, "memory");
     assert_plan(rt, &plan, &txns);
     let a = [(9, 6), (6, 5), (5, 2), (2, 0)];
     let b = [(9, 7), (7, 5), (5, 0)];
@@ -246,7 +269,6 @@ fn plan_batch<R: Abort + Threads + Sync>(
     shards.trim_places(6);
     let a = [(9, 6), (6, 0)];
     assert_chains(rt, &shards, &parts, &a, &b, &c);
-    Ok(())
 }
 
 // Plans the batch behind an earlier one of another log, by the numbers of keys, and looks at the
@@ -258,7 +280,7 @@ fn plan_numbered<P: Partition, R: Abort + Threads + Sync>(
     batch: &Checked,
     parts: &P,
     cc: u32,
-) -> Result<(), Fail>
+)
     requires { 0 < cc }
 {
     let one = earlier.log().len() == 1;
@@ -266,44 +288,39 @@ fn plan_numbered<P: Partition, R: Abort + Threads + Sync>(
     let txns = batch.log();
     let four = txns.len() == 4;
     assert!(rt; four);
-    let newest = Newest::several(alloc, cc)?;
-    let (newest, _) = plan_by_number(rt, alloc, newest, 2, &earlier.log(), parts)?;
-    let (_, plan) = plan_by_number(rt, alloc, newest, 5, &txns, parts)?;
+    let newest = Newest::several(alloc, cc).expect(rt, "memory");
+    let planned = plan_by_number(rt, alloc, newest, 2, &earlier.log(), parts);
+    let (newest, _) = planned.expect(rt, "memory");
+    let planned = plan_by_number(rt, alloc, newest, 5, &txns, parts);
+    let (_, plan) = planned.expect(rt, "memory");
     assert_plan(rt, &plan, &txns);
-    Ok(())
 }
 
 #[test]
-fn every_number_of_workers_and_parts_gives_the_same_plan(rt: HostRuntime) -> Result<(), Fail> {
-    let earlier = checked(rt.alloc(), "log 1\n", EARLIER)?;
-    let batch = checked(rt.alloc(), "log 1\n", BATCH)?;
+fn every_number_of_workers_and_parts_gives_the_same_plan(rt: HostRuntime) {
+    let earlier = checked(&rt, rt.alloc(), "log 1\n", EARLIER);
+    let batch = checked(&rt, rt.alloc(), "log 1\n", BATCH);
     for parts in [1, 7, 64] {
         for cc in [1, 2, 16] {
-            plan_batch(&rt, rt.alloc(), &earlier, &batch, FirstByte::new(parts), cc)?;
+            plan_batch(&rt, rt.alloc(), &earlier, &batch, FirstByte::new(parts), cc);
             let parts = FirstByte::new(parts);
-            plan_numbered(&rt, rt.alloc(), &earlier, &batch, &parts, cc)?;
+            plan_numbered(&rt, rt.alloc(), &earlier, &batch, &parts, cc);
         }
     }
-    Ok(())
 }
 
 // Plans the batch alone, and looks at the plan.
-fn plan_alone<P: Partition, R: Abort + Threads + Sync>(
-    rt: &R,
-    alloc: Global,
-    parts: &P,
-    cc: u32,
-) -> Result<(), Fail>
+fn plan_alone<P: Partition, R: Abort + Threads + Sync>(rt: &R, alloc: Global, parts: &P, cc: u32)
     requires { 0 < cc }
 {
-    let batch = checked(alloc, "log 1\n", BATCH)?;
+    let batch = checked(rt, alloc, "log 1\n", BATCH);
     let txns = batch.log();
     let four = txns.len() == 4;
     assert!(rt; four);
-    let shards = Shards::new(alloc, parts.parts())?;
-    let (_, plan) = plan(rt, alloc, shards, 5, &txns, cc, parts)?;
+    let shards = no_chains(rt, alloc, parts.parts());
+    let planned = plan(rt, alloc, shards, 5, &txns, cc, parts);
+    let (_, plan) = planned.expect(rt, "memory");
     assert_plan(rt, &plan, &txns);
-    Ok(())
 }
 
 impl Meeting {
@@ -319,19 +336,17 @@ impl Meeting {
 }
 
 #[test]
-fn two_workers_plan_at_once(rt: HostRuntime) -> Result<(), Fail> {
+fn two_workers_plan_at_once(rt: HostRuntime) {
     let meeting = Meeting::new();
-    plan_alone(&rt, rt.alloc(), &meeting, 2)?;
+    plan_alone(&rt, rt.alloc(), &meeting, 2);
     assert_eq!(rt; meeting.met.load(Ordering::SeqCst), 1);
-    Ok(())
 }
 
 #[test]
-fn two_workers_plan_by_number_at_once(rt: HostRuntime) -> Result<(), Fail> {
+fn two_workers_plan_by_number_at_once(rt: HostRuntime) {
     let meeting = Meeting::new();
-    let earlier = checked(rt.alloc(), "log 1\n", EARLIER)?;
-    let batch = checked(rt.alloc(), "log 1\n", BATCH)?;
-    plan_numbered(&rt, rt.alloc(), &earlier, &batch, &meeting, 2)?;
+    let earlier = checked(&rt, rt.alloc(), "log 1\n", EARLIER);
+    let batch = checked(&rt, rt.alloc(), "log 1\n", BATCH);
+    plan_numbered(&rt, rt.alloc(), &earlier, &batch, &meeting, 2);
     assert_eq!(rt; meeting.met.load(Ordering::SeqCst), 1);
-    Ok(())
 }

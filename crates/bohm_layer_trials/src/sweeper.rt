@@ -1,16 +1,15 @@
 //! A board and the pass that sweeps it.
 
-ghost use Rattle.std.specs.Prelude.{◌≡◌};
 ghost use Rattle.bohm_exec.specs.Turns.{IsFree};
 
 use crate::boards::{assert_in, finish, next_batch, sweep_these};
 use bohm_board::{Batch, Board, Claimed, Pass, Slot, Status};
 use bohm_exec::{Aside, Finished, Gate};
 use bohm_store::History;
-use bohm_txn::{Cell, Checked, shows};
+use bohm_tree::Cell;
+use bohm_txn::{Checked, shows};
 use std::alloc::Global;
 use std::process::Abort;
-use std::test::Fail;
 use std::thread::Threads;
 
 /// A board, and a pass that holds nothing.
@@ -57,23 +56,20 @@ fn first_batch<'a, R: Abort + Threads + Sync>(
     rt: &R,
     alloc: Global,
     log: &'a Checked,
-) -> Result<Batch<'a>, Fail> {
+) -> Batch<'a> {
     let txns = log.log();
     let fits = txns.len() > 0 && txns.len() <= 4096;
     assert!(rt; fits);
-    let history = History::open(alloc, log.store())?;
-    Ok(next_batch(rt, alloc, &history, &txns)?)
+    let history = History::open(alloc, log.store()).expect(rt, "memory");
+    next_batch(rt, alloc, &history, &txns).expect(rt, "memory")
 }
 
 impl<'a> Sweeper<'a> {
     /// Of a log, over its own store.
-    pub fn new<R: Abort + Threads + Sync>(
-        rt: &R,
-        alloc: Global,
-        log: &'a Checked,
-    ) -> Result<Sweeper<'a>, Fail> {
-        let (board, pass) = Board::open(alloc, first_batch(rt, alloc, log)?)?;
-        Ok(Sweeper { board, pass })
+    pub fn new<R: Abort + Threads + Sync>(rt: &R, alloc: Global, log: &'a Checked) -> Sweeper<'a> {
+        let batch = first_batch(rt, alloc, log);
+        let (board, pass) = Board::open(alloc, batch).expect(rt, "memory");
+        Sweeper { board, pass }
     }
 
     /// What a sweep of these positions sets aside.

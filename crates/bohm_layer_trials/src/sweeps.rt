@@ -7,12 +7,12 @@ use crate::boards::{cell, outcome, present, shown, sweep_these};
 use crate::logs::{checked, repeated};
 use crate::sweeper::{Sweeper, joined, seen};
 use bohm_board::{Board, Pass, Status};
-use bohm_exec::{Finished, Gate, OpenGate, Point, share_of};
-use bohm_txn::{Cell, Checked, Outcome, Reason};
+use bohm_exec::{Aside, Finished, Gate, OpenGate, Point, share_of};
+use bohm_tree::Cell;
+use bohm_txn::{Checked, Outcome, Reason};
 use std::alloc::Global;
 use std::process::Abort;
 use std::sync::atomic::{AtomicU64, Ordering};
-use std::test::Fail;
 use std::thread;
 use std::thread::Threads;
 
@@ -20,12 +20,9 @@ use std::thread::Threads;
 const COUNTER: &str = "txn\nreads a\nwrites a\nshow a\nset a = a + 1\nend\n";
 
 /// Counts `a` up from 0, so often.
-fn counters(alloc: Global, count: u32) -> Result<Checked, Fail> {
-    checked(
-        alloc,
-        "log 1\na 0\n",
-        repeated(alloc, COUNTER, count)?.as_str(),
-    )
+fn counters(rt: &impl Abort, alloc: Global, count: u32) -> Checked {
+    let txns = repeated(rt, alloc, COUNTER, count);
+    checked(rt, alloc, "log 1\na 0\n", txns.as_str())
 }
 
 /// Asserts that each of the first so many transactions shows how many are before it, and leaves one
@@ -47,6 +44,34 @@ fn assert_counted(rt: &impl Abort, finished: &Finished, len: u32) {
     }
 }
 
+/// Sweeps these positions, and asserts that these pairs are set aside.
+fn sweeps_so(
+    rt: &impl Abort,
+    alloc: Global,
+    sweeper: &mut Sweeper<'_>,
+    share: &[u32],
+    want: &[(u32, u32)],
+) -> Aside {
+    let aside = sweeper.sweep(rt, alloc, share, &OpenGate);
+    assert_eq!(rt; aside.pairs(), want);
+    aside
+}
+
+/// Closes a board of so many counters, of which so many have no outcome yet.
+fn ends_counted(
+    rt: &impl Abort,
+    alloc: Global,
+    sweeper: Sweeper<'_>,
+    asides: &[Aside],
+    without: u32,
+    len: u32,
+) {
+    let (unfinished, finished) = sweeper.finish(rt, alloc, asides);
+    let told = (unfinished, finished.first(), finished.len());
+    assert_eq!(rt; told, (without, 1, len));
+    assert_counted(rt, &finished, len);
+}
+
 const FAILING: &str = "\
 txn
 reads
@@ -61,22 +86,24 @@ need no a
 end
 ";
 
-#[test]
-fn backwards(rt: HostRuntime) -> Result<(), Fail> {
-    let alloc: Global = rt.alloc();
-    let log = checked(alloc, "log 1\n", FAILING)?;
-    let mut sweeper = Sweeper::new(&rt, alloc, &log)?;
-    let aside = sweeper.sweep(&rt, alloc, &[2, 1], &OpenGate);
-    assert_eq!(rt; aside.pairs(), [].as_slice());
-    let (_, finished) = sweeper.finish(&rt, alloc, &[aside]);
+fn assert_failed(rt: &impl Abort, finished: &Finished) {
     let failed = Outcome::Abort {
         reason: Reason::Fail,
         stmt: 2,
     };
-    let ends = (outcome(&rt, &finished, 1), outcome(&rt, &finished, 2));
+    let ends = (outcome(rt, finished, 1), outcome(rt, finished, 2));
     assert_eq!(rt; ends, (failed, Outcome::Commit));
-    assert_eq!(rt; cell(&rt, &finished, 1), Cell::Absent);
-    Ok(())
+    assert_eq!(rt; cell(rt, finished, 1), Cell::Absent);
+}
+
+#[test]
+fn backwards(rt: HostRuntime) {
+    let alloc: Global = rt.alloc();
+    let log = checked(&rt, alloc, "log 1\n", FAILING);
+    let mut sweeper = Sweeper::new(&rt, alloc, &log);
+    let aside = sweeps_so(&rt, alloc, &mut sweeper, &[2, 1], &[]);
+    let (_, finished) = sweeper.finish(&rt, alloc, &[aside]);
+    assert_failed(&rt, &finished);
 }
 
 /// Sets a flag at each of the two points of position 1, and goes on from its claim once it is let
@@ -110,16 +137,15 @@ impl Gate for FirstHeld {
     }
 }
 
-// What another pass finds while position 1 is held, and once it is finished.
-fn look_at_held(rt: &impl Abort, alloc: Global, board: &Board, mut pass: Pass, gate: &FirstHeld)
-    requires { IsFree board.now pass }
+// What another pass finds while position 1 is held.
+fn assert_held(rt: &impl Abort, board: &Board, pass: &mut Pass)
+    requires { IsFree board.now pass.old }
+    ensures { IsFree board.now pass.new }
 {
-    wait_for(&gate.claimed);
-    assert_eq!(rt; gate.claimed.load(Ordering::SeqCst), 1);
     let held = [
-        seen(rt, board, &mut pass, 1, 0),
-        seen(rt, board, &mut pass, 1, 1),
-        seen(rt, board, &mut pass, 2, 0),
+        seen(rt, board, pass, 1, 0),
+        seen(rt, board, pass, 1, 1),
+        seen(rt, board, pass, 2, 0),
     ];
     let want = [
         (Status::Busy, None),
@@ -127,10 +153,12 @@ fn look_at_held(rt: &impl Abort, alloc: Global, board: &Board, mut pass: Pass, g
         (Status::Open, None),
     ];
     assert_eq!(rt; held.as_slice(), want.as_slice());
-    let aside = sweep_these(rt, alloc, board, &mut pass, &[3, 2], &OpenGate);
-    assert_eq!(rt; aside.pairs(), [(3, 1), (2, 1)].as_slice());
-    gate.let_go.store(1, Ordering::SeqCst);
-    wait_for(&gate.finished);
+}
+
+// What it finds once position 1 is finished.
+fn assert_finished(rt: &impl Abort, board: &Board, mut pass: Pass)
+    requires { IsFree board.now pass }
+{
     let done = [
         seen(rt, board, &mut pass, 1, 0),
         seen(rt, board, &mut pass, 1, 1),
@@ -140,6 +168,20 @@ fn look_at_held(rt: &impl Abort, alloc: Global, board: &Board, mut pass: Pass, g
         (Status::Done, Some(present(0))),
     ];
     assert_eq!(rt; done.as_slice(), want.as_slice());
+}
+
+// What another pass finds while position 1 is held, and once it is finished.
+fn look_at_held(rt: &impl Abort, alloc: Global, board: &Board, mut pass: Pass, gate: &FirstHeld)
+    requires { IsFree board.now pass }
+{
+    wait_for(&gate.claimed);
+    assert_eq!(rt; gate.claimed.load(Ordering::SeqCst), 1);
+    assert_held(rt, board, &mut pass);
+    let aside = sweep_these(rt, alloc, board, &mut pass, &[3, 2], &OpenGate);
+    assert_eq!(rt; aside.pairs(), [(3, 1), (2, 1)].as_slice());
+    gate.let_go.store(1, Ordering::SeqCst);
+    wait_for(&gate.finished);
+    assert_finished(rt, board, pass);
 }
 
 #[derive(Drop)]
@@ -196,39 +238,39 @@ fn hold_and_look<R: Abort + Threads + Sync>(
     assert!(rt; ended.is_ok());
 }
 
-#[test]
-fn held_then_finished(rt: HostRuntime) -> Result<(), Fail> {
-    let alloc: Global = rt.alloc();
-    let log = counters(alloc, 3)?;
-    let (board, pass, other) = Sweeper::new(&rt, alloc, &log)?.split();
+// A board whose position 1 was held, while another pass looked at it, and is finished.
+fn held_before<'a, R: Abort + Threads + Sync>(
+    rt: &R,
+    alloc: Global,
+    log: &'a Checked,
+) -> Sweeper<'a> {
+    let (board, pass, other) = Sweeper::new(rt, alloc, log).split();
     let (holder, looker) = board.split(other);
-    hold_and_look(&rt, alloc, &board, holder, looker);
+    hold_and_look(rt, alloc, &board, holder, looker);
     let (pass, other) = board.split(pass);
     let pass = joined(&board, pass, other);
-    let mut sweeper = Sweeper::of(board, pass);
-    let aside = sweeper.sweep(&rt, alloc, &[3, 2], &OpenGate);
-    assert_eq!(rt; aside.pairs(), [].as_slice());
-    let (unfinished, finished) = sweeper.finish(&rt, alloc, &[]);
-    assert_eq!(rt; unfinished, 0);
-    assert_counted(&rt, &finished, 3);
-    Ok(())
+    Sweeper::of(board, pass)
 }
 
 #[test]
-fn held_and_dropped(rt: HostRuntime) -> Result<(), Fail> {
+fn held_then_finished(rt: HostRuntime) {
     let alloc: Global = rt.alloc();
-    let log = counters(alloc, 3)?;
-    let (mut sweeper, holder) = Sweeper::new(&rt, alloc, &log)?.hold(&rt, 1);
-    let others = sweeper.sweep(&rt, alloc, &[3, 2], &OpenGate);
-    assert_eq!(rt; others.pairs(), [(3, 1), (2, 1)].as_slice());
+    let log = counters(&rt, alloc, 3);
+    let mut sweeper = held_before(&rt, alloc, &log);
+    sweeps_so(&rt, alloc, &mut sweeper, &[3, 2], &[]);
+    ends_counted(&rt, alloc, sweeper, &[], 0, 3);
+}
+
+#[test]
+fn held_and_dropped(rt: HostRuntime) {
+    let alloc: Global = rt.alloc();
+    let log = counters(&rt, alloc, 3);
+    let (mut sweeper, holder) = Sweeper::new(&rt, alloc, &log).hold(&rt, 1);
+    let others = sweeps_so(&rt, alloc, &mut sweeper, &[3, 2], &[(3, 1), (2, 1)]);
     drop(holder);
-    let first = sweeper.sweep(&rt, alloc, &[1], &OpenGate);
-    assert_eq!(rt; first.pairs(), [(1, 1)].as_slice());
+    let first = sweeps_so(&rt, alloc, &mut sweeper, &[1], &[(1, 1)]);
     assert_eq!(rt; sweeper.see(&rt, 1, 0), (Status::Busy, None));
-    let (unfinished, finished) = sweeper.finish(&rt, alloc, &[others, first]);
-    assert_eq!(rt; unfinished, 3);
-    assert_counted(&rt, &finished, 3);
-    Ok(())
+    ends_counted(&rt, alloc, sweeper, &[others, first], 3, 3);
 }
 
 const OVERWRITTEN: &str = "\
@@ -245,21 +287,16 @@ end
 ";
 
 #[test]
-fn sure_write_goes_past(rt: HostRuntime) -> Result<(), Fail> {
+fn sure_write_goes_past(rt: HostRuntime) {
     let alloc: Global = rt.alloc();
-    let log = checked(alloc, "log 1\na 5\n", OVERWRITTEN)?;
-    let (mut sweeper, holder) = Sweeper::new(&rt, alloc, &log)?.hold(&rt, 1);
-    let second = sweeper.sweep(&rt, alloc, &[2], &OpenGate);
+    let log = checked(&rt, alloc, "log 1\na 5\n", OVERWRITTEN);
+    let (mut sweeper, holder) = Sweeper::new(&rt, alloc, &log).hold(&rt, 1);
+    sweeps_so(&rt, alloc, &mut sweeper, &[2], &[]);
     drop(holder);
-    let first = sweeper.sweep(&rt, alloc, &[1], &OpenGate);
-    assert_eq!(rt;
-        (second.pairs(), first.pairs()),
-        ([].as_slice(), [(1, 1)].as_slice())
-    );
+    let first = sweeps_so(&rt, alloc, &mut sweeper, &[1], &[(1, 1)]);
     let (_, finished) = sweeper.finish(&rt, alloc, &[first]);
     let cells = (cell(&rt, &finished, 1), cell(&rt, &finished, 2));
     assert_eq!(rt; cells, (present(6), present(9)));
-    Ok(())
 }
 
 /// Counts the claims and the ends.
@@ -303,45 +340,50 @@ fn assert_held_up(rt: &impl Abort, sweeper: &mut Sweeper<'_>, counts: &Counts) {
     assert_eq!(rt; found.as_slice(), want.as_slice());
 }
 
-#[test]
-fn eight_one_held(rt: HostRuntime) -> Result<(), Fail> {
-    let alloc: Global = rt.alloc();
-    let log = counters(alloc, 8)?;
-    let (mut sweeper, holder) = Sweeper::new(&rt, alloc, &log)?.hold(&rt, 4);
+// Sweeps eight, of which another pass holds the fourth.
+fn sweep_around(rt: &impl Abort, alloc: Global, sweeper: &mut Sweeper<'_>) -> Aside {
     let counts = Counts {
         claimed: AtomicU64::new(0),
         finished: AtomicU64::new(0),
     };
-    let aside = sweeper.sweep(&rt, alloc, &[1, 2, 3, 4, 5, 6, 7, 8], &counts);
-    drop(holder);
+    let aside = sweeper.sweep(rt, alloc, &[1, 2, 3, 4, 5, 6, 7, 8], &counts);
     let pairs = [(4, 4), (5, 4), (6, 4), (7, 4), (8, 4)];
     assert_eq!(rt; aside.pairs(), pairs.as_slice());
-    assert_held_up(&rt, &mut sweeper, &counts);
-    let (unfinished, finished) = sweeper.finish(&rt, alloc, &[aside]);
-    assert_eq!(rt; (unfinished, finished.first(), finished.len()), (5, 1, 8));
-    assert_counted(&rt, &finished, 8);
-    Ok(())
+    assert_held_up(rt, sweeper, &counts);
+    aside
 }
 
 #[test]
-fn deepest_work_stack(rt: HostRuntime) -> Result<(), Fail> {
+fn eight_one_held(rt: HostRuntime) {
     let alloc: Global = rt.alloc();
-    let log = counters(alloc, 4096)?;
-    let mut sweeper = Sweeper::new(&rt, alloc, &log)?;
+    let log = counters(&rt, alloc, 8);
+    let (mut sweeper, holder) = Sweeper::new(&rt, alloc, &log).hold(&rt, 4);
+    let aside = sweep_around(&rt, alloc, &mut sweeper);
+    drop(holder);
+    ends_counted(&rt, alloc, sweeper, &[aside], 5, 8);
+}
+
+// The numbers from this one down to 1.
+fn falling(rt: &impl Abort, alloc: Global, first: u32) -> Vec<u32> {
     let mut share = Vec::new(alloc);
-    for i in 0..4096 {
-        share.push(4096 - i)?;
+    for t in (1..=first).rev() {
+        share.push(t).ok().expect(rt, "memory");
     }
-    let aside = sweeper.sweep(&rt, alloc, share.as_slice(), &OpenGate);
-    assert_eq!(rt; aside.pairs(), [].as_slice());
-    let (_, finished) = sweeper.finish(&rt, alloc, &[aside]);
-    assert_counted(&rt, &finished, 4096);
-    Ok(())
+    share
 }
 
 #[test]
-fn shares(rt: HostRuntime) -> Result<(), Fail> {
-    let share = share_of(rt.alloc(), 5, 7, 1, 3)?;
+fn deepest_work_stack(rt: HostRuntime) {
+    let alloc: Global = rt.alloc();
+    let log = counters(&rt, alloc, 4096);
+    let mut sweeper = Sweeper::new(&rt, alloc, &log);
+    let share = falling(&rt, alloc, 4096);
+    let aside = sweeps_so(&rt, alloc, &mut sweeper, share.as_slice(), &[]);
+    ends_counted(&rt, alloc, sweeper, &[aside], 0, 4096);
+}
+
+#[test]
+fn shares(rt: HostRuntime) {
+    let share = share_of(rt.alloc(), 5, 7, 1, 3).expect(&rt, "memory");
     assert_eq!(rt; share.as_slice(), [6, 9].as_slice());
-    Ok(())
 }

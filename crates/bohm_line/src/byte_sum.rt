@@ -5,7 +5,7 @@ ghost use Rattle.std.specs.List.{sum};
 ghost use Rattle.std.proofs.Math.Nat.{mod-lt};
 
 use bohm_place::Partition;
-use bohm_txn::Key;
+use bohm_tree::Key;
 
 /// The part of a key is the sum of its bytes modulo the number of parts, which is at least 1.
 #[derive(Clone, Copy, Debug)]

@@ -5,7 +5,7 @@ ghost use Rattle.std.specs.List.{sum};
 ghost use Rattle.bohm_txn.specs.Faulty.{IsWellFormedTxn};
 
 use crate::cuts::Cuts;
-use bohm_txn::LogPart;
+use bohm_log::LogPart;
 
 /// A log, the timestamp of its first transaction and its cutting.
 #[derive(Clone, Copy)]

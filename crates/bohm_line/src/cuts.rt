@@ -1,10 +1,11 @@
 //! How a log is cut into batches.
 
-ghost use Rattle.std.specs.Prelude.{◌≡◌, ◌<◌, ◌≤◌, ◌+◌, length, slice_index, Some, None, true, nat_le, IfOk, if◌then◌else◌};
+ghost use Rattle.std.specs.Prelude.{◌≡◌, ◌<◌, ◌≤◌, ◌+◌, length, slice_index, Some, None, nat_le};
+ghost use Rattle.std.specs.Prelude.{IfOk, if◌then◌else◌};
 ghost use Rattle.std.specs.List.{sum, list_all};
 ghost use Rattle.bohm_line.specs.Cuttings.{is_size, cuts_of, IsEven, ahead};
 
-use bohm_txn::NoMemory;
+use bohm_tree::NoMemory;
 use std::alloc::Global;
 use std::marker::Model;
 

@@ -3,7 +3,7 @@ use Rattle.std.proofs.Common.{◌≡◌, ℕ, ◌-◌, ◌<◌, List, [], ◌∷
 use Rattle.std.specs.List.{All, between}
 use Rattle.std.proofs.lemmas.List.{take-map, drop-map}
 use Rattle.std.proofs.lemmas.List.Elements.{All-take, All-drop, All-weaker}
-use Rattle.bohm_log.specs.declared.columns.Head.{Head}
+use Rattle.bohm_log.specs.declared.table.Head.{Head}
 use Rattle.bohm_log.specs.declared.table.Table.{Table}
 use Rattle.bohm_log.specs.Parts.{Parts, TermIn}
 use Rattle.bohm_log.specs.Columns.{Shared, AllNamed, HeadIn, txn_at}

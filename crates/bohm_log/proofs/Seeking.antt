@@ -7,7 +7,7 @@ use Rattle.std.proofs.lemmas.Iterator.Adapters.{position_from-zero}
 use Rattle.std.proofs.lemmas.List.Quantifiers.{position-Some}
 use Rattle.std.proofs.lemmas.Option.{slice_get-get_or}
 use Rattle.std.proofs.lemmas.Slice.Eq.{bytes_eq-Decides}
-use Rattle.bohm_tree.specs.Name.{place}
+use Rattle.bohm_tree.specs.Keys.{place}
 use Rattle.bohm_log.specs.Interning.{with_name}
 use Rattle.bohm_log.specs.Parts.{IsApart}
 

@@ -7,7 +7,8 @@ use Rattle.bohm_log.specs.declared.row.Action.{Action}
 use Rattle.bohm_log.specs.declared.row.Action.TheVariants as actions
 use Rattle.bohm_log.specs.declared.row.StmtRow.{StmtRow}
 use Rattle.bohm_log.specs.Parts.{IsApart, OtherIn, Parts, Begins}
-use Rattle.bohm_log.specs.Drafting.{NamesGrow, with_row, AddsRow, IsNamed, IsNameless, keys_of, NameStands, KeyStands, Stands}
+use Rattle.bohm_log.specs.declared.row.TermRow.{TermRow}
+use Rattle.bohm_log.specs.Drafting.{AddsTerm, NamesGrow, with_row, AddsRow, IsNamed, IsNameless, keys_of, NameStands, KeyStands, Stands}
 use Rattle.bohm_log.proofs.Growth.{Begins-itself}
 use Rattle.bohm_log.proofs.Drafts.{itself}
 
@@ -110,6 +111,16 @@ pub read_stands : (p : Parts) (i : ℕ) (k : List ℕ) (minus : Bool) → slice_
 read_stands p i k minus e = record {
   within = slice_get_within p.reads i k e;
   same = rw (get_or_from_slice_get p.reads i k [] e) refl;
+}
+
+pub read_came : (p : Parts) (terms : List TermRow) (i : ℕ) (k : List ℕ) (minus : Bool) → slice_get p.reads i ≡ Some k → terms ≡ p.terms ++ record { kind = Read; minus = minus; place = i } ∷ []
+    → AddsTerm p (record { reads = p.reads; writes = p.writes; others = p.others; large = p.large; terms = terms; rows = p.rows }) minus (atoms.Read k)
+read_came p terms i k minus e made = record {
+  grows = record { reads = refl; writes = refl; others = Begins-itself p.others; large = Begins-itself p.large; terms = (record { kind = Read; minus = minus; place = i } ∷ [], made); rows = Begins-itself p.rows };
+  rows = refl;
+  term = record { kind = Read; minus = minus; place = i };
+  terms = made;
+  stands = read_stands (record { reads = p.reads; writes = p.writes; others = p.others; large = p.large; terms = terms; rows = p.rows }) i k minus e;
 }
 
 pub unread_stands : (p : Parts) (i : ℕ) (k : List ℕ) (minus : Bool) → slice_get p.others i ≡ Some k → IsApart p.reads k → Stands p (record { kind = Unread; minus = minus; place = i }) minus (atoms.Read k)

@@ -2,15 +2,15 @@
 use Rattle.std.proofs.Common.{◌≡◌, ℕ, ◌+◌, ◌-◌, ◌<◌, true, false, cond, List, [], ◌∷◌, ◌++◌, length, get_or, take, drop, map, Some, refl, ap, sym, ◌∙◌, subst, arith, length-append, append_assoc, append-nil, slice_get}
 use Rattle.std.specs.List.{between, list_any, IsDistinct}
 use Rattle.std.specs.Str.{bytes_eq}
-use Rattle.std.proofs.lemmas.List.{drop_at, map-append, take_more}
-use Rattle.std.proofs.lemmas.List.Elements.{All-weaker, All-append, All-push, All-nil, All-cons, All-take, All-drop, All-same}
+use Rattle.std.proofs.lemmas.List.{drop_at, length-map, get_or-map, get_or_append_left, get_or-append-add, map-append, take_more}
+use Rattle.std.proofs.lemmas.List.Elements.{All-weaker, All-append, All-push, All-nil, All-cons, All-take, All-drop, All-same, All-get_or}
 use Rattle.std.proofs.lemmas.Option.{get_or_from_slice_get, slice_get_within}
 use Rattle.std.proofs.lemmas.Slice.{between_to_end}
 use Rattle.bohm_log.specs.Interning.{with_name}
 use Rattle.bohm_log.specs.Parts.{Parts, Begins, IsWithin, name_at, txn_of}
-use Rattle.bohm_log.specs.Columns.{Shared, parts_at, AllNamed, Spans, HeadIn, IsLogged, Widens, Interns, NumbersCome, Lands, SetsCome, Appends, txn_at}
+use Rattle.bohm_log.specs.Columns.{Shared, parts_at, AllNamed, Spans, HeadIn, IsLogged, Widens, Interns, NumbersCome, NumbersStand, Lands, SetsCome, Appends, txn_at}
 use Rattle.bohm_tree.specs.declared.edition.Edition.{Edition}
-use Rattle.bohm_log.specs.declared.columns.Head.{Head}
+use Rattle.bohm_log.specs.declared.table.Head.{Head}
 use Rattle.bohm_log.proofs.Growth.{Begins-itself, length-begins, get_or-begins, between-begins, map-all}
 
 pub Begins-trans : {A : Type 0} (xs ys zs : List A) → Begins xs ys → Begins ys zs → Begins xs zs
@@ -103,6 +103,59 @@ more_numbers_come c d e xs ys a b = record {
 pub numbered_next : (c d e : Shared) (names : List (List ℕ)) (i : ℕ) (k : List ℕ) → i < length names → k ≡ get_or names i k → NumbersCome c d (take i names) → NumbersCome d e (k ∷ []) → NumbersCome c e (take (i + 1) names)
 numbered_next c d e names i k h is a b =
     subst (NumbersCome c e) (ap (λ x. take i names ++ x ∷ []) is ∙ sym (take_more names i k h)) (more_numbers_come c d e (take i names) (k ∷ []) a b)
+
+-- the numbers that came stand where the numbers ended
+pub come_stand : (c d : Shared) (names : List (List ℕ)) (from : ℕ) → from ≡ length c.ids → NumbersCome c d names → NumbersStand d from names
+come_stand c d names from start a = record {
+  before = c.ids;
+  numbers = a.more;
+  after = [];
+  ids = a.added ∙ ap (λ ns. c.ids ++ ns) (sym (append-nil a.more));
+  begin = start;
+  named = a.named;
+  same = a.same;
+}
+
+pub still_stand : (c d : Shared) (names : List (List ℕ)) (from : ℕ) → Widens c d → NumbersStand c from names → NumbersStand d from names
+still_stand c d names from w h = record {
+  before = h.before;
+  numbers = h.numbers;
+  after = h.after ++ w.ids.0;
+  ids = w.ids.1 ∙ ap (λ ns. ns ++ w.ids.0) h.ids ∙ append_assoc h.before (h.numbers ++ h.after) w.ids.0
+      ∙ ap (λ ns. h.before ++ ns) (append_assoc h.numbers h.after w.ids.0);
+  begin = h.begin;
+  named = named_more c.names d.names h.numbers w.names h.named;
+  same = same_names c.names d.names h.numbers w.names h.named ∙ h.same;
+}
+
+-- the number at the place of a name came once more
+pub numbered_again : (c d : Shared) (names : List (List ℕ)) (from i id : ℕ) (k : List ℕ) → NumbersStand c from names → slice_get names i ≡ Some k → id ≡ get_or c.ids (from + i) id
+    → d ≡ record c { ids = c.ids ++ id ∷ [] } → NumbersCome c d (k ∷ [])
+numbered_again c d names from i id k h is read e = subst (λ x. NumbersCome c x (k ∷ [])) (sym e) (
+    let short : i < length h.numbers = omega (arith, slice_get_within names i k is, ap length h.same, length-map h.numbers (name_at c.names)) in
+    let number : id ≡ get_or h.numbers i id =
+    read ∙ (λ j. get_or (h.ids j) (h.begin j + i) id) ∙ get_or-append-add h.before (h.numbers ++ h.after) i id ∙ get_or_append_left h.numbers h.after id i short in
+    let within : id < length c.names = subst (λ n. n < length c.names) (sym number) (All-get_or (λ n. n < length c.names) h.numbers i id short h.named) in
+    let name : name_at c.names id ≡ k =
+    ap (name_at c.names) number ∙ sym (get_or-map (name_at c.names) h.numbers i id [] short) ∙ ap (λ ns. get_or ns i []) h.same ∙ get_or_from_slice_get names i k [] is in
+    let fresh = All-cons (λ n. n < length c.names) id [] within (All-nil (λ n. n < length c.names)) in
+    record {
+      interns = record {
+        widens = record {
+          names = Begins-itself c.names;
+          ids = (id ∷ [], refl);
+          others = Begins-itself c.others;
+          large = Begins-itself c.large;
+          terms = Begins-itself c.terms;
+          rows = Begins-itself c.rows;
+        };
+        ids = λ all. All-append (λ n. n < length c.names) c.ids (id ∷ []) all fresh;
+      };
+      more = id ∷ [];
+      added = refl;
+      named = fresh;
+      same = rw name refl;
+    })
 
 pub interns_itself : (c d : Shared) → d ≡ c → Interns c d
 interns_itself c d e = subst (Interns c) (sym e) (record { widens = itself c c.names (Begins-itself c.names); ids = λ h. h })

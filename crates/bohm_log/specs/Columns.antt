@@ -6,7 +6,7 @@ use Rattle.bohm_tree.specs.declared.edition.Edition.{Edition}
 use Rattle.bohm_tree.specs.Txn.{Txn}
 use Rattle.bohm_log.specs.declared.row.TermRow.{TermRow}
 use Rattle.bohm_log.specs.declared.row.StmtRow.{StmtRow}
-use Rattle.bohm_log.specs.declared.columns.Head.{Head}
+use Rattle.bohm_log.specs.declared.table.Head.{Head}
 use Rattle.bohm_log.specs.declared.columns.Columns.{Columns}
 use Rattle.bohm_log.specs.Parts.{Parts, Begins, IsWithin, names_at, txn_of}
 
@@ -92,6 +92,16 @@ pub record NumbersCome (c d : Shared) (names : List (List ℕ)) : Type 0 where
   pub added : d.ids ≡ c.ids ++ more
   pub named : AllNamed d.names more
   pub same : names_at d.names more ≡ names
+
+-- the numbers of these names stand from an offset on
+pub record NumbersStand (c : Shared) (from : ℕ) (names : List (List ℕ)) : Type 0 where
+  pub before : List ℕ
+  pub numbers : List ℕ
+  pub after : List ℕ
+  pub ids : c.ids ≡ before ++ (numbers ++ after)
+  pub begin : from ≡ length before
+  pub named : AllNamed c.names numbers
+  pub same : names_at c.names numbers ≡ names
 
 -- a list came at the end of a column, between these offsets
 pub record Lands {A : Type 0} (column part : List A) (from to : ℕ) : Type 0 where

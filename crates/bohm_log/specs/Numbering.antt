@@ -3,7 +3,7 @@ use Rattle.std.specs.Prelude.{◌≡◌, ℕ, ◌≤◌, List, map, length}
 use Rattle.std.specs.List.{All, between, IsDistinct}
 use Rattle.std.specs.Str.{bytes_eq}
 use Rattle.bohm_tree.specs.Txn.{Txn}
-use Rattle.bohm_log.specs.declared.columns.Head.{Head}
+use Rattle.bohm_log.specs.declared.table.Head.{Head}
 use Rattle.bohm_log.specs.Parts.{names_at}
 use Rattle.bohm_log.specs.Columns.{AllNamed}
 

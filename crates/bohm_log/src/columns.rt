@@ -5,34 +5,19 @@ ghost use Rattle.std.specs.List.{IsDistinct};
 ghost use Rattle.std.specs.Str.{bytes_eq};
 ghost use Rattle.bohm_log.specs.Parts.{Begins};
 ghost use Rattle.bohm_log.specs.Drafting.{parts_of};
-ghost use Rattle.bohm_log.specs.Columns.{shared_of, Interns, NumbersCome, Lands, SetsCome, Appends, nothing_shared};
+ghost use Rattle.bohm_log.specs.Columns.{shared_of, Interns, NumbersCome, NumbersStand, Lands};
+ghost use Rattle.bohm_log.specs.Columns.{SetsCome, Appends, nothing_shared};
 ghost use Rattle.bohm_log.specs.Partial.{shared_seen};
 
 use crate::fault::LogFault;
 use crate::names::Names;
 use crate::row::{StmtRow, TermRow};
 use crate::sheet::Sheet;
-use crate::table::Table;
+use crate::sheet::places::place_in;
+use crate::table::{Head, Table};
 use bohm_tree::{Edition, Key};
 use std::alloc::Global;
 use std::hash::BuildHasher;
-
-/// Where a transaction's parts lie in the columns. Its reads end where its writes begin.
-#[derive(Clone, Copy)]
-pub struct Head {
-    pub edition: Edition,
-    pub ids: u32,
-    pub reads: u32,
-    pub writes: u32,
-    pub others: u32,
-    pub others_end: u32,
-    pub large: u32,
-    pub large_end: u32,
-    pub terms: u32,
-    pub terms_end: u32,
-    pub rows: u32,
-    pub rows_end: u32,
-}
 
 #[derive(Drop)]
 pub struct Columns<S: BuildHasher> {
@@ -121,28 +106,61 @@ impl<S: BuildHasher + Drop> Columns<S> {
         Ok(())
     }
 
+    /// Adds the number of a name that is written. That of a name which is read too stands from the
+    /// start of the reads on: it isn't hashed again.
+    fn add_write(&mut self, reads: &[Key], start: usize, name: Key) -> Result<(), LogFault>
+        requires { NumbersStand (shared_of self.old) start reads.now }
+        ensures ok { OnOk result
+            (NumbersCome (shared_of self.old) (shared_of self.new) (name ∷ [])) }
+        ensures err { OnErr result (Interns (shared_of self.old) (shared_of self.new)) }
+    {
+        match place_in(reads, &name) {
+            Some(place) => {
+                let id = self.ids[start + place as usize];
+                self.ids.push(id)?;
+                Ok(())
+            }
+            None => self.add_name(name),
+        }
+    }
+
+    /// Adds the numbers of names that are written, where those of the reads stand from `start` on.
+    fn add_writes(&mut self, reads: &[Key], start: usize, writes: &[Key]) -> Result<(), LogFault>
+        requires { NumbersStand (shared_of self.old) start reads.now }
+        ensures ok { OnOk result
+            (NumbersCome (shared_of self.old) (shared_of self.new) writes.now) }
+        ensures err { OnErr result (Interns (shared_of self.old) (shared_of self.new)) }
+    {
+        for name in writes {
+            self.add_write(reads, start, *name)?;
+        }
+        Ok(())
+    }
+
     /// Adds the numbers of the reads and then of the writes. The three offsets are where the reads
     /// begin, where the writes begin and where they end.
-    #[tactic(auto, using(crate::proofs::Widening::interns_itself, crate::proofs::Widening::interns_both, crate::proofs::Widening::sets_come))]
+    #[tactic(auto, using(crate::proofs::Widening::interns_itself))]
     fn add_sets(&mut self, reads: &[Key], writes: &[Key]) -> Result<(u32, u32, u32), LogFault>
         ensures ok { IfOk result
-            (λ r. SetsCome (shared_of self.old) (shared_of self.new) r.0 r.1 r.2 reads.now writes.now) }
+            (λ r. SetsCome (shared_of self.old) (shared_of self.new) r.0 r.1 r.2
+            reads.now writes.now) }
         ensures err { OnErr result (Interns (shared_of self.old) (shared_of self.new)) }
     {
         let start = offset(self.ids.len())?;
         self.add_names(reads)?;
         let middle = offset(self.ids.len())?;
-        self.add_names(writes)?;
+        self.add_writes(reads, start as usize, writes)?;
         let end = offset(self.ids.len())?;
         Ok((start, middle, end))
     }
 
     /// Adds a transaction's parts.
-    #[tactic(auto, using(crate::proofs::Widening::interns_wider, crate::proofs::Widening::appended))]
+    #[tactic(auto, using(crate::proofs::Widening::interns_wider))]
     pub fn append(&mut self, edition: Edition, sheet: &Sheet<S>) -> Result<Head, LogFault>
         ensures apart { IsDistinct bytes_eq (parts_of sheet.now).others }
         ensures ok { IfOk result
-            (λ h. Appends (shared_of self.old) (shared_of self.new) h edition (parts_of sheet.now)) }
+            (λ h. Appends (shared_of self.old) (shared_of self.new) h edition
+            (parts_of sheet.now)) }
         ensures err { OnErr result (Interns (shared_of self.old) (shared_of self.new)) }
     {
         let others_part = sheet.others.as_slice();

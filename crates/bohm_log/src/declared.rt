@@ -6,7 +6,7 @@ ghost use Rattle.std.specs.Str.{bytes_eq};
 ghost use Rattle.bohm_log.specs.Columns.{AllNamed};
 ghost use Rattle.bohm_log.specs.Numbering.{sets_at, IsNumbered};
 
-use crate::columns::Head;
+use crate::table::Head;
 use bohm_tree::Key;
 use std::marker::Model;
 
@@ -25,7 +25,8 @@ impl<'a> Model for DeclaredKeys<'a> {
 
     ghost Value = { Numbered };
 
-    ghost view = { λ k. record { names = k.names.now; sets = map (sets_at k.ids.now) k.heads.now } };
+    ghost view = { λ k.
+        record { names = k.names.now; sets = map (sets_at k.ids.now) k.heads.now } };
 
     ghost invariant = { λ k. IsNumbered k.names.now k.ids.now k.heads.now };
 }

@@ -1,9 +1,13 @@
 //! The transaction that is being read.
 
-ghost use Rattle.std.specs.Prelude.{◌≡◌, ◌<◌, [], OnOk, OnErr, length, Some, None};
+ghost use Rattle.std.specs.Prelude.{◌≡◌, ◌<◌, [], true, false, IfOk, OnOk, OnErr, length};
+ghost use Rattle.std.specs.Prelude.{Some, None};
+ghost use Rattle.bohm_tree.specs.Name.{is_name};
 ghost use Rattle.bohm_tree.specs.Term.{Lit, Read, Local};
 ghost use Rattle.bohm_tree.specs.Stmt as stmts;
-ghost use Rattle.bohm_log.specs.Drafting.{fresh, with_read, with_write, with_term, with_sum, with_stmt, made_of, put_of, need_of, parts_of, IsBare, IsBetween, IsNamed, IsNameless};
+ghost use Rattle.bohm_log.specs.Drafting.{fresh, with_read, with_write, with_term, with_sum};
+ghost use Rattle.bohm_log.specs.Drafting.{with_stmt, made_of, put_of, need_of, parts_of, IsBare};
+ghost use Rattle.bohm_log.specs.Drafting.{IsBetween, IsNamed, IsNameless};
 ghost use Rattle.bohm_log.specs.Parts.{txn_of, IsWithin};
 ghost use Rattle.bohm_log.specs.Seeing.{atom_shown};
 
@@ -120,6 +124,25 @@ impl<S: BuildHasher + Drop> Draft<S> {
         Ok(())
     }
 
+    /// Adds the declared read that a word names, if it stands where such a one was found last: it
+    /// is compared in place, and no key is made of it. Answers whether it does.
+    pub fn read_again(&mut self, minus: bool, word: &[u8]) -> Result<bool, LogFault>
+        ensures added { IfOk result (λ done. done ≡ true
+            → self.new ≡ with_term self.old minus (Read word.now)) }
+        ensures name { IfOk result (λ done. done ≡ true → is_name word.now ≡ true) }
+        ensures none { IfOk result (λ done. done ≡ false → self.new ≡ self.old) }
+        ensures err { OnErr result (self.new ≡ self.old) }
+    {
+        if self.sheet.terms.len() >= u32::MAX as usize {
+            return Err(LogFault::Full);
+        }
+        let Some(place) = self.sheet.read_place(word) else {
+            return Ok(false);
+        };
+        self.sheet.add_read_at(minus, place, word)?;
+        Ok(true)
+    }
+
     /// Adds a literal.
     pub fn literal(&mut self, minus: bool, number: u64) -> Result<(), LogFault>
         ensures ok { OnOk result (self.new ≡ with_term self.old minus (Lit number)) }
@@ -179,7 +202,8 @@ impl<S: BuildHasher + Drop> Draft<S> {
     #[tactic(auto, using(crate::proofs::Statements::bind_made))]
     pub fn bind(&mut self, name: Key) -> Result<(), LogFault>
         requires { self.old.done ≡ [] }
-        ensures ok { OnOk result (self.new ≡ with_stmt self.old (stmts.Bind name self.old.latest)) }
+        ensures ok { OnOk result
+            (self.new ≡ with_stmt self.old (stmts.Bind name self.old.latest)) }
         ensures err { OnErr result (self.new ≡ self.old) }
     {
         self.end_named(Action::Bind, name)
@@ -227,7 +251,8 @@ impl<S: BuildHasher + Drop> Draft<S> {
     #[tactic(auto, using(crate::proofs::Statements::put_when_made))]
     pub fn put_when(&mut self, key: Key, cmp: Cmp) -> Result<(), LogFault>
         requires { length self.old.done ≡ 2 }
-        ensures ok { OnOk result (self.new ≡ with_stmt self.old (put_of self.old key (Some cmp))) }
+        ensures ok { OnOk result
+            (self.new ≡ with_stmt self.old (put_of self.old key (Some cmp))) }
         ensures err { OnErr result (self.new ≡ self.old) }
     {
         self.end_named(Action::PutWhen(cmp), key)

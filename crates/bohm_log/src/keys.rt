@@ -1,7 +1,7 @@
 //! The keys of one declared set.
 
 ghost use Rattle.std.specs.Prelude.{◌≡◌, ◌<◌, length, IfSome, Some, slice_get};
-ghost use Rattle.bohm_tree.specs.Name.{place};
+ghost use Rattle.bohm_tree.specs.Keys.{place};
 ghost use Rattle.bohm_log.specs.Parts.{names_at};
 ghost use Rattle.bohm_log.specs.Columns.{AllNamed};
 

@@ -2,10 +2,11 @@
 
 ghost use Rattle.std.specs.Prelude.{◌≡◌, ◌++◌, [], ◌∷◌, OnOk, OnErr, length};
 
-use crate::columns::{Columns, Head};
+use crate::columns::Columns;
 use crate::draft::Draft;
 use crate::fault::LogFault;
 use crate::part::LogPart;
+use crate::table::Head;
 use std::alloc::Global;
 use std::hash::{BuildHasher, BuildHasherDefault, FoldHasher};
 use std::marker::Model;

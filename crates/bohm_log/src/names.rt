@@ -1,6 +1,7 @@
 //! Names with numbers.
 
-ghost use Rattle.std.specs.Prelude.{◌≡◌, ◌<◌, ◌≤◌, ◌^◌, [], Some, None, IfOk, IfErr, OnOk, OnErr, length, slice_get, position};
+ghost use Rattle.std.specs.Prelude.{◌≡◌, ◌<◌, ◌≤◌, ◌^◌, [], Some, None, IfOk};
+ghost use Rattle.std.specs.Prelude.{IfErr, OnOk, OnErr, length, slice_get, position};
 ghost use Rattle.bohm_log.specs.declared.fault.LogFault.TheVariants as faults;
 ghost use Rattle.std.specs.Str.{bytes_eq};
 ghost use Rattle.std.specs.List.{IsDistinct};
@@ -65,7 +66,7 @@ impl<S: BuildHasher> Names<S> {
     /// The number of a name, which is added if it is new. It is `Full` where 2^32 names are there
     /// and the name is none of them. An `Err` leaves the names as they were. The time doesn't grow
     /// with their number, but where the table grows.
-    #[tactic(auto, using(crate::proofs::Seeking::numbered_already, crate::proofs::Seeking::at_its_number))]
+    #[tactic(auto, using(crate::proofs::Seeking::at_its_number))]
     pub fn id(&mut self, name: Key) -> Result<u32, LogFault>
     where
         S: Drop,

@@ -4,9 +4,8 @@ ghost use Rattle.std.specs.Prelude.{◌≡◌, ◌<◌, ◌≤◌, length, Some,
 ghost use Rattle.std.specs.List.{between};
 ghost use Rattle.bohm_log.specs.Numbering.{Numbers};
 
-use crate::columns::Head;
 use crate::declared::DeclaredKeys;
-use crate::table::{Table, txn_by};
+use crate::table::{Head, Table, txn_by};
 use crate::view::TxnView;
 use std::marker::Model;
 

@@ -3,7 +3,7 @@
 ghost use Rattle.std.specs.Prelude.{◌≡◌, ◌<◌, ◌≤◌, IfSome, length};
 ghost use Rattle.std.specs.List.{All, between, IsDistinct};
 ghost use Rattle.std.specs.Str.{bytes_eq};
-ghost use Rattle.bohm_tree.specs.Name.{place};
+ghost use Rattle.bohm_tree.specs.Keys.{place};
 ghost use Rattle.bohm_log.specs.Parts.{RowIn, TermIn, name_at};
 
 use crate::keys::{Keys, name_by};

@@ -1,16 +1,23 @@
 //! The columns of one transaction, while it is read.
 
-ghost use Rattle.std.specs.Prelude.{◌≡◌, ◌<◌, [], Some, IfOk, OnOk, OnErr, IfSome, IfNone, slice_get};
+pub(crate) mod places;
+
+ghost use Rattle.std.specs.Prelude.{◌≡◌, [], Some, true, IsSome, IfOk, OnOk, OnErr, IfSome};
+ghost use Rattle.std.specs.Prelude.{slice_get};
 ghost use Rattle.bohm_tree.specs.Term.{Lit, Read, Local};
-ghost use Rattle.bohm_log.specs.Parts.{Begins, IsApart};
-ghost use Rattle.bohm_log.specs.Drafting.{parts_of, NamesGrow, Stands, AddsTerm, KeyStands, AddsRow, IsNamed, IsNameless, keys_of, no_parts, with_one_read, with_one_write};
+ghost use Rattle.bohm_log.specs.Parts.{Begins};
+ghost use Rattle.bohm_log.specs.Drafting.{parts_of, NamesGrow, Stands, AddsTerm};
+ghost use Rattle.bohm_log.specs.Drafting.{AddsRow, IsNamed, IsNameless, no_parts};
+ghost use Rattle.bohm_log.specs.Drafting.{with_one_read, with_one_write};
 ghost use Rattle.bohm_log.specs.Seeing.{atom_shown};
+ghost use Rattle.bohm_tree.specs.Name.{is_name};
 
 use crate::fault::LogFault;
 use crate::names::Names;
 use crate::row::{Action, AtomKind, StmtRow, TermRow};
 use crate::sum::AtomParts;
-use bohm_tree::{Key, MOST_KEYS};
+use bohm_tree::{Glances, Key};
+use places::{keys_of, place_again, place_name, place_other};
 use std::alloc::Global;
 use std::hash::BuildHasher;
 
@@ -22,48 +29,12 @@ pub struct Sheet<S: BuildHasher> {
     pub large: Vec<u64>,
     pub terms: Vec<TermRow>,
     pub rows: Vec<StmtRow>,
-}
-
-/// The place of a key among a few. A set with more is refused whole by the check, before it asks
-/// whether a key is in it.
-#[tactic(auto, using(crate::proofs::Seeking::found, crate::proofs::Seeking::not_found))]
-fn place_in(keys: &[Key], key: &Key) -> Option<u32>
-    ensures found { IfSome result (λ i. slice_get keys.now i ≡ Some key.now) }
-    ensures none { IfNone result (IsApart keys.now key.now) }
-{
-    if keys.len() > MOST_KEYS {
-        return None;
-    }
-    let place = key.place_among(keys)?;
-    Some(place as u32)
-}
-
-/// The place of a name among a few declared keys, or else among the other names, and whether it is
-/// one of the few.
-#[tactic(auto, using(crate::proofs::Widening::with_name_begins))]
-fn place_name<S: BuildHasher + Drop>(
-    keys: &[Key],
-    others: &mut Names<S>,
-    name: Key,
-) -> Result<(bool, u32), LogFault>
-    ensures grows { Begins others.old others.new }
-    ensures ok { IfOk result (λ t. KeyStands keys.now others.new t.0 t.1 name) }
-{
-    match place_in(keys, &name) {
-        Some(place) => Ok((true, place)),
-        None => Ok((false, others.id(name)?)),
-    }
-}
-
-/// The declared keys among which a statement's name is sought.
-fn keys_of<'a>(action: Action, reads: &'a [Key], writes: &'a [Key]) -> &'a [Key]
-    ensures { result.now ≡ keys_of action reads.now writes.now }
-{
-    match action {
-        Action::Has | Action::Lacks => reads,
-        Action::Put | Action::PutWhen(_) | Action::Remove => writes,
-        Action::Bind | Action::Need(_) | Action::Show | Action::Fail => &[],
-    }
+    /// Where terms found the keys that they read.
+    pub read_places: Glances,
+    /// Where statements found the keys that they test or write.
+    pub named_places: Glances,
+    /// Where the other names were found.
+    pub other_places: Glances,
 }
 
 /// The place of a literal at the end.
@@ -91,6 +62,9 @@ impl<S: BuildHasher> Sheet<S> {
             large: Vec::new(alloc),
             terms: Vec::new(alloc),
             rows: Vec::new(alloc),
+            read_places: Glances::new(),
+            named_places: Glances::new(),
+            other_places: Glances::new(),
         }
     }
 
@@ -109,7 +83,11 @@ impl<S: BuildHasher> Sheet<S> {
         ensures ok { OnOk result (parts_of self.new ≡ with_one_read (parts_of self.old) key) }
         ensures err { OnErr result (parts_of self.new ≡ parts_of self.old) }
     {
+        let place = self.reads.len();
         self.reads.push(key)?;
+        if let Ok(place) = u32::try_from(place) {
+            self.read_places.note(&key, place);
+        }
         Ok(())
     }
 
@@ -148,18 +126,20 @@ impl<S: BuildHasher + Drop> Sheet<S> {
         ensures grows { NamesGrow (parts_of self.old) (parts_of self.new) }
         ensures ok { IfOk result (λ t. Stands (parts_of self.new) t minus (Read name)) }
     {
-        Ok(match place_in(self.reads.as_slice(), &name) {
-            Some(place) => TermRow {
-                kind: AtomKind::Read,
-                minus,
-                place,
+        Ok(
+            match place_again(self.reads.as_slice(), &mut self.read_places, &name) {
+                Some(place) => TermRow {
+                    kind: AtomKind::Read,
+                    minus,
+                    place,
+                },
+                None => TermRow {
+                    kind: AtomKind::Unread,
+                    minus,
+                    place: place_other(&mut self.others, &mut self.other_places, name)?,
+                },
             },
-            None => TermRow {
-                kind: AtomKind::Unread,
-                minus,
-                place: self.others.id(name)?,
-            },
-        })
+        )
     }
 
     /// The term of a local.
@@ -170,7 +150,7 @@ impl<S: BuildHasher + Drop> Sheet<S> {
         Ok(TermRow {
             kind: AtomKind::Local,
             minus,
-            place: self.others.id(name)?,
+            place: place_other(&mut self.others, &mut self.other_places, name)?,
         })
     }
 
@@ -184,6 +164,31 @@ impl<S: BuildHasher + Drop> Sheet<S> {
             AtomParts::Read(name) => self.key(minus, name),
             AtomParts::Local(name) => self.local(minus, name),
         }
+    }
+
+    /// The place of the declared read that a word names, if it stands where such a one was found
+    /// last.
+    pub fn read_place(&self, word: &[u8]) -> Option<u32>
+        ensures place { IfSome result
+            (λ i. slice_get (parts_of self.now).reads i ≡ Some word.now) }
+        ensures name { IsSome result → is_name word.now ≡ true }
+    {
+        self.read_places.place_of_word(self.reads.as_slice(), word)
+    }
+
+    /// Adds the declared read at a place.
+    pub fn add_read_at(&mut self, minus: bool, place: u32, name: &[u8]) -> Result<(), LogFault>
+        requires { slice_get (parts_of self.old).reads place ≡ Some name.now }
+        ensures ok { OnOk result
+            (AddsTerm (parts_of self.old) (parts_of self.new) minus (Read name.now)) }
+        ensures err { OnErr result (NamesGrow (parts_of self.old) (parts_of self.new)) }
+    {
+        self.terms.push(TermRow {
+            kind: AtomKind::Read,
+            minus,
+            place,
+        })?;
+        Ok(())
     }
 
     pub fn add_term(&mut self, minus: bool, atom: AtomParts) -> Result<(), LogFault>
@@ -235,11 +240,18 @@ impl<S: BuildHasher + Drop> Sheet<S> {
     ) -> Result<(), LogFault>
         requires { IsNamed action }
         ensures ok { OnOk result
-            (AddsRow (parts_of self.old) (parts_of self.new) action name start ends.0 ends.1 ends.2) }
+            (AddsRow (parts_of self.old) (parts_of self.new) action name start
+            ends.0 ends.1 ends.2) }
         ensures err { OnErr result (NamesGrow (parts_of self.old) (parts_of self.new)) }
     {
         let keys = keys_of(action, self.reads.as_slice(), self.writes.as_slice());
-        let (declared, place) = place_name(keys, &mut self.others, name)?;
+        let (declared, place) = place_name(
+            keys,
+            &mut self.named_places,
+            &mut self.others,
+            &mut self.other_places,
+            name,
+        )?;
         self.rows.push(StmtRow {
             action,
             declared,

@@ -1,14 +1,13 @@
-//! The columns as slices.
+//! The columns as slices, and where a transaction lies in them.
 
 ghost use Rattle.std.specs.Prelude.{◌≡◌};
 ghost use Rattle.bohm_log.specs.Columns.{txn_at, HeadIn, AllNamed};
 ghost use Rattle.bohm_log.specs.Partial.{shared_seen};
 
-use crate::columns::Head;
 use crate::row::{StmtRow, TermRow};
 use crate::seen::Seen;
 use crate::view::TxnView;
-use bohm_tree::Key;
+use bohm_tree::{Edition, Key};
 
 /// The columns that all transactions of a log share.
 #[derive(Clone, Copy)]
@@ -19,6 +18,23 @@ pub struct Table<'a> {
     pub large: &'a [u64],
     pub terms: &'a [TermRow],
     pub rows: &'a [StmtRow],
+}
+
+/// Where a transaction's parts lie in the columns. Its reads end where its writes begin.
+#[derive(Clone, Copy)]
+pub struct Head {
+    pub edition: Edition,
+    pub ids: u32,
+    pub reads: u32,
+    pub writes: u32,
+    pub others: u32,
+    pub others_end: u32,
+    pub large: u32,
+    pub large_end: u32,
+    pub terms: u32,
+    pub terms_end: u32,
+    pub rows: u32,
+    pub rows_end: u32,
 }
 
 /// The transaction at a head.

@@ -1,5 +1,5 @@
 -- The texts of a log's segments are the text of the log.
-use Rattle.std.proofs.Common.{◌≡◌, ℕ, ℤ, ◌+◌, ◌-◌, ◌<◌, ◌≤◌, ◌++◌, List, [], ◌∷◌, length, length-append, append_assoc, append-nil, map, refl, ap, sym, subst, ◌∙◌, arith}
+use Rattle.std.proofs.Common.{◌≡◌, ℕ, ℤ, ◌+◌, ◌++◌, List, [], ◌∷◌, length, length-append, append_assoc, append-nil, map, refl, ap, sym, subst, ◌∙◌, arith}
 use Rattle.std.proofs.Math.Seq.{take-length}
 use Rattle.std.specs.Prelude.{take}
 use Rattle.std.specs.FinMap.{entries}
@@ -8,12 +8,12 @@ use Rattle.std.proofs.lemmas.List.Concat.{flat_map-append}
 use Rattle.bohm_tree.specs.Txn.{Txn}
 use Rattle.bohm_txn.specs.declared.outcome.Reply.{Reply}
 use Rattle.bohm_txn.specs.Meaning.{Look}
-use Rattle.bohm_txn.specs.Serial.{state, replies}
+use Rattle.bohm_txn.specs.Serial.{replies}
 use Rattle.bohm_txn.specs.Stores.{cell_in, store_after, store_of}
 use Rattle.bohm_txn.proofs.ForCallers.{length-replies}
 use Rattle.bohm_text.specs.Print.{line_text, lines_text, print_answer, print_numbered, print_store, reply_lines, reply_words, text_of, Words}
 use Rattle.bohm_run.proofs.ForCallers.{store_then}
-use Rattle.bohm_machine.specs.Machines.{Ledger, GoesOn, HasRun, now_of, past_of, top_of}
+use Rattle.bohm_machine.specs.Machines.{Ledger, HasRun, now_of}
 use Rattle.bohm_machine.specs.Texts.{Run, GoesThrough, log_of, texts_of}
 use Rattle.bohm_machine.proofs.GoingOn.{at_top, has_run_on, answers_on}
 

@@ -1,5 +1,5 @@
 -- Which segments a machine runs, and how far.
-use Rattle.std.specs.Prelude.{◌≡◌, ◌≢◌, ℕ, ◌+◌, ◌<◌, ◌≤◌, ◌^◌, ◌++◌, List, [], length, take}
+use Rattle.std.specs.Prelude.{◌≡◌, ℕ, ◌+◌, ◌<◌, ◌≤◌, ◌^◌, ◌++◌, List, [], length}
 use Rattle.std.specs.List.{sum}
 use Rattle.bohm_tree.specs.Document.{Document}
 use Rattle.bohm_tree.specs.Txn.{Txn}

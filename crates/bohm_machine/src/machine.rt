@@ -1,20 +1,22 @@
 //! A machine that log segments are applied to.
 
-ghost use Rattle.std.specs.Prelude.{◌≡◌, ◌+◌, ◌<◌, ◌≤◌, ◌↔◌, ◌^◌, [], length, max, min, take, true, is_ok, Err, Ok, IfOk, IfErr, OnOk, OnErr};
+ghost use Rattle.std.specs.Prelude.{◌≡◌, ◌<◌, ◌≤◌, ◌↔◌, [], length, max, min, take, true, is_ok};
+ghost use Rattle.std.specs.Prelude.{Err, Ok, IfOk, IfErr, OnOk, OnErr};
 ghost use Rattle.std.specs.FinMap.{entries};
-ghost use Rattle.bohm_txn.specs.Faulty.{rising, names_of};
+ghost use Rattle.bohm_tree.specs.Keys.{rising, names_of};
 ghost use Rattle.bohm_txn.specs.Stores.{cell_in, store_of};
 ghost use Rattle.bohm_store.specs.Versions.{total};
 ghost use Rattle.bohm_store.specs.declared.fault.PastFault.TheVariants as past_is;
 ghost use Rattle.bohm_store.specs.declared.fault.StoreFault.TheVariants as store_is;
-ghost use Rattle.bohm_machine.specs.Machines.{GoesOn, HasRun, floor_of, now_of, past_of, top_of};
+ghost use Rattle.bohm_machine.specs.Machines.{GoesOn, HasRun, floor_of, past_of, top_of};
 ghost use Rattle.bohm_machine.specs.Segments.{AreWholeBatches, IsRefused, IsTaken, RunsOn};
 
 use crate::fault::SegmentFault;
 use bohm_exec::OpenGate;
 use bohm_run::{Applied, ByteSum, Cuts, LARGEST_BATCH, Settings, apply, apply_alone};
 use bohm_store::{History, PastFault, StoreFault};
-use bohm_txn::{Cell, Checked, Items, Key, NoMemory, Scratch, Value};
+use bohm_tree::{Cell, Key, NoMemory, Value};
+use bohm_txn::{Checked, Replies, Scratch};
 use std::alloc::Global;
 use std::marker::Model;
 use std::sync::Wait;
@@ -31,7 +33,7 @@ pub struct Machine {
 }
 
 impl Model for Machine {
-    ghost use Rattle.std.specs.Prelude.{◌+◌, ◌<◌, ◌≤◌, ◌^◌};
+    ghost use Rattle.std.specs.Prelude.{◌+◌, ◌<◌, ◌^◌};
     ghost use Rattle.bohm_machine.specs.Machines.{Ledger};
 
     ghost Value = { Ledger };
@@ -239,7 +241,7 @@ fn unapplied(alloc: Global, refusal: NoMemory) -> Applied
     ensures end { result.end ≡ Err refusal }
 {
     Applied {
-        replies: Items::new(alloc),
+        replies: Replies::new(alloc),
         end: Err(refusal),
     }
 }

@@ -5,7 +5,7 @@ use Rattle.bohm_place.specs.declared.row.Row.{Row}
 use Rattle.bohm_place.specs.Chains.{Keyed, placeholders_in, chain_in}
 use Rattle.bohm_place.specs.Writers.{writers}
 use Rattle.bohm_place.specs.Plans.{AreRows}
-use Rattle.bohm_place.specs.Shares.{AreWellFormed, made, rows_from}
+use Rattle.bohm_place.specs.Shares.{AreWellFormed, placeholders_made, rows_from}
 use Rattle.bohm_place.proofs.Rising.{begins-append}
 use Rattle.bohm_place.proofs.Placed.{Below, below_all, all_below}
 use Rattle.bohm_place.proofs.Found.{hand_below}
@@ -21,10 +21,10 @@ are_rows first txns rows above room e = rw e (record { few = omega (arith, lengt
 pub early : (part : List ℕ → ℕ) (first : ℕ) (shards given : List Keyed) → given ≡ shards → ((k : List ℕ) → All (λ b. b < first) (chain_in part shards k)) → (k : List ℕ) → Below first (placeholders_in part given k)
 early part first shards given same earlier k = rw same (below_all first (placeholders_in part shards k) (earlier k))
 
-module _ (part : List ℕ → ℕ) (first : ℕ) (txns : List Txn) (shards given left : List Keyed) (same : given ≡ shards) (k : List ℕ) (behind : placeholders_in part left k ≡ placeholders_in part given k ++ made first txns k) where
+module _ (part : List ℕ → ℕ) (first : ℕ) (txns : List Txn) (shards given left : List Keyed) (same : given ≡ shards) (k : List ℕ) (behind : placeholders_in part left k ≡ placeholders_in part given k ++ placeholders_made first txns k) where
   -- a chain goes on by the key's writers in the batch
   pub chain_on : AreWellFormed txns → chain_in part left k ≡ chain_in part shards k ++ writers first txns k
-  chain_on formed = rw (behind, begins-append (placeholders_in part given k) (made first txns k), begins-made first txns k (writes_distinct txns formed), same) refl
+  chain_on formed = rw (behind, begins-append (placeholders_in part given k) (placeholders_made first txns k), begins-made first txns k (writes_distinct txns formed), same) refl
 
   -- and stays below the timestamps behind the batch
   pub chain_below : ((q : List ℕ) → All (λ b. b < first) (chain_in part shards q)) → All (λ b. b < first + length txns) (chain_in part left k)

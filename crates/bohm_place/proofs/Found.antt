@@ -9,17 +9,17 @@ use Rattle.bohm_tree.specs.Txn.{Txn}
 use Rattle.bohm_txn.proofs.ForCallers.{map_same, each_append}
 use Rattle.bohm_place.specs.declared.placeholder.Placeholder.{Placeholder}
 use Rattle.bohm_place.specs.Chains.{Keyed, placeholders_in, none, last_or}
-use Rattle.bohm_place.specs.Shares.{has_part, within, written, made, found_by, newest_ahead, greater_of, greater}
+use Rattle.bohm_place.specs.Shares.{keys_of, within, placeholders_written, placeholders_made, found_by, newest_ahead, greater_of, greater}
 use Rattle.bohm_place.proofs.Placed.{Below, Below-higher}
 use Rattle.bohm_place.proofs.Swaps.{lt_apart}
 
-pub made_more : (u : ℕ) (xs : List Txn) (x : Txn) (k : List ℕ) → made u (xs ++ x ∷ []) k ≡ made u xs k ++ written (u + length xs) 0 x.writes k
+pub made_more : (u : ℕ) (xs : List Txn) (x : Txn) (k : List ℕ) → placeholders_made u (xs ++ x ∷ []) k ≡ placeholders_made u xs k ++ placeholders_written (u + length xs) 0 x.writes k
 made_more u [] x k = rw (append-nil, add-zero) refl
 made_more u (y ∷ ys) x k =
     let e : (u + 1) + length ys ≡ u + length (y ∷ ys) = omega arith in
     rw (made_more (u + 1) ys x k, e, append_assoc) refl
 
-row_same : (mine : List ℕ → Bool) (base hand : List ℕ → List Placeholder) (first : ℕ) (ahead : List Txn) (k : List ℕ) → hand k ≡ (if mine k then base k ++ made first ahead k else base k) → (b : Bool) → mine k ≡ b
+row_same : (mine : List ℕ → Bool) (base hand : List ℕ → List Placeholder) (first : ℕ) (ahead : List Txn) (k : List ℕ) → hand k ≡ (if mine k then base k ++ placeholders_made first ahead k else base k) → (b : Bool) → mine k ≡ b
     → (if mine k then within first (last_or none (hand k)) else none) ≡ (if mine k then newest_ahead first base ahead k else none)
 row_same mine base hand first ahead k h true e = rw (h, e) refl
 row_same mine base hand first ahead k h false e = rw e refl
@@ -38,7 +38,7 @@ found_on mine f xs i d inside out more so_far is =
     rw (taken, is, append_assoc, append_assoc) (rw (map-append F x.reads x.writes, append_assoc) at whole)
 
 pub found_step : (mine : List ℕ → Bool) (base hand : List ℕ → List Placeholder) (first : ℕ) (xs : List Txn) (i : ℕ) (d : Txn) → i < length xs
-    → ((k : List ℕ) → hand k ≡ (if mine k then base k ++ made first (take i xs) k else base k))
+    → ((k : List ℕ) → hand k ≡ (if mine k then base k ++ placeholders_made first (take i xs) k else base k))
     → (out more : List Placeholder) → out ++ found_by mine (newest_ahead first base) (take i xs) (drop i xs) ≡ found_by mine (newest_ahead first base) [] xs
     → more ≡ (out ++ map (λ k. if mine k then within first (last_or none (hand k)) else none) (get_or xs i d).reads) ++ map (λ k. if mine k then within first (last_or none (hand k)) else none) (get_or xs i d).writes
     → more ++ found_by mine (newest_ahead first base) (take (i + 1) xs) (drop (i + 1) xs) ≡ found_by mine (newest_ahead first base) [] xs
@@ -49,10 +49,10 @@ found_step mine base hand first xs i d inside chains out more so_far is =
     found_on mine (newest_ahead first base) xs i d inside out more so_far (rw (← same (get_or xs i d).reads, ← same (get_or xs i d).writes) is)
 
 chains_by : (mine : List ℕ → Bool) (base hand new : List ℕ → List Placeholder) (first : ℕ) (xs : List Txn) (i : ℕ) (d : Txn) → i < length xs → (k : List ℕ)
-    → hand k ≡ (if mine k then base k ++ made first (take i xs) k else base k)
-    → new k ≡ (if mine k then hand k ++ written (first + i) 0 (get_or xs i d).writes k else hand k)
+    → hand k ≡ (if mine k then base k ++ placeholders_made first (take i xs) k else base k)
+    → new k ≡ (if mine k then hand k ++ placeholders_written (first + i) 0 (get_or xs i d).writes k else hand k)
     → (b : Bool) → mine k ≡ b
-    → new k ≡ (if mine k then base k ++ made first (take (i + 1) xs) k else base k)
+    → new k ≡ (if mine k then base k ++ placeholders_made first (take (i + 1) xs) k else base k)
 chains_by mine base hand new first xs i d inside k h n true e =
     let len : length (take i xs) ≡ i = length-take-le i xs (omega arith) in
     let taken : take (i + 1) xs ≡ take i xs ++ get_or xs i d ∷ [] = take_more xs i d inside in
@@ -60,31 +60,31 @@ chains_by mine base hand new first xs i d inside k h n true e =
 chains_by mine base hand new first xs i d inside k h n false e = rw (n, e, h, e) refl
 
 pub chains_step : (mine : List ℕ → Bool) (base hand new : List ℕ → List Placeholder) (first : ℕ) (xs : List Txn) (i : ℕ) (d : Txn) → i < length xs → (k : List ℕ)
-    → hand k ≡ (if mine k then base k ++ made first (take i xs) k else base k)
-    → new k ≡ (if mine k then hand k ++ written (first + i) 0 (get_or xs i d).writes k else hand k)
-    → new k ≡ (if mine k then base k ++ made first (take (i + 1) xs) k else base k)
+    → hand k ≡ (if mine k then base k ++ placeholders_made first (take i xs) k else base k)
+    → new k ≡ (if mine k then hand k ++ placeholders_written (first + i) 0 (get_or xs i d).writes k else hand k)
+    → new k ≡ (if mine k then base k ++ placeholders_made first (take (i + 1) xs) k else base k)
 chains_step mine base hand new first xs i d inside k h n = chains_by mine base hand new first xs i d inside k h n (mine k) refl
 
 -- ---- the begins of a batch
 
 -- what holds of the timestamp holds of each begin
-written_each : (P : ℕ → Type 0) (u index : ℕ) (ws : List (List ℕ)) (k : List ℕ) → P u → AllByRecursion (λ (v : Placeholder). P v.begin) (written u index ws k)
+written_each : (P : ℕ → Type 0) (u index : ℕ) (ws : List (List ℕ)) (k : List ℕ) → P u → AllByRecursion (λ (v : Placeholder). P v.begin) (placeholders_written u index ws k)
 written_each P u index [] k p = tt
-written_each P u index (w ∷ ws) k p = each_append (λ (v : Placeholder). P v.begin) (if bytes_eq w k then record { begin = u; index = index } ∷ [] else []) (written u (index + 1) ws k) (one (bytes_eq w k)) (written_each P u (index + 1) ws k p)
+written_each P u index (w ∷ ws) k p = each_append (λ (v : Placeholder). P v.begin) (if bytes_eq w k then record { begin = u; index = index } ∷ [] else []) (placeholders_written u (index + 1) ws k) (one (bytes_eq w k)) (written_each P u (index + 1) ws k p)
   where
     one : (b : Bool) → AllByRecursion (λ (v : Placeholder). P v.begin) (if b then record { begin = u; index = index } ∷ [] else [])
     one true = (p, tt)
     one false = tt
 
-pub made_each : (P : ℕ → Type 0) (u : ℕ) (xs : List Txn) (k : List ℕ) → ((t : ℕ) → u ≤ t → t < u + length xs → P t) → AllByRecursion (λ (v : Placeholder). P v.begin) (made u xs k)
+pub made_each : (P : ℕ → Type 0) (u : ℕ) (xs : List Txn) (k : List ℕ) → ((t : ℕ) → u ≤ t → t < u + length xs → P t) → AllByRecursion (λ (v : Placeholder). P v.begin) (placeholders_made u xs k)
 made_each P u [] k p = tt
-made_each P u (x ∷ xs) k p = each_append (λ (v : Placeholder). P v.begin) (written u 0 x.writes k) (made (u + 1) xs k) (written_each P u 0 x.writes k (p u (omega arith) (omega arith))) (made_each P (u + 1) xs k (λ t low high. p t (omega arith) (omega arith)))
+made_each P u (x ∷ xs) k p = each_append (λ (v : Placeholder). P v.begin) (placeholders_written u 0 x.writes k) (placeholders_made (u + 1) xs k) (written_each P u 0 x.writes k (p u (omega arith) (omega arith))) (made_each P (u + 1) xs k (λ t low high. p t (omega arith) (omega arith)))
 
-hand_below_by : (m : Bool) (first t : ℕ) (base hand : List Placeholder) (xs : List Txn) (k : List ℕ) → first + length xs ≤ t → Below first base → hand ≡ (if m then base ++ made first xs k else base) → Below t hand
-hand_below_by true first t base hand xs k le low h = rw h (each_append (λ (v : Placeholder). v.begin < t) base (made first xs k) (Below-higher first t base (omega arith) low) (made_each (λ b. b < t) first xs k (λ b from to. omega arith)))
+hand_below_by : (m : Bool) (first t : ℕ) (base hand : List Placeholder) (xs : List Txn) (k : List ℕ) → first + length xs ≤ t → Below first base → hand ≡ (if m then base ++ placeholders_made first xs k else base) → Below t hand
+hand_below_by true first t base hand xs k le low h = rw h (each_append (λ (v : Placeholder). v.begin < t) base (placeholders_made first xs k) (Below-higher first t base (omega arith) low) (made_each (λ b. b < t) first xs k (λ b from to. omega arith)))
 hand_below_by false first t base hand xs k le low h = rw h (Below-higher first t base (omega arith) low)
 
-pub hand_below : (m : Bool) (first t : ℕ) (base hand : List Placeholder) (xs : List Txn) (k : List ℕ) → first + length xs ≤ t → Below first base → hand ≡ (if m then base ++ made first xs k else base) → Below t hand
+pub hand_below : (m : Bool) (first t : ℕ) (base hand : List Placeholder) (xs : List Txn) (k : List ℕ) → first + length xs ≤ t → Below first base → hand ≡ (if m then base ++ placeholders_made first xs k else base) → Below t hand
 hand_below m first t base hand xs k le low h = hand_below_by m first t base hand xs k le low h
 
 -- ---- several workers
@@ -143,16 +143,16 @@ zero_or : (m : ℕ) → (m == 0) ≡ nat_lt m (0 + 1)
 zero_or m = let none_below : nat_lt m 0 ≡ false = grind (arith, nat_tests) in let all = next_or m 0 in rw none_below at all
 
 module _ (part : List ℕ → ℕ) (n : ℕ) (f : List Txn → List ℕ → Placeholder) (xs : List Txn) where
-  pub found_first : (w : ℕ) → w ≡ 0 → found_by (has_part part n w) f [] xs ≡ found_by (λ k. nat_lt (part k % n) (w + 1)) f [] xs
-  found_first w e = rw e (found_same (has_part part n 0) (λ k. nat_lt (part k % n) (0 + 1)) f f (λ done k. ap (λ b. if b then f done k else none) (zero_or (part k % n))) [] xs)
+  pub found_first : (w : ℕ) → w ≡ 0 → found_by (keys_of part n w) f [] xs ≡ found_by (λ k. nat_lt (part k % n) (w + 1)) f [] xs
+  found_first w e = rw e (found_same (keys_of part n 0) (λ k. nat_lt (part k % n) (0 + 1)) f f (λ done k. ap (λ b. if b then f done k else none) (zero_or (part k % n))) [] xs)
 
-  pub found_next : (w : ℕ) → greater (found_by (λ k. nat_lt (part k % n) w) f [] xs) (found_by (has_part part n w) f [] xs) ≡ found_by (λ k. nat_lt (part k % n) (w + 1)) f [] xs
-  found_next w = greater_found (λ k. nat_lt (part k % n) w) (has_part part n w) f [] xs
-      ∙ found_same (λ k. nat_lt (part k % n) w || has_part part n w k) (λ k. nat_lt (part k % n) (w + 1)) f f (λ done k. ap (λ b. if b then f done k else none) (next_or (part k % n) w)) [] xs
+  pub found_next : (w : ℕ) → greater (found_by (λ k. nat_lt (part k % n) w) f [] xs) (found_by (keys_of part n w) f [] xs) ≡ found_by (λ k. nat_lt (part k % n) (w + 1)) f [] xs
+  found_next w = greater_found (λ k. nat_lt (part k % n) w) (keys_of part n w) f [] xs
+      ∙ found_same (λ k. nat_lt (part k % n) w || keys_of part n w k) (λ k. nat_lt (part k % n) (w + 1)) f f (λ done k. ap (λ b. if b then f done k else none) (next_or (part k % n) w)) [] xs
 
 module _ (part : List ℕ → ℕ) (n w : ℕ) (old new hand given : List Keyed) (more : List ℕ → List Placeholder) where
   gathered_by : ((p : ℕ) → p < length old → slice_get new p ≡ (if ((p % n) == w) then slice_get hand p else slice_get old p)) → ((k : List ℕ) → part k < length old)
-      → ((k : List ℕ) → has_part part n w k ≡ true → placeholders_in part hand k ≡ placeholders_in part given k ++ more k)
+      → ((k : List ℕ) → keys_of part n w k ≡ true → placeholders_in part hand k ≡ placeholders_in part given k ++ more k)
       → ((k : List ℕ) → nat_lt (part k % n) w ≡ true → placeholders_in part old k ≡ placeholders_in part given k ++ more k)
       → (k : List ℕ) → nat_lt (part k % n) (w + 1) ≡ true → (b : Bool) → ((part k % n) == w) ≡ b → placeholders_in part new k ≡ placeholders_in part given k ++ more k
   gathered_by swapped inside hands olds k low true e = let at = swapped (part k) (inside k) in let here : slice_get new (part k) ≡ slice_get hand (part k) = rw e at at in rw here (hands k e)
@@ -163,7 +163,7 @@ module _ (part : List ℕ → ℕ) (n w : ℕ) (old new hand given : List Keyed)
       rw here (olds k (sym (lt_apart (part k % n) w apart) ∙ low))
 
   pub gathered : ((p : ℕ) → p < length old → slice_get new p ≡ (if ((p % n) == w) then slice_get hand p else slice_get old p)) → ((k : List ℕ) → part k < length old)
-      → ((k : List ℕ) → has_part part n w k ≡ true → placeholders_in part hand k ≡ placeholders_in part given k ++ more k)
+      → ((k : List ℕ) → keys_of part n w k ≡ true → placeholders_in part hand k ≡ placeholders_in part given k ++ more k)
       → ((k : List ℕ) → nat_lt (part k % n) w ≡ true → placeholders_in part old k ≡ placeholders_in part given k ++ more k)
       → (k : List ℕ) → nat_lt (part k % n) (w + 1) ≡ true → placeholders_in part new k ≡ placeholders_in part given k ++ more k
   gathered swapped inside hands olds k low = gathered_by swapped inside hands olds k low ((part k % n) == w) refl

@@ -13,12 +13,13 @@ use Rattle.std.proofs.lemmas.Map.Keys.{IsDistinct-from_apart}
 use Rattle.std.proofs.lemmas.Map.Made.{AllPairs-from_IsDistinct}
 use Rattle.std.proofs.lemmas.Option.{same_Some, slice_get-get_or, slice_get-map, slice_get_within, get_or_from_slice_get}
 use Rattle.std.proofs.lemmas.Slice.Eq.{bytes_eq-Decides}
-use Rattle.bohm_txn.specs.Faulty.{is_among, IsWellFormedTxn}
+use Rattle.bohm_txn.specs.Faulty.{IsWellFormedTxn}
 use Rattle.bohm_txn.proofs.ForCallers.{same_key, there}
 use Rattle.bohm_log.specs.Parts.{name_at, names_at}
 use Rattle.bohm_log.specs.Columns.{AllNamed}
 use Rattle.bohm_log.specs.Numbering.{Numbered, Numbers, named_sets, declared_sets}
 use Rattle.bohm_tree.specs.Txn.{Txn}
+use Rattle.bohm_tree.specs.Keys.{is_among}
 use Rattle.bohm_place.specs.Gathering.{AreFew, AreGathered, ArePlaced, has_key, numbers_in, with_number, with_numbers}
 use Rattle.bohm_place.proofs.Lists.{set_same, set_other}
 use Rattle.bohm_place.proofs.NewestCell.{usable_at}

@@ -4,8 +4,7 @@ use Rattle.std.specs.Str.{bytes_eq}
 use Rattle.std.proofs.lemmas.Bool.{false≢true}
 use Rattle.std.proofs.lemmas.List.{take_more_set}
 use Rattle.std.proofs.lemmas.List.Folds.{list_any_more}
-use Rattle.bohm_txn.specs.Faulty.{is_among}
-use Rattle.bohm_txn.specs.Declares.{IsAmong}
+use Rattle.bohm_tree.specs.Keys.{is_among, IsAmong}
 use Rattle.bohm_txn.proofs.ForCallers.{among_first}
 use Rattle.bohm_place.specs.declared.placeholder.Placeholder.{Placeholder}
 use Rattle.bohm_place.specs.Chains.{kept_items}

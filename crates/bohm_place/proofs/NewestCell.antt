@@ -2,8 +2,9 @@
 use Rattle.std.proofs.Common.{◌≡◌, ℕ, zero, suc, ◌+◌, ◌-◌, ◌<◌, ◌≤◌, List, length, slice_get, Some, refl, ap, ◌∙◌, subst, arith, add-suc, add-zero}
 use Rattle.std.proofs.lemmas.Option.{get_or_from_slice_get, slice_get_within}
 use Rattle.bohm_tree.specs.Txn.{Txn}
+use Rattle.bohm_tree.specs.Keys.{IsAmong}
 use Rattle.bohm_txn.specs.Faulty.{IsWellFormedTxn}
-use Rattle.bohm_txn.specs.Declares.{IsAmong, IsUsable}
+use Rattle.bohm_txn.specs.Declares.{IsUsable}
 use Rattle.bohm_txn.specs.Meaning.{Look}
 use Rattle.bohm_txn.specs.Serial.{state}
 use Rattle.bohm_txn.proofs.ForCallers.{usable, kept, there, next}

@@ -15,8 +15,8 @@ use Rattle.bohm_log.specs.Numbering.{Numbered, Numbers, named_sets, declared_set
 use Rattle.bohm_txn.proofs.ForCallers.{same_key, key_itself}
 use Rattle.bohm_place.specs.declared.placeholder.Placeholder.{Placeholder}
 use Rattle.bohm_place.specs.Chains.{none, last_or}
-use Rattle.bohm_place.specs.Shares.{within, written, made, ahead_of, AreDistinct}
-use Rattle.bohm_place.specs.Numbered.{newest_at, found_at, IsCovered, ArePlaced, StandsBehind}
+use Rattle.bohm_place.specs.Shares.{within, placeholders_written, placeholders_made, ahead_of, AreDistinct}
+use Rattle.bohm_place.specs.Numbered.{newest_at, found_at, IsCovered, AreNumbersPlaced, StandsBehind}
 use Rattle.bohm_place.proofs.Keyed.{last_or-append}
 use Rattle.bohm_place.proofs.Placed.{written_more, not_yet_written}
 use Rattle.bohm_place.proofs.Found.{made_more}
@@ -54,7 +54,7 @@ module _ (first : ℕ) (names : List (List ℕ)) (number : ℕ) (hand new : List
   slot_by n in_n false false e mine is (inr other) = rw is refl
 
 -- the writes up to the next one have been placed
-module _ (mine : List ℕ → Bool) (first u : ℕ) (names : List (List ℕ)) (numbers : List ℕ) (i number : ℕ) (old hand new : List Placeholder) (covered : IsCovered names old) (named : AllNamed names numbers) (late : first ≤ u) (inside : i < length numbers) (at : get_or numbers i number ≡ number) (before : ArePlaced mine first u names (take i numbers) old hand) (is : new ≡ (if mine (name_at names number) then slice_set hand number (record { begin = u; index = i }) else hand)) where
+module _ (mine : List ℕ → Bool) (first u : ℕ) (names : List (List ℕ)) (numbers : List ℕ) (i number : ℕ) (old hand new : List Placeholder) (covered : IsCovered names old) (named : AllNamed names numbers) (late : first ≤ u) (inside : i < length numbers) (at : get_or numbers i number ≡ number) (before : AreNumbersPlaced mine first u names (take i numbers) old hand) (is : new ≡ (if mine (name_at names number) then slice_set hand number (record { begin = u; index = i }) else hand)) where
   in_names : number < length names
   in_names = subst (λ (n : ℕ). n < length names) at (named i number inside)
 
@@ -66,20 +66,20 @@ module _ (mine : List ℕ → Bool) (first u : ℕ) (names : List (List ℕ)) (n
   below_by true e t lt h = rw e (All-set (λ (v : Placeholder). v.begin < t) hand number (record { begin = u; index = i }) lt h)
   below_by false e t lt h = rw e h
 
-  written_on : (k : List ℕ) → written u 0 (names_at names (take (i + 1) numbers)) k ≡ written u 0 (names_at names (take i numbers)) k ++ (if bytes_eq (name_at names number) k then record { begin = u; index = i } ∷ [] else [])
+  written_on : (k : List ℕ) → placeholders_written u 0 (names_at names (take (i + 1) numbers)) k ≡ placeholders_written u 0 (names_at names (take i numbers)) k ++ (if bytes_eq (name_at names number) k then record { begin = u; index = i } ∷ [] else [])
   written_on k =
       let more : names_at names (take (i + 1) numbers) ≡ names_at names (take i numbers) ++ name_at names number ∷ [] = map_more (name_at names) numbers i number inside ∙ ap (λ (n : ℕ). names_at names (take i numbers) ++ name_at names n ∷ []) at in
       let long : i ≡ 0 + length (names_at names (take i numbers)) = omega (arith, length-map (take i numbers) (name_at names), length-take-le i numbers (omega arith)) in
-      ap (λ ks. written u 0 ks k) more ∙ written_more u 0 (names_at names (take i numbers)) (name_at names number) k i long
+      ap (λ ks. placeholders_written u 0 ks k) more ∙ written_more u 0 (names_at names (take i numbers)) (name_at names number) k i long
 
-  pub placed_more : ArePlaced mine first u names (take (i + 1) numbers) old new
+  pub placed_more : AreNumbersPlaced mine first u names (take (i + 1) numbers) old new
   placed_more = record {
     long = long_by (mine (name_at names number)) is;
     below = λ t lt h. below_by (mine (name_at names number)) is t lt (before.below t lt h);
     each = λ n in_n has.
         let own = within_own first u i late in
         let step = slot_by first names number hand new (record { begin = u; index = i }) covered.apart in_names (omega (arith, covered.long, before.long)) own n in_n (mine (name_at names number)) (bytes_eq (name_at names number) (name_at names n)) refl (λ e. rw (same_key (name_at names number) (name_at names n) e) has) is (cases_eq n number) in
-        rw (written_on (name_at names n), last_or-append (within first (newest_at old n)) (written u 0 (names_at names (take i numbers)) (name_at names n)) (if bytes_eq (name_at names number) (name_at names n) then record { begin = u; index = i } ∷ [] else []), ← before.each n in_n has) step;
+        rw (written_on (name_at names n), last_or-append (within first (newest_at old n)) (placeholders_written u 0 (names_at names (take i numbers)) (name_at names n)) (if bytes_eq (name_at names number) (name_at names n) then record { begin = u; index = i } ∷ [] else []), ← before.each n in_n has) step;
   }
 
   -- what the next one finds stood there before them
@@ -88,14 +88,14 @@ module _ (mine : List ℕ → Bool) (first u : ℕ) (names : List (List ℕ)) (n
       let keys = names_at names numbers in
       let here : get_or keys i [] ≡ name_at names number = get_or-map (name_at names) numbers i number [] inside ∙ ap (name_at names) at in
       let len : i < length keys = omega (arith, length-map numbers (name_at names)) in
-      let empty : written u 0 (names_at names (take i numbers)) (name_at names number) ≡ [] = rw (here, take-map (name_at names) i numbers) at (not_yet_written u i keys [] len distinct) in
+      let empty : placeholders_written u 0 (names_at names (take i numbers)) (name_at names number) ≡ [] = rw (here, take-map (name_at names) i numbers) at (not_yet_written u i keys [] len distinct) in
       rw empty at (before.each number in_names has)
   found_by_now distinct false has = refl
 
   pub found_now : AreDistinct (names_at names numbers) → found_at mine first names hand number ≡ found_at mine first names old number
   found_now distinct = found_by_now distinct (mine (name_at names number)) refl
 
-pub placed_first : (mine : List ℕ → Bool) (first u : ℕ) (names : List (List ℕ)) (old : List Placeholder) → ArePlaced mine first u names [] old old
+pub placed_first : (mine : List ℕ → Bool) (first u : ℕ) (names : List (List ℕ)) (old : List Placeholder) → AreNumbersPlaced mine first u names [] old old
 placed_first mine first u names old = record { long = refl; below = λ t lt h. h; each = λ n in_n has. refl }
 
 -- ---- one more transaction
@@ -119,7 +119,7 @@ module _ (mine : List ℕ → Bool) (first : ℕ) (names : List (List ℕ)) wher
   }
 
   pub stands_on : (txns : List Txn) (i : ℕ) (x : Txn) (numbers : List ℕ) (hand new : List Placeholder) → i < length txns → get_or txns i x ≡ x → names_at names numbers ≡ x.writes
-      → StandsBehind mine first names (take i txns) hand → ArePlaced mine first (first + i) names numbers hand new → StandsBehind mine first names (take (i + 1) txns) new
+      → StandsBehind mine first names (take i txns) hand → AreNumbersPlaced mine first (first + i) names numbers hand new → StandsBehind mine first names (take (i + 1) txns) new
   stands_on txns i x numbers hand new inside at writes before placed =
       let len : length (take i txns) ≡ i = length-take-le i txns (omega arith) in
       let next : length (take (i + 1) txns) ≡ i + 1 = length-take-le (i + 1) txns (omega arith) in
@@ -129,8 +129,8 @@ module _ (mine : List ℕ → Bool) (first : ℕ) (names : List (List ℕ)) wher
         below = placed.below (first + length (take (i + 1) txns)) (omega arith) (All-weaker (λ (v : Placeholder). v.begin < first + length (take i txns)) (λ (v : Placeholder). v.begin < first + length (take (i + 1) txns)) (λ v lt. omega arith) hand before.below);
         each = λ n in_n has.
             let k = name_at names n in
-            let made_on : made first (take (i + 1) txns) k ≡ made first (take i txns) k ++ written (first + i) 0 x.writes k = ap (λ ts. made first ts k) taken ∙ made_more first (take i txns) x k ∙ ap (λ (m : ℕ). made first (take i txns) k ++ written (first + m) 0 x.writes k) len in
-            let whole : ahead_of first (take (i + 1) txns) k ≡ last_or (ahead_of first (take i txns) k) (written (first + i) 0 x.writes k) = ap (last_or none) made_on ∙ last_or-append none (made first (take i txns) k) (written (first + i) 0 x.writes k) in
+            let made_on : placeholders_made first (take (i + 1) txns) k ≡ placeholders_made first (take i txns) k ++ placeholders_written (first + i) 0 x.writes k = ap (λ ts. placeholders_made first ts k) taken ∙ made_more first (take i txns) x k ∙ ap (λ (m : ℕ). placeholders_made first (take i txns) k ++ placeholders_written (first + m) 0 x.writes k) len in
+            let whole : ahead_of first (take (i + 1) txns) k ≡ last_or (ahead_of first (take i txns) k) (placeholders_written (first + i) 0 x.writes k) = ap (last_or none) made_on ∙ last_or-append none (placeholders_made first (take i txns) k) (placeholders_written (first + i) 0 x.writes k) in
             placed.each n in_n has ∙ rw (before.each n in_n has, writes) (sym whole);
       }
 

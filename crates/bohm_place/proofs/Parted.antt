@@ -1,32 +1,40 @@
 -- What a worker owes for its own parts of all.
-use Rattle.std.proofs.Common.{◌≡◌, ℕ, ◌<◌, Bool, true, false, List, [], ◌++◌, length, slice_get, Some, refl, ap, ◌∙◌, if◌then◌else◌}
+use Rattle.std.proofs.Common.{◌≡◌, ℕ, ◌<◌, Bool, true, false, List, [], ◌++◌, All, length, slice_get, Some, refl, sym, subst, ap, ◌∙◌, if◌then◌else◌}
 use Rattle.bohm_tree.specs.Txn.{Txn}
 use Rattle.bohm_txn.proofs.ForCallers.{rising_writes}
 use Rattle.bohm_place.specs.declared.placeholder.Placeholder.{Placeholder}
-use Rattle.bohm_place.specs.Chains.{Keyed, placeholders_in, none}
-use Rattle.bohm_place.specs.Shares.{AreWellFormed, AreDistinct, has_part, made, newest_ahead, IsHand, IsShareOf, IsPartOf}
+use Rattle.bohm_place.specs.Chains.{Keyed, placeholders_in, chain_in, begins, none}
+use Rattle.bohm_place.specs.Shares.{AreWellFormed, AreDistinct, keys_of, placeholders_made, newest_ahead, HasPartsOf, CanPlace, IsFoundIn, IsFoundInAll}
 use Rattle.bohm_place.proofs.Distinct.{AreDistinct-rising}
 use Rattle.bohm_place.proofs.Found.{found_same}
 use Rattle.bohm_place.proofs.NewestCell.{formed_at}
 
-module _ (part : List ℕ → ℕ) (n first : ℕ) (txns : List Txn) (all hand left : List Keyed) (w : ℕ) where
-  held : IsHand n w all hand → ((k : List ℕ) → part k < length all) → (k : List ℕ) → has_part part n w k ≡ true → placeholders_in part hand k ≡ placeholders_in part all k
-  held is inside k mine = let here = is (part k) (inside k) mine in rw here refl
+module _ (part : List ℕ → ℕ) (n first : ℕ) (all own : List Keyed) (w : ℕ) (is : HasPartsOf n w all own) (inside : (k : List ℕ) → part k < length all) where
+  held : (k : List ℕ) → keys_of part n w k ≡ true → placeholders_in part own k ≡ placeholders_in part all k
+  held k mine = let here = is (part k) (inside k) mine in rw here refl
 
-  masked : IsHand n w all hand → ((k : List ℕ) → part k < length all) → (done : List Txn) (k : List ℕ) (b : Bool) → has_part part n w k ≡ b
-      → (if has_part part n w k then newest_ahead first (placeholders_in part hand) done k else none) ≡ (if has_part part n w k then newest_ahead first (placeholders_in part all) done k else none)
-  masked is inside done k true e = let same = held is inside k e in rw (e, same) refl
+  -- of all parts, a worker can plan with its own
+  pub can_place : (count : ℕ) → length all ≡ count → length own ≡ length all → ((k : List ℕ) → All (λ b. b < first) (chain_in part all k)) → CanPlace part count n w first own
+  can_place count counted long earlier = record {
+    parts = long ∙ counted;
+    earlier = λ k mine. subst (λ (vs : List Placeholder). All (λ b. b < first) (begins vs)) (sym (held k mine)) (earlier k);
+  }
+
+module _ (part : List ℕ → ℕ) (n first : ℕ) (txns : List Txn) (all own left : List Keyed) (w : ℕ) where
+  masked : HasPartsOf n w all own → ((k : List ℕ) → part k < length all) → (done : List Txn) (k : List ℕ) (b : Bool) → keys_of part n w k ≡ b
+      → (if keys_of part n w k then newest_ahead first (placeholders_in part own) done k else none) ≡ (if keys_of part n w k then newest_ahead first (placeholders_in part all) done k else none)
+  masked is inside done k true e = let same = held part n first all own w is inside k e in rw (e, same) refl
   masked is inside done k false e = rw e refl
 
   kept_mine : (k : List ℕ) (b : Bool) → b ≡ true → (vs ws : List Placeholder) → placeholders_in part left k ≡ (if b then vs else ws) → placeholders_in part left k ≡ vs
   kept_mine k true e vs ws h = h
   kept_mine k false e vs ws h = absurd cc
 
-  pub part_of_share : (out : List Placeholder) → IsShareOf part n w first txns hand out left → IsHand n w all hand → ((k : List ℕ) → part k < length all) → length hand ≡ length all → IsPartOf part n w first txns all out left
-  part_of_share out share is inside long = record {
-    found = share.found ∙ found_same (has_part part n w) (has_part part n w) (newest_ahead first (placeholders_in part hand)) (newest_ahead first (placeholders_in part all)) (λ done k. masked is inside done k (has_part part n w k) refl) [] txns;
-    chains = λ k mine. kept_mine k (has_part part n w k) mine (placeholders_in part hand k ++ made first txns k) (placeholders_in part hand k) (share.chains k) ∙ ap (λ vs. vs ++ made first txns k) (held is inside k mine);
-    parts = share.parts ∙ long;
+  pub found_in_all : (out : List Placeholder) → IsFoundIn part n w first txns own out left → HasPartsOf n w all own → ((k : List ℕ) → part k < length all) → length own ≡ length all → IsFoundInAll part n w first txns all out left
+  found_in_all out right is inside long = record {
+    found = right.found ∙ found_same (keys_of part n w) (keys_of part n w) (newest_ahead first (placeholders_in part own)) (newest_ahead first (placeholders_in part all)) (λ done k. masked is inside done k (keys_of part n w k) refl) [] txns;
+    chains = λ k mine. kept_mine k (keys_of part n w k) mine (placeholders_in part own k ++ placeholders_made first txns k) (placeholders_in part own k) (right.chains k) ∙ ap (λ vs. vs ++ placeholders_made first txns k) (held part n first all own w is inside k mine);
+    parts = right.parts ∙ long;
   }
 
 -- the declared writes of each transaction are distinct

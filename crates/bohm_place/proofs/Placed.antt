@@ -6,22 +6,22 @@ use Rattle.std.proofs.lemmas.Bool.{cases_eq}
 use Rattle.std.proofs.lemmas.List.{take_more, append_assoc, map_more}
 use Rattle.std.proofs.lemmas.Option.{same_Some}
 use Rattle.std.proofs.lemmas.List.Elements.{All-from_recursion, All-map, All-head, All-tail}
-use Rattle.bohm_txn.specs.Faulty.{is_among}
+use Rattle.bohm_tree.specs.Keys.{is_among}
 use Rattle.bohm_txn.proofs.ForCallers.{none_before, same_key}
 use Rattle.bohm_place.specs.declared.placeholder.Placeholder.{Placeholder}
 use Rattle.bohm_place.specs.Chains.{Keyed, placeholders, placeholders_in, chain, begins, kept, AreEmpty, AreKept}
-use Rattle.bohm_place.specs.Shares.{has_part, written, AreDistinct}
+use Rattle.bohm_place.specs.Shares.{keys_of, placeholders_written, AreDistinct}
 use Rattle.bohm_place.proofs.Lists.{set_same, set_other}
 use Rattle.bohm_place.proofs.Distinct.{apart-AreDistinct}
 
 module _ (part : List ℕ → ℕ) where
-  placed_by : (qs : List Keyed) (old new : Keyed) (key k : List ℕ) (n w : ℕ) (next : Placeholder) → part key < length qs → slice_get qs (part key) ≡ Some old → has_part part n w key ≡ true → (b : Bool) → bytes_eq key k ≡ b
+  placed_by : (qs : List Keyed) (old new : Keyed) (key k : List ℕ) (n w : ℕ) (next : Placeholder) → part key < length qs → slice_get qs (part key) ≡ Some old → keys_of part n w key ≡ true → (b : Bool) → bytes_eq key k ≡ b
       → placeholders new k ≡ (if b then placeholders old k ++ next ∷ [] else placeholders old k) → (part k ≡ part key) ⊎ (part k ≢ part key)
-      → placeholders_in part (slice_set qs (part key) new) k ≡ (if (b && has_part part n w k) then placeholders_in part qs k ++ next ∷ [] else placeholders_in part qs k)
+      → placeholders_in part (slice_set qs (part key) new) k ≡ (if (b && keys_of part n w k) then placeholders_in part qs k ++ next ∷ [] else placeholders_in part qs k)
   placed_by qs old new key k n w next inside at mine true e is (inl s) =
       let g : slice_get (slice_set qs (part key) new) (part k) ≡ Some new = rw s (set_same qs (part key) new inside) in
       let o : slice_get qs (part k) ≡ Some old = rw s at in
-      let m : has_part part n w k ≡ true = rw (sym s) at mine in
+      let m : keys_of part n w k ≡ true = rw (sym s) at mine in
       rw (g, o, m) is
   placed_by qs old new key k n w next inside at mine true e is (inr s) = absurd (s (ap part (sym (same_key key k e))))
   placed_by qs old new key k n w next inside at mine false e is (inl s) =
@@ -30,20 +30,20 @@ module _ (part : List ℕ → ℕ) where
       rw (g, o) is
   placed_by qs old new key k n w next inside at mine false e is (inr s) = rw (set_other qs (part key) (part k) new s) refl
 
-  pub placed : (qs : List Keyed) (old new : Keyed) (key k : List ℕ) (n w : ℕ) (next : Placeholder) → part key < length qs → slice_get qs (part key) ≡ Some old → has_part part n w key ≡ true
+  pub placed : (qs : List Keyed) (old new : Keyed) (key k : List ℕ) (n w : ℕ) (next : Placeholder) → part key < length qs → slice_get qs (part key) ≡ Some old → keys_of part n w key ≡ true
       → placeholders new k ≡ (if bytes_eq key k then placeholders old k ++ next ∷ [] else placeholders old k)
-      → placeholders_in part (slice_set qs (part key) new) k ≡ (if (bytes_eq key k && has_part part n w k) then placeholders_in part qs k ++ next ∷ [] else placeholders_in part qs k)
+      → placeholders_in part (slice_set qs (part key) new) k ≡ (if (bytes_eq key k && keys_of part n w k) then placeholders_in part qs k ++ next ∷ [] else placeholders_in part qs k)
   placed qs old new key k n w next inside at mine is = placed_by qs old new key k n w next inside at mine (bytes_eq key k) refl is (cases_eq (part k) (part key))
 
-skipped : (u index : ℕ) (w : List ℕ) (ws : List (List ℕ)) (k : List ℕ) (b : Bool) → bytes_eq w k ≡ b → (b || is_among ws k) ≡ false → (is_among ws k ≡ false → written u (index + 1) ws k ≡ []) → written u index (w ∷ ws) k ≡ []
+skipped : (u index : ℕ) (w : List ℕ) (ws : List (List ℕ)) (k : List ℕ) (b : Bool) → bytes_eq w k ≡ b → (b || is_among ws k) ≡ false → (is_among ws k ≡ false → placeholders_written u (index + 1) ws k ≡ []) → placeholders_written u index (w ∷ ws) k ≡ []
 skipped u index w ws k true e absent more = absurd cc
 skipped u index w ws k false e absent more = rw e (more absent)
 
-written_none : (u index : ℕ) (ws : List (List ℕ)) (k : List ℕ) → is_among ws k ≡ false → written u index ws k ≡ []
+written_none : (u index : ℕ) (ws : List (List ℕ)) (k : List ℕ) → is_among ws k ≡ false → placeholders_written u index ws k ≡ []
 written_none u index [] k absent = refl
 written_none u index (w ∷ ws) k absent = skipped u index w ws k (bytes_eq w k) refl absent (written_none u (index + 1) ws k)
 
-pub written_more : (u index : ℕ) (ws : List (List ℕ)) (w k : List ℕ) (at : ℕ) → at ≡ index + length ws → written u index (ws ++ w ∷ []) k ≡ written u index ws k ++ (if bytes_eq w k then record { begin = u; index = at } ∷ [] else [])
+pub written_more : (u index : ℕ) (ws : List (List ℕ)) (w k : List ℕ) (at : ℕ) → at ≡ index + length ws → placeholders_written u index (ws ++ w ∷ []) k ≡ placeholders_written u index ws k ++ (if bytes_eq w k then record { begin = u; index = at } ∷ [] else [])
 written_more u index [] w k at e = let s : at ≡ index = omega arith in rw s (append-nil _)
 written_more u index (x ∷ ws) w k at e = rw (written_more u (index + 1) ws w k at (omega arith), append_assoc) refl
 
@@ -55,20 +55,20 @@ step_by false false base hand new ws next h n = n ∙ h
 
 -- one more write of the transaction u
 pub write_placed : (m : Bool) (base hand new : List Placeholder) (u i : ℕ) (keys : List (List ℕ)) (k d : List ℕ) → i < length keys → length (take i keys) ≡ i
-    → hand ≡ (if m then base ++ written u 0 (take i keys) k else base)
+    → hand ≡ (if m then base ++ placeholders_written u 0 (take i keys) k else base)
     → new ≡ (if (bytes_eq (get_or keys i d) k && m) then hand ++ record { begin = u; index = i } ∷ [] else hand)
-    → new ≡ (if m then base ++ written u 0 (take (i + 1) keys) k else base)
+    → new ≡ (if m then base ++ placeholders_written u 0 (take (i + 1) keys) k else base)
 write_placed m base hand new u i keys k d inside len h n =
-    let more : written u 0 (take (i + 1) keys) k ≡ written u 0 (take i keys) k ++ (if bytes_eq (get_or keys i d) k then record { begin = u; index = i } ∷ [] else [])
-    = ap (λ ws. written u 0 ws k) (take_more keys i d inside) ∙ written_more u 0 (take i keys) (get_or keys i d) k i (omega arith) in
-    rw more (step_by m (bytes_eq (get_or keys i d) k) base hand new (written u 0 (take i keys) k) record { begin = u; index = i } h n)
+    let more : placeholders_written u 0 (take (i + 1) keys) k ≡ placeholders_written u 0 (take i keys) k ++ (if bytes_eq (get_or keys i d) k then record { begin = u; index = i } ∷ [] else [])
+    = ap (λ ws. placeholders_written u 0 ws k) (take_more keys i d inside) ∙ written_more u 0 (take i keys) (get_or keys i d) k i (omega arith) in
+    rw more (step_by m (bytes_eq (get_or keys i d) k) base hand new (placeholders_written u 0 (take i keys) k) record { begin = u; index = i } h n)
 
 -- the key of the next write has none yet of the transaction
-pub not_yet_written : (u i : ℕ) (keys : List (List ℕ)) (d : List ℕ) → i < length keys → AreDistinct keys → written u 0 (take i keys) (get_or keys i d) ≡ []
+pub not_yet_written : (u i : ℕ) (keys : List (List ℕ)) (d : List ℕ) → i < length keys → AreDistinct keys → placeholders_written u 0 (take i keys) (get_or keys i d) ≡ []
 not_yet_written u i keys d inside distinct = written_none u 0 (take i keys) (get_or keys i d) (none_before keys i d inside (apart-AreDistinct keys distinct))
 
 -- and its chain is as it was before the transaction
-pub not_yet_placed : (m : Bool) (base hand : List Placeholder) (u i : ℕ) (keys : List (List ℕ)) (d : List ℕ) → i < length keys → AreDistinct keys → hand ≡ (if m then base ++ written u 0 (take i keys) (get_or keys i d) else base) → hand ≡ base
+pub not_yet_placed : (m : Bool) (base hand : List Placeholder) (u i : ℕ) (keys : List (List ℕ)) (d : List ℕ) → i < length keys → AreDistinct keys → hand ≡ (if m then base ++ placeholders_written u 0 (take i keys) (get_or keys i d) else base) → hand ≡ base
 not_yet_placed true base hand u i keys d inside distinct h = h ∙ ap (λ ws. base ++ ws) (not_yet_written u i keys d inside distinct) ∙ append-nil base
 not_yet_placed false base hand u i keys d inside distinct h = h
 

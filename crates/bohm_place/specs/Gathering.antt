@@ -2,7 +2,7 @@
 use Rattle.std.specs.Prelude.{◌≡◌, ℕ, ◌≤◌, List, [], ◌∷◌, ◌++◌, length, Bool, ◌||◌, ◌==◌, Some, slice_get, if◌then◌else◌}
 use Rattle.std.specs.List.{list_any, IsDistinct}
 use Rattle.std.specs.Str.{bytes_eq}
-use Rattle.bohm_txn.specs.Faulty.{is_among}
+use Rattle.bohm_tree.specs.Keys.{is_among}
 use Rattle.bohm_log.specs.Parts.{names_at}
 use Rattle.bohm_log.specs.Columns.{AllNamed}
 use Rattle.bohm_log.specs.Numbering.{Numbered}

@@ -2,5 +2,6 @@ pub mod Chains
 pub mod Writers
 pub mod Plans
 pub mod Shares
+pub mod Planners
 pub mod Numbered
 pub mod Gathering

@@ -6,7 +6,7 @@ use Rattle.bohm_tree.specs.Txn.{Txn}
 use Rattle.bohm_log.specs.Parts.{name_at, names_at}
 use Rattle.bohm_place.specs.declared.placeholder.Placeholder.{Placeholder}
 use Rattle.bohm_place.specs.Chains.{none, last_or}
-use Rattle.bohm_place.specs.Shares.{within, written, found_by, ahead_of}
+use Rattle.bohm_place.specs.Shares.{within, placeholders_written, found_by, ahead_of}
 
 -- of the key with this number
 abbrev pub newest_at : List Placeholder → ℕ → Placeholder
@@ -22,10 +22,10 @@ pub record IsCovered (names : List (List ℕ)) (newest : List Placeholder) : Typ
   pub long : length names ≤ length newest
 
 -- the second has the placeholders that u makes by writing the keys with these numbers
-pub record ArePlaced (mine : List ℕ → Bool) (first u : ℕ) (names : List (List ℕ)) (numbers : List ℕ) (old new : List Placeholder) : Type 0 where
+pub record AreNumbersPlaced (mine : List ℕ → Bool) (first u : ℕ) (names : List (List ℕ)) (numbers : List ℕ) (old new : List Placeholder) : Type 0 where
   pub long : length new ≡ length old
   pub below : (t : ℕ) → u < t → All (λ v. v.begin < t) old → All (λ v. v.begin < t) new
-  pub each : (n : ℕ) → n < length names → mine (name_at names n) ≡ true → within first (newest_at new n) ≡ last_or (within first (newest_at old n)) (written u 0 (names_at names numbers) (name_at names n))
+  pub each : (n : ℕ) → n < length names → mine (name_at names n) ≡ true → within first (newest_at new n) ≡ last_or (within first (newest_at old n)) (placeholders_written u 0 (names_at names numbers) (name_at names n))
 
 -- a worker's keys have their newest placeholders of the transactions ahead in the batch
 pub record StandsBehind (mine : List ℕ → Bool) (first : ℕ) (names : List (List ℕ)) (ahead : List Txn) (newest : List Placeholder) : Type 0 where
@@ -34,6 +34,6 @@ pub record StandsBehind (mine : List ℕ → Bool) (first : ℕ) (names : List (
   pub each : (n : ℕ) → n < length names → mine (name_at names n) ≡ true → within first (newest_at newest n) ≡ ahead_of first ahead (name_at names n)
 
 -- what a worker owes: what the transactions ahead make of its keys, and an array behind the batch
-pub record IsWalked (mine : List ℕ → Bool) (first : ℕ) (txns : List Txn) (out newest : List Placeholder) : Type 0 where
+pub record IsFoundByNumber (mine : List ℕ → Bool) (first : ℕ) (txns : List Txn) (out newest : List Placeholder) : Type 0 where
   pub found : out ≡ found_by mine (ahead_of first) [] txns
   pub below : All (λ v. v.begin < first + length txns) newest

@@ -1,8 +1,7 @@
 -- The writers of a key, and the newest of them below a timestamp. The first of the transactions has the timestamp `first`.
 use Rattle.std.specs.Prelude.{◌≡◌, ℕ, ◌+◌, ◌-◌, ◌<◌, List, [], ◌∷◌, ◌++◌, Some, slice_get, if◌then◌else◌}
 use Rattle.bohm_tree.specs.Txn.{Txn}
-use Rattle.bohm_txn.specs.Declares.{IsAmong}
-use Rattle.bohm_txn.specs.Faulty.{is_among}
+use Rattle.bohm_tree.specs.Keys.{IsAmong, is_among}
 use Rattle.bohm_place.specs.declared.access.Source.{Source}
 use Rattle.bohm_place.specs.declared.access.Source.TheVariants.{Before, Within}
 

@@ -3,14 +3,16 @@
 ghost use Rattle.std.specs.Prelude.{◌+◌, ◌<◌, length, All, IfOk};
 ghost use Rattle.bohm_place.specs.Plans.{IsPlannable, IsPlanned};
 
-use crate::by_number::{Walked, walk};
-use crate::lot::Lot;
+use crate::by_number::{FoundByNumber, NumberJob, plan_numbers};
 use crate::newest::Newest;
 use crate::partition::Undivided;
 use crate::planned::Plan;
 use crate::planning::accesses;
 use crate::row::rows;
-use bohm_txn::{LogPart, NoMemory};
+use crate::unplanned::UnplannedBatch;
+use crate::worker::Worker;
+use bohm_log::LogPart;
+use bohm_tree::NoMemory;
 use std::alloc::Global;
 
 /// Plans a batch on the caller's thread, by the numbers of its log's keys: finds for each access of
@@ -32,11 +34,16 @@ pub fn plan_alone(
     ensures below { IfOk result (λ r. All (λ v. v.begin < first + length txns.now) r.0) }
 {
     let rows = rows(alloc, txns)?;
-    let accesses = accesses(&rows);
-    let lot = Lot {
+    let batch = UnplannedBatch {
+        first,
+        txns,
+        accesses: accesses(&rows),
+    };
+    let worker = Worker {
         number: 0,
         count: 1,
     };
-    let Walked { found, newest } = walk(alloc, newest, first, txns, &Undivided, lot, accesses)?;
+    let job = NumberJob { worker, newest };
+    let FoundByNumber { found, newest } = plan_numbers(alloc, job, batch, &Undivided)?;
     Ok((newest, Plan::new(first, found, rows)))
 }

@@ -2,10 +2,11 @@
 
 ghost use Rattle.std.specs.Prelude.{◌≡◌, ◌+◌, ◌<◌, ◌≤◌, ◌^◌, ◌==◌, All, [], length, OnOk};
 ghost use Rattle.std.specs.List.{list_any};
-ghost use Rattle.bohm_place.specs.Gathering.{with_number, with_numbers, AreFew, AreGathered, ArePlaced};
+ghost use Rattle.bohm_place.specs.Gathering.{with_number, with_numbers};
+ghost use Rattle.bohm_place.specs.Gathering.{AreFew, AreGathered, ArePlaced};
 
 use bohm_log::DeclaredKeys;
-use bohm_txn::NoMemory;
+use bohm_tree::NoMemory;
 use std::alloc::Global;
 use std::marker::Model;
 

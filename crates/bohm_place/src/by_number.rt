@@ -1,186 +1,186 @@
 //! What one planning worker does that goes by the numbers of keys.
 
-ghost use Rattle.std.specs.Prelude.{◌≡◌, ◌+◌, ◌++◌, ◌<◌, ◌≤◌, [], length, map, All, OnOk, IfOk, slice_set, if◌then◌else◌};
+ghost use Rattle.std.specs.Prelude.{◌≡◌, ◌+◌, ◌++◌, ◌<◌, ◌≤◌, [], length, map};
+ghost use Rattle.std.specs.Prelude.{All, OnOk, IfOk, slice_set, if◌then◌else◌};
 ghost use Rattle.bohm_log.specs.Parts.{name_at, names_at};
 ghost use Rattle.bohm_log.specs.Columns.{AllNamed};
 ghost use Rattle.bohm_log.specs.Numbering.{Numbers};
-ghost use Rattle.bohm_place.specs.Plans.{IsPlannable};
-ghost use Rattle.bohm_place.specs.Shares.{AreDistinct, has_part, found_by, ahead_of};
-ghost use Rattle.bohm_place.specs.Numbered.{found_at, IsCovered, ArePlaced, IsWalked};
+ghost use Rattle.bohm_place.specs.Shares.{AreDistinct, keys_of, found_by, ahead_of};
+ghost use Rattle.bohm_place.specs.Numbered.{IsCovered, IsFoundByNumber};
+ghost use Rattle.bohm_place.specs.Planners.{mine, found_of_number, ArePlacedByNumber};
 
-use crate::lot::Lot;
 use crate::newest::Newest;
 use crate::partition::Partition;
 use crate::placeholder::Placeholder;
+use crate::unplanned::UnplannedBatch;
+use crate::worker::{Worker, WorkerKeys};
 use bohm_log::DeclaredKeys;
-use bohm_txn::{Key, LogPart, NoMemory};
+use bohm_tree::NoMemory;
 use std::alloc::Global;
 use std::mem;
+
+/// A worker, and the array that it alone holds while it plans.
+#[derive(Drop)]
+pub struct NumberJob {
+    pub worker: Worker,
+    pub newest: Newest,
+}
 
 /// What a worker hands back: for each access of its keys the placeholder of its source, `none` for
 /// the other accesses, and its array.
 #[derive(Drop)]
-pub struct Walked {
+pub struct FoundByNumber {
     pub found: Vec<Placeholder>,
     pub newest: Newest,
 }
 
-// The placeholder that a read of the key takes, of the batch that starts at `first`.
-fn find<P: Partition>(
-    newest: &[Placeholder],
-    first: u32,
-    partition: &P,
-    names: &[Key],
-    number: u32,
-    lot: Lot,
-) -> Placeholder
-    requires named { number < length names.now }
-    requires long { length names.now ≤ length newest.now }
-    ensures { result ≡ found_at (has_part (P.part_of partition.now) lot.count lot.number) first
-        names.now newest.now number }
-{
-    if !lot.has(partition, names, number) {
-        return Placeholder::none();
-    }
-    newest[number as usize].within(first)
+/// A worker that goes by the numbers of keys.
+#[derive(Drop)]
+pub struct NumberPlanner<'a, P> {
+    keys: WorkerKeys<'a, P>,
+    declared: DeclaredKeys<'a>,
+    batch: UnplannedBatch<'a>,
 }
 
-// The same of a write, whose own placeholder takes the place of that one.
-fn find_and_place<P: Partition>(
-    newest: &mut [Placeholder],
-    first: u32,
-    partition: &P,
-    names: &[Key],
-    number: u32,
-    next: Placeholder,
-    lot: Lot,
-) -> Placeholder
-    requires named { number < length names.now }
-    requires long { length names.now ≤ length newest.old }
-    ensures found { result
-        ≡ found_at (has_part (P.part_of partition.now) lot.count lot.number) first
-        names.now newest.old number }
-    ensures placed { newest.new
-        ≡ (if has_part (P.part_of partition.now) lot.count lot.number (name_at names.now number)
-        then slice_set newest.old number next else newest.old) }
-{
-    if !lot.has(partition, names, number) {
-        return Placeholder::none();
+impl<'a, P: Partition> NumberPlanner<'a, P> {
+    // Whether the key with a number is the worker's. One worker alone has every key, and the
+    // partition isn't asked.
+    fn has(&self, number: u32) -> bool
+        requires { number < length self.now.declared.names }
+        ensures { result ≡ mine P.part_of self.now.keys (name_at self.now.declared.names number) }
+    {
+        if self.keys.worker.count == 1 {
+            return true;
+        }
+        let key = &self.declared.names()[number as usize];
+        self.keys.worker.has(self.keys.partition.part(key))
     }
-    mem::replace(&mut newest[number as usize], next).within(first)
-}
 
-fn find_reads<P: Partition>(
-    found: &mut Vec<Placeholder>,
-    newest: &[Placeholder],
-    first: u32,
-    partition: &P,
-    names: &[Key],
-    numbers: &[u32],
-    lot: Lot,
-) -> Result<(), NoMemory>
-    requires named { AllNamed names.now numbers.now }
-    requires long { length names.now ≤ length newest.now }
-    ensures { OnOk result (found.new.items ≡ found.old.items
-        ++ map (found_at (has_part (P.part_of partition.now) lot.count lot.number) first
-        names.now newest.now)
-        numbers.now) }
-{
-    for place in 0..numbers.len() {
-        found.push(find(newest, first, partition, names, numbers[place], lot))?;
+    // The placeholder that a read of the key takes.
+    fn find(&self, newest: &[Placeholder], number: u32) -> Placeholder
+        requires named { number < length self.now.declared.names }
+        requires long { length self.now.declared.names ≤ length newest.now }
+        ensures { result ≡ found_of_number P.part_of self.now newest.now number }
+    {
+        if !self.has(number) {
+            return Placeholder::none();
+        }
+        newest[number as usize].within(self.batch.first)
     }
-    Ok(())
-}
 
-fn find_and_place_writes<P: Partition>(
-    found: &mut Vec<Placeholder>,
-    newest: &mut [Placeholder],
-    first: u32,
-    ts: u32,
-    partition: &P,
-    names: &[Key],
-    numbers: &[u32],
-    lot: Lot,
-) -> Result<(), NoMemory>
-    requires covered { IsCovered names.now newest.old }
-    requires named { AllNamed names.now numbers.now }
-    requires timestamp { first ≤ ts }
-    requires few { length numbers.now ≤ 16 }
-    requires distinct { AreDistinct (names_at names.now numbers.now) }
-    ensures found { OnOk result (found.new.items ≡ found.old.items
-        ++ map (found_at (has_part (P.part_of partition.now) lot.count lot.number) first
-        names.now newest.old)
-        numbers.now) }
-    ensures placed { OnOk result
-        (ArePlaced (has_part (P.part_of partition.now) lot.count lot.number) first ts
-        names.now
-        numbers.now newest.old newest.new) }
-{
-    for place in 0..numbers.len() {
-        let next = Placeholder {
-            begin: ts,
-            index: place as u32,
-        };
-        let number = numbers[place];
-        found.push(find_and_place(newest, first, partition, names, number, next, lot))?;
+    // The same of a write, whose own placeholder takes the place of that one.
+    fn find_and_place(
+        &self,
+        newest: &mut [Placeholder],
+        number: u32,
+        next: Placeholder,
+    ) -> Placeholder
+        requires named { number < length self.now.declared.names }
+        requires long { length self.now.declared.names ≤ length newest.old }
+        ensures found { result ≡ found_of_number P.part_of self.now newest.old number }
+        ensures placed { newest.new
+            ≡ (if mine P.part_of self.now.keys (name_at self.now.declared.names number)
+            then slice_set newest.old number next else newest.old) }
+    {
+        if !self.has(number) {
+            return Placeholder::none();
+        }
+        mem::replace(&mut newest[number as usize], next).within(self.batch.first)
     }
-    Ok(())
-}
 
-fn find_all<P: Partition>(
-    alloc: Global,
-    newest: &mut [Placeholder],
-    first: u32,
-    txns: &LogPart<'_>,
-    keys: &DeclaredKeys<'_>,
-    partition: &P,
-    lot: Lot,
-    accesses: usize,
-) -> Result<Vec<Placeholder>, NoMemory>
-    requires plannable { IsPlannable first txns.now }
-    requires numbers { Numbers keys.now txns.now }
-    requires long { length keys.now.names ≤ length newest.old }
-    requires earlier { All (λ v. v.begin < first) newest.old }
-    ensures found { IfOk result (λ v. v.items
-        ≡ found_by (has_part (P.part_of partition.now) lot.count lot.number) (ahead_of first)
-        [] txns.now) }
-    ensures long { OnOk result (length newest.new ≡ length newest.old) }
-    ensures below { OnOk result (All (λ v. v.begin < first + length txns.now) newest.new) }
-{
-    let names = keys.names();
-    let mut found = Vec::with_capacity(alloc, accesses)?;
-    for i in 0..txns.len() {
-        let ts = first + i as u32;
-        let (reads, writes) = keys.sets(i);
-        find_reads(&mut found, newest, first, partition, names, reads, lot)?;
-        find_and_place_writes(&mut found, newest, first, ts, partition, names, writes, lot)?;
+    fn find_reads(
+        &self,
+        newest: &[Placeholder],
+        numbers: &[u32],
+        found: &mut Vec<Placeholder>,
+    ) -> Result<(), NoMemory>
+        requires named { AllNamed self.now.declared.names numbers.now }
+        requires long { length self.now.declared.names ≤ length newest.now }
+        ensures { OnOk result (found.new.items ≡ found.old.items
+            ++ map (found_of_number P.part_of self.now newest.now) numbers.now) }
+    {
+        for place in 0..numbers.len() {
+            found.push(self.find(newest, numbers[place]))?;
+        }
+        Ok(())
     }
-    Ok(found)
+
+    fn find_and_place_writes(
+        &self,
+        newest: &mut [Placeholder],
+        ts: u32,
+        numbers: &[u32],
+        found: &mut Vec<Placeholder>,
+    ) -> Result<(), NoMemory>
+        requires covered { IsCovered self.now.declared.names newest.old }
+        requires named { AllNamed self.now.declared.names numbers.now }
+        requires timestamp { self.now.batch.first ≤ ts }
+        requires few { length numbers.now ≤ 16 }
+        requires distinct { AreDistinct (names_at self.now.declared.names numbers.now) }
+        ensures found { OnOk result (found.new.items ≡ found.old.items
+            ++ map (found_of_number P.part_of self.now newest.old) numbers.now) }
+        ensures placed { OnOk result
+            (ArePlacedByNumber P.part_of self.now ts numbers.now newest.old newest.new) }
+    {
+        for place in 0..numbers.len() {
+            let next = Placeholder {
+                begin: ts,
+                index: place as u32,
+            };
+            found.push(self.find_and_place(newest, numbers[place], next))?;
+        }
+        Ok(())
+    }
+
+    fn find_all(
+        &self,
+        alloc: Global,
+        newest: &mut [Placeholder],
+    ) -> Result<Vec<Placeholder>, NoMemory>
+        requires numbers { Numbers self.now.declared self.now.batch.txns.now }
+        requires long { length self.now.declared.names ≤ length newest.old }
+        requires earlier { All (λ v. v.begin < self.now.batch.first) newest.old }
+        ensures found { IfOk result (λ v. v.items ≡ found_by (mine P.part_of self.now.keys)
+            (ahead_of self.now.batch.first) [] self.now.batch.txns.now) }
+        ensures long { OnOk result (length newest.new ≡ length newest.old) }
+        ensures below { OnOk result (All
+            (λ v. v.begin < self.now.batch.first + length self.now.batch.txns.now) newest.new) }
+    {
+        let mut found = Vec::with_capacity(alloc, self.batch.accesses)?;
+        for i in 0..self.batch.txns.len() {
+            let ts = self.batch.first + i as u32;
+            let (reads, writes) = self.declared.sets(i);
+            self.find_reads(newest, reads, &mut found)?;
+            self.find_and_place_writes(newest, ts, writes, &mut found)?;
+        }
+        Ok(found)
+    }
 }
 
 /// Goes through all transactions in log order, and finds and places the accesses of the worker's
-/// keys. `accesses` is how many accesses the transactions have.
-pub fn walk<P: Partition>(
+/// keys.
+pub fn plan_numbers<P: Partition>(
     alloc: Global,
-    mut newest: Newest,
-    first: u32,
-    txns: &LogPart<'_>,
+    job: NumberJob,
+    batch: UnplannedBatch<'_>,
     partition: &P,
-    lot: Lot,
-    accesses: usize,
-) -> Result<Walked, NoMemory>
-    requires plannable { IsPlannable first txns.now }
-    requires earlier { All (λ v. v.begin < first) newest }
-    ensures { IfOk result
-        (λ w. IsWalked (has_part (P.part_of partition.now) lot.count lot.number) first txns.now
-        w.found.items w.newest) }
+) -> Result<FoundByNumber, NoMemory>
+    requires { All (λ v. v.begin < batch.first) job.newest }
+    ensures { IfOk result (λ f. IsFoundByNumber
+        (keys_of (P.part_of partition.now) job.worker.count job.worker.number)
+        batch.entry.first batch.entry.txns.now f.found.items f.newest) }
 {
-    let keys = txns.keys();
-    newest.cover(keys.names().len())?;
+    let NumberJob { worker, mut newest } = job;
+    let declared = batch.txns.keys();
+    newest.cover(declared.names().len())?;
     let mut placeholders = newest.into_placeholders();
-    let hand = placeholders.as_mut_slice();
-    let found = find_all(alloc, hand, first, txns, &keys, partition, lot, accesses)?;
-    Ok(Walked {
+    let planner = NumberPlanner {
+        keys: WorkerKeys { worker, partition },
+        declared,
+        batch,
+    };
+    let found = planner.find_all(alloc, placeholders.as_mut_slice())?;
+    Ok(FoundByNumber {
         found,
         newest: Newest::from_placeholders(placeholders),
     })

@@ -1,11 +1,13 @@
-//! Chains of placeholders.
+//! `Chain`: the placeholders of one key. `Places` has the chains of one part of the keys.
 
-ghost use Rattle.std.specs.Prelude.{◌≡◌, ℕ, List, [], ◌∷◌, ◌++◌, ◌<◌, length, IfOk, OnOk, OnErr, IsTrue, ◌↔◌};
-ghost use Rattle.bohm_txn.specs.Declares.{IsAmong};
-ghost use Rattle.bohm_place.specs.Chains.{items, second, begins, kept_items, greatest_below, RisesFrom};
+ghost use Rattle.std.specs.Prelude.{◌≡◌, ℕ, List, [], ◌∷◌, ◌++◌, ◌<◌, ◌↔◌};
+ghost use Rattle.std.specs.Prelude.{length, IfOk, OnOk, OnErr, IsTrue};
+ghost use Rattle.bohm_tree.specs.Keys.{IsAmong};
+ghost use Rattle.bohm_place.specs.Chains.{items, second, begins};
+ghost use Rattle.bohm_place.specs.Chains.{kept_items, greatest_below, RisesFrom};
 
 use crate::placeholder::Placeholder;
-use bohm_txn::{Key, NoMemory};
+use bohm_tree::{Key, NoMemory};
 use std::alloc::Global;
 use std::collections::VecDeque;
 

@@ -1,131 +1,103 @@
 //! Planning a batch by the numbers of keys, by several workers.
 
-ghost use Rattle.std.specs.Prelude.{◌≡◌, ℕ, ◌+◌, ◌%◌, ◌<◌, [], length, All, IfOk, nat_lt, slice_index_or};
+ghost use Rattle.std.specs.Prelude.{◌≡◌, ℕ, ◌+◌, ◌%◌, ◌<◌, [], length, nat_lt};
+ghost use Rattle.std.specs.Prelude.{All, IfOk, slice_index_or};
 ghost use denote.Param.Send.{IsSync};
 ghost use Rattle.bohm_place.specs.Plans.{IsPlannable, IsPlanned};
-ghost use Rattle.bohm_place.specs.Shares.{has_part, found_by, ahead_of, greater};
-ghost use Rattle.bohm_place.specs.Numbered.{IsWalked};
+ghost use Rattle.bohm_place.specs.Shares.{keys_of, found_by, ahead_of};
+ghost use Rattle.bohm_place.specs.Numbered.{IsFoundByNumber};
 
-use crate::by_number::{Walked, walk};
-use crate::lot::Lot;
+use crate::by_number::{FoundByNumber, NumberJob, plan_numbers};
 use crate::newest::Newest;
 use crate::partition::Partition;
-use crate::placeholder::Placeholder;
+use crate::placeholder::{Placeholder, join};
 use crate::planned::Plan;
 use crate::planning::accesses;
 use crate::row::rows;
-use bohm_txn::{LogPart, NoMemory};
+use crate::unplanned::UnplannedBatch;
+use crate::worker::Worker;
+use bohm_log::LogPart;
+use bohm_tree::NoMemory;
 use std::alloc::Global;
 use std::thread::Threads;
 use std::{mem, thread};
 
-/// A worker's keys, and the array that it alone holds while it plans.
-#[derive(Drop)]
-pub struct Post {
-    pub lot: Lot,
-    pub newest: Newest,
-}
-
-// One post for each array.
-fn posts(alloc: Global, mut arrays: Vec<Newest>) -> Result<Vec<Post>, NoMemory>
-    ensures count { IfOk result (λ posts. length posts.items ≡ length arrays.items) }
-    ensures lots { IfOk result (λ posts. (w : ℕ) (d : _) → w < length arrays.items
-        → ((slice_index_or posts.items w d).lot.number ≡ w)
-        × ((slice_index_or posts.items w d).lot.count ≡ length arrays.items)) }
-    ensures below { IfOk result (λ posts. (t : ℕ)
+// One job for each array.
+fn jobs(alloc: Global, mut arrays: Vec<Newest>) -> Result<Vec<NumberJob>, NoMemory>
+    ensures count { IfOk result (λ jobs. length jobs.items ≡ length arrays.items) }
+    ensures workers { IfOk result (λ jobs. (w : ℕ) (d : _) → w < length arrays.items
+        → ((slice_index_or jobs.items w d).worker.number ≡ w)
+        × ((slice_index_or jobs.items w d).worker.count ≡ length arrays.items)) }
+    ensures below { IfOk result (λ jobs. (t : ℕ)
         → All (λ a. All (λ v. v.begin < t) a) arrays.items
-        → All (λ p. All (λ v. v.begin < t) p.newest) posts.items) }
+        → All (λ j. All (λ v. v.begin < t) j.newest) jobs.items) }
 {
     let count = arrays.len();
-    let mut posts = Vec::with_capacity(alloc, count)?;
+    let mut jobs = Vec::with_capacity(alloc, count)?;
     for number in 0..count {
-        let lot = Lot { number, count };
+        let worker = Worker { number, count };
         let newest = mem::replace(&mut arrays[number], Newest::new(alloc));
-        posts.push(Post { lot, newest })?;
+        jobs.push(NumberJob { worker, newest })?;
     }
-    Ok(posts)
+    Ok(jobs)
 }
 
-// Lets each worker walk, in a thread of its own where there is more than one.
-fn walk_all<P: Partition, R: Threads + Sync>(
+// Lets each worker do its job, in a thread of its own where there is more than one.
+fn plan_all<P: Partition, R: Threads + Sync>(
     rt: &R,
-    posts: Vec<Post>,
     alloc: Global,
-    first: u32,
-    txns: &LogPart<'_>,
+    jobs: Vec<NumberJob>,
+    batch: UnplannedBatch<'_>,
     partition: &P,
-    accesses: usize,
-) -> Result<Vec<Result<Walked, NoMemory>>, NoMemory>
-    requires plannable { IsPlannable first txns.now }
-    requires earlier { All (λ p. All (λ v. v.begin < first) p.newest) posts.items }
-    ensures count { IfOk result (λ walked. length walked.items ≡ length posts.items) }
-    ensures each { IfOk result (λ walked. (w : ℕ) (d : _) (e : _) → w < length posts.items
-        → IfOk (slice_index_or walked.items w e) (λ s. IsWalked (has_part
-        (P.part_of partition.now) (slice_index_or posts.items w d).lot.count
-        (slice_index_or posts.items w d).lot.number)
-        first txns.now s.found.items s.newest)) }
+) -> Result<Vec<Result<FoundByNumber, NoMemory>>, NoMemory>
+    requires { All (λ j. All (λ v. v.begin < batch.first) j.newest) jobs.items }
+    ensures count { IfOk result (λ each. length each.items ≡ length jobs.items) }
+    ensures each { IfOk result (λ each. (w : ℕ) (d : _) (e : _) → w < length jobs.items
+        → let worker = (slice_index_or jobs.items w d).worker in
+        IfOk (slice_index_or each.items w e) (λ f. IsFoundByNumber
+        (keys_of (P.part_of partition.now) worker.count worker.number)
+        batch.entry.first batch.entry.txns.now f.found.items f.newest)) }
 {
-    let walked = thread::map_vec(
+    let each = thread::map_vec(
         rt,
-        posts,
-        &|post: Post| -> Result<Walked, NoMemory>
-            requires { IsSync P.row × IsPlannable first txns.now
-                × All (λ v. v.begin < first) post.newest }
-            ensures { IfOk result (λ s. IsWalked (has_part (P.part_of partition.entry.now)
-                post.lot.count post.lot.number) first txns.entry.now s.found.items s.newest) }
-        {
-            walk(
-                alloc,
-                post.newest,
-                first,
-                txns,
-                partition,
-                post.lot,
-                accesses,
-            )
-        },
+        jobs,
+        &|job: NumberJob| -> Result<FoundByNumber, NoMemory>
+            requires { IsSync P.row × All (λ v. v.begin < batch.first) job.newest }
+            ensures { IfOk result (λ f. IsFoundByNumber
+                (keys_of (P.part_of partition.entry.now) job.worker.count job.worker.number)
+                batch.entry.first batch.entry.txns.now f.found.items f.newest) }
+        { plan_numbers(alloc, job, batch, partition) },
     )?;
-    Ok(walked)
-}
-
-// Joins what another worker found, who has no key of those before it, to what they found.
-fn join(found: &mut [Placeholder], more: &[Placeholder])
-    requires { length found.old ≡ length more.now }
-    ensures { found.new ≡ greater found.old more.now }
-{
-    for i in 0..found.len() {
-        found[i] = found[i].or(more[i]);
-    }
+    Ok(each)
 }
 
 // Takes the arrays back, and joins what the workers found.
 fn gather<P: Partition>(
     alloc: Global,
-    mut walked: Vec<Result<Walked, NoMemory>>,
-    first: u32,
-    txns: &LogPart<'_>,
+    mut each: Vec<Result<FoundByNumber, NoMemory>>,
+    batch: UnplannedBatch<'_>,
     partition: &P,
 ) -> Result<(Vec<Newest>, Vec<Placeholder>), NoMemory>
-    requires some { 0 < length walked.items }
-    requires walked { (w : ℕ) (d : _) → w < length walked.items
-        → IfOk (slice_index_or walked.items w d) (λ s. IsWalked (has_part
-        (P.part_of partition.now) (length walked.items) w)
-        first txns.now s.found.items s.newest) }
-    ensures count { IfOk result (λ r. length r.0.items ≡ length walked.items) }
-    ensures below { IfOk result
-        (λ r. All (λ a. All (λ v. v.begin < first + length txns.now) a) r.0.items) }
+    requires some { 0 < length each.items }
+    requires each { (w : ℕ) (d : _) → w < length each.items
+        → IfOk (slice_index_or each.items w d) (λ f. IsFoundByNumber
+        (keys_of (P.part_of partition.now) (length each.items) w)
+        batch.first batch.txns.now f.found.items f.newest) }
+    ensures count { IfOk result (λ r. length r.0.items ≡ length each.items) }
+    ensures below { IfOk result (λ r. All
+        (λ a. All (λ v. v.begin < batch.entry.first + length batch.entry.txns.now) a) r.0.items) }
     ensures found { IfOk result (λ r. r.1.items
-        ≡ found_by (λ k. nat_lt (P.part_of partition.now k % length walked.items)
-        (length walked.items)) (ahead_of first) [] txns.now) }
+        ≡ found_by (λ k. nat_lt (P.part_of partition.now k % length each.items)
+        (length each.items)) (ahead_of batch.entry.first) [] batch.entry.txns.now) }
 {
-    let count = walked.len();
+    let count = each.len();
     let mut arrays = Vec::with_capacity(alloc, count)?;
     let mut found = Vec::new(alloc);
     for number in 0..count {
-        let Walked {
+        let FoundByNumber {
             found: more,
             newest,
-        } = mem::replace(&mut walked[number], Err(NoMemory))?;
+        } = mem::replace(&mut each[number], Err(NoMemory))?;
         arrays.push(newest)?;
         if number == 0 {
             found = more;
@@ -163,9 +135,13 @@ pub fn plan_by_number<P: Partition, R: Threads + Sync>(
         (λ r. All (λ a. All (λ v. v.begin < first + length txns.now) a) r.0.items) }
 {
     let rows = rows(alloc, txns)?;
-    let accesses = accesses(&rows);
-    let posts = posts(alloc, newest)?;
-    let walked = walk_all(rt, posts, alloc, first, txns, partition, accesses)?;
-    let (newest, found) = gather(alloc, walked, first, txns, partition)?;
+    let batch = UnplannedBatch {
+        first,
+        txns,
+        accesses: accesses(&rows),
+    };
+    let jobs = jobs(alloc, newest)?;
+    let each = plan_all(rt, alloc, jobs, batch, partition)?;
+    let (newest, found) = gather(alloc, each, batch, partition)?;
     Ok((newest, Plan::new(first, found, rows)))
 }

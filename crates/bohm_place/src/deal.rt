@@ -1,129 +1,115 @@
 //! Dealing the parts to the workers, and gathering them again.
 
-ghost use Rattle.std.specs.Prelude.{◌≡◌, ℕ, List, ◌+◌, ◌++◌, ◌%◌, ◌^◌, ◌<◌, ◌≤◌, ◌==◌, []};
-ghost use Rattle.std.specs.Prelude.{length, All, IfOk, OnOk, slice_get, slice_index_or, nat_lt, if◌then◌else◌};
+ghost use Rattle.std.specs.Prelude.{◌≡◌, ℕ, List, ◌++◌, ◌%◌, ◌<◌, ◌==◌, [], length, nat_lt};
+ghost use Rattle.std.specs.Prelude.{IfOk, OnOk, slice_get, slice_index_or, if◌then◌else◌};
 ghost use Rattle.bohm_place.specs.Chains.{placeholders_in};
-ghost use Rattle.bohm_place.specs.Shares.{AreParts, made, found_by, newest_ahead, greater, IsHand, KeepsOthers, IsPartOf};
+ghost use Rattle.bohm_place.specs.Shares.{AreParts, HasPartsOf, KeepsOthers, IsFoundInAll};
+ghost use Rattle.bohm_place.specs.Shares.{found_by, newest_ahead, placeholders_made};
 
+use crate::by_key::{FoundInParts, PartsJob};
 use crate::partition::Partition;
-use crate::placeholder::Placeholder;
+use crate::placeholder::{Placeholder, join};
 use crate::places::Places;
 use crate::shards::empty_parts;
-use crate::share::{Job, Share, Worker};
+use crate::unplanned::UnplannedBatch;
+use crate::worker::Worker;
 use bohm_log::HashSeed;
-use bohm_txn::{LogPart, NoMemory};
+use bohm_tree::NoMemory;
 use std::alloc::Global;
 use std::mem;
 use std::snapshot::Snapshot;
 
 // Exchanges the parts of one worker.
 fn swap_parts<T>(a: &mut [T], b: &mut [T], worker: Worker)
-    requires workers { 0 < worker.count }
-    requires same { length a.old ≡ length b.old }
+    requires { length a.old ≡ length b.old }
     ensures a { (p : ℕ) → p < length a.old → slice_get a.new p
-        ≡ (if ((p % worker.count) == worker.number) then slice_get b.old p else slice_get a.old p) }
+        ≡ (if ((p % worker.count) == worker.number)
+        then slice_get b.old p else slice_get a.old p) }
     ensures b { (p : ℕ) → p < length a.old → slice_get b.new p
-        ≡ (if ((p % worker.count) == worker.number) then slice_get a.old p else slice_get b.old p) }
+        ≡ (if ((p % worker.count) == worker.number)
+        then slice_get a.old p else slice_get b.old p) }
 {
-    let number = worker.number as usize;
-    let count = worker.count as usize;
     for p in 0..a.len() {
-        if p % count == number {
+        if p % worker.count == worker.number {
             mem::swap(&mut a[p], &mut b[p]);
         }
     }
 }
 
 // Takes the parts of one worker out, and leaves empty ones there, which get no keys.
-fn take_hand(alloc: Global, parts: &mut [Places], worker: Worker) -> Result<Vec<Places>, NoMemory>
-    requires { 0 < worker.count }
-    ensures count { IfOk result (λ h. length h.items ≡ length parts.old) }
-    ensures taken { IfOk result (λ h. IsHand worker.count worker.number parts.old h.items) }
+fn take_parts(alloc: Global, parts: &mut [Places], worker: Worker) -> Result<Vec<Places>, NoMemory>
+    ensures count { IfOk result (λ own. length own.items ≡ length parts.old) }
+    ensures taken { IfOk result
+        (λ own. HasPartsOf worker.count worker.number parts.old own.items) }
     ensures others { OnOk result (KeepsOthers worker.count worker.number parts.old parts.new) }
 {
-    let mut hand = empty_parts(alloc, parts.len(), HashSeed::fixed())?;
-    swap_parts(parts, hand.as_mut_slice(), worker);
-    Ok(hand)
+    let mut own = empty_parts(alloc, parts.len(), HashSeed::fixed())?;
+    swap_parts(parts, own.as_mut_slice(), worker);
+    Ok(own)
 }
 
 /// One job for each worker, with the parts of its own.
-pub fn deal(alloc: Global, parts: &mut [Places], workers: u32) -> Result<Vec<Job>, NoMemory>
-    requires { 0 < workers }
+pub fn deal(alloc: Global, parts: &mut [Places], workers: usize) -> Result<Vec<PartsJob>, NoMemory>
     ensures count { IfOk result (λ jobs. length jobs.items ≡ workers) }
     ensures workers { IfOk result (λ jobs. (w : ℕ) (d : _) → w < workers
-        → (slice_index_or jobs.items w d).worker ≡ record { number = w; count = workers }) }
-    ensures hands { IfOk result (λ jobs. (w : ℕ) (d : _) → w < workers
-        → IsHand workers w parts.old (slice_index_or jobs.items w d).hand.items) }
+        → ((slice_index_or jobs.items w d).worker.number ≡ w)
+        × ((slice_index_or jobs.items w d).worker.count ≡ workers)) }
+    ensures own { IfOk result (λ jobs. (w : ℕ) (d : _) → w < workers
+        → HasPartsOf workers w parts.old (slice_index_or jobs.items w d).parts.items) }
     ensures parts { IfOk result (λ jobs. (w : ℕ) (d : _) → w < workers
-        → length (slice_index_or jobs.items w d).hand.items ≡ length parts.old) }
+        → length (slice_index_or jobs.items w d).parts.items ≡ length parts.old) }
 {
-    let mut jobs = Vec::with_capacity(alloc, workers as usize)?;
+    let mut jobs = Vec::with_capacity(alloc, workers)?;
     for number in 0..workers {
         let worker = Worker {
             number,
             count: workers,
         };
-        let hand = take_hand(alloc, parts, worker)?;
-        jobs.push(Job { worker, hand })?;
+        let own = take_parts(alloc, parts, worker)?;
+        jobs.push(PartsJob { worker, parts: own })?;
     }
     Ok(jobs)
-}
-
-// What two workers found, who have no key in common.
-fn joined(alloc: Global, a: &[Placeholder], b: &[Placeholder]) -> Result<Vec<Placeholder>, NoMemory>
-    ensures { IfOk result (λ v. v.items ≡ greater a.now b.now) }
-{
-    let joined = a
-        .iter()
-        .zip(b.iter())
-        .map(|(v, w)| v.or(*w))
-        .collect(alloc)?;
-    Ok(joined)
 }
 
 /// Puts the parts back where `deal` took them from, and joins what the workers found.
 pub fn gather<P: Partition>(
     alloc: Global,
     parts: &mut [Places],
-    mut shares: Vec<Result<Share, NoMemory>>,
-    first: u32,
-    txns: &LogPart<'_>,
+    mut each: Vec<Result<FoundInParts, NoMemory>>,
+    batch: UnplannedBatch<'_>,
     partition: &P,
-    workers: u32,
     given: Snapshot<Vec<Places>>,
 ) -> Result<Vec<Placeholder>, NoMemory>
     requires law { AreParts (P.part_of partition.now) (P.count partition.now) }
-    requires workers { 0 < workers }
-    requires count { length shares.items ≡ workers }
+    requires some { 0 < length each.items }
     requires parts { length parts.old ≡ P.count partition.now }
     requires given { length given.value.items ≡ P.count partition.now }
-    requires shares { (w : ℕ) (d : _) → w < workers → IfOk (slice_index_or shares.items w d)
-        (λ s. IsPartOf (P.part_of partition.now) workers w first txns.now given.value.items
-        s.found.items s.hand.items) }
-    ensures found { IfOk result (λ v. v.items
-        ≡ found_by (λ k. nat_lt (P.part_of partition.now k % workers) workers)
-        (newest_ahead first (placeholders_in (P.part_of partition.now) given.value.items))
-        [] txns.now) }
+    requires each { (w : ℕ) (d : _) → w < length each.items → IfOk (slice_index_or each.items w d)
+        (λ f. IsFoundInAll (P.part_of partition.now) (length each.items) w batch.first
+        batch.txns.now given.value.items f.found.items f.parts.items) }
+    ensures found { IfOk result (λ v. v.items ≡ found_by
+        (λ k. nat_lt (P.part_of partition.now k % length each.items) (length each.items))
+        (newest_ahead batch.entry.first
+        (placeholders_in (P.part_of partition.now) given.value.items)) [] batch.entry.txns.now) }
     ensures chains { OnOk result ((k : List ℕ)
         → placeholders_in (P.part_of partition.now) parts.new k
-        ≡ placeholders_in (P.part_of partition.now) given.value.items k ++ made first txns.now k) }
+        ≡ placeholders_in (P.part_of partition.now) given.value.items k
+        ++ placeholders_made batch.entry.first batch.entry.txns.now k) }
 {
+    let count = each.len();
     let mut found = Vec::new(alloc);
-    for number in 0..workers {
-        let worker = Worker {
-            number,
-            count: workers,
-        };
-        let Share {
+    for number in 0..count {
+        let worker = Worker { number, count };
+        let FoundInParts {
             found: more,
-            mut hand,
-        } = mem::replace(&mut shares[number as usize], Err(NoMemory))?;
-        swap_parts(parts, hand.as_mut_slice(), worker);
-        found = if number == 0 {
-            more
+            parts: mut own,
+        } = mem::replace(&mut each[number], Err(NoMemory))?;
+        swap_parts(parts, own.as_mut_slice(), worker);
+        if number == 0 {
+            found = more;
         } else {
-            joined(alloc, &found, &more)?
-        };
+            join(found.as_mut_slice(), &more);
+        }
     }
     Ok(found)
 }

@@ -3,7 +3,7 @@
 ghost use Rattle.std.specs.Prelude.{◌≡◌};
 ghost use Rattle.bohm_place.specs.Plans.{keys_in};
 
-use bohm_txn::{Keys, TxnView};
+use bohm_log::{Keys, TxnView};
 
 /// One of the two sets of keys that a transaction declares.
 #[derive(Clone, Copy, Debug, PartialEq, Eq)]

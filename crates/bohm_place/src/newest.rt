@@ -4,7 +4,7 @@ ghost use Rattle.std.specs.Prelude.{◌≡◌, ℕ, [], ◌<◌, ◌≤◌, leng
 ghost use Rattle.bohm_place.specs.Numbered.{newest_at};
 
 use crate::placeholder::Placeholder;
-use bohm_txn::NoMemory;
+use bohm_tree::NoMemory;
 use std::alloc::Global;
 use std::marker::Model;
 
@@ -35,8 +35,8 @@ impl Newest {
         }
     }
 
-    /// This many without placeholders, one for each planning worker. They take memory for themselves
-    /// alone.
+    /// This many without placeholders, one for each planning worker. They take memory for
+    /// themselves alone.
     pub fn several(alloc: Global, count: u32) -> Result<Vec<Newest>, NoMemory>
         ensures count { IfOk result (λ v. length v.items ≡ count) }
         ensures unplanned { IfOk result

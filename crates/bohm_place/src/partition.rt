@@ -3,7 +3,7 @@
 ghost use Rattle.std.specs.Prelude.{◌≡◌, ℕ, List, ◌<◌};
 ghost use Rattle.std.proofs.Common.{rules};
 
-use bohm_txn::Key;
+use bohm_tree::Key;
 
 /// Which part of the keys each key belongs to. Both answers depend on the value and the key alone.
 pub trait Partition: Sync {

@@ -1,8 +1,8 @@
 //! Placeholders of versions.
 
-ghost use Rattle.std.specs.Prelude.{◌≡◌};
+ghost use Rattle.std.specs.Prelude.{◌≡◌, length};
 ghost use Rattle.bohm_place.specs.Chains.{none};
-ghost use Rattle.bohm_place.specs.Shares.{within, greater_of};
+ghost use Rattle.bohm_place.specs.Shares.{within, greater_of, greater};
 
 /// A version that a transaction is going to produce.
 #[derive(Clone, Copy, Debug, PartialEq, Eq)]
@@ -40,5 +40,15 @@ impl Placeholder {
             begin: self.begin.max(other.begin),
             index: self.index.max(other.index),
         }
+    }
+}
+
+/// Joins what another worker found, who has no key of those before it, to what they found.
+pub fn join(found: &mut [Placeholder], more: &[Placeholder])
+    requires { length found.old ≡ length more.now }
+    ensures { found.new ≡ greater found.old more.now }
+{
+    for i in 0..found.len() {
+        found[i] = found[i].or(more[i]);
     }
 }

@@ -1,14 +1,15 @@
-//! The chains of one part of the keys.
+//! `Places`: a `Chain` for each key of one part. `Shards` has the chains of all parts.
 
-ghost use Rattle.std.specs.Prelude.{◌≡◌, ℕ, List, [], ◌∷◌, ◌++◌, ◌<◌, All, length, is_ok, true, false, ◌&&◌, IfOk, if◌then◌else◌};
+ghost use Rattle.std.specs.Prelude.{◌≡◌, ℕ, List, [], ◌∷◌, ◌++◌, ◌<◌, ◌&&◌};
+ghost use Rattle.std.specs.Prelude.{All, length, is_ok, true, false, IfOk, if◌then◌else◌};
 ghost use Rattle.std.specs.Str.{bytes_eq};
-ghost use Rattle.bohm_txn.specs.Declares.{IsAmong};
-ghost use Rattle.bohm_place.specs.Chains.{items_at, begins, kept_items, last_or, none};
+ghost use Rattle.bohm_tree.specs.Keys.{IsAmong};
+ghost use Rattle.bohm_place.specs.Chains.{items_at, kept_items, last_or, none};
 
 use crate::chain::Chain;
 use crate::placeholder::Placeholder;
 use bohm_log::HashSeed;
-use bohm_txn::{Key, NoMemory};
+use bohm_tree::{Key, NoMemory};
 use std::alloc::Global;
 use std::collections::HashMap;
 use std::marker::Model;

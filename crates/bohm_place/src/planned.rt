@@ -23,7 +23,10 @@ impl Model for Plan {
 
     ghost Value = { Planned };
 
-    ghost view = { λ p. record { first = p.first; rows = map (accesses_of p.placeholders.items) p.rows.items } };
+    ghost view = { λ p. record {
+      first = p.first;
+      rows = map (accesses_of p.placeholders.items) p.rows.items;
+    } };
 
     ghost invariant = { λ p. AreRows p.rows.items };
 }
@@ -45,7 +48,8 @@ impl From<Placeholder> for Access {
 
 impl Plan {
     ghost use Rattle.std.specs.Prelude.{map};
-    ghost use Rattle.bohm_place.specs.Plans.{accesses_of, planned_in, reads_of, writes_of, source_in, AreRows, IsNoted};
+    ghost use Rattle.bohm_place.specs.Plans.{accesses_of, planned_in, reads_of, writes_of};
+    ghost use Rattle.bohm_place.specs.Plans.{source_in, AreRows, IsNoted};
     ghost use Rattle.bohm_place.specs.declared.access.Source.TheVariants.{Before};
 
     /// The plan of a batch that starts at a timestamp.

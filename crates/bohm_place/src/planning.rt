@@ -1,19 +1,22 @@
 //! Planning a batch.
 
-ghost use Rattle.std.specs.Prelude.{◌≡◌, ℕ, List, ◌+◌, ◌++◌, ◌^◌, ◌<◌, ◌≤◌, length, All, IfOk, slice_index_or, true};
+ghost use Rattle.std.specs.Prelude.{◌≡◌, ℕ, List, ◌+◌, ◌++◌, ◌<◌};
+ghost use Rattle.std.specs.Prelude.{length, All, IfOk, slice_index_or};
 ghost use denote.Param.Send.{IsSync};
 ghost use Rattle.bohm_place.specs.Chains.{chain_in};
 ghost use Rattle.bohm_place.specs.Writers.{writers};
 ghost use Rattle.bohm_place.specs.Plans.{IsPlannable, IsPlanned};
-ghost use Rattle.bohm_place.specs.Shares.{AreParts, AreWellFormed, IsShareOf, has_part};
+ghost use Rattle.bohm_place.specs.Shares.{AreParts, CanPlace, IsFoundIn};
 
+use crate::by_key::{FoundInParts, PartsJob, plan_in_parts};
 use crate::deal::{deal, gather};
 use crate::partition::Partition;
 use crate::planned::Plan;
 use crate::row::{Row, rows};
 use crate::shards::Shards;
-use crate::share::{Job, Share, plan_share};
-use bohm_txn::{LogPart, NoMemory};
+use crate::unplanned::UnplannedBatch;
+use bohm_log::LogPart;
+use bohm_tree::NoMemory;
 use std::alloc::Global;
 use std::snapshot::Snapshot;
 use std::thread;
@@ -36,45 +39,35 @@ pub(crate) fn accesses(rows: &[Row]) -> usize {
     }
 }
 
-// Runs each worker's job, in a thread of its own where there is more than one.
-fn plan_shares<P: Partition, R: Threads + Sync>(
+// Lets each worker do its job, in a thread of its own where there is more than one.
+fn plan_all<P: Partition, R: Threads + Sync>(
     rt: &R,
-    jobs: Vec<Job>,
     alloc: Global,
-    first: u32,
-    txns: &LogPart<'_>,
+    jobs: Vec<PartsJob>,
+    batch: UnplannedBatch<'_>,
     partition: &P,
-    accesses: usize,
-) -> Result<Vec<Result<Share, NoMemory>>, NoMemory>
-    requires parts { All (λ j. length j.hand.items ≡ P.count partition.now) jobs.items }
-    requires workers { All (λ j. 0 < j.worker.count) jobs.items }
-    requires earlier { All (λ j. (k : List ℕ)
-        → has_part (P.part_of partition.now) j.worker.count j.worker.number k ≡ true
-        → All (λ b. b < first) (chain_in (P.part_of partition.now) j.hand.items k)) jobs.items }
-    requires position { 0 < first }
-    requires room { first + length txns.now ≤ 2 ^ 32 }
-    requires formed { AreWellFormed txns.now }
-    ensures count { IfOk result (λ shares. length shares.items ≡ length jobs.items) }
-    ensures each { IfOk result (λ shares. (w : ℕ) (d : _) (e : _) → w < length jobs.items
-        → IfOk (slice_index_or shares.items w e) (λ s. IsShareOf (P.part_of partition.now)
-        (slice_index_or jobs.items w d).worker.count (slice_index_or jobs.items w d).worker.number
-        first txns.now (slice_index_or jobs.items w d).hand.items s.found.items s.hand.items)) }
+) -> Result<Vec<Result<FoundInParts, NoMemory>>, NoMemory>
+    requires { All (λ job. CanPlace (P.part_of partition.now) (P.count partition.now)
+        job.worker.count job.worker.number batch.first job.parts.items) jobs.items }
+    ensures count { IfOk result (λ each. length each.items ≡ length jobs.items) }
+    ensures each { IfOk result (λ each. (w : ℕ) (d : _) (e : _) → w < length jobs.items
+        → let job = slice_index_or jobs.items w d in IfOk (slice_index_or each.items w e)
+        (λ f. IsFoundIn (P.part_of partition.now) job.worker.count job.worker.number
+        batch.entry.first batch.entry.txns.now job.parts.items f.found.items f.parts.items)) }
 {
-    let shares = thread::map_vec(
+    let each = thread::map_vec(
         rt,
         jobs,
-        &|job: Job| -> Result<Share, NoMemory>
-            requires { IsSync P.row × (length job.hand.items ≡ P.count partition.now)
-                × (0 < job.worker.count) × ((k : List ℕ)
-                → has_part (P.part_of partition.now) job.worker.count job.worker.number k ≡ true
-                → All (λ b. b < first) (chain_in (P.part_of partition.now) job.hand.items k))
-                × (0 < first) × (first + length txns.now ≤ 2 ^ 32) × AreWellFormed txns.now }
-            ensures { IfOk result (λ s. IsShareOf (P.part_of partition.entry.now)
-                job.worker.count job.worker.number first txns.entry.now
-                job.hand.items s.found.items s.hand.items) }
-        { plan_share(alloc, job, first, txns, partition, accesses) },
+        &|job: PartsJob| -> Result<FoundInParts, NoMemory>
+            requires { IsSync P.row
+                × CanPlace (P.part_of partition.now) (P.count partition.now)
+                job.worker.count job.worker.number batch.first job.parts.items }
+            ensures { IfOk result (λ f. IsFoundIn (P.part_of partition.entry.now)
+                job.worker.count job.worker.number batch.entry.first batch.entry.txns.now
+                job.parts.items f.found.items f.parts.items) }
+        { plan_in_parts(alloc, job, batch, partition) },
     )?;
-    Ok(shares)
+    Ok(each)
 }
 
 /// Plans a batch: finds for each access of its transactions, in log order, the newest writer of the
@@ -109,23 +102,18 @@ pub fn plan<P: Partition, R: Threads + Sync>(
         (λ r. (k : List ℕ)
         → All (λ b. b < first + length txns.now) (chain_in (P.part_of partition.now) r.0 k)) }
 {
-    let workers = cc.min(partition.parts());
+    let workers = cc.min(partition.parts()) as usize;
     let rows = rows(alloc, txns)?;
-    let accesses = accesses(&rows);
+    let batch = UnplannedBatch {
+        first,
+        txns,
+        accesses: accesses(&rows),
+    };
     let mut parts = shards.into_parts();
     let given = Snapshot::of(&parts);
     each_key_has_a_part(partition);
     let jobs = deal(alloc, parts.as_mut_slice(), workers)?;
-    let shares = plan_shares(rt, jobs, alloc, first, txns, partition, accesses)?;
-    let found = gather(
-        alloc,
-        parts.as_mut_slice(),
-        shares,
-        first,
-        txns,
-        partition,
-        workers,
-        given,
-    )?;
+    let each = plan_all(rt, alloc, jobs, batch, partition)?;
+    let found = gather(alloc, parts.as_mut_slice(), each, batch, partition, given)?;
     Ok((Shards::from_parts(parts), Plan::new(first, found, rows)))
 }

@@ -1,11 +1,12 @@
 //! Where the accesses of a transaction lie.
 
-ghost use Rattle.std.specs.Prelude.{◌≡◌, ◌<◌, ◌≤◌, ◌+◌, ◌*◌, ◌^◌, length, sum_by, IfOk};
+ghost use Rattle.std.specs.Prelude.{◌≡◌, ◌<◌, ◌≤◌, ◌+◌, ◌^◌, length, IfOk};
 ghost use Rattle.bohm_place.specs.Plans.{start_in};
 ghost use Rattle.bohm_place.specs.Shares.{rows_from, AreWellFormed};
 
 use crate::declared_set::DeclaredSet;
-use bohm_txn::{LogPart, NoMemory};
+use bohm_log::LogPart;
+use bohm_tree::NoMemory;
 use std::alloc::Global;
 
 /// The accesses of one transaction in a list of all: its reads from `start` on, and its writes

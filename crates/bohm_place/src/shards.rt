@@ -1,11 +1,11 @@
-//! The chains of all parts of the keys.
+//! `Shards`: the chains of all parts of the keys, the `Places` of each part for itself.
 
 ghost use Rattle.std.specs.Prelude.{◌≡◌, ℕ, List, [], ◌<◌, length, slice_get, Some, All, IfOk};
 ghost use Rattle.bohm_place.specs.Chains.{AreEmpty, AreKept};
 
 use crate::places::Places;
 use bohm_log::HashSeed;
-use bohm_txn::NoMemory;
+use bohm_tree::NoMemory;
 use std::alloc::Global;
 use std::marker::Model;
 

@@ -8,7 +8,7 @@ use Rattle.bohm_txn.specs.Serial.{state, replies}
 use Rattle.bohm_txn.proofs.ForCallers.{state-append, state-front, replies-append}
 use Rattle.bohm_tree.specs.declared.cell.Cell.TheVariants.{Absent}
 use Rattle.bohm_store.specs.Versions.{Timeline, past, cell_at}
-use Rattle.bohm_store.specs.Nexts.{IsSame, IsSettled}
+use Rattle.bohm_store.specs.Nexts.{IsSame, IsSettledKept}
 use Rattle.bohm_run.specs.Runs.{floor_after, IsApplied}
 
 -- a floor of that kind lies between the old one and the top
@@ -55,18 +55,18 @@ went_on was mid now xs ys keep a b ordered h g =
           (cases_lt ts mid.top);
     }
 
-floor_behind : (was : Timeline) (txns : List Txn) (keep floor top : ℕ) → 0 < length txns → floor ≡ max was.floor (top - keep) → top ≡ was.top + length txns → floor ≡ floor_after was keep (length txns)
-floor_behind was [] keep floor top some f t = absurd (omega (arith, some))
-floor_behind was (x ∷ xs) keep floor top some f t = rw t at f
+floor_behind : (was : Timeline) (txns : List Txn) (keep floor : ℕ) → 0 < length txns → floor ≡ max was.floor ((was.top + length txns) - keep) → floor ≡ floor_after was keep (length txns)
+floor_behind was [] keep floor some f = absurd (omega (arith, some))
+floor_behind was (x ∷ xs) keep floor some f = f
 
--- to settle transactions and then to trim goes on by them
-pub settled_on : (was next now : Timeline) (txns : List Txn) (keep : ℕ) → 0 < length txns → IsSettled was next txns → now.floor ≡ max next.floor (next.top - keep) → now.top ≡ next.top → ((ts : ℕ) → now.floor ≤ ts → past now ts ≡ past next ts) → IsApplied was now txns keep (replies (past was was.top) txns)
-settled_on was next now txns keep some h floor top same = record {
+-- to settle transactions, trimmed so far below their end, goes on by them
+pub settled_on : (was now : Timeline) (txns : List Txn) (keep : ℕ) → 0 < length txns → IsSettledKept was now txns ((was.top + length txns) - keep) → IsApplied was now txns keep (replies (past was was.top) txns)
+settled_on was now txns keep some h = record {
   replies = refl;
-  top = top ∙ h.top;
-  floor = floor_behind was txns keep now.floor next.top some (rw h.floor at floor) h.top;
-  earlier = λ ts above below. same ts above ∙ h.earlier ts below;
-  later = λ ts above from below. same ts above ∙ h.later ts from (omega (arith, below, top));
+  top = h.top;
+  floor = floor_behind was txns keep now.floor some h.floor;
+  earlier = h.earlier;
+  later = h.later;
 }
 
 -- where nothing that is seen changes, a history went on by what it went on by

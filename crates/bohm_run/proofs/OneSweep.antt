@@ -1,10 +1,10 @@
 -- What one worker sweeps that has all positions.
-use Rattle.std.proofs.Common.{◌≡◌, ℕ, ◌<◌, ◌%◌, List, [], ◌∷◌, ⊎_elim, inl, inr, arith}
+use Rattle.std.proofs.Common.{[], ◌∷◌, ⊎_elim, inl, inr, arith}
 use Rattle.std.specs.Prelude.{Contains}
 use Rattle.std.proofs.lemmas.List.Elements.{Contains-push}
 use Rattle.std.proofs.lemmas.Nat.{mod_below}
 use Rattle.bohm_board.specs.declared.batch.Batch.{Batch}
-use Rattle.bohm_board.specs.declared.view.View.{View}
+use Rattle.bohm_board.specs.declared.knowledge.View.{View}
 use Rattle.bohm_board.specs.Batches.{position}
 use Rattle.bohm_board.specs.Passes.{IsDone}
 use Rattle.bohm_exec.specs.Asides.{Pairs, positions_in}

@@ -7,11 +7,11 @@ use mathlib.Core.Logic.{dite}
 use native.Mathlib.Decide.{ℕ_discrete}
 use Rattle.bohm_board.specs.declared.batch.Batch.{Batch}
 use Rattle.bohm_board.specs.declared.closed.Closed.{Closed}
-use Rattle.bohm_board.specs.declared.view.View.{View}
+use Rattle.bohm_board.specs.declared.knowledge.View.{View}
 use Rattle.bohm_board.specs.Batches.{IsIn, first_of, txns_of, position}
 use Rattle.bohm_board.specs.Closings.{batch_of_closed, IsFinished, IsUnfinished}
 use Rattle.bohm_board.specs.Passes.{IsDone, Keeps}
-use Rattle.bohm_board.specs.Views.{joined}
+use Rattle.bohm_board.specs.Views.{after_join}
 use Rattle.bohm_board.proofs.ForCallers.{still_done, keeps_joined, joined_done}
 use Rattle.bohm_exec.specs.Asides.{Pairs, IsAccountedFor, IsPickedFrom, IsSetAside, positions_in}
 use Rattle.bohm_exec.specs.Shares.{share}
@@ -58,14 +58,14 @@ set_aside_last : (asides : List Pairs) (pairs : Pairs) (t : ℕ) → Contains (p
 set_aside_last asides pairs t m = (pairs, Contains-push asides pairs, m)
 
 -- one worker more: its pass is joined
-pub swept_more : (b : Batch) (w : Worker) (u v : View) (asides : List Pairs) (pairs : Pairs) → AreSwept b w.count w.number u asides → IsShareSwept b w v pairs → AreSwept b w.count (w.number + 1) (joined u v) (asides ++ pairs ∷ [])
+pub swept_more : (b : Batch) (w : Worker) (u v : View) (asides : List Pairs) (pairs : Pairs) → AreSwept b w.count w.number u asides → IsShareSwept b w v pairs → AreSwept b w.count (w.number + 1) (after_join u v) (asides ++ pairs ∷ [])
 swept_more b w u v asides pairs before this = λ t within low. dite (ℕ_discrete (position b t % w.count) w.number)
     (λ mine. ⊎_elim
     (λ (d : IsDone b v t). inl (joined_done b u v t d))
     (λ (c : Contains (positions_in pairs) t). inr (set_aside_last asides pairs t c))
     (this t within mine))
     (λ other. ⊎_elim
-    (λ (d : IsDone b u t). inl (still_done b u (joined u v) t (keeps_joined u v) d))
+    (λ (d : IsDone b u t). inl (still_done b u (after_join u v) t (keeps_joined u v) d))
     (λ (s : IsSetAside asides t). inr (set_aside_before asides pairs t s))
     (before t within (omega (arith, low, other))))
 

@@ -12,13 +12,13 @@ use Rattle.bohm_run.specs.Runs.{IsApplied, IsWalked}
 -- the history went on by these transactions, and their replies stand behind the others
 pub record GoesOn (was now : Progress) (txns : List Txn) (keep : ℕ) : Type 0 where
   pub applied : IsApplied was.history now.history txns keep (replies (past was.history was.history.top) txns)
-  pub replies : now.replies.items ≡ was.replies.items ++ replies (past was.history was.history.top) txns
+  pub replies : now.replies ≡ was.replies ++ replies (past was.history was.history.top) txns
 
 -- nothing that is seen has changed
 pub record StaysPut (was now : Progress) : Type 0 where
   pub history : IsSame was.history now.history
-  pub replies : now.replies.items ≡ was.replies.items
+  pub replies : now.replies ≡ was.replies
 
 -- a walk over a cut log, from a history on, came to this
 abbrev pub IsWalkOf : Timeline → Cutting → ℕ → Progress × Result (Unit {0}) NoMemory → Type 0
-IsWalkOf was c keep r = IsWalked was r.0.history c keep r.0.replies.items (is_ok r.1)
+IsWalkOf was c keep r = IsWalked was r.0.history c keep r.0.replies (is_ok r.1)

@@ -1,5 +1,5 @@
 -- What batches and their transactions answer.
-use Rattle.std.specs.Prelude.{◌≡◌, ℕ, ℤ, List, Some}
+use Rattle.std.specs.Prelude.{◌≡◌, ℕ, ℤ, List, [], ◌∷◌, ◌++◌, Some}
 use Rattle.bohm_tree.specs.Txn.{Txn}
 use Rattle.bohm_txn.specs.declared.outcome.Reply.{Reply}
 use Rattle.bohm_txn.specs.Meaning.{body}
@@ -24,5 +24,6 @@ replies_behind t f = replies (past t t.top) (txns_of (batch_of_finished f))
 abbrev pub AreSerialShows : Batch → ℕ → List ℤ → Type 0
 AreSerialShows b t zs = (x : Txn) → txn_at b t ≡ Some x → shows_of (body (state_before b t) x) ≡ zs
 
-abbrev pub IsSerialReply : Batch → ℕ → Reply → Type 0
-IsSerialReply b t r = (x : Txn) → txn_at b t ≡ Some x → reply_of (body (state_before b t) x) ≡ r
+-- its reply stands behind the others
+abbrev pub IsReplied : Batch → ℕ → List Reply → List Reply → Type 0
+IsReplied b t was now = (x : Txn) → txn_at b t ≡ Some x → now ≡ was ++ reply_of (body (state_before b t) x) ∷ []

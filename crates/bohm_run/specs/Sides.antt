@@ -9,5 +9,5 @@ pub record CanExecute (line log : Cutting) (taken : List PlanNote) (progress : P
   pub cutting : line ≡ log
   pub first : log.first ≡ progress.history.top + 1
   pub ordered : progress.history.floor ≤ progress.history.top
-  pub unanswered : progress.replies.items ≡ []
+  pub unanswered : progress.replies ≡ []
   pub untaken : taken ≡ []

@@ -2,7 +2,7 @@
 use Rattle.std.specs.Prelude.{◌≡◌, ℕ, ◌%◌, ◌<◌, List, ◌⊎◌, IfOk}
 use Rattle.bohm_board.specs.declared.batch.Batch.{Batch}
 use Rattle.bohm_board.specs.declared.board.Board.{Board}
-use Rattle.bohm_board.specs.declared.view.View.{View}
+use Rattle.bohm_board.specs.declared.knowledge.View.{View}
 use Rattle.bohm_board.specs.Batches.{IsIn, position}
 use Rattle.bohm_board.specs.Passes.{IsPassOf, HoldsNothing, IsDone, batch_of, view}
 use Rattle.bohm_exec.specs.Asides.{Pairs, IsAccountedFor, IsSetAside}

@@ -17,9 +17,11 @@ use crate::workers::{Worker, sweep_share};
 use bohm_board::{Batch, Board};
 use bohm_exec::{Finished, OpenGate, complete};
 use bohm_line::{CutLog, Cuts};
+use bohm_log::LogPart;
 use bohm_place::{Newest, Plan, plan_alone};
 use bohm_store::{History, Seats};
-use bohm_txn::{Items, LogPart, NoMemory, Reply, Scratch};
+use bohm_tree::NoMemory;
+use bohm_txn::{Replies, Scratch};
 use std::alloc::Global;
 
 /// Executes a batch by one worker, and what it set aside in log order. A refusal gives the batch
@@ -46,7 +48,7 @@ fn finish_alone<'a>(
 fn run_batch(
     alloc: Global,
     history: &mut History,
-    answered: &mut Vec<Reply>,
+    answered: &mut Replies,
     txns: &LogPart<'_>,
     plan: Plan,
     keep: u32,
@@ -61,16 +63,13 @@ fn run_batch(
         (IsApplied history.old history.new txns.now keep
         (replies (past history.old history.old.top) txns.now)) }
     ensures answered { OnOk result
-        (answered.new.items
-        ≡ answered.old.items ++ replies (past history.old history.old.top) txns.now) }
+        (answered.new ≡ answered.old ++ replies (past history.old history.old.top) txns.now) }
     ensures same { OnErr result (IsSame history.old history.new) }
-    ensures unanswered { OnErr result (answered.new.items ≡ answered.old.items) }
+    ensures unanswered { OnErr result (answered.new ≡ answered.old) }
 {
     let batch = history.batch_with(alloc, seats, txns, plan)?;
     let finished = finish_alone(alloc, batch, scratch)?;
-    settle_batch(alloc, history, answered, seats, &finished)?;
-    let floor = history.top().saturating_sub(keep);
-    history.trim(floor);
+    settle_batch(alloc, history, answered, seats, &finished, keep)?;
     Ok(())
 }
 
@@ -78,15 +77,15 @@ fn run_batch(
 fn run_batches(
     alloc: Global,
     history: &mut History,
-    answered: &mut Vec<Reply>,
+    answered: &mut Replies,
     log: CutLog<'_>,
     keep: u32,
     scratch: &mut Scratch,
 ) -> Result<(), NoMemory>
     requires first { (cutting_of log).first ≡ history.old.top + 1 }
     requires ordered { history.old.floor ≤ history.old.top }
-    requires unanswered { answered.old.items ≡ [] }
-    ensures { IsWalked history.old history.new (cutting_of log.entry) keep answered.new.items
+    requires unanswered { answered.old ≡ [] }
+    ensures { IsWalked history.old history.new (cutting_of log.entry) keep answered.new
         (is_ok result) }
 {
     let mut start = 0usize;
@@ -129,15 +128,15 @@ pub fn apply_alone(
 {
     if txns.len() == 0 {
         return Applied {
-            replies: Items::new(alloc),
+            replies: Replies::new(alloc),
             end: Ok(()),
         };
     }
     let log = CutLog::new(history.top() + 1, txns, cuts);
-    let mut answered = Vec::new(alloc);
+    let mut answered = Replies::new(alloc);
     let end = run_batches(alloc, history, &mut answered, log, keep, scratch);
     Applied {
-        replies: Items::from(answered),
+        replies: answered,
         end,
     }
 }

@@ -1,11 +1,9 @@
 //! A log from bytes to bytes.
 
-ghost use Rattle.std.specs.Prelude.{◌≡◌, ◌-◌, ◌<◌, ◌≤◌, None, length, take, unwrap_or, IfOk, OnOk, IfErr};
+ghost use Rattle.std.specs.Prelude.{◌≡◌, ◌-◌, ◌≤◌, None, length, take, IfOk, OnOk, IfErr};
 ghost use Rattle.std.specs.FinMap.{entries};
-ghost use Rattle.bohm_tree.specs.Document.{Document};
-ghost use Rattle.bohm_txn.specs.Serial.{replies, state};
+ghost use Rattle.bohm_txn.specs.Serial.{replies};
 ghost use Rattle.bohm_txn.specs.Stores.{store_of, store_after, cell_in};
-ghost use Rattle.bohm_run.specs.Bytes.{ReadsAll};
 ghost use Rattle.bohm_run.specs.Given.{Given};
 ghost use Rattle.bohm_run.specs.Headline.{answer_of, time_of, Answers, Refuses, ReadsDocument, IsReadable, IsBeforeWriting};
 ghost use Rattle.bohm_store.specs.Versions.{past};
@@ -19,8 +17,9 @@ use bohm_exec::OpenGate;
 use bohm_line::{ByteSum, Cuts};
 use bohm_log::HashSeed;
 use bohm_store::History;
-use bohm_text::{parse_with_seed, print_replies, print_store};
-use bohm_txn::{Checked, Items, Key, NoMemory, Reply, Value, check};
+use bohm_text::{parse_with_seed, print_answer};
+use bohm_tree::{Key, NoMemory, Value};
+use bohm_txn::{Checked, Replies, check};
 use std::alloc::Global;
 use std::io::{Read, Write};
 use std::random::RandomSource;
@@ -80,7 +79,7 @@ fn executed<T: Threads + Wait + Sync + RandomSource>(
     checked: Checked,
     settings: Settings,
     ts: u32,
-) -> Result<(Items<Reply>, Vec<(Key, Value)>), NoMemory>
+) -> Result<(Replies, Vec<(Key, Value)>), NoMemory>
     requires there { ts ≤ length checked.log }
     requires kept { length checked.log - settings.keep ≤ ts }
     ensures replies { IfOk result
@@ -120,10 +119,7 @@ fn answer<T: Threads + Wait + Sync + RandomSource>(
     ensures { IfOk result (λ text. text.items ≡ answer_of checked ts) }
 {
     let (replies, store) = executed(rt, alloc, checked, settings, ts)?;
-    let mut text = print_replies(alloc, replies.as_slice())?;
-    let last = print_store(alloc, store.as_slice())?;
-    text.extend_from_slice(last.as_slice())?;
-    Ok(text)
+    print_answer(alloc, &replies, store.as_slice())
 }
 
 /// Reads a log to the reader's end, runs it as the settings say, and writes the text of its answer

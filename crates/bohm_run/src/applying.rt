@@ -1,6 +1,7 @@
 //! A log upon a history: planning in a thread of its own, ahead of execution.
 
-ghost use Rattle.std.specs.Prelude.{◌≡◌, ℕ, List, ◌+◌, ◌<◌, ◌≤◌, ◌^◌, [], All, length, take, true, is_ok, IfOk};
+ghost use Rattle.std.specs.Prelude.{◌≡◌, ℕ, ◌+◌, ◌<◌, ◌^◌, [], All, length, take, true, is_ok};
+ghost use Rattle.std.specs.Prelude.{IfOk};
 ghost use Rattle.std.specs.List.{sum};
 ghost use denote.Param.Send.{IsSend, IsSync};
 ghost use Rattle.bohm_txn.specs.Faulty.{IsWellFormedTxn};
@@ -14,9 +15,11 @@ use crate::executing::{Executor, Progress};
 use crate::workers::Crew;
 use bohm_exec::{Gate, Point};
 use bohm_line::{CutLog, Cuts, Line, PlanReceiver, PlanSender, plan_ahead, plan_line};
+use bohm_log::LogPart;
 use bohm_place::{Newest, Partition};
 use bohm_store::{History, Seats};
-use bohm_txn::{Items, LogPart, NoMemory, Reply};
+use bohm_tree::NoMemory;
+use bohm_txn::Replies;
 use std::alloc::Global;
 use std::marker::Brand;
 use std::sync::Wait;
@@ -27,7 +30,7 @@ use std::{mem, thread};
 #[derive(Drop)]
 pub struct Applied {
     /// The replies of the transactions that were settled, in log order.
-    pub replies: Items<Reply>,
+    pub replies: Replies,
     /// Whether all of them were settled, or the rest was refused for want of memory.
     pub end: Result<(), NoMemory>,
 }
@@ -139,7 +142,7 @@ fn apply_on<L: Line + Send + Sync, P: Partition, G: Gate, R: Threads + Wait + Sy
     ensures { IsWalkOf history (cutting_behind history txns.entry.now cuts.entry.now) keep result }
 {
     let log = CutLog::new(history.top() + 1, txns, cuts);
-    let mut replies = Vec::new(alloc);
+    let mut replies = Replies::new(alloc);
     let reserved = replies.reserve(txns.len());
     let progress = Progress { history, replies };
     if reserved.is_err() {
@@ -194,7 +197,7 @@ pub fn apply<P: Partition, G: Gate, R: Threads + Wait + Sync>(
 {
     if txns.len() == 0 {
         return Applied {
-            replies: Items::new(alloc),
+            replies: Replies::new(alloc),
             end: Ok(()),
         };
     }
@@ -204,7 +207,7 @@ pub fn apply<P: Partition, G: Gate, R: Threads + Wait + Sync>(
     );
     *history = progress.history;
     Applied {
-        replies: Items::from(progress.replies),
+        replies: progress.replies,
         end,
     }
 }

@@ -1,6 +1,6 @@
 //! The executing side: batch after batch, as their plans come.
 
-ghost use Rattle.std.specs.Prelude.{◌≡◌, ◌+◌, ◌<◌, ◌≤◌, ◌^◌, [], All, length, is_ok, IsSome, OnOk, OnErr};
+ghost use Rattle.std.specs.Prelude.{◌≡◌, ◌+◌, ◌<◌, ◌≤◌, ◌^◌, All, length, IsSome, OnOk, OnErr};
 ghost use Rattle.bohm_txn.specs.Faulty.{IsWellFormedTxn};
 ghost use Rattle.bohm_place.specs.Plans.{IsRightPlan};
 ghost use Rattle.bohm_line.specs.CutLogs.{cutting_of};
@@ -11,9 +11,11 @@ use crate::replies::settle_batch;
 use crate::workers::{Crew, finish_batch};
 use bohm_exec::Gate;
 use bohm_line::{CutLog, Line, PlanReceiver};
+use bohm_log::LogPart;
 use bohm_place::Plan;
 use bohm_store::{History, Seats};
-use bohm_txn::{LogPart, NoMemory, Reply};
+use bohm_tree::NoMemory;
+use bohm_txn::Replies;
 use std::alloc::Global;
 use std::sync::Wait;
 use std::thread::Threads;
@@ -22,7 +24,7 @@ use std::thread::Threads;
 #[derive(Drop)]
 pub(crate) struct Progress {
     pub(crate) history: History,
-    pub(crate) replies: Vec<Reply>,
+    pub(crate) replies: Replies,
 }
 
 /// What executes batches: the workers, where the log's keys stand in the history, and how many
@@ -65,9 +67,8 @@ impl Executor {
             &mut progress.replies,
             &mut self.seats,
             &finished,
+            self.keep,
         )?;
-        let floor = progress.history.top().saturating_sub(self.keep);
-        progress.history.trim(floor);
         Ok(())
     }
 

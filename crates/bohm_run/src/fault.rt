@@ -5,7 +5,8 @@ ghost use Rattle.bohm_run.specs.declared.fault.RunFault.TheVariants.{NoMemory, C
 ghost use Rattle.bohm_run.specs.Refusing.{refusal_of};
 
 use bohm_text::TextFault;
-use bohm_txn::{CheckFault, NoMemory};
+use bohm_tree::NoMemory;
+use bohm_txn::CheckFault;
 use thiserror::Error;
 
 /// A refused run. Before every fault but the last one nothing was written.

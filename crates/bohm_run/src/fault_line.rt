@@ -6,7 +6,8 @@ ghost use Rattle.bohm_run.specs.FaultLine.{fault_line, kind_word};
 
 use crate::fault::RunFault;
 use bohm_text::TextFault;
-use bohm_txn::{CheckKind, NoMemory};
+use bohm_tree::NoMemory;
+use bohm_txn::CheckKind;
 use std::alloc::Global;
 use std::io::{self, Write};
 

@@ -1,60 +1,67 @@
 //! The replies of finished batches.
 
-ghost use Rattle.std.specs.Prelude.{◌≡◌, ◌++◌, List, IfOk, OnOk, OnErr};
+ghost use Rattle.std.specs.Prelude.{◌≡◌, ◌+◌, ◌-◌, ◌++◌, List, length, OnOk, OnErr};
 ghost use Rattle.bohm_txn.specs.declared.outcome.Reply.{Reply};
 ghost use Rattle.bohm_board.specs.Batches.{IsIn, txns_of};
 ghost use Rattle.bohm_exec.specs.Answers.{batch_of_finished};
-ghost use Rattle.bohm_store.specs.Nexts.{IsNext, IsSame, IsSettled};
-ghost use Rattle.bohm_run.specs.Replies.{AreSerialShows, IsSerialReply, replies_behind, replies_of};
+ghost use Rattle.bohm_store.specs.Nexts.{IsNext, IsSame, IsSettledKept};
+ghost use Rattle.bohm_run.specs.Replies.{AreSerialShows, IsReplied, replies_behind, replies_of};
 
 use bohm_exec::Finished;
 use bohm_store::{History, Seats};
-use bohm_txn::{Cell, Items, NoMemory, Outcome, Reply, Value, shows};
+use bohm_tree::{Cell, NoMemory, Value};
+use bohm_txn::{Outcome, Replies, shows};
 use std::alloc::Global;
 
-/// The values that the transaction with a timestamp shows: none on an abort.
-fn values_shown(alloc: Global, finished: &Finished<'_>, t: u32) -> Result<Vec<Value>, NoMemory>
+/// Puts the values that the transaction with a timestamp shows in place of those in the list: none
+/// on an abort.
+fn values_shown(values: &mut Vec<Value>, finished: &Finished<'_>, t: u32) -> Result<(), NoMemory>
     requires { IsIn (batch_of_finished finished.now) t }
-    ensures { IfOk result
-        (λ values. AreSerialShows (batch_of_finished finished.now) t values.items) }
+    ensures { OnOk result
+        (AreSerialShows (batch_of_finished finished.now) t values.new.items) }
 {
+    values.clear();
     let count = shows(&finished.batch().txn(t));
-    let mut values = Vec::with_capacity(alloc, count)?;
     for index in 0..count as u32 {
         if let Cell::Present(value) = finished.show(t, index) {
             values.push(value)?;
         }
     }
-    Ok(values)
+    Ok(())
 }
 
-/// The reply of the transaction with a timestamp. An abort takes no memory.
-fn reply(alloc: Global, finished: &Finished<'_>, t: u32) -> Result<Reply, NoMemory>
-    requires { IsIn (batch_of_finished finished.now) t }
-    ensures { IfOk result (IsSerialReply (batch_of_finished finished.now) t) }
-{
-    Ok(match finished.outcome(t) {
-        Outcome::Commit => Reply::Commit {
-            shows: Items::from(values_shown(alloc, finished, t)?),
-        },
-        Outcome::Abort { reason, stmt } => Reply::Abort { reason, stmt },
-    })
-}
-
-/// Pushes the replies as far as there is memory.
-fn push_some(
-    alloc: Global,
-    replies: &mut Vec<Reply>,
+/// Appends the reply of the transaction with a timestamp. A refusal leaves the replies as they
+/// were.
+fn push_reply(
+    replies: &mut Replies,
+    values: &mut Vec<Value>,
     finished: &Finished<'_>,
+    t: u32,
 ) -> Result<(), NoMemory>
-    ensures ok { OnOk result (replies.new.items ≡ replies.old.items ++ replies_of finished.now) }
+    requires { IsIn (batch_of_finished finished.now) t }
+    ensures ok { OnOk result
+        (IsReplied (batch_of_finished finished.now) t replies.old replies.new) }
+    ensures err { OnErr result (replies.new ≡ replies.old) }
+{
+    match finished.outcome(t) {
+        Outcome::Commit => {
+            values_shown(values, finished, t)?;
+            replies.push_commit(values.as_slice())
+        }
+        Outcome::Abort { reason, stmt } => replies.push_abort(reason, stmt),
+    }
+}
+
+/// Pushes the replies as far as there is memory. One list takes the shows of each in turn.
+fn push_some(alloc: Global, replies: &mut Replies, finished: &Finished<'_>) -> Result<(), NoMemory>
+    ensures ok { OnOk result (replies.new ≡ replies.old ++ replies_of finished.now) }
     ensures err { OnErr result
-        ((more : List Reply) × (replies.new.items ≡ replies.old.items ++ more)) }
+        ((more : List Reply) × (replies.new ≡ replies.old ++ more)) }
 {
     let first = finished.first();
+    let mut values = Vec::new(alloc);
     for place in 0..finished.len() {
-        let reply = reply(alloc, finished, first + place)?;
-        replies.push(reply)?;
+        push_reply(replies, &mut values, finished, first + place)?;
     }
     Ok(())
 }
@@ -63,11 +70,11 @@ fn push_some(
 /// list as it was. The time grows with the number of the batch's statements.
 fn push_replies(
     alloc: Global,
-    replies: &mut Vec<Reply>,
+    replies: &mut Replies,
     finished: &Finished<'_>,
 ) -> Result<(), NoMemory>
-    ensures ok { OnOk result (replies.new.items ≡ replies.old.items ++ replies_of finished.now) }
-    ensures err { OnErr result (replies.new.items ≡ replies.old.items) }
+    ensures ok { OnOk result (replies.new ≡ replies.old ++ replies_of finished.now) }
+    ensures err { OnErr result (replies.new ≡ replies.old) }
 {
     let before = replies.len();
     let pushed = push_some(alloc, replies, finished);
@@ -78,25 +85,29 @@ fn push_replies(
 }
 
 /// Appends the replies of the finished batch, which is the next one of the history, and settles it
-/// there. A refusal changes nothing that is seen.
+/// there, trimmed at so many timestamps below the batch's end. A refusal changes nothing that is
+/// seen.
 pub(crate) fn settle_batch(
     alloc: Global,
     history: &mut History,
-    replies: &mut Vec<Reply>,
+    replies: &mut Replies,
     seats: &mut Seats,
     finished: &Finished<'_>,
+    keep: u32,
 ) -> Result<(), NoMemory>
     requires { IsNext history.old (batch_of_finished finished.now) }
     ensures settled { let txns = txns_of (batch_of_finished finished.now) in
-        OnOk result (IsSettled history.old history.new txns) }
+        let floor = (history.old.top + length txns) - keep in
+        OnOk result (IsSettledKept history.old history.new txns floor) }
     ensures replies { let told = replies_behind history.old finished.now in
-        OnOk result (replies.new.items ≡ replies.old.items ++ told) }
+        OnOk result (replies.new ≡ replies.old ++ told) }
     ensures same { OnErr result (IsSame history.old history.new) }
-    ensures kept { OnErr result (replies.new.items ≡ replies.old.items) }
+    ensures kept { OnErr result (replies.new ≡ replies.old) }
 {
     let before = replies.len();
     push_replies(alloc, replies, finished)?;
-    let settled = history.settle_with(alloc, seats, finished);
+    let floor = (history.top() + finished.len()).saturating_sub(keep);
+    let settled = history.settle_kept(alloc, seats, finished, floor);
     if settled.is_err() {
         replies.truncate(before);
     }

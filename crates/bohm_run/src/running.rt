@@ -9,9 +9,11 @@ ghost use Rattle.bohm_run.specs.Runs.{IsHistoryOf};
 use crate::applying::{Applied, apply};
 use bohm_exec::Gate;
 use bohm_line::Cuts;
-use bohm_place::{HashSeed, Partition};
+use bohm_log::HashSeed;
+use bohm_place::Partition;
 use bohm_store::History;
-use bohm_txn::{Checked, Items, NoMemory, Reply};
+use bohm_tree::NoMemory;
+use bohm_txn::{Checked, Replies};
 use std::alloc::Global;
 use std::random::RandomSource;
 use std::sync::Wait;
@@ -20,7 +22,7 @@ use std::thread::Threads;
 /// What a run answers: the replies in log order, and the history that it leaves.
 #[derive(Drop)]
 pub struct Answer {
-    pub replies: Items<Reply>,
+    pub replies: Replies,
     pub history: History,
 }
 

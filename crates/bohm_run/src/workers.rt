@@ -11,7 +11,7 @@ mod job;
 
 use bohm_board::{Batch, Board, Pass};
 use bohm_exec::{Aside, Finished, Gate, complete};
-use bohm_txn::NoMemory;
+use bohm_tree::NoMemory;
 pub use crew::Crew;
 use job::{Job, Swept, work};
 pub(crate) use job::{Worker, sweep_share};

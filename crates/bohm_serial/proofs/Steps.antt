@@ -5,10 +5,10 @@ use Rattle.std.specs.List.{zip, list_any, slice_get}
 use Rattle.std.specs.Str.{bytes_eq}
 use Rattle.bohm_tree.specs.declared.cell.Cell.{Cell}
 use Rattle.bohm_tree.specs.Txn.{Txn}
+use Rattle.bohm_tree.specs.Keys.{IsAmong, is_among}
 use Rattle.bohm_txn.specs.declared.outcome.Outcome.{Outcome}
 use Rattle.bohm_txn.specs.declared.outcome.Reply.{Reply}
-use Rattle.bohm_txn.specs.Declares.{IsAmong}
-use Rattle.bohm_txn.specs.Faulty.{IsWellFormedTxn, is_among}
+use Rattle.bohm_txn.specs.Faulty.{IsWellFormedTxn}
 use Rattle.bohm_txn.specs.Meaning.{Look, Ended, body, newest}
 use Rattle.bohm_txn.specs.Serial.{writes_of, shows_of, outcome_of, reply_of, after, replies}
 use Rattle.bohm_txn.specs.Stores.{Store, cell_in, put_all, store_after}

@@ -1,6 +1,6 @@
 //! Running a log.
 
-ghost use Rattle.std.specs.Prelude.{◌≡◌, map, length, All, IfOk, OnOk};
+ghost use Rattle.std.specs.Prelude.{◌≡◌, [], ◌∷◌, ◌++◌, map, length, All, IfOk, OnOk};
 ghost use Rattle.std.specs.FinMap.{entries};
 ghost use Rattle.bohm_txn.specs.Faulty.{IsWellFormedTxn};
 ghost use Rattle.bohm_txn.specs.Meaning.{body};
@@ -10,17 +10,16 @@ ghost use Rattle.bohm_txn.specs.Stores.{store_of, store_after, cell_in, put_all}
 ghost use Rattle.std.specs.List.{zip};
 
 use crate::store::Store;
-use bohm_txn::{
-    Cell, Checked, Items, Key, Keys, LogPart, NoMemory, Outcome, Reply, Scratch, TxnView, Value,
-    eval,
-};
+use bohm_log::{Keys, LogPart, TxnView};
+use bohm_tree::{Cell, Items, Key, NoMemory, Value};
+use bohm_txn::{Checked, Outcome, Replies, Scratch, eval};
 use std::alloc::Global;
 
 /// What a run answers: the replies in log order, and the entries of the store that it leaves, in
 /// the order of their keys.
 #[derive(Debug, Drop)]
 pub struct Answer {
-    pub replies: Items<Reply>,
+    pub replies: Replies,
     pub store: Items<(Key, Value)>,
 }
 
@@ -46,16 +45,14 @@ fn put_cells(store: &mut Store, keys: &Keys<'_>, cells: &[Cell]) -> Result<(), N
     Ok(())
 }
 
-/// The reply of a transaction that ended so.
-fn reply(alloc: Global, outcome: Outcome, shows: &[Value]) -> Result<Reply, NoMemory>
-    ensures { IfOk result (λ reply. reply ≡ reply_with outcome shows.now) }
+/// Adds the reply of a transaction that ended so.
+fn push_reply(replies: &mut Replies, outcome: Outcome, shows: &[Value]) -> Result<(), NoMemory>
+    ensures { OnOk result (replies.new ≡ replies.old ++ reply_with outcome shows.now ∷ []) }
 {
-    Ok(match outcome {
-        Outcome::Commit => Reply::Commit {
-            shows: Items::from(Vec::from_slice(alloc, shows)?),
-        },
-        Outcome::Abort { reason, stmt } => Reply::Abort { reason, stmt },
-    })
+    match outcome {
+        Outcome::Commit => replies.push_commit(shows),
+        Outcome::Abort { reason, stmt } => replies.push_abort(reason, stmt),
+    }
 }
 
 /// The cells that a transaction is handed, and the room to run it in.
@@ -76,15 +73,16 @@ impl Desk {
     }
 }
 
-/// Runs one transaction over the store.
+/// Runs one transaction over the store, and adds its reply.
 fn execute(
-    alloc: Global,
     store: &mut Store,
+    replies: &mut Replies,
     desk: &mut Desk,
     txn: &TxnView<'_>,
-) -> Result<Reply, NoMemory>
+) -> Result<(), NoMemory>
     requires { IsWellFormedTxn txn.now }
-    ensures reply { IfOk result (λ reply. reply ≡ reply_of (body (cell_in store.old) txn.now)) }
+    ensures reply { OnOk result
+        (replies.new ≡ replies.old ++ reply_of (body (cell_in store.old) txn.now) ∷ []) }
     ensures store { OnOk result
         (store.new ≡ put_all store.old (writes_of (body (cell_in store.old) txn.now))) }
 {
@@ -98,20 +96,20 @@ fn execute(
         &mut desk.scratch,
     );
     put_cells(store, &writes, desk.scratch.cells())?;
-    reply(alloc, outcome, desk.scratch.shows())
+    push_reply(replies, outcome, desk.scratch.shows())
 }
 
 /// Runs the transactions, one after another.
-fn execute_all(alloc: Global, store: &mut Store, log: &LogPart<'_>) -> Result<Vec<Reply>, NoMemory>
+fn execute_all(alloc: Global, store: &mut Store, log: &LogPart<'_>) -> Result<Replies, NoMemory>
     requires { All IsWellFormedTxn log.now }
-    ensures replies { IfOk result (λ list. list.items ≡ replies (cell_in store.old) log.now) }
+    ensures replies { IfOk result (λ list. list ≡ replies (cell_in store.old) log.now) }
     ensures store { OnOk result (store.new ≡ store_after store.old log.now) }
 {
     let mut desk = Desk::new(alloc)?;
-    let mut list = Vec::with_capacity(alloc, log.len())?;
+    let mut list = Replies::new(alloc);
+    list.reserve(log.len())?;
     for index in 0..log.len() {
-        let reply = execute(alloc, store, &mut desk, &log.txn(index))?;
-        list.push(reply)?;
+        execute(store, &mut list, &mut desk, &log.txn(index))?;
     }
     Ok(list)
 }
@@ -131,7 +129,7 @@ pub fn run(alloc: Global, checked: &Checked) -> Result<Answer, NoMemory>
     let replies = execute_all(alloc, &mut store, &checked.log())?;
     let entries = store.entries(alloc)?;
     Ok(Answer {
-        replies: Items::from(replies),
+        replies,
         store: Items::from(entries),
     })
 }

@@ -2,9 +2,9 @@
 
 ghost use Rattle.std.specs.Prelude.{◌≡◌, true, IfOk, OnOk};
 ghost use Rattle.std.specs.FinMap.{entries};
-ghost use Rattle.bohm_txn.specs.Faulty.{rising, names_of};
 ghost use Rattle.std.specs.HashMap.{IsUnique};
 ghost use Rattle.std.specs.Str.{bytes_eq};
+ghost use Rattle.bohm_tree.specs.Keys.{rising, names_of};
 ghost use Rattle.bohm_txn.specs.Stores.{store_of, cell_in, put};
 
 use bohm_tree::{Cell, Key, NoMemory, Value};
@@ -20,8 +20,6 @@ pub struct Store {
 }
 
 impl Model for Store {
-    ghost use Rattle.std.specs.Ordering.{nat_cmp};
-    ghost use Rattle.std.specs.Cmp.Lexicographic.{slice_cmp};
     ghost use Rattle.std.specs.Coded.{coded_ℕ, coded_ℤ, coded_list};
     ghost use Rattle.std.specs.FinMap.{code};
     ghost use Rattle.bohm_txn.specs.Stores.{Store as FiniteStore, store_of};

@@ -2,8 +2,8 @@
 use Rattle.std.proofs.Common.{◌≡◌, ℕ, Bool, true, false, ◌||◌, List, [], ◌∷◌, map, refl, ap, if◌then◌else◌}
 use Rattle.std.specs.Str.{bytes_eq}
 use Rattle.bohm_tree.specs.declared.cell.Cell.{Cell}
+use Rattle.bohm_tree.specs.Keys.{is_among}
 use Rattle.bohm_txn.specs.Meaning.{newest}
-use Rattle.bohm_txn.specs.Faulty.{is_among}
 use Rattle.bohm_txn.proofs.ForCallers.{same_key}
 use Rattle.bohm_board.specs.Bases.{keys_of}
 

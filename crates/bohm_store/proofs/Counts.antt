@@ -8,7 +8,7 @@ use Rattle.std.proofs.lemmas.Map.{lookup-remove_entry}
 use Rattle.bohm_txn.proofs.ForCallers.{key_itself}
 use Rattle.bohm_store.specs.declared.version.Version.{Version}
 use Rattle.bohm_store.specs.Versions.{total, versions_in}
-use Rattle.bohm_store.proofs.Held.{none_from}
+use Rattle.bohm_store.proofs.StoreEntries.{none_from}
 
 abbrev Keyed : Type 0
 Keyed = List (List ℕ × List Version)

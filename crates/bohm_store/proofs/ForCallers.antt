@@ -1,4 +1,4 @@
 -- What the crates above cite of this crate's proofs. Each lemma is proved in the file of its subject.
 
 -- what the next batch answers
-pub use Rattle.bohm_store.proofs.Produced.{next_replies}
+pub use Rattle.bohm_store.proofs.ProducedVersions.{next_replies}

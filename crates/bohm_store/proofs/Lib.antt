@@ -1,14 +1,15 @@
 mod Past
-mod Places
-mod Newest
-mod Grows
-mod Views
-mod Starts
-mod Produced
-mod Writing
+mod FollowerPlaces
+mod NewestVersion
+mod ChainEnds
+mod RenewedChains
+mod TimelineLookups
+mod StartingChains
+mod ProducedVersions
+mod WrittenVersions
 mod Bases
-mod Later
-mod Held
+mod SettledHistory
+mod StoreEntries
 mod Counts
-mod Queued
+mod QueueCounts
 pub mod ForCallers

@@ -4,7 +4,7 @@ use Rattle.std.proofs.lemmas.Bool.Decides.{nat_tests}
 use Rattle.std.proofs.lemmas.List.Elements.{All-head, All-tail}
 use Rattle.bohm_tree.specs.declared.cell.Cell.{Cell}
 use Rattle.bohm_store.specs.declared.version.Version.{Version}
-use Rattle.bohm_store.specs.Versions.{cell_at, kept}
+use Rattle.bohm_store.specs.Versions.{cell_at, kept_versions}
 use Rattle.bohm_store.specs.Chains.{Above, UpTo}
 
 pub cell_at-append : (ts : ℕ) (xs ys : List Version) (c : Cell) → cell_at ts (xs ++ ys) c ≡ cell_at ts ys (cell_at ts xs c)
@@ -44,14 +44,14 @@ cell_at-found ts (suc i) vs d c pos inside low above =
 
 -- what the floor lets go is not seen from the floor on
 kept_by : (floor ts : ℕ) (v w : Version) (ws : List Version) (c : Cell) (b : Bool) → nat_le w.begin floor ≡ b → floor ≤ ts
-    → ((d : Cell) → cell_at ts (kept floor (w ∷ ws)) d ≡ cell_at ts (w ∷ ws) d)
-    → cell_at ts (kept floor (v ∷ w ∷ ws)) c ≡ cell_at ts (v ∷ w ∷ ws) c
+    → ((d : Cell) → cell_at ts (kept_versions floor (w ∷ ws)) d ≡ cell_at ts (w ∷ ws) d)
+    → cell_at ts (kept_versions floor (v ∷ w ∷ ws)) c ≡ cell_at ts (v ∷ w ∷ ws) c
 kept_by floor ts v w ws c true e le more =
     let here : nat_le w.begin ts ≡ true = grind (arith, nat_tests) in
     rw e (more c ∙ rw here refl)
 kept_by floor ts v w ws c false e le more = rw e refl
 
-pub cell_at-kept : (floor ts : ℕ) (vs : List Version) (c : Cell) → floor ≤ ts → cell_at ts (kept floor vs) c ≡ cell_at ts vs c
+pub cell_at-kept : (floor ts : ℕ) (vs : List Version) (c : Cell) → floor ≤ ts → cell_at ts (kept_versions floor vs) c ≡ cell_at ts vs c
 cell_at-kept floor ts [] c le = refl
 cell_at-kept floor ts (v ∷ []) c le = refl
 cell_at-kept floor ts (v ∷ w ∷ ws) c le = kept_by floor ts v w ws c (nat_le w.begin floor) refl le (λ d. cell_at-kept floor ts (w ∷ ws) d le)

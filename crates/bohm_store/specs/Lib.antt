@@ -1,4 +1,4 @@
 pub mod Versions
 pub mod Chains
-pub mod Written
+pub mod Writes
 pub mod Nexts

@@ -1,17 +1,18 @@
 -- The batch that follows what a history has.
-use Rattle.std.specs.Prelude.{◌≡◌, ℕ, ◌+◌, ◌-◌, ◌≤◌, ◌++◌, List, length, true}
+use Rattle.std.specs.Prelude.{◌≡◌, ℕ, ◌+◌, ◌-◌, ◌<◌, ◌≤◌, ◌++◌, List, length, max, true}
 use Rattle.std.specs.List.{list_any}
 use Rattle.bohm_tree.specs.Txn.{Txn}
 use Rattle.bohm_txn.specs.Meaning.{Look}
 use Rattle.bohm_txn.specs.Serial.{state}
 use Rattle.bohm_board.specs.declared.batch.Batch.{Batch}
-use Rattle.bohm_board.specs.Bases.{declares}
+use Rattle.bohm_board.specs.Bases.{declares_key}
 use Rattle.bohm_board.specs.Batches.{first_of, txns_of, base_of}
-use Rattle.bohm_store.specs.Versions.{Timeline, past, produced, versions}
+use Rattle.bohm_store.specs.declared.version.Version.{Version}
+use Rattle.bohm_store.specs.Versions.{Timeline, kept_versions, past, produced_versions, versions}
 
 -- two looks have the same for each key that the transactions declare
 abbrev pub Agree : List Txn → Look → Look → Type 0
-Agree txns look other = (k : List ℕ) → list_any (declares k) txns ≡ true → look k ≡ other k
+Agree txns look other = (k : List ℕ) → list_any (declares_key k) txns ≡ true → look k ≡ other k
 
 -- the batch starts behind the top, and its base is what its keys hold there
 pub record IsNext (t : Timeline) (b : Batch) : Type 0 where
@@ -24,10 +25,23 @@ pub record IsSame (was now : Timeline) : Type 0 where
   pub top : now.top ≡ was.top
   pub versions : (k : List ℕ) → versions now k ≡ versions was k
 
+-- the versions of a key, and behind them those that the transactions behind the top produce
+abbrev pub grown_versions : Timeline → List Txn → List ℕ → List Version
+grown_versions was txns k = versions was k ++ produced_versions (was.top + 1) (past was was.top) txns k
+
 -- each declared write of the transactions behind the top has its version, and the past goes on with their serial run
 pub record IsSettled (was now : Timeline) (txns : List Txn) : Type 0 where
   pub floor : now.floor ≡ was.floor
   pub top : now.top ≡ was.top + length txns
-  pub versions : (k : List ℕ) → versions now k ≡ versions was k ++ produced (was.top + 1) (past was was.top) txns k
+  pub versions : (k : List ℕ) → versions now k ≡ grown_versions was txns k
   pub earlier : (ts : ℕ) → ts ≤ was.top → past now ts ≡ past was ts
   pub later : (ts : ℕ) → was.top ≤ ts → ts ≤ now.top → past now ts ≡ state (past was was.top) txns (ts - was.top)
+
+-- the same, and of each key there stay the versions that a floor keeps, where it is above the present one: from the new floor on the past is the same
+pub record IsSettledKept (was now : Timeline) (txns : List Txn) (low : ℕ) : Type 0 where
+  pub floor : now.floor ≡ max was.floor low
+  pub top : now.top ≡ was.top + length txns
+  pub unchanged : low ≤ was.floor → (k : List ℕ) → versions now k ≡ grown_versions was txns k
+  pub versions : was.floor < low → (k : List ℕ) → versions now k ≡ kept_versions low (grown_versions was txns k)
+  pub earlier : (ts : ℕ) → now.floor ≤ ts → ts ≤ was.top → past now ts ≡ past was ts
+  pub later : (ts : ℕ) → now.floor ≤ ts → was.top ≤ ts → ts ≤ now.top → past now ts ≡ state (past was was.top) txns (ts - was.top)

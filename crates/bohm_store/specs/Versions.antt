@@ -5,7 +5,7 @@ use Rattle.std.specs.Map.{lookup}
 use Rattle.bohm_tree.specs.declared.cell.Cell.{Cell}
 use Rattle.bohm_tree.specs.declared.cell.Cell.TheVariants.{Absent, Present}
 use Rattle.bohm_tree.specs.Txn.{Txn}
-use Rattle.bohm_txn.specs.Faulty.{is_among}
+use Rattle.bohm_tree.specs.Keys.{is_among}
 use Rattle.bohm_txn.specs.Meaning.{Look}
 use Rattle.bohm_txn.specs.Serial.{after}
 use Rattle.bohm_store.specs.declared.version.Version.{Version}
@@ -37,10 +37,10 @@ abbrev pub IsKept : ℕ → List Version → Version → Type 0
 IsKept floor vs v = (Contains vs v × (floor < v.begin)) ⊎ IsNewestAt floor vs v
 
 -- those that stay, of versions that rise
-abbrev pub kept : ℕ → List Version → List Version
-kept floor [] = []
-kept floor (v ∷ []) = v ∷ []
-kept floor (v ∷ w ∷ ws) = if nat_le w.begin floor then kept floor (w ∷ ws) else (v ∷ w ∷ ws)
+abbrev pub kept_versions : ℕ → List Version → List Version
+kept_versions floor [] = []
+kept_versions floor (v ∷ []) = v ∷ []
+kept_versions floor (v ∷ w ∷ ws) = if nat_le w.begin floor then kept_versions floor (w ∷ ws) else (v ∷ w ∷ ws)
 
 -- ---- the versions of all keys
 
@@ -73,11 +73,11 @@ total [] = 0
 total (e ∷ es) = length e.1 + total es
 
 -- the versions that a starting store gives a key
-abbrev pub given : List (List ℕ × ℤ) → List ℕ → List Version
-given [] k = []
-given (p ∷ ps) k = if bytes_eq p.0 k then record { begin = 0; cell = Present p.1 } ∷ [] else given ps k
+abbrev pub store_versions : List (List ℕ × ℤ) → List ℕ → List Version
+store_versions [] k = []
+store_versions (p ∷ ps) k = if bytes_eq p.0 k then record { begin = 0; cell = Present p.1 } ∷ [] else store_versions ps k
 
 -- the versions that transactions give a key, the first of which is at u and sees this look: one for each that declares to write it, aborted ones included
-abbrev pub produced : ℕ → Look → List Txn → List ℕ → List Version
-produced u look [] k = []
-produced u look (t ∷ ts) k = (if is_among t.writes k then record { begin = u; cell = after look t k } ∷ [] else []) ++ produced (u + 1) (after look t) ts k
+abbrev pub produced_versions : ℕ → Look → List Txn → List ℕ → List Version
+produced_versions u look [] k = []
+produced_versions u look (t ∷ ts) k = (if is_among t.writes k then record { begin = u; cell = after look t k } ∷ [] else []) ++ produced_versions (u + 1) (after look t) ts k

@@ -10,8 +10,8 @@ ghost use Rattle.bohm_store.specs.Chains.{chain};
 use crate::chain::Chain;
 use crate::chains::{cell_in, seat_of};
 use crate::seats::Hints;
-use bohm_place::HashSeed;
-use bohm_txn::{Cell, Key, NoMemory};
+use bohm_log::HashSeed;
+use bohm_tree::{Cell, Key, NoMemory};
 use indexmap::IndexMap;
 use std::alloc::Global;
 

@@ -1,13 +1,13 @@
-//! The versions of one key.
+//! `Chain`: the versions of one key. A map of these, `chains`, has the versions of all keys.
 
 ghost use Rattle.std.specs.Prelude.{◌≡◌, [], ◌∷◌, false, is_ok, option_to_list, if◌then◌else◌};
 ghost use Rattle.bohm_tree.specs.declared.cell.Cell.TheVariants.{Absent};
-ghost use Rattle.bohm_store.specs.Chains.{IsExtended, items, shift, front};
+ghost use Rattle.bohm_store.specs.Chains.{IsExtended, items, without_oldest, without_newest};
 ghost use Rattle.bohm_store.specs.Versions.{cell_at};
 
 use crate::followers::Follower;
 use crate::version::Version;
-use bohm_txn::{Cell, NoMemory};
+use bohm_tree::{Cell, NoMemory};
 use std::alloc::Global;
 use std::collections::VecDeque;
 
@@ -98,7 +98,7 @@ impl Chain {
 
     /// Lets the oldest version go, where another one follows.
     pub fn drop_oldest(&mut self)
-        ensures { items self.new ≡ shift (items self.old) }
+        ensures { items self.new ≡ without_oldest (items self.old) }
     {
         match self.second {
             Some(second) => {
@@ -113,11 +113,20 @@ impl Chain {
         }
     }
 
+    /// Lets this version stand alone.
+    pub fn renew(&mut self, begin: u32, cell: Cell)
+        ensures { items self.new ≡ (record { begin = begin; cell = cell }) ∷ [] }
+    {
+        self.first = Version { begin, cell };
+        self.second = None;
+        self.later.clear();
+    }
+
     /// Lets the newest version go, where it isn't the only one, and answers whether it went.
     pub fn drop_newest(&mut self) -> bool
         ensures items { items self.new
-            ≡ (if result then front (items self.old) else items self.old) }
-        ensures only { result ≡ false → front (items self.old) ≡ [] }
+            ≡ (if result then without_newest (items self.old) else items self.old) }
+        ensures only { result ≡ false → without_newest (items self.old) ≡ [] }
     {
         match self.later.pop_back() {
             Some(_) => true,

@@ -1,21 +1,25 @@
-//! The versions of all keys.
+//! The versions of all keys: a map from each key to its `Chain`, the versions of this one key.
 
-ghost use Rattle.std.specs.Prelude.{◌≡◌, ℕ, List, [], ◌∷◌, ◌++◌, ◌<◌, ◌≤◌, ◌&&◌, ◌⊎◌, is_ok, true, false, get_or, if◌then◌else◌, length, None, IfOk, IfSome, OnOk, OnErr};
+ghost use Rattle.std.specs.Prelude.{◌≡◌, ℕ, List, [], ◌∷◌, ◌++◌, ◌<◌, ◌&&◌, ◌⊎◌, is_ok, true};
+ghost use Rattle.std.specs.Prelude.{false, get_or, if◌then◌else◌, length, None, IfOk, IfSome, OnOk};
+ghost use Rattle.std.specs.Prelude.{OnErr};
 ghost use Rattle.std.specs.HashMap.{get, keys};
 ghost use Rattle.std.specs.Str.{bytes_eq};
 ghost use Rattle.bohm_tree.specs.declared.cell.Cell.TheVariants.{Absent};
-ghost use Rattle.bohm_txn.specs.Faulty.{is_among, rising, names_of};
+ghost use Rattle.bohm_tree.specs.Keys.{is_among, rising, names_of};
 ghost use Rattle.bohm_txn.specs.Stores.{cell_in, store_of};
 ghost use Rattle.bohm_store.specs.declared.version.Version.{Version};
-ghost use Rattle.bohm_store.specs.Versions.{cell_at, kept};
-ghost use Rattle.bohm_store.specs.Chains.{chain, keyed, ArePlaced, shift, front, later_begins, made, started, waiting, Climb, RisesTo};
+ghost use Rattle.bohm_store.specs.Versions.{cell_at, kept_versions};
+ghost use Rattle.bohm_store.specs.Chains.{chain, queued_by_key, ArePlaced, without_oldest};
+ghost use Rattle.bohm_store.specs.Chains.{without_newest, later_begins, versions_of_writes};
+ghost use Rattle.bohm_store.specs.Chains.{starting_versions, queued_begins, Climb, RisesTo};
 
 use crate::chain::Chain;
 use crate::followers::{Follower, take_due};
 use crate::seats::Hints;
 use crate::version::{Version, Write};
-use bohm_place::HashSeed;
-use bohm_txn::{Cell, Key, NoMemory, Value};
+use bohm_log::HashSeed;
+use bohm_tree::{Cell, Key, NoMemory, Value};
 use indexmap::IndexMap;
 use std::alloc::Global;
 use std::collections::VecDeque;
@@ -28,7 +32,8 @@ pub fn start(
 ) -> Result<IndexMap<Key, Chain, HashSeed>, NoMemory>
     requires { rising (names_of entries.now) ≡ true }
     ensures { IfOk result
-        (λ chains. (k : List ℕ) → chain chains k ≡ started (cell_in (store_of entries.now) k)) }
+        (λ chains. (k : List ℕ)
+        → chain chains k ≡ starting_versions (cell_in (store_of entries.now) k)) }
 {
     let mut chains = IndexMap::with_capacity_and_hasher(alloc, entries.len(), seed)?;
     for (key, value) in entries {
@@ -93,9 +98,9 @@ fn push(
     ensures keys { (more : List (List ℕ)) × (keys chains.new ≡ keys chains.old ++ more) }
     ensures waiting { ArePlaced (keys chains.old) followers.old.items → (k : List ℕ)
         → later_begins (chain chains.old k)
-        ≡ waiting (keyed (keys chains.old) followers.old.items) k
+        ≡ queued_begins (queued_by_key (keys chains.old) followers.old.items) k
         → later_begins (chain chains.new k)
-        ≡ waiting (keyed (keys chains.new) followers.new.items) k }
+        ≡ queued_begins (queued_by_key (keys chains.new) followers.new.items) k }
     ensures placed { ArePlaced (keys chains.old) followers.old.items
         → ArePlaced (keys chains.new) followers.new.items }
     ensures grows { (followers.new.items ≡ followers.old.items)
@@ -125,10 +130,10 @@ fn push(
 fn drop_later(chains: &mut IndexMap<Key, Chain, HashSeed>, key: &Key) -> bool
     ensures chains { (k : List ℕ)
         → chain chains.new k
-        ≡ (if (result && bytes_eq key.now k) then front
-        (chain chains.old k) else chain chains.old k) }
+        ≡ (if (result && bytes_eq key.now k) then without_newest (chain chains.old k)
+        else chain chains.old k) }
     ensures only { result ≡ false → (k : List ℕ) → bytes_eq key.now k ≡ true
-        → front (chain chains.old k) ≡ [] }
+        → without_newest (chain chains.old k) ≡ [] }
     ensures keys { keys chains.new ≡ keys chains.old }
 {
     match chains.get_mut(key) {
@@ -142,9 +147,9 @@ fn drop_later(chains: &mut IndexMap<Key, Chain, HashSeed>, key: &Key) -> bool
 fn retreat(chains: &mut IndexMap<Key, Chain, HashSeed>, key: &Key)
     ensures chains { (k : List ℕ)
         → chain chains.new k
-        ≡ (if bytes_eq key.now k then front (chain chains.old k) else chain chains.old k) }
+        ≡ (if bytes_eq key.now k then without_newest (chain chains.old k) else chain chains.old k) }
     ensures keys { (ks more : List (List ℕ)) → keys chains.old ≡ ks ++ more
-        → (front (chain chains.old key.now) ≡ [] → is_among ks key.now ≡ false)
+        → (without_newest (chain chains.old key.now) ≡ [] → is_among ks key.now ≡ false)
         → (rest : List (List ℕ)) × (keys chains.new ≡ ks ++ rest) }
 {
     if !drop_later(chains, key) {
@@ -156,10 +161,10 @@ fn retreat(chains: &mut IndexMap<Key, Chain, HashSeed>, key: &Key)
 // them keep their places.
 fn take_back(chains: &mut IndexMap<Key, Chain, HashSeed>, writes: &[Write<'_>])
     ensures chains { (base : List ℕ → List Version)
-        → ((k : List ℕ) → chain chains.old k ≡ base k ++ made writes.now k) → (k : List ℕ)
-        → chain chains.new k ≡ base k }
+        → ((k : List ℕ) → chain chains.old k ≡ base k ++ versions_of_writes writes.now k)
+        → (k : List ℕ) → chain chains.new k ≡ base k }
     ensures keys { (base : List ℕ → List Version) (ks more : List (List ℕ))
-        → ((k : List ℕ) → chain chains.old k ≡ base k ++ made writes.now k)
+        → ((k : List ℕ) → chain chains.old k ≡ base k ++ versions_of_writes writes.now k)
         → keys chains.old ≡ ks ++ more → ((k : List ℕ) → base k ≡ [] → is_among ks k ≡ false)
         → (rest : List (List ℕ)) × (keys chains.new ≡ ks ++ rest) }
 {
@@ -181,7 +186,8 @@ pub fn add(
 ) -> Result<(), NoMemory>
     ensures chains { (k : List ℕ)
         → chain chains.new k
-        ≡ (if is_ok result then chain chains.old k ++ made writes.now k else chain chains.old k) }
+        ≡ (if is_ok result then chain chains.old k ++ versions_of_writes writes.now k
+        else chain chains.old k) }
     ensures keys { (more : List (List ℕ)) × (keys chains.new ≡ keys chains.old ++ more) }
     ensures placed { OnOk result
         (ArePlaced (keys chains.old) followers.old.items
@@ -190,9 +196,9 @@ pub fn add(
         (ArePlaced (keys chains.old) followers.old.items
         → ((k : List ℕ)
         → later_begins (chain chains.old k)
-        ≡ waiting (keyed (keys chains.old) followers.old.items) k) → (k : List ℕ)
+        ≡ queued_begins (queued_by_key (keys chains.old) followers.old.items) k) → (k : List ℕ)
         → later_begins (chain chains.new k)
-        ≡ waiting (keyed (keys chains.new) followers.new.items) k) }
+        ≡ queued_begins (queued_by_key (keys chains.new) followers.new.items) k) }
     ensures climbs { OnOk result
         ((n top : ℕ) → Climb n writes.now top → RisesTo n followers.old.items
         → RisesTo top followers.new.items) }
@@ -215,8 +221,8 @@ fn advance(chains: &mut IndexMap<Key, Chain, HashSeed>, place: usize)
     requires { place < length (keys chains.old) }
     ensures chains { (k : List ℕ)
         → chain chains.new k
-        ≡ (if bytes_eq (get_or (keys chains.old) place []) k then shift
-        (chain chains.old k) else chain chains.old k) }
+        ≡ (if bytes_eq (get_or (keys chains.old) place []) k
+        then without_oldest (chain chains.old k) else chain chains.old k) }
     ensures keys { keys chains.new ≡ keys chains.old }
 {
     let (_, chain) = chains.pair_mut(place);
@@ -233,13 +239,14 @@ pub fn trim(
     requires placed { ArePlaced (keys chains.old) followers.old.items }
     requires waiting { (k : List ℕ)
         → later_begins (chain chains.old k)
-        ≡ waiting (keyed (keys chains.old) followers.old.items) k }
+        ≡ queued_begins (queued_by_key (keys chains.old) followers.old.items) k }
     requires climbs { (n : ℕ) × RisesTo n followers.old.items }
-    ensures chains { (k : List ℕ) → chain chains.new k ≡ kept floor (chain chains.old k) }
+    ensures chains { (k : List ℕ) → chain chains.new k ≡ kept_versions floor (chain chains.old k) }
+    ensures keys { keys chains.new ≡ keys chains.old }
     ensures placed { ArePlaced (keys chains.new) followers.new.items }
     ensures waiting { (k : List ℕ)
         → later_begins (chain chains.new k)
-        ≡ waiting (keyed (keys chains.new) followers.new.items) k }
+        ≡ queued_begins (queued_by_key (keys chains.new) followers.new.items) k }
     ensures climbs { (n : ℕ) → RisesTo n followers.old.items → RisesTo n followers.new.items }
 {
     while let Some(follower) = take_due(followers, floor) {

@@ -1,7 +1,6 @@
 //! Why there is no answer about the past.
 
-use bohm_txn::NoMemory;
-use std::alloc::AllocError;
+use bohm_tree::NoMemory;
 
 /// Why a timestamp has no cell.
 #[derive(Clone, Copy, Debug, PartialEq, Eq)]

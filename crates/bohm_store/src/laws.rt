@@ -13,7 +13,9 @@ ghost use Rattle.bohm_board.specs.declared.batch.Batch.{Batch};
 ghost use Rattle.bohm_board.specs.Batches.{base_of, txns_of};
 ghost use Rattle.bohm_store.specs.Nexts.{IsNext};
 ghost use Rattle.bohm_store.specs.declared.version.Version.{Version};
-ghost use Rattle.bohm_store.specs.Versions.{IsCellAt, IsKept, Rises, Timeline, cell_at, kept, past, produced, total, versions};
+ghost use Rattle.bohm_store.specs.Versions.{IsCellAt, IsKept, Rises, Timeline, cell_at};
+ghost use Rattle.bohm_store.specs.Versions.{kept_versions, past, produced_versions, total};
+ghost use Rattle.bohm_store.specs.Versions.{versions};
 
 /// Of versions that rise, the cell at a timestamp is that of the one with the greatest begin at or
 /// below it.
@@ -25,7 +27,7 @@ pub fn cell_of_the_newest()
 /// below it.
 pub fn kept_members()
     ensures { (floor : ℕ) (vs : List Version) (v : Version) → Rises vs
-        → Contains (kept floor vs) v ↔ IsKept floor vs v }
+        → Contains (kept_versions floor vs) v ↔ IsKept floor vs v }
 {}
 
 /// The versions that transactions behind n produce say of each timestamp what their serial run
@@ -33,7 +35,7 @@ pub fn kept_members()
 pub fn produced_is_serial()
     ensures { (n ts : ℕ) (look : Look) (txns : List Txn) (k : List ℕ) → All IsWellFormedTxn txns
         → n ≤ ts → ts ≤ n + length txns
-        → cell_at ts (produced (n + 1) look txns k) (look k) ≡ state look txns (ts - n) k }
+        → cell_at ts (produced_versions (n + 1) look txns k) (look k) ≡ state look txns (ts - n) k }
 {}
 
 /// Two histories in which each key has the same versions have as many versions.

@@ -2,6 +2,7 @@
 #![tactic(auto)]
 
 mod base;
+mod batch_writes;
 mod chain;
 mod chains;
 mod fault;
@@ -9,8 +10,8 @@ mod followers;
 mod history;
 pub mod laws;
 mod listing;
+mod renewal;
 mod seats;
-mod settling;
 mod version;
 
 pub use fault::{PastFault, StoreFault};

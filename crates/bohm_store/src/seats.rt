@@ -1,7 +1,7 @@
 //! What a run keeps of the keys of its log, by their numbers.
 
 use bohm_place::BatchKeys;
-use bohm_txn::NoMemory;
+use bohm_tree::NoMemory;
 use std::alloc::Global;
 
 /// Where each key of a log stood in a history when it was last seen, by the number of the key. Each

@@ -2,7 +2,7 @@
 
 ghost use Rattle.std.specs.Prelude.{◌≡◌, nat_le, if◌then◌else◌};
 
-use bohm_txn::{Cell, Key};
+use bohm_tree::{Cell, Key};
 use std::marker::Model;
 
 /// What a key holds from the transaction with a timestamp on, up to the next version of the key. A

@@ -129,7 +129,7 @@ unfolding sign_of
 sign_again true = refl
 sign_again false = refl
 
-further_again : (m : Bool) (a : Atom) → is_term m a ≡ true → IsAtom a → further_of m (atom_word a) ≡ Some (m, a)
+pub further_again : (m : Bool) (a : Atom) → is_term m a ≡ true → IsAtom a → further_of m (atom_word a) ≡ Some (m, a)
 unfolding further_of
 further_again m a term atom = rw (atom_again a atom, term) refl
 

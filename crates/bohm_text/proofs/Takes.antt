@@ -20,8 +20,8 @@ use Rattle.bohm_tree.specs.declared.cmp.Cmp.{Cmp}
 use Rattle.bohm_tree.specs.declared.cmp.Cmp.TheVariants.{Lt, Le, Eq, Ge, Gt}
 use Rattle.bohm_tree.specs.Stmt.{Cond, Stmt, Bind, Need, Has, Lacks, Put, Remove, Show, Fail}
 use Rattle.bohm_txn.proofs.ForCallers.{same_key}
-use Rattle.bohm_text.specs.declared.sums.Stop.{Stop}
-use Rattle.bohm_text.specs.declared.sums.Stop.TheVariants as stops
+use Rattle.bohm_text.specs.declared.stops.Stop.{Stop}
+use Rattle.bohm_text.specs.declared.stops.Stop.TheVariants as stops
 use Rattle.bohm_text.specs.Print.{Words, atom_word, first_word, further_words, sum_words, cmp_word, cond_words, stmt_words, store_words}
 use Rattle.bohm_text.specs.Reading.{◌>>=◌, digits_of, whole_of, lit_of, negative, number_of, atom_of, first_of, sign_of, further_of, cmp_of, stop_of, Ending, End, When, Compared, ending, Terms, stopped, longer, one_more, terms_of, sum_from, at_end, last_sum, keys_of, local_of, after, right_side, cond_of, guarded, assigned_of, bind_of, put_of, presence_of, need_of, remove_of, fail_of, stmt_of, entry_of}
 

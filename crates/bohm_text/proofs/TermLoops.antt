@@ -2,20 +2,39 @@
 use Rattle.std.proofs.Common.{◌≡◌, ℕ, Bool, true, false, cond, List, [], ◌∷◌, Some, None, Ok, Err, inl, inr, refl, ap, sym, subst, ◌∙◌, append_assoc}
 use Rattle.std.specs.Prelude.{Option, Result, ◌⊎◌, codes}
 use Rattle.std.specs.Option.{option_map}
+use Rattle.std.specs.Result.{IsErrAnd}
 use Rattle.std.specs.Str.{bytes_eq}
 use Rattle.std.proofs.lemmas.List.{append-nil}
 use Rattle.std.proofs.lemmas.Option.{same_Some}
 use Rattle.std.proofs.lemmas.Slice.Eq.{bytes_eq-Decides}
 use Rattle.bohm_tree.specs.declared.cmp.Cmp.{Cmp}
-use Rattle.bohm_tree.specs.Term.{Atom}
+use Rattle.bohm_tree.specs.Name.{is_name}
+use Rattle.bohm_tree.specs.Term.{Atom, Read}
 use Rattle.bohm_log.specs.Drafting.{Drafted, with_term}
 use Rattle.bohm_text.specs.declared.fault.ReadFault.{ReadFault}
 use Rattle.bohm_text.specs.declared.fault.ReadFault.TheVariants.{Bad, NoMemory}
-use Rattle.bohm_text.specs.declared.sums.Stop.{Stop}
-use Rattle.bohm_text.specs.declared.sums.Stop.TheVariants as stops
+use Rattle.bohm_text.specs.declared.stops.Stop.{Stop}
+use Rattle.bohm_text.specs.declared.stops.Stop.TheVariants as stops
 use Rattle.bohm_text.specs.Print.{Words}
 use Rattle.bohm_text.specs.Reading.{◌>>=◌, Fails, first_of, sign_of, further_of, cmp_of, stop_of, Ending, End, When, Compared, ending, Terms, stopped, longer, terms_of, sum_from, at_end, last_sum}
-use Rattle.bohm_text.specs.Taking.{TakesTerms, taken, with_terms}
+use Rattle.bohm_text.proofs.Again.{further_again}
+use Rattle.bohm_text.specs.Taking.{TakesTerms, taken, with_one, with_terms}
+
+-- ---- one term
+
+-- a name in a sum is the key that is read
+pub read_taken : (minus : Bool) (word : List ℕ) (d now : Drafted) → is_name word ≡ true → now ≡ with_term d minus (Read word) → option_map (with_one d) (further_of minus word) ≡ Some now
+read_taken minus word d now e made = rw (further_again minus (Read word) refl e, made) refl
+
+-- what was taken
+pub took : (d now : Drafted) (read : Option (Bool × Atom)) → option_map (with_one d) read ≡ Some now → (term : Bool × Atom) × (read ≡ Some term) × (now ≡ with_one d term)
+took d now None e = absurd cc
+took d now (Some term) e = (term, refl, sym (same_Some (with_one d term) now e))
+
+-- a fault that is handed on
+pub fails_up : (r : Result Stop ReadFault) (fault : ReadFault) (read : Option Terms) (rest : Words) (before now : Drafted) → IsErrAnd r (λ other. other ≡ fault) → Fails fault read → TakesTerms r read rest before now
+fails_up (Ok stop) fault read rest before now is e = absurd is
+fails_up (Err other) fault read rest before now is e = subst (λ (f : ReadFault). Fails f read) (sym is) e
 
 -- ---- one term more, or the end
 
@@ -77,6 +96,10 @@ module _ (before now : Drafted) (old words : Words) (so_far : taken now (terms_o
   pub take_none : terms_of words ≡ None → terms_of old ≡ None
   take_none e = taken-none before (terms_of old) (sym so_far ∙ ap (taken now) e)
 
+  pub take_fails : (fault : ReadFault) (w1 w2 : Words) (sign word : List ℕ) (minus : Bool) → words ≡ sign ∷ w1 → w1 ≡ word ∷ w2 → Some minus ≡ sign_of sign → Fails fault (further_of minus word) → Fails fault (terms_of old)
+  take_fails Bad w1 w2 sign word minus e1 e2 s t = take_none (terms_of-bad words w1 w2 sign word minus e1 e2 (sym s) t)
+  take_fails NoMemory w1 w2 sign word minus e1 e2 s t = tt
+
   pub take_stop : (w1 : Words) (sign : List ℕ) (stop : Stop) → terms_of words ≡ stopped sign w1 → stop_of sign ≡ Some stop → taken before (terms_of old) ≡ Some (now, ending stop w1)
   take_stop w1 sign stop e is =
       let one : terms_of words ≡ Some ([], ending stop w1) = e ∙ ap (λ (o : Option Stop). o >>= λ s. Some ([], ending s w1)) is in
@@ -101,6 +124,10 @@ sum_bad_first words w1 word e first = rw (e, first) refl
 sum_goes_on : (words w1 : Words) (word : List ℕ) (term : Bool × Atom) → words ≡ word ∷ w1 → first_of word ≡ Some term → sum_from words ≡ longer term (terms_of w1)
 unfolding sum_from
 sum_goes_on words w1 word term e first = rw (e, first) refl
+
+pub sum_fails : (fault : ReadFault) (words w1 : Words) (word : List ℕ) → words ≡ word ∷ w1 → Fails fault (first_of word) → Fails fault (sum_from words)
+sum_fails Bad words w1 word e first = sum_bad_first words w1 word e first
+sum_fails NoMemory words w1 word e first = tt
 
 longer-none : (term : Bool × Atom) (read : Option Terms) → read ≡ None → longer term read ≡ None
 longer-none term read e = rw e refl

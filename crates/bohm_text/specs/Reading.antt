@@ -11,8 +11,8 @@ use Rattle.bohm_tree.specs.declared.cmp.Cmp.TheVariants.{Lt, Le, Eq, Ge, Gt}
 use Rattle.bohm_tree.specs.Stmt.{Cond, Stmt, Bind, Need, Has, Lacks, Put, Remove, Show, Fail}
 use Rattle.bohm_text.specs.declared.fault.ReadFault.{ReadFault}
 use Rattle.bohm_text.specs.declared.fault.ReadFault.TheVariants.{Bad, NoMemory}
-use Rattle.bohm_text.specs.declared.sums.Stop.{Stop}
-use Rattle.bohm_text.specs.declared.sums.Stop.TheVariants as stops
+use Rattle.bohm_text.specs.declared.stops.Stop.{Stop}
+use Rattle.bohm_text.specs.declared.stops.Stop.TheVariants as stops
 use Rattle.bohm_text.specs.Print.{Words}
 
 infixl 10 ◌>>=◌

@@ -4,15 +4,19 @@ use Rattle.std.specs.Option.{option_map}
 use Rattle.bohm_tree.specs.Term.{Atom}
 use Rattle.bohm_tree.specs.declared.cmp.Cmp.{Cmp}
 use Rattle.bohm_tree.specs.Stmt.{Cond, Stmt}
-use Rattle.bohm_log.specs.Drafting.{Drafted, with_stmt, with_sum}
+use Rattle.bohm_log.specs.Drafting.{Drafted, with_stmt, with_sum, with_term}
 use Rattle.bohm_text.specs.declared.fault.ReadFault.{ReadFault}
-use Rattle.bohm_text.specs.declared.sums.Stop.{Stop}
+use Rattle.bohm_text.specs.declared.stops.Stop.{Stop}
 use Rattle.bohm_text.specs.Print.{Words}
 use Rattle.bohm_text.specs.Reading.{Fails, Terms, Ending, ending}
 
 -- more terms of the sum that is read
 abbrev pub with_terms : Drafted → List (Bool × Atom) → Drafted
 with_terms d terms = record d { latest = d.latest ++ terms }
+
+-- one more term of the sum that is read
+abbrev pub with_one : Drafted → Bool × Atom → Drafted
+with_one d term = with_term d term.0 term.1
 
 -- both sides of a condition, the right one open
 abbrev pub with_cond : Drafted → Cond → Drafted

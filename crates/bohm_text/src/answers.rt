@@ -1,12 +1,15 @@
 //! Printing an answer: the replies, and then the store.
 
-ghost use Rattle.std.specs.Prelude.{◌≡◌, ◌++◌, ◌∷◌, [], ℕ, ◌+◌, ◌≤◌, ◌^◌, IfOk, length, map};
-ghost use Rattle.std.specs.Fmt.{decimal, signed_decimal};
-ghost use Rattle.bohm_text.specs.Print.{reason_word, reply_words, spaced, line_text, lines_text, print_numbered, print_replies, print_store};
+ghost use Rattle.std.specs.Prelude.{◌≡◌, ◌++◌, [], ◌+◌, ◌<◌, ◌≤◌, ◌^◌};
+ghost use Rattle.std.specs.Prelude.{IfOk, length, map};
+ghost use Rattle.std.specs.Fmt.{signed_decimal};
+ghost use Rattle.bohm_text.specs.Print.{reason_word, reply_words, spaced, line_text};
+ghost use Rattle.bohm_text.specs.Print.{print_answer, print_numbered, print_replies, print_store};
+ghost use Rattle.bohm_txn.specs.ReplyRows.{reply_shown};
 
 use crate::printing::{put_entries, put_value};
 use bohm_tree::{Key, NoMemory, Value};
-use bohm_txn::{Reason, Reply};
+use bohm_txn::{Reason, Replies, ReplyView};
 use itoa::{Buffer, Integer};
 use std::alloc::Global;
 
@@ -39,44 +42,91 @@ fn put_shows(out: &mut Vec<u8>, shows: &[Value]) -> Result<(), NoMemory>
     Ok(())
 }
 
-fn put_reply(out: &mut Vec<u8>, number: u64, reply: &Reply) -> Result<(), NoMemory>
+fn put_reply(out: &mut Vec<u8>, number: u64, reply: ReplyView<'_>) -> Result<(), NoMemory>
     ensures { IfOk result
-        (λ _. out.new.items ≡ out.old.items ++ line_text (reply_words number reply.now)) }
+        (λ _. out.new.items
+        ≡ out.old.items ++ line_text (reply_words number (reply_shown reply.entry))) }
 {
     put_count(out, number)?;
     match reply {
-        Reply::Commit { shows } => {
+        ReplyView::Commit { shows } => {
             out.extend_from_slice(b" commit")?;
-            put_shows(out, shows.as_slice())?;
+            put_shows(out, shows)?;
         }
-        Reply::Abort { reason, stmt } => {
+        ReplyView::Abort { reason, stmt } => {
             out.extend_from_slice(b" abort ")?;
-            out.extend_from_slice(reason_text(*reason))?;
+            out.extend_from_slice(reason_text(reason))?;
             out.push(b' ')?;
-            put_count(out, *stmt)?;
+            put_count(out, stmt)?;
         }
     }
     Ok(())
 }
 
+fn put_replies(out: &mut Vec<u8>, first: u64, replies: &Replies) -> Result<(), NoMemory>
+    requires { first + length replies.now ≤ 2 ^ 64 }
+    ensures { IfOk result
+        (λ _. out.new.items ≡ out.old.items ++ print_numbered first replies.now) }
+{
+    for index in 0..replies.len() {
+        put_reply(out, first + index as u64, replies.get(index))?;
+        out.push(b'\n')?;
+    }
+    Ok(())
+}
+
+fn put_store(out: &mut Vec<u8>, entries: &[(Key, Value)]) -> Result<(), NoMemory>
+    ensures { IfOk result (λ _. out.new.items ≡ out.old.items ++ print_store entries.now) }
+{
+    out.extend_from_slice(b"--\n")?;
+    put_entries(out, entries)
+}
+
+/// The longest line of a reply without shows, with a number of ten digits.
+const REPLY_BYTES: usize = 27;
+
+/// The longest value, and the space before it.
+const VALUE_BYTES: usize = 21;
+
+/// The longest line of a key and a value.
+const ENTRY_BYTES: usize = 54;
+
+/// How many bytes the replies take at most, where their numbers are timestamps.
+fn most_bytes(replies: &Replies) -> usize
+    ensures { length replies.now < 2 ^ 64 }
+{
+    let lines = replies.len().saturating_mul(REPLY_BYTES);
+    lines.saturating_add(replies.most_shows().saturating_mul(VALUE_BYTES))
+}
+
+/// An empty text with room for so many bytes, so that it isn't copied as it grows. Where that much
+/// is refused it has none: the text may well be shorter.
+fn with_room(alloc: Global, bytes: usize) -> Vec<u8>
+    ensures { result.items ≡ [] }
+{
+    match Vec::with_capacity(alloc, bytes) {
+        Ok(text) => text,
+        Err(_) => Vec::new(alloc),
+    }
+}
+
 /// A line for each reply, numbered from 1. Its time and memory grow with the length of the text.
-pub fn print_replies(alloc: Global, replies: &[Reply]) -> Result<Vec<u8>, NoMemory>
+pub fn print_replies(alloc: Global, replies: &Replies) -> Result<Vec<u8>, NoMemory>
     ensures { IfOk result (λ text. text.items ≡ print_replies replies.now) }
 {
-    print_numbered(alloc, 1, replies)
+    let mut out = with_room(alloc, most_bytes(replies));
+    put_replies(&mut out, 1, replies)?;
+    Ok(out)
 }
 
 /// A line for each reply, numbered from a first number on: the replies of a log's later segment.
 /// Its time and memory grow with the length of the text.
-pub fn print_numbered(alloc: Global, first: u64, replies: &[Reply]) -> Result<Vec<u8>, NoMemory>
+pub fn print_numbered(alloc: Global, first: u64, replies: &Replies) -> Result<Vec<u8>, NoMemory>
     requires { first + length replies.now ≤ 2 ^ 64 }
     ensures { IfOk result (λ text. text.items ≡ print_numbered first replies.now) }
 {
-    let mut out = Vec::new(alloc);
-    for (index, reply) in replies.iter().enumerate() {
-        put_reply(&mut out, first + index as u64, reply)?;
-        out.push(b'\n')?;
-    }
+    let mut out = with_room(alloc, most_bytes(replies));
+    put_replies(&mut out, first, replies)?;
     Ok(out)
 }
 
@@ -85,7 +135,23 @@ pub fn print_numbered(alloc: Global, first: u64, replies: &[Reply]) -> Result<Ve
 pub fn print_store(alloc: Global, entries: &[(Key, Value)]) -> Result<Vec<u8>, NoMemory>
     ensures { IfOk result (λ text. text.items ≡ print_store entries.now) }
 {
-    let mut out = Vec::from_slice(alloc, b"--\n")?;
-    put_entries(&mut out, entries)?;
+    let mut out = with_room(alloc, entries.len().saturating_mul(ENTRY_BYTES));
+    put_store(&mut out, entries)?;
+    Ok(out)
+}
+
+/// A line for each reply, numbered from 1, and then the text of the store. Its time and memory grow
+/// with the length of the text.
+pub fn print_answer(
+    alloc: Global,
+    replies: &Replies,
+    entries: &[(Key, Value)],
+) -> Result<Vec<u8>, NoMemory>
+    ensures { IfOk result (λ text. text.items ≡ print_answer replies.now entries.now) }
+{
+    let store_bytes = entries.len().saturating_mul(ENTRY_BYTES);
+    let mut out = with_room(alloc, most_bytes(replies).saturating_add(store_bytes));
+    put_replies(&mut out, 1, replies)?;
+    put_store(&mut out, entries)?;
     Ok(out)
 }

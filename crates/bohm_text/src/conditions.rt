@@ -5,7 +5,8 @@ ghost use Rattle.bohm_text.specs.Reading.{cond_of};
 ghost use Rattle.bohm_text.specs.Taking.{TakesCond};
 
 use crate::fault::ReadFault;
-use crate::sums::{Stop, read_last_sum, read_sum};
+use crate::stops::Stop;
+use crate::sums::{read_last_sum, read_sum};
 use crate::words::Words;
 use bohm_log::{Draft, HashSeed};
 use bohm_tree::Cmp;

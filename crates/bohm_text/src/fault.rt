@@ -1,7 +1,5 @@
 //! Why a text could not be read.
 
-ghost use Rattle.std.specs.Prelude.{◌≡◌};
-
 use bohm_log::LogFault;
 use std::alloc::{AllocError, AllocFailed};
 

@@ -8,7 +8,8 @@ ghost use Rattle.bohm_text.specs.Tidy.{IsTidy};
 
 /// Two documents with one text are equal.
 pub fn one_text()
-    ensures { (d e : Document) → IsDocument d → IsDocument e → print_doc d ≡ print_doc e → d ≡ e }
+    ensures { (d e : Document) → IsDocument d → IsDocument e
+        → print_doc d ≡ print_doc e → d ≡ e }
 {}
 
 /// A document's text ends with a newline. A space stands only between two words of one line, so no

@@ -10,11 +10,12 @@ mod parsing;
 mod printing;
 mod reader;
 mod statements;
+mod stops;
 mod sums;
 mod terms;
 mod words;
 
-pub use answers::{print_numbered, print_replies, print_store};
+pub use answers::{print_answer, print_numbered, print_replies, print_store};
 pub use fault::TextFault;
 pub use parsing::{parse, parse_with_seed};
 pub use printing::print_doc;

@@ -1,6 +1,7 @@
 //! Reading a document from its text.
 
-ghost use Rattle.std.specs.Prelude.{◌≡◌, ℕ, IfOk, Err, IfSome, IfNone, ◌<◌, length, [], ◌∷◌, ◌++◌};
+ghost use Rattle.std.specs.Prelude.{◌≡◌, ℕ, IfOk, Err, IfSome, IfNone, ◌<◌, length, []};
+ghost use Rattle.std.specs.Prelude.{◌∷◌, ◌++◌};
 ghost use Rattle.bohm_tree.specs.Sound.{IsDocument};
 ghost use Rattle.bohm_text.specs.Cut.{whole_lines};
 ghost use Rattle.bohm_text.specs.Parse.{Reads, newline_in};

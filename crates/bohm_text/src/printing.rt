@@ -4,7 +4,8 @@ ghost use Rattle.std.specs.Prelude.{◌≡◌, ◌++◌, ◌∷◌, [], IfOk, ma
 ghost use Rattle.std.specs.List.{flat_map};
 ghost use Rattle.std.specs.Fmt.{signed_decimal};
 ghost use Rattle.bohm_log.specs.Seeing.{atom_shown, term_shown, cond_shown, guard_shown};
-ghost use Rattle.bohm_text.specs.Print.{atom_word, first_word, further_words, sum_words, cmp_word, cond_words};
+ghost use Rattle.bohm_text.specs.Print.{atom_word, first_word, further_words, sum_words, cmp_word};
+ghost use Rattle.bohm_text.specs.Print.{cond_words};
 ghost use Rattle.bohm_text.specs.Print.{guard_words, stmt_words, store_words, txn_lines, spaced};
 ghost use Rattle.bohm_text.specs.Print.{line_text, lines_text, print_doc};
 
@@ -105,7 +106,8 @@ fn put_key(out: &mut Vec<u8>, word: &[u8], key: Key) -> Result<(), NoMemory>
 }
 
 fn put_stmt(out: &mut Vec<u8>, stmt: &StmtView<'_>) -> Result<(), NoMemory>
-    ensures { IfOk result (λ _. out.new.items ≡ out.old.items ++ line_text (stmt_words stmt.now)) }
+    ensures { IfOk result
+        (λ _. out.new.items ≡ out.old.items ++ line_text (stmt_words stmt.now)) }
 {
     match stmt.parts() {
         StmtParts::Bind { name, sum } => {
@@ -161,7 +163,8 @@ fn put_body(out: &mut Vec<u8>, txn: &TxnView<'_>) -> Result<(), NoMemory>
 }
 
 fn put_txn(out: &mut Vec<u8>, txn: &TxnView<'_>) -> Result<(), NoMemory>
-    ensures { IfOk result (λ _. out.new.items ≡ out.old.items ++ lines_text (txn_lines txn.now)) }
+    ensures { IfOk result
+        (λ _. out.new.items ≡ out.old.items ++ lines_text (txn_lines txn.now)) }
 {
     out.extend_from_slice(b"txn\n")?;
     put_set(out, b"reads", &txn.reads())?;

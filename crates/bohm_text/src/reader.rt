@@ -3,7 +3,8 @@
 ghost use Rattle.std.specs.Prelude.{◌≡◌, OnOk, Some};
 ghost use Rattle.bohm_text.specs.Reading.{Gives, after};
 ghost use Rattle.bohm_text.specs.Cut.{split};
-ghost use Rattle.bohm_text.specs.Step.{Between, Feeds, IsReady, begun, head_of, progress_of, document_in, after_between, after_body, step};
+ghost use Rattle.bohm_text.specs.Step.{Between, Feeds, IsReady, begun, head_of, progress_of};
+ghost use Rattle.bohm_text.specs.Step.{document_in, after_between, after_body, step};
 ghost use Rattle.bohm_text.specs.declared.reader.Place.TheVariants as places;
 
 use crate::fault::ReadFault;

@@ -12,7 +12,8 @@ ghost use Rattle.bohm_text.specs.Taking.{Takes, TakesStmt, with_reads, with_term
 use crate::conditions::read_cond;
 use crate::fault::ReadFault;
 use crate::numbers::read_number;
-use crate::sums::{Stop, read_last_sum, read_sum};
+use crate::stops::Stop;
+use crate::sums::{read_last_sum, read_sum};
 use crate::words::Words;
 use bohm_log::{Draft, HashSeed};
 use bohm_tree::{Key, Value};

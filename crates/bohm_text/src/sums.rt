@@ -4,23 +4,14 @@ ghost use Rattle.std.specs.Prelude.{◌≡◌, OnOk, IfErr};
 ghost use Rattle.bohm_log.specs.Drafting.{with_term};
 ghost use Rattle.bohm_log.specs.Seeing.{atom_shown};
 ghost use Rattle.bohm_text.specs.declared.fault.ReadFault.TheVariants.{NoMemory};
-ghost use Rattle.bohm_text.specs.Reading.{last_sum, sum_from, terms_of};
-ghost use Rattle.bohm_text.specs.Taking.{Takes, TakesTerms, with_terms};
+ghost use Rattle.bohm_text.specs.Reading.{first_of, further_of, last_sum, sum_from, terms_of};
+ghost use Rattle.bohm_text.specs.Taking.{Takes, TakesTerms, with_one, with_terms};
 
 use crate::fault::ReadFault;
-use crate::terms::{read_first, read_further, read_sign, read_stop};
+use crate::stops::{Stop, read_stop};
+use crate::terms::{read_further, read_sign};
 use crate::words::Words;
 use bohm_log::{AtomParts, Draft, HashSeed, TermParts};
-use bohm_tree::Cmp;
-
-/// What stands after a sum.
-#[derive(Clone, Copy, Debug, PartialEq, Eq)]
-pub enum Stop {
-    /// The end of the line.
-    End,
-    When,
-    Compared(Cmp),
-}
 
 fn add_term(draft: &mut Draft<HashSeed>, term: TermParts) -> Result<(), ReadFault>
     ensures ok { OnOk result (draft.new ≡ with_term draft.old term.minus (atom_shown term.atom)) }
@@ -33,6 +24,37 @@ fn add_term(draft: &mut Draft<HashSeed>, term: TermParts) -> Result<(), ReadFaul
         AtomParts::Local(name) => draft.local(minus, name)?,
     }
     Ok(())
+}
+
+/// Adds the term of a word whose sign was read. A declared read that stands where it was found last
+/// is compared in place.
+fn take_term(draft: &mut Draft<HashSeed>, minus: bool, word: &[u8]) -> Result<(), ReadFault>
+    ensures { Takes result (further_of minus word.now) (with_one draft.old) draft.new }
+{
+    if draft.read_again(minus, word)? {
+        return Ok(());
+    }
+    let Some(term) = read_further(minus, word) else {
+        return Err(ReadFault::Bad);
+    };
+    add_term(draft, term)
+}
+
+/// Adds the first term, its sign at the atom.
+#[tactic(auto, unfolding(crate::specs::Reading::first_of, crate::specs::Reading::further_of))]
+fn take_first(draft: &mut Draft<HashSeed>, word: &[u8]) -> Result<(), ReadFault>
+    ensures { Takes result (first_of word.now) (with_one draft.old) draft.new }
+{
+    match word {
+        [] => Err(ReadFault::Bad),
+        [first, atom @ ..] => {
+            if *first == b'-' {
+                take_term(draft, true, atom)
+            } else {
+                take_term(draft, false, word)
+            }
+        }
+    }
 }
 
 /// Adds further terms, and answers what ends them.
@@ -49,10 +71,7 @@ fn read_terms(draft: &mut Draft<HashSeed>, words: &mut Words) -> Result<Stop, Re
         let Some(word) = words.next() else {
             return Err(ReadFault::Bad);
         };
-        let Some(term) = read_further(minus, word) else {
-            return Err(ReadFault::Bad);
-        };
-        add_term(draft, term)?;
+        take_term(draft, minus, word)?;
     }
     Ok(Stop::End)
 }
@@ -64,10 +83,7 @@ pub fn read_sum(draft: &mut Draft<HashSeed>, words: &mut Words) -> Result<Stop, 
     let Some(word) = words.next() else {
         return Err(ReadFault::Bad);
     };
-    let Some(first) = read_first(word) else {
-        return Err(ReadFault::Bad);
-    };
-    add_term(draft, first)?;
+    take_first(draft, word)?;
     read_terms(draft, words)
 }
 

@@ -10,10 +10,9 @@ use bohm_tree::{Cmp, Edition, Key};
 use std::alloc::Global;
 use std::hash::{BuildHasherDefault, FoldHasher};
 use std::process::Abort;
-use std::test::Fail;
 
-fn name(text: &str) -> Result<Key, Fail> {
-    Ok(Key::new(text.as_bytes()).ok_or("no name")?)
+fn name(rt: &impl Abort, text: &str) -> Key {
+    Key::new(text.as_bytes()).expect(rt, "a name")
 }
 
 /// Begins a transaction that reads a and b, and writes b.
@@ -139,40 +138,49 @@ fn assert_shapes(rt: &impl Abort, txn: &TxnView<'_>, want: &[(Option<Key>, usize
     }
 }
 
-#[test]
-fn sums_are_shown_again(rt: HostRuntime) -> Result<(), Fail> {
-    let (a, b, x) = (name("a")?, name("b")?, name("x")?);
-    let mut log = new_log(rt.alloc());
-    close_sums(&mut new_draft(rt.alloc()), &mut log, a, b, x)?;
+/// Asserts that a log has one transaction, whose statements have these shapes.
+fn assert_one(rt: &impl Abort, log: &Log, want: &[(Option<Key>, usize)]) {
     let part = log.part();
-    assert_eq!(rt; part.len(), 1);
-    if part.len() == 1 {
-        assert_shapes(&rt, &part.txn(0), [(Some(x), 2), (Some(a), 3)].as_slice());
-    }
-    Ok(())
+    let one = part.len() == 1;
+    assert!(rt; one);
+    assert_shapes(rt, &part.txn(0), want);
+}
+
+/// A log of the transaction whose statements have several terms.
+fn log_of_sums(rt: &impl Abort, alloc: Global, a: Key, b: Key, x: Key) -> Log {
+    let mut log = new_log(alloc);
+    close_sums(&mut new_draft(alloc), &mut log, a, b, x).expect(rt, "a log");
+    log
+}
+
+/// A log of the one with all other statements.
+fn log_of_others(rt: &impl Abort, alloc: Global, a: Key, b: Key) -> Log {
+    let mut log = new_log(alloc);
+    close_others(&mut new_draft(alloc), &mut log, a, b).expect(rt, "a log");
+    log
 }
 
 #[test]
-fn other_statements_are_shown_again(rt: HostRuntime) -> Result<(), Fail> {
-    let (a, b) = (name("a")?, name("b")?);
-    let mut log = new_log(rt.alloc());
-    close_others(&mut new_draft(rt.alloc()), &mut log, a, b)?;
-    let part = log.part();
-    assert_eq!(rt; part.len(), 1);
-    if part.len() == 1 {
-        let (on_a, on_b) = ((Some(a), 0), (Some(b), 0));
-        let want = [
-            on_a,
-            on_b,
-            (None, 2),
-            (Some(b), 1),
-            on_b,
-            (None, 1),
-            (None, 0),
-        ];
-        assert_shapes(&rt, &part.txn(0), want.as_slice());
-    }
-    Ok(())
+fn sums_are_shown_again(rt: HostRuntime) {
+    let (a, b, x) = (name(&rt, "a"), name(&rt, "b"), name(&rt, "x"));
+    let log = log_of_sums(&rt, rt.alloc(), a, b, x);
+    assert_one(&rt, &log, &[(Some(x), 2), (Some(a), 3)]);
+}
+
+#[test]
+fn other_statements_are_shown_again(rt: HostRuntime) {
+    let (a, b) = (name(&rt, "a"), name(&rt, "b"));
+    let log = log_of_others(&rt, rt.alloc(), a, b);
+    let want = [
+        (Some(a), 0),
+        (Some(b), 0),
+        (None, 2),
+        (Some(b), 1),
+        (Some(b), 0),
+        (None, 1),
+        (None, 0),
+    ];
+    assert_one(&rt, &log, want.as_slice());
 }
 
 fn assert_places(rt: &impl Abort, placed: &PlacedTxn<'_>, others: &[Key]) {
@@ -185,20 +193,25 @@ fn assert_places(rt: &impl Abort, placed: &PlacedTxn<'_>, others: &[Key]) {
 }
 
 #[test]
-fn a_transaction_has_places(rt: HostRuntime) -> Result<(), Fail> {
-    let (a, b, x) = (name("a")?, name("b")?, name("x")?);
-    let mut log = new_log(rt.alloc());
-    close_sums(&mut new_draft(rt.alloc()), &mut log, a, b, x)?;
+fn a_transaction_has_places(rt: HostRuntime) {
+    let (a, b, x) = (name(&rt, "a"), name(&rt, "b"), name(&rt, "x"));
+    let log = log_of_sums(&rt, rt.alloc(), a, b, x);
     let part = log.part();
-    if part.len() == 1 {
-        assert_places(&rt, &part.txn(0).placed(), [x, a].as_slice());
-    }
-    Ok(())
+    let one = part.len() == 1;
+    assert!(rt; one);
+    assert_places(&rt, &part.txn(0).placed(), &[x, a]);
 }
 
 fn close_both(draft: &mut Draft, log: &mut Log, a: Key, b: Key) -> Result<(), LogFault> {
     close_sums(draft, log, b, a, a)?;
     close_others(draft, log, a, b)
+}
+
+/// A log of both, which begins with b.
+fn log_of_both(rt: &impl Abort, alloc: Global, a: Key, b: Key) -> Log {
+    let mut log = new_log(alloc);
+    close_both(&mut new_draft(alloc), &mut log, a, b).expect(rt, "a log");
+    log
 }
 
 fn assert_numbers(rt: &impl Abort, keys: &DeclaredKeys<'_>, names: &[Key]) {
@@ -211,33 +224,31 @@ fn assert_numbers(rt: &impl Abort, keys: &DeclaredKeys<'_>, names: &[Key]) {
 
 /// The second of two transactions alone; its keys keep their numbers.
 #[test]
-fn a_part_keeps_its_numbers(rt: HostRuntime) -> Result<(), Fail> {
-    let (a, b) = (name("a")?, name("b")?);
-    let mut log = new_log(rt.alloc());
-    close_both(&mut new_draft(rt.alloc()), &mut log, a, b)?;
+fn a_part_keeps_its_numbers(rt: HostRuntime) {
+    let (a, b) = (name(&rt, "a"), name(&rt, "b"));
+    let log = log_of_both(&rt, rt.alloc(), a, b);
     let part = log.part();
-    if part.len() == 2 {
-        assert_numbers(&rt, &part.between(1, 2).keys(), [b, a].as_slice());
-    }
-    Ok(())
+    let two = part.len() == 2;
+    assert!(rt; two);
+    assert_numbers(&rt, &part.between(1, 2).keys(), &[b, a]);
 }
 
 #[test]
-fn names_have_numbers(rt: HostRuntime) -> Result<(), Fail> {
-    let (a, b) = (name("a")?, name("b")?);
+fn names_have_numbers(rt: HostRuntime) {
+    let (a, b) = (name(&rt, "a"), name(&rt, "b"));
     let mut names = Names::new(rt.alloc(), BuildHasherDefault::<FoldHasher>::new());
     for (name, number) in [(b, 0), (a, 1), (b, 0)] {
-        assert_eq!(rt; names.id(name)?, number);
+        let id = names.id(name).expect(&rt, "memory");
+        assert_eq!(rt; id, number);
     }
     assert_eq!(rt; names.find(&a), Some(1));
     names.clear();
     assert_eq!(rt; names.find(&a), None);
-    Ok(())
 }
 
 /// Names are ordered by their bytes, a shorter one before what it begins.
 #[test]
-fn names_are_ordered(rt: HostRuntime) -> Result<(), Fail> {
+fn names_are_ordered(rt: HostRuntime) {
     for (low, high) in [
         ("a", "a0"),
         ("a0", "a_"),
@@ -245,17 +256,16 @@ fn names_are_ordered(rt: HostRuntime) -> Result<(), Fail> {
         ("abcdefgh", "abcdefgh0"),
         ("abcdefgh0", "abcdefgi"),
     ] {
-        assert!(rt; name(low)? < name(high)?, "{low} {high}");
+        let rises = name(&rt, low) < name(&rt, high);
+        assert!(rt; rises, "{low} {high}");
     }
-    Ok(())
 }
 
 #[test]
-fn names_are_short_words(rt: HostRuntime) -> Result<(), Fail> {
+fn names_are_short_words(rt: HostRuntime) {
     let longest = "abcdefghijklmnopqrstuvwxyz012345";
-    assert_eq!(rt; name(longest)?.text().as_slice(), longest.as_bytes());
+    assert_eq!(rt; name(&rt, longest).text().as_slice(), longest.as_bytes());
     for none in ["", "0", "A", "a-", "abcdefghijklmnopqrstuvwxyz0123456"] {
         assert_eq!(rt; Key::new(none.as_bytes()), None);
     }
-    Ok(())
 }

@@ -6,7 +6,6 @@ use bohm_log::{AtomKind, PlacedTxn, StmtRow};
 use bohm_text::parse;
 use bohm_tree::NoMemory;
 use std::process::Abort;
-use std::test::Fail;
 
 /// Each term of the statement's sums reads the key at this place among the declared reads.
 fn assert_row(rt: &impl Abort, txn: &PlacedTxn<'_>, row: StmtRow, place: u32)
@@ -38,23 +37,23 @@ end
 ";
 
 /// They find it where it stands among the reads.
-#[test]
-fn terms_find_their_keys(rt: HostRuntime) -> Result<(), Fail> {
-    let doc = parse(rt.alloc(), READING)?;
-    let log = doc.log();
-    assert_eq!(rt; log.len(), 1);
-    if log.len() == 1 {
-        let txn = log.txn(0).placed();
-        let ends = txn.rows().iter().map(|row| row.third);
-        assert!(rt; ends.eq([1, 3, 4, 7, 9]));
-        assert_txn(&rt, &txn, 2);
-    }
-    Ok(())
+fn assert_reading(rt: &impl Abort, txn: &PlacedTxn<'_>) {
+    let ends = txn.rows().iter().map(|row| row.third);
+    assert!(rt; ends.eq([1, 3, 4, 7, 9]));
+    assert_txn(rt, txn, 2);
 }
 
 #[test]
-fn want_of_memory_has_a_text(rt: HostRuntime) -> Result<(), Fail> {
-    let text = format!(in rt.alloc(); "{NoMemory}")?;
+fn terms_find_their_keys(rt: HostRuntime) {
+    let doc = parse(rt.alloc(), READING).expect(&rt, "a document");
+    let log = doc.log();
+    let one = log.len() == 1;
+    assert!(rt; one);
+    assert_reading(&rt, &log.txn(0).placed());
+}
+
+#[test]
+fn want_of_memory_has_a_text(rt: HostRuntime) {
+    let text = format!(in rt.alloc(); "{NoMemory}").expect(&rt, "memory");
     assert_eq!(rt; text.as_str(), "out of memory");
-    Ok(())
 }

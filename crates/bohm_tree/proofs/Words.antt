@@ -1,5 +1,5 @@
 -- The order of names as words.
-use Rattle.std.proofs.Common.{◌≡◌, ℕ, zero, suc, ◌+◌, ◌*◌, ◌^◌, ◌<◌, ◌≤◌, List, [], ◌∷◌, ◌++◌, length, take, drop, refl, ap, sym, ◌∙◌, subst, arith}
+use Rattle.std.proofs.Common.{◌≡◌, ℕ, zero, suc, ◌+◌, ◌-◌, ◌*◌, ◌^◌, ◌<◌, ◌≤◌, List, [], ◌∷◌, ◌++◌, length, take, drop, refl, ap, sym, ◌∙◌, subst, arith}
 use Rattle.std.specs.List.{AllByRecursion}
 use Rattle.std.specs.Int.{w64, from_be_bytes}
 use Rattle.std.specs.Ordering.{nat_cmp, ordering_then, is_eq, MatchOrdering}
@@ -8,17 +8,22 @@ use Rattle.std.specs.declared.cmp.Ordering.TheVariants.{Less, Equal, Greater}
 use Rattle.std.specs.Cmp.{nat_cmp_is, ranks}
 use Rattle.std.specs.Cmp.Lexicographic.{slice_cmp}
 use Rattle.std.specs.Str.{bytes_eq}
-use Rattle.std.proofs.lemmas.List.{take-append-drop, length-take, length-drop, drop-drop, drop-replicate}
+use Rattle.std.proofs.lemmas.List.{take-append-drop, length-take, length-drop, drop_all}
 use Rattle.std.proofs.lemmas.Nat.{mul-add-lt}
 use Rattle.std.proofs.lemmas.Map.Text.{is_eq-slice_cmp}
+use Rattle.std.proofs.lemmas.Slice.Eq.{bytes_eq-Decides}
+use Rattle.std.proofs.lemmas.Bool.Decides.{same_from_decides}
+use Rattle.std.proofs.Math.Seq.{take-append_seam}
+use Rattle.std.specs.Cmp.{unsigned_Decides}
+use Rattle.std.specs.Prelude.{nat_eq}
 use Rattle.std.proofs.Math.Nat.{mul_comm, pow-succ'}
 use Rattle.std.proofs.Common.{true, Some, replicate}
 use Rattle.bohm_tree.specs.Name.{is_name, key_of}
 use Rattle.bohm_tree.specs.KeyInside.{IsWorded, name_of}
 use Rattle.bohm_tree.specs.Shortness.{short}
 use Rattle.bohm_tree.specs.declared.key.Key.TheInside.{Inside}
-use Rattle.bohm_tree.specs.Words.{padded, words, words_of, IsFilled, IsShort}
-use Rattle.bohm_tree.specs.Spreading.{AreBytes, padded-length, padded-bytes, padded-behind, bytes-drop, bytes-take, named}
+use Rattle.bohm_tree.specs.Words.{padded, words, spread, words_of, IsFilled, IsShort}
+use Rattle.bohm_tree.specs.Spreading.{AreBytes, padded-length, padded-bytes, padded-behind, bytes-none, bytes-more, bytes-drop, bytes-take, spread-words, named}
 
 -- ---- order
 
@@ -148,20 +153,86 @@ same_order k l h g =
 
 -- ---- a new name
 
-pub filled_up : (name : List ℕ) → length name ≤ 32 → name ++ drop (length name) (replicate 32 0) ≡ padded 32 name
-filled_up name h = ap (λ zs. name ++ zs) (drop-replicate (length name) 32 0) ∙ sym (padded-behind 32 name h)
+take-padded : (n : ℕ) (xs : List ℕ) → take 8 (padded (suc (suc (suc (suc (suc (suc (suc (suc n)))))))) xs) ≡ padded 8 xs
+take-padded n [] = refl
+take-padded n (a ∷ []) = refl
+take-padded n (a ∷ b ∷ []) = refl
+take-padded n (a ∷ b ∷ c ∷ []) = refl
+take-padded n (a ∷ b ∷ c ∷ d ∷ []) = refl
+take-padded n (a ∷ b ∷ c ∷ d ∷ e ∷ []) = refl
+take-padded n (a ∷ b ∷ c ∷ d ∷ e ∷ f ∷ []) = refl
+take-padded n (a ∷ b ∷ c ∷ d ∷ e ∷ f ∷ g ∷ []) = refl
+take-padded n (a ∷ b ∷ c ∷ d ∷ e ∷ f ∷ g ∷ h ∷ xs) = refl
+
+drop-padded : (n : ℕ) (xs : List ℕ) → drop 8 (padded (suc (suc (suc (suc (suc (suc (suc (suc n)))))))) xs) ≡ padded n (drop 8 xs)
+drop-padded n [] = refl
+drop-padded n (a ∷ []) = refl
+drop-padded n (a ∷ b ∷ []) = refl
+drop-padded n (a ∷ b ∷ c ∷ []) = refl
+drop-padded n (a ∷ b ∷ c ∷ d ∷ []) = refl
+drop-padded n (a ∷ b ∷ c ∷ d ∷ e ∷ []) = refl
+drop-padded n (a ∷ b ∷ c ∷ d ∷ e ∷ f ∷ []) = refl
+drop-padded n (a ∷ b ∷ c ∷ d ∷ e ∷ f ∷ g ∷ []) = refl
+drop-padded n (a ∷ b ∷ c ∷ d ∷ e ∷ f ∷ g ∷ h ∷ xs) = refl
 
 abbrev word_in : List ℕ → ℕ
-word_in xs = from_be_bytes w64 (take 8 xs)
+word_in xs = from_be_bytes w64 (padded 8 xs)
 
-pub four_words : (name bs : List ℕ) (a b c d : ℕ) → bs ≡ padded 32 name → a ≡ from_be_bytes w64 (take 8 (drop 0 bs)) → b ≡ from_be_bytes w64 (take 8 (drop 8 bs)) → c ≡ from_be_bytes w64 (take 8 (drop 16 bs)) → d ≡ from_be_bytes w64 (take 8 (drop 24 bs)) → a ∷ b ∷ c ∷ d ∷ [] ≡ words_of name
-four_words name bs a b c d t p q r s =
-    let e : drop 8 (drop 8 bs) ≡ drop 16 bs = drop-drop 8 8 bs in
-    let f : drop 8 (drop 8 (drop 8 bs)) ≡ drop 24 bs = ap (drop 8) e ∙ drop-drop 8 16 bs in
-    let third : c ≡ word_in (drop 8 (drop 8 bs)) = r ∙ ap word_in (sym e) in
-    let fourth : d ≡ word_in (drop 8 (drop 8 (drop 8 bs))) = s ∙ ap word_in (sym f) in
-    (λ i. p i ∷ q i ∷ third i ∷ fourth i ∷ []) ∙ ap (words 4) t
+first_of_words : (m n : ℕ) (xs : List ℕ) → words (suc m) (padded (suc (suc (suc (suc (suc (suc (suc (suc n)))))))) xs) ≡ word_in xs ∷ words m (padded n (drop 8 xs))
+first_of_words m n xs = λ i. from_be_bytes w64 (take-padded n xs i) ∷ words m (drop-padded n xs i)
+
+pub four_words : (name u v w : List ℕ) (a b c d : ℕ) → u ≡ drop 8 name → v ≡ drop 8 u → w ≡ drop 8 v → a ≡ from_be_bytes w64 (padded 8 name) → b ≡ from_be_bytes w64 (padded 8 u) → c ≡ from_be_bytes w64 (padded 8 v) → d ≡ from_be_bytes w64 (padded 8 w) → a ∷ b ∷ c ∷ d ∷ [] ≡ words_of name
+four_words name u v w a b c d p q r e f g h =
+    let fourth : word_in w ∷ [] ≡ words 1 (padded 8 w) = sym (first_of_words 0 0 w) in
+    let third : word_in v ∷ words 1 (padded 8 w) ≡ words 2 (padded 16 v) = ap (λ x. word_in v ∷ words 1 (padded 8 x)) r ∙ sym (first_of_words 1 8 v) in
+    let second : word_in u ∷ words 2 (padded 16 v) ≡ words 3 (padded 24 u) = ap (λ x. word_in u ∷ words 2 (padded 16 x)) q ∙ sym (first_of_words 2 16 u) in
+    let first : word_in name ∷ words 3 (padded 24 u) ≡ words 4 (padded 32 name) = ap (λ x. word_in name ∷ words 3 (padded 24 x)) p ∙ sym (first_of_words 3 24 name) in
+    (λ i. e i ∷ f i ∷ g i ∷ h i ∷ [])
+    ∙ ap (λ ws. word_in name ∷ word_in u ∷ word_in v ∷ ws) fourth
+    ∙ ap (λ ws. word_in name ∷ word_in u ∷ ws) third
+    ∙ ap (λ ws. word_in name ∷ ws) second
+    ∙ first
+
+pub one_word : (name : List ℕ) (a : ℕ) → length name ≤ 8 → a ≡ from_be_bytes w64 (padded 8 name) → a ∷ 0 ∷ 0 ∷ 0 ∷ [] ≡ words_of name
+one_word name a h e =
+    let none : [] ≡ drop 8 name = sym (drop_all 8 name h) in
+    four_words name [] [] [] a 0 0 0 none refl refl e refl refl refl
 
 pub new_name : (name ws : List ℕ) → true ≡ is_name name → ws ≡ words_of name → Some (name_of (record { words = ws })) ≡ key_of name
 unfolding name_of
 new_name name ws e made = rw (sym e) (ap Some (named ws name (short name (sym e)) made))
+
+-- ---- a name that is compared in place
+
+front : (n : ℕ) (xs : List ℕ) → length xs ≤ n → take (length xs) (padded n xs) ≡ xs
+front n xs h = ap (take (length xs)) (padded-behind n xs h) ∙ take-append_seam xs (replicate (n - length xs) 0)
+
+same_front : (n : ℕ) (xs ys : List ℕ) → length xs ≤ n → length xs ≡ length ys → padded n xs ≡ padded n ys → xs ≡ ys
+same_front n xs ys h e p = sym (front n xs h) ∙ (λ i. take (e i) (p i)) ∙ front n ys (omega (arith, h, e))
+
+padded_any : (n : ℕ) (bs : List ℕ) → AreBytes bs → AreBytes (padded n bs)
+padded_any zero bs f = bytes-none
+padded_any (suc n) [] f = bytes-more 0 (padded n []) (omega arith) (padded_any n [] f)
+padded_any (suc n) (x ∷ xs) f = bytes-more x (padded n xs) (f 0) (padded_any n xs (λ i. f (suc i)))
+
+pub named_by : (k : Inside) (h : IsWorded k) (name : List ℕ) → AreBytes name → length h.name ≡ length name → bytes_eq k.words (words_of name) ≡ bytes_eq (name_of k) name
+named_by k h name f e = same_from_decides (bytes_eq k.words (words_of name)) (bytes_eq (name_of k) name) (there, back) (bytes_eq-Decides (name_of k) name)
+  where
+    there : bytes_eq k.words (words_of name) ≡ true → name_of k ≡ name
+    there t =
+        let s = short h.name h.is in
+        let w : words_of h.name ≡ words_of name = sym h.made ∙ (bytes_eq-Decides k.words (words_of name)).0 t in
+        let p : padded 32 h.name ≡ padded 32 name = sym (spread-words 4 (padded 32 h.name) (padded-length 32 h.name) (padded-bytes 32 h.name s.filled)) ∙ ap spread w ∙ spread-words 4 (padded 32 name) (padded-length 32 name) (padded_any 32 name f) in
+        sym (named_by_it k h) ∙ same_front 32 h.name name s.few e p
+
+    back : name_of k ≡ name → bytes_eq k.words (words_of name) ≡ true
+    back q = (bytes_eq-Decides k.words (words_of name)).1 (h.made ∙ ap words_of (named_by_it k h ∙ q))
+
+pub other_size : (k : Inside) (h : IsWorded k) (name : List ℕ) (n : ℕ) → n ≡ length h.name → (length name ≡ n → ⊥) → nat_eq (length name) n ≡ bytes_eq (name_of k) name
+other_size k h name n e apart = same_from_decides (nat_eq (length name) n) (bytes_eq (name_of k) name) (there, back) (bytes_eq-Decides (name_of k) name)
+  where
+    there : nat_eq (length name) n ≡ true → name_of k ≡ name
+    there t = absurd (apart ((unsigned_Decides (length name) n).0 t))
+
+    back : name_of k ≡ name → nat_eq (length name) n ≡ true
+    back q = absurd (apart (sym (ap length (named_by_it k h ∙ q)) ∙ sym e))

@@ -1,4 +1,5 @@
 pub mod Name
+pub mod Keys
 pub mod Words
 pub mod Spreading
 pub mod Shortness

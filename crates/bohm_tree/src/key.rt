@@ -1,14 +1,18 @@
 //! Keys and names of locals.
 
-ghost use Rattle.std.specs.Prelude.{◌≡◌, ◌<◌, ◌≤◌, ◌+◌, ◌/◌, List, ℕ, Some, IfSome, true, length, nat_eq, take, drop};
+ghost use Rattle.std.specs.Prelude.{◌≡◌, ◌<◌, ◌≤◌, ◌/◌, List, ℕ, Some};
+ghost use Rattle.std.specs.Prelude.{IfSome, true, length, nat_eq, drop};
 ghost use Rattle.std.specs.Ordering.{nat_cmp};
 ghost use Rattle.std.specs.Cmp.{partial_equiv_from_equiv};
-ghost use Rattle.std.specs.Cmp.Lexicographic.{pointwise, slice_cmp, nat_list_eq_equiv, nat_list_cmp_total, texts_ties, texts_po};
+ghost use Rattle.std.specs.Cmp.Lexicographic.{pointwise, slice_cmp, nat_list_eq_equiv};
+ghost use Rattle.std.specs.Cmp.Lexicographic.{nat_list_cmp_total, texts_ties, texts_po};
 ghost use Rattle.std.proofs.Common.{refl};
 ghost use Rattle.std.specs.Int.{w64, from_be_bytes, trailing_zeros};
 ghost use Rattle.std.specs.List.{list_all};
-ghost use Rattle.bohm_tree.specs.Name.{key_of, is_name, is_name_byte, place};
+ghost use Rattle.std.specs.Str.{bytes_eq};
+ghost use Rattle.bohm_tree.specs.Name.{key_of, is_name, is_name_byte};
 ghost use Rattle.bohm_tree.specs.Words.{padded, words_of, spread};
+ghost use Rattle.bohm_tree.specs.Keys.{place};
 
 use std::cmp::Ordering;
 use std::hash::{Hash, Hasher};
@@ -38,10 +42,18 @@ impl Model for Key {
     ghost inverse_ok = { worded_ok };
 }
 
+/// By byte: itself where a name may have it, and else another one, `_`.
+const NAME_BYTES: [u8; 256] = *b"\
+    ________________________________________________0123456789______\
+    _________________________________abcdefghijklmnopqrstuvwxyz_____\
+    ________________________________________________________________\
+    ________________________________________________________________";
+
+#[tactic(auto, using(crate::proofs::NameBytes::in_table))]
 fn is_name_byte(byte: u8) -> bool
     ensures { result ≡ is_name_byte byte }
 {
-    byte.is_ascii_lowercase() || byte.is_ascii_digit() || byte == b'_'
+    NAME_BYTES[byte as usize] == byte
 }
 
 fn are_name_bytes(bytes: &[u8]) -> bool
@@ -50,6 +62,7 @@ fn are_name_bytes(bytes: &[u8]) -> bool
     bytes.iter().all(|byte| is_name_byte(*byte))
 }
 
+#[inline(always)]
 fn is_name(name: &[u8]) -> bool
     ensures { result ≡ is_name name.now }
 {
@@ -61,47 +74,57 @@ fn is_name(name: &[u8]) -> bool
     }
 }
 
-/// The word of the 8 bytes from a place on.
-fn word_at(bytes: &[u8], from: usize) -> u64
-    requires { from + 8 ≤ length bytes.now }
-    ensures { result ≡ from_be_bytes w64 (take 8 (drop from bytes.now)) }
+/// The word of the first 8 bytes, with zeros behind where there are fewer. No room in memory is
+/// filled with them: most names are short.
+#[inline(always)]
+fn first_word(bytes: &[u8]) -> u64
+    ensures { result ≡ from_be_bytes w64 (padded 8 bytes.now) }
 {
-    u64::from_be_bytes([
-        bytes[from],
-        bytes[from + 1],
-        bytes[from + 2],
-        bytes[from + 3],
-        bytes[from + 4],
-        bytes[from + 5],
-        bytes[from + 6],
-        bytes[from + 7],
-    ])
+    match bytes {
+        [] => 0,
+        [a] => u64::from_be_bytes([*a, 0, 0, 0, 0, 0, 0, 0]),
+        [a, b] => u64::from_be_bytes([*a, *b, 0, 0, 0, 0, 0, 0]),
+        [a, b, c] => u64::from_be_bytes([*a, *b, *c, 0, 0, 0, 0, 0]),
+        [a, b, c, d] => u64::from_be_bytes([*a, *b, *c, *d, 0, 0, 0, 0]),
+        [a, b, c, d, e] => u64::from_be_bytes([*a, *b, *c, *d, *e, 0, 0, 0]),
+        [a, b, c, d, e, f] => u64::from_be_bytes([*a, *b, *c, *d, *e, *f, 0, 0]),
+        [a, b, c, d, e, f, g] => u64::from_be_bytes([*a, *b, *c, *d, *e, *f, *g, 0]),
+        [a, b, c, d, e, f, g, h, ..] => { u64::from_be_bytes([*a, *b, *c, *d, *e, *f, *g, *h]) }
+    }
 }
 
-/// The bytes of a name with zeros behind.
-#[tactic(auto, using(crate::proofs::Words::filled_up))]
-fn padded(name: &[u8]) -> [u8; 32]
-    requires { length name.now ≤ 32 }
-    ensures { result ≡ padded 32 name.now }
+/// The bytes behind the first 8.
+fn behind(bytes: &[u8]) -> &[u8]
+    ensures { result.now ≡ drop 8 bytes.now }
 {
-    let mut bytes = [0; 32];
-    bytes[..name.len()].copy_from_slice(name);
-    bytes
+    if bytes.len() <= 8 { &[] } else { &bytes[8..] }
 }
 
-/// The words of a name.
-#[tactic(auto, using(crate::proofs::Words::four_words))]
-fn words_of(name: &[u8]) -> [u64; 4]
-    requires { length name.now ≤ 32 }
+/// The words of a name of more than 8 bytes.
+fn long_words_of(name: &[u8]) -> [u64; 4]
     ensures { result ≡ words_of name.now }
 {
-    let bytes = padded(name);
+    let second = behind(name);
+    let third = behind(second);
+    let fourth = behind(third);
     [
-        word_at(bytes.as_slice(), 0),
-        word_at(bytes.as_slice(), 8),
-        word_at(bytes.as_slice(), 16),
-        word_at(bytes.as_slice(), 24),
+        first_word(name),
+        first_word(second),
+        first_word(third),
+        first_word(fourth),
     ]
+}
+
+/// The words of a name. Most names have one.
+#[inline(always)]
+#[tactic(auto, using(crate::proofs::Words::one_word))]
+pub(crate) fn words_of(name: &[u8]) -> [u64; 4]
+    ensures { result ≡ words_of name.now }
+{
+    if name.len() > 8 {
+        return long_words_of(name);
+    }
+    [first_word(name), 0, 0, 0]
 }
 
 /// The bytes of four words.
@@ -141,6 +164,15 @@ fn size_of(words: &[u64; 4]) -> usize
     8 - zeros_behind(words[0])
 }
 
+/// A number below 256 for these words.
+#[inline(always)]
+pub(crate) fn glance_at(words: &[u64; 4]) -> usize
+    ensures { result < 256 }
+{
+    let word = words[0] ^ words[1] ^ words[2] ^ words[3];
+    (word.wrapping_mul(0x9e37_79b9_7f4a_7c15) >> 56) as usize
+}
+
 /// The bytes of a name, in a room of their own.
 #[derive(Debug, Drop)]
 pub struct KeyText {
@@ -170,6 +202,7 @@ impl KeyText {
 
 impl Key {
     /// The key of this name, if it is one.
+    #[inline(always)]
     #[tactic(auto, using(crate::proofs::Words::new_name))]
     pub fn new(name: &[u8]) -> Option<Key>
         ensures { result ≡ key_of name.now }
@@ -183,7 +216,7 @@ impl Key {
     }
 
     /// Its bytes. They are those of a name.
-    #[tactic(auto, using(crate::proofs::Words::is_a_name), unfolding(crate::specs::KeyInside::name_of))]
+    #[tactic(auto, unfolding(crate::specs::KeyInside::name_of))]
     pub fn text(&self) -> KeyText
         ensures same { result ≡ self.now }
         ensures name { is_name result ≡ true }
@@ -192,6 +225,24 @@ impl Key {
             bytes: spread(&self.words),
             size: size_of(&self.words),
         }
+    }
+
+    /// Whether a word, which was packed into these words, is its name. No key is made of it.
+    #[inline(always)]
+    pub(crate) fn is_packed(&self, word: &[u8], words: &[u64; 4]) -> bool
+        requires { words.now ≡ words_of word.now }
+        ensures same { result ≡ bytes_eq self.now word.now }
+        ensures name { result ≡ true → is_name word.now ≡ true }
+    {
+        word.len() == size_of(&self.words) && self.words == *words
+    }
+
+    /// A number below 256 that equal keys share.
+    #[inline(always)]
+    pub(crate) fn glance(&self) -> usize
+        ensures { result < 256 }
+    {
+        glance_at(&self.words)
     }
 
     /// Its first place among these, if it is one of them. The time grows with their number.

@@ -5,6 +5,7 @@
 mod cell;
 mod cmp;
 mod edition;
+mod glances;
 mod items;
 mod key;
 mod limits;
@@ -13,6 +14,7 @@ mod memory;
 pub use cell::{Cell, Value};
 pub use cmp::Cmp;
 pub use edition::Edition;
+pub use glances::Glances;
 pub use items::Items;
 pub use key::{Key, KeyText};
 pub use limits::{

@@ -2,11 +2,12 @@
 
 ghost use Rattle.std.specs.Prelude.{◌<◌, length};
 
+use crate::runs::checked;
 use bohm_run::Settings;
-use bohm_text::parse;
-use bohm_txn::{Checked, NoMemory, check};
+use bohm_tree::NoMemory;
+use bohm_txn::Checked;
 use std::alloc::Global;
-use std::test::Fail;
+use std::process::Abort;
 
 /// Numbers that a seed determines.
 #[derive(Clone, Copy)]
@@ -38,13 +39,13 @@ impl Draws {
     }
 
     /// Settings of up to four workers on each side.
-    pub fn settings(&mut self) -> Result<Settings, Fail> {
+    pub fn settings(&mut self) -> Option<Settings> {
         let cc = one_of(self, &[1, 2, 3, 4]);
         let exec = one_of(self, &[1, 2, 3, 4]);
         let parts = one_of(self, &[1, 2, 7, 64]);
         let batch = one_of(self, &[1, 3, 7, 4096]);
         let keep = one_of(self, &[0, 1, 3, 4096]);
-        Ok(Settings::new(cc, exec, parts, batch, keep, None).ok_or("settings")?)
+        Settings::new(cc, exec, parts, batch, keep, None)
     }
 }
 
@@ -203,25 +204,26 @@ fn put_keys(text: &mut Vec<u8>, word: &[u8], keys: &[u8]) -> Result<(), NoMemory
 }
 
 /// A transaction, which declares a key more than it names, now and then.
-fn put_txn(
-    alloc: Global,
-    text: &mut Vec<u8>,
-    draws: &mut Draws,
-    keys: &[u8; 6],
-) -> Result<(), NoMemory> {
+fn put_txn(rt: &impl Abort, alloc: Global, text: &mut Vec<u8>, draws: &mut Draws, keys: &[u8; 6]) {
     let mut body = Vec::new(alloc);
     let mut named = Named {
         read: Vec::new(alloc),
         written: Vec::new(alloc),
     };
-    put_body(&mut body, &mut named, draws, keys)?;
+    put_body(&mut body, &mut named, draws, keys).expect(rt, "memory");
     if draws.below(3) == 0 {
-        named.written.push(one_of(draws, keys))?;
+        let key = one_of(draws, keys);
+        named.written.push(key).ok().expect(rt, "memory");
     }
+    put_parts(text, &named, body.as_slice()).expect(rt, "memory");
+}
+
+/// A transaction of these keys and this body.
+fn put_parts(text: &mut Vec<u8>, named: &Named, body: &[u8]) -> Result<(), NoMemory> {
     text.extend_from_slice(b"txn\n")?;
     put_keys(text, b"reads", named.read.as_slice())?;
     put_keys(text, b"writes", named.written.as_slice())?;
-    text.extend_from_slice(body.as_slice())?;
+    text.extend_from_slice(body)?;
     text.extend_from_slice(b"end\n")?;
     Ok(())
 }
@@ -239,14 +241,14 @@ fn put_store(text: &mut Vec<u8>, draws: &mut Draws) -> Result<(), NoMemory> {
 }
 
 /// The first so many transactions of the log that the seed determines.
-pub fn drawn(alloc: Global, seed: u32, count: u32) -> Result<Checked, Fail> {
+pub fn drawn(rt: &impl Abort, alloc: Global, seed: u32, count: u32) -> Checked {
     let mut draws = Draws::new(seed);
     let keys = one_of(&mut draws, &KEYS);
     let head = one_of(&mut draws, &[b"log 1\n", b"log 2\n"]);
-    let mut text = Vec::from_slice(alloc, head)?;
-    put_store(&mut text, &mut draws)?;
+    let mut text = Vec::from_slice(alloc, head).expect(rt, "memory");
+    put_store(&mut text, &mut draws).expect(rt, "memory");
     for _ in 0..count {
-        put_txn(alloc, &mut text, &mut draws, &keys)?;
+        put_txn(rt, alloc, &mut text, &mut draws, &keys);
     }
-    Ok(check(parse(alloc, text.as_slice())?)?)
+    checked(rt, alloc, text.as_slice())
 }

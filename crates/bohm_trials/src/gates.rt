@@ -7,7 +7,6 @@ use std::process::Abort;
 use std::random::RandomSource;
 use std::sync::Wait;
 use std::sync::atomic::{AtomicU64, Ordering};
-use std::test::Fail;
 use std::thread;
 use std::thread::Threads;
 
@@ -64,6 +63,14 @@ impl Gate for Holds<'_> {
     }
 }
 
+/// Each held thread saw what it waited for.
+fn assert_seen(rt: &impl Abort, holds: &[Hold]) {
+    for hold in holds {
+        let seen = hold.seen.load(Ordering::SeqCst);
+        assert_eq!(rt; seen, 1, "{:?} goes on", hold.at);
+    }
+}
+
 /// A log with so many executing workers and batches of these sizes: each held thread saw what it
 /// waited for, and the log is answered so.
 fn held_so<R: Abort + AllocGlobal + Threads + Wait + Sync + RandomSource>(
@@ -73,16 +80,12 @@ fn held_so<R: Abort + AllocGlobal + Threads + Wait + Sync + RandomSource>(
     words: &str,
     holds: &[Hold],
     answer: &[u8],
-) -> Result<(), Fail> {
+) {
     let alloc = rt.alloc();
-    let cuts = cuts(alloc, sizes)?;
-    let text = run_told(rt, alloc, log, &cuts, settings(words)?, &Holds(holds))?;
-    for hold in holds {
-        let seen = hold.seen.load(Ordering::SeqCst);
-        assert_eq!(rt; seen, 1, "{:?} goes on", hold.at);
-    }
+    let cuts = cuts(rt, alloc, sizes);
+    let text = run_told(rt, alloc, log, &cuts, settings(rt, words), &Holds(holds));
+    assert_seen(rt, holds);
     assert_eq!(rt; text.as_slice(), answer);
-    Ok(())
 }
 
 /// Two transactions that share no key.
@@ -103,23 +106,20 @@ end
 ";
 
 /// Two workers on it, of which one is held.
-fn two_held_so<R: Abort + AllocGlobal + Threads + Wait + Sync + RandomSource>(
-    rt: &R,
-    hold: Hold,
-) -> Result<(), Fail> {
-    let log = checked(rt.alloc(), APART)?;
+fn two_held_so<R: Abort + AllocGlobal + Threads + Wait + Sync + RandomSource>(rt: &R, hold: Hold) {
+    let log = checked(rt, rt.alloc(), APART);
     let answer = b"1 commit\n2 commit\n--\na 2\nb 2\n";
-    held_so(rt, &log, &[2], "exec 2", &[hold], answer)
+    held_so(rt, &log, &[2], "exec 2", &[hold], answer);
 }
 
 #[test]
-fn two_at_once(rt: HostRuntime) -> Result<(), Fail> {
-    two_held_so(&rt, Hold::new(Point::Claimed(1), &[Point::Finished(2)]))
+fn two_at_once(rt: HostRuntime) {
+    two_held_so(&rt, Hold::new(Point::Claimed(1), &[Point::Finished(2)]));
 }
 
 #[test]
-fn two_at_once_mirror(rt: HostRuntime) -> Result<(), Fail> {
-    two_held_so(&rt, Hold::new(Point::Claimed(2), &[Point::Finished(1)]))
+fn two_at_once_mirror(rt: HostRuntime) {
+    two_held_so(&rt, Hold::new(Point::Claimed(2), &[Point::Finished(1)]));
 }
 
 /// The second transaction reads what the first writes; the others touch keys of their own.
@@ -149,20 +149,20 @@ end
 ";
 
 #[test]
-fn held_worker(rt: HostRuntime) -> Result<(), Fail> {
-    let log = checked(rt.alloc(), INDEPENDENT)?;
+fn held_worker(rt: HostRuntime) {
+    let log = checked(&rt, rt.alloc(), INDEPENDENT);
     let hold = Hold::new(Point::Claimed(1), &[Point::Finished(3), Point::Finished(4)]);
     let answer = b"1 commit\n2 commit\n3 commit\n4 commit\n--\na 2\nb 2\nc 3\nd 4\n";
-    held_so(&rt, &log, &[4], "exec 2", &[hold], answer)
+    held_so(&rt, &log, &[4], "exec 2", &[hold], answer);
 }
 
 #[test]
-fn plan_beside(rt: HostRuntime) -> Result<(), Fail> {
-    let log = counters(rt.alloc(), 3)?;
+fn plan_beside(rt: HostRuntime) {
+    let log = counters(&rt, rt.alloc(), 3);
     let executing = Hold::new(Point::Claimed(1), &[Point::Planned(2)]);
     let planning = Hold::new(Point::Planned(2), &[Point::Claimed(1)]);
     let answer = b"1 commit 0\n2 commit 1\n3 commit 2\n--\na 3\n";
-    held_so(&rt, &log, &[1, 2], "", &[executing, planning], answer)
+    held_so(&rt, &log, &[1, 2], "", &[executing, planning], answer);
 }
 
 /// Counts the claims and the ends.
@@ -187,23 +187,22 @@ impl Gate for Counts {
 }
 
 #[test]
-fn five_thousand_counters(rt: HostRuntime) -> Result<(), Fail> {
+fn five_thousand_counters(rt: HostRuntime) {
     let alloc = rt.alloc();
-    let log = counters(alloc, 5000)?;
+    let log = counters(&rt, alloc, 5000);
     let counts = Counts {
         claimed: AtomicU64::new(0),
         finished: AtomicU64::new(0),
     };
-    let cuts = cuts(alloc, &[4096, 904])?;
-    let text = run_told(&rt, alloc, &log, &cuts, settings("")?, &counts)?;
+    let cuts = cuts(&rt, alloc, &[4096, 904]);
+    let text = run_told(&rt, alloc, &log, &cuts, settings(&rt, ""), &counts);
     let counted = (
         counts.claimed.load(Ordering::SeqCst),
         counts.finished.load(Ordering::SeqCst),
     );
     assert_eq!(rt; counted, (5000, 5000));
-    assert!(rt;
-        text.as_slice()
-            .ends_with(b"\n5000 commit 4999\n--\na 5000\n")
-    );
-    Ok(())
+    let ends_so = text
+        .as_slice()
+        .ends_with(b"\n5000 commit 4999\n--\na 5000\n");
+    assert!(rt; ends_so);
 }

@@ -9,16 +9,16 @@ use std::alloc::Global;
 use std::process::Abort;
 use std::random::RandomSource;
 use std::sync::Wait;
-use std::test::Fail;
 use std::thread::Threads;
 
 /// The numbers of a row.
-fn numbers(alloc: Global, words: &str) -> Result<Vec<u32>, Fail> {
+fn numbers(rt: &impl Abort, alloc: Global, words: &str) -> Vec<u32> {
     let mut numbers = Vec::new(alloc);
     for word in words.split(' ') {
-        numbers.push(word.parse::<u32>().ok().ok_or("a number")?)?;
+        let number = word.parse::<u32>().ok().expect(rt, "a number");
+        numbers.push(number).ok().expect(rt, "memory");
     }
-    Ok(numbers)
+    numbers
 }
 
 /// What a log cut in this way leaves with these settings.
@@ -28,11 +28,11 @@ fn left<R: Abort + Threads + Wait + Sync + RandomSource>(
     log: &Checked,
     sizes: &str,
     words: &str,
-) -> Result<String, Fail> {
-    let sizes = numbers(alloc, sizes)?;
-    let cuts = cuts(alloc, sizes.as_slice())?;
-    let found = ran(rt, alloc, log, &cuts, settings(words)?, &OpenGate)?;
-    told_with_versions(alloc, found.replies.as_slice(), &found.history)
+) -> String {
+    let sizes = numbers(rt, alloc, sizes);
+    let cuts = cuts(rt, alloc, sizes.as_slice());
+    let found = ran(rt, alloc, log, &cuts, settings(rt, words), &OpenGate);
+    told_with_versions(rt, alloc, &found.replies, &found.history)
 }
 
 /// Each row has the sizes of the batches, settings, and what is left.
@@ -40,14 +40,13 @@ fn leaves_so<R: Abort + AllocGlobal + Threads + Wait + Sync + RandomSource>(
     rt: &R,
     log: &Checked,
     rows: &str,
-) -> Result<(), Fail> {
+) {
     for row in rows.split('#') {
-        let (how, want) = row.split_once('@').ok_or("what is left")?;
-        let (sizes, words) = how.split_once(", ").ok_or("settings")?;
-        let text = left(rt, rt.alloc(), log, sizes, words)?;
+        let (how, want) = row.split_once('@').expect(rt, "what is left");
+        let (sizes, words) = how.split_once(", ").expect(rt, "settings");
+        let text = left(rt, rt.alloc(), log, sizes, words);
         assert_eq!(rt; text.as_str(), want, "{how}");
     }
-    Ok(())
 }
 
 /// Three counters.
@@ -148,9 +147,9 @@ a 5
 ";
 
 #[test]
-fn versions_that_are_kept(rt: HostRuntime) -> Result<(), Fail> {
-    leaves_so(&rt, &counters(rt.alloc(), 3)?, COUNTED)?;
-    leaves_so(&rt, &checked(rt.alloc(), REMOVAL)?, REMOVED)
+fn versions_that_are_kept(rt: HostRuntime) {
+    leaves_so(&rt, &counters(&rt, rt.alloc(), 3), COUNTED);
+    leaves_so(&rt, &checked(&rt, rt.alloc(), REMOVAL), REMOVED);
 }
 
 /// Applies so many counters in batches of two, on two workers of each kind.
@@ -160,18 +159,26 @@ fn count_on<R: Abort + Threads + Wait + Sync + RandomSource>(
     history: &mut History,
     count: u32,
     keep: u32,
-) -> Result<Applied, Fail> {
-    let log = counters(alloc, count)?;
+) -> Applied {
+    let log = counters(rt, alloc, count);
     let txns = log.log();
-    let cuts = Cuts::even(alloc, count, 2)?;
-    let partition = ByteSum::new(2).ok_or("parts")?;
+    let cuts = Cuts::even(alloc, count, 2).expect(rt, "memory");
+    let partition = ByteSum::new(2).expect(rt, "parts");
     let fits = txns.len() == count as usize && history.top() < 1000 && count < 1000;
     assert!(rt; fits);
     let applied = apply(
         rt, alloc, history, &txns, &cuts, 2, 2, keep, &partition, &OpenGate,
     );
     assert!(rt; applied.end.is_ok());
-    Ok(applied)
+    applied
+}
+
+/// How many counters are applied and how many timestamps are kept.
+fn counts(rt: &impl Abort, log: &str) -> (u32, u32) {
+    let (count, keep) = log.split_once(" keep ").expect(rt, "a log");
+    let count = count.parse::<u32>().ok().expect(rt, "a count");
+    let keep = keep.parse::<u32>().ok().expect(rt, "what is kept");
+    (count, keep)
 }
 
 /// What a row's logs leave one after another, each as how many counters are applied and how many
@@ -180,17 +187,16 @@ fn left_in_turn<R: Abort + Threads + Wait + Sync + RandomSource>(
     rt: &R,
     alloc: Global,
     logs: &str,
-) -> Result<String, Fail> {
-    let mut history = History::open(alloc, counters(alloc, 0)?.store())?;
+) -> String {
+    let store = counters(rt, alloc, 0);
+    let mut history = History::open(alloc, store.store()).expect(rt, "memory");
     let mut text = String::new(alloc);
     for log in logs.split(", ") {
-        let (count, keep) = log.split_once(" keep ").ok_or("a log")?;
-        let count = count.parse::<u32>().ok().ok_or("a count")?;
-        let keep = keep.parse::<u32>().ok().ok_or("what is kept")?;
-        let applied = count_on(rt, alloc, &mut history, count, keep)?;
-        text = told_with_versions(alloc, applied.replies.as_slice(), &history)?;
+        let (count, keep) = counts(rt, log);
+        let applied = count_on(rt, alloc, &mut history, count, keep);
+        text = told_with_versions(rt, alloc, &applied.replies, &history);
     }
-    Ok(text)
+    text
 }
 
 /// Logs one after another, the replies of the last one, and the stores that are readable.
@@ -241,11 +247,10 @@ a 0
 ";
 
 #[test]
-fn logs_upon_logs(rt: HostRuntime) -> Result<(), Fail> {
+fn logs_upon_logs(rt: HostRuntime) {
     for row in APPLIED.split('#') {
-        let (logs, want) = row.split_once('@').ok_or("what is left")?;
-        let text = left_in_turn(&rt, rt.alloc(), logs)?;
+        let (logs, want) = row.split_once('@').expect(&rt, "what is left");
+        let text = left_in_turn(&rt, rt.alloc(), logs);
         assert_eq!(rt; text.as_str(), want, "{logs}");
     }
-    Ok(())
 }

@@ -7,7 +7,6 @@ use std::io::ErrorKind;
 use std::process::Abort;
 use std::random::RandomSource;
 use std::sync::Wait;
-use std::test::Fail;
 use std::thread::Threads;
 
 /// It has 56 bytes.
@@ -34,7 +33,7 @@ fn read_failing<R: Abort + AllocGlobal + Threads + Wait + Sync + RandomSource>(
     rt: &R,
     failure: Failure,
     settings: Settings,
-) -> Result<Option<RunFault>, Fail> {
+) -> Option<RunFault> {
     let mut reader = FakeReader {
         bytes: LOG,
         most: 1,
@@ -48,16 +47,17 @@ fn read_failing<R: Abort + AllocGlobal + Threads + Wait + Sync + RandomSource>(
         (b"".as_slice(), 0)
     };
     assert_eq!(rt; (writer.taken.as_slice(), writer.flushes), (taken, flushes));
-    Ok(found)
+    found
 }
 
 /// One byte a call: the 57th call finds the end.
 #[test]
-fn readers_fail_at_each_call(rt: HostRuntime) -> Result<(), Fail> {
+fn readers_fail_at_each_call(rt: HostRuntime) {
     for words in TWICE {
+        let settings = settings(&rt, words);
         for kind in [ErrorKind::Other, ErrorKind::Interrupted] {
             for calls in 0..58 {
-                let found = read_failing(&rt, Failure::after(calls, kind), settings(words)?)?;
+                let found = read_failing(&rt, Failure::after(calls, kind), settings);
                 let wanted = if calls < 57 {
                     Some(RunFault::Read)
                 } else {
@@ -67,25 +67,32 @@ fn readers_fail_at_each_call(rt: HostRuntime) -> Result<(), Fail> {
             }
         }
     }
-    Ok(())
+}
+
+// The whole log, and its answer, with at most so many bytes a call.
+fn passes<R: Abort + AllocGlobal + Threads + Wait + Sync + RandomSource>(
+    rt: &R,
+    most: usize,
+    settings: Settings,
+) {
+    let mut reader = FakeReader {
+        bytes: LOG,
+        most,
+        failure: Failure::never(),
+    };
+    let mut writer = FakeWriter::new(rt.alloc(), most);
+    let ended = run_text(rt, rt.alloc(), &mut reader, &mut writer, settings);
+    let told = (ended, writer.taken.as_slice(), writer.flushes);
+    assert_eq!(rt; told, (Ok(()), ANSWER, 1), "{most} bytes a call");
 }
 
 #[test]
-fn readers_and_writers_take_parts(rt: HostRuntime) -> Result<(), Fail> {
+fn readers_and_writers_take_parts(rt: HostRuntime) {
     for words in TWICE {
         for most in [1, 7, 56, 57] {
-            let mut reader = FakeReader {
-                bytes: LOG,
-                most,
-                failure: Failure::never(),
-            };
-            let mut writer = FakeWriter::new(rt.alloc(), most);
-            let ended = run_text(&rt, rt.alloc(), &mut reader, &mut writer, settings(words)?);
-            let told = (ended, writer.taken.as_slice(), writer.flushes);
-            assert_eq!(rt; told, (Ok(()), ANSWER, 1), "{most} bytes a call, {words}");
+            passes(&rt, most, settings(&rt, words));
         }
     }
-    Ok(())
 }
 
 /// The writer takes the answer's first bytes and then fails.
@@ -94,67 +101,61 @@ fn sends<R: Abort + AllocGlobal + Threads + Wait + Sync + RandomSource>(
     mut writer: FakeWriter,
     sent: u32,
     settings: Settings,
-) -> Result<(), Fail> {
+) {
     let found = fault_at(rt, &mut writer, settings);
     let wanted = RunFault::Write {
         sent: u64::from(sent),
     };
-    let taken = ANSWER.get(..sent as usize).ok_or("a beginning")?;
+    let taken = ANSWER.get(..sent as usize).expect(rt, "a beginning");
     let told = (found, writer.taken.as_slice());
     assert_eq!(rt; told, (Some(wanted), taken), "after {sent} bytes");
-    Ok(())
 }
 
 /// One byte a call.
 #[test]
-fn writers_fail_at_each_call(rt: HostRuntime) -> Result<(), Fail> {
+fn writers_fail_at_each_call(rt: HostRuntime) {
     for words in TWICE {
         for kind in [ErrorKind::Other, ErrorKind::Interrupted] {
             for calls in 0..18u32 {
                 let mut writer = FakeWriter::new(rt.alloc(), 1);
                 writer.failure = Failure::after(calls, kind);
-                sends(&rt, writer, calls, settings(words)?)?;
+                sends(&rt, writer, calls, settings(&rt, words));
             }
         }
     }
-    Ok(())
 }
 
 #[test]
-fn flushes_fail(rt: HostRuntime) -> Result<(), Fail> {
+fn flushes_fail(rt: HostRuntime) {
     for words in TWICE {
         for kind in [ErrorKind::Other, ErrorKind::Interrupted] {
             let mut writer = FakeWriter::new(rt.alloc(), 64);
             writer.flush_failure = Failure::after(0, kind);
-            sends(&rt, writer, 18, settings(words)?)?;
+            sends(&rt, writer, 18, settings(&rt, words));
         }
     }
-    Ok(())
 }
 
 #[test]
-fn writers_take_nothing(rt: HostRuntime) -> Result<(), Fail> {
+fn writers_take_nothing(rt: HostRuntime) {
     for words in TWICE {
-        sends(&rt, FakeWriter::new(rt.alloc(), 0), 0, settings(words)?)?;
+        sends(&rt, FakeWriter::new(rt.alloc(), 0), 0, settings(&rt, words));
     }
-    Ok(())
 }
 
 #[test]
-fn writers_fail_after_three_bytes(rt: HostRuntime) -> Result<(), Fail> {
+fn writers_fail_after_three_bytes(rt: HostRuntime) {
     for words in TWICE {
         let mut writer = FakeWriter::new(rt.alloc(), 3);
         writer.failure = Failure::after(1, ErrorKind::Other);
-        sends(&rt, writer, 3, settings(words)?)?;
+        sends(&rt, writer, 3, settings(&rt, words));
     }
-    Ok(())
 }
 
 #[test]
-fn a_want_of_memory_is_told(rt: HostRuntime) -> Result<(), Fail> {
-    let printed = print_fault(rt.alloc(), &RunFault::NoMemory)?;
+fn a_want_of_memory_is_told(rt: HostRuntime) {
+    let printed = print_fault(rt.alloc(), &RunFault::NoMemory).expect(&rt, "memory");
     assert_eq!(rt; printed.as_slice(), b"refused: memory\n".as_slice());
-    Ok(())
 }
 
 #[test]

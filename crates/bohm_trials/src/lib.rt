@@ -13,6 +13,8 @@ mod histories;
 #[cfg(test)]
 mod hostile;
 #[cfg(test)]
+mod library;
+#[cfg(test)]
 mod line;
 #[cfg(test)]
 mod random;

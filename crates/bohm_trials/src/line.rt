@@ -6,9 +6,10 @@ ghost use Rattle.bohm_place.specs.Plans.{IsRightPlan};
 ghost use Rattle.bohm_line.specs.Cuttings.{first_at, txns_at};
 
 use crate::runs::counters;
+use bohm_log::LogPart;
 use bohm_place::{Plan, Shards, Source, plan};
 use bohm_run::{ByteSum, Line, PlanNote, PlanReceiver, PlanSender, plan_line};
-use bohm_txn::{LogPart, NoMemory};
+use bohm_tree::NoMemory;
 use std::alloc::Global;
 use std::marker::Brand;
 use std::process::Abort;
@@ -28,6 +29,18 @@ fn source_of(rt: &impl Abort, plan: &Plan, txns: &LogPart<'_>, t: u32) -> Source
     let reads = txns.txn(place as usize).reads().len() > 0;
     assert!(rt; reads);
     plan.read(t, 0)
+}
+
+// Asserts from where the transaction takes what its first declared read has.
+fn assert_source(rt: &impl Abort, plan: &Plan, txns: &LogPart<'_>, t: u32, want: Source)
+    requires { ∥ IsRightPlan txns.now plan.now ∥₁ }
+{
+    assert_eq!(rt; source_of(rt, plan, txns, t), want);
+}
+
+// Asserts which transactions a plan is of: from which timestamp on, and how many.
+fn assert_extent(rt: &impl Abort, plan: &Plan, want: (u32, u32)) {
+    assert_eq!(rt; (plan.first(), plan.len()), want);
 }
 
 // Plans the batch that comes next, and sends the plan.
@@ -92,12 +105,12 @@ fn take_plans<L: Line, R: Abort + Wait>(
     requires two { two.now ≡ txns_at L.cutting 1 }
 {
     let plan = take_plan(rt, &mut receiver, one, 1);
-    assert_eq!(rt; (plan.first(), plan.len()), (1, 1));
-    assert_eq!(rt; source_of(rt, &plan, one, 1), Source::Before);
+    assert_extent(rt, &plan, (1, 1));
+    assert_source(rt, &plan, one, 1, Source::Before);
     let plan = take_plan(rt, &mut receiver, two, 2);
-    assert_eq!(rt; (plan.first(), plan.len()), (2, 2));
-    assert_eq!(rt; source_of(rt, &plan, two, 2), Source::Before);
-    assert_eq!(rt; source_of(rt, &plan, two, 3), Source::Within(2));
+    assert_extent(rt, &plan, (2, 2));
+    assert_source(rt, &plan, two, 2, Source::Before);
+    assert_source(rt, &plan, two, 3, Source::Within(2));
 }
 
 // Sends the plans of a log of three transactions in two batches, and takes both.
@@ -122,7 +135,7 @@ fn take_two<L: Line, R: Abort + Threads + Wait + Sync>(
 #[test]
 fn notes_come_in_order(rt: HostRuntime) -> Result<(), Fail> {
     let alloc: Global = rt.alloc();
-    let log = counters(alloc, 3)?;
+    let log = counters(&rt, alloc, 3);
     let three = log.log().len() == 3;
     assert!(rt; three);
     take_two::<Brand, _>(&rt, alloc, &log.log())
@@ -158,7 +171,7 @@ fn take_refusal<L: Line, R: Abort + Threads + Wait + Sync>(
 #[test]
 fn a_refusal_passes(rt: HostRuntime) -> Result<(), Fail> {
     let alloc: Global = rt.alloc();
-    let log = counters(alloc, 3)?;
+    let log = counters(&rt, alloc, 3);
     let three = log.log().len() == 3;
     assert!(rt; three);
     take_refusal::<Brand, _>(&rt, alloc, &log.log())

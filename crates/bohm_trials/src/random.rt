@@ -5,25 +5,54 @@ ghost use Rattle.std.specs.Prelude.{◌<◌};
 use crate::draws::{Draws, drawn};
 use crate::runs::{ran, told};
 use bohm_exec::OpenGate;
-use bohm_run::{Cuts, Settings};
+use bohm_run::{Answer, Cuts, Settings};
 use bohm_text::{print_replies, print_store};
 use bohm_txn::Checked;
 use std::alloc::Global;
 use std::process::Abort;
 use std::random::RandomSource;
 use std::sync::Wait;
-use std::test::Fail;
 use std::thread::Threads;
 
 /// The replies, and behind them the store after each count of transactions from this one on.
-fn serially(alloc: Global, seed: u32, len: u32, floor: u32) -> Result<Vec<u8>, Fail> {
-    let whole = bohm_serial::run(alloc, &drawn(alloc, seed, len)?)?;
-    let mut text = print_replies(alloc, whole.replies.as_slice())?;
+fn serially(rt: &impl Abort, alloc: Global, seed: u32, len: u32, floor: u32) -> Vec<u8> {
+    let mut text = serial_replies(rt, alloc, seed, len);
     for count in floor..=len {
-        let some = bohm_serial::run(alloc, &drawn(alloc, seed, count)?)?;
-        text.extend_from_slice(print_store(alloc, some.store.as_slice())?.as_slice())?;
+        let store = serial_store(rt, alloc, seed, count);
+        text.extend_from_slice(store.as_slice())
+            .expect(rt, "memory");
     }
-    Ok(text)
+    text
+}
+
+/// The replies to the first so many transactions.
+fn serial_replies(rt: &impl Abort, alloc: Global, seed: u32, len: u32) -> Vec<u8> {
+    let log = drawn(rt, alloc, seed, len);
+    let answer = bohm_serial::run(alloc, &log).expect(rt, "memory");
+    print_replies(alloc, &answer.replies).expect(rt, "memory")
+}
+
+/// The store that they leave.
+fn serial_store(rt: &impl Abort, alloc: Global, seed: u32, len: u32) -> Vec<u8> {
+    let log = drawn(rt, alloc, seed, len);
+    let answer = bohm_serial::run(alloc, &log).expect(rt, "memory");
+    print_store(alloc, answer.store.as_slice()).expect(rt, "memory")
+}
+
+/// What a run left is what the plain program leaves.
+fn assert_left(
+    rt: &impl Abort,
+    alloc: Global,
+    seed: u32,
+    len: u32,
+    found: &Answer,
+    settings: Settings,
+) {
+    let floor = len.saturating_sub(settings.keep());
+    assert_eq!(rt; found.history.floor(), floor, "{seed}: {settings:?}");
+    let text = told(rt, alloc, &found.replies, &found.history);
+    let want = serially(rt, alloc, seed, len, floor);
+    assert_eq!(rt; text.as_slice(), want.as_slice(), "{seed}: {settings:?}");
 }
 
 /// Runs the log with these settings.
@@ -33,51 +62,42 @@ fn run_drawn<R: Abort + Threads + Wait + Sync + RandomSource>(
     seed: u32,
     log: &Checked,
     settings: Settings,
-) -> Result<(), Fail> {
+) {
     let len = log.log().len() as u32;
-    let cuts = Cuts::even(alloc, len, settings.batch())?;
-    let found = ran(rt, alloc, log, &cuts, settings, &OpenGate)?;
-    let floor = len.saturating_sub(settings.keep());
-    assert_eq!(rt; found.history.floor(), floor, "{seed}: {settings:?}");
-    let text = told(alloc, found.replies.as_slice(), &found.history)?;
-    let want = serially(alloc, seed, len, floor)?;
-    assert_eq!(rt; text.as_slice(), want.as_slice(), "{seed}: {settings:?}");
-    Ok(())
+    let cuts = Cuts::even(alloc, len, settings.batch()).expect(rt, "memory");
+    let found = ran(rt, alloc, log, &cuts, settings, &OpenGate);
+    assert_left(rt, alloc, seed, len, &found, settings);
 }
 
 /// Runs the log that a seed determines under three settings that it draws.
-fn run_seed<R: Abort + Threads + Wait + Sync + RandomSource>(
-    rt: &R,
-    alloc: Global,
-    seed: u32,
-) -> Result<(), Fail>
+fn run_seed<R: Abort + Threads + Wait + Sync + RandomSource>(rt: &R, alloc: Global, seed: u32)
     requires { seed < 1000 }
 {
-    let log = drawn(alloc, seed, seed % 12 + 1)?;
+    let log = drawn(rt, alloc, seed, seed % 12 + 1);
     let mut draws = Draws::new(seed + 1000);
     for _ in 0..3 {
-        run_drawn(rt, alloc, seed, &log, draws.settings()?)?;
+        let settings = draws.settings().expect(rt, "settings");
+        run_drawn(rt, alloc, seed, &log, settings);
     }
-    Ok(())
 }
 
 #[test]
-fn drawn_logs(rt: HostRuntime) -> Result<(), Fail> {
+fn drawn_logs(rt: HostRuntime) {
     for seed in 0..200 {
-        run_seed(&rt, rt.alloc(), seed)?;
+        run_seed(&rt, rt.alloc(), seed);
     }
-    Ok(())
 }
 
 /// What the drawn logs come to is of every kind.
 #[test]
-fn drawn_ends(rt: HostRuntime) -> Result<(), Fail> {
+fn drawn_ends(rt: HostRuntime) {
     let mut text = Vec::new(rt.alloc());
     for seed in 0..200 {
-        let answer = bohm_serial::run(rt.alloc(), &drawn(rt.alloc(), seed, seed % 12 + 1)?)?;
-        text.extend_from_slice(print_replies(rt.alloc(), answer.replies.as_slice())?.as_slice())?;
+        let replies = serial_replies(&rt, rt.alloc(), seed, seed % 12 + 1);
+        text.extend_from_slice(replies.as_slice())
+            .expect(&rt, "memory");
     }
-    let text = str::from_utf8(text.as_slice())?;
+    let text = str::from_utf8(text.as_slice()).expect(&rt, "a text");
     for word in [
         " commit ",
         " abort need ",
@@ -87,5 +107,4 @@ fn drawn_ends(rt: HostRuntime) -> Result<(), Fail> {
     ] {
         assert!(rt; text.contains(word), "{word}");
     }
-    Ok(())
 }

@@ -3,37 +3,36 @@
 use bohm_exec::Gate;
 use bohm_run::{Answer, ByteSum, Cuts, Settings, run};
 use bohm_store::History;
-use bohm_text::{parse, print_replies, print_store};
-use bohm_txn::{Checked, Reply, check};
+use bohm_text::{parse, print_answer, print_replies, print_store};
+use bohm_tree::{Key, Value};
+use bohm_txn::{Checked, Replies, check};
 use std::alloc::Global;
 use std::process::Abort;
 use std::random::RandomSource;
 use std::sync::Wait;
-use std::test::Fail;
 use std::thread::Threads;
 
-pub fn checked(alloc: Global, text: &[u8]) -> Result<Checked, Fail> {
-    Ok(check(parse(alloc, text)?)?)
+pub fn checked(rt: &impl Abort, alloc: Global, text: &[u8]) -> Checked {
+    let doc = parse(alloc, text).expect(rt, "a text");
+    check(doc).expect(rt, "a document")
 }
 
 /// The opening, and behind it the transaction as often as this.
-pub fn repeated(alloc: Global, opening: &[u8], txn: &[u8], count: u32) -> Result<Vec<u8>, Fail> {
-    let mut text = Vec::from_slice(alloc, opening)?;
+pub fn repeated(rt: &impl Abort, alloc: Global, opening: &[u8], txn: &[u8], count: u32) -> Vec<u8> {
+    let mut text = Vec::from_slice(alloc, opening).expect(rt, "memory");
     for _ in 0..count {
-        text.extend_from_slice(txn)?;
+        text.extend_from_slice(txn).expect(rt, "memory");
     }
-    Ok(text)
+    text
 }
 
 /// Shows `a` and counts it up.
 const COUNTER: &[u8] = b"txn\nreads a\nwrites a\nshow a\nset a = a + 1\nend\n";
 
 /// Counts `a` up from 0, so often.
-pub fn counters(alloc: Global, count: u32) -> Result<Checked, Fail> {
-    checked(
-        alloc,
-        repeated(alloc, b"log 1\na 0\n", COUNTER, count)?.as_slice(),
-    )
+pub fn counters(rt: &impl Abort, alloc: Global, count: u32) -> Checked {
+    let text = repeated(rt, alloc, b"log 1\na 0\n", COUNTER, count);
+    checked(rt, alloc, text.as_slice())
 }
 
 /// The number behind a name among these words.
@@ -43,7 +42,7 @@ fn named(words: &str, name: &str) -> Option<u32> {
 }
 
 /// The settings that the words name, as `exec 2 batch 1`; the others are the defaults.
-pub fn settings(words: &str) -> Result<Settings, Fail> {
+pub fn settings(rt: &impl Abort, words: &str) -> Settings {
     let settings = Settings::new(
         named(words, "cc ").unwrap_or(1),
         named(words, "exec ").unwrap_or(1),
@@ -52,12 +51,13 @@ pub fn settings(words: &str) -> Result<Settings, Fail> {
         named(words, "keep ").unwrap_or(0),
         named(words, "at "),
     );
-    Ok(settings.ok_or("settings")?)
+    settings.expect(rt, "settings")
 }
 
 /// Batches of these sizes.
-pub fn cuts(alloc: Global, sizes: &[u32]) -> Result<Cuts, Fail> {
-    Ok(Cuts::new(Vec::from_slice(alloc, sizes)?).ok_or("sizes")?)
+pub fn cuts(rt: &impl Abort, alloc: Global, sizes: &[u32]) -> Cuts {
+    let sizes = Vec::from_slice(alloc, sizes).expect(rt, "memory");
+    Cuts::new(sizes).expect(rt, "sizes")
 }
 
 /// The run of a log in batches of this cutting, whatever size of batches the settings say.
@@ -68,31 +68,37 @@ pub fn ran<G: Gate, R: Abort + Threads + Wait + Sync + RandomSource>(
     cuts: &Cuts,
     settings: Settings,
     gate: &G,
-) -> Result<Answer, Fail> {
+) -> Answer {
     let whole = cuts.total() as usize == checked.log().len();
     assert!(rt; whole);
-    let partition = ByteSum::new(settings.parts()).ok_or("parts")?;
+    let partition = ByteSum::new(settings.parts()).expect(rt, "parts");
     let (cc, exec, keep) = (settings.cc(), settings.exec(), settings.keep());
-    let answer = run(rt, alloc, checked, cuts, cc, exec, keep, &partition, gate)?;
-    Ok(answer)
+    let answer = run(rt, alloc, checked, cuts, cc, exec, keep, &partition, gate);
+    answer.expect(rt, "memory")
 }
 
 /// What the plain program answers.
-pub fn serially(alloc: Global, checked: &Checked) -> Result<Vec<u8>, Fail> {
-    let bohm_serial::Answer { replies, store } = bohm_serial::run(alloc, checked)?;
-    let mut text = print_replies(alloc, replies.as_slice())?;
-    text.extend_from_slice(print_store(alloc, store.as_slice())?.as_slice())?;
-    Ok(text)
+pub fn serially(rt: &impl Abort, alloc: Global, checked: &Checked) -> Vec<u8> {
+    let answer = bohm_serial::run(alloc, checked);
+    let bohm_serial::Answer { replies, store } = answer.expect(rt, "memory");
+    print_answer(alloc, &replies, store.as_slice()).expect(rt, "memory")
+}
+
+/// Appends the text of a store.
+fn put_store(rt: &impl Abort, alloc: Global, text: &mut Vec<u8>, store: &[(Key, Value)]) {
+    let printed = print_store(alloc, store).expect(rt, "memory");
+    text.extend_from_slice(printed.as_slice())
+        .expect(rt, "memory");
 }
 
 /// The replies, and behind them the store of each timestamp from the floor to the top.
-pub fn told(alloc: Global, replies: &[Reply], history: &History) -> Result<Vec<u8>, Fail> {
-    let mut text = print_replies(alloc, replies)?;
+pub fn told(rt: &impl Abort, alloc: Global, replies: &Replies, history: &History) -> Vec<u8> {
+    let mut text = print_replies(alloc, replies).expect(rt, "memory");
     for ts in history.floor()..=history.top() {
-        let store = history.store_at(alloc, ts).ok().ok_or("a store")?;
-        text.extend_from_slice(print_store(alloc, store.as_slice())?.as_slice())?;
+        let store = history.store_at(alloc, ts).expect(rt, "a store");
+        put_store(rt, alloc, &mut text, store.as_slice());
     }
-    Ok(text)
+    text
 }
 
 /// What a run with this gate tells.
@@ -103,20 +109,24 @@ pub fn run_told<G: Gate, R: Abort + Threads + Wait + Sync + RandomSource>(
     cuts: &Cuts,
     settings: Settings,
     gate: &G,
-) -> Result<Vec<u8>, Fail> {
-    let Answer { replies, history } = ran(rt, alloc, checked, cuts, settings, gate)?;
-    told(alloc, replies.as_slice(), &history)
+) -> Vec<u8> {
+    let Answer { replies, history } = ran(rt, alloc, checked, cuts, settings, gate);
+    told(rt, alloc, &replies, &history)
 }
 
 /// The floor, the top and the number of versions, and behind them the replies and the stores.
 pub fn told_with_versions(
+    rt: &impl Abort,
     alloc: Global,
-    replies: &[Reply],
+    replies: &Replies,
     history: &History,
-) -> Result<String, Fail> {
+) -> String {
     let (floor, top) = (history.floor(), history.top());
     let count = history.version_count();
-    let mut text = format!(in alloc; "{floor} to {top}, {count} versions\n")?;
-    text.push_str(str::from_utf8(told(alloc, replies, history)?.as_slice())?)?;
-    Ok(text)
+    let head = format!(in alloc; "{floor} to {top}, {count} versions\n");
+    let mut text = head.expect(rt, "memory");
+    let told = told(rt, alloc, replies, history);
+    let told = str::from_utf8(told.as_slice()).expect(rt, "a text");
+    text.push_str(told).expect(rt, "memory");
+    text
 }

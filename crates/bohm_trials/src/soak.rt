@@ -2,11 +2,15 @@
 
 use crate::runs::{counters, cuts, run_told, serially, settings};
 use bohm_exec::{Gate, Point};
+use bohm_txn::Checked;
 use std::alloc::Global;
 use std::hint::spin_loop;
+use std::process::Abort;
+use std::random::RandomSource;
+use std::sync::Wait;
 use std::sync::atomic::{AtomicU64, Ordering};
-use std::test::Fail;
 use std::thread;
+use std::thread::Threads;
 
 /// Holds each claim for a number of turns that the round and the timestamp determine.
 #[derive(Drop)]
@@ -41,23 +45,31 @@ impl Gate for Delays {
     }
 }
 
+/// One round of a log that is one chain, on eight workers.
+fn assert_round<R: Abort + Threads + Wait + Sync + RandomSource>(
+    rt: &R,
+    alloc: Global,
+    log: &Checked,
+    round: u64,
+    want: &[u8],
+) {
+    let delays = Delays {
+        round,
+        claims: AtomicU64::new(0),
+    };
+    let cuts = cuts(rt, alloc, &[4096]);
+    let text = run_told(rt, alloc, log, &cuts, settings(rt, "exec 8"), &delays);
+    assert_eq!(rt; text.as_slice(), want, "round {round}");
+    let claims = delays.claims.load(Ordering::SeqCst);
+    assert!(rt; claims <= 4096, "round {round}");
+}
+
 #[test]
-fn a_chain_with_held_claims_is_the_serial_one(rt: HostRuntime) -> Result<(), Fail> {
+fn a_chain_with_held_claims_is_the_serial_one(rt: HostRuntime) {
     let alloc: Global = rt.alloc();
-    let log = counters(alloc, 4096)?;
-    let want = serially(alloc, &log)?;
-    let cuts = cuts(alloc, &[4096])?;
+    let log = counters(&rt, alloc, 4096);
+    let want = serially(&rt, alloc, &log);
     for round in 0..50 {
-        let delays = Delays {
-            round,
-            claims: AtomicU64::new(0),
-        };
-        let text = run_told(&rt, alloc, &log, &cuts, settings("exec 8")?, &delays)?;
-        assert_eq!(rt; text.as_slice(), want.as_slice(), "round {round}");
-        assert!(rt;
-            delays.claims.load(Ordering::SeqCst) <= 4096,
-            "round {round}"
-        );
+        assert_round(&rt, alloc, &log, round, want.as_slice());
     }
-    Ok(())
 }

@@ -10,8 +10,7 @@ use Rattle.std.specs.declared.cmp.Ordering.{Ordering}
 use Rattle.std.specs.declared.cmp.Ordering.TheVariants.{Less, Equal, Greater}
 use Rattle.std.proofs.lemmas.Bool.{and_parts, false_from_ne_true}
 use Rattle.std.proofs.lemmas.Option.{slice_get-get_or}
-use Rattle.bohm_txn.specs.Declares.{IsAmong}
-use Rattle.bohm_txn.specs.Faulty.{is_among, rising, rises_from}
+use Rattle.bohm_tree.specs.Keys.{IsAmong, is_among, rising, rises_from}
 use Rattle.bohm_txn.proofs.Bodies.{same_key, key_itself, among_at}
 
 pub other_key : (x k : List ℕ) → bytes_eq x k ≡ false → bytes_eq k x ≡ false

@@ -14,11 +14,12 @@ use Rattle.bohm_tree.specs.Stmt.{Stmt, Bind, Need, Has, Lacks, Put, Remove, Show
 use Rattle.bohm_tree.specs.Term.{Atom}
 use Rattle.bohm_tree.specs.declared.edition.Edition.{Edition}
 use Rattle.bohm_tree.specs.Txn.{Txn}
+use Rattle.bohm_tree.specs.Keys.{IsAmong}
 use Rattle.bohm_txn.specs.declared.outcome.Reason.{Reason}
 use Rattle.bohm_txn.specs.declared.outcome.Reason.TheVariants as reasons
 use Rattle.bohm_txn.specs.Meaning.{Look, Run, Ended, fresh, newest, then_try, then_do, sum_value, cond_value, guard_value, is_present, bind, write, show, needs, seen, perform, or_stop, body_from, body}
 use Rattle.bohm_txn.specs.Serial.{writes_of, after}
-use Rattle.bohm_txn.specs.Declares.{IsAmong, StmtWrites, IsUsable, shows_in}
+use Rattle.bohm_txn.specs.Declares.{StmtWrites, IsUsable, shows_in}
 use Rattle.bohm_txn.proofs.BodyLaw.{same_body}
 
 -- P holds of what a body that ended well did

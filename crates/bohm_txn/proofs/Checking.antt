@@ -10,10 +10,11 @@ use Rattle.std.specs.declared.cmp.Ordering.{Ordering}
 use Rattle.std.specs.declared.cmp.Ordering.TheVariants.{Less, Equal, Greater}
 use Rattle.bohm_tree.specs.declared.edition.Edition.{Edition}
 use Rattle.bohm_tree.specs.Txn.{Txn}
+use Rattle.bohm_tree.specs.Keys.{rising}
 use Rattle.bohm_log.specs.declared.row.StmtRow.{StmtRow}
 use Rattle.bohm_log.specs.Parts.{Parts, stmt_of, txn_of}
 use Rattle.bohm_txn.specs.declared.fault.CheckKind.{CheckKind}
-use Rattle.bohm_txn.specs.Faulty.{rising, stmt_faulty}
+use Rattle.bohm_txn.specs.Faulty.{stmt_faulty}
 use Rattle.bohm_txn.specs.FirstFault.{found_or, first_from, find_stmt, find_txn, first_in_txn, least}
 use Rattle.bohm_txn.proofs.Lists.{drop_at}
 use Rattle.bohm_txn.proofs.Rises.{below}

@@ -12,7 +12,7 @@ use Rattle.std.proofs.lemmas.Bool.{or_parts}
 use Rattle.std.proofs.lemmas.List.{take-map, take_more}
 use Rattle.std.proofs.lemmas.Map.Text.{is_eq-slice_cmp}
 use Rattle.std.proofs.lemmas.Option.{slice_get-map, slice_get_within, get_or_from_slice_get}
-use Rattle.bohm_txn.specs.Faulty.{is_among, rising, names_of}
+use Rattle.bohm_tree.specs.Keys.{is_among, rising, names_of}
 use Rattle.bohm_txn.specs.Stores.{store_of}
 use Rattle.bohm_txn.proofs.Apart.{other_key, rising_apart, none_before}
 use Rattle.bohm_txn.proofs.Stores.{tested, same_nat}

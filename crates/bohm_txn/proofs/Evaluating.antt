@@ -1,28 +1,25 @@
 -- What a statement sees and writes at its places.
 use Rattle.std.proofs.Common.{◌≡◌, ℕ, zero, suc, ◌<◌, ◌≤◌, Bool, true, false, List, [], ◌∷◌, length, map, Option, Some, None, slice_set, refl, ap, sym, ◌∙◌, arith}
-use Rattle.std.specs.Prelude.{Result, Ok, Err, if◌then◌else◌}
+use Rattle.std.specs.Prelude.{Ok, Err, not, if◌then◌else◌}
 use Rattle.std.specs.List.{AllByRecursion, slice_index_or}
 use Rattle.std.proofs.lemmas.List.{get_or_default}
 use Rattle.std.proofs.lemmas.Option.{slice_get-get_or}
 use Rattle.std.specs.Option.{option_eq}
 use Rattle.std.specs.Str.{bytes_eq}
-use Rattle.bohm_tree.specs.Name.{place}
 use Rattle.bohm_tree.specs.declared.cell.Cell.{Cell}
 use Rattle.bohm_tree.specs.declared.cell.Cell.TheVariants.{Absent}
 use Rattle.bohm_tree.specs.declared.edition.Edition.{Edition}
 use Rattle.bohm_tree.specs.declared.edition.Edition.TheVariants.{One, Two}
 use Rattle.bohm_tree.specs.Stmt.{Stmt}
+use Rattle.bohm_tree.specs.Keys.{place, IsAmong, rising, some_passes}
 use Rattle.bohm_log.specs.declared.row.Action.{Action}
 use Rattle.bohm_log.specs.declared.row.Action.TheVariants as actions
 use Rattle.bohm_log.specs.declared.row.AtomKind.{AtomKind}
 use Rattle.bohm_log.specs.declared.row.AtomKind.TheVariants as kinds
 use Rattle.bohm_log.specs.declared.row.StmtRow.{StmtRow}
 use Rattle.bohm_log.specs.Parts.{Parts, KeyIn, PlaceIn, atom_at, key_at, name_at, named_by, stmt_made, stmt_of, sum_between, txn_of}
-use Rattle.bohm_txn.specs.declared.outcome.Reason.{Reason}
 use Rattle.bohm_txn.specs.declared.outcome.Reason.TheVariants as reasons
-use Rattle.bohm_txn.specs.declared.view.View.{View}
-use Rattle.bohm_txn.specs.Declares.{IsAmong}
-use Rattle.bohm_txn.specs.Faulty.{rising, some_passes}
+use Rattle.bohm_txn.specs.declared.environment.Environment.{Environment}
 use Rattle.bohm_txn.specs.Meaning.{Locals, Look, atom_value, is_present, needs, number_in, then_do}
 use Rattle.bohm_txn.specs.Seeing.{look_of}
 use Rattle.bohm_txn.specs.Tables.{Tables, cell_at, replaced, run_with, set_from, step, taken, written}
@@ -88,7 +85,7 @@ is_key k (Some x) = refl
 
 -- ---- what is tested
 
-module _ (e : Edition) (p : Parts) (r : StmtRow) (w : Tables) (v : View) (b : Bool) (same : v.txn.now ≡ p) (sees : look_of v ≡ cell_at p.reads w.seen) (has : b ≡ is_present (look_of v (key_at v.txn.now.reads v.txn.now.others r.declared r.name))) where
+module _ (e : Edition) (p : Parts) (r : StmtRow) (w : Tables) (v : Environment) (b : Bool) (same : v.txn.now ≡ p) (sees : look_of v ≡ cell_at p.reads w.seen) (has : b ≡ is_present (look_of v (key_at v.txn.now.reads v.txn.now.others r.declared r.name))) where
   abbrev made : Action → Stmt
   made a = stmt_made a (named_by p a r.declared r.name) (sum_between p r.start r.first) (sum_between p r.first r.second) (sum_between p r.second r.third)
 
@@ -111,6 +108,10 @@ module _ (e : Edition) (p : Parts) (r : StmtRow) (w : Tables) (v : View) (b : Bo
       ended : (x : Bool) → then_do (if x then Err reasons.Need else Ok (run_with w [])) (taken (txn_of e p) w) ≡ (if x then Err reasons.Need else Ok w)
       ended true = refl
       ended false = refl
+
+pub not_parts : (b c : Bool) → not b ≡ c → b ≡ not c
+not_parts true c is = ap not is
+not_parts false c is = ap not is
 
 -- ---- what holds of each statement, at a place
 

@@ -21,4 +21,5 @@ mod Lists
 mod Permuted
 mod Entries
 mod Listed
+mod ReplyRows
 pub mod ForCallers

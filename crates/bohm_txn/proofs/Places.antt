@@ -5,13 +5,13 @@ use Rattle.std.specs.Option.{option_map}
 use Rattle.std.specs.List.{list_any, position_from}
 use Rattle.std.specs.Str.{bytes_eq}
 use Rattle.std.proofs.lemmas.Bool.{or_parts, false_from_ne_true}
-use Rattle.bohm_tree.specs.Name.{place, IsPlaceOf}
 use Rattle.bohm_tree.specs.declared.cell.Cell.{Cell}
 use Rattle.bohm_tree.specs.Term.{Atom, Lit, Read}
 use Rattle.bohm_tree.specs.Term as atoms
 use Rattle.bohm_tree.specs.Parts.{key_read}
+use Rattle.bohm_tree.specs.Keys.{place, IsPlaceOf, is_among, rising}
 use Rattle.bohm_txn.specs.Declares.{OnSomeKey}
-use Rattle.bohm_txn.specs.Faulty.{is_among, reads_among, rising}
+use Rattle.bohm_txn.specs.Faulty.{reads_among}
 use Rattle.bohm_txn.specs.Tables.{cell_from, cell_at}
 use Rattle.bohm_txn.proofs.Apart.{AllApart, rising_apart}
 use Rattle.bohm_txn.proofs.Bodies.{same_key, key_itself, among_at}

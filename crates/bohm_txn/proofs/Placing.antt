@@ -15,6 +15,7 @@ use Rattle.bohm_tree.specs.declared.cell.Cell.{Cell}
 use Rattle.bohm_tree.specs.declared.cell.Cell.TheVariants.{Absent}
 use Rattle.bohm_tree.specs.Term.{Atom}
 use Rattle.bohm_tree.specs.Parts.{sums, tested}
+use Rattle.bohm_tree.specs.Keys.{is_among, rising, some_passes}
 use Rattle.bohm_log.specs.declared.row.Action.{Action}
 use Rattle.bohm_log.specs.declared.row.Action.TheVariants.{Bind, Need, Has, Lacks, Put, PutWhen, Remove, Show, Fail}
 use Rattle.bohm_log.specs.declared.row.AtomKind.{AtomKind}
@@ -22,7 +23,7 @@ use Rattle.bohm_log.specs.declared.row.AtomKind.TheVariants as kinds
 use Rattle.bohm_log.specs.declared.row.StmtRow.{StmtRow}
 use Rattle.bohm_log.specs.declared.row.TermRow.{TermRow}
 use Rattle.bohm_log.specs.Parts.{Parts, PlaceIn, KeyIn, NameIn, RowIn, TermIn, IsApart, atom_at, name_at, key_at, named_by, stmt_made, stmt_of, sum_between, term_of}
-use Rattle.bohm_txn.specs.Faulty.{is_among, reads_among, rising, some_passes, binds, is_bound, is_unread, is_unwritten}
+use Rattle.bohm_txn.specs.Faulty.{reads_among, binds, is_bound, is_unread, is_unwritten}
 use Rattle.bohm_txn.specs.Rows.{end_by, end_of, is_declared, tests_key, writes_key, binds_by, binds_at}
 use Rattle.bohm_txn.specs.Tables.{cell_at}
 use Rattle.bohm_txn.proofs.Bodies.{among_at, key_itself}

@@ -4,7 +4,7 @@ use Rattle.std.specs.Prelude.{◌&&◌}
 use Rattle.std.specs.Ordering.{nat_cmp, is_lt}
 use Rattle.std.specs.Cmp.Lexicographic.{slice_cmp}
 use Rattle.std.specs.List.{IsAllAdjacentAnswer}
-use Rattle.bohm_txn.specs.Faulty.{rising, rises_from}
+use Rattle.bohm_tree.specs.Keys.{rising, rises_from}
 
 abbrev pub below : List ℕ → List ℕ → Bool
 below a b = is_lt (slice_cmp nat_cmp a b)

@@ -5,17 +5,17 @@ use Rattle.std.specs.List.{AllByRecursion, zip}
 use Rattle.std.specs.Option.{option_map}
 use Rattle.std.specs.Str.{bytes_eq}
 use Rattle.std.proofs.lemmas.List.{length-set}
-use Rattle.bohm_tree.specs.Name.{place}
 use Rattle.bohm_tree.specs.declared.cell.Cell.{Cell}
 use Rattle.bohm_tree.specs.declared.cell.Cell.TheVariants.{Absent, Present}
 use Rattle.bohm_tree.specs.Stmt.{Stmt, Bind, Need, Has, Lacks, Put, Remove, Show, Fail}
 use Rattle.bohm_tree.specs.declared.edition.Edition.{Edition}
 use Rattle.bohm_tree.specs.declared.edition.Edition.TheVariants.{One, Two}
 use Rattle.bohm_tree.specs.Txn.{Txn}
+use Rattle.bohm_tree.specs.Keys.{place, IsAmong}
 use Rattle.bohm_txn.specs.declared.outcome.Reason.{Reason}
 use Rattle.bohm_txn.specs.declared.outcome.Reason.TheVariants as reasons
 use Rattle.bohm_txn.specs.declared.outcome.Outcome.TheVariants as outcomes_are
-use Rattle.bohm_txn.specs.Declares.{IsAmong, StmtReads}
+use Rattle.bohm_txn.specs.Declares.{StmtReads}
 use Rattle.bohm_txn.specs.Meaning.{Look, Run, Ended, newest, then_try, then_do, sum_value, cond_value, guard_value, is_present, bind, write, show, needs, seen, perform, or_stop, body_from, body}
 use Rattle.bohm_txn.specs.Serial.{writes_of, shows_of, outcome_of}
 use Rattle.bohm_txn.specs.Tables.{cell_from, cell_at, set_from, replaced, seen_after, Tables, start, written, run_with, taken, step, stop_at, tables_from}

@@ -1,15 +1,11 @@
 -- What a transaction declares, and what its statements read and write.
-use Rattle.std.specs.Prelude.{◌≡◌, ℕ, ◌≤◌, List, Bool, true, ◌⊎◌, count_by, length, Option, Some, None}
+use Rattle.std.specs.Prelude.{ℕ, ◌≤◌, List, Bool, ◌⊎◌, count_by, length, Option, Some, None}
 use Rattle.std.specs.List.{AllByRecursion}
+use Rattle.bohm_tree.specs.Keys.{IsAmong}
 use Rattle.bohm_tree.specs.Stmt.{Stmt}
 use Rattle.bohm_tree.specs.Term.{Atom, Lit, Read, Local}
 use Rattle.bohm_tree.specs.Txn.{Txn}
 use Rattle.bohm_tree.specs.Parts.{sums, tested, target, is_show}
-use Rattle.bohm_txn.specs.Faulty.{is_among}
-
--- the key is one of these
-abbrev pub IsAmong : List (List ℕ) → List ℕ → Type 0
-IsAmong keys k = is_among keys k ≡ true
 
 -- the transaction declares to read or to write the key
 abbrev pub Declares : Txn → List ℕ → Type 0

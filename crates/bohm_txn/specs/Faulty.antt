@@ -1,12 +1,11 @@
 -- What is faulty in a document, and where. Transaction 0 is the document as a whole, and statement 0 a transaction's sets and counts.
-use Rattle.std.specs.Prelude.{◌≡◌, ℕ, zero, suc, ℤ, ◌<◌, List, [], ◌∷◌, length, take, map, count_by, Bool, true, false, ◌&&◌, ◌||◌, not, nat_le, Option, Some, None, ◌⊎◌}
+use Rattle.std.specs.Prelude.{◌≡◌, ℕ, zero, suc, ◌<◌, List, [], ◌∷◌, length, take, count_by, Bool, true, false, ◌||◌, not, nat_le, ◌⊎◌}
 use Rattle.std.specs.List.{list_all, list_any}
 use Rattle.std.specs.Str.{bytes_eq}
-use Rattle.std.specs.Ordering.{nat_cmp, is_lt}
-use Rattle.std.specs.Cmp.Lexicographic.{slice_cmp}
 use Rattle.bohm_txn.specs.declared.fault.CheckFault.{CheckFault}
 use Rattle.bohm_txn.specs.declared.fault.CheckKind.{CheckKind}
 use Rattle.bohm_txn.specs.declared.fault.CheckKind.TheVariants.{Order, Unread, Unwritten, Local, Limit}
+use Rattle.bohm_tree.specs.Keys.{rising, names_of, is_among, some_passes}
 use Rattle.bohm_tree.specs.Term.{Atom, Lit, Read}
 use Rattle.bohm_tree.specs.Term as atoms
 use Rattle.bohm_tree.specs.Stmt.{Stmt}
@@ -14,26 +13,7 @@ use Rattle.bohm_tree.specs.Txn.{Txn}
 use Rattle.bohm_tree.specs.Document.{Document}
 use Rattle.bohm_tree.specs.Parts.{sums, tested, target, bound, is_show}
 
--- ---- keys, names and sums
-
-abbrev pub rises_from : List ℕ → List (List ℕ) → Bool
-rises_from k [] = true
-rises_from k (n ∷ ns) = is_lt (slice_cmp nat_cmp k n) && rises_from n ns
-
--- each key is below the next
-abbrev pub rising : List (List ℕ) → Bool
-rising [] = true
-rising (k ∷ ks) = rises_from k ks
-
-abbrev pub names_of : List (List ℕ × ℤ) → List (List ℕ)
-names_of entries = map (λ e. e.0) entries
-
-abbrev pub is_among : List (List ℕ) → List ℕ → Bool
-is_among keys k = list_any (λ x. bytes_eq x k) keys
-
-abbrev pub some_passes : (List ℕ → Bool) → Option (List ℕ) → Bool
-some_passes p None = false
-some_passes p (Some k) = p k
+-- ---- names and terms
 
 abbrev pub binds : List ℕ → Stmt → Bool
 binds x s = some_passes (λ y. bytes_eq y x) (bound s)

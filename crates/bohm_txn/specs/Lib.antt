@@ -10,5 +10,7 @@ pub mod Results
 pub mod Room
 pub mod Tables
 pub mod Rows
+pub mod ReplyRows
 pub mod Seeing
+pub mod Performing
 pub mod Literals

@@ -1,5 +1,5 @@
 -- Room for a transaction's work.
-use Rattle.std.specs.Prelude.{◌≡◌, ◌+◌, ◌≤◌, length}
+use Rattle.std.specs.Prelude.{◌≡◌, ◌+◌, ◌<◌, ◌≤◌, length}
 use Rattle.bohm_tree.specs.Txn.{Txn}
 use Rattle.bohm_txn.specs.declared.work.Work.{Work}
 use Rattle.bohm_txn.specs.Tables.{Tables}
@@ -13,6 +13,11 @@ pub record IsRoomy (w : Work) : Type 0 where
   pub seen : 16 ≤ w.seen.1
   pub cells : 16 ≤ w.cells.1
   pub shows : 64 ≤ w.shows.1
+
+-- there is room for what one statement more binds and shows
+pub record HasRoom (w : Work) : Type 0 where
+  pub locals : length w.locals.0 < w.locals.1
+  pub shows : length w.shows.0 < w.shows.1
 
 -- each declared key has its cell
 pub record IsSized (t : Txn) (w : Work) : Type 0 where

@@ -1,8 +1,16 @@
 -- What a statement sees.
-use Rattle.bohm_txn.specs.declared.view.View.{View}
+use Rattle.std.specs.Prelude.{ℕ}
+use Rattle.bohm_tree.specs.declared.cmp.Cmp.{Cmp}
+use Rattle.bohm_tree.specs.Stmt.{Cond}
+use Rattle.bohm_log.specs.Parts.{Parts, sum_between}
+use Rattle.bohm_txn.specs.declared.environment.Environment.{Environment}
 use Rattle.bohm_txn.specs.Meaning.{Look}
 use Rattle.bohm_txn.specs.Tables.{cell_at}
 
 -- what each key holds to a statement: a key that isn't declared holds nothing
-abbrev pub look_of : View → Look
-look_of v = cell_at v.txn.now.reads v.cells.now
+abbrev pub look_of : Environment → Look
+look_of e = cell_at e.txn.now.reads e.cells.now
+
+-- the comparison of two sums, one behind the other
+abbrev pub cond_between : Parts → Cmp → ℕ → ℕ → ℕ → Cond
+cond_between p cmp i j k = record { left = sum_between p i j; cmp = cmp; right = sum_between p j k }

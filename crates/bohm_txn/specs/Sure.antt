@@ -7,7 +7,7 @@ use Rattle.bohm_tree.specs.Stmt.{Cond, Stmt, Bind, Need, Has, Lacks, Put, Remove
 use Rattle.bohm_tree.specs.Term.{Atom, Lit, Read, Local}
 use Rattle.bohm_tree.specs.Txn.{Txn}
 use Rattle.bohm_tree.specs.Parts.{target}
-use Rattle.bohm_txn.specs.Faulty.{some_passes}
+use Rattle.bohm_tree.specs.Keys.{some_passes}
 use Rattle.bohm_txn.specs.Meaning.{sum_value}
 
 abbrev pub is_lit : Atom → Bool

@@ -1,12 +1,12 @@
 -- What `eval` keeps while it runs a body: a cell for each declared key in place of the list of writes.
 use Rattle.std.specs.Prelude.{ℕ, ℤ, ◌+◌, List, [], ◌∷◌, Option, Some, None, Result, Ok, Err, slice_set, slice_index_or}
-use Rattle.bohm_tree.specs.Name.{place}
 use Rattle.bohm_tree.specs.declared.cell.Cell.{Cell}
 use Rattle.bohm_tree.specs.declared.cell.Cell.TheVariants.{Absent}
 use Rattle.bohm_tree.specs.Stmt.{Stmt}
 use Rattle.bohm_tree.specs.declared.edition.Edition.{Edition}
 use Rattle.bohm_tree.specs.declared.edition.Edition.TheVariants.{One, Two}
 use Rattle.bohm_tree.specs.Txn.{Txn}
+use Rattle.bohm_tree.specs.Keys.{place}
 use Rattle.bohm_txn.specs.declared.outcome.Reason.{Reason}
 use Rattle.bohm_txn.specs.Meaning.{Look, Locals, Run, perform, then_do}
 

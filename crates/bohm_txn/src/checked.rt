@@ -1,10 +1,11 @@
 //! Documents that passed the check.
 
 ghost use Rattle.std.specs.Prelude.{◌≡◌, ◌≤◌, true, length, All, IfOk, IfErr};
-ghost use Rattle.bohm_txn.specs.Faulty.{WellFormed, IsFirstFault, IsWellFormedTxn, rising, names_of};
+ghost use Rattle.bohm_tree.specs.Keys.{rising, names_of};
+ghost use Rattle.bohm_txn.specs.Faulty.{WellFormed, IsFirstFault, IsWellFormedTxn};
 
 use crate::fault::CheckFault;
-use crate::finding::first_fault;
+use crate::first_fault::first_fault;
 use bohm_log::{Doc, LogPart};
 use bohm_tree::{Edition, Key, Value};
 use std::marker::Model;

@@ -1,10 +1,11 @@
 //! Laws over the definitions alone, for the proofs of the crates above. No running call uses them.
 
-ghost use Rattle.std.specs.Prelude.{◌≡◌, true, All, ℕ, suc, ◌+◌, List, length, map, Some, Ok};
+ghost use Rattle.std.specs.Prelude.{◌≡◌, true, All, ℕ, suc, List, length, map, Some, Ok};
 ghost use Rattle.bohm_tree.specs.Document.{Document};
 ghost use Rattle.bohm_tree.specs.Txn.{Txn};
-ghost use Rattle.bohm_txn.specs.Declares.{IsUsable, IsAmong, shows_in};
-ghost use Rattle.bohm_txn.specs.Faulty.{WellFormed, IsWellFormedTxn, rising};
+ghost use Rattle.bohm_tree.specs.Keys.{IsAmong, rising};
+ghost use Rattle.bohm_txn.specs.Declares.{IsUsable, shows_in};
+ghost use Rattle.bohm_txn.specs.Faulty.{WellFormed, IsWellFormedTxn};
 ghost use Rattle.std.specs.List.{AllByRecursion, slice_get};
 ghost use Rattle.bohm_txn.specs.Meaning.{Look, Run, body};
 ghost use Rattle.bohm_txn.specs.Serial.{writes_of, after, state};
@@ -34,7 +35,8 @@ pub fn sets_are_rising()
 /// A well-formed transaction's body depends on its declared reads alone.
 pub fn same_body()
     ensures { (t : Txn) (look other : Look) → IsWellFormedTxn t
-        → ((k : List ℕ) → IsAmong t.reads k → look k ≡ other k) → body look t ≡ body other t }
+        → ((k : List ℕ) → IsAmong t.reads k → look k ≡ other k)
+        → body look t ≡ body other t }
 {}
 
 /// It changes its declared writes alone.

@@ -1,10 +1,12 @@
 //! What the check asks of a statement's sums and names, by places.
 
-ghost use Rattle.std.specs.Prelude.{◌≡◌, ◌<◌, ◌≤◌, not, length, map, All};
+ghost use Rattle.std.specs.Prelude.{◌≡◌, ◌<◌, ◌≤◌, length, map, All};
 ghost use Rattle.std.specs.List.{flat_map, list_all, list_any};
 ghost use Rattle.bohm_tree.specs.Parts.{bound, sums};
+ghost use Rattle.bohm_tree.specs.Keys.{some_passes};
 ghost use Rattle.bohm_log.specs.Parts.{RowIn, TermIn, name_at, stmt_of, term_of};
-ghost use Rattle.bohm_txn.specs.Faulty.{is_bound, locals_bound, some_passes, is_unread, is_unwritten, is_misnamed, is_long};
+ghost use Rattle.bohm_txn.specs.Faulty.{is_bound, locals_bound, is_unread, is_unwritten};
+ghost use Rattle.bohm_txn.specs.Faulty.{is_misnamed, is_long};
 ghost use Rattle.bohm_txn.specs.Rows.{end_of, is_declared, tests_key, writes_key, binds_at};
 
 use bohm_log::{Action, AtomKind, PlacedTxn, StmtRow, TermRow};
@@ -98,7 +100,8 @@ fn are_binding(rows: &[StmtRow], place: u32) -> bool
 fn is_bound(txn: &PlacedTxn<'_>, before: &[StmtRow], place: u32) -> bool
     requires inside { place < length txn.now.others }
     requires before { All (RowIn txn.now) before.now }
-    ensures { result ≡ is_bound (map (stmt_of txn.now) before.now) (name_at txn.now.others place) }
+    ensures { result
+        ≡ is_bound (map (stmt_of txn.now) before.now) (name_at txn.now.others place) }
 {
     let _ = txn.others();
     are_binding(before, place)

@@ -1,6 +1,7 @@
 //! Transactions that commit over every store, with the same cells.
 
-ghost use Rattle.std.specs.Prelude.{◌≡◌, ◌+◌, ◌^◌, ◌<◌, ◌≤◌, IfSome, All, length, map};
+ghost use Rattle.std.specs.Prelude.{◌≡◌, ◌+◌, ◌^◌, ◌<◌, ◌≤◌, IfSome, All};
+ghost use Rattle.std.specs.Prelude.{length, map};
 ghost use Rattle.std.specs.List.{list_all};
 ghost use Rattle.bohm_log.specs.Parts.{RowIn, TermIn, stmt_of, sum_between, term_of};
 ghost use Rattle.bohm_txn.specs.Sure.{is_sure_sum, is_sure_stmt, is_target, is_sure};

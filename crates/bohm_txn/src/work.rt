@@ -1,15 +1,18 @@
 //! Running a body, statement by statement.
 
-ghost use Rattle.std.specs.Prelude.{◌≡◌, ◌≤◌, ◌<◌, List, [], ◌∷◌, length, true, MatchResult, IfOk, Ok, Err};
-ghost use Rattle.bohm_log.specs.Parts.{RowIn, name_at, stmt_of, txn_of};
-ghost use Rattle.bohm_txn.specs.Declares.{AllShort, IsAmong, StmtWrites};
-ghost use Rattle.bohm_txn.specs.Faulty.{rising, IsWellFormedTxn};
+ghost use Rattle.std.specs.Prelude.{◌≡◌, ◌≤◌, ◌<◌, [], length, true, false};
+ghost use Rattle.std.specs.Prelude.{MatchResult, IfOk, Ok, Err};
+ghost use Rattle.bohm_tree.specs.Keys.{rising};
+ghost use Rattle.bohm_log.specs.Parts.{name_at, stmt_of, txn_of};
+ghost use Rattle.bohm_txn.specs.Faulty.{IsWellFormedTxn};
+ghost use Rattle.bohm_txn.specs.Performing.{CanPerform};
 ghost use Rattle.bohm_txn.specs.Seeing.{look_of};
 ghost use Rattle.bohm_txn.specs.Tables.{cell_at, start, replaced, written, step, tables_from};
+ghost use Rattle.bohm_txn.specs.declared.outcome.Reason.TheVariants as reasons;
 
+use crate::environment::Environment;
 use crate::outcome::Reason;
 use crate::room::Room;
-use crate::view::View;
 use bohm_log::{Action, PlacedTxn, StmtRow};
 use bohm_tree::{Cell, Edition, Key, MOST_KEYS, MOST_STMTS, NoMemory, Value};
 use std::alloc::Global;
@@ -27,8 +30,16 @@ pub struct Work {
     pub shows: Room<Value>,
 }
 
+/// Goes on where it holds.
+fn need(holds: bool) -> Result<(), Reason>
+    ensures { MatchResult result (λ _. holds ≡ true)
+        (λ reason. (holds ≡ false) × (reason ≡ reasons.Need)) }
+{
+    if holds { Ok(()) } else { Err(Reason::Need) }
+}
+
 impl Work {
-    ghost use Rattle.bohm_txn.specs.Room.{tables_of, IsRoomy, IsSized, Grows};
+    ghost use Rattle.bohm_txn.specs.Room.{tables_of, IsRoomy, IsSized, HasRoom, Grows};
 
     pub fn new(alloc: Global) -> Result<Work, NoMemory>
         ensures room { IfOk result IsRoomy }
@@ -43,7 +54,7 @@ impl Work {
         })
     }
 
-    fn view<'a>(&'a self, txn: &'a PlacedTxn<'a>) -> View<'a>
+    fn environment<'a>(&'a self, txn: &'a PlacedTxn<'a>) -> Environment<'a>
         requires sized { length self.now.seen.0 ≡ length txn.now.reads }
         requires rising { rising txn.now.reads ≡ true }
         requires few { length txn.now.reads ≤ 16 }
@@ -51,7 +62,7 @@ impl Work {
         ensures locals { result.locals.now ≡ self.now.locals.0 }
         ensures txn { result.txn.now ≡ txn.now }
     {
-        View {
+        Environment {
             txn,
             cells: self.seen.as_slice(),
             locals: self.locals.as_slice(),
@@ -64,8 +75,9 @@ impl Work {
         requires sized { length self.old.seen.0 ≡ length txn.now.reads }
         requires place { place < length txn.now.writes }
         ensures locals { self.new.locals ≡ self.old.locals }
-        ensures seen { self.new.seen
-            ≡ (replaced txn.now.reads self.old.seen.0 (name_at txn.now.writes place) cell.now, self.old.seen.1) }
+        ensures seen { self.new.seen.0
+            ≡ replaced txn.now.reads self.old.seen.0 (name_at txn.now.writes place) cell.now }
+        ensures room { self.new.seen.1 ≡ self.old.seen.1 }
         ensures cells { self.new.cells ≡ self.old.cells }
         ensures shows { self.new.shows ≡ self.old.shows }
     {
@@ -93,63 +105,46 @@ impl Work {
         }
     }
 
+    /// Runs one statement; or why it fails.
     fn perform(
         &mut self,
         edition: Edition,
         txn: &PlacedTxn<'_>,
         row: &StmtRow,
     ) -> Result<(), Reason>
+        requires can { CanPerform txn.now row.now }
         requires sized { IsSized (txn_of edition txn.now) self.old }
-        requires rising_reads { rising txn.now.reads ≡ true }
-        requires rising_writes { rising txn.now.writes ≡ true }
-        requires few_reads { length txn.now.reads ≤ 16 }
-        requires few_writes { length txn.now.writes ≤ 16 }
-        requires row { RowIn txn.now row.now }
-        requires short { AllShort (stmt_of txn.now row.now) }
-        requires declared { StmtWrites (IsAmong txn.now.writes) (stmt_of txn.now row.now) }
-        requires locals { length self.old.locals.0 < self.old.locals.1 }
-        requires shows { length self.old.shows.0 < self.old.shows.1 }
-        ensures outcome { MatchResult result
-            (λ _. step (txn_of edition txn.now) (tables_of self.old) (stmt_of txn.now row.now) ≡ Ok (tables_of self.new))
-            (λ reason. step (txn_of edition txn.now) (tables_of self.old) (stmt_of txn.now row.now) ≡ Err reason) }
+        requires room { HasRoom self.old }
+        ensures outcome { let next = step (txn_of edition txn.now) (tables_of self.old)
+            (stmt_of txn.now row.now) in
+            MatchResult result
+            (λ _. next ≡ Ok (tables_of self.new)) (λ reason. next ≡ Err reason) }
         ensures sized { IsSized (txn_of edition txn.now) self.new }
         ensures room { Grows self.old self.new }
     {
         let (start, first, second, third) = (row.start, row.first, row.second, row.third);
         match row.action {
             Action::Bind => {
-                let value = self.view(txn).sum(start, first)?;
+                let value = self.environment(txn).sum(start, first)?;
                 let name = txn.others()[row.name as usize];
                 self.locals.push((name, value));
             }
-            Action::Need(cmp) => {
-                if !self.view(txn).holds(cmp, start, first, second)? {
-                    return Err(Reason::Need);
-                }
-            }
-            Action::Has => {
-                if !self.view(txn).has(row.declared, row.name) {
-                    return Err(Reason::Need);
-                }
-            }
-            Action::Lacks => {
-                if self.view(txn).has(row.declared, row.name) {
-                    return Err(Reason::Need);
-                }
-            }
+            Action::Need(cmp) => need(self.environment(txn).holds(cmp, start, first, second)?)?,
+            Action::Has => need(self.environment(txn).has(row.declared, row.name))?,
+            Action::Lacks => need(!self.environment(txn).has(row.declared, row.name))?,
             Action::Put => {
-                let value = self.view(txn).sum(start, first)?;
+                let value = self.environment(txn).sum(start, first)?;
                 self.write(edition, txn, row.name, Cell::Present(value));
             }
             Action::PutWhen(cmp) => {
-                if self.view(txn).holds(cmp, first, second, third)? {
-                    let value = self.view(txn).sum(start, first)?;
+                if self.environment(txn).holds(cmp, first, second, third)? {
+                    let value = self.environment(txn).sum(start, first)?;
                     self.write(edition, txn, row.name, Cell::Present(value));
                 }
             }
             Action::Remove => self.write(edition, txn, row.name, Cell::Absent),
             Action::Show => {
-                let value = self.view(txn).sum(start, first)?;
+                let value = self.environment(txn).sum(start, first)?;
                 self.shows.push(value);
             }
             Action::Fail => return Err(Reason::Fail),

@@ -10,7 +10,7 @@ ghost use Rattle.bohm_line.specs.declared.line.note.PlanNote.{PlanNote};
 
 use crate::line::note::{Line, PlanNote};
 use crate::line::rule::{End, InOrder, Roles, Sends, Takes};
-use bohm_txn::NoMemory;
+use bohm_tree::NoMemory;
 use crossbeam_channel::{Pass, RuledReceiver, RuledSender, bounded_with};
 use std::alloc::Global;
 use std::marker::Model;

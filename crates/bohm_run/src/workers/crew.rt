@@ -2,7 +2,8 @@
 
 ghost use Rattle.std.specs.Prelude.{◌≡◌, ◌+◌, ◌<◌, ◌≤◌, IfOk, OnOk, vec_len};
 
-use bohm_txn::{NoMemory, Scratch};
+use bohm_tree::NoMemory;
+use bohm_txn::Scratch;
 use std::alloc::Global;
 
 /// The scratches of a number of workers, which are made once and go through all batches of a run. A

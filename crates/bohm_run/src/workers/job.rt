@@ -1,13 +1,14 @@
 //! What one worker does.
 
-ghost use Rattle.std.specs.Prelude.{◌≡◌, ◌<◌, IfOk, map};
+ghost use Rattle.std.specs.Prelude.{◌≡◌, ◌<◌, IfOk};
 ghost use Rattle.bohm_board.specs.Passes.{IsPassOf, HoldsNothing, batch_of, view};
 ghost use Rattle.bohm_exec.specs.Asides.{positions_in};
 ghost use Rattle.bohm_run.specs.Sweeps.{IsShareSwept, IsReady, IsSwept};
 
 use bohm_board::{Board, Pass};
 use bohm_exec::{Aside, Gate, share_of, sweep};
-use bohm_txn::{NoMemory, Scratch};
+use bohm_tree::NoMemory;
+use bohm_txn::Scratch;
 use std::alloc::Global;
 
 /// One of `count` workers: it has each position whose distance from the batch's first is its own

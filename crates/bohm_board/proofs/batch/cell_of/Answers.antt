@@ -6,7 +6,7 @@ use Rattle.std.proofs.lemmas.Option.{slice_get-map, slice_get_read}
 use Rattle.bohm_tree.specs.declared.cell.Cell.TheVariants.{Absent}
 use Rattle.bohm_txn.proofs.ForCallers.{same_key}
 use Rattle.bohm_board.specs.Bases.{keys_of}
-use Rattle.bohm_board.proofs.Searched.{Entry, newest_there}
+use Rattle.bohm_board.proofs.EntrySearch.{Entry, newest_there}
 use Rattle.bohm_board.proofs.batch.cell_of.Goals as goal
 
 pub returns-then-eq : goal.returns-then-eq

@@ -1,6 +1,6 @@
 use Rattle.std.proofs.Common.{rules, arith, ◌≡◌, ℕ, ◌+◌, get_or, sym, ap, ◌∙◌}
 use Rattle.std.specs.Slots.{slots_items}
-use Rattle.bohm_board.proofs.Showing.{put_at, found_at}
+use Rattle.bohm_board.proofs.StateUpdates.{put_at, found_at}
 use Rattle.bohm_board.proofs.closed.copy_words.Goals as goal
 
 pub loop-j-preserved : goal.loop-j-preserved

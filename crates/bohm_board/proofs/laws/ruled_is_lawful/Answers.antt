@@ -1,6 +1,6 @@
 use Rattle.std.proofs.Common.{sym, ◌∙◌}
-use Rattle.bohm_board.proofs.Lawful.{one_holder}
-use Rattle.bohm_board.proofs.Runs.{reached_lawful}
+use Rattle.bohm_board.proofs.BoardLaw.{one_holder}
+use Rattle.bohm_board.proofs.EventRuns.{reached_lawful}
 use Rattle.bohm_board.proofs.laws.ruled_is_lawful.Goals as goal
 
 pub returns-clause-lawful : goal.returns-clause-lawful

@@ -1,13 +1,16 @@
-use Rattle.std.proofs.Common.{arith, ◌≡◌, ℕ, ◌∷◌, [], ◌++◌, get_or, take, ap, ◌∙◌, inl}
+use Rattle.std.proofs.Common.{rules, arith, ◌≡◌, ℕ, ◌∷◌, [], ◌++◌, get_or, take, ap, ◌∙◌, subst, inl}
 use Rattle.std.specs.Prelude.{Vec}
+use Rattle.std.specs.Borrow.{Bor}
 use Rattle.std.specs.Global.{Global}
 use Rattle.std.proofs.lemmas.List.{take_more}
 use Rattle.std.proofs.lemmas.List.Elements.{All-push, All-from_get_or}
+use Rattle.bohm_board.specs.declared.board.Board.{Board}
 use Rattle.bohm_board.specs.Batches.{Leads}
 use Rattle.bohm_board.specs.Passes.{batch_of, view}
 use Rattle.bohm_board.proofs.ForCallers.{keeps_then}
 use Rattle.bohm_exec.specs.Asides.{IsAccountedFor, positions_in}
-use Rattle.bohm_exec.proofs.Accounts.{accounted_later, accounted_pushed, accounted_here, next, busy_more, picked_skip, picked_pair}
+use Rattle.bohm_exec.specs.Turns.{IsEmptyFor, IsFree}
+use Rattle.bohm_exec.proofs.Accounts.{accounted_later, accounted_pushed, accounted_here, accounted_as, next, busy_more, picked_skip, picked_pair}
 use Rattle.bohm_exec.proofs.sweeping.sweep.Goals as goal
 use Rattle.bohm_exec.proofs.sweeping.sweep.Goals.{in-Some+in-Ok, in_default}
 
@@ -18,11 +21,15 @@ loop-start-preserved g c =
     let share = c.args.share.now in
     let n = c.loop-start.start-index in
     let start = get_or share n 0 in
-    let old = view c.loop-start.pass in
-    let new = view c.pursue.new.pass in
+    let old = view c.loop-start.sweeper.stepper.pass.now in
+    let new = view c.pursue.new.self.stepper.pass.now in
     let pairs = c.loop-start.pairs.items in
     let keeps = c.pursue.ensures.keeps in
     let all = keeps_then (view c.args.pass.now) old new inv.keeps keeps in
+    let free = subst (λ (z : Board). IsFree z c.pursue.new.self.stepper.pass.now) inv.board c.pursue.ensures.free in
+    let stack = subst (λ (z : Board). IsEmptyFor (batch_of z) c.pursue.new.self.stack.now) inv.board c.pursue.ensures.stack in
+    let board = ap (λ (z : Bor Board). z.now) c.pursue.ensures.same.board ∙ inv.board in
+    let pass = c.pursue.ensures.same.pass ∙ inv.pass in
     let front = take_more share n 0 c.loop-start-test.true in
     elim c.match-pursue.branch [
       | in-Some+in-Ok w ↦
@@ -31,21 +38,26 @@ loop-start-preserved g c =
           let grown : c.match-pursue.pairs.items ≡ pairs ++ p ∷ [] = ap (λ (z : Vec (ℕ × ℕ) Global). z.items) w.pairs-is ∙ w.in-Ok.ensures.items in
           let wide = w.push.ensures.capacity in
           let long = w.in-Ok.ensures.len in
+          let leads = subst (λ (z : Board). Leads (batch_of z) start v) inv.board w.in-Some.ensures.done in
           record {
-            free = c.pursue.ensures.free;
-            stack = c.pursue.ensures.stack;
+            board = board;
+            pass = pass;
+            free = free;
+            stack = stack;
             space = rw w.pairs-is (omega (arith, inv.space, wide));
             count = rw w.pairs-is (omega (arith, inv.count, long));
             keeps = all;
-            leads = rw grown (All-push (λ (q : ℕ × ℕ). Leads b q.0 q.1) pairs p inv.leads w.in-Some.ensures.done);
+            leads = rw grown (All-push (λ (q : ℕ × ℕ). Leads b q.0 q.1) pairs p inv.leads leads);
             busy = rw grown (busy_more (view c.args.pass.now).busy old.busy new.busy pairs p inv.busy w.in-Some.ensures.busy);
             each = rw grown (next (IsAccountedFor b new (pairs ++ p ∷ [])) share n
                 (λ i l. accounted_pushed b new pairs p (get_or share i 0) (accounted_later b old new pairs (get_or share i 0) keeps (inv.each i l))) (accounted_here b new pairs p));
             order = rw grown (rw front (picked_pair pairs p (take n share) inv.order));
           }
       | in_default w ↦ record {
-        free = c.pursue.ensures.free;
-        stack = c.pursue.ensures.stack;
+        board = board;
+        pass = pass;
+        free = free;
+        stack = stack;
         space = rw w.pairs-is inv.space;
         count = rw w.pairs-is (omega (arith, inv.count));
         keeps = all;
@@ -60,5 +72,5 @@ pub returns-clause-each : goal.returns-clause-each
 returns-clause-each g c =
     let b = batch_of c.args.board.now in
     let share = c.args.share.now in
-    let each = All-from_get_or (IsAccountedFor b (view c.loop-start.pass) c.loop-start.pairs.items) share 0 (λ i l. c.loop-start.invariant.each i (omega arith)) in
-    rw c.new.ensures each
+    let each = All-from_get_or (IsAccountedFor b (view c.loop-start.sweeper.stepper.pass.now) c.loop-start.pairs.items) share 0 (λ i l. c.loop-start.invariant.each i (omega arith)) in
+    rw c.new.ensures (accounted_as b (view c.loop-start.sweeper.stepper.pass.now) c.loop-start.pairs.items share _ (search rules) each)

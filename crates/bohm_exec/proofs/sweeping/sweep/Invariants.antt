@@ -9,13 +9,15 @@ use Rattle.bohm_exec.proofs.sweeping.sweep.Given as goal
 
 abbrev pub invariant-loop-start : goal.invariant-loop-start
 invariant-loop-start g l = record {
-  free : IsFree l.board l.pass;
-  stack : IsEmptyFor (batch_of l.board) l.stack;
+  board : l.sweeper.stepper.board.now ≡ l.fn.board;
+  pass : l.sweeper.stepper.pass.ghost_name ≡ l.initial.sweeper.stepper.pass.ghost_name;
+  free : IsFree l.fn.board l.sweeper.stepper.pass.now;
+  stack : IsEmptyFor (batch_of l.fn.board) l.sweeper.stack.now;
   space : length l.share ≤ vec_capacity l.pairs;
   count : vec_len l.pairs ≤ l.start-index;
-  keeps : Keeps (view l.fn.pass) (view l.pass);
-  leads : All (λ (p : ℕ × ℕ). Leads (batch_of l.board) p.0 p.1) l.pairs.items;
-  busy : (view l.pass).busy ≡ (view l.fn.pass).busy ++ busy_in l.pairs.items;
-  each : (i : ℕ) → i < l.start-index → IsAccountedFor (batch_of l.board) (view l.pass) l.pairs.items (get_or l.share i 0);
+  keeps : Keeps (view l.fn.pass) (view l.sweeper.stepper.pass.now);
+  leads : All (λ (p : ℕ × ℕ). Leads (batch_of l.fn.board) p.0 p.1) l.pairs.items;
+  busy : (view l.sweeper.stepper.pass.now).busy ≡ (view l.fn.pass).busy ++ busy_in l.pairs.items;
+  each : (i : ℕ) → i < l.start-index → IsAccountedFor (batch_of l.fn.board) (view l.sweeper.stepper.pass.now) l.pairs.items (get_or l.share i 0);
   order : IsPickedFrom (positions_in l.pairs.items) (take l.start-index l.share);
 }

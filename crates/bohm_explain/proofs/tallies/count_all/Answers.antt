@@ -1,6 +1,6 @@
 use Rattle.std.proofs.Common.{arith}
+use Rattle.bohm_tree.specs.Keys.{is_among}
 use Rattle.bohm_place.specs.declared.declared_set.DeclaredSet.TheVariants.{Reads, Writes}
-use Rattle.bohm_txn.specs.Faulty.{is_among}
 use Rattle.bohm_explain.specs.Tallies.{lists, tally}
 use Rattle.bohm_explain.proofs.Tallying.{counted_txn, listed_txn, rising_item, room_behind, room_inside}
 use Rattle.bohm_explain.proofs.tallies.count_all.Goals as goal

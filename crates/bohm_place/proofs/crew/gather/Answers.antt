@@ -4,9 +4,9 @@ use Rattle.std.proofs.lemmas.List.{get_or-set_other, length-set}
 use Rattle.std.proofs.lemmas.List.Elements.{All-push}
 use Rattle.bohm_tree.specs.declared.memory.NoMemory.{NoMemory}
 use Rattle.bohm_place.specs.declared.placeholder.Placeholder.{Placeholder}
-use Rattle.bohm_place.specs.declared.by_number.Walked.{Walked}
-use Rattle.bohm_place.specs.Shares.{has_part, found_by, ahead_of}
-use Rattle.bohm_place.specs.Numbered.{IsWalked}
+use Rattle.bohm_place.specs.declared.by_number.FoundByNumber.{FoundByNumber}
+use Rattle.bohm_place.specs.Shares.{keys_of, found_by, ahead_of}
+use Rattle.bohm_place.specs.Numbered.{IsFoundByNumber}
 use Rattle.bohm_place.proofs.Found.{found_first, found_next, length-found_by}
 use Rattle.bohm_place.proofs.crew.gather.Goals.{then-number-eq0, else-number-eq0}
 use Rattle.bohm_place.proofs.crew.gather.Goals as goal
@@ -16,30 +16,30 @@ join-requires g c =
     let part = g.P.Partition.part_of c.args.partition.now in
     let n = c.len-count.result in
     let w = c.loop-number.number in
-    let txns = c.args.txns.now in
-    let source = ahead_of c.args.first in
-    let share = c.in_ok-more.field-0 in
-    let there : Result Walked NoMemory = c.index_mut.result.now in
-    let is : slice_index_or c.loop-number.walked.items w there ≡ Ok share = cc (c.index_mut.ensures.value, c.replace.ensures.value, c.in_ok-more.was) in
-    let told = c.loop-number.invariant.walked w there (omega arith) (omega arith) in
-    let right : IsWalked (has_part part n w) c.args.first txns share.found.items share.newest = rw is at told in
+    let txns = c.args.batch.txns.now in
+    let source = ahead_of c.args.batch.first in
+    let more_found = c.in_ok-more.field-0 in
+    let there : Result FoundByNumber NoMemory = c.index_mut.result.now in
+    let is : slice_index_or c.loop-number.each.items w there ≡ Ok more_found = cc (c.index_mut.ensures.value, c.replace.ensures.value, c.in_ok-more.was) in
+    let told = c.loop-number.invariant.each w there (omega arith) (omega arith) in
+    let right : IsFoundByNumber (keys_of part n w) c.args.batch.first txns more_found.found.items more_found.newest = rw is at told in
     let more : 0 < w = omega arith in
-    rw (c.as_mut_slice.ensures.value, c.deref.ensures.value, c.loop-number.invariant.found more, right.found) (length-found_by (λ k. nat_lt (part k % n) w) (has_part part n w) source [] txns)
+    rw (c.as_mut_slice.ensures.value, c.deref.ensures.value, c.loop-number.invariant.found more, right.found) (length-found_by (λ k. nat_lt (part k % n) w) (keys_of part n w) source [] txns)
 
 pub loop-number-preserved : goal.loop-number-preserved
 loop-number-preserved g c =
     let part = g.P.Partition.part_of c.args.partition.now in
     let n = c.len-count.result in
     let w = c.loop-number.number in
-    let txns = c.args.txns.now in
+    let txns = c.args.batch.txns.now in
     let was = c.loop-number.invariant in
-    let items = c.loop-number.walked.items in
-    let share = c.in_ok-more.field-0 in
-    let source = ahead_of c.args.first in
-    let there : Result Walked NoMemory = c.index_mut.result.now in
-    let is : slice_index_or items w there ≡ Ok share = cc (c.index_mut.ensures.value, c.replace.ensures.value, c.in_ok-more.was) in
-    let told = was.walked w there (omega arith) (omega arith) in
-    let right : IsWalked (has_part part n w) c.args.first txns share.found.items share.newest = rw is at told in
+    let items = c.loop-number.each.items in
+    let more_found = c.in_ok-more.field-0 in
+    let source = ahead_of c.args.batch.first in
+    let there : Result FoundByNumber NoMemory = c.index_mut.result.now in
+    let is : slice_index_or items w there ≡ Ok more_found = cc (c.index_mut.ensures.value, c.replace.ensures.value, c.in_ok-more.was) in
+    let told = was.each w there (omega arith) (omega arith) in
+    let right : IsFoundByNumber (keys_of part n w) c.args.batch.first txns more_found.found.items more_found.newest = rw is at told in
     let found : 0 < w + 1 → c.if-number-eq0.found.items ≡ found_by (λ k. nat_lt (part k % n) (w + 1)) source [] txns =
     λ above. elim c.if-number-eq0.branch [
       | then-number-eq0 b ↦ rw b.found-is (right.found ∙ found_first part n source txns w b.if-number-eq0.true)
@@ -54,8 +54,8 @@ loop-number-preserved g c =
     ] in
     record {
       count = length-set items w c.replace.new.dest ∙ was.count;
-      walked = λ v e low below. rw (get_or-set_other items w v c.replace.new.dest e (λ x. omega arith)) (was.walked v e (omega arith) below);
+      each = λ v e low below. rw (get_or-set_other items w v c.replace.new.dest e (λ x. omega arith)) (was.each v e (omega arith) below);
       arrays = rw c.in_ok-push.ensures.items (length-append c.loop-number.arrays.items _ ∙ omega (arith, was.arrays));
-      below = rw c.in_ok-push.ensures.items (All-push (λ (a : List Placeholder). All (λ v. v.begin < c.args.first + length txns) a) c.loop-number.arrays.items share.newest was.below right.below);
+      below = rw c.in_ok-push.ensures.items (All-push (λ (a : List Placeholder). All (λ v. v.begin < c.args.batch.first + length txns) a) c.loop-number.arrays.items more_found.newest was.below right.below);
       found = found;
     }

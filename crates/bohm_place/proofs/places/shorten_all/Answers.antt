@@ -2,8 +2,7 @@ use Rattle.std.proofs.Common.{◌≡◌, ℕ, ◌<◌, ◌+◌, List, [], if◌t
 use Rattle.std.specs.Str.{bytes_eq}
 use Rattle.std.proofs.lemmas.Bool.{false≢true, or_cases}
 use Rattle.std.proofs.lemmas.List.{drop-set-lt, drop_more, take_all, drop_all}
-use Rattle.bohm_txn.specs.Faulty.{is_among}
-use Rattle.bohm_txn.specs.Declares.{IsAmong}
+use Rattle.bohm_tree.specs.Keys.{is_among, IsAmong}
 use Rattle.bohm_txn.proofs.ForCallers.{front}
 use Rattle.bohm_place.specs.Chains.{items_at, kept_items}
 use Rattle.bohm_place.proofs.Listing.{among_more, kept_more, kept_all, listed_on, listed_now, long_before}

@@ -1,6 +1,5 @@
 use Rattle.std.proofs.Common.{◌≡◌, ℕ, ◌<◌, ◌≤◌, List, length, take, drop, if◌then◌else◌, ◌⊎◌}
-use Rattle.bohm_txn.specs.Faulty.{is_among}
-use Rattle.bohm_txn.specs.Declares.{IsAmong}
+use Rattle.bohm_tree.specs.Keys.{is_among, IsAmong}
 use Rattle.bohm_place.specs.Chains.{items_at, kept_items}
 use Rattle.bohm_place.proofs.places.shorten_all.Given as goal
 

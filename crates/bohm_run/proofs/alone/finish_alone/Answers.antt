@@ -1,4 +1,4 @@
-use Rattle.std.proofs.Common.{◌≡◌, [], ◌∷◌}
+use Rattle.std.proofs.Common.{[], ◌∷◌}
 use Rattle.bohm_board.specs.Passes.{batch_of, view}
 use Rattle.bohm_run.proofs.Swept.{left_aside}
 use Rattle.bohm_run.proofs.OneSweep.{swept_alone}

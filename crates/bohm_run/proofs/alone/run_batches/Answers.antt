@@ -11,7 +11,7 @@ returns-in_err-next c =
     let h = c.loop-place.invariant in
     let log = cutting_of c.args.log in
     let refused : is_ok c.from_residual.result ≡ false = search rules in
-    rw refused (walk_ends c.args.history.now c.loop-place.history log c.loop-place.place c.loop-place.start c.args.keep c.loop-place.answered.items false c.args.log.whole h.0 (λ t. absurd cc) h.1)
+    rw refused (walk_ends c.args.history.now c.loop-place.history log c.loop-place.place c.loop-place.start c.args.keep c.loop-place.answered false c.args.log.whole h.0 (λ t. absurd cc) h.1)
 
 pub returns-in_err-run_batch : goal.returns-in_err-run_batch
 returns-in_err-run_batch c =
@@ -20,8 +20,8 @@ returns-in_err-run_batch c =
     let kept = c.in_err-run_batch.ensures.unanswered in
     let log = cutting_of c.args.log in
     let refused : is_ok c.from_residual-in_err-run_batch.result ≡ false = search rules in
-    let on = stayed c.args.history.now c.loop-place.history c.run_batch.new.history (take c.loop-place.start log.log) c.args.keep c.loop-place.answered.items same h.1 in
-    rw refused (walk_ends c.args.history.now c.run_batch.new.history log c.loop-place.place c.loop-place.start c.args.keep c.run_batch.new.answered.items false c.args.log.whole h.0 (λ t. absurd cc) (rw kept on))
+    let on = stayed c.args.history.now c.loop-place.history c.run_batch.new.history (take c.loop-place.start log.log) c.args.keep c.loop-place.answered same h.1 in
+    rw refused (walk_ends c.args.history.now c.run_batch.new.history log c.loop-place.place c.loop-place.start c.args.keep c.run_batch.new.answered false c.args.log.whole h.0 (λ t. absurd cc) (rw kept on))
 
 pub loop-place-preserved : goal.loop-place-preserved
 loop-place-preserved c =
@@ -29,7 +29,7 @@ loop-place-preserved c =
     let log = cutting_of c.args.log in
     let goes = c.in_ok-run_batch.ensures in
     let next = c.batch-txns.ensures in
-    let on = walked_on c.args.history.now c.loop-place.history c.run_batch.new.history log c.loop-place.place c.loop-place.start c.args.keep c.loop-place.answered.items c.batch-txns.result c.requires.ordered (search rules) h.0 next.txns next.ahead h.1 goes.applied in rw c.len-start.ensures (
+    let on = walked_on c.args.history.now c.loop-place.history c.run_batch.new.history log c.loop-place.place c.loop-place.start c.args.keep c.loop-place.answered c.batch-txns.result c.requires.ordered (search rules) h.0 next.txns next.ahead h.1 goes.applied in rw c.len-start.ensures (
       sym next.ahead,
       rw goes.answered on,
       All-weaker (λ (v : Placeholder). v.begin < (c.top.result + 1) + length c.batch-txns.result) (λ (v : Placeholder). v.begin < c.run_batch.new.history.top + 1) (λ v lt. omega (arith, lt, goes.applied.top, c.top.ensures.top)) c.in_ok-next.next c.in_ok-next.ensures.below,
@@ -38,4 +38,4 @@ loop-place-preserved c =
 pub returns : goal.returns
 returns c =
     let h = c.loop-place.invariant in
-    walk_ends c.args.history.now c.loop-place.history (cutting_of c.args.log) c.loop-place.place c.loop-place.start c.args.keep c.loop-place.answered.items true c.args.log.whole h.0 (λ t. search rules) h.1
+    walk_ends c.args.history.now c.loop-place.history (cutting_of c.args.log) c.loop-place.place c.loop-place.start c.args.keep c.loop-place.answered true c.args.log.whole h.0 (λ t. search rules) h.1

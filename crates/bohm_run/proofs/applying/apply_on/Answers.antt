@@ -1,4 +1,6 @@
-use Rattle.std.proofs.Common.{rules, arith}
+use Rattle.std.proofs.Common.{rules, arith, ◌∙◌}
+use Rattle.bohm_run.specs.Runs.{cutting_behind}
+use Rattle.bohm_run.proofs.Walks.{walk_rests}
 use Rattle.bohm_run.proofs.applying.apply_on.Goals as goal
 
 pub walk-requires-clause-plans : goal.walk-requires-clause-plans
@@ -9,3 +11,9 @@ walk-requires-clause-plans g c κs within = record {
   earlier = c.in-Ok.ensures.unplanned _;
   unsent = c.in-Ok.ensures.unsent;
 }
+
+pub returns-then-is_err : goal.returns-then-is_err
+returns-then-is_err g c = walk_rests c.args.history (cutting_behind c.args.history c.args.txns.now c.args.cuts.now) c.args.keep c.reserve-reserved.new.self (c.reserve-reserved.ensures ∙ c.new-replies.ensures) c.requires.total
+
+pub returns-in-Err : goal.returns-in-Err
+returns-in-Err g c = walk_rests c.args.history (cutting_behind c.args.history c.args.txns.now c.args.cuts.now) c.args.keep c.reserve-reserved.new.self (c.reserve-reserved.ensures ∙ c.new-replies.ensures) c.requires.total

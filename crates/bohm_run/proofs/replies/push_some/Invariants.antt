@@ -11,6 +11,6 @@ abbrev pub invariant-loop-place : goal.invariant-loop-place
 invariant-loop-place l =
     let b = batch_of_finished l.finished in
     record {
-      told : l.replies.items ++ replies (state (base_of b) (txns_of b) l.place) (drop l.place (txns_of b)) ≡ l.initial.replies.items ++ replies_of l.finished;
-      front : (more : List Reply) × (l.replies.items ≡ l.initial.replies.items ++ more);
+      told : l.replies ++ replies (state (base_of b) (txns_of b) l.place) (drop l.place (txns_of b)) ≡ l.initial.replies ++ replies_of l.finished;
+      front : (more : List Reply) × (l.replies ≡ l.initial.replies ++ more);
     }

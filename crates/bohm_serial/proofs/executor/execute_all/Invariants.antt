@@ -6,6 +6,6 @@ use Rattle.bohm_serial.proofs.executor.execute_all.Given as goal
 -- the replies so far and those to what is left are those to all
 abbrev pub invariant-loop-index : goal.invariant-loop-index
 invariant-loop-index l = record {
-  told : l.list.items ++ replies (cell_in l.store) (drop l.index l.log) ≡ replies (cell_in l.initial.store) l.log;
+  told : l.list ++ replies (cell_in l.store) (drop l.index l.log) ≡ replies (cell_in l.initial.store) l.log;
   left : store_after l.store (drop l.index l.log) ≡ store_after l.initial.store l.log;
 }

@@ -2,9 +2,9 @@ use Rattle.std.proofs.Common.{arith, ◌≡◌, ◌<◌, ◌+◌, ◌∷◌, [],
 use Rattle.std.proofs.lemmas.Grind.{common_steps}
 use Rattle.bohm_store.specs.Versions.{KeyedVersion}
 use Rattle.bohm_store.specs.Chains.{chain, Climb}
-use Rattle.bohm_store.proofs.Grows.{added_of, rises_higher, rises_grown, grown_more}
+use Rattle.bohm_store.proofs.ChainEnds.{added_of, rises_higher, rises_grown, grown_more}
 use Rattle.std.specs.HashMap.{keys}
-use Rattle.bohm_store.proofs.Places.{longer_yet, none_among}
+use Rattle.bohm_store.proofs.FollowerPlaces.{longer_yet, none_among}
 use Rattle.bohm_store.proofs.chains.add.Goals as goal
 
 pub returns-then-is_err-clause-chains : goal.returns-then-is_err-clause-chains

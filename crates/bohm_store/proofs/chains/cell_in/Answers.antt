@@ -4,7 +4,7 @@ use Rattle.bohm_tree.specs.declared.cell.Cell.TheVariants.{Absent}
 use Rattle.bohm_store.specs.declared.chain.Chain.{Chain}
 use Rattle.bohm_store.specs.Chains.{chain, items_of}
 use Rattle.bohm_store.specs.Versions.{cell_at}
-use Rattle.bohm_store.proofs.Places.{key_at}
+use Rattle.bohm_store.proofs.FollowerPlaces.{key_at}
 use Rattle.bohm_store.proofs.chains.cell_in.Goals as goal
 
 pub returns : goal.returns

@@ -3,9 +3,9 @@ use Rattle.std.specs.Cmp.Lexicographic.{nat_list_eq_equiv}
 use Rattle.std.specs.Map.{keys_of}
 use Rattle.std.specs.Set.{remove_key}
 use Rattle.std.specs.Str.{bytes_eq}
-use Rattle.bohm_txn.specs.Faulty.{is_among}
+use Rattle.bohm_tree.specs.Keys.{is_among}
 use Rattle.indexmap.proofs.CallerLemmas.{keys-shift_remove_entry}
-use Rattle.bohm_store.proofs.Places.{removed_behind}
+use Rattle.bohm_store.proofs.FollowerPlaces.{removed_behind}
 use Rattle.bohm_store.proofs.chains.retreat.Goals as goal
 
 pub returns-then-not-drop_later-clause-keys : goal.returns-then-not-drop_later-clause-keys

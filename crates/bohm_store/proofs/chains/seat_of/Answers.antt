@@ -1,7 +1,7 @@
 use Rattle.std.proofs.Common.{◌∙◌, sym}
 use Rattle.std.specs.HashMap.{keys}
 use Rattle.std.proofs.lemmas.Slice.Eq.{bytes_eq-Decides}
-use Rattle.bohm_store.proofs.Places.{found_at, key_at}
+use Rattle.bohm_store.proofs.FollowerPlaces.{found_at, key_at}
 use Rattle.bohm_store.proofs.chains.seat_of.Goals as goal
 
 pub returns-clause-stands : goal.returns-clause-stands

@@ -12,8 +12,8 @@ use Rattle.bohm_txn.specs.Stores.{cell_in, cell_of, store_of}
 use Rattle.bohm_tree.specs.declared.cell.Cell.TheVariants.{Present}
 use Rattle.bohm_store.specs.declared.version.Version.{Version}
 use Rattle.bohm_store.specs.declared.chain.Chain.{Chain}
-use Rattle.bohm_store.specs.Chains.{chain, items_of, started}
-use Rattle.bohm_store.proofs.Starts.{started_more, inserted}
+use Rattle.bohm_store.specs.Chains.{chain, items_of, starting_versions}
+use Rattle.bohm_store.proofs.StartingChains.{started_more, inserted}
 use Rattle.bohm_store.proofs.chains.start.Goals as goal
 
 pub loop-key-preserved : goal.loop-key-preserved
@@ -28,9 +28,9 @@ loop-key-preserved c k =
 pub loop-key-init : goal.loop-key-init
 loop-key-init c k =
     let none : chain c.in_ok-chains.chains k ≡ [] = ap (λ (es : List (List ℕ × Chain)). items_of (lookup (bytes_eq k) es)) c.in_ok-chains.ensures.empty in
-    none ∙ sym (ap (λ (o : Option ℤ). started (cell_of o)) (finite.get-empty (slice_cmp nat_cmp) k))
+    none ∙ sym (ap (λ (o : Option ℤ). starting_versions (cell_of o)) (finite.get-empty (slice_cmp nat_cmp) k))
 
 pub returns : goal.returns
 returns c k =
     let whole : take c.loop-key.key-index c.args.entries.now ≡ c.args.entries.now = take_all c.loop-key.key-index c.args.entries.now (omega arith) in
-    subst (λ (es : List (List ℕ × ℤ)). chain c.loop-key.chains k ≡ started (cell_in (store_of es) k)) whole (c.loop-key.invariant k)
+    subst (λ (es : List (List ℕ × ℤ)). chain c.loop-key.chains k ≡ starting_versions (cell_in (store_of es) k)) whole (c.loop-key.invariant k)

@@ -1,7 +1,7 @@
 use Rattle.std.proofs.Common.{arith, ap, ◌≡◌, ◌+◌, ◌-◌, ◌∙◌, append-nil, ◌++◌, get_or, take}
 use Rattle.bohm_store.specs.Versions.{KeyedVersion}
-use Rattle.bohm_store.specs.Chains.{chain, made}
-use Rattle.bohm_store.proofs.Grows.{base_empty, taken}
+use Rattle.bohm_store.specs.Chains.{chain, versions_of_writes}
+use Rattle.bohm_store.proofs.ChainEnds.{base_empty, taken}
 use Rattle.bohm_store.proofs.chains.take_back.Goals as goal
 
 pub loop-i-preserved : goal.loop-i-preserved
@@ -16,7 +16,7 @@ loop-i-preserved c =
       within = omega (arith, c.loop-i.invariant.within);
       left = λ base h k. taken ws i w k (omega (arith, c.loop-i.invariant.within)) (chain c.loop-i.chains k) (chain c.retreat.new.chains k) (base k) (rw next (c.loop-i.invariant.left base h k)) (rw same at (c.retreat.ensures.chains k));
       kept = λ base ks more h e none. (let (rest, at) = c.loop-i.invariant.kept base ks more h e none in
-          let left : chain c.loop-i.chains key ≡ base key ++ made (take (i + 1) ws) key = rw next (c.loop-i.invariant.left base h key) in
+          let left : chain c.loop-i.chains key ≡ base key ++ versions_of_writes (take (i + 1) ws) key = rw next (c.loop-i.invariant.left base h key) in
           c.retreat.ensures.keys ks rest at (λ gone. rw same (none key (base_empty ws i w (omega (arith, c.loop-i.invariant.within)) (chain c.loop-i.chains key) (base key) left (rw same at gone)))));
     }
 

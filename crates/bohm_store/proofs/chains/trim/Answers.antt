@@ -1,8 +1,8 @@
 use Rattle.std.proofs.Common.{◌≡◌, ℕ, List, sym, ◌∙◌, get_or, []}
 use Rattle.std.specs.HashMap.{keys}
-use Rattle.bohm_store.specs.Versions.{kept}
-use Rattle.bohm_store.specs.Chains.{Queued, chain, keyed, waiting, later_begins}
-use Rattle.bohm_store.proofs.Grows.{shifted, kept_all}
+use Rattle.bohm_store.specs.Versions.{kept_versions}
+use Rattle.bohm_store.specs.Chains.{QueuedVersion, chain, queued_by_key, queued_begins, later_begins}
+use Rattle.bohm_store.proofs.ChainEnds.{shifted, kept_all}
 use Rattle.bohm_store.proofs.chains.trim.Goals as goal
 
 pub loop-follower-preserved : goal.loop-follower-preserved
@@ -13,10 +13,11 @@ loop-follower-preserved c =
     let ks = keys c.loop-follower.chains in
     let placed = c.loop-follower.invariant.placed in
     let placed' = rw at at placed in
-    let q : Queued = record { begin = f.begin; key = get_or ks f.place [] } in
-    let step : (k : List ℕ) → (kept c.args.floor (chain c.advance.new.chains k) ≡ kept c.args.floor (chain c.loop-follower.chains k)) × (later_begins (chain c.advance.new.chains k) ≡ waiting (keyed ks fs) k) = λ k. (let h = c.loop-follower.invariant.waits k in let h' = rw at at h in shifted c.args.floor (chain c.loop-follower.chains k) (chain c.advance.new.chains k) q (keyed ks fs) k h' c.in-Some.ensures.1 (c.advance.ensures.chains k)) in
+    let q : QueuedVersion = record { begin = f.begin; key = get_or ks f.place [] } in
+    let step : (k : List ℕ) → (kept_versions c.args.floor (chain c.advance.new.chains k) ≡ kept_versions c.args.floor (chain c.loop-follower.chains k)) × (later_begins (chain c.advance.new.chains k) ≡ queued_begins (queued_by_key ks fs) k) = λ k. (let h = c.loop-follower.invariant.waits k in let h' = rw at at h in shifted c.args.floor (chain c.loop-follower.chains k) (chain c.advance.new.chains k) q (queued_by_key ks fs) k h' c.in-Some.ensures.1 (c.advance.ensures.chains k)) in
     record {
       chains = λ k. (step k).0 ∙ c.loop-follower.invariant.chains k;
+      named = c.advance.ensures.keys ∙ c.loop-follower.invariant.named;
       placed = rw c.advance.ensures.keys placed'.1;
       waits = λ k. rw c.advance.ensures.keys (step k).1;
       climbs = λ n r. (let r' = c.loop-follower.invariant.climbs n r in let r'' = rw at at r' in r''.2);

@@ -1,4 +1,4 @@
-use Rattle.bohm_store.proofs.Newest.{cell_at-newest}
+use Rattle.bohm_store.proofs.NewestVersion.{cell_at-newest}
 use Rattle.bohm_store.proofs.laws.cell_of_the_newest.Goals as goal
 
 pub returns : goal.returns

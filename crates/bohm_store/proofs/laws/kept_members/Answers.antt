@@ -1,4 +1,4 @@
-use Rattle.bohm_store.proofs.Newest.{kept_members}
+use Rattle.bohm_store.proofs.NewestVersion.{kept_members}
 use Rattle.bohm_store.proofs.laws.kept_members.Goals as goal
 
 pub returns : goal.returns

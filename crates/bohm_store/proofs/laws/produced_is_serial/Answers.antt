@@ -1,4 +1,4 @@
-use Rattle.bohm_store.proofs.Produced.{produced_state}
+use Rattle.bohm_store.proofs.ProducedVersions.{produced_state}
 use Rattle.bohm_store.proofs.laws.produced_is_serial.Goals as goal
 
 pub returns : goal.returns

@@ -1,4 +1,4 @@
-use Rattle.std.proofs.Common.{rules, arith, ◌≡◌, ◌-◌, ◌<◌, ◌∙◌, ap, length, Some}
+use Rattle.std.proofs.Common.{rules, arith, ◌≡◌, ◌-◌, ◌<◌, ◌∙◌, ap, length}
 use Rattle.bohm_place.specs.declared.declared_set.DeclaredSet.TheVariants.{Reads}
 use Rattle.bohm_place.specs.Plans.{reads_of}
 use Rattle.bohm_place.proofs.ForCallers.{row_paired}

@@ -2,7 +2,7 @@ use Rattle.std.proofs.Common.{◌≡◌, true, false, Some, ap, sym, ◌∙◌}
 use Rattle.std.specs.Option.{option_eq}
 use Rattle.std.specs.Str.{bytes_eq}
 use Rattle.bohm_tree.specs.Parts.{target}
-use Rattle.bohm_txn.specs.Faulty.{some_passes}
+use Rattle.bohm_tree.specs.Keys.{some_passes}
 use Rattle.bohm_txn.proofs.Evaluating.{is_key}
 use Rattle.bohm_txn.proofs.Lists.{drop_at}
 use Rattle.bohm_txn.proofs.sureness.is_target.Goals as goal

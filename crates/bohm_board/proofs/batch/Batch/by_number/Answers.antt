@@ -1,7 +1,7 @@
 use Rattle.std.proofs.Common.{◌≡◌, ◌∙◌, sym, ap, subst}
 use Rattle.bohm_log.specs.Parts.{names_at}
 use Rattle.bohm_board.specs.Bases.{keys_of, AreNoted}
-use Rattle.bohm_board.proofs.Numbered.{gathered_base}
+use Rattle.bohm_board.proofs.GatheredPlaces.{gathered_base}
 use Rattle.bohm_board.proofs.batch.Batch.by_number.Goals as goal
 
 pub invariant_of-result : goal.invariant_of-result

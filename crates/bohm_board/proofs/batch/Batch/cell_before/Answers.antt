@@ -8,8 +8,8 @@ use Rattle.bohm_place.specs.declared.access.Access.{Access}
 use Rattle.bohm_place.specs.declared.access.Source.TheVariants.{Before}
 use Rattle.bohm_board.specs.Bases.{keys_of}
 use Rattle.bohm_board.specs.Batches.{entries_of, base_of, key_in}
-use Rattle.bohm_board.proofs.PlacesOfKeys.{placed}
-use Rattle.bohm_board.proofs.Searched.{Entry, newest_there}
+use Rattle.bohm_board.proofs.BasePlaces.{placed}
+use Rattle.bohm_board.proofs.EntrySearch.{Entry, newest_there}
 use Rattle.bohm_board.proofs.batch.Batch.cell_before.Goals as goal
 use Rattle.bohm_board.proofs.batch.Batch.cell_before.Goals.{After-as_slice}
 

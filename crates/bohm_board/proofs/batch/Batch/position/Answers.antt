@@ -1,6 +1,6 @@
 use Rattle.std.proofs.Common.{arith}
-use Rattle.bohm_board.proofs.Numbers.{position_inside}
-use Rattle.bohm_board.proofs.Places.{outcomes_long}
+use Rattle.bohm_board.proofs.SlotNumbers.{position_inside}
+use Rattle.bohm_board.proofs.SlotPlaces.{outcomes_long}
 use Rattle.bohm_board.proofs.batch.Batch.position.Goals as goal
 
 pub returns-clause-inside : goal.returns-clause-inside

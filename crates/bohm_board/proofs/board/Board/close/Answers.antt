@@ -1,9 +1,9 @@
 use Rattle.std.proofs.Common.{rules, ℕ, ◌+◌, ◌<◌, ◌≤◌, ◌∙◌, sym, ap, subst}
 use Rattle.bohm_board.specs.Passes.{view}
-use Rattle.bohm_board.specs.Words.{progress_word, presence_word}
-use Rattle.bohm_board.proofs.Left.{IsEnd, settles, left_sound, open_word}
-use Rattle.bohm_board.proofs.Moves.{two_at_least}
-use Rattle.bohm_board.proofs.Runs.{reached_lawful}
+use Rattle.bohm_board.specs.Encoding.{progress_word, presence_word}
+use Rattle.bohm_board.proofs.ClosedWords.{IsEnd, settles, left_sound, open_word}
+use Rattle.bohm_board.proofs.Refinement.{two_at_least}
+use Rattle.bohm_board.proofs.EventRuns.{reached_lawful}
 use Rattle.bohm_board.proofs.board.Board.close.Goals as goal
 use Rattle.bohm_board.proofs.board.Board.close.Goals.{After-copy_words-3}
 

@@ -1,5 +1,5 @@
 use Rattle.std.proofs.Common.{rules}
-use Rattle.bohm_board.proofs.Moves.{claims}
+use Rattle.bohm_board.proofs.Refinement.{claims}
 use Rattle.bohm_board.proofs.board.Board.exchange_status.Goals as goal
 
 pub compare_exchange-requires : goal.compare_exchange-requires

@@ -3,12 +3,12 @@ use Rattle.std.specs.Prelude.{Contains}
 use Rattle.std.proofs.lemmas.List.Elements.{Contains-push}
 use Rattle.bohm_tree.specs.declared.cell.Cell.TheVariants.{Absent, Present}
 use Rattle.bohm_board.specs.declared.slot.Slot.{Slot}
-use Rattle.bohm_board.specs.declared.view.View.{View}
+use Rattle.bohm_board.specs.declared.knowledge.View.{View}
 use Rattle.bohm_board.specs.Batches.{slot_numbered}
 use Rattle.bohm_board.specs.Steps.{IsFillable}
-use Rattle.bohm_board.specs.Views.{stored, filled, filled_with}
-use Rattle.bohm_board.proofs.Keeping.{kept_along, kept_filled}
-use Rattle.bohm_board.proofs.Numbers.{named_slot}
+use Rattle.bohm_board.specs.Views.{after_value_store, after_presence_store, after_fill}
+use Rattle.bohm_board.proofs.PassInvariant.{kept_along, kept_filled}
+use Rattle.bohm_board.proofs.SlotNumbers.{named_slot}
 use Rattle.bohm_board.proofs.board.Board.fill.Goals as goal
 use Rattle.bohm_board.proofs.board.Board.fill.Goals.{After-number-number}
 
@@ -50,16 +50,16 @@ invariant_of-pass-in-Present c =
     let v = c.args.pass.now.seat.me.0 in
     let k = c.number-number.result in record {
       bare = c.store_presence-in-Present.ensures.own.bare;
-      fits = kept_along _ _ _ _ (c.store_presence-in-Present.ensures.view ∙ ap (λ (z : View). filled z (slot_numbered z.right k)) c.store_value.ensures.view)
+      fits = kept_along _ _ _ _ (c.store_presence-in-Present.ensures.view ∙ ap (λ (z : View). after_presence_store z (slot_numbered z.right k)) c.store_value.ensures.view)
           (kept_filled v (slot_numbered v.right k) (Present c.in-Present.value) _ _ c.args.pass.now.fits);
     }
 
 pub returns-in-Absent-clause-view : goal.returns-in-Absent-clause-view
-returns-in-Absent-clause-view c = c.store_presence.ensures.view ∙ (ap (filled c.args.pass.now.seat.me.0) (here (goal.at.returns-in-Absent-clause-view c).After-number-number) ∙ ap (filled_with c.args.pass.now.seat.me.0 c.args.slot) (sym c.in-Absent.is))
+returns-in-Absent-clause-view c = c.store_presence.ensures.view ∙ (ap (after_presence_store c.args.pass.now.seat.me.0) (here (goal.at.returns-in-Absent-clause-view c).After-number-number) ∙ ap (after_fill c.args.pass.now.seat.me.0 c.args.slot) (sym c.in-Absent.is))
 
 pub returns-in-Present-clause-view : goal.returns-in-Present-clause-view
 returns-in-Present-clause-view c =
     let v = c.args.pass.now.seat.me.0 in
     let k = c.number-number.result in
-    c.store_presence-in-Present.ensures.view ∙ (ap (λ (z : View). filled z (slot_numbered z.right k)) c.store_value.ensures.view
-    ∙ (ap (λ (x : Slot). filled (stored v x) x) (here (goal.at.returns-in-Present-clause-view c).After-number-number) ∙ ap (filled_with v c.args.slot) (sym c.in-Present.is)))
+    c.store_presence-in-Present.ensures.view ∙ (ap (λ (z : View). after_presence_store z (slot_numbered z.right k)) c.store_value.ensures.view
+    ∙ (ap (λ (x : Slot). after_presence_store (after_value_store v x) x) (here (goal.at.returns-in-Present-clause-view c).After-number-number) ∙ ap (after_fill v c.args.slot) (sym c.in-Present.is)))

@@ -1,7 +1,7 @@
 use Rattle.std.proofs.Common.{◌≡◌, Some, sym, ap, ◌∙◌, subst}
 use Rattle.bohm_board.specs.Batches.{timestamp}
-use Rattle.bohm_board.specs.Views.{KnowsWanted, HasFilledAll, finished}
-use Rattle.bohm_board.proofs.Numbers.{stamped}
+use Rattle.bohm_board.specs.Views.{KnowsWanted, HasFilledAll, after_finish}
+use Rattle.bohm_board.proofs.SlotNumbers.{stamped}
 use Rattle.bohm_board.proofs.board.Board.finish.Goals as goal
 use Rattle.bohm_board.proofs.board.Board.finish.Goals.{After-position-position}
 
@@ -18,4 +18,4 @@ pub store_outcome-requires-clause-filled : goal.store_outcome-requires-clause-fi
 store_outcome-requires-clause-filled c = subst (HasFilledAll c.args.self.now.batch c.args.pass.now.seat.me.0) (sym (here (goal.at.store_outcome-requires-clause-filled c).After-position-position)) c.requires.filled
 
 pub returns-clause-view : goal.returns-clause-view
-returns-clause-view c = c.store_outcome.ensures.view ∙ ap (finished c.args.pass.now.seat.me.0) (here (goal.at.returns-clause-view c).After-position-position)
+returns-clause-view c = c.store_outcome.ensures.view ∙ ap (after_finish c.args.pass.now.seat.me.0) (here (goal.at.returns-clause-view c).After-position-position)

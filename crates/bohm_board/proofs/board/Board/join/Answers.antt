@@ -1,7 +1,7 @@
 use Rattle.std.proofs.Common.{arith, ap, ◌∙◌}
-use Rattle.bohm_board.specs.Steps.{Sitting}
-use Rattle.bohm_board.proofs.Moves.{joins}
-use Rattle.bohm_board.proofs.Keeping.{kept_along, kept_joined}
+use Rattle.bohm_board.specs.Steps.{SeatState}
+use Rattle.bohm_board.proofs.Refinement.{joins}
+use Rattle.bohm_board.proofs.PassInvariant.{kept_along, kept_joined}
 use Rattle.bohm_board.proofs.board.Board.join.Goals as goal
 
 pub join_seat-requires : goal.join_seat-requires
@@ -13,6 +13,6 @@ join_seat-requires c =
 
 pub invariant_of-result : goal.invariant_of-result
 invariant_of-result c = record {
-  bare = ap (λ (m : Sitting). m.1) c.join_seat.ensures.2 ∙ c.args.left.bare;
-  fits = kept_along _ _ _ _ (ap (λ (m : Sitting). m.0) c.join_seat.ensures.2) (kept_joined c.args.left.seat.me.0 c.args.right.seat.me.0 _ _ c.args.left.fits);
+  bare = ap (λ (m : SeatState). m.1) c.join_seat.ensures.2 ∙ c.args.left.bare;
+  fits = kept_along _ _ _ _ (ap (λ (m : SeatState). m.0) c.join_seat.ensures.2) (kept_joined c.args.left.seat.me.0 c.args.right.seat.me.0 _ _ c.args.left.fits);
 }

@@ -1,14 +1,15 @@
 use Rattle.std.proofs.Common.{arith, ◌≡◌, Some, sym, ap, ◌∙◌, subst}
 use Rattle.std.specs.Prelude.{Contains}
 use Rattle.bohm_tree.specs.declared.cell.Cell.{Cell}
-use Rattle.bohm_board.specs.declared.view.Rights.{Rights}
-use Rattle.bohm_board.specs.declared.view.View.{View}
+use Rattle.bohm_board.specs.declared.knowledge.Rights.{Rights}
+use Rattle.bohm_board.specs.declared.knowledge.View.{View}
 use Rattle.bohm_board.specs.Batches.{slot_numbered}
-use Rattle.bohm_board.specs.Views.{learnt, looked, IsUnseen}
-use Rattle.bohm_board.specs.Words.{presence_at}
-use Rattle.bohm_board.proofs.EventsKeep.{right_learnt}
-use Rattle.bohm_board.proofs.Keeping.{kept_along, kept_learnt, learnt_present, present_from}
-use Rattle.bohm_board.proofs.Numbers.{named_slot, right_there, right_by_word}
+use Rattle.bohm_board.specs.Views.{after_presence_look, after_look, IsUnseen}
+use Rattle.bohm_board.specs.Encoding.{presence_at}
+use Rattle.bohm_board.proofs.LawPreservation.{right_learnt}
+use Rattle.bohm_board.proofs.Monotonicity.{learnt_present, present_from}
+use Rattle.bohm_board.proofs.PassInvariant.{kept_along, kept_learnt}
+use Rattle.bohm_board.proofs.SlotNumbers.{named_slot, right_there, right_by_word}
 use Rattle.bohm_board.proofs.board.Board.look.Goals as goal
 use Rattle.bohm_board.proofs.board.Board.look.Goals.{After-number-number}
 
@@ -27,7 +28,7 @@ see_value-value-requires-clause-known c =
     let k = c.number-number.result in
     let P : View → Type 0 = λ z. Contains z.present (slot_numbered z.right k) in
     let x = slot_numbered v.right k in
-    let w = learnt v x (presence_at c.see_presence.result) in
+    let w = after_presence_look v x (presence_at c.see_presence.result) in
     let known = learnt_present v x c.see_presence.result (λ z. omega arith) (λ z. omega arith) in
     subst P (sym c.see_presence.ensures.view) (subst (λ (r : Rights). Contains w.present (slot_numbered r k)) (sym (right_learnt v x (presence_at c.see_presence.result))) known)
 
@@ -40,7 +41,7 @@ returns-in-0-clause-none c = λ _. subst (IsUnseen c.args.pass.now.seat.me.0) (h
 pub returns-in-1-clause-view : goal.returns-in-1-clause-view
 returns-in-1-clause-view c =
     let slot = here (goal.at.returns-in-1-clause-view c).After-number-number in
-    c.see_presence.ensures.view ∙ (λ i. learnt c.args.pass.now.seat.me.0 (slot i) (presence_at (c.in-1.is i)))
+    c.see_presence.ensures.view ∙ (λ i. after_presence_look c.args.pass.now.seat.me.0 (slot i) (presence_at (c.in-1.is i)))
 
 pub returns-in-1-clause-right : goal.returns-in-1-clause-right
 returns-in-1-clause-right c =
@@ -52,4 +53,4 @@ returns-in_default-clause-view c =
     let v = c.args.pass.now.seat.me.0 in
     let slot = here (goal.at.returns-in_default-clause-view c).After-number-number in
     let two = present_from c.see_presence.result (λ z. omega arith) (λ z. omega arith) in
-    c.see_value-value.ensures.view ∙ (c.see_presence.ensures.view ∙ ((λ i. learnt v (slot i) (two i)) ∙ ap (λ (z : Cell). looked v c.args.slot (Some z)) (sym c.present_cell.ensures)))
+    c.see_value-value.ensures.view ∙ (c.see_presence.ensures.view ∙ ((λ i. after_presence_look v (slot i) (two i)) ∙ ap (λ (z : Cell). after_look v c.args.slot (Some z)) (sym c.present_cell.ensures)))

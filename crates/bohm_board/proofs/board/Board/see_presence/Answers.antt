@@ -1,7 +1,7 @@
 use Rattle.std.proofs.Common.{rules, ap, ◌∙◌}
 use Rattle.bohm_board.specs.Batches.{right_cell}
-use Rattle.bohm_board.specs.declared.view.Rights.{Rights}
-use Rattle.bohm_board.proofs.Moves.{sees_presence, presence_at_view}
+use Rattle.bohm_board.specs.declared.knowledge.Rights.{Rights}
+use Rattle.bohm_board.proofs.Refinement.{sees_presence, presence_at_view}
 use Rattle.bohm_board.proofs.board.Board.see_presence.Goals as goal
 
 pub load-requires : goal.load-requires

@@ -1,5 +1,5 @@
 use Rattle.std.proofs.Common.{rules}
-use Rattle.bohm_board.proofs.Moves.{sees}
+use Rattle.bohm_board.proofs.Refinement.{sees}
 use Rattle.bohm_board.proofs.board.Board.see_status.Goals as goal
 
 pub load-requires : goal.load-requires

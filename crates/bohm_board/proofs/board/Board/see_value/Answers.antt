@@ -1,7 +1,7 @@
 use Rattle.std.proofs.Common.{rules, sym, ap, ◌∙◌}
 use Rattle.bohm_board.specs.Batches.{right_cell}
-use Rattle.bohm_board.specs.declared.view.Rights.{Rights}
-use Rattle.bohm_board.proofs.Moves.{sees_value, value_at_view}
+use Rattle.bohm_board.specs.declared.knowledge.Rights.{Rights}
+use Rattle.bohm_board.proofs.Refinement.{sees_value, value_at_view}
 use Rattle.bohm_board.proofs.board.Board.see_value.Goals as goal
 
 pub load-requires : goal.load-requires

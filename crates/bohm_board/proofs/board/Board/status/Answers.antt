@@ -1,8 +1,8 @@
 use Rattle.std.proofs.Common.{◌≡◌, Some, sym, ap, ◌∙◌}
 use Rattle.bohm_board.specs.Batches.{timestamp}
-use Rattle.bohm_board.specs.Views.{saw}
-use Rattle.bohm_board.proofs.Keeping.{kept_along, kept_saw}
-use Rattle.bohm_board.proofs.Numbers.{stamped}
+use Rattle.bohm_board.specs.Views.{after_status}
+use Rattle.bohm_board.proofs.PassInvariant.{kept_along, kept_saw}
+use Rattle.bohm_board.proofs.SlotNumbers.{stamped}
 use Rattle.bohm_board.proofs.board.Board.status.Goals as goal
 use Rattle.bohm_board.proofs.board.Board.status.Goals.{After-position-position}
 
@@ -18,7 +18,7 @@ invariant_of-pass c = record { bare = c.see_status-word.ensures.own.bare; fits =
 pub returns-clause-view : goal.returns-clause-view
 returns-clause-view c =
     let t = here (goal.at.returns-clause-view c).After-position-position in
-    c.see_status-word.ensures.view ∙ (λ i. saw c.args.pass.now.seat.me.0 (t i) (sym c.status_of_word.ensures i))
+    c.see_status-word.ensures.view ∙ (λ i. after_status c.args.pass.now.seat.me.0 (t i) (sym c.status_of_word.ensures i))
 
 pub returns-clause-recalls : goal.returns-clause-recalls
 returns-clause-recalls c = rw (c.status_of_word.ensures, ← here (goal.at.returns-clause-recalls c).After-position-position) c.see_status-word.ensures.recalls

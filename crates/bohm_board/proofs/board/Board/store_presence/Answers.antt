@@ -1,7 +1,7 @@
 use Rattle.std.proofs.Common.{rules}
 use Rattle.bohm_board.specs.Batches.{rights_of}
 use Rattle.bohm_board.proofs.Inputs.{right_within}
-use Rattle.bohm_board.proofs.Moves.{fills, presence_at_view}
+use Rattle.bohm_board.proofs.Refinement.{fills, presence_at_view}
 use Rattle.bohm_board.proofs.board.Board.store_presence.Goals as goal
 
 pub presence_at-at-requires : goal.presence_at-at-requires

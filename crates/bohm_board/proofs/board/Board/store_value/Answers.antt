@@ -1,7 +1,7 @@
 use Rattle.std.proofs.Common.{rules, sym, ap, ◌∙◌, Some}
 use Rattle.bohm_board.specs.Batches.{rights_of}
 use Rattle.bohm_board.proofs.Inputs.{right_within}
-use Rattle.bohm_board.proofs.Moves.{stores_value, value_at_view}
+use Rattle.bohm_board.proofs.Refinement.{stores_value, value_at_view}
 use Rattle.bohm_board.proofs.board.Board.store_value.Goals as goal
 
 pub value_at-at-requires : goal.value_at-at-requires

@@ -1,10 +1,10 @@
 use Rattle.std.proofs.Common.{rules, arith, ◌≡◌, ℕ, get_or, sym, ap, ◌∙◌, subst}
 use Rattle.std.proofs.lemmas.Grind.{get_or_default_zero}
 use Rattle.bohm_board.specs.Shown.{words_of}
-use Rattle.bohm_board.specs.Words.{present_at}
+use Rattle.bohm_board.specs.Encoding.{present_at}
 use Rattle.bohm_board.specs.Batches.{number, IsRightCell}
-use Rattle.bohm_board.proofs.Left.{two_word}
-use Rattle.bohm_board.proofs.Numbers.{right_there, right_by_word}
+use Rattle.bohm_board.proofs.ClosedWords.{two_word}
+use Rattle.bohm_board.proofs.SlotNumbers.{right_there, right_by_word}
 use Rattle.bohm_board.proofs.closed.Closed.cell.Goals as goal
 use Rattle.bohm_board.proofs.closed.Closed.cell.Goals.{After-index}
 

@@ -1,6 +1,6 @@
 use Rattle.std.proofs.Common.{ℕ, sym, ◌∙◌, subst, set, length-set}
 use Rattle.bohm_board.specs.Shown.{AreSound, words_of}
-use Rattle.bohm_board.proofs.Left.{cell_put}
+use Rattle.bohm_board.proofs.ClosedWords.{cell_put}
 use Rattle.bohm_board.proofs.closed.Closed.set_cell.Goals as goal
 
 pub invariant_of-self-clause-sound : goal.invariant_of-self-clause-sound

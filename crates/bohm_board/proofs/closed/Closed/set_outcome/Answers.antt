@@ -2,7 +2,7 @@ use Rattle.std.proofs.Common.{ℕ, ◌≢◌, ◌<◌, get_or, sym, ◌∙◌, s
 use Rattle.bohm_board.specs.Shown.{AreSound, words_of}
 use Rattle.bohm_board.specs.Batches.{number, width_at}
 use Rattle.bohm_board.proofs.Inputs.{short_outcome}
-use Rattle.bohm_board.proofs.Left.{outcome_put}
+use Rattle.bohm_board.proofs.ClosedWords.{outcome_put}
 use Rattle.bohm_board.proofs.closed.Closed.set_outcome.Goals as goal
 
 pub outcome_word-requires : goal.outcome_word-requires

@@ -1,7 +1,7 @@
 use Rattle.std.proofs.Common.{arith, ◌≡◌, ◌+◌, Some, sym, subst, List, ℕ}
 use Rattle.std.specs.List.{slice_get}
 use Rattle.bohm_board.specs.Layouts.{AreStarts}
-use Rattle.bohm_board.proofs.Places.{next_offset, one_start}
+use Rattle.bohm_board.proofs.SlotPlaces.{next_offset, one_start}
 use Rattle.bohm_board.proofs.layout.Layout.new.Goals as goal
 
 pub loop-index-preserved : goal.loop-index-preserved

@@ -2,7 +2,7 @@ use Rattle.std.proofs.Common.{arith, ◌≡◌, ◌∙◌, ap, ◌<◌, length}
 use Rattle.std.proofs.lemmas.Grind.{get_or_default_zero}
 use Rattle.bohm_board.specs.Serial.{offset}
 use Rattle.bohm_board.specs.Batches.{txns_of, position}
-use Rattle.bohm_board.proofs.Numbers.{number_inside, position_inside}
+use Rattle.bohm_board.proofs.SlotNumbers.{number_inside, position_inside}
 use Rattle.bohm_board.proofs.layout.Layout.number.Goals as goal
 
 pub returns-clause-inside : goal.returns-clause-inside

@@ -4,16 +4,16 @@ use Rattle.bohm_log.specs.Columns.{shared_of}
 use Rattle.bohm_log.proofs.Widening.{interns_both, sets_come}
 use Rattle.bohm_log.proofs.columns.Columns.add_sets.Goals as goal
 
-pub returns-in_err-add_names-2-clause-err : goal.returns-in_err-add_names-2-clause-err
-returns-in_err-add_names-2-clause-err g c =
-    let p = err_from_is_err_and c.from_residual-in_err-add_names-2.result c.from_residual-in_err-add_names-2.ensures.1 in
-    rw p.1 (interns_both _ _ _ c.in_ok-add_names.ensures.ok.interns c.in_err-add_names-2.ensures.err)
+pub returns-in_err-add_writes-clause-err : goal.returns-in_err-add_writes-clause-err
+returns-in_err-add_writes-clause-err g c =
+    let p = err_from_is_err_and c.from_residual-in_err-add_writes.result c.from_residual-in_err-add_writes.ensures.1 in
+    rw p.1 (interns_both _ _ _ c.in_ok-add_names.ensures.ok.interns c.in_err-add_writes.ensures.err)
 
 pub returns-in_err-end-clause-err : goal.returns-in_err-end-clause-err
 returns-in_err-end-clause-err g c =
     let p = err_from_is_err_and c.from_residual-in_err-end.result c.from_residual-in_err-end.ensures.1 in
-    rw p.1 (interns_both _ _ _ c.in_ok-add_names.ensures.ok.interns c.in_ok-add_names-2.ensures.ok.interns)
+    rw p.1 (interns_both _ _ _ c.in_ok-add_names.ensures.ok.interns c.in_ok-add_writes.ensures.ok.interns)
 
 pub returns-clause-ok : goal.returns-clause-ok
 returns-clause-ok g c =
-    sets_come (shared_of c.args.self.now) (shared_of c.add_names.new.self) (shared_of c.add_names-2.new.self) _ _ _ _ _ (omega arith) c.in_ok-add_names.ensures.ok (omega arith) c.in_ok-add_names-2.ensures.ok (omega arith)
+    sets_come (shared_of c.args.self.now) (shared_of c.add_names.new.self) (shared_of c.add_writes.new.self) _ _ _ _ _ (omega arith) c.in_ok-add_names.ensures.ok (omega arith) c.in_ok-add_writes.ensures.ok (omega arith)

@@ -1,7 +1,7 @@
 use Rattle.std.proofs.Common.{List, sym, subst, ap, ◌∙◌, ◌++◌, ◌∷◌, [], map}
 use Rattle.std.proofs.lemmas.Result.{err_from_is_err_and}
 use Rattle.bohm_log.specs.Columns.{shared_of, IsLogged, txn_at}
-use Rattle.bohm_log.specs.declared.columns.Head.{Head}
+use Rattle.bohm_log.specs.declared.table.Head.{Head}
 use Rattle.bohm_log.proofs.Widening.{log_kept, logged_kept, log_more, logged_more}
 use Rattle.bohm_log.proofs.log.Log.close.Goals as goal
 

@@ -1,5 +1,5 @@
-use Rattle.std.proofs.Common.{◌≡◌, length, sym, take}
-use Rattle.bohm_machine.specs.Machines.{Ledger, GoesOn}
+use Rattle.std.proofs.Common.{length, sym, take}
+use Rattle.bohm_machine.specs.Machines.{Ledger}
 use Rattle.bohm_machine.proofs.GoingOn.{goes_on, ran_on}
 use Rattle.bohm_machine.proofs.machine.Machine.apply.Goals as goal
 

@@ -1,5 +1,4 @@
-use Rattle.std.proofs.Common.{◌≡◌, ℕ, ◌+◌, ◌-◌, ◌≤◌, max, arith, ap, ◌∙◌}
-use Rattle.bohm_txn.specs.Meaning.{Look}
+use Rattle.std.proofs.Common.{◌≡◌, ◌+◌, ◌-◌, arith, ap, ◌∙◌}
 use Rattle.bohm_machine.specs.Machines.{Ledger, floor_of, past_of, top_of}
 use Rattle.bohm_machine.proofs.GoingOn.{trimmed}
 use Rattle.bohm_machine.proofs.machine.Machine.trim.Goals as goal

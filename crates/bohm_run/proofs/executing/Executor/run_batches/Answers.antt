@@ -17,7 +17,7 @@ loop-place-init g c =
 pub returns-in_default : goal.returns-in_default
 returns-in_default g c =
     let h = c.loop-place.invariant in
-    walk_ends c.args.progress.history c.loop-place.progress.history (cutting_of c.args.log) c.loop-place.place c.loop-place.start c.args.self.keep c.loop-place.progress.replies.items false c.args.log.whole h.2 (λ t. absurd cc) (rw h.3 at h.4)
+    walk_ends c.args.progress.history c.loop-place.progress.history (cutting_of c.args.log) c.loop-place.place c.loop-place.start c.args.self.keep c.loop-place.progress.replies false c.args.log.whole h.2 (λ t. absurd cc) (rw h.3 at h.4)
 
 pub run_batch-requires-clause-first : goal.run_batch-requires-clause-first
 run_batch-requires-clause-first g c κs within =
@@ -45,8 +45,8 @@ returns-in-Err g c =
     let h = c.loop-place.invariant in
     let same = c.in-Err.ensures.err in
     let log = cutting_of c.args.log in
-    let on = stayed c.args.progress.history c.loop-place.progress.history c.run_batch.new.progress.history (take c.loop-place.start log.log) c.args.self.keep c.loop-place.progress.replies.items same.history (rw h.3 at h.4) in
-    walk_ends c.args.progress.history c.run_batch.new.progress.history log c.loop-place.place c.loop-place.start c.args.self.keep c.run_batch.new.progress.replies.items false c.args.log.whole h.2 (λ t. absurd cc) (rw same.replies on)
+    let on = stayed c.args.progress.history c.loop-place.progress.history c.run_batch.new.progress.history (take c.loop-place.start log.log) c.args.self.keep c.loop-place.progress.replies same.history (rw h.3 at h.4) in
+    walk_ends c.args.progress.history c.run_batch.new.progress.history log c.loop-place.place c.loop-place.start c.args.self.keep c.run_batch.new.progress.replies false c.args.log.whole h.2 (λ t. absurd cc) (rw same.replies on)
 
 pub loop-place-preserved : goal.loop-place-preserved
 loop-place-preserved g c =
@@ -55,7 +55,7 @@ loop-place-preserved g c =
     let there : IsSome c.take-note.result.plan = search rules in
     let goes = c.in_default-run_batch.ensures.ok in
     let next = c.batch-txns.ensures in
-    let on = walked_on c.args.progress.history c.loop-place.progress.history c.run_batch.new.progress.history log c.loop-place.place c.loop-place.start c.args.self.keep c.loop-place.progress.replies.items c.batch-txns.result c.requires.ordered (search rules) h.2 next.txns next.ahead (rw h.3 at h.4) (rw h.3 at goes.applied) in rw c.len-start.ensures (
+    let on = walked_on c.args.progress.history c.loop-place.progress.history c.run_batch.new.progress.history log c.loop-place.place c.loop-place.start c.args.self.keep c.loop-place.progress.replies c.batch-txns.result c.requires.ordered (search rules) h.2 next.txns next.ahead (rw h.3 at h.4) (rw h.3 at goes.applied) in rw c.len-start.ensures (
       omega (arith, ap length c.take-note.ensures.taken, length-append c.loop-place.receiver (c.take-note.result ∷ []), h.0),
       rw c.take-note.ensures.taken (All-push (λ (x : PlanNote). IsSome x.plan) c.loop-place.receiver c.take-note.result h.1 there),
       sym next.ahead,
@@ -66,4 +66,4 @@ loop-place-preserved g c =
 pub returns : goal.returns
 returns g c =
     let h = c.loop-place.invariant in
-    walk_ends c.args.progress.history c.loop-place.progress.history (cutting_of c.args.log) c.loop-place.place c.loop-place.start c.args.self.keep c.loop-place.progress.replies.items true c.args.log.whole h.2 (λ t. search rules) (rw h.3 at h.4)
+    walk_ends c.args.progress.history c.loop-place.progress.history (cutting_of c.args.log) c.loop-place.place c.loop-place.start c.args.self.keep c.loop-place.progress.replies true c.args.log.whole h.2 (λ t. search rules) (rw h.3 at h.4)

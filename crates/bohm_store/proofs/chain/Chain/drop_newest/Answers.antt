@@ -1,5 +1,5 @@
 use Rattle.std.proofs.Common.{◌≡◌, length, arith}
-use Rattle.bohm_store.proofs.Grows.{dropped_later, dropped_second, dropped_only}
+use Rattle.bohm_store.proofs.ChainEnds.{dropped_later, dropped_second, dropped_only}
 use Rattle.bohm_store.proofs.chain.Chain.drop_newest.Goals as goal
 
 pub returns-in-Some-clause-items : goal.returns-in-Some-clause-items

@@ -5,15 +5,15 @@ use Rattle.bohm_log.specs.Parts.{names_at}
 use Rattle.bohm_tree.specs.declared.cell.Cell.{Cell}
 use Rattle.bohm_tree.specs.Txn.{Txn}
 use Rattle.bohm_tree.specs.declared.cell.Cell.TheVariants.{Absent}
+use Rattle.bohm_tree.specs.Keys.{is_among}
 use Rattle.bohm_txn.specs.Meaning.{newest}
-use Rattle.bohm_txn.specs.Faulty.{is_among}
 use Rattle.bohm_place.proofs.ForCallers.{few_sets}
-use Rattle.bohm_board.specs.Bases.{IsBase, declares, keys_of}
+use Rattle.bohm_board.specs.Bases.{IsBase, declares_key, keys_of}
 use Rattle.bohm_board.proofs.ForCallers.{gathered_base}
 use Rattle.bohm_store.specs.Versions.{cell_at}
 use Rattle.bohm_store.specs.Chains.{chain}
 use Rattle.bohm_store.proofs.Bases.{keys_paired, newest_paired}
-use Rattle.bohm_store.proofs.Views.{lookup_table}
+use Rattle.bohm_store.proofs.TimelineLookups.{lookup_table}
 use Rattle.bohm_store.proofs.history.History.batch_with.Goals as goal
 
 pub gather-requires-clause-sets : goal.gather-requires-clause-sets
@@ -38,7 +38,7 @@ returns-clause-next c =
     rw (← c.self.view_is) (record {
       first = c.by_number.ensures.first ∙ first;
       base = λ k declared.
-          (let here : list_any (declares k) c.args.txns.now ≡ true = subst (λ (ts : List Txn). list_any (declares k) ts ≡ true) (c.by_number.ensures.txns ∙ c.fork.ensures) declared in
+          (let here : list_any (declares_key k) c.args.txns.now ≡ true = subst (λ (ts : List Txn). list_any (declares_key k) ts ≡ true) (c.by_number.ensures.txns ∙ c.fork.ensures) declared in
           let among : is_among names k ≡ true = ap (λ (ks : List (List ℕ)). is_among ks k) (sym listed) ∙ based.keys k ∙ here in
           ap (λ (es : List (List ℕ × Cell)). newest es k Absent) (c.by_number.ensures.base ∙ c.in_ok-base.ensures)
           ∙ newest_paired hold names k Absent among

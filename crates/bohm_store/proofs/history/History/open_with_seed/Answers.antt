@@ -4,8 +4,8 @@ use Rattle.bohm_tree.specs.declared.cell.Cell.TheVariants.{Absent}
 use Rattle.bohm_txn.specs.Stores.{cell_in, store_of}
 use Rattle.bohm_store.specs.Versions.{cell_at}
 use Rattle.bohm_store.specs.Chains.{later_begins}
-use Rattle.bohm_store.proofs.Starts.{started_low, started_rises, started_alone, started_past}
-use Rattle.bohm_store.proofs.Views.{lookup_table}
+use Rattle.bohm_store.proofs.StartingChains.{started_low, started_rises, started_alone, started_past}
+use Rattle.bohm_store.proofs.TimelineLookups.{lookup_table}
 use Rattle.bohm_store.proofs.history.History.open_with_seed.Goals as goal
 
 pub invariant_of-result : goal.invariant_of-result

@@ -2,11 +2,11 @@ use Rattle.std.proofs.Common.{◌≤◌, List, ℕ, ap, sym, ◌∙◌}
 use Rattle.std.specs.Str.{bytes_eq}
 use Rattle.bohm_tree.specs.declared.cell.Cell.TheVariants.{Absent}
 use Rattle.bohm_store.specs.declared.version.Version.{Version}
-use Rattle.bohm_store.specs.Versions.{kept, cell_at}
+use Rattle.bohm_store.specs.Versions.{kept_versions, cell_at}
 use Rattle.bohm_store.specs.Chains.{chain}
-use Rattle.bohm_store.proofs.Views.{lookup_table}
+use Rattle.bohm_store.proofs.TimelineLookups.{lookup_table}
 use Rattle.bohm_store.proofs.Past.{cell_at-kept}
-use Rattle.bohm_store.proofs.Newest.{All-kept, Rises-kept, kept_members}
+use Rattle.bohm_store.proofs.NewestVersion.{All-kept, Rises-kept, kept_members}
 use Rattle.bohm_store.proofs.history.History.trim.Goals as goal
 
 pub invariant_of-self : goal.invariant_of-self
@@ -24,7 +24,7 @@ invariant_of-self c =
 
 pub returns-clause-versions : goal.returns-clause-versions
 returns-clause-versions c =
-    rw (← c.self.view_is) (λ lt k. lookup_table (bytes_eq k) c.trim.new.chains.entries ∙ c.trim.ensures.chains k ∙ ap (kept c.args.floor) (sym (lookup_table (bytes_eq k) c.self.inside.chains.entries)))
+    rw (← c.self.view_is) (λ lt k. lookup_table (bytes_eq k) c.trim.new.chains.entries ∙ c.trim.ensures.chains k ∙ ap (kept_versions c.args.floor) (sym (lookup_table (bytes_eq k) c.self.inside.chains.entries)))
 
 pub returns-clause-kept : goal.returns-clause-kept
 returns-clause-kept c =

@@ -1,8 +1,8 @@
 use Rattle.std.proofs.Common.{ap, Ok}
 use Rattle.std.specs.Str.{bytes_eq}
 use Rattle.bohm_store.specs.Chains.{chain}
-use Rattle.bohm_store.proofs.Newest.{cell_at-newest}
-use Rattle.bohm_store.proofs.Views.{lookup_table}
+use Rattle.bohm_store.proofs.NewestVersion.{cell_at-newest}
+use Rattle.bohm_store.proofs.TimelineLookups.{lookup_table}
 use Rattle.bohm_store.proofs.history.History.value_at.Goals as goal
 
 pub returns-clause-within : goal.returns-clause-within

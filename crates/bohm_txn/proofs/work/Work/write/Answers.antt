@@ -16,5 +16,5 @@ returns-in-Two-clause-after c =
     let before = tables_of c.args.self.now in
     let txn = c.args.txn.now in
     let said = c.write_seen.ensures in
-    let same : tables_of c.write_seen.new.self ≡ record before { seen = replaced txn.reads before.seen (name_at txn.writes c.args.place) c.args.cell; cells = c.set.new.self.0 } = λ i. record { locals = (said.locals i).0; seen = (said.seen i).0; cells = (said.cells i).0; shows = (said.shows i).0 } in
+    let same : tables_of c.write_seen.new.self ≡ record before { seen = replaced txn.reads before.seen (name_at txn.writes c.args.place) c.args.cell; cells = c.set.new.self.0 } = λ i. record { locals = (said.locals i).0; seen = said.seen i; cells = (said.cells i).0; shows = (said.shows i).0 } in
     same ∙ ap (λ (r : List Cell × ℕ). record before { seen = replaced txn.reads before.seen (name_at txn.writes c.args.place) c.args.cell; cells = r.0 }) c.set.ensures ∙ sym (written_seen txn before c.args.place c.args.cell c.requires.rising c.requires.place c.args.edition c.in-Two.is)

@@ -1,0 +1,100 @@
+-- Every slot is one of some position, and where slots start.
+use Rattle.std.proofs.Common.{◌≡◌, ℕ, zero, suc, ◌+◌, ◌<◌, List, [], ◌∷◌, ◌++◌, length, Some, refl, ap, sym, ◌∙◌, arith, inl, inr, ◌-◌, get_or, add-one, below_more}
+use Rattle.std.specs.Prelude.{◌⊎◌}
+use Rattle.std.specs.List.{slice_get}
+use Rattle.std.proofs.lemmas.Option.{same_Some, slice_get_within}
+use Rattle.bohm_tree.specs.declared.cell.Cell.{Cell}
+use Rattle.bohm_tree.specs.Txn.{Txn}
+use Rattle.bohm_txn.specs.Meaning.{Look}
+use Rattle.bohm_txn.specs.Serial.{after}
+use Rattle.bohm_board.specs.declared.batch.Batch.{Batch}
+use Rattle.bohm_board.specs.declared.knowledge.RightSlot.{RightSlot}
+use Rattle.bohm_board.specs.Serial.{own_cells, slot_at, slots_of, slots_from, width, offset}
+use Rattle.bohm_board.specs.Batches.{rights_of, base_of, txns_of, first_of}
+use Rattle.bohm_board.proofs.SerialSlots.{length-own_cells, length-outcomes, length-slots_of, length-slots, offset_next}
+use Rattle.std.proofs.lemmas.List.{length-append, get_or_append_left, get_or-append_right}
+use Rattle.bohm_board.specs.declared.layout.Layout.{Layout}
+use Rattle.bohm_board.specs.Layouts.{AreStarts, IsLayoutOf}
+
+abbrev pub InSecond : {A : Type 0} → List A → List A → ℕ → A → Type 0
+InSecond xs ys p x = (m : ℕ) × (p ≡ length xs + m) × (slice_get ys m ≡ Some x)
+
+pub in_either : {A : Type 0} (xs ys : List A) (p : ℕ) (x : A) → slice_get (xs ++ ys) p ≡ Some x → (slice_get xs p ≡ Some x) ⊎ InSecond xs ys p x
+in_either [] ys p x e = inr (p, omega arith, e)
+in_either (y ∷ xs) ys zero x e = inl e
+in_either (y ∷ xs) ys (suc p) x e = elim (in_either xs ys p x e) as (λ _. (slice_get xs p ≡ Some x) ⊎ InSecond (y ∷ xs) ys (suc p) x) [
+  | inl h ↦ inl h
+  | inr (m, q, f) ↦ inr (m, omega (arith, q), f)
+]
+
+own_slot : (t i : ℕ) (cs : List Cell) (p : ℕ) (x : RightSlot) → slice_get (slots_of t i cs) p ≡ Some x → x.slot ≡ record { txn = t; index = i + p }
+own_slot t i [] p x e = absurd cc
+own_slot t i (c ∷ cs) zero x e = ap (λ (r : RightSlot). r.slot) (sym (same_Some (slot_at t i c) x e)) ∙ ap (λ (j : ℕ). record { txn = t; index = j }) (omega arith)
+own_slot t i (c ∷ cs) (suc p) x e = own_slot t (suc i) cs p x e ∙ ap (λ (j : ℕ). record { txn = t; index = j }) (omega arith)
+
+-- slot p is the j-th of the i-th transaction
+pub record IsOwn (n : ℕ) (ts : List Txn) (p : ℕ) (x : RightSlot) : Type 0 where
+  pub i : ℕ
+  pub j : ℕ
+  pub txn : Txn
+  pub is_at : slice_get ts i ≡ Some txn
+  pub inside : j < width txn
+  pub slot : x.slot ≡ record { txn = n + i; index = j }
+  pub place : p ≡ offset ts i + j
+
+pub slot_place : (n : ℕ) (look : Look) (ts : List Txn) (p : ℕ) (x : RightSlot) → slice_get (slots_from n look ts) p ≡ Some x → IsOwn n ts p x
+slot_place n look [] p x e = absurd cc
+slot_place n look (t ∷ ts) p x e = elim (in_either (slots_of n 0 (own_cells look t)) (slots_from (n + 1) (after look t) ts) p x e) as (λ _. IsOwn n (t ∷ ts) p x) [
+  | inl h ↦ record {
+    i = 0;
+    j = p;
+    txn = t;
+    is_at = refl;
+    inside = omega (arith, slice_get_within (slots_of n 0 (own_cells look t)) p x h, length-slots_of n 0 (own_cells look t), length-own_cells look t);
+    slot = own_slot n 0 (own_cells look t) p x h ∙ (let same : n ≡ n + 0 = omega arith in let index : 0 + p ≡ p = omega arith in λ d. record { txn = same d; index = index d });
+    place = omega arith;
+  }
+  | inr (m, q, f) ↦
+      let r = slot_place (n + 1) (after look t) ts m x f in
+      record {
+        i = suc r.i;
+        j = r.j;
+        txn = r.txn;
+        is_at = r.is_at;
+        inside = r.inside;
+        slot = r.slot ∙ (let same : (n + 1) + r.i ≡ n + suc r.i = omega arith in ap (λ (z : ℕ). record { txn = z; index = r.j }) same);
+        place = omega (arith, q, r.place, length-slots_of n 0 (own_cells look t), length-own_cells look t);
+      }
+]
+
+pub slot_of_batch : (b : Batch) (p : ℕ) (x : RightSlot) → slice_get (rights_of b).slots p ≡ Some x → IsOwn (first_of b) (txns_of b) p x
+unfolding rights_of
+slot_of_batch b p x e = slot_place (first_of b) (base_of b) (txns_of b) p x e
+
+pub first_right : (b : Batch) → (rights_of b).first ≡ first_of b
+unfolding rights_of
+first_right b = refl
+
+pub outcomes_long : (b : Batch) → length (rights_of b).outcomes ≡ length (txns_of b)
+unfolding rights_of
+outcomes_long b = length-outcomes (base_of b) (txns_of b)
+
+pub slots_long : (b : Batch) → length (rights_of b).slots ≡ offset (txns_of b) (length (txns_of b))
+unfolding rights_of
+slots_long b = length-slots (first_of b) (base_of b) (txns_of b)
+
+-- ---- where slots start
+
+pub next_offset : (ts : List Txn) (i : ℕ) (x : Txn) → slice_get ts i ≡ Some x → offset ts (i + 1) ≡ offset ts i + width x
+next_offset ts i x e = rw add-one (offset_next ts i x e)
+
+pub one_start : (ts : List Txn) (i : ℕ) (xs : List ℕ) (n : ℕ) → AreStarts ts i xs → n ≡ offset ts i → AreStarts ts (i + 1) (xs ++ n ∷ [])
+one_start ts i xs n are e = record {
+  long = omega (arith, length-append xs (n ∷ []), are.long);
+  each = below_more (λ j. get_or (xs ++ n ∷ []) j 0 ≡ offset ts j) i
+      (λ j h. get_or_append_left xs (n ∷ []) 0 j (omega (arith, are.long)) ∙ are.each j h)
+      (let none : i - i ≡ 0 = omega arith in get_or-append_right xs (n ∷ []) i i 0 are.long (omega arith) ∙ (ap (λ (z : ℕ). get_or (n ∷ []) z 0) none ∙ e));
+}
+
+pub layout_lengths : (b : Batch) (l : Layout) → IsLayoutOf (txns_of b) l → (length (rights_of b).outcomes ≡ l.positions) × (length (rights_of b).slots ≡ l.slots)
+layout_lengths b l is = (outcomes_long b ∙ sym is.positions, slots_long b ∙ sym is.slots)

@@ -1,7 +1,0 @@
-use Rattle.std.proofs.Common.{◌-◌}
-use Rattle.bohm_place.specs.Plans.{keys_in}
-use Rattle.bohm_board.specs.Bases.{keys_of, IsSetNoted}
-use Rattle.bohm_board.proofs.noting.note_set.Given as goal
-
-abbrev pub invariant-loop-place : goal.invariant-loop-place
-invariant-loop-place l = IsSetNoted l.initial.plan l.plan l.set (l.t - l.initial.plan.first) (keys_in l.set l.txn) (keys_of l.entries) l.place

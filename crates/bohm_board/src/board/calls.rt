@@ -1,0 +1,244 @@
+//! The calls of a board. None waits, and all but `open` allocate nothing.
+
+ghost use Rattle.std.specs.Prelude.{◌≡◌, ℕ, IfOk, IsNone, IfSome};
+ghost use Rattle.bohm_board.specs.Batches.{rights_of, IsIn, IsSlot, IsRightCell, IsRightOutcome};
+ghost use Rattle.bohm_board.specs.Closings.{IsFinished, IsUntaken, HasCell, IsLeft};
+ghost use Rattle.bohm_board.specs.Closings.{batch_of_closed};
+ghost use Rattle.bohm_board.specs.declared.slot.Slot.{Slot};
+ghost use Rattle.bohm_board.specs.Passes.{IsPassOf, HoldsNothing, Holds, IsDone, IsFilled};
+ghost use Rattle.bohm_board.specs.Passes.{KnowsWanted, HasFilledAll, held_timestamp};
+ghost use Rattle.bohm_board.specs.Passes.{batch_of, view};
+ghost use Rattle.bohm_board.specs.Views.{new_view, after_status, after_claim, after_join};
+ghost use Rattle.bohm_board.specs.Views.{after_look, after_fill, after_finish, Recalls, IsUnseen};
+ghost use Rattle.bohm_board.specs.Encoding.{status_of_claim};
+
+use crate::batch::Batch;
+use crate::board::Board;
+use crate::board::step_kinds::{Share, Unite};
+use crate::closed::{Closed, copy_words};
+use crate::columns::Columns;
+use crate::encoding::{present_cell, status_of_word};
+use crate::layout::Layout;
+use crate::pass::Pass;
+use crate::slot::Slot;
+use crate::status::{Claimed, Status};
+use atomic_table::Table;
+use bohm_tree::{Cell, NoMemory};
+use bohm_txn::Outcome;
+use std::alloc::Global;
+
+impl<'a> Board<'a> {
+    /// Opens a board for a batch: all positions are Open, and all slots empty. The pass has seen
+    /// nothing and holds nothing. A refusal gives the batch up. The time and the room grow with the
+    /// number of transactions and of their slots.
+    pub fn open(alloc: Global, batch: Batch<'a>) -> Result<(Board<'a>, Pass), NoMemory>
+        ensures batch { IfOk result (λ b. batch_of b.0 ≡ batch.entry) }
+        ensures own { IfOk result (λ b. IsPassOf b.0 b.1) }
+        ensures view { IfOk result (λ b. view b.1 ≡ new_view (rights_of batch.entry)) }
+    {
+        let layout = Layout::new(alloc, batch.txns())?;
+        let columns = Columns::new(alloc, layout.positions, layout.slots)?;
+        let words = Vec::from_elem(alloc, 0u64, layout.positions + 2 * layout.slots)?;
+        let (table, seat) = Table::of_words(alloc, words.as_slice(), &batch)?;
+        let pass = Pass {
+            seat,
+            first: batch.first(),
+            held: None,
+        };
+        let board = Board {
+            table,
+            batch,
+            layout,
+            columns,
+        };
+        Ok((board, pass))
+    }
+
+    pub fn batch(&self) -> &Batch<'a>
+        ensures { result.now ≡ batch_of self.now }
+    {
+        &self.batch
+    }
+
+    /// Two passes that know what the one knew.
+    pub fn split(&self, pass: Pass) -> (Pass, Pass)
+        requires own { IsPassOf self.now pass }
+        requires free { HoldsNothing (view pass) }
+        ensures own { IsPassOf self.now result.0 × IsPassOf self.now result.1 }
+        ensures views { (view result.0 ≡ view pass) × (view result.1 ≡ view pass) }
+    {
+        let Pass {
+            mut seat,
+            first,
+            held,
+        } = pass;
+        let other = self.table.shared.split_seat::<Share>(&mut seat);
+        let left = Pass { seat, first, held };
+        let right = Pass {
+            seat: other,
+            first,
+            held,
+        };
+        (left, right)
+    }
+
+    /// One pass that knows what the two knew.
+    pub fn join(&self, left: Pass, right: Pass) -> Pass
+        requires own { IsPassOf self.now left × IsPassOf self.now right }
+        requires free { HoldsNothing (view left) × HoldsNothing (view right) }
+        ensures own { IsPassOf self.now result }
+        ensures view { view result ≡ after_join (view left) (view right) }
+    {
+        let Pass {
+            mut seat,
+            first,
+            held,
+        } = left;
+        let Pass {
+            seat: other,
+            first: _,
+            held: _,
+        } = right;
+        self.table.shared.join_seat::<Unite>(&mut seat, other);
+        Pass { seat, first, held }
+    }
+
+    /// The timestamp of the position that a pass holds.
+    pub fn holding(pass: &Pass) -> Option<u32>
+        ensures { result ≡ held_timestamp pass.now }
+    {
+        match pass.held {
+            Some(position) => Some(pass.first + position),
+            None => None,
+        }
+    }
+
+    /// How far the position with a timestamp is. The pass sees it so.
+    pub fn status(&self, pass: &mut Pass, t: u32) -> Status
+        requires own { IsPassOf self.now pass.old }
+        requires inside { IsIn (batch_of self.now) t }
+        requires apart { ¬ Holds (batch_of self.now) (view pass.old) t }
+        ensures own { IsPassOf self.now pass.new }
+        ensures view { view pass.new ≡ after_status (view pass.old) t result }
+        ensures recalls { Recalls (view pass.old) t result }
+    {
+        let position = self.batch.position(t);
+        let word = self.see_status(&mut pass.seat, position);
+        status_of_word(word)
+    }
+
+    /// Claims the position with a timestamp, by a single exchange. An open one is the pass's from
+    /// then on.
+    pub fn claim(&self, pass: &mut Pass, t: u32) -> Claimed
+        requires own { IsPassOf self.now pass.old }
+        requires inside { IsIn (batch_of self.now) t }
+        requires free { HoldsNothing (view pass.old) }
+        ensures own { IsPassOf self.now pass.new }
+        ensures view { view pass.new ≡ after_claim (view pass.old) t (status_of_claim result) }
+        ensures recalls { Recalls (view pass.old) t (status_of_claim result) }
+    {
+        let position = self.batch.position(t);
+        let word = self.exchange_status(&mut pass.seat, position);
+        match status_of_word(word) {
+            Status::Open => {
+                pass.held = Some(position as u32);
+                Claimed::Mine
+            }
+            Status::Busy => Claimed::Busy,
+            Status::Done => Claimed::Done,
+        }
+    }
+
+    /// The cell of a slot, if it is there. The pass knows the slot then.
+    pub fn look(&self, pass: &mut Pass, slot: Slot) -> Option<Cell>
+        requires own { IsPassOf self.now pass.old }
+        requires inside { IsSlot (batch_of self.now) slot }
+        ensures own { IsPassOf self.now pass.new }
+        ensures view { view pass.new ≡ after_look (view pass.old) slot result }
+        ensures right { IfSome result (IsRightCell (batch_of self.now) slot) }
+        ensures none { IsNone result → IsUnseen (view pass.old) slot }
+    {
+        let number = self.layout.number(&self.batch, slot);
+        match self.see_presence(&mut pass.seat, number) {
+            0 => None,
+            1 => Some(Cell::Absent),
+            _ => {
+                let value = self.see_value(&mut pass.seat, number);
+                Some(present_cell(value))
+            }
+        }
+    }
+
+    /// Puts the right cell into a slot of the position that the pass holds.
+    pub fn fill(&self, pass: &mut Pass, slot: Slot, cell: Cell)
+        requires own { IsPassOf self.now pass.old }
+        requires inside { IsSlot (batch_of self.now) slot }
+        requires held { Holds (batch_of self.now) (view pass.old) slot.txn }
+        requires wanted { KnowsWanted (batch_of self.now) (view pass.old) slot.txn }
+        requires empty { ¬ IsFilled (batch_of self.now) (view pass.old) slot }
+        requires right { IsRightCell (batch_of self.now) slot cell }
+        ensures own { IsPassOf self.now pass.new }
+        ensures view { view pass.new ≡ after_fill (view pass.old) slot cell }
+    {
+        let number = self.layout.number(&self.batch, slot);
+        match cell {
+            Cell::Absent => self.store_presence(&mut pass.seat, number, Cell::Absent),
+            Cell::Present(value) => {
+                self.store_value(&mut pass.seat, number, value);
+                self.store_presence(&mut pass.seat, number, Cell::Present(value));
+            }
+        }
+    }
+
+    /// Gives the position that the pass holds its outcome.
+    pub fn finish(&self, pass: &mut Pass, t: u32, outcome: Outcome)
+        requires own { IsPassOf self.now pass.old }
+        requires inside { IsIn (batch_of self.now) t }
+        requires held { Holds (batch_of self.now) (view pass.old) t }
+        requires wanted { KnowsWanted (batch_of self.now) (view pass.old) t }
+        requires filled { HasFilledAll (batch_of self.now) (view pass.old) t }
+        requires right { IsRightOutcome (batch_of self.now) t outcome }
+        ensures own { IsPassOf self.now pass.new }
+        ensures view { view pass.new ≡ after_finish (view pass.old) t }
+    {
+        let position = self.batch.position(t);
+        self.store_outcome(&mut pass.seat, position, outcome);
+        pass.held = None;
+    }
+
+    /// What the steps of all passes left: the words of a state of the core, so of one that meets
+    /// the board law. What the pass saw Done is finished there. The time grows with the number of
+    /// words.
+    pub fn close(self, pass: Pass) -> Closed<'a>
+        requires own { IsPassOf self pass }
+        requires free { HoldsNothing (view pass) }
+        ensures batch { batch_of_closed result ≡ batch_of self.entry }
+        ensures state { IsLeft result }
+        ensures done { (t : ℕ) → IsDone (batch_of self.entry) (view pass) t → IsFinished result t }
+        ensures untaken { (s : Slot) → IsSlot (batch_of self.entry) s → IsUntaken result s.txn
+            → ¬ HasCell result s }
+    {
+        let Board {
+            table,
+            batch,
+            layout,
+            mut columns,
+        } = self;
+        let Pass {
+            seat,
+            first: _,
+            held: _,
+        } = pass;
+        let (positions, slots) = (layout.positions, layout.slots);
+        let words = table.close_with(seat);
+        copy_words(&words, 0, &mut columns.statuses);
+        copy_words(&words, positions, &mut columns.presences);
+        copy_words(&words, positions + slots, &mut columns.values);
+        words.free();
+        Closed {
+            batch,
+            layout,
+            columns,
+        }
+    }
+}

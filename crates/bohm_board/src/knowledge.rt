@@ -1,0 +1,42 @@
+//! What passes know. No value of these types is made.
+
+use crate::slot::Slot;
+use bohm_tree::Cell;
+use bohm_txn::Outcome;
+use std::collections::LinkedList;
+
+/// The cell that a slot gets.
+#[derive(Clone, Copy)]
+pub struct RightSlot {
+    pub slot: Slot,
+    pub cell: Cell,
+}
+
+/// What the serial run of a batch gives: the outcome of each position, and the cell of each slot.
+pub struct Rights {
+    /// The timestamp of the first position.
+    pub first: u32,
+    pub outcomes: LinkedList<Outcome>,
+    pub slots: LinkedList<RightSlot>,
+}
+
+/// What a pass knows. Positions are timestamps; they and slots stand in the order in which they
+/// were learnt.
+pub struct View {
+    /// What is right in the batch that the pass belongs to.
+    pub right: Rights,
+    /// Positions that it saw Done.
+    pub done: LinkedList<u32>,
+    /// Positions that it saw Busy.
+    pub busy: LinkedList<u32>,
+    /// Slots that it knows as `Absent`.
+    pub absent: LinkedList<Slot>,
+    /// Slots that it knows as `Present`.
+    pub present: LinkedList<Slot>,
+    /// The position that it holds.
+    pub held: Option<u32>,
+    /// Slots of the held position whose value word it stored.
+    pub stored: LinkedList<Slot>,
+    /// Slots of the held position that it filled.
+    pub filled: LinkedList<Slot>,
+}

@@ -1,0 +1,33 @@
+//! The slots behind the accesses of a declared set.
+
+ghost use Rattle.std.specs.Prelude.{◌≡◌, ◌<◌, ◌≤◌, length};
+ghost use Rattle.bohm_board.specs.Batches.{accesses_in, IsIn};
+ghost use Rattle.bohm_exec.specs.Handed.{TakesSlot};
+
+use bohm_board::{Batch, Slot};
+use bohm_place::{DeclaredSet, Source};
+
+/// How many keys a declared set of a position has.
+pub(crate) fn count(batch: &Batch, t: u32, set: DeclaredSet) -> usize
+    requires { IsIn batch.now t }
+    ensures all { result ≡ length (accesses_in set batch.now t) }
+    ensures few { result ≤ 16 }
+{
+    set.keys(&batch.txn(t)).len()
+}
+
+/// The slot of the version that an access takes, if that version is one of the batch.
+pub(crate) fn slot_at(batch: &Batch, t: u32, set: DeclaredSet, index: u32) -> Option<Slot>
+    requires inside { IsIn batch.now t }
+    requires index { index < length (accesses_in set batch.now t) }
+    ensures { TakesSlot (accesses_in set batch.now t) index result }
+{
+    let access = batch.access(set, t, index);
+    match access.source {
+        Source::Before => None,
+        Source::Within(u) => Some(Slot {
+            txn: u,
+            index: access.index,
+        }),
+    }
+}

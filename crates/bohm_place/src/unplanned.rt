@@ -1,0 +1,18 @@
+//! A batch that is to be planned.
+
+ghost use Rattle.std.specs.Prelude.{◌+◌, ◌<◌, ◌≤◌, ◌^◌, All, length};
+ghost use Rattle.bohm_txn.specs.Faulty.{IsWellFormedTxn};
+
+use bohm_log::LogPart;
+
+/// A batch that is to be planned: its transactions, the timestamp of the first one, and how many
+/// accesses they have.
+#[derive(Clone, Copy)]
+pub struct UnplannedBatch<'a> {
+    pub first: u32,
+    pub txns: &'a LogPart<'a>,
+    pub accesses: usize,
+    ghost position: { 0 < first },
+    ghost room: { first + length txns.now ≤ 2 ^ 32 },
+    ghost formed: { All IsWellFormedTxn txns.now },
+}

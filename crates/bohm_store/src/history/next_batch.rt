@@ -1,0 +1,64 @@
+//! The batch that starts behind the top of the history.
+
+ghost use Rattle.std.specs.Prelude.{◌≡◌, ◌+◌, IfOk};
+ghost use Rattle.bohm_place.specs.Plans.{HasSourcesOf};
+ghost use Rattle.bohm_board.specs.Bases.{IsBatched};
+ghost use Rattle.bohm_board.specs.Batches.{plan_of, txns_of};
+ghost use Rattle.bohm_store.specs.Nexts.{IsNext};
+
+use crate::base::base_at;
+use crate::history::History;
+use crate::seats::Seats;
+use bohm_board::Batch;
+use bohm_log::LogPart;
+use bohm_place::Plan;
+use bohm_tree::NoMemory;
+use std::alloc::Global;
+
+impl History {
+    /// The batch of these transactions that starts behind the top, with what their keys hold there.
+    /// The plan is given up on a refusal. The time grows with the number of keys that the
+    /// transactions declare and with that of the log's keys.
+    pub fn batch<'a>(
+        &self,
+        alloc: Global,
+        txns: &LogPart<'a>,
+        plan: Plan,
+    ) -> Result<Batch<'a>, NoMemory>
+        requires batched { IsBatched txns.now plan }
+        requires first { plan.first ≡ self.now.top + 1 }
+        ensures txns { IfOk result (λ b. txns_of b ≡ txns.entry.now) }
+        ensures plan { IfOk result (λ b. HasSourcesOf plan (plan_of b)) }
+        ensures next { IfOk result (IsNext self.now) }
+    {
+        self.batch_with(alloc, &mut Seats::new(alloc), txns, plan)
+    }
+
+    /// The same, with what the run keeps from batch to batch: a key is hashed only where it doesn't
+    /// stand where it was last seen, and none is sorted or searched for. A key that the history
+    /// lacks, as one that is only ever read, stands nowhere: it is looked up in each batch that
+    /// declares it. The time grows with the number of keys that the transactions declare; only
+    /// where the log has more keys than ever before does it grow with these too.
+    pub fn batch_with<'a>(
+        &self,
+        alloc: Global,
+        seats: &mut Seats,
+        txns: &LogPart<'a>,
+        plan: Plan,
+    ) -> Result<Batch<'a>, NoMemory>
+        requires batched { IsBatched txns.now plan }
+        requires first { plan.first ≡ self.now.top + 1 }
+        ensures txns { IfOk result (λ b. txns_of b ≡ txns.entry.now) }
+        ensures plan { IfOk result (λ b. HasSourcesOf plan (plan_of b)) }
+        ensures next { IfOk result (IsNext self.now) }
+    {
+        let keys = txns.keys();
+        let names = keys.names();
+        seats.keys.gather(&keys)?;
+        let hints = &mut seats.hints;
+        hints.cover(names.len())?;
+        let numbers = seats.keys.numbers();
+        let base = base_at(&self.chains, alloc, hints, names, numbers, self.top)?;
+        Ok(Batch::by_number(txns.fork(), plan, base, &keys, &seats.keys))
+    }
+}

@@ -1,0 +1,62 @@
+//! What the history says of the past.
+
+ghost use Rattle.std.specs.Prelude.{◌≡◌, ◌<◌, ◌≤◌, ◌↔◌, Err, Ok, IfOk, OnErr};
+ghost use Rattle.std.specs.FinMap.{entries};
+ghost use Rattle.bohm_txn.specs.Stores.{cell_in, store_of};
+ghost use Rattle.bohm_store.specs.Versions.{IsCellAt, past, versions};
+
+use crate::chains::cell_of;
+use crate::fault::{PastFault, StoreFault};
+use crate::history::History;
+use crate::listing::present;
+use bohm_tree::{Cell, Key, Value};
+use std::alloc::Global;
+
+impl History {
+    /// What a key holds after the transaction with a timestamp: the cell of its version with the
+    /// greatest begin at or below it. `Trimmed` below the floor, `Future` above the top. Its time
+    /// is that of one look-up, and grows with how many versions of the key are newer. It takes no
+    /// memory.
+    pub fn value_at(&self, key: &Key, ts: u32) -> Result<Cell, PastFault>
+        ensures trimmed { (result ≡ Err PastFault.Trimmed) ↔ (ts < self.now.floor) }
+        ensures future { (result ≡ Err PastFault.Future) ↔ (self.now.top < ts) }
+        ensures within { self.now.floor ≤ ts → ts ≤ self.now.top
+            → result ≡ Ok (past self.now ts key.now) }
+        ensures newest { IfOk result (IsCellAt ts (versions self.now key.now)) }
+    {
+        if ts < self.floor {
+            return Err(PastFault::Trimmed);
+        }
+        if self.top < ts {
+            return Err(PastFault::Future);
+        }
+        Ok(cell_of(&self.chains, key, ts))
+    }
+
+    /// What each key holds after the transaction with a timestamp: the keys that have a value,
+    /// rising, with it. `Trimmed` below the floor and `Future` above the top, which are decided
+    /// before any growth. It goes over all keys: its time grows with their number n as n log n, and
+    /// with how many versions are newer.
+    pub fn store_at(&self, alloc: Global, ts: u32) -> Result<Vec<(Key, Value)>, StoreFault>
+        ensures trimmed { (result ≡ Err StoreFault.Trimmed) ↔ (ts < self.now.floor) }
+        ensures future { (result ≡ Err StoreFault.Future) ↔ (self.now.top < ts) }
+        ensures within { self.now.floor ≤ ts → ts ≤ self.now.top
+            → OnErr result (result ≡ Err StoreFault.NoMemory) }
+        ensures past { IfOk result (λ v. cell_in (store_of v.items) ≡ past self.now ts) }
+        ensures entries { IfOk result (λ v. v.items ≡ entries (store_of v.items)) }
+    {
+        if ts < self.floor {
+            return Err(StoreFault::Trimmed);
+        }
+        if self.top < ts {
+            return Err(StoreFault::Future);
+        }
+        match present(&self.chains, alloc, ts) {
+            Ok(mut list) => {
+                list.sort_unstable_by(|entry, other| entry.0.cmp(&other.0));
+                Ok(list)
+            }
+            Err(_) => Err(StoreFault::NoMemory),
+        }
+    }
+}

@@ -1,0 +1,33 @@
+//! Versions that are let go.
+
+ghost use Rattle.std.specs.Prelude.{◌≡◌, ◌<◌, ◌≤◌, ◌↔◌, ℕ, List, max, Contains};
+ghost use Rattle.bohm_store.specs.declared.version.Version.{Version};
+ghost use Rattle.bohm_store.specs.Versions.{IsKept, kept_versions, past, versions};
+
+use crate::chains::trim;
+use crate::history::History;
+
+impl History {
+    /// Where the floor is above the present one it becomes the floor, and of each key there stay
+    /// the versions that begin above it and the newest one at or below it. Else nothing changes.
+    /// Its time grows with how many versions go, whatever keys and versions stay. It takes no
+    /// memory.
+    pub fn trim(&mut self, floor: u32)
+        requires { floor ≤ self.old.top }
+        ensures floor { self.new.floor ≡ max self.old.floor floor }
+        ensures top { self.new.top ≡ self.old.top }
+        ensures versions { self.old.floor < floor → (k : List ℕ)
+            → versions self.new k ≡ kept_versions floor (versions self.old k) }
+        ensures unchanged { floor ≤ self.old.floor → (k : List ℕ)
+            → versions self.new k ≡ versions self.old k }
+        ensures kept { self.old.floor < floor → (k : List ℕ) (v : Version)
+            → Contains (versions self.new k) v ↔ IsKept floor (versions self.old k) v }
+        ensures past { (ts : ℕ) → self.new.floor ≤ ts → past self.new ts ≡ past self.old ts }
+    {
+        if floor <= self.floor {
+            return;
+        }
+        trim(&mut self.chains, &mut self.followers, floor);
+        self.floor = floor;
+    }
+}

@@ -1,6 +1,0 @@
-use Rattle.std.proofs.Common.{◌≡◌, ◌+◌, ◌++◌, drop}
-use Rattle.bohm_text.specs.Print.{lines_text, reply_lines, print_numbered}
-use Rattle.bohm_text.proofs.answers.print_numbered.Given as goal
-
-abbrev pub invariant-loop-index : goal.invariant-loop-index
-invariant-loop-index l = l.out.items ++ lines_text (reply_lines (l.first + l.index) (drop l.index l.replies)) ≡ print_numbered l.first l.replies

@@ -1,0 +1,59 @@
+//! Where names were found last.
+
+ghost use Rattle.std.specs.Prelude.{◌≡◌, IfSome, IsSome, Some, true, slice_get};
+ghost use Rattle.bohm_tree.specs.Name.{is_name};
+
+use crate::key::{Key, glance_at, words_of};
+
+/// For each glance of a name a place at which such a name was found last. A place is compared with
+/// the name before it is used: a wrong one costs the search that there would be without it, so none
+/// is ever cleared.
+#[derive(Clone, Copy)]
+pub struct Glances {
+    places: [u8; 256],
+}
+
+impl Glances {
+    pub fn new() -> Glances {
+        Glances { places: [0; 256] }
+    }
+
+    /// The place of a name among these, if it stands where its glance was found last.
+    pub fn place(&self, names: &[Key], name: &Key) -> Option<u32>
+        ensures { IfSome result (λ i. slice_get names.now i ≡ Some name.now) }
+    {
+        let place = self.places[name.glance()];
+        let there = names.get(place as usize)?;
+        if *there == *name {
+            Some(place as u32)
+        } else {
+            None
+        }
+    }
+
+    /// The same of the name that a word is. The word is compared in place: no key is made of it. A
+    /// word that begins with a digit is none.
+    pub fn place_of_word(&self, names: &[Key], word: &[u8]) -> Option<u32>
+        ensures place { IfSome result (λ i. slice_get names.now i ≡ Some word.now) }
+        ensures name { IsSome result → is_name word.now ≡ true }
+    {
+        if word.first()?.is_ascii_digit() {
+            return None;
+        }
+        let words = words_of(word);
+        let place = self.places[glance_at(&words)];
+        let there = names.get(place as usize)?;
+        if there.is_packed(word, &words) {
+            Some(place as u32)
+        } else {
+            None
+        }
+    }
+
+    /// Notes where a name was found. Places above 255 aren't noted.
+    pub fn note(&mut self, name: &Key, place: u32) {
+        if let Ok(place) = u8::try_from(place) {
+            self.places[name.glance()] = place;
+        }
+    }
+}

@@ -1,0 +1,6 @@
+use Rattle.std.proofs.Common.{◌≡◌, ◌-◌, drop}
+use Rattle.bohm_tree.specs.Keys.{rising}
+use Rattle.bohm_txn.proofs.first_fault.are_rising.Given as goal
+
+abbrev pub invariant-loop-place : goal.invariant-loop-place
+invariant-loop-place l = rising (drop (l.place - 1) l.keys) ≡ rising l.keys

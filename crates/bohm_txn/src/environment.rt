@@ -1,0 +1,186 @@
+//! Sums and conditions over what a statement sees.
+
+ghost use Rattle.std.specs.Prelude.{◌≡◌, ◌≤◌, pos, ◌+◌, ◌+ℤ◌};
+ghost use Rattle.std.specs.Prelude.{◌≤ℤ◌, ◌^◌, length, map, reverse, true, All, IfSome};
+ghost use Rattle.std.specs.Option.{option_map, option_copied};
+ghost use Rattle.std.specs.List.{find};
+ghost use Rattle.std.specs.Str.{bytes_eq};
+ghost use Rattle.bohm_tree.specs.Keys.{rising};
+ghost use Rattle.bohm_log.specs.Parts.{KeyIn, TermIn, key_at, term_of, sum_between};
+ghost use Rattle.bohm_txn.specs.Meaning.{newest, is_present, number_in, atom_value, total_from};
+ghost use Rattle.bohm_txn.specs.Meaning.{sum_value, compares, cond_value, signed};
+ghost use lib.IntN.{neg_ℤ};
+
+use crate::outcome::Reason;
+use bohm_log::{AtomKind, PlacedTxn, TermRow};
+use bohm_tree::{Cell, Cmp, Key, Value};
+use std::cmp::Ordering;
+
+/// What a statement sees: the terms of its transaction, the cells of the declared reads, and the
+/// locals.
+#[derive(Clone, Copy)]
+pub struct Environment<'a> {
+    pub txn: &'a PlacedTxn<'a>,
+    pub cells: &'a [Cell],
+    pub locals: &'a [(Key, Value)],
+    ghost paired: { length txn.now.reads ≡ length cells.now },
+    ghost rising: { rising txn.now.reads ≡ true },
+    ghost few: { length txn.now.reads ≤ 16 },
+}
+
+fn last_bound<'a>(locals: &'a [(Key, Value)], name: &Key) -> Option<&'a (Key, Value)>
+    ensures { option_copied result
+        ≡ find (λ local. bytes_eq local.0 name.now) (reverse locals.now) }
+{
+    locals.iter().rev().find(|local| local.0 == *name)
+}
+
+/// The value that was bound last to a name, or 0.
+fn local_among(locals: &[(Key, Value)], name: &Key) -> Value
+    ensures { result ≡ newest locals.now name.now (pos 0) }
+{
+    match last_bound(locals, name) {
+        Some(local) => local.1,
+        None => Value::from(0),
+    }
+}
+
+fn compares(cmp: Cmp, ordering: Ordering) -> bool
+    ensures { result ≡ compares cmp ordering }
+{
+    match cmp {
+        Cmp::Lt => ordering.is_lt(),
+        Cmp::Le => ordering.is_le(),
+        Cmp::Eq => ordering.is_eq(),
+        Cmp::Ge => ordering.is_ge(),
+        Cmp::Gt => ordering.is_gt(),
+    }
+}
+
+fn number_in(cell: Cell) -> Option<i128>
+    ensures value { result ≡ number_in cell }
+    ensures low { IfSome result (λ z. neg_ℤ (pos (2 ^ 64)) ≤ℤ z) }
+    ensures high { IfSome result (λ z. z ≤ℤ pos (2 ^ 64)) }
+{
+    match cell {
+        Cell::Absent => None,
+        Cell::Present(value) => Some(i128::from(value.get())),
+    }
+}
+
+impl Environment<'_> {
+    ghost use Rattle.bohm_txn.specs.Seeing.{cond_between, look_of};
+
+    /// The number of a term's atom, if its key isn't missing.
+    fn atom(&self, term: TermRow) -> Option<i128>
+        requires { TermIn self.now.txn.now term }
+        ensures value { result
+            ≡ atom_value (look_of self.now) self.now.locals.now
+            (term_of self.now.txn.now term).1 }
+        ensures low { IfSome result (λ z. neg_ℤ (pos (2 ^ 64)) ≤ℤ z) }
+        ensures high { IfSome result (λ z. z ≤ℤ pos (2 ^ 64)) }
+    {
+        let place = term.place as usize;
+        match term.kind {
+            AtomKind::Small => Some(i128::from(term.place)),
+            AtomKind::Large => Some(i128::from(self.txn.large()[place])),
+            AtomKind::Read => number_in(self.cells[place]),
+            AtomKind::Unread => None,
+            AtomKind::Local => {
+                let name = &self.txn.others()[place];
+                Some(i128::from(local_among(self.locals, name).get()))
+            }
+        }
+    }
+
+    fn add(&self, total: i128, term: &TermRow) -> Option<i128>
+        requires within { TermIn self.now.txn.now term.now }
+        requires low { neg_ℤ (pos (2 ^ 70)) ≤ℤ total }
+        requires high { total ≤ℤ pos (2 ^ 70) }
+        ensures value { result
+            ≡ option_map (λ z. signed total term.now.minus z)
+            (atom_value (look_of self.now) self.now.locals.now
+            (term_of self.now.txn.now term.now).1) }
+        ensures low { IfSome result (λ z. (neg_ℤ (pos (2 ^ 64)) +ℤ total) ≤ℤ z) }
+        ensures high { IfSome result (λ z. z ≤ℤ (total +ℤ pos (2 ^ 64))) }
+    {
+        let number = self.atom(*term)?;
+        Some(if term.minus {
+            total - number
+        } else {
+            total + number
+        })
+    }
+
+    fn total(&self, terms: &[TermRow]) -> Option<i128>
+        requires within { All (TermIn self.now.txn.now) terms.now }
+        requires few { length terms.now ≤ 16 }
+        ensures { result
+            ≡ total_from (look_of self.now) self.now.locals.now (pos 0)
+            (map (term_of self.now.txn.now) terms.now) }
+    {
+        let mut total: i128 = 0;
+        for term in terms {
+            total = self.add(total, term)?;
+        }
+        Some(total)
+    }
+
+    /// The value of the sum of the terms between two offsets. A partial total may be out of range.
+    pub fn sum(&self, from: u32, to: u32) -> Result<Value, Reason>
+        requires rises { from ≤ to }
+        requires end { to ≤ length self.now.txn.now.terms }
+        requires few { to ≤ from + 16 }
+        ensures { result
+            ≡ sum_value (look_of self.now) self.now.locals.now
+            (sum_between self.now.txn.now from to) }
+    {
+        let terms = self.txn.terms(from, to);
+        let total = self.total(terms).ok_or(Reason::Absent)?;
+        match i64::try_from(total) {
+            Ok(number) => Ok(Value::from(number)),
+            Err(_) => Err(Reason::Range),
+        }
+    }
+
+    /// Whether a comparison of two sums, one behind the other, holds.
+    pub fn holds(&self, cmp: Cmp, from: u32, middle: u32, to: u32) -> Result<bool, Reason>
+        requires left { from ≤ middle }
+        requires right { middle ≤ to }
+        requires end { to ≤ length self.now.txn.now.terms }
+        requires few_left { middle ≤ from + 16 }
+        requires few_right { to ≤ middle + 16 }
+        ensures { result
+            ≡ cond_value (look_of self.now) self.now.locals.now
+            (cond_between self.now.txn.now cmp from middle to) }
+    {
+        let left = self.sum(from, middle)?;
+        let right = self.sum(middle, to)?;
+        Ok(compares(cmp, left.get().cmp(&right.get())))
+    }
+
+    /// The cell of a key that is tested, at its place among the reads if it is declared.
+    fn cell(&self, declared: bool, place: u32) -> Cell
+        requires { KeyIn self.now.txn.now.reads self.now.txn.now.others declared place }
+        ensures { result
+            ≡ look_of self.now
+            (key_at self.now.txn.now.reads self.now.txn.now.others declared place) }
+    {
+        if declared {
+            self.cells[place as usize]
+        } else {
+            Cell::Absent
+        }
+    }
+
+    /// Whether a key that is tested is present.
+    pub fn has(&self, declared: bool, place: u32) -> bool
+        requires { KeyIn self.now.txn.now.reads self.now.txn.now.others declared place }
+        ensures { result
+            ≡ is_present
+            (look_of self.now
+            (key_at self.now.txn.now.reads self.now.txn.now.others declared place)) }
+    {
+        matches!(self.cell(declared, place), Cell::Present(_))
+    }
+}

@@ -1,0 +1,134 @@
+//! The first fault of a document.
+
+ghost use Rattle.std.specs.Prelude.{◌≡◌, ◌≤◌, length, map, All};
+ghost use Rattle.std.specs.Option.{option_map};
+ghost use Rattle.bohm_tree.specs.Keys.{rising, names_of};
+ghost use Rattle.bohm_log.specs.Parts.{RowIn, stmt_of, txn_of};
+ghost use Rattle.bohm_txn.specs.declared.fault.CheckKind.TheVariants.{Limit};
+ghost use Rattle.bohm_txn.specs.Faulty.{sets_faulty, stmt_faulty};
+ghost use Rattle.bohm_txn.specs.FirstFault.{least, first_in_body, first_in_txn, first_in_log};
+ghost use Rattle.bohm_txn.specs.FirstFault.{first_in_doc, fault_of};
+
+use crate::fault::{CheckFault, CheckKind};
+use crate::rules::{is_long, is_misnamed, is_unread, is_unwritten};
+use crate::showing::shows;
+use bohm_log::{Doc, Keys, LogPart, PlacedTxn, StmtRow, TxnView};
+use bohm_tree::{Key, MOST_KEYS, MOST_SHOWS, MOST_STMTS, MOST_TXNS, Value};
+
+fn are_rising(keys: &Keys<'_>) -> bool
+    ensures { result ≡ rising keys.now }
+{
+    for place in 1..keys.len() {
+        if keys.key(place - 1) >= keys.key(place) {
+            return false;
+        }
+    }
+    true
+}
+
+fn is_store_rising(store: &[(Key, Value)]) -> bool
+    ensures { result ≡ rising (names_of store.now) }
+{
+    store.is_sorted_by(|entry, next| entry.0 < next.0)
+}
+
+/// Whether the transaction has too many statements, keys or shown values.
+fn is_large(txn: &TxnView<'_>) -> bool
+    ensures { result ≡ sets_faulty txn.now Limit }
+{
+    txn.body_len() > MOST_STMTS
+        || txn.reads().len() > MOST_KEYS
+        || txn.writes().len() > MOST_KEYS
+        || shows(txn) > MOST_SHOWS
+}
+
+/// The least kind of fault of a statement that stands behind these others.
+fn stmt_fault(txn: &PlacedTxn<'_>, before: &[StmtRow], row: &StmtRow) -> Option<CheckKind>
+    requires reads { length txn.now.reads ≤ 16 }
+    requires writes { length txn.now.writes ≤ 16 }
+    requires before { All (RowIn txn.now) before.now }
+    requires row { RowIn txn.now row.now }
+    ensures { (e : _)
+        → result ≡ least
+        (stmt_faulty (txn_of e txn.now) (map (stmt_of txn.now) before.now)
+        (stmt_of txn.now row.now)) }
+{
+    if is_unread(txn, row) {
+        Some(CheckKind::Unread)
+    } else if is_unwritten(txn, row) {
+        Some(CheckKind::Unwritten)
+    } else if is_misnamed(txn, before, row) {
+        Some(CheckKind::Local)
+    } else if is_long(txn, row) {
+        Some(CheckKind::Limit)
+    } else {
+        None
+    }
+}
+
+/// The first faulty statement, counted from 1.
+fn first_in_body(txn: &PlacedTxn<'_>) -> Option<(u32, CheckKind)>
+    requires reads { length txn.now.reads ≤ 16 }
+    requires writes { length txn.now.writes ≤ 16 }
+    requires stmts { length txn.now.rows ≤ 64 }
+    ensures { (e : _) → result ≡ first_in_body (txn_of e txn.now) }
+{
+    let rows = txn.rows();
+    for (i, row) in rows.iter().enumerate() {
+        if let Some(kind) = stmt_fault(txn, &rows[..i], row) {
+            return Some((i as u32 + 1, kind));
+        }
+    }
+    None
+}
+
+/// The first fault of a transaction: its sets and counts are statement 0.
+fn first_in_txn(txn: &TxnView<'_>) -> Option<(u32, CheckKind)>
+    ensures { result ≡ first_in_txn txn.now }
+{
+    if !are_rising(&txn.reads()) || !are_rising(&txn.writes()) {
+        Some((0, CheckKind::Order))
+    } else if is_large(txn) {
+        Some((0, CheckKind::Limit))
+    } else {
+        first_in_body(&txn.placed())
+    }
+}
+
+/// The first fault of a log's transactions, counted from 1.
+fn first_in_log(log: &LogPart<'_>) -> Option<CheckFault>
+    requires { length log.now ≤ 1000000 }
+    ensures { result ≡ option_map fault_of (first_in_log log.now) }
+{
+    for i in 0..log.len() {
+        if let Some((stmt, kind)) = first_in_txn(&log.txn(i)) {
+            return Some(CheckFault {
+                txn: i as u32 + 1,
+                stmt,
+                kind,
+            });
+        }
+    }
+    None
+}
+
+/// The first fault of a document: its store and the length of its log are transaction 0.
+pub fn first_fault(doc: &Doc) -> Option<CheckFault>
+    ensures { result ≡ option_map fault_of (first_in_doc doc.now) }
+{
+    let whole = |kind| {
+        Some(CheckFault {
+            txn: 0,
+            stmt: 0,
+            kind,
+        })
+    };
+    let log = doc.log();
+    if !is_store_rising(doc.store()) {
+        whole(CheckKind::Order)
+    } else if log.len() > MOST_TXNS {
+        whole(CheckKind::Limit)
+    } else {
+        first_in_log(&log)
+    }
+}
