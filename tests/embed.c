@@ -126,18 +126,18 @@ static long open_refused(long from, long to) {
 }
 
 /* The replies that wait are those of the last `ran` transactions: each allocation of their text is refused in turn,
- * and then none. */
+ * with all later ones (room for the text may be refused alone, since it may well be shorter), and then none. */
 static void take_waiting(bohm_machine *machine, uint32_t top, uint32_t ran) {
     bohm_bytes out = BOHM_NO_BYTES;
     text more = segment_behind(top + ran, 1);
     hold(bohm_apply(machine, bytes_of(more), more.len, &out) == BOHM_WAITING && is_none(out), "it doesn't wait");
     free(more.at);
     for (long from = 1;; from++) {
-        refuse(from, from);
+        refuse(from, 1L << 60);
         uint32_t status = bohm_replies(machine, &out);
         long asked_for = relent();
         if (status == BOHM_DONE) {
-            hold(asked_for < from || ran == 0, "done without memory");
+            hold(asked_for < from, "done without memory");
             break;
         }
         hold(status == BOHM_NO_MEMORY && is_none(out), "another end of bohm_replies");
