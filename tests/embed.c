@@ -1,14 +1,15 @@
 /* What the calls of bohm.h do where something is refused: each status, and each allocation of each call refused in
  * turn, alone and with all later ones. The call says so, the machine answers as before, and goes on.
- * Linked with -Wl,--wrap=malloc,--wrap=realloc. */
+ * Linked with -Wl,--wrap=malloc,--wrap=realloc,--wrap=free. */
 #include "embed.h"
 
-/* ---- the C library's heap, which refuses what it is told to */
+/* ---- the C library's heap, which refuses what it is told to, and counts the blocks that nobody has freed */
 
-static long asked, refused_from, refused_to;
+static long asked, refused_from, refused_to, blocks;
 
 void *__real_malloc(size_t size);
 void *__real_realloc(void *at, size_t size);
+void __real_free(void *at);
 
 static int is_refused(void) {
     if (!refused_to) return 0;
@@ -16,8 +17,22 @@ static int is_refused(void) {
     return asked >= refused_from && asked <= refused_to;
 }
 
-void *__wrap_malloc(size_t size) { return is_refused() ? NULL : __real_malloc(size); }
-void *__wrap_realloc(void *at, size_t size) { return is_refused() ? NULL : __real_realloc(at, size); }
+void *__wrap_malloc(size_t size) {
+    void *block = is_refused() ? NULL : __real_malloc(size);
+    blocks += block != NULL;
+    return block;
+}
+
+void *__wrap_realloc(void *at, size_t size) {
+    void *block = is_refused() ? NULL : __real_realloc(at, size);
+    blocks += block && !at;
+    return block;
+}
+
+void __wrap_free(void *at) {
+    blocks -= at != NULL;
+    __real_free(at);
+}
 
 /* From now on the allocations from number `from` to number `to`, counted from 1, are refused. */
 static void refuse(long from, long to) {
@@ -215,15 +230,22 @@ static long line_refused(long from, long to) {
     return asked_for;
 }
 
+/* A call after which each block is free again that came. */
+static long freed_again(long (*call)(long, long), long from, long to) {
+    long before = blocks, asked_for = call(from, to);
+    hold(blocks == before, "a block that nobody frees");
+    return asked_for;
+}
+
 /* Refuses each allocation in turn, and then each with all later ones; of very many some, and all of the last. */
 static void each_refused(const char *name, long (*call)(long, long), uint32_t count) {
     now = name;
     least_count = count;
-    long all = call(-1, -1), step = all / 60 + 1, tried = 0;
+    long all = freed_again(call, -1, -1), step = all / 60 + 1, tried = 0;
     hold(all > 0, "it asks for no memory");
     for (long n = 1; n <= all; n += n + 40 < all ? step : 1, tried++) {
-        hold(call(n, n) >= n, "fewer allocations");
-        hold(call(n, 1L << 60) >= n, "fewer allocations");
+        hold(freed_again(call, n, n) >= n, "fewer allocations");
+        hold(freed_again(call, n, 1L << 60) >= n, "fewer allocations");
     }
     printf("%s: %ld of %ld allocations refused in turn\n", name, tried, all);
 }

@@ -8,6 +8,7 @@ ghost use Rattle.bohm_machine.specs.Machines.{floor_of, past_of, top_of};
 ghost use Rattle.bohm_c.specs.Keeping.{IsAnswer, IsDone, IsKept, IsOpening, IsReadable, IsSnapshot, IsStopped, IsTrimmed, told};
 ghost use Rattle.bohm_c.specs.Reading.{IsRefusal};
 
+use crate::handing::hand_over;
 use crate::handle::{BohmMachine, closed, hold, take_back};
 use crate::keeper::{OpenFault, open, refuse};
 use crate::reading::read;
@@ -45,7 +46,7 @@ pub extern "C" fn bohm_answer<'a>(alloc: Global, text: &[u8], out: &mut &'a mut 
     };
     match answer(alloc, &checked) {
         Ok(answer) => {
-            *out = answer.leak();
+            *out = hand_over(alloc, answer);
             DONE
         }
         Err(_) => NO_MEMORY,

@@ -8,6 +8,7 @@ ghost use Rattle.bohm_machine.specs.Machines.{floor_of, past_of, top_of};
 ghost use Rattle.bohm_c.specs.Keeping.{IsDone, IsKept, IsOpening, IsReadable, IsRefusedOpening, IsSnapshot, IsStopped, IsTrimmed, told};
 ghost use Rattle.bohm_c.specs.Reading.{IsRefusal};
 
+use crate::handing::hand_over;
 use crate::reading::{print_snapshot, read};
 use crate::status::{
     DONE, FUTURE, HAS_STORE, KEPT, NO_MEMORY, REFUSED, STOPPED, TIMESTAMPS, TRIMMED, WAITING,
@@ -61,7 +62,7 @@ pub fn refuse<'a>(alloc: Global, fault: RunFault, out: &mut &'a mut [u8]) -> u32
     }
     match print_fault(alloc, &fault) {
         Ok(line) => {
-            *out = line.leak();
+            *out = hand_over(alloc, line);
             REFUSED
         }
         Err(_) => NO_MEMORY,
@@ -91,7 +92,7 @@ impl Keeper {
         let Applied { replies, end } = applied;
         match print_numbered(alloc, u64::from(behind) + 1, &replies) {
             Ok(text) => {
-                *out = text.leak();
+                *out = hand_over(alloc, text);
                 if end.is_ok() { DONE } else { STOPPED }
             }
             Err(_) => {
@@ -141,7 +142,7 @@ impl Keeper {
         let replies = mem::replace(&mut self.waiting, Replies::new(alloc));
         match print_numbered(alloc, u64::from(self.behind) + 1, &replies) {
             Ok(text) => {
-                *out = text.leak();
+                *out = hand_over(alloc, text);
                 DONE
             }
             Err(_) => {
@@ -194,7 +195,7 @@ impl Keeper {
         };
         match print_snapshot(alloc, store) {
             Ok(text) => {
-                *out = text.leak();
+                *out = hand_over(alloc, text);
                 DONE
             }
             Err(_) => NO_MEMORY,

@@ -2,6 +2,7 @@
 #![tactic(auto)]
 
 mod exports;
+mod handing;
 mod handle;
 mod keeper;
 mod loose;
