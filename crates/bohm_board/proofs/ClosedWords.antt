@@ -17,7 +17,8 @@ use Rattle.bohm_board.specs.Encoding.{word_of, outcome_at, progress_word, presen
 use Rattle.bohm_board.proofs.Inputs.{short_outcome}
 use Rattle.bohm_board.specs.Law.{IsTrueOf, IsSound}
 use Rattle.bohm_board.proofs.StateUpdates.{put_at, same_words}
-use Rattle.bohm_board.proofs.Refinement.{outcome_back, two_at_least, true_of, right_presence}
+use Rattle.bohm_board.proofs.StepEvents.{outcome_back, two_at_least}
+use Rattle.bohm_board.proofs.Refinement.{true_of, right_presence}
 use Rattle.bohm_board.proofs.SlotNumbers.{number_inside, one_number, one_position, position_inside}
 use Rattle.bohm_board.proofs.SlotPlaces.{outcomes_long}
 use Rattle.bohm_board.proofs.BoardLaw.{one_cell}

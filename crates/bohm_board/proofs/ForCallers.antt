@@ -6,7 +6,6 @@ pub use Rattle.bohm_board.proofs.Monotonicity.{keeps_same, keeps_then, keeps_alo
 pub use Rattle.bohm_board.proofs.SlotNumbers.{txn_there, width_there}
 pub use Rattle.bohm_board.proofs.WantedSources.{keys_paired, reads_paired, writes_paired, IsEarlier, in_either, wanted_earlier}
 pub use Rattle.bohm_board.proofs.BasePlaces.{member_among, declared_any, rising_distinct}
-pub use Rattle.bohm_board.proofs.GatheredPlaces.{gathered_base}
 pub use Rattle.bohm_board.proofs.Evaluation.{contains_at}
 -- what is right for a position
 pub use Rattle.bohm_board.proofs.Inputs.{own_right, outcome_right, reads_before, writes_before}

@@ -7,6 +7,7 @@ mod Evaluation
 mod LawPreservation
 mod EventRuns
 mod StateUpdates
+mod StepEvents
 mod Refinement
 mod ClosedWords
 mod SlotPlaces
@@ -14,5 +15,4 @@ mod EntrySearch
 mod Monotonicity
 mod PassInvariant
 mod BasePlaces
-mod GatheredPlaces
 pub mod ForCallers

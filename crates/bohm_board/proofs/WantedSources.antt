@@ -1,19 +1,20 @@
 -- There is an access for each declared key, and what a position wants is of an earlier one.
-use Rattle.std.proofs.Common.{◌≡◌, ℕ, ◌+◌, ◌<◌, List, [], ◌++◌, length, Bool, true, false, Some, ap, ◌∙◌, subst, ⊎_elim, inl, inr, refl, arith}
+use Rattle.std.proofs.Common.{◌≡◌, ℕ, ◌+◌, ◌<◌, List, [], ◌++◌, length, Bool, true, false, Option, Some, option_map, unwrap_or, ap, sym, ◌∙◌, subst, ⊎_elim, inl, inr, refl, arith}
 use Rattle.std.specs.Prelude.{Contains, ◌⊎◌, if◌then◌else◌}
 use Rattle.std.specs.List.{slice_get}
 use Rattle.std.proofs.Math.Logic.{∥∥₁_elim}
 use Rattle.std.proofs.Props.{props}
 use Rattle.std.proofs.lemmas.List.Elements.{Contains-append_cases}
-use Rattle.std.proofs.lemmas.Option.{slice_get_within, slice_get-get_or}
+use Rattle.std.proofs.lemmas.Option.{same_Some, slice_get_within, slice_get-get_or}
 use Rattle.bohm_tree.specs.Txn.{Txn}
+use Rattle.bohm_txn.specs.Sure.{is_sure}
 use Rattle.bohm_txn.proofs.ForCallers.{there}
 use Rattle.bohm_place.specs.declared.access.Access.{Access}
 use Rattle.bohm_place.specs.declared.access.Source.{Source}
 use Rattle.bohm_place.specs.declared.access.Source.TheVariants.{Within}
 use Rattle.bohm_place.specs.declared.declared_set.DeclaredSet.{DeclaredSet}
 use Rattle.bohm_place.specs.declared.declared_set.DeclaredSet.TheVariants.{Reads, Writes}
-use Rattle.bohm_place.specs.Plans.{IsRightAccess, AreRightAccesses, IsIndexOf, keys_in}
+use Rattle.bohm_place.specs.Plans.{IsRightAccess, AreRightAccesses, IsIndexOf, keys_in, sure_at}
 use Rattle.bohm_place.specs.Writers.{IsNewest}
 use Rattle.bohm_place.proofs.ForCallers.{row_paired}
 use Rattle.bohm_board.specs.declared.batch.Batch.{Batch}
@@ -63,6 +64,12 @@ among_right b t keys accesses a u inside are in_it e =
 pub in_either : (b : Bool) (xs ys : List Access) (a : Access) → Contains (xs ++ (if b then [] else ys)) a → Contains xs a ⊎ ((b ≡ false) × Contains ys a)
 in_either true xs ys a h = ⊎_elim (λ c. inl c) (λ (c : Contains [] a). absurd (nothing_in a c)) (Contains-append_cases xs [] a h)
 in_either false xs ys a h = ⊎_elim (λ c. inl c) (λ (c : Contains ys a). inr (refl, c)) (Contains-append_cases xs ys a h)
+
+-- the plan knows whether a transaction is sure
+pub sure_planned : (b : Batch) (t : ℕ) (sure : Bool) → IsIn b t → sure_at (plan_of b) (position b t) ≡ Some sure → sure ≡ is_sure_at b t
+sure_planned b t sure inside at =
+    let (x, at_x) = txn_there b t inside in
+    ∥∥₁_elim b.batched.right (hlevel props) (λ plan. same_Some sure (is_sure x) (sym at ∙ plan.sure (position b t) x at_x) ∙ sym (ap (λ (o : Option Txn). unwrap_or (option_map is_sure o) false) at_x))
 
 -- a wanted source is an earlier position, with a slot for the key
 pub wanted_earlier : (b : Batch) (t : ℕ) (a : Access) (u : ℕ) → IsIn b t → Contains (wanted_at b t) a → a.source ≡ Within u → IsEarlier b t a u

@@ -6,20 +6,18 @@ ghost use Rattle.std.specs.Str.{bytes_eq};
 ghost use Rattle.std.proofs.Props.{props};
 ghost use Rattle.bohm_tree.specs.declared.cell.Cell.TheVariants.{Absent};
 ghost use Rattle.bohm_tree.specs.Keys.{rising};
-ghost use Rattle.bohm_log.specs.Numbering.{Numbers};
-ghost use Rattle.bohm_log.specs.Parts.{names_at};
 ghost use Rattle.bohm_txn.specs.Meaning.{newest};
-ghost use Rattle.bohm_place.specs.Gathering.{AreGathered};
+ghost use Rattle.bohm_place.specs.Noting.{AreNoted, HasKeysOf};
 ghost use Rattle.bohm_place.specs.Plans.{source_in, HasSourcesOf};
 ghost use Rattle.bohm_place.specs.declared.access.Source.TheVariants.{Before};
-ghost use Rattle.bohm_board.specs.Bases.{keys_of, AreNoted, IsBase, IsBatched};
+ghost use Rattle.bohm_board.specs.Bases.{keys_of, IsBase, IsBatched};
 
 mod base_places;
 
-use crate::batch::base_places::{note_gathered, note_places};
+use crate::batch::base_places::note_places;
 use crate::slot::width;
-use bohm_log::{DeclaredKeys, LogPart, TxnView};
-use bohm_place::{Access, BatchKeys, DeclaredSet, Plan, Source};
+use bohm_log::{LogPart, TxnView};
+use bohm_place::{Access, DeclaredSet, Plan, Source};
 use bohm_tree::{Cell, Items, Key};
 
 // The cell of a key among entries of distinct keys, or absence.
@@ -50,7 +48,7 @@ pub struct Batch<'a> {
 impl<'a> Batch<'a> {
     ghost use Rattle.bohm_board.specs.Batches.{first_of, txns_of, plan_of, entries_of, base_of};
     ghost use Rattle.bohm_board.specs.Batches.{txn_at, key_in, accesses_in, reads_at, writes_at};
-    ghost use Rattle.bohm_board.specs.Batches.{position, rights_of, width_at, IsIn};
+    ghost use Rattle.bohm_board.specs.Batches.{position, rights_of, width_at, is_sure_at, IsIn};
     ghost use Rattle.std.specs.Option.{option_map};
 
     /// A batch whose first transaction has the timestamp `first`. The base has an entry for each
@@ -77,27 +75,17 @@ impl<'a> Batch<'a> {
         }
     }
 
-    /// A batch whose base has an entry for each of the gathered keys, in their order. The time
-    /// grows with the number of accesses: the place of a key is found by its number, and not
-    /// searched for.
-    pub fn by_number(
-        txns: LogPart<'a>,
-        plan: Plan,
-        base: Vec<(Key, Cell)>,
-        keys: &DeclaredKeys<'_>,
-        gathered: &BatchKeys,
-    ) -> Batch<'a>
+    /// A batch whose plan has its keys: the base has an entry for each of them, in their order. Its
+    /// time is constant.
+    pub fn by_place(txns: LogPart<'a>, plan: Plan, base: Vec<(Key, Cell)>) -> Batch<'a>
         requires batched { IsBatched txns plan }
-        requires numbers { Numbers keys.now txns }
-        requires gathered { AreGathered keys.now gathered.now }
-        requires base { keys_of base.items ≡ names_at keys.now.names gathered.now.numbers }
+        requires keys { HasKeysOf txns plan }
+        requires base { keys_of base.items ≡ plan.keys }
         ensures first { first_of result ≡ plan.first }
         ensures txns { txns_of result ≡ txns.entry }
-        ensures plan { HasSourcesOf plan (plan_of result) }
+        ensures plan { plan_of result ≡ plan }
         ensures base { entries_of result ≡ base.items }
     {
-        let mut plan = plan;
-        note_gathered(&mut plan, &txns, keys, gathered);
         Batch {
             txns,
             plan,
@@ -141,6 +129,14 @@ impl<'a> Batch<'a> {
         ensures { txn_at self.now t ≡ Some result }
     {
         self.txns.txn((t - self.plan.first()) as usize)
+    }
+
+    /// Whether the transaction with a timestamp is sure. Its time is constant.
+    pub fn sure(&self, t: u32) -> bool
+        requires { IsIn self.now t }
+        ensures { result ≡ is_sure_at self.now t }
+    {
+        self.plan.sure(t)
     }
 
     /// How many slots the transaction with a timestamp has. The time grows with its statements.

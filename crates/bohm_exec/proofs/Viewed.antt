@@ -1,7 +1,6 @@
 -- What looks and fills change of a view, and what a batch's accesses say of it.
 use Rattle.std.proofs.Common.{◌≡◌, ℕ, ◌+◌, ◌<◌, ◌≤◌, List, [], ◌∷◌, ◌++◌, length, Bool, false, Option, None, Some, refl, sym, ap, ◌∙◌, subst, ⊎_elim, arith}
-use Rattle.std.specs.Prelude.{Contains, if◌then◌else◌, unwrap_or}
-use Rattle.std.specs.Option.{option_map}
+use Rattle.std.specs.Prelude.{Contains, if◌then◌else◌}
 use Rattle.std.proofs.lemmas.List.Elements.{Contains-append_left, Contains-append_right, Contains-push, Contains-push_cases}
 use mathlib.Core.Logic.{dite}
 use native.Mathlib.Decide.{ℕ_discrete}
@@ -9,7 +8,6 @@ use Rattle.bohm_tree.specs.declared.cell.Cell.{Cell}
 use Rattle.bohm_tree.specs.declared.cell.Cell.TheVariants.{Absent, Present}
 use Rattle.bohm_tree.specs.Txn.{Txn}
 use Rattle.bohm_txn.specs.Faulty.{IsWellFormedTxn}
-use Rattle.bohm_txn.specs.Sure.{is_sure}
 use Rattle.bohm_place.specs.declared.access.Access.{Access}
 use Rattle.bohm_place.specs.declared.declared_set.DeclaredSet.{DeclaredSet}
 use Rattle.bohm_place.specs.declared.declared_set.DeclaredSet.TheVariants.{Reads, Writes}
@@ -70,10 +68,6 @@ knows_wanted b v t reads writes = λ a u in_it is. ⊎_elim
 
 pub knows_later : (b : Batch) (v w : View) (accesses : List Access) → ((x : Slot) → Knows v x → Knows w x) → KnowsAll b v accesses → KnowsAll b w accesses
 knows_later b v w accesses later all = λ a u in_it is. later (slot_in u a) (all a u in_it is)
-
--- whether the transaction that was lent is sure
-pub same_sure : (b lent : Batch) (t : ℕ) (x : Txn) (answer : Bool) → lent ≡ b → txn_at lent t ≡ Some x → answer ≡ is_sure x → answer ≡ is_sure_at b t
-same_sure b lent t x answer same at e = e ∙ sym (ap (λ (o : Option Txn). unwrap_or (option_map is_sure o) false) (subst (λ (z : Batch). txn_at z t ≡ Some x) same at))
 
 pub well_formed : (b : Batch) (t : ℕ) (x : Txn) → txn_at b t ≡ Some x → IsWellFormedTxn x
 well_formed b t x at = formed_at (txns_of b) b.batched.formed (position b t) x at

@@ -15,7 +15,7 @@ use crate::wanted::{count, slot_at};
 use bohm_board::{Closed, Slot};
 use bohm_place::DeclaredSet;
 use bohm_tree::{Cell, MOST_KEYS};
-use bohm_txn::{Scratch, sure};
+use bohm_txn::Scratch;
 
 /// Takes the cells of the versions of the batch among the accesses of a declared set, and puts them
 /// at their places.
@@ -65,7 +65,7 @@ fn evaluate_left(closed: &mut Closed, t: u32, evaluator: &mut Evaluator)
         status_in closed.new u ≡ status_in closed.old u }
 {
     take_cells(closed, t, DeclaredSet::Reads, &mut evaluator.reads);
-    evaluator.sure = sure(&closed.batch().txn(t));
+    evaluator.sure = closed.batch().sure(t);
     if !evaluator.sure {
         take_cells(closed, t, DeclaredSet::Writes, &mut evaluator.earlier);
     }

@@ -11,7 +11,6 @@ use crate::sweeper::Sweeper;
 use crate::wanted::{count, slot_at};
 use bohm_place::DeclaredSet;
 use bohm_tree::{Cell, MOST_KEYS};
-use bohm_txn::sure;
 
 impl Stepper<'_, '_> {
     /// Looks up the versions of the batch among the accesses of a declared set, and puts their
@@ -58,7 +57,7 @@ impl<G> Sweeper<'_, '_, G> {
         match stepper.find(t, DeclaredSet::Reads, &mut evaluator.reads) {
             Some(u) => Some(u),
             None => {
-                evaluator.sure = sure(&stepper.board.batch().txn(t));
+                evaluator.sure = stepper.board.batch().sure(t);
                 if evaluator.sure {
                     None
                 } else {

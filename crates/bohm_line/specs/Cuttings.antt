@@ -2,6 +2,7 @@
 use Rattle.std.specs.Prelude.{◌≡◌, ℕ, ◌+◌, ◌<◌, ◌≤◌, List, length, take, drop, slice_index, Bool, ◌&&◌, nat_le, Option, Some, None, if◌then◌else◌, All}
 use Rattle.std.specs.List.{sum, list_all}
 use Rattle.bohm_tree.specs.Txn.{Txn}
+use Rattle.bohm_place.specs.Noting.{MayHaveKeysOf}
 use Rattle.bohm_place.specs.Plans.{Planned, IsRightPlan}
 
 -- a log, the timestamp of its first transaction, and the sizes of its batches
@@ -22,10 +23,11 @@ first_at c i = c.first + ahead c.sizes i
 abbrev pub txns_at : Cutting → ℕ → List Txn
 txns_at c i = take (slice_index c.sizes i) (drop (ahead c.sizes i) c.log)
 
--- the plan is right for the batch at this place
+-- the plan is right for the batch at this place, and has its keys or none
 pub record IsPlanAt (c : Cutting) (i : ℕ) (p : Planned) : Type 0 where
   pub first : p.first ≡ first_at c i
   pub right : ∥ IsRightPlan (txns_at c i) p ∥₁
+  pub keys : MayHaveKeysOf (txns_at c i) p
 
 -- ---- the sizes of batches
 

@@ -1,15 +1,45 @@
 //! The planning side of a run.
 
-ghost use Rattle.std.specs.Prelude.{◌≡◌, length, All, IsSome};
+ghost use Rattle.std.specs.Prelude.{◌≡◌, ◌+◌, ◌<◌, ◌≤◌, length, All, IfOk, IsSome};
+ghost use Rattle.bohm_place.specs.Noting.{HasKeysOf};
+ghost use Rattle.bohm_place.specs.Plans.{IsPlannable, IsRightPlan};
 ghost use Rattle.bohm_line.specs.CutLogs.{cutting_of};
 ghost use Rattle.bohm_line.specs.Planning.{CanPlan};
 
 use crate::cut_log::CutLog;
 use crate::line::{Line, PlanNote, PlanSender};
-use bohm_place::{Newest, Partition, plan_by_number};
+use bohm_log::LogPart;
+use bohm_place::{BatchKeys, Newest, Partition, Plan, plan_by_number};
+use bohm_tree::NoMemory;
 use std::alloc::Global;
 use std::sync::Wait;
 use std::thread::Threads;
+
+/// The plan of a batch, with its keys. A refusal gives the arrays up.
+fn plan_batch<P: Partition, R: Threads + Sync>(
+    rt: &R,
+    alloc: Global,
+    newest: Vec<Newest>,
+    gathered: &mut BatchKeys,
+    first: u32,
+    txns: &LogPart<'_>,
+    partition: &P,
+) -> Result<(Vec<Newest>, Plan), NoMemory>
+    requires workers { 0 < length newest.items }
+    requires few { length txns.now ≤ 4096 }
+    requires plannable { IsPlannable first txns.now }
+    requires earlier { All (λ a. All (λ v. v.begin < first) a) newest.items }
+    ensures first { IfOk result (λ r. r.1.first ≡ first) }
+    ensures right { IfOk result (λ r. ∥ IsRightPlan txns.now r.1 ∥₁) }
+    ensures keys { IfOk result (λ r. HasKeysOf txns.now r.1) }
+    ensures arrays { IfOk result (λ r. length r.0.items ≡ length newest.items) }
+    ensures below { IfOk result
+        (λ r. All (λ a. All (λ v. v.begin < first + length txns.now) a) r.0.items) }
+{
+    let (newest, plan) = plan_by_number(rt, alloc, newest, first, txns, partition)?;
+    let plan = plan.gather_keys(alloc, txns, gathered)?;
+    Ok((newest, plan))
+}
 
 /// Plans the batches of a log and sends a note for each, in order: its plan, or that planning was
 /// refused, behind which there is none. `planned` is told the number of each batch, counted from 1,
@@ -32,11 +62,13 @@ pub fn plan_ahead<L: Line, P: Partition, F: Fn(u32), R: Threads + Wait + Sync>(
     ensures whole { All (λ note. IsSome note.plan) result → length result ≡ length L.cutting.sizes }
 {
     let mut start = 0usize;
+    let mut gathered = BatchKeys::new(alloc);
     for place in 0..log.batches() {
         let number = place + 1;
         let txns = log.batch(place, start);
         let first = log.first() + start as u32;
-        let Ok((left, plan)) = plan_by_number(rt, alloc, newest, first, &txns, partition) else {
+        let planning = plan_batch(rt, alloc, newest, &mut gathered, first, &txns, partition);
+        let Ok((left, plan)) = planning else {
             sender.send(rt, PlanNote { number, plan: None });
             return sender;
         };

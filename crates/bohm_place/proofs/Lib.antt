@@ -1,4 +1,6 @@
+mod GatheredPlaces
 mod Keyed
+mod NotedSets
 mod Rising
 mod Keeping
 mod Listing

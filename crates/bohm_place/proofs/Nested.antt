@@ -5,6 +5,7 @@ use Rattle.std.proofs.lemmas.Option.{same_Some, slice_get-map, slice_get_within}
 use Rattle.std.proofs.lemmas.List.{drop_at, map-append, length-map, take_at}
 use Rattle.std.proofs.lemmas.Simd.{map-map}
 use Rattle.bohm_tree.specs.Txn.{Txn}
+use Rattle.bohm_txn.specs.Sure.{is_sure}
 use Rattle.bohm_place.specs.declared.access.Access.{Access}
 use Rattle.bohm_place.specs.declared.access.Source.TheVariants.{Before}
 use Rattle.bohm_place.specs.declared.declared_set.DeclaredSet.{DeclaredSet}
@@ -21,13 +22,13 @@ use Rattle.bohm_place.proofs.Right.{right_access, index_before, newest_ahead-bas
 -- what f says of each access, transaction by transaction
 abbrev pub nested : (List Txn → List ℕ → Placeholder) → List Txn → List Txn → List Accesses
 nested f done [] = []
-nested f done (t ∷ ts) = record { reads = map access_of (map (f done) t.reads); writes = map access_of (map (f done) t.writes) } ∷ nested f (done ++ t ∷ []) ts
+nested f done (t ∷ ts) = record { reads = map access_of (map (f done) t.reads); writes = map access_of (map (f done) t.writes); sure = is_sure t } ∷ nested f (done ++ t ∷ []) ts
 
 front : {A : Type 0} (n m : ℕ) (pre xs ys : List A) → n ≡ length pre → m ≡ length xs → take m (drop n (pre ++ (xs ++ ys))) ≡ xs
 front n m pre xs ys e f = ap (take m) (drop_at pre (xs ++ ys) n (sym e)) ∙ take_at xs ys m (sym f)
 
 row_nested : (f : List ℕ → Placeholder) (pre rest : List Placeholder) (start : ℕ) (t : Txn) → start ≡ length pre
-    → accesses_of (pre ++ (map f (t.reads ++ t.writes) ++ rest)) (record { start = start; reads = length t.reads; writes = length t.writes }) ≡ record { reads = map access_of (map f t.reads); writes = map access_of (map f t.writes) }
+    → accesses_of (pre ++ (map f (t.reads ++ t.writes) ++ rest)) (record { start = start; reads = length t.reads; writes = length t.writes; sure = is_sure t }) ≡ record { reads = map access_of (map f t.reads); writes = map access_of (map f t.writes); sure = is_sure t }
 row_nested f pre rest start t e =
     let rs = map f t.reads in
     let ws = map f t.writes in
@@ -36,7 +37,7 @@ row_nested f pre rest start t e =
     let reads : take (length t.reads) (drop start (pre ++ (map f (t.reads ++ t.writes) ++ rest))) ≡ rs = rw parts (front start (length t.reads) pre rs (ws ++ rest) e (sym (length-map t.reads f))) in
     let middle : start + length t.reads ≡ length (pre ++ rs) = omega (arith, length-append pre rs, length-map t.reads f) in
     let writes : take (length t.writes) (drop (start + length t.reads) (pre ++ (map f (t.reads ++ t.writes) ++ rest))) ≡ ws = rw (parts, behind) (front (start + length t.reads) (length t.writes) (pre ++ rs) ws rest middle (sym (length-map t.writes f))) in
-    λ i. record { reads = map access_of (reads i); writes = map access_of (writes i) }
+    λ i. record { reads = map access_of (reads i); writes = map access_of (writes i); sure = is_sure t }
 
 rows_nested : (f : List Txn → List ℕ → Placeholder) (done ts : List Txn) (pre : List Placeholder) (start : ℕ) → start ≡ length pre
     → map (accesses_of (pre ++ found_by (λ _. true) f done ts)) (rows_from start ts) ≡ nested f done ts
@@ -67,7 +68,7 @@ laid-rows_from start [] = tt
 laid-rows_from start (t ∷ ts) = (omega arith, laid-rows_from ((start + length t.reads) + length t.writes) ts)
 
 nested_at : (f : List Txn → List ℕ → Placeholder) (done ts : List Txn) (i : ℕ) (t : Txn) → slice_get ts i ≡ Some t
-    → slice_get (nested f done ts) i ≡ Some (record { reads = map access_of (map (f (done ++ take i ts)) t.reads); writes = map access_of (map (f (done ++ take i ts)) t.writes) })
+    → slice_get (nested f done ts) i ≡ Some (record { reads = map access_of (map (f (done ++ take i ts)) t.reads); writes = map access_of (map (f (done ++ take i ts)) t.writes); sure = is_sure t })
 nested_at f done [] i t e = absurd cc
 nested_at f done (x ∷ ts) zero t e = let same : x ≡ t = same_Some x t e in rw (append-nil done, same) refl
 nested_at f done (x ∷ ts) (suc i) t e = let more = nested_at f (done ++ x ∷ []) ts i t e in rw append_assoc at more
@@ -96,6 +97,7 @@ right_plan first ts p above start rows = record {
       let inside = slice_get_within ts i t e in
       let is : writes_of p i ≡ map access_of (map (ahead_of first (take i ts)) t.writes) = rw (rows, at) refl in
       rw (is, start) (right_row first ts i t.writes above (omega arith));
+  sure = λ i t e. rw (rows, nested_at (ahead_of first) [] ts i t e) refl;
 }
 
 -- ---- accesses of the version before the batch
@@ -106,19 +108,19 @@ in_row P f each (k ∷ keys) zero a e = subst P (same_Some (access_of (f k)) a e
 in_row P f each (k ∷ keys) (suc j) a e = in_row P f each keys j a e
 
 -- each access is what f says of a key
-in_nested : (P : Access → Type 0) (f : List Txn → List ℕ → Placeholder) → ((done : List Txn) (k : List ℕ) → P (access_of (f done k))) → (set : DeclaredSet) (first : ℕ) (done ts : List Txn) (i j : ℕ) (a : Access) → slice_get (planned_in set (record { first = first; rows = nested f done ts }) i) j ≡ Some a → P a
-in_nested P f each Reads first done [] i j a e = absurd cc
-in_nested P f each Writes first done [] i j a e = absurd cc
-in_nested P f each Reads first done (t ∷ ts) zero j a e = in_row P (f done) (each done) t.reads j a e
-in_nested P f each Writes first done (t ∷ ts) zero j a e = in_row P (f done) (each done) t.writes j a e
-in_nested P f each Reads first done (t ∷ ts) (suc i) j a e = in_nested P f each Reads first (done ++ t ∷ []) ts i j a e
-in_nested P f each Writes first done (t ∷ ts) (suc i) j a e = in_nested P f each Writes first (done ++ t ∷ []) ts i j a e
+in_nested : (P : Access → Type 0) (f : List Txn → List ℕ → Placeholder) → ((done : List Txn) (k : List ℕ) → P (access_of (f done k))) → (set : DeclaredSet) (first : ℕ) (keys : List (List ℕ)) (done ts : List Txn) (i j : ℕ) (a : Access) → slice_get (planned_in set (record { first = first; rows = nested f done ts; keys = keys }) i) j ≡ Some a → P a
+in_nested P f each Reads first keys done [] i j a e = absurd cc
+in_nested P f each Writes first keys done [] i j a e = absurd cc
+in_nested P f each Reads first keys done (t ∷ ts) zero j a e = in_row P (f done) (each done) t.reads j a e
+in_nested P f each Writes first keys done (t ∷ ts) zero j a e = in_row P (f done) (each done) t.writes j a e
+in_nested P f each Reads first keys done (t ∷ ts) (suc i) j a e = in_nested P f each Reads first keys (done ++ t ∷ []) ts i j a e
+in_nested P f each Writes first keys done (t ∷ ts) (suc i) j a e = in_nested P f each Writes first keys (done ++ t ∷ []) ts i j a e
 
 -- the plan that was found in one list has no places
 pub no_places : (first : ℕ) (ts : List Txn) (p : Planned) → 0 < first → p.rows ≡ nested (ahead_of first) [] ts → HasNoPlaces p
 no_places first ts p above rows set i j a e =
-    in_nested (λ x. x.source ≡ Before → x.index ≡ 0) (ahead_of first) (λ done k. index_before first done k above) set p.first [] ts i j a
-    (subst (λ (rs : List Accesses). slice_get (planned_in set (record { first = p.first; rows = rs }) i) j ≡ Some a) rows e)
+    in_nested (λ x. x.source ≡ Before → x.index ≡ 0) (ahead_of first) (λ done k. index_before first done k above) set p.first p.keys [] ts i j a
+    (subst (λ (rs : List Accesses). slice_get (planned_in set (record { first = p.first; rows = rs; keys = p.keys }) i) j ≡ Some a) rows e)
 
 -- ---- one worker or several
 
@@ -143,7 +145,7 @@ rows_whole part n first ts given found rows some above low e laid =
     rows_found first ts found rows (e ∙ found_whole part n (newest_ahead first base) (ahead_of first) ts some (λ done k. newest_ahead-base first base done k above (low k))) laid
 
 -- the plan that was found in one list, where each transaction was told what is ahead
-pub planned : (first : ℕ) (ts : List Txn) (found : List Placeholder) (rows : List Row) (p : Planned) → 0 < first → found ≡ found_by (λ _. true) (ahead_of first) [] ts → rows ≡ rows_from 0 ts → p.first ≡ first → p.rows ≡ map (accesses_of found) rows → IsPlanned first ts p
-planned first ts found rows p above e laid start is =
+pub planned : (first : ℕ) (ts : List Txn) (found : List Placeholder) (rows : List Row) (p : Planned) → 0 < first → found ≡ found_by (λ _. true) (ahead_of first) [] ts → rows ≡ rows_from 0 ts → p.first ≡ first → p.rows ≡ map (accesses_of found) rows → p.keys ≡ [] → IsPlanned first ts p
+planned first ts found rows p above e laid start is unkeyed =
     let whole : p.rows ≡ nested (ahead_of first) [] ts = is ∙ rows_found first ts found rows e laid in
-    record { first = start; right = right_plan first ts p above start whole; unplaced = no_places first ts p above whole }
+    record { first = start; right = right_plan first ts p above start whole; unplaced = no_places first ts p above whole; unkeyed = unkeyed }

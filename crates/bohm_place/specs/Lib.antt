@@ -1,4 +1,5 @@
 pub mod Chains
+pub mod Noting
 pub mod Writers
 pub mod Plans
 pub mod Shares

@@ -1,8 +1,9 @@
 -- The right plan of a batch.
-use Rattle.std.specs.Prelude.{◌≡◌, ℕ, ◌+◌, ◌<◌, ◌≤◌, ◌^◌, ◌⊎◌, List, [], ◌∷◌, length, map, take, drop, All, Option, Some, slice_get, unwrap_or, ◌==◌, if◌then◌else◌}
+use Rattle.std.specs.Prelude.{◌≡◌, ℕ, ◌+◌, ◌<◌, ◌≤◌, ◌^◌, ◌⊎◌, Bool, List, [], ◌∷◌, length, map, take, drop, All, Option, Some, slice_get, unwrap_or, ◌==◌, if◌then◌else◌}
 use Rattle.std.specs.Option.{option_map}
 use Rattle.bohm_tree.specs.Txn.{Txn}
 use Rattle.bohm_txn.specs.Faulty.{IsWellFormedTxn}
+use Rattle.bohm_txn.specs.Sure.{is_sure}
 use Rattle.bohm_place.specs.declared.access.Access.{Access}
 use Rattle.bohm_place.specs.declared.access.Source.{Source}
 use Rattle.bohm_place.specs.declared.access.Source.TheVariants.{Before, Within}
@@ -12,15 +13,17 @@ use Rattle.bohm_place.specs.declared.placeholder.Placeholder.{Placeholder}
 use Rattle.bohm_place.specs.declared.row.Row.{Row}
 use Rattle.bohm_place.specs.Writers.{IsNewest, WritesAt}
 
--- the accesses of one transaction, in the order in which their keys are declared
+-- the accesses of one transaction, in the order in which their keys are declared, and whether it is sure
 pub record Accesses : Type 0 where
   pub reads : List Access
   pub writes : List Access
+  pub sure : Bool
 
--- what a plan is seen as: the first timestamp, and the accesses of each transaction
+-- what a plan is seen as: the first timestamp, the accesses of each transaction, and the keys that were gathered
 pub record Planned : Type 0 where
   pub first : ℕ
   pub rows : List Accesses
+  pub keys : List (List ℕ)
 
 -- of the transaction at this place of the batch, counted from 0
 abbrev pub reads_of : Planned → ℕ → List Access
@@ -28,6 +31,9 @@ reads_of p i = unwrap_or (option_map (λ row. row.reads) (slice_get p.rows i)) [
 
 abbrev pub writes_of : Planned → ℕ → List Access
 writes_of p i = unwrap_or (option_map (λ row. row.writes) (slice_get p.rows i)) []
+
+abbrev pub sure_at : Planned → ℕ → Option Bool
+sure_at p i = option_map (λ row. row.sure) (slice_get p.rows i)
 
 -- of one of the two sets that a transaction declares, the keys and their accesses
 abbrev pub keys_in : DeclaredSet → Txn → List (List ℕ)
@@ -56,11 +62,12 @@ pub record AreRightAccesses (first : ℕ) (txns : List Txn) (t : ℕ) (keys : Li
   pub paired : length keys ≡ length accesses
   pub each : (j : ℕ) (k : List ℕ) (a : Access) → slice_get keys j ≡ Some k → slice_get accesses j ≡ Some a → IsRightAccess first txns t k a
 
--- the source of each access is the newest writer in the batch below the accessing transaction
+-- the source of each access is the newest writer in the batch below the accessing transaction, and it is known which transactions are sure
 pub record IsRightPlan (txns : List Txn) (p : Planned) : Type 0 where
   pub paired : length p.rows ≡ length txns
   pub reads : (i : ℕ) (txn : Txn) → slice_get txns i ≡ Some txn → AreRightAccesses p.first txns (p.first + i) txn.reads (reads_of p i)
   pub writes : (i : ℕ) (txn : Txn) → slice_get txns i ≡ Some txn → AreRightAccesses p.first txns (p.first + i) txn.writes (writes_of p i)
+  pub sure : (i : ℕ) (txn : Txn) → slice_get txns i ≡ Some txn → sure_at p i ≡ Some (is_sure txn)
 
 -- ---- places in a base
 
@@ -68,11 +75,12 @@ pub record IsRightPlan (txns : List Txn) (p : Planned) : Type 0 where
 abbrev pub HasNoPlaces : Planned → Type 0
 HasNoPlaces p = (set : DeclaredSet) (i j : ℕ) (a : Access) → slice_get (planned_in set p i) j ≡ Some a → a.source ≡ Before → a.index ≡ 0
 
--- the second plan has the sources of the first
+-- the second plan has the sources of the first, and knows the same transactions as sure
 pub record HasSourcesOf (p q : Planned) : Type 0 where
   pub first : q.first ≡ p.first
   pub paired : length q.rows ≡ length p.rows
   pub sources : (set : DeclaredSet) (i j : ℕ) → source_in set q i j ≡ source_in set p i j
+  pub sure : (i : ℕ) → sure_at q i ≡ sure_at p i
 
 -- this is the access j of the set in row i, and has the place noted
 pub record IsNote (set other : DeclaredSet) (i m j n place : ℕ) (a : Access) : Type 0 where
@@ -95,11 +103,12 @@ pub record IsPlannable (first : ℕ) (txns : List Txn) : Type 0 where
   pub room : first + length txns ≤ 2 ^ 32
   pub formed : All IsWellFormedTxn txns
 
--- the right plan of the batch that starts at this timestamp, in which no place is noted
+-- the right plan of the batch that starts at this timestamp, in which no place is noted and that has no keys
 pub record IsPlanned (start : ℕ) (txns : List Txn) (plan : Planned) : Type 0 where
   pub first : plan.first ≡ start
   pub right : IsRightPlan txns plan
   pub unplaced : HasNoPlaces plan
+  pub unkeyed : plan.keys ≡ []
 
 -- ---- how a plan lies in memory
 
@@ -108,7 +117,7 @@ abbrev pub access_of : Placeholder → Access
 access_of v = record { source = if (v.begin == 0) then Before else Within v.begin; index = v.index }
 
 abbrev pub accesses_of : List Placeholder → Row → Accesses
-accesses_of vs row = record { reads = map access_of (take row.reads (drop row.start vs)); writes = map access_of (take row.writes (drop (row.start + row.reads) vs)) }
+accesses_of vs row = record { reads = map access_of (take row.reads (drop row.start vs)); writes = map access_of (take row.writes (drop (row.start + row.reads) vs)); sure = row.sure }
 
 -- where the accesses of a declared set lie, and how many they are
 abbrev pub start_in : DeclaredSet → Row → ℕ

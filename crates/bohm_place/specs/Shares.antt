@@ -5,6 +5,7 @@ use Rattle.std.specs.Str.{bytes_eq}
 use Rattle.bohm_tree.specs.Txn.{Txn}
 use Rattle.bohm_tree.specs.Keys.{is_among}
 use Rattle.bohm_txn.specs.Faulty.{IsWellFormedTxn}
+use Rattle.bohm_txn.specs.Sure.{is_sure}
 use Rattle.bohm_place.specs.declared.placeholder.Placeholder.{Placeholder}
 use Rattle.bohm_place.specs.declared.row.Row.{Row}
 use Rattle.bohm_place.specs.Chains.{Keyed, placeholders_in, chain_in, none, last_or}
@@ -56,10 +57,10 @@ newest_ahead first base ahead k = within first (last_or none (base k ++ placehol
 abbrev pub ahead_of : ℕ → List Txn → List ℕ → Placeholder
 ahead_of first ahead k = last_or none (placeholders_made first ahead k)
 
--- where the accesses of each transaction lie, the first of which lie at `start`
+-- where the accesses of each transaction lie, the first of which lie at `start`, and whether it is sure
 abbrev pub rows_from : ℕ → List Txn → List Row
 rows_from start [] = []
-rows_from start (t ∷ ts) = record { start = start; reads = length t.reads; writes = length t.writes } ∷ rows_from ((start + length t.reads) + length t.writes) ts
+rows_from start (t ∷ ts) = record { start = start; reads = length t.reads; writes = length t.writes; sure = is_sure t } ∷ rows_from ((start + length t.reads) + length t.writes) ts
 
 -- the greater numbers of both
 abbrev pub greater_of : Placeholder → Placeholder → Placeholder

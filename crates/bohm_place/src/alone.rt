@@ -45,5 +45,5 @@ pub fn plan_alone(
     };
     let job = NumberJob { worker, newest };
     let FoundByNumber { found, newest } = plan_numbers(alloc, job, batch, &Undivided)?;
-    Ok((newest, Plan::new(first, found, rows)))
+    Ok((newest, Plan::new(alloc, first, found, rows)))
 }

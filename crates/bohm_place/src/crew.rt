@@ -143,5 +143,5 @@ pub fn plan_by_number<P: Partition, R: Threads + Sync>(
     let jobs = jobs(alloc, newest)?;
     let each = plan_all(rt, alloc, jobs, batch, partition)?;
     let (newest, found) = gather(alloc, each, batch, partition)?;
-    Ok((newest, Plan::new(first, found, rows)))
+    Ok((newest, Plan::new(alloc, first, found, rows)))
 }

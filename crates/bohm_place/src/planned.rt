@@ -1,20 +1,31 @@
 //! Plans.
 
-ghost use Rattle.std.specs.Prelude.{◌≡◌, ◌-◌, ◌<◌, ◌≤◌, length, slice_get, Some, IsSomeAnd};
+ghost use Rattle.std.specs.Prelude.{◌≡◌, [], ◌-◌, ◌<◌, ◌≤◌, length, slice_get, Some, IsSomeAnd};
 ghost use Rattle.bohm_place.specs.Plans.{access_of};
 
 use crate::access::{Access, Source};
 use crate::declared_set::DeclaredSet;
 use crate::placeholder::Placeholder;
 use crate::row::Row;
+use bohm_tree::Key;
+use std::alloc::Global;
 use std::marker::Model;
 
-/// For each access of a batch its source.
+/// A key, and its number in its log.
+#[derive(Clone, Copy, Debug)]
+pub struct NumberedKey {
+    pub key: Key,
+    pub number: u32,
+}
+
+/// For each access of a batch its source, and which transactions are sure. It may have the keys
+/// that the batch declares, each once.
 #[derive(Drop)]
 pub struct Plan {
     first: u32,
     placeholders: Vec<Placeholder>,
     rows: Vec<Row>,
+    keys: Vec<NumberedKey>,
 }
 
 impl Model for Plan {
@@ -26,6 +37,7 @@ impl Model for Plan {
     ghost view = { λ p. record {
       first = p.first;
       rows = map (accesses_of p.placeholders.items) p.rows.items;
+      keys = map (λ k. k.key) p.keys.items;
     } };
 
     ghost invariant = { λ p. AreRows p.rows.items };
@@ -49,19 +61,38 @@ impl From<Placeholder> for Access {
 impl Plan {
     ghost use Rattle.std.specs.Prelude.{map};
     ghost use Rattle.bohm_place.specs.Plans.{accesses_of, planned_in, reads_of, writes_of};
-    ghost use Rattle.bohm_place.specs.Plans.{source_in, AreRows, IsNoted};
+    ghost use Rattle.bohm_place.specs.Plans.{source_in, sure_at, AreRows, IsNoted};
     ghost use Rattle.bohm_place.specs.declared.access.Source.TheVariants.{Before};
 
-    /// The plan of a batch that starts at a timestamp.
-    pub(crate) fn new(first: u32, placeholders: Vec<Placeholder>, rows: Vec<Row>) -> Plan
+    /// The plan of a batch that starts at a timestamp. It has no keys.
+    pub(crate) fn new(
+        alloc: Global,
+        first: u32,
+        placeholders: Vec<Placeholder>,
+        rows: Vec<Row>,
+    ) -> Plan
         requires { AreRows rows.items }
         ensures first { result.first ≡ first }
         ensures rows { result.rows ≡ map (accesses_of placeholders.items) rows.items }
+        ensures keys { result.keys ≡ [] }
     {
         Plan {
             first,
             placeholders,
             rows,
+            keys: Vec::new(alloc),
+        }
+    }
+
+    /// The same plan, with these keys in the stead of those that it has.
+    pub(crate) fn with_keys(self, keys: Vec<NumberedKey>) -> Plan
+        ensures { result ≡ record self { keys = map (λ k. k.key) keys.items } }
+    {
+        Plan {
+            first: self.first,
+            placeholders: self.placeholders,
+            rows: self.rows,
+            keys,
         }
     }
 
@@ -98,6 +129,22 @@ impl Plan {
             (λ a. a.source ≡ result) }
     {
         self.access(DeclaredSet::Writes, t, index).source
+    }
+
+    /// Whether the transaction with a timestamp is sure. Its time is constant.
+    pub fn sure(&self, t: u32) -> bool
+        requires first { self.now.first ≤ t }
+        requires txn { t - self.now.first < length self.now.rows }
+        ensures { sure_at self.now (t - self.now.first) ≡ Some result }
+    {
+        self.rows[(t - self.first) as usize].sure
+    }
+
+    /// The keys that were gathered.
+    pub fn keys(&self) -> &[NumberedKey]
+        ensures { map (λ k. k.key) result.now ≡ self.now.keys }
+    {
+        &self.keys
     }
 
     /// The access of the key of this index, counted from 0, in a declared set of the transaction

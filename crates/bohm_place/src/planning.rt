@@ -115,5 +115,8 @@ pub fn plan<P: Partition, R: Threads + Sync>(
     let jobs = deal(alloc, parts.as_mut_slice(), workers)?;
     let each = plan_all(rt, alloc, jobs, batch, partition)?;
     let found = gather(alloc, parts.as_mut_slice(), each, batch, partition, given)?;
-    Ok((Shards::from_parts(parts), Plan::new(first, found, rows)))
+    Ok((
+        Shards::from_parts(parts),
+        Plan::new(alloc, first, found, rows),
+    ))
 }

@@ -7,15 +7,17 @@ ghost use Rattle.bohm_place.specs.Shares.{rows_from, AreWellFormed};
 use crate::declared_set::DeclaredSet;
 use bohm_log::LogPart;
 use bohm_tree::NoMemory;
+use bohm_txn::sure;
 use std::alloc::Global;
 
 /// The accesses of one transaction in a list of all: its reads from `start` on, and its writes
-/// behind them.
+/// behind them. And whether the transaction is sure.
 #[derive(Clone, Copy, Debug)]
 pub struct Row {
     pub start: usize,
     pub reads: u32,
     pub writes: u32,
+    pub sure: bool,
 }
 
 impl Row {
@@ -32,7 +34,7 @@ impl Row {
     }
 }
 
-/// The row of each transaction.
+/// The row of each transaction. The time grows with the number of their terms.
 pub fn rows(alloc: Global, txns: &LogPart<'_>) -> Result<Vec<Row>, NoMemory>
     requires formed { AreWellFormed txns.now }
     requires few { length txns.now ≤ 2 ^ 32 }
@@ -48,6 +50,7 @@ pub fn rows(alloc: Global, txns: &LogPart<'_>) -> Result<Vec<Row>, NoMemory>
             start,
             reads: reads as u32,
             writes: writes as u32,
+            sure: sure(&txn),
         })?;
         start += reads + writes;
     }

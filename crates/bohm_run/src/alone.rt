@@ -4,7 +4,8 @@ ghost use Rattle.std.specs.Prelude.{◌≡◌, ◌+◌, ◌++◌, ◌<◌, ◌�
 ghost use Rattle.std.specs.List.{sum};
 ghost use Rattle.bohm_txn.specs.Faulty.{IsWellFormedTxn};
 ghost use Rattle.bohm_txn.specs.Serial.{replies};
-ghost use Rattle.bohm_place.specs.Plans.{IsPlannable, IsPlanned};
+ghost use Rattle.bohm_place.specs.Noting.{MayHaveKeysOf};
+ghost use Rattle.bohm_place.specs.Plans.{IsPlannable, IsRightPlan};
 ghost use Rattle.bohm_exec.specs.Answers.{batch_of_finished};
 ghost use Rattle.bohm_store.specs.Nexts.{IsSame};
 ghost use Rattle.bohm_store.specs.Versions.{past};
@@ -18,7 +19,7 @@ use bohm_board::{Batch, Board};
 use bohm_exec::{Finished, OpenGate, complete};
 use bohm_line::{CutLog, Cuts};
 use bohm_log::LogPart;
-use bohm_place::{Newest, Plan, plan_alone};
+use bohm_place::{BatchKeys, Newest, Plan, plan_alone};
 use bohm_store::{History, Seats};
 use bohm_tree::NoMemory;
 use bohm_txn::{Replies, Scratch};
@@ -58,7 +59,9 @@ fn run_batch(
     requires some { 0 < length txns.now }
     requires few { length txns.now ≤ 4096 }
     requires plannable { IsPlannable (history.old.top + 1) txns.now }
-    requires planned { IsPlanned (history.old.top + 1) txns.now plan }
+    requires first { plan.first ≡ history.old.top + 1 }
+    requires right { ∥ IsRightPlan txns.now plan ∥₁ }
+    requires keys { MayHaveKeysOf txns.now plan }
     ensures applied { OnOk result
         (IsApplied history.old history.new txns.now keep
         (replies (past history.old history.old.top) txns.now)) }
@@ -90,11 +93,13 @@ fn run_batches(
 {
     let mut start = 0usize;
     let mut newest = Newest::new(alloc);
+    let mut gathered = BatchKeys::new(alloc);
     let mut seats = Seats::new(alloc);
     for place in 0..log.batches() {
         let txns = log.batch(place, start);
         let (next, plan) = plan_alone(alloc, newest, history.top() + 1, &txns)?;
         newest = next;
+        let plan = plan.gather_keys(alloc, &txns, &mut gathered)?;
         run_batch(
             alloc, history, answered, &txns, plan, keep, scratch, &mut seats,
         )?;

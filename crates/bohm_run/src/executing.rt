@@ -2,6 +2,7 @@
 
 ghost use Rattle.std.specs.Prelude.{◌≡◌, ◌+◌, ◌<◌, ◌≤◌, ◌^◌, All, length, IsSome, OnOk, OnErr};
 ghost use Rattle.bohm_txn.specs.Faulty.{IsWellFormedTxn};
+ghost use Rattle.bohm_place.specs.Noting.{MayHaveKeysOf};
 ghost use Rattle.bohm_place.specs.Plans.{IsRightPlan};
 ghost use Rattle.bohm_line.specs.CutLogs.{cutting_of};
 ghost use Rattle.bohm_run.specs.Progresses.{GoesOn, IsWalkOf, StaysPut};
@@ -53,6 +54,7 @@ impl Executor {
         requires formed { All IsWellFormedTxn txns.now }
         requires first { plan.first ≡ progress.old.history.top + 1 }
         requires right { ∥ IsRightPlan txns.now plan ∥₁ }
+        requires keys { MayHaveKeysOf txns.now plan }
         ensures keep { self.new.keep ≡ self.old.keep }
         ensures ok { OnOk result (GoesOn progress.old progress.new txns.now self.old.keep) }
         ensures err { OnErr result (StaysPut progress.old progress.new) }

@@ -12,7 +12,7 @@ use Rattle.bohm_txn.specs.Meaning.{Look, body}
 use Rattle.bohm_txn.specs.Serial.{after, replies, reply_of, state}
 use Rattle.bohm_txn.proofs.ForCallers.{kept, same_reads, same_after, usable}
 use Rattle.bohm_board.specs.declared.batch.Batch.{Batch}
-use Rattle.bohm_board.specs.Bases.{declares_key}
+use Rattle.bohm_place.specs.Noting.{declares_key}
 use Rattle.bohm_board.specs.Batches.{base_of, txns_of}
 use Rattle.bohm_store.specs.declared.version.Version.{Version}
 use Rattle.bohm_store.specs.Versions.{Rises, Timeline, cell_at, past, produced_versions}

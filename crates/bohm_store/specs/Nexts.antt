@@ -5,7 +5,7 @@ use Rattle.bohm_tree.specs.Txn.{Txn}
 use Rattle.bohm_txn.specs.Meaning.{Look}
 use Rattle.bohm_txn.specs.Serial.{state}
 use Rattle.bohm_board.specs.declared.batch.Batch.{Batch}
-use Rattle.bohm_board.specs.Bases.{declares_key}
+use Rattle.bohm_place.specs.Noting.{declares_key}
 use Rattle.bohm_board.specs.Batches.{first_of, txns_of, base_of}
 use Rattle.bohm_store.specs.declared.version.Version.{Version}
 use Rattle.bohm_store.specs.Versions.{Timeline, kept_versions, past, produced_versions, versions}

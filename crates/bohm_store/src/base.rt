@@ -1,9 +1,7 @@
 //! What the keys of a batch hold before it.
 
-ghost use Rattle.std.specs.Prelude.{◌≡◌, ◌<◌, length, map, IfOk};
+ghost use Rattle.std.specs.Prelude.{◌≡◌, map, IfOk};
 ghost use Rattle.bohm_tree.specs.declared.cell.Cell.TheVariants.{Absent};
-ghost use Rattle.bohm_log.specs.Columns.{AllNamed};
-ghost use Rattle.bohm_log.specs.Parts.{name_at, names_at};
 ghost use Rattle.bohm_store.specs.Versions.{cell_at};
 ghost use Rattle.bohm_store.specs.Chains.{chain};
 
@@ -11,6 +9,7 @@ use crate::chain::Chain;
 use crate::chains::{cell_in, seat_of};
 use crate::seats::Hints;
 use bohm_log::HashSeed;
+use bohm_place::NumberedKey;
 use bohm_tree::{Cell, Key, NoMemory};
 use indexmap::IndexMap;
 use std::alloc::Global;
@@ -35,33 +34,22 @@ fn cell_by(
     }
 }
 
-// The key with a number.
-fn named(names: &[Key], number: u32) -> &Key
-    requires { number < length names.now }
-    ensures { result.now ≡ name_at names.now number }
-{
-    &names[number as usize]
-}
-
-/// Each of the keys with these numbers, with the cell of its newest version that begins at or below
-/// a timestamp. Only a key is hashed that doesn't stand where it was last seen.
+/// Each of these keys, with the cell of its newest version that begins at or below a timestamp. A
+/// key is hashed only where it doesn't stand where it was last seen.
 pub fn base_at(
     chains: &IndexMap<Key, Chain, HashSeed>,
     alloc: Global,
     hints: &mut Hints,
-    names: &[Key],
-    numbers: &[u32],
+    keys: &[NumberedKey],
     ts: u32,
 ) -> Result<Vec<(Key, Cell)>, NoMemory>
-    requires { AllNamed names.now numbers.now }
-    ensures { IfOk result
-        (λ v. v.items
-        ≡ map (λ k. (k, cell_at ts (chain chains.now k) Absent)) (names_at names.now numbers.now)) }
+    ensures { IfOk result (λ v. v.items
+        ≡ map (λ k. (k, cell_at ts (chain chains.now k) Absent)) (map (λ k. k.key) keys.now)) }
 {
-    let mut base = Vec::with_capacity(alloc, numbers.len())?;
-    for number in numbers {
-        let key = named(names, *number);
-        base.push((*key, cell_by(chains, hints, *number, key, ts)))?;
+    let mut base = Vec::with_capacity(alloc, keys.len())?;
+    for numbered in keys {
+        let key = numbered.key;
+        base.push((key, cell_by(chains, hints, numbered.number, &key, ts)))?;
     }
     Ok(base)
 }

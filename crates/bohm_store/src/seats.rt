@@ -1,6 +1,5 @@
 //! What a run keeps of the keys of its log, by their numbers.
 
-use bohm_place::BatchKeys;
 use bohm_tree::NoMemory;
 use std::alloc::Global;
 
@@ -36,12 +35,10 @@ impl Hints {
     }
 }
 
-/// What a run keeps from batch to batch so that it looks each key of its log up once: by the
-/// numbers of the keys, which ones a batch declares and where each stood in the history. No answer
-/// depends on it.
+/// What a run keeps from batch to batch so that it looks each key of its log up once: by the number
+/// of the key, where it stood in the history. No answer depends on it.
 #[derive(Drop)]
 pub struct Seats {
-    pub(crate) keys: BatchKeys,
     pub(crate) hints: Hints,
 }
 
@@ -49,7 +46,6 @@ impl Seats {
     /// Those of a run before its first batch. It takes no memory.
     pub fn new(alloc: Global) -> Seats {
         Seats {
-            keys: BatchKeys::new(alloc),
             hints: Hints {
                 places: Vec::new(alloc),
             },

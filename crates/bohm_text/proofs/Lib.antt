@@ -4,6 +4,7 @@ mod Cutting
 mod Printed
 mod TermLoops
 mod KeyLoops
+mod WordTakes
 mod Takes
 mod Sounds
 mod Again

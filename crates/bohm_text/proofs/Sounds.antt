@@ -17,7 +17,8 @@ use Rattle.bohm_text.specs.Print.{Words}
 use Rattle.bohm_tree.specs.Sound.{IsName, IsAtom, IsTerm, IsSum, IsCond, IsStmt, IsNumber, IsEntry, IsTxn, IsDocument}
 use Rattle.bohm_tree.specs.Document.{Document}
 use Rattle.bohm_text.specs.Step.{Progress, Nothing, Between, Opened, Reading, Body, begun, head_of, with_entry, with_txn, next_entry, after_between, after_body, step, steps}
-use Rattle.bohm_text.proofs.Takes.{bind_some, map_some, chosen, if_some, key_takes, local_takes, whole_takes, after_takes, longer_some, at_end_takes}
+use Rattle.bohm_text.proofs.WordTakes.{bind_some, map_some, chosen, if_some, key_takes, local_takes, whole_takes}
+use Rattle.bohm_text.proofs.Takes.{after_takes, longer_some, at_end_takes}
 
 key_sound : (w k : List ℕ) → key_of w ≡ Some k → IsName k
 key_sound w k e = let p = key_takes w k e in subst IsName p.0 p.1

@@ -18,7 +18,8 @@ use Rattle.bohm_text.specs.Reading.{◌>>=◌, keys_of, after, stmt_of, entry_of
 use Rattle.bohm_text.specs.Step.{Progress, Nothing, Between, Opened, Reading, Body, begun, head_of, with_entry, with_txn, next_entry, after_between, after_body, step, steps}
 use Rattle.bohm_text.specs.Front.{text_lines}
 use Rattle.bohm_text.proofs.Cutting.{split-some}
-use Rattle.bohm_text.proofs.Takes.{bind_some, chosen, if_some, keys_take, after_takes, stmt_takes, entry_takes}
+use Rattle.bohm_text.proofs.WordTakes.{bind_some, chosen, if_some}
+use Rattle.bohm_text.proofs.Takes.{keys_take, after_takes, stmt_takes, entry_takes}
 
 spaced-some : (parts : List (List ℕ)) → 0 < length parts → spaced parts ≡ 32 ∷ line_text parts
 spaced-some [] some = absurd (omega arith)

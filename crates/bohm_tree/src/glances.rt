@@ -3,7 +3,8 @@
 ghost use Rattle.std.specs.Prelude.{◌≡◌, IfSome, IsSome, Some, true, slice_get};
 ghost use Rattle.bohm_tree.specs.Name.{is_name};
 
-use crate::key::{Key, glance_at, words_of};
+use crate::key::Key;
+use crate::packing::{glance_at, words_of};
 
 /// For each glance of a name a place at which such a name was found last. A place is compared with
 /// the name before it is used: a wrong one costs the search that there would be without it, so none

@@ -1,19 +1,18 @@
 //! Keys and names of locals.
 
-ghost use Rattle.std.specs.Prelude.{◌≡◌, ◌<◌, ◌≤◌, ◌/◌, List, ℕ, Some};
-ghost use Rattle.std.specs.Prelude.{IfSome, true, length, nat_eq, drop};
+ghost use Rattle.std.specs.Prelude.{◌≡◌, ◌<◌, ◌≤◌, Some, IfSome, true, length, nat_eq};
 ghost use Rattle.std.specs.Ordering.{nat_cmp};
 ghost use Rattle.std.specs.Cmp.{partial_equiv_from_equiv};
 ghost use Rattle.std.specs.Cmp.Lexicographic.{pointwise, slice_cmp, nat_list_eq_equiv};
 ghost use Rattle.std.specs.Cmp.Lexicographic.{nat_list_cmp_total, texts_ties, texts_po};
 ghost use Rattle.std.proofs.Common.{refl};
-ghost use Rattle.std.specs.Int.{w64, from_be_bytes, trailing_zeros};
 ghost use Rattle.std.specs.List.{list_all};
 ghost use Rattle.std.specs.Str.{bytes_eq};
 ghost use Rattle.bohm_tree.specs.Name.{key_of, is_name, is_name_byte};
-ghost use Rattle.bohm_tree.specs.Words.{padded, words_of, spread};
+ghost use Rattle.bohm_tree.specs.Words.{words_of};
 ghost use Rattle.bohm_tree.specs.Keys.{place};
 
+use crate::packing::{glance_at, size_of, spread, words_of};
 use std::cmp::Ordering;
 use std::hash::{Hash, Hasher};
 use std::marker::Model;
@@ -72,105 +71,6 @@ fn is_name(name: &[u8]) -> bool
             others.len() <= 31 && first.is_ascii_lowercase() && are_name_bytes(others)
         }
     }
-}
-
-/// The word of the first 8 bytes, with zeros behind where there are fewer. No room in memory is
-/// filled with them: most names are short.
-#[inline(always)]
-fn first_word(bytes: &[u8]) -> u64
-    ensures { result ≡ from_be_bytes w64 (padded 8 bytes.now) }
-{
-    match bytes {
-        [] => 0,
-        [a] => u64::from_be_bytes([*a, 0, 0, 0, 0, 0, 0, 0]),
-        [a, b] => u64::from_be_bytes([*a, *b, 0, 0, 0, 0, 0, 0]),
-        [a, b, c] => u64::from_be_bytes([*a, *b, *c, 0, 0, 0, 0, 0]),
-        [a, b, c, d] => u64::from_be_bytes([*a, *b, *c, *d, 0, 0, 0, 0]),
-        [a, b, c, d, e] => u64::from_be_bytes([*a, *b, *c, *d, *e, 0, 0, 0]),
-        [a, b, c, d, e, f] => u64::from_be_bytes([*a, *b, *c, *d, *e, *f, 0, 0]),
-        [a, b, c, d, e, f, g] => u64::from_be_bytes([*a, *b, *c, *d, *e, *f, *g, 0]),
-        [a, b, c, d, e, f, g, h, ..] => { u64::from_be_bytes([*a, *b, *c, *d, *e, *f, *g, *h]) }
-    }
-}
-
-/// The bytes behind the first 8.
-fn behind(bytes: &[u8]) -> &[u8]
-    ensures { result.now ≡ drop 8 bytes.now }
-{
-    if bytes.len() <= 8 { &[] } else { &bytes[8..] }
-}
-
-/// The words of a name of more than 8 bytes.
-fn long_words_of(name: &[u8]) -> [u64; 4]
-    ensures { result ≡ words_of name.now }
-{
-    let second = behind(name);
-    let third = behind(second);
-    let fourth = behind(third);
-    [
-        first_word(name),
-        first_word(second),
-        first_word(third),
-        first_word(fourth),
-    ]
-}
-
-/// The words of a name. Most names have one.
-#[inline(always)]
-#[tactic(auto, using(crate::proofs::Words::one_word))]
-pub(crate) fn words_of(name: &[u8]) -> [u64; 4]
-    ensures { result ≡ words_of name.now }
-{
-    if name.len() > 8 {
-        return long_words_of(name);
-    }
-    [first_word(name), 0, 0, 0]
-}
-
-/// The bytes of four words.
-fn spread(words: &[u64; 4]) -> [u8; 32]
-    ensures { result ≡ spread words.now }
-{
-    let mut bytes = [0; 32];
-    bytes[..8].copy_from_slice(&words[0].to_be_bytes());
-    bytes[8..16].copy_from_slice(&words[1].to_be_bytes());
-    bytes[16..24].copy_from_slice(&words[2].to_be_bytes());
-    bytes[24..].copy_from_slice(&words[3].to_be_bytes());
-    bytes
-}
-
-/// How many bytes of 0 a word ends with.
-fn zeros_behind(word: u64) -> usize
-    ensures { result ≡ trailing_zeros w64 word / 8 }
-{
-    (word.trailing_zeros() / 8) as usize
-}
-
-/// The length of the name that four words are: behind it there are zeros alone.
-fn size_of(words: &[u64; 4]) -> usize
-    ensures short { result ≤ 32 }
-    ensures size { (name : List ℕ) → is_name name ≡ true → words.now ≡ words_of name
-        → result ≡ length name }
-{
-    if words[3] != 0 {
-        return 32 - zeros_behind(words[3]);
-    }
-    if words[2] != 0 {
-        return 24 - zeros_behind(words[2]);
-    }
-    if words[1] != 0 {
-        return 16 - zeros_behind(words[1]);
-    }
-    8 - zeros_behind(words[0])
-}
-
-/// A number below 256 for these words.
-#[inline(always)]
-pub(crate) fn glance_at(words: &[u64; 4]) -> usize
-    ensures { result < 256 }
-{
-    let word = words[0] ^ words[1] ^ words[2] ^ words[3];
-    (word.wrapping_mul(0x9e37_79b9_7f4a_7c15) >> 56) as usize
 }
 
 /// The bytes of a name, in a room of their own.

@@ -10,6 +10,7 @@ mod items;
 mod key;
 mod limits;
 mod memory;
+mod packing;
 
 pub use cell::{Cell, Value};
 pub use cmp::Cmp;

@@ -1,5 +1,5 @@
 -- What a body writes is declared, how many values it shows, and what it leaves.
-use Rattle.std.proofs.Common.{◌≡◌, ℕ, suc, ◌+◌, Bool, true, false, cond, List, [], ◌∷◌, ◌++◌, length, map, Some, Ok, Err, refl, ◌∙◌, subst, arith}
+use Rattle.std.proofs.Common.{◌≡◌, ℕ, suc, ◌+◌, Bool, true, false, cond, List, [], ◌∷◌, ◌++◌, length, map, Some, Ok, Err, refl, sym, ap, ◌∙◌, subst, arith}
 use Rattle.std.specs.Prelude.{ℤ, Result, if◌then◌else◌}
 use Rattle.std.specs.List.{AllByRecursion, slice_get}
 use Rattle.std.specs.Str.{bytes_eq}
@@ -20,6 +20,7 @@ use Rattle.bohm_txn.specs.declared.outcome.Reason.TheVariants as reasons
 use Rattle.bohm_txn.specs.Meaning.{Look, Run, Ended, fresh, newest, then_try, then_do, sum_value, cond_value, guard_value, is_present, bind, write, show, needs, seen, perform, or_stop, body_from, body}
 use Rattle.bohm_txn.specs.Serial.{writes_of, after}
 use Rattle.bohm_txn.specs.Declares.{StmtWrites, IsUsable, shows_in}
+use Rattle.bohm_txn.specs.Tables.{Tables, all_written, cell_at, run_with, step, taken, written}
 use Rattle.bohm_txn.proofs.BodyLaw.{same_body}
 
 -- P holds of what a body that ended well did
@@ -91,6 +92,38 @@ adds P look (Remove k) ss run p = record { only = λ all. only_more P run.writes
 adds P look (Show sum) ss run p = on_do (Adds P (Show sum) ss run) (sum_value look run.locals sum) (show run) (λ z. record { only = λ all. all; shows = show_more run ss z (count_show sum ss) })
 adds P look Fail ss run p = tt
 
+any_writes : (s : Stmt) → StmtWrites (λ k. Unit {0}) s
+any_writes (Bind x sum) = tt
+any_writes (Need c) = tt
+any_writes (Has k) = tt
+any_writes (Lacks k) = tt
+any_writes (Put k sum guard) = tt
+any_writes (Remove k) = tt
+any_writes (Show sum) = tt
+any_writes Fail = tt
+
+shows_written : (t : Txn) (w : Tables) (ps : List (List ℕ × Cell)) → (all_written t w ps).shows ≡ w.shows
+shows_written t w [] = refl
+shows_written t w (p ∷ ps) = shows_written t (written t w p.0 p.1) ps
+
+-- a statement adds the values that it shows to the tables
+pub step_shows : (t : Txn) (w next : Tables) (s : Stmt) (ss : List Stmt) → step t w s ≡ Ok next → length w.shows + shows_in (s ∷ ss) ≡ length next.shows + shows_in ss
+unfolding OnStep
+step_shows t w next s ss is =
+    elim (perform (cell_at t.reads w.seen) (run_with w []) s) as (λ r. OnStep (Adds (λ k. Unit {0}) s ss (run_with w [])) r → then_do r (taken t w) ≡ Ok next → length w.shows + shows_in (s ∷ ss) ≡ length next.shows + shows_in ss) [
+      | Err r ↦ λ h e. absurd cc
+      | Ok run ↦ λ h e.
+          (let same : taken t w run ≡ next = cc in
+          h.shows ∙ ap (λ (zs : List ℤ). length zs + shows_in ss) (sym (shows_written t (record w { locals = run.locals; shows = run.shows }) run.writes) ∙ ap (λ (n : Tables). n.shows) same))
+    ] (adds (λ k. Unit {0}) (cell_at t.reads w.seen) s ss (run_with w []) (any_writes s)) is
+
+-- the first of some statements shows no more than all of them
+pub shows_first : (s : Stmt) (ss : List Stmt) → shows_in (s ∷ ss) ≡ shows_in (s ∷ []) + shows_in ss
+shows_first s ss = omega (arith, sum_by-cons (λ s. cond (is_show s) 1 0) s ss, sum_by-cons (λ s. cond (is_show s) 1 0) s [])
+
+pub shows_one : (sum : List (Bool × Atom)) → shows_in (Show sum ∷ []) ≡ 1
+shows_one sum = count_show sum []
+
 -- what a body from a statement on did
 record Did (P : List ℕ → Type 0) (ss : List Stmt) (before run : Run) : Type 0 where
   pub only : WritesOnly P before.writes → WritesOnly P run.writes
@@ -119,16 +152,6 @@ writes_only P look t all = only_of P t.body (body look t) (did P t.edition look 
 
 pub writes_declared : (look : Look) (t : Txn) → IsUsable t → WritesOnly (IsAmong t.writes) (writes_of (body look t))
 writes_declared look t usable = writes_only (IsAmong t.writes) look t usable.writes
-
-any_writes : (s : Stmt) → StmtWrites (λ k. Unit {0}) s
-any_writes (Bind x sum) = tt
-any_writes (Need c) = tt
-any_writes (Has k) = tt
-any_writes (Lacks k) = tt
-any_writes (Put k sum guard) = tt
-any_writes (Remove k) = tt
-any_writes (Show sum) = tt
-any_writes Fail = tt
 
 all_of : {A : Type 0} (P : A → Type 0) (xs : List A) → ((x : A) → P x) → AllByRecursion P xs
 all_of P [] f = tt

@@ -3,6 +3,7 @@
 
 mod checked;
 mod environment;
+mod evaluation;
 mod fault;
 mod first_fault;
 pub mod laws;
@@ -16,9 +17,10 @@ mod sureness;
 mod work;
 
 pub use checked::{Checked, check};
+pub use evaluation::eval;
 pub use fault::{CheckFault, CheckKind};
 pub use outcome::{Outcome, Reason, Reply};
 pub use replies::{Replies, ReplyView};
-pub use scratch::{Scratch, eval};
+pub use scratch::Scratch;
 pub use showing::shows;
 pub use sureness::sure;

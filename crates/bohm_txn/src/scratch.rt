@@ -1,14 +1,8 @@
-//! Evaluating a transaction.
+//! Room to evaluate transactions in.
 
-ghost use Rattle.std.specs.Prelude.{◌≡◌, [], length, map, IfOk};
-ghost use Rattle.bohm_txn.specs.Faulty.{IsWellFormedTxn};
-ghost use Rattle.bohm_txn.specs.Meaning.{Look, body};
-ghost use Rattle.bohm_txn.specs.Serial.{outcome_of, shows_of, after};
-ghost use Rattle.bohm_txn.specs.Sure.{IsSure};
+ghost use Rattle.std.specs.Prelude.{◌≡◌, [], IfOk};
 
-use crate::outcome::Outcome;
 use crate::work::Work;
-use bohm_log::TxnView;
 use bohm_tree::{Cell, NoMemory, Value};
 use std::alloc::Global;
 use std::marker::Model;
@@ -16,7 +10,7 @@ use std::marker::Model;
 /// Room for the evaluation of any well-formed transaction, and what the last one left.
 #[derive(Debug, Drop)]
 pub struct Scratch {
-    work: Work,
+    pub(crate) work: Work,
 }
 
 impl Model for Scratch {
@@ -53,35 +47,5 @@ impl Scratch {
         ensures { result.now ≡ self.now.shows }
     {
         self.work.shows.as_slice()
-    }
-}
-
-/// Runs a transaction over any store in which its declared reads have the cells `reads` and, unless
-/// it is sure, its declared writes have the cells `earlier`. It leaves in the scratch the cells of
-/// the declared writes after the transaction, and the shown values. It allocates nothing.
-///
-/// Its time grows with the terms of the body. A term has its key's place; a local is sought among
-/// those that are bound.
-pub fn eval(txn: &TxnView<'_>, reads: &[Cell], earlier: &[Cell], scratch: &mut Scratch) -> Outcome
-    requires well { IsWellFormedTxn txn.now }
-    requires reads { length txn.now.reads ≡ length reads.now }
-    requires earlier { length txn.now.writes ≡ length earlier.now }
-    ensures outcome { (look : Look) → map look txn.now.reads ≡ reads.now
-        → outcome_of (body look txn.now) ≡ result }
-    ensures shows { (look : Look) → map look txn.now.reads ≡ reads.now
-        → shows_of (body look txn.now) ≡ scratch.new.shows }
-    ensures cells { (look : Look) → map look txn.now.reads ≡ reads.now
-        → map look txn.now.writes ≡ earlier.now
-        → map (after look txn.now) txn.now.writes ≡ scratch.new.cells }
-    ensures sure { IsSure txn.now → (look : Look) → map look txn.now.reads ≡ reads.now
-        → map (after look txn.now) txn.now.writes ≡ scratch.new.cells }
-{
-    let placed = txn.placed();
-    match scratch.work.run(txn.edition(), &placed, reads, earlier) {
-        Ok(()) => Outcome::Commit,
-        Err((reason, stmt)) => {
-            scratch.work.take_back(earlier);
-            Outcome::Abort { reason, stmt }
-        }
     }
 }

@@ -14,7 +14,7 @@ use crate::environment::Environment;
 use crate::outcome::Reason;
 use crate::room::Room;
 use bohm_log::{Action, PlacedTxn, StmtRow};
-use bohm_tree::{Cell, Edition, Key, MOST_KEYS, MOST_STMTS, NoMemory, Value};
+use bohm_tree::{Cell, Edition, Key, MOST_KEYS, MOST_SHOWS, MOST_STMTS, NoMemory, Value};
 use std::alloc::Global;
 
 /// What the statements so far did, with room for what a well-formed transaction does.
@@ -50,7 +50,7 @@ impl Work {
             locals: Room::new(alloc, MOST_STMTS)?,
             seen: Room::new(alloc, MOST_KEYS)?,
             cells: Room::new(alloc, MOST_KEYS)?,
-            shows: Room::new(alloc, MOST_STMTS)?,
+            shows: Room::new(alloc, MOST_SHOWS)?,
         })
     }
 
@@ -114,7 +114,7 @@ impl Work {
     ) -> Result<(), Reason>
         requires can { CanPerform txn.now row.now }
         requires sized { IsSized (txn_of edition txn.now) self.old }
-        requires room { HasRoom self.old }
+        requires room { HasRoom (stmt_of txn.now row.now) self.old }
         ensures outcome { let next = step (txn_of edition txn.now) (tables_of self.old)
             (stmt_of txn.now row.now) in
             MatchResult result

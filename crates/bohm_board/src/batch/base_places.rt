@@ -1,18 +1,16 @@
 //! The plan of a batch gets the places of its keys in the base.
 
-ghost use Rattle.std.specs.Prelude.{◌≡◌, ℕ, List, ◌-◌, ◌<◌, ◌≤◌, ◌^◌, All, Contains, IfOk};
+ghost use Rattle.std.specs.Prelude.{◌≡◌, ℕ, List, ◌-◌, ◌<◌, ◌≤◌, ◌^◌, IfOk};
 ghost use Rattle.std.specs.Prelude.{OnErr, length, slice_get, Some, true, false};
 ghost use Rattle.std.specs.Cmp.Lexicographic.{slice_cmp};
 ghost use Rattle.std.specs.Ordering.{nat_cmp};
 ghost use Rattle.bohm_tree.specs.Keys.{IsAmong, is_among, rising};
-ghost use Rattle.bohm_log.specs.Numbering.{Numbers};
-ghost use Rattle.bohm_log.specs.Parts.{names_at};
-ghost use Rattle.bohm_place.specs.Gathering.{AreGathered, ArePlaced};
+ghost use Rattle.bohm_place.specs.Noting.{AreNoted, IsSetNoted};
 ghost use Rattle.bohm_place.specs.Plans.{keys_in, planned_in, HasSourcesOf};
-ghost use Rattle.bohm_board.specs.Bases.{keys_of, AreNoted, IsBase, IsBatched, IsSetNoted};
+ghost use Rattle.bohm_board.specs.Bases.{keys_of, IsBase, IsBatched};
 
-use bohm_log::{DeclaredKeys, LogPart, TxnView};
-use bohm_place::{BatchKeys, DeclaredSet, Plan, Source};
+use bohm_log::{LogPart, TxnView};
+use bohm_place::{DeclaredSet, Plan, Source};
 use bohm_tree::{Cell, Key};
 use std::cmp::Ordering;
 
@@ -72,51 +70,5 @@ pub fn note_places(plan: &mut Plan, txns: &LogPart<'_>, entries: &[(Key, Cell)])
         let txn = txns.txn(i);
         note_set(plan, entries, DeclaredSet::Reads, t, &txn);
         note_set(plan, entries, DeclaredSet::Writes, t, &txn);
-    }
-}
-
-/// Notes the places of the keys with these numbers, of one declared set of the transaction with the
-/// timestamp t. Each is one of the gathered keys.
-fn note_numbers(plan: &mut Plan, gathered: &BatchKeys, set: DeclaredSet, t: u32, numbers: &[u32])
-    requires first { plan.old.first ≤ t }
-    requires paired { length numbers.now ≡ length (planned_in set plan.old (t - plan.old.first)) }
-    requires few { length numbers.now ≤ 16 }
-    requires there { All (Contains gathered.now.numbers) numbers.now }
-    requires placed { ArePlaced gathered.now.numbers gathered.now.places }
-    ensures { IsSetNoted plan.old plan.new set (t - plan.old.first)
-        numbers.now gathered.now.numbers (length numbers.now) }
-{
-    let places = gathered.places();
-    for place in 0..numbers.len() {
-        let number = numbers[place];
-        let index = place as u32;
-        match plan.access(set, t, index).source {
-            Source::Before => plan.note(set, t, index, places[number as usize]),
-            Source::Within(_) => {}
-        }
-    }
-}
-
-/// Notes at each access whose source is `Before` the place of its key in a base of the gathered
-/// keys. The time grows with the number of accesses: no key is searched for.
-pub fn note_gathered(
-    plan: &mut Plan,
-    txns: &LogPart<'_>,
-    keys: &DeclaredKeys<'_>,
-    gathered: &BatchKeys,
-)
-    requires batched { IsBatched txns.now plan.old }
-    requires numbers { Numbers keys.now txns.now }
-    requires gathered { AreGathered keys.now gathered.now }
-    ensures sources { HasSourcesOf plan.old plan.new }
-    ensures batched { IsBatched txns.now plan.new }
-    ensures noted { AreNoted txns.now plan.new (names_at keys.now.names gathered.now.numbers) }
-{
-    let first = plan.first();
-    for i in 0..txns.len() {
-        let t = first + i as u32;
-        let (reads, writes) = keys.sets(i);
-        note_numbers(plan, gathered, DeclaredSet::Reads, t, reads);
-        note_numbers(plan, gathered, DeclaredSet::Writes, t, writes);
     }
 }

@@ -1,6 +1,7 @@
 //! The batch that starts behind the top of the history.
 
 ghost use Rattle.std.specs.Prelude.{◌≡◌, ◌+◌, IfOk};
+ghost use Rattle.bohm_place.specs.Noting.{MayHaveKeysOf};
 ghost use Rattle.bohm_place.specs.Plans.{HasSourcesOf};
 ghost use Rattle.bohm_board.specs.Bases.{IsBatched};
 ghost use Rattle.bohm_board.specs.Batches.{plan_of, txns_of};
@@ -11,7 +12,7 @@ use crate::history::History;
 use crate::seats::Seats;
 use bohm_board::Batch;
 use bohm_log::LogPart;
-use bohm_place::Plan;
+use bohm_place::{BatchKeys, Plan};
 use bohm_tree::NoMemory;
 use std::alloc::Global;
 
@@ -31,14 +32,16 @@ impl History {
         ensures plan { IfOk result (λ b. HasSourcesOf plan (plan_of b)) }
         ensures next { IfOk result (IsNext self.now) }
     {
+        let plan = plan.gather_keys(alloc, txns, &mut BatchKeys::new(alloc))?;
         self.batch_with(alloc, &mut Seats::new(alloc), txns, plan)
     }
 
-    /// The same, with what the run keeps from batch to batch: a key is hashed only where it doesn't
+    /// The same with what the run keeps from batch to batch: a key is hashed only where it doesn't
     /// stand where it was last seen, and none is sorted or searched for. A key that the history
     /// lacks, as one that is only ever read, stands nowhere: it is looked up in each batch that
     /// declares it. The time grows with the number of keys that the transactions declare; only
-    /// where the log has more keys than ever before does it grow with these too.
+    /// where the log has more keys than ever before does it grow with these too, and only for a
+    /// plan without keys with the number of accesses.
     pub fn batch_with<'a>(
         &self,
         alloc: Global,
@@ -47,18 +50,17 @@ impl History {
         plan: Plan,
     ) -> Result<Batch<'a>, NoMemory>
         requires batched { IsBatched txns.now plan }
+        requires keys { MayHaveKeysOf txns.now plan }
         requires first { plan.first ≡ self.now.top + 1 }
         ensures txns { IfOk result (λ b. txns_of b ≡ txns.entry.now) }
         ensures plan { IfOk result (λ b. HasSourcesOf plan (plan_of b)) }
         ensures next { IfOk result (IsNext self.now) }
     {
-        let keys = txns.keys();
-        let names = keys.names();
-        seats.keys.gather(&keys)?;
+        let plan = plan.ensure_keys(alloc, txns)?;
         let hints = &mut seats.hints;
-        hints.cover(names.len())?;
-        let numbers = seats.keys.numbers();
-        let base = base_at(&self.chains, alloc, hints, names, numbers, self.top)?;
-        Ok(Batch::by_number(txns.fork(), plan, base, &keys, &seats.keys))
+        hints.cover(txns.keys().names().len())?;
+        let keys = plan.keys();
+        let base = base_at(&self.chains, alloc, hints, keys, self.top)?;
+        Ok(Batch::by_place(txns.fork(), plan, base))
     }
 }

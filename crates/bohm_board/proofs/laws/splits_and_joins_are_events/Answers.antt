@@ -1,4 +1,4 @@
-use Rattle.bohm_board.proofs.Refinement.{split_step, join_step}
+use Rattle.bohm_board.proofs.StepEvents.{split_step, join_step}
 use Rattle.bohm_board.proofs.laws.splits_and_joins_are_events.Goals as goal
 
 pub returns-clause-split : goal.returns-clause-split

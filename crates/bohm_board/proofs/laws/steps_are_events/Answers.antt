@@ -1,7 +1,7 @@
 use Rattle.std.proofs.Common.{refl}
 use Rattle.bohm_board.specs.Batches.{position}
 use Rattle.bohm_board.specs.Shown.{presence_place, value_place}
-use Rattle.bohm_board.proofs.Refinement.{status_step, claim_step, finish_step, presence_step, value_step, store_step, fill_step}
+use Rattle.bohm_board.proofs.StepEvents.{status_step, claim_step, finish_step, presence_step, value_step, store_step, fill_step}
 use Rattle.bohm_board.proofs.laws.steps_are_events.Goals as goal
 
 pub returns-clause-status : goal.returns-clause-status

@@ -13,4 +13,4 @@ returns-clause-planned c =
     let first = c.args.first in
     let txns = c.args.txns.now in
     let found = c.in_ok-found.field-0.found.items in
-    planned first txns found c.in_ok-rows.rows.items c.new.result c.requires.plannable.position (c.in_ok-found.ensures.found ∙ alone_found (λ (k : List ℕ). 0) (ahead_of first) txns) c.in_ok-rows.ensures c.new.ensures.first c.new.ensures.rows
+    planned first txns found c.in_ok-rows.rows.items c.new.result c.requires.plannable.position (c.in_ok-found.ensures.found ∙ alone_found (λ (k : List ℕ). 0) (ahead_of first) txns) c.in_ok-rows.ensures c.new.ensures.first c.new.ensures.rows c.new.ensures.keys

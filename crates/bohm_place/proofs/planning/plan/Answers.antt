@@ -86,6 +86,7 @@ returns-clause-planned g c =
       first = c.new.ensures.first;
       right = right_plan first txns c.new.result above c.new.ensures.first rows;
       unplaced = no_places first txns c.new.result above rows;
+      unkeyed = c.new.ensures.keys;
     }
 
 pub returns-clause-chains : goal.returns-clause-chains

@@ -28,4 +28,4 @@ loop-index-preserved c =
     let start = c.loop-index.start in
     let sum : (start + length txn.reads) + length txn.writes ≡ start + (length txn.reads + length txn.writes) = omega arith in
     let next = rw sum at whole in
-    rw (c.in_ok-push.ensures.items, c.len-reads.ensures, c.len-writes.ensures, c.reads.ensures, c.writes.ensures) (omega (arith, use_of.few_reads, use_of.few_writes, c.loop-index.invariant.0), rw append_assoc next)
+    rw (c.in_ok-push.ensures.items, c.sure.ensures, c.len-reads.ensures, c.len-writes.ensures, c.reads.ensures, c.writes.ensures) (omega (arith, use_of.few_reads, use_of.few_writes, c.loop-index.invariant.0), rw append_assoc next)

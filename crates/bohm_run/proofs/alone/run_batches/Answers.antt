@@ -13,6 +13,13 @@ returns-in_err-next c =
     let refused : is_ok c.from_residual.result ≡ false = search rules in
     rw refused (walk_ends c.args.history.now c.loop-place.history log c.loop-place.place c.loop-place.start c.args.keep c.loop-place.answered false c.args.log.whole h.0 (λ t. absurd cc) h.1)
 
+pub returns-in_err-plan : goal.returns-in_err-plan
+returns-in_err-plan c =
+    let h = c.loop-place.invariant in
+    let log = cutting_of c.args.log in
+    let refused : is_ok c.from_residual-in_err-plan.result ≡ false = search rules in
+    rw refused (walk_ends c.args.history.now c.loop-place.history log c.loop-place.place c.loop-place.start c.args.keep c.loop-place.answered false c.args.log.whole h.0 (λ t. absurd cc) h.1)
+
 pub returns-in_err-run_batch : goal.returns-in_err-run_batch
 returns-in_err-run_batch c =
     let h = c.loop-place.invariant in

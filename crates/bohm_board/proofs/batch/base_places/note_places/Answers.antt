@@ -3,9 +3,10 @@ use Rattle.std.proofs.Math.Logic.{∥∥₁_map}
 use Rattle.std.proofs.lemmas.Option.{slice_get_within}
 use Rattle.bohm_place.specs.declared.declared_set.DeclaredSet.TheVariants.{Reads, Writes}
 use Rattle.bohm_place.specs.Plans.{keys_in, planned_in, IsRightPlan}
-use Rattle.bohm_place.proofs.ForCallers.{sources_same, sources_twice, row_paired}
-use Rattle.bohm_board.specs.Bases.{keys_of, IsSetNoted}
-use Rattle.bohm_board.proofs.BasePlaces.{batched_on, entered, few_entries, few_keys, next_row}
+use Rattle.bohm_place.proofs.ForCallers.{entered, few_keys, next_row, row_paired, sources_same, sources_twice}
+use Rattle.bohm_place.specs.Noting.{IsSetNoted}
+use Rattle.bohm_board.specs.Bases.{keys_of}
+use Rattle.bohm_board.proofs.BasePlaces.{batched_on, few_entries}
 use Rattle.bohm_board.proofs.batch.base_places.note_places.Goals as goal
 use Rattle.bohm_board.proofs.batch.base_places.note_places.Goals.{After-txn-txn, After-note_set}
 
@@ -40,7 +41,7 @@ pub note_set-requires-clause-few : goal.note_set-requires-clause-few
 note_set-requires-clause-few c = few_keys c.args.txns.now Reads c.loop-i.i c.txn-txn.result c.requires.batched.formed (at_i (goal.at.note_set-requires-clause-few c).After-txn-txn)
 
 pub note_set-requires-clause-there : goal.note_set-requires-clause-there
-note_set-requires-clause-there c = entered c.args.txns.now c.args.entries.now Reads c.loop-i.i c.txn-txn.result c.requires.base c.txn-txn.ensures
+note_set-requires-clause-there c = entered c.args.txns.now (keys_of c.args.entries.now) Reads c.loop-i.i c.txn-txn.result c.requires.base c.txn-txn.ensures
 
 pub note_set-requires-clause-entries : goal.note_set-requires-clause-entries
 note_set-requires-clause-entries c = few (goal.at.note_set-requires-clause-entries c).After-txn-txn
@@ -57,7 +58,7 @@ pub note_set-requires-in-loop-i-clause-few : goal.note_set-requires-in-loop-i-cl
 note_set-requires-in-loop-i-clause-few c = few_keys c.args.txns.now Writes c.loop-i.i c.txn-txn.result c.requires.batched.formed (at_i (goal.at.note_set-requires-in-loop-i-clause-few c).After-txn-txn)
 
 pub note_set-requires-in-loop-i-clause-there : goal.note_set-requires-in-loop-i-clause-there
-note_set-requires-in-loop-i-clause-there c = entered c.args.txns.now c.args.entries.now Writes c.loop-i.i c.txn-txn.result c.requires.base c.txn-txn.ensures
+note_set-requires-in-loop-i-clause-there c = entered c.args.txns.now (keys_of c.args.entries.now) Writes c.loop-i.i c.txn-txn.result c.requires.base c.txn-txn.ensures
 
 pub note_set-requires-in-loop-i-clause-entries : goal.note_set-requires-in-loop-i-clause-entries
 note_set-requires-in-loop-i-clause-entries c = few (goal.at.note_set-requires-in-loop-i-clause-entries c).After-txn-txn

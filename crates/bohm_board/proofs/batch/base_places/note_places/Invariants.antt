@@ -1,6 +1,6 @@
 use Rattle.bohm_place.specs.Plans.{HasSourcesOf, IsRightPlan}
 use Rattle.bohm_board.specs.Bases.{keys_of}
-use Rattle.bohm_board.proofs.BasePlaces.{AreNotedBelow}
+use Rattle.bohm_place.proofs.ForCallers.{AreNotedBelow}
 use Rattle.bohm_board.proofs.batch.base_places.note_places.Given as goal
 
 abbrev pub invariant-loop-i : goal.invariant-loop-i

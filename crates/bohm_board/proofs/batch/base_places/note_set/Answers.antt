@@ -5,10 +5,10 @@ use Rattle.std.proofs.lemmas.Option.{slice_get_within}
 use Rattle.bohm_txn.proofs.ForCallers.{among_at}
 use Rattle.bohm_place.specs.declared.access.Access.{Access}
 use Rattle.bohm_place.specs.Plans.{keys_in, planned_in, IsNoted}
-use Rattle.bohm_place.proofs.ForCallers.{sources_long}
-use Rattle.bohm_board.specs.Bases.{keys_of, IsSetNoted}
+use Rattle.bohm_place.proofs.ForCallers.{next_noted, next_passed, none_noted, sources_long}
+use Rattle.bohm_place.specs.Noting.{IsSetNoted}
+use Rattle.bohm_board.specs.Bases.{keys_of}
 use Rattle.bohm_board.proofs.EntrySearch.{Entry}
-use Rattle.bohm_board.proofs.BasePlaces.{none_noted, next_passed, next_noted}
 use Rattle.bohm_board.proofs.batch.base_places.note_set.Goals as goal
 use Rattle.bohm_board.proofs.batch.base_places.note_set.Goals.{After-key-key, in-Before+in-Ok, in-Before+in-Err, in-Within}
 

@@ -1,6 +1,7 @@
 use Rattle.std.proofs.Common.{◌-◌}
 use Rattle.bohm_place.specs.Plans.{keys_in}
-use Rattle.bohm_board.specs.Bases.{keys_of, IsSetNoted}
+use Rattle.bohm_place.specs.Noting.{IsSetNoted}
+use Rattle.bohm_board.specs.Bases.{keys_of}
 use Rattle.bohm_board.proofs.batch.base_places.note_set.Given as goal
 
 abbrev pub invariant-loop-place : goal.invariant-loop-place

@@ -2,7 +2,7 @@ use Rattle.std.proofs.Common.{rules, ℕ, ◌+◌, ◌<◌, ◌≤◌, ◌∙◌
 use Rattle.bohm_board.specs.Passes.{view}
 use Rattle.bohm_board.specs.Encoding.{progress_word, presence_word}
 use Rattle.bohm_board.proofs.ClosedWords.{IsEnd, settles, left_sound, open_word}
-use Rattle.bohm_board.proofs.Refinement.{two_at_least}
+use Rattle.bohm_board.proofs.StepEvents.{two_at_least}
 use Rattle.bohm_board.proofs.EventRuns.{reached_lawful}
 use Rattle.bohm_board.proofs.board.Board.close.Goals as goal
 use Rattle.bohm_board.proofs.board.Board.close.Goals.{After-copy_words-3}

@@ -1,12 +1,13 @@
-use Rattle.std.proofs.Common.{refl, sym, ◌∙◌, subst}
+use Rattle.std.proofs.Common.{refl, sym, ap, ◌∙◌, subst}
 use Rattle.std.specs.Borrow.{Bor}
 use Rattle.bohm_board.specs.declared.board.Board.{Board}
 use Rattle.bohm_board.specs.Passes.{batch_of, view}
 use Rattle.bohm_board.proofs.ForCallers.{knows_on}
-use Rattle.bohm_board.specs.Batches.{reads_at, writes_at}
+use Rattle.bohm_board.specs.declared.batch.Batch.{Batch}
+use Rattle.bohm_board.specs.Batches.{reads_at, writes_at, is_sure_at}
 use Rattle.bohm_exec.specs.Handed.{KnowsAll}
 use Rattle.bohm_exec.proofs.Steppers.{looks_then}
-use Rattle.bohm_exec.proofs.Viewed.{same_sure, reads_wanted, writes_wanted, knows_wanted, knows_later}
+use Rattle.bohm_exec.proofs.Viewed.{reads_wanted, writes_wanted, knows_wanted, knows_later}
 use Rattle.bohm_exec.proofs.sweeper.Sweeper.find_wanted.Goals as goal
 
 pub find-requires-clause-wanted : goal.find-requires-clause-wanted
@@ -15,7 +16,7 @@ find-requires-clause-wanted g c = reads_wanted (batch_of c.args.self.now.stepper
 pub find-requires-else-evaluator-clause-wanted : goal.find-requires-else-evaluator-clause-wanted
 find-requires-else-evaluator-clause-wanted g c =
     let b = batch_of c.find.new.self.board.now in
-    writes_wanted b c.args.t (sym (same_sure b c.batch.result.now c.args.t c.txn.result c.sure-evaluator.result c.batch.ensures c.txn.ensures c.sure-evaluator.ensures) ∙ c.if-evaluator.false)
+    writes_wanted b c.args.t (sym (c.sure-evaluator.ensures ∙ ap (λ (z : Batch). is_sure_at z c.args.t) c.batch.ensures) ∙ c.if-evaluator.false)
 
 pub returns-else-evaluator-clause-looks : goal.returns-else-evaluator-clause-looks
 returns-else-evaluator-clause-looks g c = looks_then c.args.self.now.stepper c.find.new.self c.find-else-evaluator.new.self c.find.ensures.looks c.find-else-evaluator.ensures.looks

@@ -1,4 +1,4 @@
--- The places of gathered keys, by number.
+-- Gathered keys are those of the batch, and have their places by number.
 use Rattle.std.proofs.Common.{◌≡◌, ℕ, ◌<◌, Bool, true, List, [], ◌∷◌, length, map, slice_get, get_or, Some, refl, sym, ap, ◌∙◌, subst, inl, inr, ⊎_elim, arith}
 use Rattle.std.specs.Prelude.{Contains, ◌||◌}
 use Rattle.std.specs.List.{All, list_any, IsDistinct}
@@ -8,7 +8,6 @@ use Rattle.std.proofs.lemmas.Bool.{or_left, or_right}
 use Rattle.std.proofs.lemmas.List.{length-map}
 use Rattle.std.proofs.lemmas.List.Folds.{list_any_at}
 use Rattle.std.proofs.lemmas.Option.{same_Some, slice_get-get_or, slice_get-map, slice_get_within, get_or_from_slice_get}
-use Rattle.bohm_tree.specs.declared.cell.Cell.{Cell}
 use Rattle.bohm_tree.specs.Txn.{Txn}
 use Rattle.bohm_tree.specs.Keys.{is_among}
 use Rattle.bohm_log.specs.Parts.{name_at, names_at}
@@ -19,10 +18,10 @@ use Rattle.bohm_place.specs.declared.access.Access.{Access}
 use Rattle.bohm_place.specs.declared.declared_set.DeclaredSet.{DeclaredSet}
 use Rattle.bohm_place.specs.Gathering.{AreGathered, ArePlaced, Gathered, has_key}
 use Rattle.bohm_place.specs.Plans.{Planned}
-use Rattle.bohm_place.proofs.ForCallers.{one_number, there_is}
-use Rattle.bohm_board.specs.Bases.{keys_of, declares_key, HasPlace, IsBase, IsSetNoted}
+use Rattle.bohm_place.specs.Noting.{declares_key, AreKeysOf, HasPlace, IsSetNoted}
+use Rattle.bohm_place.proofs.Gathering.{one_number, there_is}
 
--- ---- the base of gathered keys
+-- ---- they are those that transactions declare
 
 any_mapped : {A B : Type 0} (f : A → B) (p : B → Bool) (xs : List A) → list_any p (map f xs) ≡ list_any (λ x. p (f x)) xs
 any_mapped f p [] = refl
@@ -33,11 +32,8 @@ declared_by_number k txns key is =
     let has : List (List ℕ) × List (List ℕ) → Bool = λ s. is_among s.0 key || is_among s.1 key in
     sym (any_mapped (named_sets k.names) has k.sets) ∙ ap (list_any has) is.same ∙ any_mapped declared_sets has txns
 
-pub gathered_base : (k : Numbered) (g : Gathered) (txns : List Txn) (entries : List (List ℕ × Cell)) → Numbers k txns → AreGathered k g → keys_of entries ≡ names_at k.names g.numbers → IsBase txns entries
-gathered_base k g txns entries is are same = record {
-  apart = subst (IsDistinct bytes_eq) (sym same) are.apart;
-  keys = λ key. ap (λ (ks : List (List ℕ)). is_among ks key) same ∙ are.keys key ∙ declared_by_number k txns key is;
-}
+pub gathered_keys : (k : Numbered) (g : Gathered) (txns : List Txn) → Numbers k txns → AreGathered k g → AreKeysOf txns (names_at k.names g.numbers)
+gathered_keys k g txns is are = record { apart = are.apart; each = λ key. are.keys key ∙ declared_by_number k txns key is }
 
 -- ---- each declared number is one of the gathered
 

@@ -4,11 +4,11 @@ use Rattle.std.specs.Option.{option_map}
 use Rattle.std.proofs.lemmas.Option.{slice_get-get_or, slice_get_within, get_or_from_slice_get}
 use Rattle.bohm_place.specs.declared.access.Access.{Access}
 use Rattle.bohm_place.specs.Plans.{planned_in, IsNoted}
-use Rattle.bohm_place.proofs.ForCallers.{sources_long}
-use Rattle.bohm_board.proofs.BasePlaces.{next_passed, next_noted}
-use Rattle.bohm_board.proofs.GatheredPlaces.{place_there}
-use Rattle.bohm_board.proofs.batch.base_places.note_numbers.Goals as goal
-use Rattle.bohm_board.proofs.batch.base_places.note_numbers.Goals.{In-loop-place, in-Before, in-Within}
+use Rattle.bohm_place.proofs.Noted.{sources_long}
+use Rattle.bohm_place.proofs.NotedSets.{next_passed, next_noted}
+use Rattle.bohm_place.proofs.GatheredPlaces.{place_there}
+use Rattle.bohm_place.proofs.plan_keys.note_numbers.Goals as goal
+use Rattle.bohm_place.proofs.plan_keys.note_numbers.Goals.{In-loop-place, in-Before, in-Within}
 
 inside : (c : In-loop-place) → c.loop-place.place < length (planned_in c.args.set c.loop-place.plan (c.args.t - c.loop-place.plan.first))
 inside c =

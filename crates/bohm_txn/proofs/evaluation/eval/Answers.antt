@@ -3,7 +3,7 @@ use Rattle.bohm_txn.specs.Room.{tables_of}
 use Rattle.bohm_txn.specs.Serial.{outcome_of, shows_of}
 use Rattle.bohm_txn.proofs.Answering.{placed_run, commit, commit_cells, commit_sure, abort, abort_cells, never_aborts}
 use Rattle.bohm_txn.proofs.UseLaws.{usable}
-use Rattle.bohm_txn.proofs.scratch.eval.Goals as goal
+use Rattle.bohm_txn.proofs.evaluation.eval.Goals as goal
 
 pub take_back-requires-clause-few : goal.take_back-requires-clause-few
 take_back-requires-clause-few c = omega (arith, c.requires.earlier, (usable c.args.txn.now c.requires.well).few_writes)

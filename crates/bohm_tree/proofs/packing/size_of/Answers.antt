@@ -1,6 +1,6 @@
 use Rattle.std.proofs.Common.{◌-◌, ap, ◌∙◌}
 use Rattle.bohm_tree.proofs.Sizes.{of_four, of_three, of_two, of_one}
-use Rattle.bohm_tree.proofs.key.size_of.Goals as goal
+use Rattle.bohm_tree.proofs.packing.size_of.Goals as goal
 
 pub returns-then-words-ne0-clause-size : goal.returns-then-words-ne0-clause-size
 returns-then-words-ne0-clause-size c = λ name h e.

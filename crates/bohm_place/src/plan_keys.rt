@@ -1,0 +1,134 @@
+//! A plan gets the keys of its batch, and its accesses their places among these.
+
+ghost use Rattle.std.specs.Prelude.{◌≡◌, ◌+◌, ◌-◌, ◌≤◌, ◌^◌, All, Contains, IfOk, length, map};
+ghost use Rattle.bohm_txn.specs.Faulty.{IsWellFormedTxn};
+ghost use Rattle.bohm_log.specs.Columns.{AllNamed};
+ghost use Rattle.bohm_log.specs.Numbering.{Numbers};
+ghost use Rattle.bohm_log.specs.Parts.{names_at};
+ghost use Rattle.bohm_place.specs.Gathering.{AreGathered, ArePlaced};
+ghost use Rattle.bohm_place.specs.Noting.{AreNoted, HasKeysOf, IsSetNoted, MayHaveKeysOf};
+ghost use Rattle.bohm_place.specs.Plans.{planned_in, HasSourcesOf, IsRightPlan};
+
+use crate::access::Source;
+use crate::batch_keys::BatchKeys;
+use crate::declared_set::DeclaredSet;
+use crate::planned::{NumberedKey, Plan};
+use bohm_log::{DeclaredKeys, LogPart};
+use bohm_tree::{Key, NoMemory};
+use std::alloc::Global;
+
+/// Notes the places of the keys with these numbers, of one declared set of the transaction with the
+/// timestamp t. Each is one of the gathered keys.
+fn note_numbers(plan: &mut Plan, gathered: &BatchKeys, set: DeclaredSet, t: u32, numbers: &[u32])
+    requires first { plan.old.first ≤ t }
+    requires paired { length numbers.now ≡ length (planned_in set plan.old (t - plan.old.first)) }
+    requires few { length numbers.now ≤ 16 }
+    requires there { All (Contains gathered.now.numbers) numbers.now }
+    requires placed { ArePlaced gathered.now.numbers gathered.now.places }
+    ensures { IsSetNoted plan.old plan.new set (t - plan.old.first)
+        numbers.now gathered.now.numbers (length numbers.now) }
+{
+    let places = gathered.places();
+    for place in 0..numbers.len() {
+        let number = numbers[place];
+        let index = place as u32;
+        match plan.access(set, t, index).source {
+            Source::Before => plan.note(set, t, index, places[number as usize]),
+            Source::Within(_) => {}
+        }
+    }
+}
+
+/// Notes at each access whose source is `Before` the place of its key among the gathered ones. The
+/// time grows with the number of accesses: no key is searched for.
+fn note_gathered(
+    plan: &mut Plan,
+    txns: &LogPart<'_>,
+    declared: &DeclaredKeys<'_>,
+    gathered: &BatchKeys,
+)
+    requires room { plan.old.first + length txns.now ≤ 2 ^ 32 }
+    requires formed { All IsWellFormedTxn txns.now }
+    requires right { ∥ IsRightPlan txns.now plan.old ∥₁ }
+    requires numbers { Numbers declared.now txns.now }
+    requires gathered { AreGathered declared.now gathered.now }
+    ensures sources { HasSourcesOf plan.old plan.new }
+    ensures right { ∥ IsRightPlan txns.now plan.new ∥₁ }
+    ensures noted { AreNoted txns.now plan.new
+        (names_at declared.now.names gathered.now.numbers) }
+{
+    let first = plan.first();
+    for i in 0..txns.len() {
+        let t = first + i as u32;
+        let (reads, writes) = declared.sets(i);
+        note_numbers(plan, gathered, DeclaredSet::Reads, t, reads);
+        note_numbers(plan, gathered, DeclaredSet::Writes, t, writes);
+    }
+}
+
+/// The keys with these numbers.
+fn numbered_keys(
+    alloc: Global,
+    names: &[Key],
+    numbers: &[u32],
+) -> Result<Vec<NumberedKey>, NoMemory>
+    requires { AllNamed names.now numbers.now }
+    ensures { IfOk result (λ v. map (λ k. k.key) v.items ≡ names_at names.now numbers.now) }
+{
+    let mut keys = Vec::with_capacity(alloc, numbers.len())?;
+    for number in numbers {
+        keys.push(NumberedKey {
+            key: names[*number as usize],
+            number: *number,
+        })?;
+    }
+    Ok(keys)
+}
+
+impl Plan {
+    /// Gathers the keys that the batch declares, each once, and notes at each access whose source
+    /// is `Before` the place of its key among them: a base of these keys is read by place. A
+    /// refusal gives the plan up. The time grows with the number of accesses: no key is hashed or
+    /// compared with another.
+    pub fn gather_keys(
+        self,
+        alloc: Global,
+        txns: &LogPart<'_>,
+        gathered: &mut BatchKeys,
+    ) -> Result<Plan, NoMemory>
+        requires few { length txns.now ≤ 4096 }
+        requires room { self.first + length txns.now ≤ 2 ^ 32 }
+        requires formed { All IsWellFormedTxn txns.now }
+        requires right { ∥ IsRightPlan txns.now self ∥₁ }
+        ensures sources { IfOk result (HasSourcesOf self) }
+        ensures right { IfOk result (λ p. ∥ IsRightPlan txns.now p ∥₁) }
+        ensures keys { IfOk result (HasKeysOf txns.now) }
+    {
+        let mut plan = self;
+        let declared = txns.keys();
+        gathered.gather(&declared)?;
+        note_gathered(&mut plan, txns, &declared, gathered);
+        let keys = numbered_keys(alloc, declared.names(), gathered.numbers())?;
+        Ok(plan.with_keys(keys))
+    }
+
+    /// The plan with the keys of its batch: as it is where it has them, else with keys that are
+    /// gathered now. A refusal gives the plan up. The time grows with the number of accesses where
+    /// it has no keys, and else it is constant.
+    pub fn ensure_keys(self, alloc: Global, txns: &LogPart<'_>) -> Result<Plan, NoMemory>
+        requires few { length txns.now ≤ 4096 }
+        requires room { self.first + length txns.now ≤ 2 ^ 32 }
+        requires formed { All IsWellFormedTxn txns.now }
+        requires right { ∥ IsRightPlan txns.now self ∥₁ }
+        requires keys { MayHaveKeysOf txns.now self }
+        ensures sources { IfOk result (HasSourcesOf self) }
+        ensures right { IfOk result (λ p. ∥ IsRightPlan txns.now p ∥₁) }
+        ensures keys { IfOk result (HasKeysOf txns.now) }
+    {
+        if self.keys().is_empty() {
+            self.gather_keys(alloc, txns, &mut BatchKeys::new(alloc))
+        } else {
+            Ok(self)
+        }
+    }
+}
