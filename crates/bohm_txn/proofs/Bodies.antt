@@ -121,9 +121,6 @@ step_shows t w next s ss is =
 pub shows_first : (s : Stmt) (ss : List Stmt) → shows_in (s ∷ ss) ≡ shows_in (s ∷ []) + shows_in ss
 shows_first s ss = omega (arith, sum_by-cons (λ s. cond (is_show s) 1 0) s ss, sum_by-cons (λ s. cond (is_show s) 1 0) s [])
 
-pub shows_one : (sum : List (Bool × Atom)) → shows_in (Show sum ∷ []) ≡ 1
-shows_one sum = count_show sum []
-
 -- what a body from a statement on did
 record Did (P : List ℕ → Type 0) (ss : List Stmt) (before run : Run) : Type 0 where
   pub only : WritesOnly P before.writes → WritesOnly P run.writes
