@@ -2,3 +2,5 @@
 
 -- the store behind two runs, one after the other
 pub use Rattle.bohm_run.proofs.Walks.{store_then}
+-- a refusal before the writing says nothing of what was written
+pub use Rattle.bohm_run.proofs.Refusals.{before_writing}

@@ -12,6 +12,6 @@ mod WordLaws
 mod StepTakes
 mod StepAgain
 mod Lines
-mod Newlines
+mod Searches
 mod TextLaws
 mod TidyLaws

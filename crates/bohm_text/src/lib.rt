@@ -9,6 +9,7 @@ mod numbers;
 mod parsing;
 mod printing;
 mod reader;
+mod separators;
 mod statements;
 mod stops;
 mod sums;

@@ -1,26 +1,18 @@
 //! Reading a document from its text.
 
-ghost use Rattle.std.specs.Prelude.{◌≡◌, ℕ, IfOk, Err, IfSome, IfNone, ◌<◌, length, []};
+ghost use Rattle.std.specs.Prelude.{◌≡◌, ℕ, IfOk, Err, IfSome, IfNone, []};
 ghost use Rattle.std.specs.Prelude.{◌∷◌, ◌++◌};
 ghost use Rattle.bohm_tree.specs.Sound.{IsDocument};
 ghost use Rattle.bohm_text.specs.Cut.{whole_lines};
-ghost use Rattle.bohm_text.specs.Parse.{Reads, newline_in};
+ghost use Rattle.bohm_text.specs.Parse.{Reads};
 ghost use Rattle.bohm_text.specs.Print.{print_doc};
 ghost use Rattle.bohm_text.specs.Faults.{IsFirstBadLine, IsShort};
 
 use crate::fault::{ReadFault, TextFault};
 use crate::reader::{Place, Reader, read_head};
+use crate::separators::newline_at;
 use bohm_log::{Doc, HashSeed};
-use memchr::memchr;
 use std::alloc::Global;
-
-#[tactic(auto, using(crate::proofs::Newlines::first_newline))]
-fn newline_at(bytes: &[u8]) -> Option<usize>
-    ensures first { result ≡ newline_in bytes.now }
-    ensures inside { IfSome result (λ at. at < length bytes.now) }
-{
-    memchr(b'\n', bytes)
-}
 
 /// The first whole line, and what follows its newline.
 fn split_line(text: &[u8]) -> Option<(&[u8], &[u8])>

@@ -1,10 +1,9 @@
 //! The words of a line.
 
-ghost use Rattle.std.specs.Prelude.{◌≡◌, ◌∷◌, [], MatchOption, IfSome, ◌==◌};
-ghost use Rattle.std.specs.Prelude.{◌<◌, length};
-ghost use Rattle.std.specs.List.{position_from};
+ghost use Rattle.std.specs.Prelude.{◌≡◌, ◌∷◌, [], MatchOption};
 ghost use Rattle.bohm_text.specs.Cut.{split};
 
+use crate::separators::space_at;
 use std::marker::Model;
 
 /// What is left of a line: its words, with a space between two of them.
@@ -21,13 +20,6 @@ impl<'a> Model for Words<'a> {
     ghost use Rattle.bohm_text.specs.WordsInside.{words_of};
 
     ghost view = { words_of };
-}
-
-fn space_in(bytes: &[u8]) -> Option<usize>
-    ensures first { result ≡ position_from (λ byte. byte == 32) 0 bytes.now }
-    ensures inside { IfSome result (λ at. at < length bytes.now) }
-{
-    bytes.iter().position(|byte| *byte == b' ')
 }
 
 impl<'a> Words<'a> {
@@ -49,7 +41,7 @@ impl<'a> Words<'a> {
             (λ word. self.old ≡ word.now ∷ self.new) }
     {
         let rest = self.rest?;
-        match space_in(rest) {
+        match space_at(rest) {
             None => {
                 self.rest = None;
                 Some(rest)
