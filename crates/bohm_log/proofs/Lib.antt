@@ -6,3 +6,9 @@ mod Statements
 mod Widening
 mod Viewing
 mod Dividing
+mod Placing
+mod Lets
+mod CallLaw
+mod Locals
+mod Arguments
+mod Appending

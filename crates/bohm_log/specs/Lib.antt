@@ -5,3 +5,7 @@ pub mod Columns
 pub mod Partial
 pub mod Numbering
 pub mod Seeing
+pub mod Calling
+pub mod CallBuffers
+pub mod Slices
+pub mod Locals

@@ -8,6 +8,7 @@ ghost use Rattle.bohm_log.specs.Drafting.{parts_of};
 ghost use Rattle.bohm_log.specs.Columns.{shared_of, Interns, NumbersCome, NumbersStand, Lands};
 ghost use Rattle.bohm_log.specs.Columns.{SetsCome, Appends, nothing_shared};
 ghost use Rattle.bohm_log.specs.Partial.{shared_seen};
+ghost use Rattle.bohm_log.specs.Slices.{parts_by};
 
 use crate::fault::LogFault;
 use crate::names::Names;
@@ -155,7 +156,6 @@ impl<S: BuildHasher + Drop> Columns<S> {
     }
 
     /// Adds a transaction's parts.
-    #[tactic(auto, using(crate::proofs::Widening::interns_wider))]
     pub fn append(&mut self, edition: Edition, sheet: &Sheet<S>) -> Result<Head, LogFault>
         ensures apart { IsDistinct bytes_eq (parts_of sheet.now).others }
         ensures ok { IfOk result
@@ -163,24 +163,52 @@ impl<S: BuildHasher + Drop> Columns<S> {
             (parts_of sheet.now)) }
         ensures err { OnErr result (Interns (shared_of self.old) (shared_of self.new)) }
     {
-        let others_part = sheet.others.as_slice();
-        let (ids, reads, writes) = self.add_sets(sheet.reads.as_slice(), sheet.writes.as_slice())?;
-        let (others, others_end) = add_all(&mut self.others, others_part)?;
-        let (large, large_end) = add_all(&mut self.large, sheet.large.as_slice())?;
-        let (terms, terms_end) = add_all(&mut self.terms, sheet.terms.as_slice())?;
-        let (rows, rows_end) = add_all(&mut self.rows, sheet.rows.as_slice())?;
+        let others = sheet.others.as_slice();
+        self.append_parts(
+            edition,
+            sheet.reads.as_slice(),
+            sheet.writes.as_slice(),
+            others,
+            sheet.large.as_slice(),
+            sheet.terms.as_slice(),
+            sheet.rows.as_slice(),
+        )
+    }
+
+    /// The same, of parts that lie in slices of their own.
+    #[tactic(auto, using(crate::proofs::Widening::interns_wider))]
+    pub fn append_parts(
+        &mut self,
+        edition: Edition,
+        reads: &[Key],
+        writes: &[Key],
+        others: &[Key],
+        large: &[u64],
+        terms: &[TermRow],
+        rows: &[StmtRow],
+    ) -> Result<Head, LogFault>
+        ensures ok { IfOk result
+            (λ h. Appends (shared_of self.old) (shared_of self.new) h edition
+            (parts_by reads.now writes.now others.now large.now terms.now rows.now)) }
+        ensures err { OnErr result (Interns (shared_of self.old) (shared_of self.new)) }
+    {
+        let (ids, reads_end, writes_end) = self.add_sets(reads, writes)?;
+        let (others_from, others_end) = add_all(&mut self.others, others)?;
+        let (large_from, large_end) = add_all(&mut self.large, large)?;
+        let (terms_from, terms_end) = add_all(&mut self.terms, terms)?;
+        let (rows_from, rows_end) = add_all(&mut self.rows, rows)?;
         Ok(Head {
             edition,
             ids,
-            reads,
-            writes,
-            others,
+            reads: reads_end,
+            writes: writes_end,
+            others: others_from,
             others_end,
-            large,
+            large: large_from,
             large_end,
-            terms,
+            terms: terms_from,
             terms_end,
-            rows,
+            rows: rows_from,
             rows_end,
         })
     }

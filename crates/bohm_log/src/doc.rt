@@ -1,13 +1,19 @@
 //! Documents: a store and a log.
 
-ghost use Rattle.std.specs.Prelude.{◌≡◌};
+ghost use Rattle.std.specs.Prelude.{◌≡◌, length, OnOk, OnErr};
 ghost use Rattle.std.specs.List.{list_all};
 ghost use Rattle.bohm_tree.specs.Document.{in_edition};
+ghost use Rattle.bohm_tree.specs.Appending.{empty_document, with_txn};
+ghost use Rattle.bohm_tree.specs.Procedure.{instance};
 
+use crate::calling::CallBuffer;
+use crate::fault::LogFault;
 use crate::hash_seed::HashSeed;
 use crate::log::Log;
 use crate::part::LogPart;
+use crate::template::Template;
 use bohm_tree::{Edition, Items, Key, Value};
+use std::alloc::Global;
 use std::marker::Model;
 
 /// A starting store and a log of transactions of one edition.
@@ -58,6 +64,35 @@ impl Doc {
         } else {
             None
         }
+    }
+
+    /// No store and no transactions. It takes no memory.
+    pub fn empty(alloc: Global, seed: HashSeed, edition: Edition) -> Doc
+        ensures { result ≡ empty_document edition }
+    {
+        Doc {
+            edition,
+            store: Items::from(Vec::new(alloc)),
+            log: Log::new(alloc, seed),
+        }
+    }
+
+    /// Adds the instance of a procedure. An `Err` leaves the document as it was. The time grows
+    /// with what the instance holds.
+    pub fn push_call(
+        &mut self,
+        template: &Template,
+        buffer: &mut CallBuffer,
+        keys: &[Key],
+        values: &[Value],
+    ) -> Result<(), LogFault>
+        requires values { length values.now ≡ length template.now.values }
+        requires edition { template.now.edition ≡ self.old.edition }
+        ensures ok { OnOk result
+            (self.new ≡ with_txn self.old (instance template.now keys.now values.now)) }
+        ensures err { OnErr result (self.new ≡ self.old) }
+    {
+        self.log.push_call(template, buffer, keys, values)
     }
 
     pub fn edition(&self) -> Edition

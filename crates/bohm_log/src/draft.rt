@@ -1,7 +1,8 @@
 //! The transaction that is being read.
 
 ghost use Rattle.std.specs.Prelude.{◌≡◌, ◌<◌, [], true, false, IfOk, OnOk, OnErr, length};
-ghost use Rattle.std.specs.Prelude.{Some, None};
+ghost use Rattle.std.specs.Prelude.{Some, None, ◌||◌};
+ghost use Rattle.bohm_tree.specs.Keys.{is_among};
 ghost use Rattle.bohm_tree.specs.Name.{is_name};
 ghost use Rattle.bohm_tree.specs.Term.{Lit, Read, Local};
 ghost use Rattle.bohm_tree.specs.Stmt as stmts;
@@ -102,12 +103,32 @@ impl<S: BuildHasher> Draft<S> {
         }
     }
 
+    /// Whether the transaction declares to read or to write a key. The time grows with how many
+    /// keys it declares.
+    pub fn declares(&self, key: &Key) -> bool
+        ensures { result
+            ≡ (is_among self.now.txn.reads key.now || is_among self.now.txn.writes key.now) }
+    {
+        self.sheet.reads.contains(key) || self.sheet.writes.contains(key)
+    }
+
     /// Its edition and its columns.
     pub(crate) fn parts(&self) -> (Edition, &Sheet<S>)
         ensures same { txn_of result.0 (parts_of result.1.now) ≡ self.now.txn }
         ensures within { IsWithin (parts_of result.1.now) }
     {
         (self.edition, &self.sheet)
+    }
+
+    /// The same, of a draft that is done with.
+    pub(crate) fn into_parts(self) -> (Edition, Sheet<S>)
+    where
+        S: Drop,
+        ensures same { txn_of result.0 (parts_of result.1) ≡ self.txn }
+        ensures within { IsWithin (parts_of result.1) }
+    {
+        let Draft { edition, sheet, .. } = self;
+        (edition, sheet)
     }
 }
 

@@ -2,6 +2,7 @@
 //! fixed size, and views that show each transaction as the one of the tree.
 #![tactic(auto)]
 
+mod calling;
 mod columns;
 mod declared;
 mod doc;
@@ -19,8 +20,10 @@ mod sheet;
 mod stmt;
 mod sum;
 mod table;
+mod template;
 mod view;
 
+pub use calling::CallBuffer;
 pub use declared::DeclaredKeys;
 pub use doc::Doc;
 pub use draft::Draft;
@@ -34,4 +37,5 @@ pub use placed::PlacedTxn;
 pub use row::{Action, AtomKind, StmtRow, TermRow};
 pub use stmt::{CondView, StmtParts, StmtView};
 pub use sum::{AtomParts, SumView, TermParts};
+pub use template::Template;
 pub use view::TxnView;

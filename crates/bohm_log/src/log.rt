@@ -1,12 +1,16 @@
 //! A log of transactions in columns.
 
 ghost use Rattle.std.specs.Prelude.{◌≡◌, ◌++◌, [], ◌∷◌, OnOk, OnErr, length};
+ghost use Rattle.bohm_tree.specs.Procedure.{instance};
 
+use crate::calling::CallBuffer;
 use crate::columns::Columns;
 use crate::draft::Draft;
 use crate::fault::LogFault;
 use crate::part::LogPart;
 use crate::table::Head;
+use crate::template::Template;
+use bohm_tree::{Key, Value};
 use std::alloc::Global;
 use std::hash::{BuildHasher, BuildHasherDefault, FoldHasher};
 use std::marker::Model;
@@ -53,6 +57,38 @@ impl<S: BuildHasher> Log<S> {
     {
         let (edition, sheet) = draft.parts();
         let head = self.columns.append(edition, sheet)?;
+        self.heads.push(head)?;
+        Ok(())
+    }
+
+    /// Adds the instance of a procedure. An `Err` leaves the transactions as they were; names and
+    /// whatever else of this one came stay in the columns.
+    #[tactic(auto, using(crate::proofs::Viewing::mapped_length))]
+    pub fn push_call(
+        &mut self,
+        template: &Template,
+        buffer: &mut CallBuffer,
+        keys: &[Key],
+        values: &[Value],
+    ) -> Result<(), LogFault>
+    where
+        S: Drop,
+        requires values { length values.now ≡ length template.now.values }
+        ensures ok { OnOk result
+            (self.new ≡ self.old ++ instance template.now keys.now values.now ∷ []) }
+        ensures err { OnErr result (self.new ≡ self.old) }
+    {
+        let body = &template.body;
+        buffer.fill(body, template.values.as_slice(), keys, values)?;
+        let head = self.columns.append_parts(
+            template.edition,
+            buffer.reads.as_slice(),
+            buffer.writes.as_slice(),
+            body.others.as_slice(),
+            buffer.large.as_slice(),
+            buffer.terms.as_slice(),
+            buffer.rows.as_slice(),
+        )?;
         self.heads.push(head)?;
         Ok(())
     }

@@ -11,3 +11,8 @@ pub mod Shape
 pub mod Parts
 pub mod Document
 pub mod Sound
+pub mod Accesses
+pub mod KeySets
+pub mod Substitution
+pub mod Procedure
+pub mod Appending

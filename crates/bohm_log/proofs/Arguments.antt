@@ -1,0 +1,67 @@
+-- Declared names and the parameters that they are.
+use Rattle.std.proofs.Common.{◌≡◌, ℕ, ◌≤◌, List, [], ◌∷◌, map, length, refl, ap, sym, subst, ◌∙◌, arith}
+use Rattle.std.specs.Prelude.{ℤ}
+use Rattle.std.proofs.lemmas.List.{length-map}
+use Rattle.bohm_tree.specs.Procedure.{stands_for}
+use Rattle.bohm_log.specs.declared.template.DeclaredName.{DeclaredName}
+use Rattle.bohm_log.specs.declared.template.BodyColumns.{BodyColumns}
+use Rattle.bohm_log.specs.Parts.{Parts}
+use Rattle.bohm_log.specs.Calling.{names_in, declared_name, argument_of, parts_in, AreDeclared, IsOwn, IsTemplate, IsCalled}
+
+names_again : (params names : List (List ℕ)) → names_in (map (declared_name params) names) ≡ names
+names_again params [] = refl
+names_again params (n ∷ ns) = ap (λ (xs : List (List ℕ)). n ∷ xs) (names_again params ns)
+
+arguments_again : (params args names : List (List ℕ)) → map (argument_of args) (map (declared_name params) names) ≡ map (stands_for params args) names
+arguments_again params args [] = refl
+arguments_again params args (n ∷ ns) = ap (λ (xs : List (List ℕ)). stands_for params args n ∷ xs) (arguments_again params args ns)
+
+pub names_declared : (params names : List (List ℕ)) (declared : List DeclaredName) → declared ≡ map (declared_name params) names → names_in declared ≡ names
+names_declared params names declared e = ap names_in e ∙ names_again params names
+
+pub are_declared : (params names : List (List ℕ)) (declared : List DeclaredName) → declared ≡ map (declared_name params) names → AreDeclared params declared
+are_declared params names declared e = e ∙ ap (map (declared_name params)) (sym (names_declared params names declared e))
+
+-- the keys that declared names stand for
+pub arguments_are : (params args : List (List ℕ)) (declared : List DeclaredName) → AreDeclared params declared
+    → map (argument_of args) declared ≡ map (stands_for params args) (names_in declared)
+arguments_are params args declared h = ap (map (argument_of args)) h ∙ arguments_again params args (names_in declared)
+
+-- the same columns, where the names stand for the arguments of their parameters
+pub called_with : (params args : List (List ℕ)) (body : BodyColumns) (xs locals : List ℕ) (vs : List ℤ) (q : Parts)
+    → IsTemplate params body locals → xs ≡ locals
+    → IsCalled (map (argument_of args) body.reads.items) (map (argument_of args) body.writes.items) (parts_in body) xs vs q
+    → IsCalled (map (stands_for params args) (names_in body.reads.items)) (map (stands_for params args) (names_in body.writes.items)) (parts_in body) locals vs q
+called_with params args body xs locals vs q t same called =
+    let r : map (argument_of args) body.reads.items ≡ map (stands_for params args) (names_in body.reads.items) =
+    arguments_are params args body.reads.items t.reads in
+    let w : map (argument_of args) body.writes.items ≡ map (stands_for params args) (names_in body.writes.items) =
+    arguments_are params args body.writes.items t.writes in
+    subst (λ (ys : List ℕ). IsCalled (map (stands_for params args) (names_in body.reads.items)) (map (stands_for params args) (names_in body.writes.items)) (parts_in body) ys vs q) same
+    (subst (λ (ks : List (List ℕ)). IsCalled (map (stands_for params args) (names_in body.reads.items)) ks (parts_in body) xs vs q) w
+    (subst (λ (ks : List (List ℕ)). IsCalled ks (map (argument_of args) body.writes.items) (parts_in body) xs vs q) r called))
+
+-- sets of a template are few
+pub few_reads : (params : List (List ℕ)) (body : BodyColumns) (locals : List ℕ) → IsTemplate params body locals → length body.reads.items ≤ 16
+few_reads params body locals t = omega (arith, t.own.few_reads, length-map body.reads.items (λ (n : DeclaredName). n.name))
+
+pub few_writes : (params : List (List ℕ)) (body : BodyColumns) (locals : List ℕ) → IsTemplate params body locals → length body.writes.items ≤ 16
+few_writes params body locals t = omega (arith, t.own.few_writes, length-map body.writes.items (λ (n : DeclaredName). n.name))
+
+-- the parts that a body's columns are, where its names are these ones declared
+pub parts_made : (params : List (List ℕ)) (body : BodyColumns) (p : Parts) → body.reads.items ≡ map (declared_name params) p.reads
+    → body.writes.items ≡ map (declared_name params) p.writes → body.others.items ≡ p.others → body.large.items ≡ p.large
+    → body.terms.items ≡ p.terms → body.rows.items ≡ p.rows → parts_in body ≡ p
+parts_made params body p r w others large terms rows =
+    let reads : names_in body.reads.items ≡ p.reads = names_declared params p.reads body.reads.items r in
+    let writes : names_in body.writes.items ≡ p.writes = names_declared params p.writes body.writes.items w in
+    λ j. record { reads = reads j; writes = writes j; others = others j; large = large j; terms = terms j; rows = rows j }
+
+-- a template made of an own instance's parts
+pub template_made : (params : List (List ℕ)) (body : BodyColumns) (p : Parts) (locals : List ℕ) → parts_in body ≡ p → IsOwn p locals
+    → body.reads.items ≡ map (declared_name params) p.reads → body.writes.items ≡ map (declared_name params) p.writes → IsTemplate params body locals
+template_made params body p locals same own r w = record {
+  own = subst (λ (x : Parts). IsOwn x locals) (sym same) own;
+  reads = are_declared params p.reads body.reads.items r;
+  writes = are_declared params p.writes body.writes.items w;
+}

@@ -1,0 +1,153 @@
+-- A key's place among rising keys, and where the keys that names stand for are.
+use Rattle.std.proofs.Common.{◌≡◌, ℕ, zero, suc, ◌+◌, ◌-◌, ◌<◌, ◌≤◌, true, false, Bool, List, [], ◌∷◌, ◌++◌, length}
+use Rattle.std.proofs.Common.{get_or, take, drop, map, Option, Some, None, refl, ap, sym, ◌∙◌, subst, arith, add-one}
+use Rattle.std.proofs.Common.{drop-cons, append_assoc, length-append, below_more}
+use Rattle.std.specs.Prelude.{slice_get, slice_index_or, ◌||◌}
+use Rattle.std.specs.List.{insert, list_any}
+use Rattle.std.specs.Str.{bytes_eq}
+use Rattle.std.specs.Ordering.{nat_cmp, is_eq}
+use Rattle.std.specs.declared.cmp.Ordering.{Ordering}
+use Rattle.std.specs.declared.cmp.Ordering.TheVariants.{Less, Equal, Greater}
+use Rattle.std.specs.Cmp.Lexicographic.{slice_cmp, nat_list_cmp_total}
+use Rattle.std.proofs.lemmas.List.{drop_all, take_all, take_more, take-append-drop, length-map, get_or_append_left, get_or-append_right, get_or_default}
+use Rattle.std.proofs.lemmas.Bool.{or_right}
+use Rattle.bohm_log.specs.Parts.{IsApart}
+use Rattle.std.proofs.lemmas.Slice.Eq.{bytes_eq-Decides}
+use Rattle.std.proofs.lemmas.Map.Text.{is_eq-slice_cmp}
+use Rattle.bohm_tree.specs.Keys.{is_among, IsAmong}
+use Rattle.bohm_tree.specs.KeySets.{inserted_by, inserted, key_set}
+
+-- ---- into its place
+
+split_at : (xs : List (List ℕ)) (i : ℕ) (x : List ℕ) → i < length xs → x ≡ get_or xs i x → drop i xs ≡ x ∷ drop (i + 1) xs
+split_at xs i x h is = rw add-one (drop-cons xs i x h ∙ ap (λ y. y ∷ drop (suc i) xs) (sym is))
+
+pub inserted_before : (k : List ℕ) (xs : List (List ℕ)) (i : ℕ) (x : List ℕ) → i < length xs → x ≡ get_or xs i x → slice_cmp nat_cmp k x ≡ Less
+    → inserted k xs ≡ take i xs ++ inserted k (drop i xs) → insert xs i k ≡ inserted k xs
+inserted_before k xs i x h is less e =
+    let there : drop i xs ≡ x ∷ drop (i + 1) xs = split_at xs i x h is in
+    let here : inserted k (drop i xs) ≡ k ∷ drop i xs =
+    ap (inserted k) there ∙ ap (λ o. inserted_by o k x (drop (i + 1) xs) (inserted k (drop (i + 1) xs))) less ∙ ap (λ ys. k ∷ ys) (sym there) in
+    sym (e ∙ ap (λ ys. take i xs ++ ys) here)
+
+take_drop : (i : ℕ) (xs : List (List ℕ)) → take i xs ++ drop i xs ≡ xs
+take_drop = take-append-drop
+
+pub inserted_at : (k : List ℕ) (xs : List (List ℕ)) (i : ℕ) (x : List ℕ) → i < length xs → x ≡ get_or xs i x → slice_cmp nat_cmp k x ≡ Equal
+    → inserted k xs ≡ take i xs ++ inserted k (drop i xs) → xs ≡ inserted k xs
+inserted_at k xs i x h is equal e =
+    let there : drop i xs ≡ x ∷ drop (i + 1) xs = split_at xs i x h is in
+    let here : inserted k (drop i xs) ≡ drop i xs =
+    ap (inserted k) there ∙ ap (λ o. inserted_by o k x (drop (i + 1) xs) (inserted k (drop (i + 1) xs))) equal ∙ sym there in
+    sym (e ∙ ap (λ ys. take i xs ++ ys) here ∙ take_drop i xs)
+
+pub inserted_after : (k : List ℕ) (xs : List (List ℕ)) (i : ℕ) (x : List ℕ) → i < length xs → x ≡ get_or xs i x → slice_cmp nat_cmp k x ≡ Greater
+    → inserted k xs ≡ take i xs ++ inserted k (drop i xs) → inserted k xs ≡ take (i + 1) xs ++ inserted k (drop (i + 1) xs)
+inserted_after k xs i x h is greater e =
+    let there : drop i xs ≡ x ∷ drop (i + 1) xs = split_at xs i x h is in
+    let here : inserted k (drop i xs) ≡ x ∷ inserted k (drop (i + 1) xs) =
+    ap (inserted k) there ∙ ap (λ o. inserted_by o k x (drop (i + 1) xs) (inserted k (drop (i + 1) xs))) greater in
+    let more : take (i + 1) xs ≡ take i xs ++ x ∷ [] = take_more xs i x h ∙ ap (λ y. take i xs ++ y ∷ []) (sym is) in
+    e ∙ ap (λ ys. take i xs ++ ys) here ∙ sym (append_assoc (take i xs) (x ∷ []) (inserted k (drop (i + 1) xs)))
+    ∙ ap (λ ys. ys ++ inserted k (drop (i + 1) xs)) (sym more)
+
+pub inserted_last : (k : List ℕ) (xs : List (List ℕ)) (i : ℕ) → length xs ≤ i → inserted k xs ≡ take i xs ++ inserted k (drop i xs)
+    → xs ++ k ∷ [] ≡ inserted k xs
+inserted_last k xs i h e =
+    let none : drop i xs ≡ [] = drop_all i xs h in
+    let all : take i xs ≡ xs = take_all i xs h in
+    sym (e ∙ (λ j. all j ++ inserted k (none j)))
+
+-- ---- where they are
+
+equal_keys : (k x : List ℕ) → slice_cmp nat_cmp k x ≡ Equal → bytes_eq k x ≡ true
+equal_keys k x e = sym (is_eq-slice_cmp k x) ∙ ap is_eq e
+
+pub same_key : (x k : List ℕ) → bytes_eq x k ≡ true → x ≡ k
+same_key x k e = (bytes_eq-Decides x k).0 e
+
+key_itself : (k : List ℕ) → bytes_eq k k ≡ true
+key_itself k = (bytes_eq-Decides k k).1 refl
+
+swapped : (a b c : Bool) → (a || (b || c)) ≡ (b || (a || c))
+swapped true true c = refl
+swapped true false c = refl
+swapped false b c = refl
+
+doubled : (a b : Bool) → (a || b) ≡ (a || (a || b))
+doubled true b = refl
+doubled false b = refl
+
+among_inserted : (k : List ℕ) (xs : List (List ℕ)) (q : List ℕ) → is_among (inserted k xs) q ≡ (bytes_eq k q || is_among xs q)
+among_inserted k [] q = refl
+among_inserted k (x ∷ xs) q =
+    elim (slice_cmp nat_cmp k x) as
+    (λ o. slice_cmp nat_cmp k x ≡ o → is_among (inserted_by o k x xs (inserted k xs)) q ≡ (bytes_eq k q || (bytes_eq x q || is_among xs q))) [
+      | Less ↦ λ e. refl
+      | Equal ↦ λ e. rw (same_key k x (equal_keys k x e)) (doubled (bytes_eq x q) (is_among xs q))
+      | Greater ↦ λ e. rw (among_inserted k xs q) (swapped (bytes_eq x q) (bytes_eq k q) (is_among xs q))
+    ] refl
+
+pub among_key_set : (ks : List (List ℕ)) (q : List ℕ) → is_among (key_set ks) q ≡ is_among ks q
+among_key_set [] q = refl
+among_key_set (k ∷ ks) q = among_inserted k (key_set ks) q ∙ ap (λ b. bytes_eq k q || b) (among_key_set ks q)
+
+-- ---- no more of them
+
+inserted_few : (k : List ℕ) (xs : List (List ℕ)) → length (inserted k xs) ≤ suc (length xs)
+inserted_few k [] = omega arith
+inserted_few k (x ∷ xs) =
+    elim (slice_cmp nat_cmp k x) as (λ o. length (inserted_by o k x xs (inserted k xs)) ≤ suc (suc (length xs))) [
+      | Less ↦ omega arith
+      | Equal ↦ omega arith
+      | Greater ↦ omega (arith, inserted_few k xs)
+    ]
+
+pub key_set_few : (ks : List (List ℕ)) → length (key_set ks) ≤ length ks
+key_set_few [] = omega arith
+key_set_few (k ∷ ks) = omega (arith, inserted_few k (key_set ks), key_set_few ks)
+
+-- the key at a place is among them
+among_at : (keys : List (List ℕ)) (i : ℕ) (d : List ℕ) → i < length keys → is_among keys (get_or keys i d) ≡ true
+among_at [] i d h = absurd (omega (arith, h))
+among_at (x ∷ xs) zero d h = rw (key_itself x) refl
+among_at (x ∷ xs) (suc i) d h = or_right (bytes_eq x (get_or xs i d)) (is_among xs (get_or xs i d)) (among_at xs i d (omega (arith, h)))
+
+pub among_here : (keys : List (List ℕ)) (i : ℕ) (x : List ℕ) → i < length keys → x ≡ get_or keys i x → is_among (key_set keys) x ≡ true
+among_here keys i x h is = among_key_set keys x ∙ ap (λ y. is_among keys y) is ∙ among_at keys i x h
+
+-- it is found
+pub not_absent : (keys set : List (List ℕ)) (i : ℕ) (x : List ℕ) → set ≡ key_set keys → length keys ≤ 16 → i < length keys
+    → x ≡ get_or keys i x → ¬ (IsApart set x)
+not_absent keys set i x e few h is apart =
+    let short : length set ≤ 16 = omega (arith, ap length e, key_set_few keys, few) in
+    let there : is_among set x ≡ true = ap (λ (ks : List (List ℕ)). is_among ks x) e ∙ among_here keys i x h is in
+    let none : is_among set x ≡ false = apart short in
+    absurd (let bad : true ≡ false = sym there ∙ none in cc)
+
+-- ---- places so far
+
+abbrev pub PlacedUpTo : List (List ℕ) → List (List ℕ) → List ℕ → ℕ → Type 0
+PlacedUpTo keys set to n = (length to ≡ n) × ((i : ℕ) → i < n → slice_get set (slice_index_or to i 0) ≡ Some (slice_index_or keys i []))
+
+pub placed_next : (keys set : List (List ℕ)) (to new : List ℕ) (n place : ℕ) (x : List ℕ) → PlacedUpTo keys set to n
+    → n < length keys → x ≡ get_or keys n x → slice_get set place ≡ Some x → new ≡ to ++ place ∷ [] → PlacedUpTo keys set new (n + 1)
+placed_next keys set to new n place x h inside is at e =
+    (ap length e ∙ length-append to (place ∷ []) ∙ ap (λ m. m + 1) h.0, below_more _ _ before here)
+  where
+    before : (i : ℕ) → i < n → slice_get set (slice_index_or new i 0) ≡ Some (slice_index_or keys i [])
+    before i l = ap (λ (zs : List ℕ). slice_get set (slice_index_or zs i 0)) e
+        ∙ ap (slice_get set) (get_or_append_left to (place ∷ []) 0 i (omega (arith, h.0, l))) ∙ h.1 i l
+
+    same : slice_index_or keys n [] ≡ x
+    same = get_or_default keys n [] x inside ∙ sym is
+
+    zero_left : n - n ≡ 0
+    zero_left = omega arith
+
+    last : slice_index_or new n 0 ≡ place
+    last = ap (λ (zs : List ℕ). slice_index_or zs n 0) e ∙ get_or-append_right to (place ∷ []) n n 0 h.0 (omega arith)
+        ∙ ap (λ m. slice_index_or (place ∷ []) m 0) zero_left
+
+    here : slice_get set (slice_index_or new n 0) ≡ Some (slice_index_or keys n [])
+    here = ap (slice_get set) last ∙ at ∙ ap (λ y. Some y) (sym same)

@@ -1,0 +1,163 @@
+//! Procedures in columns.
+
+ghost use Rattle.std.specs.Prelude.{◌≡◌, ◌≤◌, length, map, take, IfOk, OnOk};
+ghost use Rattle.std.specs.List.{AllByRecursion};
+ghost use Rattle.bohm_tree.specs.Keys.{IsAmong};
+ghost use Rattle.bohm_tree.specs.Accesses.{StmtReads, StmtWrites};
+ghost use Rattle.bohm_log.specs.Calling.{declared_name};
+ghost use Rattle.bohm_log.specs.Locals.{ArePlacesOf};
+ghost use Rattle.bohm_log.specs.Parts.{Begins};
+ghost use Rattle.bohm_tree.specs.Procedure.{procedure_with};
+
+use crate::draft::Draft;
+use crate::fault::LogFault;
+use crate::names::Names;
+use crate::row::{StmtRow, TermRow};
+use crate::sheet::Sheet;
+use bohm_tree::{Edition, Key};
+use std::alloc::Global;
+use std::hash::BuildHasher;
+use std::marker::Model;
+
+/// A declared name, and which key parameter it is, if it is one.
+#[derive(Clone, Copy, Debug)]
+pub struct DeclaredName {
+    pub name: Key,
+    pub param: Option<usize>,
+}
+
+/// The columns of one body, and the names that it declares.
+#[derive(Drop)]
+pub struct BodyColumns {
+    pub reads: Vec<DeclaredName>,
+    pub writes: Vec<DeclaredName>,
+    pub others: Vec<Key>,
+    pub large: Vec<u64>,
+    pub terms: Vec<TermRow>,
+    pub rows: Vec<StmtRow>,
+}
+
+/// A procedure, which contracts see as that of the tree. Its terms and statements are those of
+/// its own instance, and its values' names are among the other names.
+#[derive(Drop)]
+pub struct Template {
+    pub(crate) edition: Edition,
+    pub(crate) keys: Vec<Key>,
+    pub(crate) values: Vec<u32>,
+    pub(crate) body: BodyColumns,
+}
+
+impl Model for Template {
+    ghost use Rattle.bohm_tree.specs.Procedure.{Procedure};
+
+    ghost Value = { Procedure };
+
+    ghost use Rattle.bohm_log.specs.Calling.{parts_in, procedure_of, IsTemplate};
+
+    ghost view = { λ t. procedure_of t.edition t.keys.items t.values.items (parts_in t.body) };
+
+    ghost invariant = { λ t. IsTemplate t.keys.items t.body t.values.items };
+}
+
+/// The places of names among others, to which they are added where they are new.
+fn place_names<S: BuildHasher + Drop>(
+    others: &mut Names<S>,
+    places: &mut Vec<u32>,
+    names: &[Key],
+) -> Result<(), LogFault>
+    ensures grows { OnOk result (Begins others.old others.new) }
+    ensures places { OnOk result (ArePlacesOf others.new names.now places.new.items) }
+{
+    places.clear();
+    for name in names {
+        let place = others.id(*name)?;
+        places.push(place)?;
+    }
+    Ok(())
+}
+
+/// Names, and which of the parameters each one is.
+fn declared_names(
+    alloc: Global,
+    names: &[Key],
+    params: &[Key],
+) -> Result<Vec<DeclaredName>, LogFault>
+    ensures { IfOk result (λ v. v.items ≡ map (declared_name params.now) names.now) }
+{
+    let mut declared = Vec::new(alloc);
+    for name in names {
+        declared.push(DeclaredName {
+            name: *name,
+            param: name.place_among(params),
+        })?;
+    }
+    Ok(declared)
+}
+
+impl Template {
+    /// How many key parameters it has.
+    pub fn keys_len(&self) -> usize
+        ensures { result ≡ length self.now.keys }
+    {
+        self.keys.len()
+    }
+
+    /// How many value parameters it has.
+    #[tactic(auto, using(crate::proofs::Viewing::mapped_length))]
+    pub fn values_len(&self) -> usize
+        ensures { result ≡ length self.now.values }
+    {
+        self.values.len()
+    }
+
+    /// The edition whose meaning it has.
+    pub fn edition(&self) -> Edition
+        ensures { result ≡ self.now.edition }
+    {
+        self.edition
+    }
+
+    /// The procedure whose own instance was read: first a statement for each value.
+    pub fn new<S: BuildHasher + Drop>(
+        alloc: Global,
+        draft: Draft<S>,
+        keys: Vec<Key>,
+        values: &[Key],
+    ) -> Result<Template, LogFault>
+        requires lets { length values.now ≤ length draft.txn.body }
+        requires few_reads { length draft.txn.reads ≤ 16 }
+        requires few_writes { length draft.txn.writes ≤ 16 }
+        requires reads { AllByRecursion (StmtReads (IsAmong draft.txn.reads)) draft.txn.body }
+        requires writes { AllByRecursion (StmtWrites (IsAmong draft.txn.writes)) draft.txn.body }
+        ensures { IfOk result (λ t. t ≡ procedure_with draft.txn keys.items values.now) }
+    {
+        let (edition, sheet) = draft.into_parts();
+        let Sheet {
+            reads,
+            writes,
+            mut others,
+            large,
+            terms,
+            rows,
+            ..
+        } = sheet;
+        let mut places = Vec::new(alloc);
+        place_names(&mut others, &mut places, values)?;
+        let names = Vec::from_slice(alloc, others.as_slice())?;
+        let reads = declared_names(alloc, reads.as_slice(), keys.as_slice())?;
+        let writes = declared_names(alloc, writes.as_slice(), keys.as_slice())?;
+        Ok(Template {
+            edition,
+            keys,
+            values: places,
+            body: BodyColumns {
+                reads,
+                writes,
+                others: names,
+                large,
+                terms,
+                rows,
+            },
+        })
+    }
+}
