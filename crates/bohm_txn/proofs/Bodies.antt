@@ -19,7 +19,8 @@ use Rattle.bohm_txn.specs.declared.outcome.Reason.{Reason}
 use Rattle.bohm_txn.specs.declared.outcome.Reason.TheVariants as reasons
 use Rattle.bohm_txn.specs.Meaning.{Look, Run, Ended, fresh, newest, then_try, then_do, sum_value, cond_value, guard_value, is_present, bind, write, show, needs, seen, perform, or_stop, body_from, body}
 use Rattle.bohm_txn.specs.Serial.{writes_of, after}
-use Rattle.bohm_txn.specs.Declares.{StmtWrites, IsUsable, shows_in}
+use Rattle.bohm_tree.specs.Accesses.{StmtWrites}
+use Rattle.bohm_txn.specs.Declares.{IsUsable, shows_in}
 use Rattle.bohm_txn.specs.Tables.{Tables, all_written, cell_at, run_with, step, taken, written}
 use Rattle.bohm_txn.proofs.BodyLaw.{same_body}
 

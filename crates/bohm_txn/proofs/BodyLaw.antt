@@ -10,7 +10,7 @@ use Rattle.bohm_tree.specs.declared.edition.Edition.TheVariants.{One, Two}
 use Rattle.bohm_tree.specs.Parts.{guard_sums}
 use Rattle.bohm_txn.specs.declared.outcome.Reason.TheVariants as reasons
 use Rattle.bohm_txn.specs.Meaning.{Look, Locals, Run, number_in, atom_value, signed, ◌>>=◌, total_from, in_range, sum_value, then_try, then_do, compares, cond_value, guard_value, is_present, seen, newest, bind, write, show, needs, perform, or_stop, body_from}
-use Rattle.bohm_txn.specs.Declares.{AtomReads, SumReads, StmtReads}
+use Rattle.bohm_tree.specs.Accesses.{AtomReads, SumReads, StmtReads}
 use Rattle.std.specs.Ordering.{int_cmp}
 
 -- each key of P holds the same

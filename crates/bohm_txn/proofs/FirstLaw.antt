@@ -42,7 +42,7 @@ least_of p false false false false false u v w x y = all_false p u v w x y
 pub least_law : (p : CheckKind → Bool) → IsLeast Lesser p (least p)
 least_law p = least_of p (p Order) (p Unread) (p Unwritten) (p Local) (p Limit) refl refl refl refl refl
 
-txn_law : (t : Txn) → IsLeast (Sooner Lesser) (λ p. txn_faulty t p.0 p.1) (first_in_txn t)
+pub txn_law : (t : Txn) → IsLeast (Sooner Lesser) (λ p. txn_faulty t p.0 p.1) (first_in_txn t)
 txn_law t =
     let Q : ℕ → Stmt → CheckKind → Bool = λ i s. stmt_faulty t (take i t.body) s in
     front_law Lesser Q (txn_faulty t) t.body (λ j kind. sym (within_at Q t.body j kind)) (least (sets_faulty t)) (least_law (sets_faulty t)) (first_in_body t) (from_law Lesser Q (find_stmt t) (λ i s. least_law (stmt_faulty t (take i t.body) s)) 0 t.body)

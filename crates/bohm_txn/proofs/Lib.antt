@@ -22,4 +22,6 @@ mod Permuted
 mod Entries
 mod Listed
 mod ReplyRows
+mod Appending
+mod Chunked
 pub mod ForCallers

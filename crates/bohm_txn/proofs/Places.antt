@@ -10,7 +10,7 @@ use Rattle.bohm_tree.specs.Term.{Atom, Lit, Read}
 use Rattle.bohm_tree.specs.Term as atoms
 use Rattle.bohm_tree.specs.Parts.{key_read}
 use Rattle.bohm_tree.specs.Keys.{place, IsPlaceOf, is_among, rising}
-use Rattle.bohm_txn.specs.Declares.{OnSomeKey}
+use Rattle.bohm_tree.specs.Accesses.{OnSomeKey}
 use Rattle.bohm_txn.specs.Faulty.{reads_among}
 use Rattle.bohm_txn.specs.Tables.{cell_from, cell_at}
 use Rattle.bohm_txn.proofs.Apart.{AllApart, rising_apart}

@@ -11,7 +11,7 @@ use Rattle.bohm_tree.specs.Term.{Atom, Lit, Read, Local}
 use Rattle.bohm_tree.specs.declared.edition.Edition.{Edition}
 use Rattle.bohm_tree.specs.Txn.{Txn}
 use Rattle.bohm_txn.specs.declared.outcome.Reason.{Reason}
-use Rattle.bohm_txn.specs.Declares.{AtomReads, SumReads, StmtReads}
+use Rattle.bohm_tree.specs.Accesses.{AtomReads, SumReads, StmtReads}
 use Rattle.bohm_txn.specs.Meaning.{Look, Locals, Run, Ended, fresh, newest, signed, total_from, in_range, sum_value, then_do, write, show, seen, perform, or_stop, body_from, body}
 use Rattle.bohm_txn.specs.Serial.{writes_of, after}
 use Rattle.bohm_txn.specs.Sure.{is_lit, is_sure_sum, is_sure_stmt, is_target, IsSure}

@@ -15,7 +15,7 @@ use Rattle.bohm_tree.specs.Keys.{place, IsAmong}
 use Rattle.bohm_txn.specs.declared.outcome.Reason.{Reason}
 use Rattle.bohm_txn.specs.declared.outcome.Reason.TheVariants as reasons
 use Rattle.bohm_txn.specs.declared.outcome.Outcome.TheVariants as outcomes_are
-use Rattle.bohm_txn.specs.Declares.{StmtReads}
+use Rattle.bohm_tree.specs.Accesses.{StmtReads}
 use Rattle.bohm_txn.specs.Meaning.{Look, Run, Ended, newest, then_try, then_do, sum_value, cond_value, guard_value, is_present, bind, write, show, needs, seen, perform, or_stop, body_from, body}
 use Rattle.bohm_txn.specs.Serial.{writes_of, shows_of, outcome_of}
 use Rattle.bohm_txn.specs.Tables.{cell_from, cell_at, set_from, replaced, seen_after, Tables, start, written, run_with, taken, step, stop_at, tables_from}

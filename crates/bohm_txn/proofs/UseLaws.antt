@@ -13,7 +13,8 @@ use Rattle.bohm_tree.specs.Document.{Document}
 use Rattle.bohm_tree.specs.Parts.{sums, tested, target}
 use Rattle.bohm_tree.specs.Keys.{some_passes, is_among, rising, names_of, IsAmong}
 use Rattle.bohm_txn.specs.Faulty.{passes_at, txn_faulty, stmt_faulty, faulty, WellFormed, alone, IsWellFormedTxn, reads_among}
-use Rattle.bohm_txn.specs.Declares.{IsUsable, OnSomeKey, AtomReads, SumReads, StmtReads, StmtWrites, AllShort, shows_in}
+use Rattle.bohm_tree.specs.Accesses.{OnSomeKey, AtomReads, SumReads, StmtReads, StmtWrites}
+use Rattle.bohm_txn.specs.Declares.{IsUsable, AllShort, shows_in}
 
 not_false : ¬ (false ≡ true)
 not_false e = cc

@@ -3,7 +3,8 @@ use Rattle.std.specs.Prelude.{◌≡◌, ◌≤◌, length, true}
 use Rattle.bohm_tree.specs.Keys.{IsAmong, rising}
 use Rattle.bohm_log.specs.declared.row.StmtRow.{StmtRow}
 use Rattle.bohm_log.specs.Parts.{Parts, RowIn, stmt_of}
-use Rattle.bohm_txn.specs.Declares.{AllShort, StmtWrites}
+use Rattle.bohm_tree.specs.Accesses.{StmtWrites}
+use Rattle.bohm_txn.specs.Declares.{AllShort}
 
 -- the declared keys are few and rise, and the statement is none that the check refuses
 pub record CanPerform (p : Parts) (r : StmtRow) : Type 0 where

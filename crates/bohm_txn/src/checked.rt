@@ -1,16 +1,19 @@
 //! Documents that passed the check.
 
-ghost use Rattle.std.specs.Prelude.{◌≡◌, ◌≤◌, true, length, All, IfOk, IfErr};
+ghost use Rattle.std.specs.Prelude.{◌≡◌, ◌<◌, ◌≤◌, true, length, All, IfOk, IfErr, OnOk, OnErr};
+ghost use Rattle.bohm_tree.specs.Appending.{empty_document, with_txn};
+ghost use Rattle.bohm_tree.specs.Procedure.{instance};
 ghost use Rattle.bohm_tree.specs.Keys.{rising, names_of};
 ghost use Rattle.bohm_txn.specs.Faulty.{WellFormed, IsFirstFault, IsWellFormedTxn};
 
 use crate::fault::CheckFault;
 use crate::first_fault::first_fault;
-use bohm_log::{Doc, LogPart};
+use bohm_log::{CallBuffer, Doc, HashSeed, LogFault, LogPart, Template};
 use bohm_tree::{Edition, Key, Value};
+use std::alloc::Global;
 use std::marker::Model;
 
-/// A well-formed document: only `check` makes one.
+/// A well-formed document: `check` makes one, and calls of procedures that it accepted.
 #[derive(Drop)]
 pub struct Checked {
     doc: Doc,
@@ -28,6 +31,42 @@ impl Model for Checked {
 }
 
 impl Checked {
+    /// No store and no transactions. It takes no memory.
+    pub fn empty(alloc: Global, seed: HashSeed, edition: Edition) -> Checked
+        ensures { result ≡ empty_document edition }
+    {
+        Checked {
+            doc: Doc::empty(alloc, seed, edition),
+        }
+    }
+
+    /// Adds the instance of a procedure. An `Err` leaves the document as it was. The time grows
+    /// with what the instance holds.
+    pub fn push_call(
+        &mut self,
+        template: &Template,
+        buffer: &mut CallBuffer,
+        keys: &[Key],
+        values: &[Value],
+    ) -> Result<(), LogFault>
+        requires values { length values.now ≡ length template.now.values }
+        requires edition { template.now.edition ≡ self.old.edition }
+        requires well_formed { IsWellFormedTxn (instance template.now keys.now values.now) }
+        requires few { length self.old.log < 1000000 }
+        ensures ok { OnOk result
+            (self.new ≡ with_txn self.old (instance template.now keys.now values.now)) }
+        ensures err { OnErr result (self.new ≡ self.old) }
+    {
+        self.doc.push_call(template, buffer, keys, values)
+    }
+
+    /// The document.
+    pub fn doc(&self) -> &Doc
+        ensures { result.now ≡ self.now }
+    {
+        &self.doc
+    }
+
     pub fn edition(&self) -> Edition
         ensures { result ≡ self.now.edition }
     {

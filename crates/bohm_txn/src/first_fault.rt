@@ -15,7 +15,8 @@ use crate::showing::shows;
 use bohm_log::{Doc, Keys, LogPart, PlacedTxn, StmtRow, TxnView};
 use bohm_tree::{Key, MOST_KEYS, MOST_SHOWS, MOST_STMTS, MOST_TXNS, Value};
 
-fn are_rising(keys: &Keys<'_>) -> bool
+/// Whether each of a set's keys is below the next.
+pub fn are_rising(keys: &Keys<'_>) -> bool
     ensures { result ≡ rising keys.now }
 {
     for place in 1..keys.len() {
@@ -26,14 +27,15 @@ fn are_rising(keys: &Keys<'_>) -> bool
     true
 }
 
-fn is_store_rising(store: &[(Key, Value)]) -> bool
+/// Whether each key of a store is below the next.
+pub fn is_store_rising(store: &[(Key, Value)]) -> bool
     ensures { result ≡ rising (names_of store.now) }
 {
     store.is_sorted_by(|entry, next| entry.0 < next.0)
 }
 
 /// Whether the transaction has too many statements, keys or shown values.
-fn is_large(txn: &TxnView<'_>) -> bool
+pub fn is_large(txn: &TxnView<'_>) -> bool
     ensures { result ≡ sets_faulty txn.now Limit }
 {
     txn.body_len() > MOST_STMTS
@@ -83,7 +85,7 @@ fn first_in_body(txn: &PlacedTxn<'_>) -> Option<(u32, CheckKind)>
 }
 
 /// The first fault of a transaction: its sets and counts are statement 0.
-fn first_in_txn(txn: &TxnView<'_>) -> Option<(u32, CheckKind)>
+pub fn first_in_txn(txn: &TxnView<'_>) -> Option<(u32, CheckKind)>
     ensures { result ≡ first_in_txn txn.now }
 {
     if !are_rising(&txn.reads()) || !are_rising(&txn.writes()) {
@@ -96,7 +98,7 @@ fn first_in_txn(txn: &TxnView<'_>) -> Option<(u32, CheckKind)>
 }
 
 /// The first fault of a log's transactions, counted from 1.
-fn first_in_log(log: &LogPart<'_>) -> Option<CheckFault>
+pub fn first_in_log(log: &LogPart<'_>) -> Option<CheckFault>
     requires { length log.now ≤ 1000000 }
     ensures { result ≡ option_map fault_of (first_in_log log.now) }
 {

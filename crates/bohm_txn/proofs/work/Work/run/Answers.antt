@@ -5,7 +5,8 @@ use Rattle.std.proofs.lemmas.Option.{slice_get-get_or}
 use Rattle.bohm_log.specs.declared.row.Action.TheVariants.{Bind}
 use Rattle.bohm_log.specs.declared.row.StmtRow.{StmtRow}
 use Rattle.bohm_log.specs.Parts.{Parts, stmt_of, txn_of}
-use Rattle.bohm_txn.specs.Declares.{AllShort, StmtWrites, shows_in}
+use Rattle.bohm_tree.specs.Accesses.{StmtWrites}
+use Rattle.bohm_txn.specs.Declares.{AllShort, shows_in}
 use Rattle.bohm_txn.specs.Room.{tables_of}
 use Rattle.bohm_txn.specs.Tables.{Tables, step}
 use Rattle.bohm_txn.proofs.Bodies.{shows_first, step_shows}

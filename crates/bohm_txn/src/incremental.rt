@@ -1,0 +1,87 @@
+//! The check of a document whose transactions come in chunks: the store first, then chunk after
+//! chunk, and the end.
+
+ghost use Rattle.std.specs.Prelude.{◌≡◌, ◌+◌, ◌++◌, ◌≤◌, None, length, All, IfSome};
+ghost use Rattle.bohm_tree.specs.Document.{Document};
+ghost use Rattle.bohm_txn.specs.Chunked.{store_fault, IsCheckedTo, IsCountOf};
+ghost use Rattle.bohm_txn.specs.Faulty.{WellFormed, IsFirstFault, IsWellFormedTxn};
+
+use crate::fault::{CheckFault, CheckKind};
+use crate::first_fault::{first_in_log, is_store_rising};
+use bohm_log::LogPart;
+use bohm_tree::{Key, MOST_TXNS, Value};
+
+/// A fault of the document as a whole.
+fn whole_fault(kind: CheckKind) -> CheckFault
+    ensures { result ≡ record { txn = 0; stmt = 0; kind = kind } }
+{
+    CheckFault {
+        txn: 0,
+        stmt: 0,
+        kind,
+    }
+}
+
+/// The fault of a document's store, which comes before all others. Its time grows with the number
+/// of entries.
+pub fn check_store(store: &[(Key, Value)]) -> Option<CheckFault>
+    ensures { result ≡ store_fault store.now }
+{
+    if is_store_rising(store) {
+        None
+    } else {
+        Some(whole_fault(CheckKind::Order))
+    }
+}
+
+/// The first fault of a document with the transactions of a chunk behind so many others, of which
+/// this fault was found. Where there are more than a log may have, nothing is promised.
+///
+/// Its time grows with the number of the chunk's keys, terms and statements, and is constant where a
+/// fault was found before.
+pub fn check_more(
+    count: usize,
+    found: Option<CheckFault>,
+    chunk: &LogPart<'_>,
+) -> Option<CheckFault>
+    ensures checked { (d : Document) → IsCountOf (length d.log) count → IsCheckedTo d found
+        → IsCheckedTo (record d { log = d.log ++ chunk.now }) result }
+    ensures kept { result ≡ None → found ≡ None }
+    ensures formed { found ≡ None → result ≡ None → count + length chunk.now ≤ 1000000
+        → All IsWellFormedTxn chunk.now }
+{
+    if found.is_some() {
+        return found;
+    }
+    if count > MOST_TXNS || chunk.len() > MOST_TXNS - count {
+        return None;
+    }
+    let fault = first_in_log(chunk)?;
+    Some(CheckFault {
+        txn: count as u32 + fault.txn,
+        stmt: fault.stmt,
+        kind: fault.kind,
+    })
+}
+
+/// The first fault of a document of so many transactions, of whose store this fault was found, and
+/// of its transactions this one.
+pub fn check_end(
+    in_store: Option<CheckFault>,
+    count: usize,
+    found: Option<CheckFault>,
+) -> Option<CheckFault>
+    ensures none { result ≡ None → (d : Document) → in_store ≡ store_fault d.store
+        → IsCountOf (length d.log) count → IsCheckedTo d found → WellFormed d }
+    ensures some { IfSome result (λ f. (d : Document) → in_store ≡ store_fault d.store
+        → IsCountOf (length d.log) count → IsCheckedTo d found → IsFirstFault d f) }
+    ensures kept { result ≡ None → found ≡ None }
+{
+    if in_store.is_some() {
+        in_store
+    } else if count > MOST_TXNS {
+        Some(whole_fault(CheckKind::Limit))
+    } else {
+        found
+    }
+}
