@@ -15,3 +15,14 @@ mod Lines
 mod Searches
 mod TextLaws
 mod TidyLaws
+mod Behind
+mod WindowLaws
+mod Headed
+mod OpenLaws
+mod Placed
+mod Numbered
+mod ProcedureAgain
+mod ProcedureTakes
+mod ProcedureLines
+mod ProcedureFronts
+pub mod ForCallers

@@ -20,11 +20,11 @@ use Rattle.bohm_text.proofs.Again.{keys_again, entry_again, stmt_again}
 use Rattle.bohm_text.proofs.Cutting.{split_again}
 use Rattle.bohm_text.proofs.WordLaws.{IsWord, words_lack, stmt_are_words, entry_are_words, names_are_words}
 
-cut : (w : List ℕ) (ws : Words) → AllByRecursion IsWord (w ∷ ws) → split 32 (line_text (w ∷ ws)) ≡ w ∷ ws
+pub cut : (w : List ℕ) (ws : Words) → AllByRecursion IsWord (w ∷ ws) → split 32 (line_text (w ∷ ws)) ≡ w ∷ ws
 cut w ws words = let lack = words_lack 32 (w ∷ ws) (omega arith) words in split_again w ws lack.0 lack.1
 
 -- a line whose words are not the keyword's
-other_line : (line keyword : List ℕ) → (split 32 line ≡ split 32 keyword → ⊥) → bytes_eq line keyword ≡ false
+pub other_line : (line keyword : List ℕ) → (split 32 line ≡ split 32 keyword → ⊥) → bytes_eq line keyword ≡ false
 other_line line keyword apart =
     let P : Bool → Type 0 = λ (t : Bool). bytes_eq line keyword ≡ t → t ≡ false in
     elim (bytes_eq line keyword) as P [
@@ -32,7 +32,7 @@ other_line line keyword apart =
       | false ↦ λ e. refl
     ] refl
 
-set_again : (word : List ℕ) (keys : List (List ℕ)) → IsWord word → AllByRecursion IsName keys → bytes_eq word word ≡ true → after word keys_of (split 32 (line_text (word ∷ keys))) ≡ Some keys
+pub set_again : (word : List ℕ) (keys : List (List ℕ)) → IsWord word → AllByRecursion IsName keys → bytes_eq word word ≡ true → after word keys_of (split 32 (line_text (word ∷ keys))) ≡ Some keys
 set_again word keys is_word names same = rw (cut word keys (is_word, names_are_words keys names), same) (keys_again keys names)
 
 entry_step : (edition : Edition) (store : List (List ℕ × ℤ)) (entry : List ℕ × ℤ) → IsEntry entry
@@ -89,7 +89,7 @@ stmts_steps d reads writes before [] rest sound = rw (append-nil before) refl
 stmts_steps d reads writes before (s ∷ ss) rest sound =
     to _ _ (line_text (stmt_words s)) _ (stmt_step d reads writes before s sound.0) ∙ (stmts_steps d reads writes (before ++ s ∷ []) ss rest sound.1 ∙ ap (λ (b : List Stmt). steps (Body d reads writes b) rest) (append_assoc before (s ∷ []) ss))
 
-open_step : (d : Document) → step (Between d) (codes "txn") ≡ Some (Opened d)
+pub open_step : (d : Document) → step (Between d) (codes "txn") ≡ Some (Opened d)
 unfolding step after_between
 open_step d = refl
 

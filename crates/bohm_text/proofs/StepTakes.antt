@@ -62,7 +62,7 @@ entry_adds d entry none =
     let stores : map store_words (d.store ++ entry ∷ []) ≡ map store_words d.store ++ store_words entry ∷ [] = map_push store_words d.store entry in
     rw (none, append-nil (map store_words (d.store ++ entry ∷ [])), append-nil (map store_words d.store), stores) (ap (λ (r : List (List ℕ)). line_text (head_words d.edition) ∷ r) (map_push line_text (map store_words d.store) (store_words entry)))
 
-stmts_text : (body : List Stmt) → map line_text (map stmt_words body) ≡ map (λ s. line_text (stmt_words s)) body
+pub stmts_text : (body : List Stmt) → map line_text (map stmt_words body) ≡ map (λ s. line_text (stmt_words s)) body
 stmts_text [] = refl
 stmts_text (s ∷ ss) = ap (λ r. line_text (stmt_words s) ∷ r) (stmts_text ss)
 
@@ -81,7 +81,7 @@ txn_adds d reads writes body =
 Adds : Progress → Progress → List ℕ → Type 0
 Adds p q line = progress_lines q ≡ progress_lines p ++ line ∷ []
 
-head_takes : (line : List ℕ) (edition : Edition) → head_of line ≡ Some edition → line ≡ line_text (head_words edition)
+pub head_takes : (line : List ℕ) (edition : Edition) → head_of line ≡ Some edition → line ≡ line_text (head_words edition)
 unfolding head_of
 head_takes line edition e =
     elim (chosen (bytes_eq line (codes "log 1")) (Some One) (cond (bytes_eq line (codes "log 2")) (Some Two) None) (Some edition) e) [
@@ -94,7 +94,7 @@ head_adds q line e =
     let b = bind_some (head_of line) (λ edition. Some (begun edition)) q e in
     subst (λ (r : Progress). progress_lines r ≡ line ∷ []) (same_Some (begun b.0) q b.2) (ap (λ (l : List ℕ). l ∷ []) (sym (head_takes line b.0 b.1)))
 
-words_line : (line : List ℕ) (ws : Words) → split 32 line ≡ ws → line_text ws ≡ line
+pub words_line : (line : List ℕ) (ws : Words) → split 32 line ≡ ws → line_text ws ≡ line
 words_line line ws e = rw (← e) (split_takes line)
 
 next_adds : (d : Document) (log : List Txn) (q : Progress) (line : List ℕ) → d.log ≡ log → next_entry d log (split 32 line) ≡ Some q → progress_lines q ≡ text_lines d ++ line ∷ []
@@ -112,7 +112,7 @@ between_adds d q line e =
       | inr p ↦ next_adds d d.log q line refl p.1
     ]
 
-set_takes : (word line : List ℕ) (keys : List (List ℕ)) → after word keys_of (split 32 line) ≡ Some keys → line_text (word ∷ keys) ≡ line
+pub set_takes : (word line : List ℕ) (keys : List (List ℕ)) → after word keys_of (split 32 line) ≡ Some keys → line_text (word ∷ keys) ≡ line
 set_takes word line keys e =
     let a = after_takes word keys_of (split 32 line) keys e in
     words_line line (word ∷ keys) (a.1 ∙ ap (λ (r : Words). word ∷ r) (keys_take a.0 keys a.2))

@@ -26,23 +26,26 @@ use Rattle.bohm_text.proofs.Sounds.{IsSound, steps_sound}
 
 -- ---- no line has a newline
 
-spaced_lacks : (ws : Words) → AllByRecursion IsWord ws → IsWithout 10 (spaced ws)
+pub spaced_lacks : (ws : Words) → AllByRecursion IsWord ws → IsWithout 10 (spaced ws)
 spaced_lacks [] words = tt
 spaced_lacks (w ∷ ws) words = (refl, each_append (λ b. b == 10 ≡ false) w (spaced ws) (word_lacks 10 w (omega arith) words.0) (spaced_lacks ws words.1))
 
-line_lacks : (ws : Words) → AllByRecursion IsWord ws → IsWithout 10 (line_text ws)
+pub line_lacks : (ws : Words) → AllByRecursion IsWord ws → IsWithout 10 (line_text ws)
 line_lacks [] words = tt
 line_lacks (w ∷ ws) words = each_append (λ b. b == 10 ≡ false) w (spaced ws) (word_lacks 10 w (omega arith) words.0) (spaced_lacks ws words.1)
 
-lines_lack : (d : Document) → IsDocument d → AllByRecursion (IsWithout 10) (text_lines d)
+pub lines_lack : (d : Document) → IsDocument d → AllByRecursion (IsWithout 10) (text_lines d)
 lines_lack d sound = All-map IsLine (IsWithout 10) line_text (λ ws line. line_lacks ws line.1) (doc_lines d) (doc_are_lines d sound)
+
+pub lines_of_text : (d : Document) → IsDocument d → whole_lines (print_doc d) ≡ text_lines d
+lines_of_text d sound = lines_again (text_lines d) (lines_lack d sound)
 
 -- ---- one text
 
-text_steps : (d : Document) → IsDocument d → steps Nothing (whole_lines (print_doc d)) ≡ Some (Between d)
-text_steps d sound = ap (steps Nothing) (lines_again (text_lines d) (lines_lack d sound)) ∙ document_steps d sound
+pub text_steps : (d : Document) → IsDocument d → steps Nothing (whole_lines (print_doc d)) ≡ Some (Between d)
+text_steps d sound = ap (steps Nothing) (lines_of_text d sound) ∙ document_steps d sound
 
-same_document : (d e : Document) → Between d ≡ Between e → d ≡ e
+pub same_document : (d e : Document) → Between d ≡ Between e → d ≡ e
 same_document d e h = cc
 
 pub one_text : (d e : Document) → IsDocument d → IsDocument e → print_doc d ≡ print_doc e → d ≡ e

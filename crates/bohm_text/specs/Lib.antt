@@ -4,7 +4,15 @@ pub mod Reading
 pub mod WordsInside
 pub mod Taking
 pub mod Step
-pub mod Parse
 pub mod Front
 pub mod Faults
 pub mod Tidy
+pub mod Windows
+pub mod Parse
+pub mod Windowing
+pub mod ProcedureText
+pub mod ProcedureReading
+pub mod Drafted
+pub mod ProcedureParse
+pub mod ProcedureFaults
+pub mod ProcedureRead

@@ -1,10 +1,14 @@
 -- What reading a text gives.
-use Rattle.std.specs.Prelude.{◌≡◌, ◌≢◌, ℕ, ◌-◌, ◌<◌, ◌≤◌, List, ◌==◌, take, length, Option, Some, None, Result, Ok, Err, IsSome}
+use Rattle.std.specs.Prelude.{◌≡◌, ◌≢◌, ℕ, ◌+◌, ◌-◌, ◌<◌, ◌≤◌, List, ◌==◌, take, length, Option, Some, None, Result, Ok, Err, IsSome}
 use Rattle.std.specs.List.{position_from}
 use Rattle.bohm_tree.specs.Document.{Document}
 use Rattle.bohm_text.specs.declared.fault.TextFault.{TextFault}
-use Rattle.bohm_text.specs.declared.fault.TextFault.TheVariants.{Line, Short, NoMemory}
+use Rattle.bohm_text.specs.declared.fault.TextFault.TheVariants as texts
+use Rattle.bohm_text.specs.declared.fault.WindowFault.{WindowFault}
+use Rattle.bohm_text.specs.declared.fault.WindowFault.TheVariants.{Line, Open, NoMemory}
+use Rattle.bohm_tree.specs.declared.edition.Edition.{Edition}
 use Rattle.bohm_text.specs.declared.reader.Reader.{Reader}
+use Rattle.bohm_text.specs.Windows.{headed}
 use Rattle.bohm_text.specs.Print.{text_of}
 use Rattle.bohm_text.specs.Cut.{whole_lines}
 use Rattle.bohm_text.specs.Step.{Progress, Nothing, Between, document_in, steps}
@@ -25,8 +29,26 @@ pub record IsUnfinished (text : List ℕ) : Type 0 where
   pub read : steps Nothing (whole_lines text) ≡ Some progress
   pub unfinished : (d : Document) → progress ≡ Between d → text_of (whole_lines text) ≢ text
 
-abbrev pub Reads : List ℕ → Result Reader TextFault → Type 0
-Reads text (Ok reader) = (steps Nothing (whole_lines text) ≡ Some (Between (document_in reader))) × (text_of (whole_lines text) ≡ text)
-Reads text (Err (Line n)) = IsFirstFault (whole_lines text) n
-Reads text (Err Short) = IsUnfinished text
-Reads text (Err NoMemory) = Unit {0}
+-- the text's lines, which are whole, are those of the reader's document
+abbrev pub IsReadAs : List ℕ → Reader → Type 0
+IsReadAs text reader = (steps Nothing (whole_lines text) ≡ Some (Between (document_in reader))) × (text_of (whole_lines text) ≡ text)
+
+-- what reading a document's text gives, with the number of its lines
+abbrev pub ReadsText : List ℕ → Result (Reader × ℕ) WindowFault → Type 0
+ReadsText text (Ok r) = IsReadAs text r.0 × (r.1 ≡ length (whole_lines text))
+ReadsText text (Err (Line n)) = IsFirstFault (whole_lines text) n
+ReadsText text (Err (Open n)) = IsUnfinished text × (n ≡ length (whole_lines text))
+ReadsText text (Err NoMemory) = Unit {0}
+
+-- what the lines behind a head line give, which are counted
+abbrev pub ReadsBehind : Edition → List ℕ → Result (Reader × ℕ) WindowFault → Type 0
+ReadsBehind e text (Ok r) = IsReadAs (headed e text) r.0 × (r.1 ≡ length (whole_lines text))
+ReadsBehind e text (Err (Line n)) = IsFirstFault (whole_lines (headed e text)) (n + 1) × (n ≤ length text)
+ReadsBehind e text (Err (Open n)) = IsUnfinished (headed e text) × (n ≡ length (whole_lines text))
+ReadsBehind e text (Err NoMemory) = Unit {0}
+
+-- a window's fault as that of a whole text
+abbrev pub text_fault_of : WindowFault → TextFault
+text_fault_of (Line n) = texts.Line n
+text_fault_of (Open n) = texts.Short
+text_fault_of NoMemory = texts.NoMemory

@@ -63,7 +63,9 @@ fn put_reply(out: &mut Vec<u8>, number: u64, reply: ReplyView<'_>) -> Result<(),
     Ok(())
 }
 
-fn put_replies(out: &mut Vec<u8>, first: u64, replies: &Replies) -> Result<(), NoMemory>
+/// Appends a line for each reply, numbered from a first number on. Its time grows with the length of
+/// the lines. A refusal leaves the text with the beginning of them.
+pub fn put_replies(out: &mut Vec<u8>, first: u64, replies: &Replies) -> Result<(), NoMemory>
     requires { first + length replies.now ≤ 2 ^ 64 }
     ensures { IfOk result
         (λ _. out.new.items ≡ out.old.items ++ print_numbered first replies.now) }
@@ -75,7 +77,9 @@ fn put_replies(out: &mut Vec<u8>, first: u64, replies: &Replies) -> Result<(), N
     Ok(())
 }
 
-fn put_store(out: &mut Vec<u8>, entries: &[(Key, Value)]) -> Result<(), NoMemory>
+/// Appends the line `--`, and then a line for each key. Its time grows with the length of the lines.
+/// A refusal leaves the text with the beginning of them.
+pub fn put_store(out: &mut Vec<u8>, entries: &[(Key, Value)]) -> Result<(), NoMemory>
     ensures { IfOk result (λ _. out.new.items ≡ out.old.items ++ print_store entries.now) }
 {
     out.extend_from_slice(b"--\n")?;

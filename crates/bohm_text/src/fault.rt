@@ -67,3 +67,30 @@ pub enum TextFault {
     /// A growth was refused.
     NoMemory,
 }
+
+/// Why a window's text isn't that of whole transactions. Its lines count from 1.
+#[derive(Clone, Copy, Debug, PartialEq, Eq)]
+pub enum WindowFault {
+    /// The whole lines before this one begin transactions, and with this one they do not.
+    Line(u64),
+    /// The whole lines, of which there are so many, begin transactions, but the text ends inside of
+    /// one.
+    Open(u64),
+    /// A growth was refused.
+    NoMemory,
+}
+
+impl From<WindowFault> for TextFault {
+    ghost use Rattle.std.specs.Prelude.{◌≡◌};
+    ghost use Rattle.bohm_text.specs.Parse.{text_fault_of};
+
+    ghost from_gives = { λ fault e. e ≡ text_fault_of fault };
+
+    fn from(fault: WindowFault) -> TextFault {
+        match fault {
+            WindowFault::Line(n) => TextFault::Line(n),
+            WindowFault::Open(_) => TextFault::Short,
+            WindowFault::NoMemory => TextFault::NoMemory,
+        }
+    }
+}

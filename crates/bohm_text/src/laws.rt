@@ -5,6 +5,11 @@ ghost use Rattle.bohm_tree.specs.Document.{Document};
 ghost use Rattle.bohm_tree.specs.Sound.{IsDocument};
 ghost use Rattle.bohm_text.specs.Print.{print_doc};
 ghost use Rattle.bohm_text.specs.Tidy.{IsTidy};
+ghost use Rattle.bohm_tree.specs.Procedure.{Procedure};
+ghost use Rattle.std.specs.Prelude.{ℕ, List, Some};
+ghost use Rattle.bohm_text.specs.Print.{text_of};
+ghost use Rattle.bohm_text.specs.Cut.{whole_lines};
+ghost use Rattle.bohm_text.specs.ProcedureText.{IsProcedure, print_procedure, Nothing, Done, stages};
 
 /// Two documents with one text are equal.
 pub fn one_text()
@@ -17,4 +22,17 @@ pub fn one_text()
 /// spaces, lower-case letters, digits and `_ $ + - < = >`.
 pub fn tidy_text()
     ensures { (d : Document) → IsDocument d → IsTidy (print_doc d) }
+{}
+
+/// Two procedures with one text are equal.
+pub fn one_procedure_text()
+    ensures { (p q : Procedure) → IsProcedure p → IsProcedure q
+        → print_procedure p ≡ print_procedure q → p ≡ q }
+{}
+
+/// A text whose lines make a procedure is that procedure's.
+pub fn procedure_is_read()
+    ensures { (text : List ℕ) (p : Procedure)
+        → stages Nothing (whole_lines text) ≡ Some (Done p)
+        → text_of (whole_lines text) ≡ text → IsProcedure p × (print_procedure p ≡ text) }
 {}

@@ -8,15 +8,22 @@ pub mod laws;
 mod numbers;
 mod parsing;
 mod printing;
+mod procedures;
 mod reader;
 mod separators;
 mod statements;
 mod stops;
 mod sums;
 mod terms;
+mod windows;
 mod words;
 
-pub use answers::{print_answer, print_numbered, print_replies, print_store};
-pub use fault::TextFault;
+pub use answers::{
+    print_answer, print_numbered, print_replies, print_store, put_replies, put_store,
+};
+pub use fault::{TextFault, WindowFault};
 pub use parsing::{parse, parse_with_seed};
-pub use printing::print_doc;
+pub use printing::{print_doc, put_body, put_entries};
+pub use procedures::{ParamPlace, ProcedureReader, parse_procedure};
+pub use windows::{Chunk, FirstWindow, parse_first_window, parse_window};
+pub use words::Words;

@@ -4,18 +4,19 @@ ghost use Rattle.std.specs.Prelude.{◌≡◌, ℕ, IfOk, Err, IfSome, IfNone, [
 ghost use Rattle.std.specs.Prelude.{◌∷◌, ◌++◌};
 ghost use Rattle.bohm_tree.specs.Sound.{IsDocument};
 ghost use Rattle.bohm_text.specs.Cut.{whole_lines};
-ghost use Rattle.bohm_text.specs.Parse.{Reads};
+ghost use Rattle.bohm_text.specs.Parse.{ReadsText, ReadsBehind};
 ghost use Rattle.bohm_text.specs.Print.{print_doc};
 ghost use Rattle.bohm_text.specs.Faults.{IsFirstBadLine, IsShort};
 
-use crate::fault::{ReadFault, TextFault};
+use crate::fault::{ReadFault, TextFault, WindowFault};
 use crate::reader::{Place, Reader, read_head};
 use crate::separators::newline_at;
 use bohm_log::{Doc, HashSeed};
+use bohm_tree::Edition;
 use std::alloc::Global;
 
 /// The first whole line, and what follows its newline.
-fn split_line(text: &[u8]) -> Option<(&[u8], &[u8])>
+pub fn split_line(text: &[u8]) -> Option<(&[u8], &[u8])>
     ensures none { IfNone result (whole_lines text.now ≡ []) }
     ensures lines { IfSome result
         (λ cut. whole_lines text.now ≡ cut.0.now ∷ whole_lines cut.1.now) }
@@ -27,30 +28,52 @@ fn split_line(text: &[u8]) -> Option<(&[u8], &[u8])>
     }
 }
 
-fn read_text(alloc: Global, seed: HashSeed, text: &[u8]) -> Result<Reader, TextFault>
-    ensures { Reads text.now result }
+/// Reads lines that stand behind an edition's head line, and counts them.
+pub(crate) fn read_lines(
+    alloc: Global,
+    seed: HashSeed,
+    edition: Edition,
+    text: &[u8],
+) -> Result<(Reader, u64), WindowFault>
+    ensures { ReadsBehind edition text.now result }
 {
-    let Some((head, others)) = split_line(text) else {
-        return Err(TextFault::Short);
-    };
-    let Some(edition) = read_head(head) else {
-        return Err(TextFault::Line(1));
-    };
     let mut reader = Reader::new(alloc, seed, edition);
-    let mut rest = others;
-    let mut count: u64 = 1;
+    let mut rest = text;
+    let mut count: u64 = 0;
     'lines: while let Some((line, others)) = split_line(rest) {
         count += 1;
         match reader.feed(line) {
             Ok(()) => {}
-            Err(ReadFault::Bad) => return Err(TextFault::Line(count)),
-            Err(ReadFault::NoMemory) => return Err(TextFault::NoMemory),
+            Err(ReadFault::Bad) => return Err(WindowFault::Line(count)),
+            Err(ReadFault::NoMemory) => return Err(WindowFault::NoMemory),
         }
         rest = others;
     }
     match reader.place {
-        Place::Between if rest.is_empty() => Ok(reader),
-        _ => Err(TextFault::Short),
+        Place::Between if rest.is_empty() => Ok((reader, count)),
+        _ => Err(WindowFault::Open(count)),
+    }
+}
+
+/// Reads a document's text, and counts its lines.
+pub(crate) fn read_text(
+    alloc: Global,
+    seed: HashSeed,
+    text: &[u8],
+) -> Result<(Reader, u64), WindowFault>
+    ensures { ReadsText text.now result }
+{
+    let Some((head, others)) = split_line(text) else {
+        return Err(WindowFault::Open(0));
+    };
+    let Some(edition) = read_head(head) else {
+        return Err(WindowFault::Line(1));
+    };
+    match read_lines(alloc, seed, edition, others) {
+        Ok((reader, lines)) => Ok((reader, lines + 1)),
+        Err(WindowFault::Line(n)) => Err(WindowFault::Line(n + 1)),
+        Err(WindowFault::Open(n)) => Err(WindowFault::Open(n + 1)),
+        Err(WindowFault::NoMemory) => Err(WindowFault::NoMemory),
     }
 }
 
@@ -80,12 +103,13 @@ pub fn parse_with_seed(alloc: Global, seed: HashSeed, text: &[u8]) -> Result<Doc
         → IsFirstBadLine (whole_lines text.now) n }
     ensures short { result ≡ Err TextFault.Short → IsShort text.now }
 {
+    let (reader, _) = read_text(alloc, seed, text)?;
     let Reader {
         edition,
         mut store,
         log,
         ..
-    } = read_text(alloc, seed, text)?;
+    } = reader;
     store.shrink_to_fit();
     match Doc::new(edition, store.into_vec(), log) {
         Some(doc) => Ok(doc),

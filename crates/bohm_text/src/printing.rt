@@ -151,7 +151,8 @@ fn put_set(out: &mut Vec<u8>, word: &[u8], keys: &Keys<'_>) -> Result<(), NoMemo
     Ok(())
 }
 
-fn put_body(out: &mut Vec<u8>, txn: &TxnView<'_>) -> Result<(), NoMemory>
+/// A line for each statement of a transaction's body.
+pub fn put_body(out: &mut Vec<u8>, txn: &TxnView<'_>) -> Result<(), NoMemory>
     ensures { IfOk result
         (λ _. out.new.items ≡ out.old.items ++ lines_text (map stmt_words txn.now.body)) }
 {

@@ -1,34 +1,43 @@
-use Rattle.std.proofs.Common.{length, sym, ◌∙◌}
-use Rattle.bohm_text.specs.Step.{Nothing, begun, progress_of}
-use Rattle.bohm_text.proofs.Lines.{read_none, line_fault, read_more, step-head, step-head_bad, some_left, rest_left, txn_open}
+use Rattle.std.proofs.Common.{◌≡◌, ◌+◌, ◌∷◌, ◌++◌, List, ℕ, length, ap, sym, subst, ◌∙◌, arith, Ok, Err, length-append}
+use Rattle.std.proofs.Sketches.{bounds}
+use Rattle.bohm_text.specs.Cut.{whole_lines}
+use Rattle.bohm_text.specs.Step.{Nothing}
+use Rattle.bohm_text.specs.declared.fault.WindowFault.{WindowFault}
+use Rattle.bohm_text.specs.Parse.{IsFirstFault, IsUnfinished, IsReadAs, ReadsBehind}
+use Rattle.bohm_text.specs.Windows.{headed}
+use Rattle.bohm_text.proofs.Lines.{read_none, line_fault, step-head_bad}
+use Rattle.bohm_text.proofs.Headed.{is_headed, lines_headed}
+use Rattle.bohm_text.proofs.Placed.{lines_short}
 use Rattle.bohm_text.proofs.parsing.read_text.Goals as goal
-use Rattle.bohm_text.proofs.parsing.read_text.Goals.{in_default-place-via-in-Between+else-is_empty, in_default-place-via-in_default-place}
 
 pub returns-in_default-read_head : goal.returns-in_default-read_head
 returns-in_default-read_head c =
     line_fault c.args.text.now 0 c.args.text.now Nothing (read_none c.args.text.now) c.in-Some.head.now c.in-Some.others.now c.in-Some.ensures.lines (step-head_bad c.in-Some.head.now (sym c.read_head.ensures ∙ c.in_default-read_head.is))
 
-pub lines-init : goal.lines-init
-lines-init c =
-    record {
-      so_far = rw c.new-reader.ensures.begun (read_more c.args.text.now 0 c.args.text.now Nothing (read_none c.args.text.now) c.in-Some.head.now c.in-Some.others.now c.in-Some.ensures.lines c.in-Some.ensures.bytes (begun c.in-Some-read_head.edition) (step-head c.in-Some.head.now c.in-Some-read_head.edition (sym c.read_head.ensures ∙ c.in-Some-read_head.is)));
-      ready = c.new-reader.ensures.ready;
-    }
+pub overflow_add-result : goal.overflow_add-result
+overflow_add-result c = omega (arith, bounds, c.in-Ok.ensures.1, lines_short c.in-Some.others.now, ap length c.in-Some.ensures.bytes, length-append c.in-Some.head.now (10 ∷ c.in-Some.others.now))
 
-pub returns-in-Err-Bad : goal.returns-in-Err-Bad
-returns-in-Err-Bad c =
-    line_fault c.args.text.now c.lines.count c.lines.rest.now (progress_of c.lines.reader) c.lines.invariant.so_far c.in-Some-split_line.line.now c.in-Some-split_line.others.now c.in-Some-split_line.ensures.lines (rw c.in-Err-Bad.field-0-is at c.in-Err-Bad.ensures.next)
+pub overflow_add-result-in-Err-Open : goal.overflow_add-result-in-Err-Open
+overflow_add-result-in-Err-Open c =
+    let h = subst (λ (f : WindowFault). ReadsBehind c.in-Some-read_head.edition c.in-Some.others.now (Err f)) c.in-Err-Open.field-0-is c.in-Err-Open.ensures in
+    omega (arith, bounds, h.1, lines_short c.in-Some.others.now, ap length c.in-Some.ensures.bytes, length-append c.in-Some.head.now (10 ∷ c.in-Some.others.now))
 
-pub lines-preserved : goal.lines-preserved
-lines-preserved c =
-    record {
-      so_far = read_more c.args.text.now c.lines.count c.lines.rest.now (progress_of c.lines.reader) c.lines.invariant.so_far c.in-Some-split_line.line.now c.in-Some-split_line.others.now c.in-Some-split_line.ensures.lines c.in-Some-split_line.ensures.bytes (progress_of c.feed.new.self) c.in-Ok.ensures.next;
-      ready = c.in-Ok.ensures.ready;
-    }
+pub returns-in-Ok : goal.returns-in-Ok
+returns-in-Ok c =
+    let same : headed c.in-Some-read_head.edition c.in-Some.others.now ≡ c.args.text.now = is_headed c.in-Some-read_head.edition c.args.text.now c.in-Some.head.now c.in-Some.others.now c.in-Some.ensures.bytes (sym c.read_head.ensures ∙ c.in-Some-read_head.is) in (
+      subst (λ (text : List ℕ). IsReadAs text c.in-Ok.reader) same c.in-Ok.ensures.0,
+      omega (arith, c.in-Ok.ensures.1, lines_headed c.in-Some-read_head.edition c.in-Some.others.now, ap (λ (text : List ℕ). length (whole_lines text)) same),
+    )
 
-pub returns-in_default-place : goal.returns-in_default-place
-returns-in_default-place c =
-    elim c.in_default-place.branch [
-      | in_default-place-via-in-Between+else-is_empty w ↦ rest_left c.args.text.now c.lines.count c.lines.rest.now c.lines.reader c.lines.invariant.so_far c.in_default-split_line.ensures.none (some_left (length c.lines.rest.now) w.if-is_empty.ensures)
-      | in_default-place-via-in_default-place w ↦ txn_open c.args.text.now c.lines.count c.lines.rest.now c.lines.reader c.lines.invariant.so_far c.in_default-split_line.ensures.none w.in_default-place.not-Between
-    ]
+pub returns-in-Err-Line : goal.returns-in-Err-Line
+returns-in-Err-Line c =
+    let same : headed c.in-Some-read_head.edition c.in-Some.others.now ≡ c.args.text.now = is_headed c.in-Some-read_head.edition c.args.text.now c.in-Some.head.now c.in-Some.others.now c.in-Some.ensures.bytes (sym c.read_head.ensures ∙ c.in-Some-read_head.is) in
+    subst (λ (text : List ℕ). IsFirstFault (whole_lines text) (c.in-Err-Line.n + 1)) same (subst (λ (f : WindowFault). ReadsBehind c.in-Some-read_head.edition c.in-Some.others.now (Err f)) c.in-Err-Line.field-0-is c.in-Err-Line.ensures).0
+
+pub returns-in-Err-Open : goal.returns-in-Err-Open
+returns-in-Err-Open c =
+    let same : headed c.in-Some-read_head.edition c.in-Some.others.now ≡ c.args.text.now = is_headed c.in-Some-read_head.edition c.args.text.now c.in-Some.head.now c.in-Some.others.now c.in-Some.ensures.bytes (sym c.read_head.ensures ∙ c.in-Some-read_head.is) in
+    let h = subst (λ (f : WindowFault). ReadsBehind c.in-Some-read_head.edition c.in-Some.others.now (Err f)) c.in-Err-Open.field-0-is c.in-Err-Open.ensures in (
+      subst IsUnfinished same h.0,
+      omega (arith, h.1, lines_headed c.in-Some-read_head.edition c.in-Some.others.now, ap (λ (text : List ℕ). length (whole_lines text)) same),
+    )

@@ -1,0 +1,36 @@
+-- What reading a procedure's text gives.
+use Rattle.std.specs.Prelude.{◌≡◌, ◌≢◌, ℕ, ◌-◌, ◌<◌, ◌≤◌, List, take, length, Option, Some, None, Result, Ok, Err, IsSome}
+use Rattle.bohm_tree.specs.Procedure.{Procedure}
+use Rattle.bohm_text.specs.declared.fault.TextFault.{TextFault}
+use Rattle.bohm_text.specs.declared.fault.TextFault.TheVariants.{Line, Short, NoMemory}
+use Rattle.bohm_text.specs.declared.procedures.ParamPlace.TheVariants as places
+use Rattle.bohm_text.specs.declared.procedures.ProcedureReader.{ProcedureReader}
+use Rattle.bohm_text.specs.Print.{text_of}
+use Rattle.bohm_text.specs.Cut.{whole_lines}
+use Rattle.bohm_text.specs.ProcedureText.{Stage, Nothing, Done, stages}
+use Rattle.bohm_text.specs.ProcedureReading.{stage_of, IsReady}
+
+-- a whole line stands in no beginning of a procedure
+pub record IsFirstFault (lines : List (List ℕ)) (n : ℕ) : Type 0 where
+  pub counted : 0 < n
+  pub within : n ≤ length lines
+  pub before : IsSome (stages Nothing (take (n - 1) lines))
+  pub at : stages Nothing (take n lines) ≡ None
+
+-- the whole lines begin a procedure, and the text is none
+pub record IsUnfinished (text : List ℕ) : Type 0 where
+  pub stage : Stage
+  pub read : stages Nothing (whole_lines text) ≡ Some stage
+  pub unfinished : (p : Procedure) → stage ≡ Done p → text_of (whole_lines text) ≢ text
+
+pub record IsRead (text : List ℕ) (r : ProcedureReader) : Type 0 where
+  pub read : stages Nothing (whole_lines text) ≡ Some (stage_of r)
+  pub done : r.place ≡ places.Done
+  pub whole : text_of (whole_lines text) ≡ text
+  pub ready : IsReady r
+
+abbrev pub Reads : List ℕ → Result ProcedureReader TextFault → Type 0
+Reads text (Ok r) = IsRead text r
+Reads text (Err (Line n)) = IsFirstFault (whole_lines text) n
+Reads text (Err Short) = IsUnfinished text
+Reads text (Err NoMemory) = Unit {0}

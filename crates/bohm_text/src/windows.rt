@@ -1,0 +1,84 @@
+//! Reading a text in windows: the first one has the head, the store and perhaps transactions, and each
+//! later one begins with the line `txn`.
+
+ghost use Rattle.bohm_text.specs.Windows.{IsWindow};
+ghost use Rattle.bohm_text.specs.Windowing.{ReadsFirst, ReadsWindow};
+
+use crate::fault::WindowFault;
+use crate::parsing::{read_lines, read_text};
+use crate::reader::Reader;
+use bohm_log::{HashSeed, Log};
+use bohm_tree::{Edition, Key, Value};
+use std::alloc::Global;
+
+/// The transactions of a window.
+#[derive(Drop)]
+pub struct Chunk {
+    pub log: Log<HashSeed>,
+    /// How many lines the window has.
+    pub lines: u64,
+}
+
+/// What a text's first window has: the edition, the starting store, and the transactions so far.
+#[derive(Drop)]
+pub struct FirstWindow {
+    pub edition: Edition,
+    /// The entries of the store, in the order in which they were given.
+    pub store: Vec<(Key, Value)>,
+    /// The transactions, and how many lines the window has.
+    pub chunk: Chunk,
+}
+
+/// Reads the first window of a text, which is a document of its own. Its time and memory grow with
+/// the length of the window. Names are hashed from the seed.
+///
+/// # Errors
+///
+/// `Line` and `Open` say where the window stops being the beginning of a document. `NoMemory` says
+/// that a growth was refused.
+pub fn parse_first_window(
+    alloc: Global,
+    seed: HashSeed,
+    text: &[u8],
+) -> Result<FirstWindow, WindowFault>
+    ensures { ReadsFirst text.now result }
+{
+    let (reader, lines) = read_text(alloc, seed, text)?;
+    let Reader {
+        edition,
+        mut store,
+        log,
+        ..
+    } = reader;
+    store.shrink_to_fit();
+    Ok(FirstWindow {
+        edition,
+        store: store.into_vec(),
+        chunk: Chunk { log, lines },
+    })
+}
+
+/// Reads a window that stands behind others of a text of this edition, and begins with the line
+/// `txn`. What it reads doesn't depend on the windows before it, so windows are read in any order.
+/// Its time and memory grow with the length of the window. Names are hashed from the seed, and are
+/// numbered for this window alone.
+///
+/// # Errors
+///
+/// `Line` and `Open` say where the window stops being the beginning of transactions. `NoMemory` says
+/// that a growth was refused.
+pub fn parse_window(
+    alloc: Global,
+    seed: HashSeed,
+    edition: Edition,
+    text: &[u8],
+) -> Result<Chunk, WindowFault>
+    requires { IsWindow text.now }
+    ensures { ReadsWindow edition text.now result }
+{
+    let (reader, lines) = read_lines(alloc, seed, edition, text)?;
+    Ok(Chunk {
+        log: reader.log,
+        lines,
+    })
+}
