@@ -1,0 +1,5 @@
+mod CutLaws
+mod WaveLaws
+mod ReadingLaws
+mod SegmentLaws
+pub mod ForCallers

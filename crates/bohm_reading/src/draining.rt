@@ -1,0 +1,28 @@
+//! What a refused text has left.
+
+ghost use Rattle.std.specs.Prelude.{◌≤◌};
+ghost use Rattle.bohm_reading.specs.Reading.{Drains};
+
+use crate::fault::ReadingFault;
+use crate::source::{LONGEST_TEXT, READ_SIZE};
+use std::io::Read;
+
+/// Reads to the reader's end, of a text that is refused so: a failed read and a text that is too
+/// long come first.
+pub(crate) fn drain<R: Read>(reader: &mut R, total: usize, fault: ReadingFault) -> ReadingFault
+    requires { total ≤ LONGEST_TEXT }
+    ensures { Drains (R.remaining reader.old) (R.remaining reader.new) total fault result }
+{
+    let mut buffer = [0u8; READ_SIZE];
+    let mut total = total;
+    'reads: while total <= LONGEST_TEXT {
+        let Ok(count) = reader.read(&mut buffer) else {
+            return ReadingFault::Read;
+        };
+        if count == 0 {
+            return fault;
+        }
+        total += count;
+    }
+    ReadingFault::TooLong
+}

@@ -1,0 +1,120 @@
+//! The bytes of a text, window after window.
+
+ghost use Rattle.std.specs.Prelude.{◌≡◌, ◌+◌, ◌++◌, ◌<◌, ◌≤◌, ℕ, List, [], length, take, drop, IfOk, IfErr, Err};
+ghost use Rattle.std.specs.Io.KnownBytes.{Consumes};
+ghost use Rattle.bohm_reading.specs.Pieces.{IsPiece};
+ghost use Rattle.bohm_reading.specs.Reading.{IsSourceFault};
+
+use crate::cutting::{OPENING, cut_at};
+use crate::fault::ReadingFault;
+use bohm_tree::NoMemory;
+use std::alloc::Global;
+use std::io::Read;
+
+/// The most bytes that a text may have.
+pub const LONGEST_TEXT: usize = 67_108_864;
+
+/// How many bytes one read asks for.
+pub(crate) const READ_SIZE: usize = 65_536;
+
+/// The bytes of a newline and `txn`: the beginning of a cut that the next read may end.
+const HALF_CUT: usize = 4;
+
+/// A window, and what was read behind it.
+#[derive(Drop)]
+pub(crate) struct Piece {
+    pub text: Vec<u8>,
+    pub rest: Vec<u8>,
+    /// How many bytes came so far.
+    pub total: usize,
+    /// Whether the reader is at its end: then nothing is left.
+    pub ended: bool,
+}
+
+/// An empty buffer: one that served before, if there is any.
+fn buffer_from(alloc: Global, spare: &mut Vec<Vec<u8>>) -> Vec<u8>
+    ensures { result.items ≡ [] }
+{
+    match spare.pop() {
+        Some(mut buffer) => {
+            buffer.clear();
+            buffer
+        }
+        None => Vec::new(alloc),
+    }
+}
+
+/// The text up to a place, and from there on in a buffer of its own.
+fn divided(
+    alloc: Global,
+    spare: &mut Vec<Vec<u8>>,
+    mut text: Vec<u8>,
+    at: usize,
+    total: usize,
+    ended: bool,
+) -> Result<Piece, NoMemory>
+    requires { at ≤ length text.items }
+    ensures same { IfOk result (λ p. p.text.items ++ p.rest.items ≡ text.items) }
+    ensures text { IfOk result (λ p. p.text.items ≡ take at text.items) }
+    ensures rest { IfOk result (λ p. p.rest.items ≡ drop at text.items) }
+    ensures total { IfOk result (λ p. p.total ≡ total) }
+    ensures ended { IfOk result (λ p. p.ended ≡ ended) }
+{
+    let mut rest = buffer_from(alloc, spare);
+    rest.extend_from_slice(&text.as_slice()[at..])?;
+    text.truncate(at);
+    Ok(Piece {
+        text,
+        rest,
+        total,
+        ended,
+    })
+}
+
+/// The next window, which begins with what was read already: once it has so many bytes it is cut
+/// before its last line `txn`, and where it has none behind its first line, it goes on. A cut is
+/// sought in what came last alone.
+pub(crate) fn next_piece<R: Read>(
+    alloc: Global,
+    reader: &mut R,
+    spare: &mut Vec<Vec<u8>>,
+    begun: Vec<u8>,
+    total: usize,
+    size: usize,
+) -> Result<Piece, ReadingFault>
+    requires { total ≤ LONGEST_TEXT }
+    ensures piece { IfOk result
+        (IsPiece (R.remaining reader.old) (R.remaining reader.new) begun.items total) }
+    ensures long { result ≡ Err ReadingFault.TooLong → (more : List ℕ)
+        × (LONGEST_TEXT < total + length more)
+        × Consumes (R.remaining reader.old) (R.remaining reader.new) more }
+    ensures refusals { IfErr result IsSourceFault }
+{
+    let mut text = begun;
+    let mut total = total;
+    // How far no cut was found.
+    let mut seen = 0usize;
+    text.reserve(size.min(LONGEST_TEXT) + READ_SIZE)?;
+    let mut buffer = [0u8; READ_SIZE];
+    // No more than a window's size, so that small windows are small.
+    let part = &mut buffer[..size.clamp(1, READ_SIZE)];
+    'reads: while total <= LONGEST_TEXT {
+        if text.len() >= size {
+            let from = if seen < OPENING { OPENING } else { seen };
+            if let Some(at) = cut_at(text.as_slice(), from) {
+                return Ok(divided(alloc, spare, text, at, total, false)?);
+            }
+            seen = text.len().saturating_sub(HALF_CUT);
+        }
+        let Ok(count) = reader.read(part) else {
+            return Err(ReadingFault::Read);
+        };
+        if count == 0 {
+            let at = text.len();
+            return Ok(divided(alloc, spare, text, at, total, true)?);
+        }
+        text.extend_from_slice(&part[..count])?;
+        total += count;
+    }
+    Err(ReadingFault::TooLong)
+}
