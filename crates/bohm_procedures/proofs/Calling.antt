@@ -1,0 +1,36 @@
+-- A procedure's own instance is checked alone.
+use Rattle.std.proofs.Common.{◌≡◌, ℕ, ◌<◌, Bool, true, false, List, [], ◌∷◌, ◌++◌, length, Some, None, Ok, Err, refl, sym, ap, ◌∙◌, subst, arith, ◌≤◌}
+use Rattle.std.specs.Prelude.{ℤ, Option, Result, OnOk, OnErr, is_err}
+use Rattle.std.specs.List.{list_all}
+use Rattle.std.proofs.lemmas.Option.{same_Some}
+use Rattle.bohm_tree.specs.declared.edition.Edition.{Edition}
+use Rattle.bohm_tree.specs.declared.edition.Edition.TheVariants.{One, Two}
+use Rattle.bohm_tree.specs.Txn.{Txn}
+use Rattle.bohm_tree.specs.Document.{Document, same_edition, in_edition, document_of}
+use Rattle.bohm_txn.specs.Faulty.{alone}
+use Rattle.bohm_text.specs.ProcedureReading.{let_zero}
+use Rattle.bohm_procedures.specs.Accepting.{BeginsWithLets}
+use Rattle.std.proofs.lemmas.List.{length-map, length-take}
+
+same_self : (e : Edition) → same_edition e e ≡ true
+same_self One = refl
+same_self Two = refl
+
+one_document : (t : Txn) → document_of t.edition [] (t ∷ []) ≡ Some (alone t)
+one_document t = rw (same_self t.edition) refl
+
+pub checked_alone : (e : Edition) (t : Txn) (store : List (List ℕ × ℤ)) (log : List Txn) (d : Document) → t.edition ≡ e → store ≡ []
+    → log ≡ t ∷ [] → Some d ≡ document_of e store log → d ≡ alone t
+checked_alone e t store log d same none one made =
+    same_Some d (alone t) (made ∙ (λ j. document_of (sym same j) (none j) (one j)) ∙ one_document t)
+
+pub closed_alone : {X F : Type 0} (r : Result X F) (old new : List Txn) (t : Txn) → is_err r ≡ false → OnOk r (new ≡ old ++ t ∷ []) → old ≡ [] → new ≡ t ∷ []
+closed_alone (Ok x) old new t went ok none = ok ∙ ap (λ ts. ts ++ t ∷ []) none
+closed_alone (Err x) old new t went ok none = absurd cc
+
+pub lets_within : (t : Txn) (values : List (List ℕ)) → BeginsWithLets t values → length values ≤ length t.body
+lets_within t values e = omega (arith, sym (length-map values let_zero), ap length e, length-take (length values) t.body)
+
+pub own_alone : {X F : Type 0} (e : Edition) (t : Txn) (r : Result X F) (old new : List Txn) (store : List (List ℕ × ℤ)) (d : Document)
+    → is_err r ≡ false → OnOk r (new ≡ old ++ t ∷ []) → old ≡ [] → store ≡ [] → t.edition ≡ e → Some d ≡ document_of e store new → d ≡ alone t
+own_alone e t r old new store d went ok none empty same made = checked_alone e t store new d same empty (closed_alone r old new t went ok none) made

@@ -1,0 +1,110 @@
+//! Lists of calls.
+
+ghost use Rattle.std.specs.Prelude.{◌≡◌, ◌↔◌, true, IfOk, OnOk, OnErr, length};
+ghost use Rattle.bohm_tree.specs.Appending.{empty_document, with_txn};
+ghost use Rattle.bohm_tree.specs.Procedure.{instance};
+ghost use Rattle.bohm_text.specs.Print.{print_doc};
+ghost use Rattle.bohm_procedures.specs.Accepting.{Takes};
+
+use crate::procedure::Procedure;
+use bohm_log::{CallBuffer, HashSeed};
+use bohm_text::print_doc;
+use bohm_tree::{Edition, Key, MOST_TXNS, NoMemory, Value};
+use bohm_txn::Checked;
+use std::alloc::Global;
+use std::marker::Model;
+
+/// Instances of procedures one after another, which contracts see as the document of them over the
+/// empty store.
+#[derive(Drop)]
+pub struct Calls {
+    segment: Checked,
+    buffer: CallBuffer,
+}
+
+impl Model for Calls {
+    ghost use Rattle.bohm_tree.specs.Document.{Document};
+
+    ghost Value = { Document };
+
+    ghost view = { λ c. c.segment };
+}
+
+impl Calls {
+    /// No calls. The seed is that of the table in which the keys' numbers are found. It takes no
+    /// memory.
+    pub fn new(alloc: Global, seed: HashSeed, edition: Edition) -> Calls
+        ensures { result ≡ empty_document edition }
+    {
+        Calls {
+            segment: Checked::empty(alloc, seed, edition),
+            buffer: CallBuffer::new(alloc),
+        }
+    }
+
+    /// Whether a call can be added: the numbers of arguments are those of the procedure's
+    /// parameters, its edition is that of the calls, and there are fewer than 1,000,000 of them.
+    pub fn takes(&self, procedure: &Procedure, keys: &[Key], values: &[Value]) -> bool
+        ensures { (result ≡ true) ↔ Takes self.now procedure.now keys.now values.now }
+    {
+        keys.len() == procedure.keys()
+            && values.len() == procedure.values()
+            && procedure.edition() == self.segment.edition()
+            && self.len() < MOST_TXNS
+    }
+
+    /// Adds the instance of a procedure. `NoMemory` where an allocation fails or 32 bits of a
+    /// column are full: the calls are as they were.
+    ///
+    /// Its time grows with what the instance holds, and with the square of the number of declared
+    /// keys, of which there are at most 32. No text is made and none is read.
+    pub fn push(
+        &mut self,
+        procedure: &Procedure,
+        keys: &[Key],
+        values: &[Value],
+    ) -> Result<(), NoMemory>
+        requires { Takes self.old procedure.now keys.now values.now }
+        ensures ok { OnOk result
+            (self.new ≡ with_txn self.old (instance procedure.now keys.now values.now)) }
+        ensures err { OnErr result (self.new ≡ self.old) }
+    {
+        let template = procedure.template();
+        match self
+            .segment
+            .push_call(template, &mut self.buffer, keys, values)
+        {
+            Ok(()) => Ok(()),
+            Err(_) => Err(NoMemory),
+        }
+    }
+
+    /// How many calls there are.
+    pub fn len(&self) -> usize
+        ensures { result ≡ length self.now.log }
+    {
+        self.segment.log().len()
+    }
+
+    /// Whether there are none.
+    pub fn is_empty(&self) -> bool
+        ensures { (result ≡ true) ↔ (length self.now.log ≡ 0) }
+    {
+        self.len() == 0
+    }
+
+    /// The text of the log of the instances, without a store. Its time and memory grow with the
+    /// length of the text.
+    pub fn print(&self, alloc: Global) -> Result<Vec<u8>, NoMemory>
+        ensures { IfOk result (λ text. text.items ≡ print_doc self.now) }
+    {
+        print_doc(alloc, self.segment.doc())
+    }
+
+    /// The log of the instances, which a machine can run.
+    pub fn segment(&self) -> &Checked
+        ensures { result.now ≡ self.now }
+    {
+        &self.segment
+    }
+}

@@ -1,0 +1,18 @@
+//! Why a procedure is refused.
+
+use bohm_txn::CheckFault;
+
+/// Why a text gives no procedure.
+#[derive(Clone, Copy, Debug, PartialEq, Eq)]
+pub enum ProcedureFault {
+    /// The whole lines before this one begin a procedure's text, and with this one they do not.
+    /// Lines count from 1.
+    Line(u64),
+    /// The whole lines begin a procedure's text, but the text is no procedure's.
+    Short,
+    /// The check's fault of the procedure's own instance. Its statements count from the `let` of
+    /// the first value on.
+    Check(CheckFault),
+    /// An allocation failed.
+    NoMemory,
+}

@@ -1,0 +1,11 @@
+//! Procedures: transactions with parameters, read and checked once, and lists of their calls.
+#![tactic(auto)]
+
+mod calls;
+mod fault;
+pub mod laws;
+mod procedure;
+
+pub use calls::Calls;
+pub use fault::ProcedureFault;
+pub use procedure::Procedure;

@@ -1,0 +1,152 @@
+//! Procedures that were accepted.
+
+ghost use Rattle.std.specs.Prelude.{◌≡◌, ◌≢◌, ℕ, Err, IfOk, length};
+ghost use Rattle.bohm_tree.specs.Procedure.{procedure_with};
+ghost use Rattle.bohm_text.specs.Cut.{whole_lines};
+ghost use Rattle.bohm_text.specs.ProcedureFaults.{IsFirstBadLine, IsShort};
+ghost use Rattle.bohm_text.specs.ProcedureText.{IsProcedure, print_procedure};
+ghost use Rattle.bohm_txn.specs.Faulty.{IsFirstFault, alone};
+ghost use Rattle.bohm_txn.specs.declared.fault.CheckFault.{CheckFault};
+ghost use Rattle.bohm_procedures.specs.Accepting.{BeginsWithLets, IsAccepted, IsRefusedBy};
+ghost use Rattle.bohm_procedures.specs.declared.fault.ProcedureFault.TheVariants as faults;
+
+use crate::fault::ProcedureFault;
+use bohm_log::{Doc, Draft, HashSeed, Log, Template};
+use bohm_text::{ProcedureReader, TextFault, parse_procedure};
+use bohm_tree::{Edition, Key, NoMemory};
+use bohm_txn::{CheckFault, check};
+use std::alloc::Global;
+use std::marker::Model;
+
+/// An accepted procedure. Its text was read, and its own instance is well formed, so each of its
+/// instances is.
+#[derive(Drop)]
+pub struct Procedure {
+    template: Template,
+    text: Vec<u8>,
+}
+
+impl Model for Procedure {
+    ghost use Rattle.std.specs.Prelude.{◌≡◌};
+    ghost use Rattle.bohm_tree.specs.Procedure.{Procedure};
+    ghost use Rattle.bohm_text.specs.ProcedureText.{print_procedure};
+    ghost use Rattle.bohm_procedures.specs.Accepting.{IsAccepted};
+
+    ghost Value = { Procedure };
+
+    ghost view = { λ p. p.template };
+
+    ghost invariant = { λ p. IsAccepted p.template × (print_procedure p.template ≡ p.text.items) };
+}
+
+impl Procedure {
+    /// The procedure of this text, if its own instance is well formed. The faults: the first bad
+    /// line, else `Short`, else the check's first fault of the own instance. `NoMemory` also where
+    /// 32 bits of a column are full.
+    ///
+    /// Its time grows with the length of the text, and with the number of parameters times that of
+    /// the parameters and declared names. It keeps the text.
+    pub fn read(alloc: Global, seed: HashSeed, text: &[u8]) -> Result<Procedure, ProcedureFault>
+        ensures found { IfOk result (λ p. print_procedure p ≡ text.now) }
+        ensures sound { IfOk result IsProcedure }
+        ensures accepted { IfOk result IsAccepted }
+        ensures line { (n : ℕ) → result ≡ Err (faults.Line n)
+            → IsFirstBadLine (whole_lines text.now) n }
+        ensures short { result ≡ Err faults.Short → IsShort text.now }
+        ensures check { (f : CheckFault) → result ≡ Err (faults.Check f)
+            → IsRefusedBy text.now f }
+    {
+        let kept = match Vec::from_slice(alloc, text) {
+            Ok(kept) => kept,
+            Err(_) => return Err(ProcedureFault::NoMemory),
+        };
+        match parse_procedure(alloc, seed, text) {
+            Err(TextFault::Line(n)) => Err(ProcedureFault::Line(n)),
+            Err(TextFault::Short) => Err(ProcedureFault::Short),
+            Err(TextFault::NoMemory) => Err(ProcedureFault::NoMemory),
+            Ok(reader) => {
+                let ProcedureReader {
+                    edition,
+                    keys,
+                    values,
+                    draft,
+                    ..
+                } = reader;
+                let template = accept(alloc, seed, edition, draft, keys, values.as_slice())?;
+                Ok(Procedure {
+                    template,
+                    text: kept,
+                })
+            }
+        }
+    }
+
+    /// How many key parameters it has: at most 32.
+    pub fn keys(&self) -> usize
+        ensures { result ≡ length self.now.keys }
+    {
+        self.template.keys_len()
+    }
+
+    /// How many value parameters it has: at most 64.
+    pub fn values(&self) -> usize
+        ensures { result ≡ length self.now.values }
+    {
+        self.template.values_len()
+    }
+
+    /// The edition whose meaning it has.
+    pub fn edition(&self) -> Edition
+        ensures { result ≡ self.now.edition }
+    {
+        self.template.edition()
+    }
+
+    /// Its text.
+    pub fn print(&self, alloc: Global) -> Result<Vec<u8>, NoMemory>
+        ensures { IfOk result (λ text. text.items ≡ print_procedure self.now) }
+    {
+        Ok(Vec::from_slice(alloc, self.text.as_slice())?)
+    }
+
+    pub(crate) fn template(&self) -> &Template
+        ensures same { result.now ≡ self.now }
+        ensures accepted { IsAccepted result.now }
+    {
+        &self.template
+    }
+}
+
+/// The procedure whose own instance was read, if that is well formed.
+fn accept(
+    alloc: Global,
+    seed: HashSeed,
+    edition: Edition,
+    draft: Draft<HashSeed>,
+    keys: Vec<Key>,
+    values: &[Key],
+) -> Result<Template, ProcedureFault>
+    requires edition { draft.txn.edition ≡ edition }
+    requires lets { BeginsWithLets draft.txn values.now }
+    ensures ok { IfOk result (λ p. p ≡ procedure_with draft.txn keys.items values.now) }
+    ensures accepted { IfOk result IsAccepted }
+    ensures line { (n : ℕ) → result ≢ Err (faults.Line n) }
+    ensures short { result ≢ Err faults.Short }
+    ensures fault { (f : CheckFault) → result ≡ Err (faults.Check f)
+        → IsFirstFault (alone draft.txn) f }
+{
+    let mut log = Log::new(alloc, seed);
+    if log.close(&draft).is_err() {
+        return Err(ProcedureFault::NoMemory);
+    }
+    let Some(doc) = Doc::new(edition, Vec::new(alloc), log) else {
+        return Err(ProcedureFault::NoMemory);
+    };
+    match check(doc) {
+        Err(fault) => Err(ProcedureFault::Check(fault)),
+        Ok(_) => match Template::new(alloc, draft, keys, values) {
+            Ok(template) => Ok(template),
+            Err(_) => Err(ProcedureFault::NoMemory),
+        },
+    }
+}
