@@ -7,7 +7,7 @@ use Rattle.bohm_txn.specs.Faulty.{IsWellFormedTxn}
 use Rattle.bohm_txn.specs.Meaning.{Look}
 use Rattle.bohm_txn.specs.Serial.{state}
 use Rattle.bohm_store.specs.declared.version.Version.{Version}
-use Rattle.bohm_store.specs.declared.version.Write.{Write}
+use Rattle.bohm_store.specs.Versions.{KeyedVersion}
 use Rattle.bohm_store.specs.Versions.{Rises, Timeline, cell_at, kept_versions, past, produced_versions, versions}
 use Rattle.bohm_store.specs.Chains.{UpTo, versions_of_writes}
 use Rattle.bohm_store.specs.Nexts.{Agree, IsSettled, IsSettledKept}
@@ -17,8 +17,8 @@ use Rattle.bohm_store.proofs.ProducedVersions.{Rises-append, produced_from, prod
 use Rattle.bohm_store.proofs.WrittenVersions.{made_written}
 
 -- the writes make what the transactions produce over a look that agrees
-pub made_produced : (u : ℕ) (look other : Look) (txns : List Txn) (ws : List Write) (k : List ℕ) → All IsWellFormedTxn txns → Agree txns look other → ws ≡ all_txn_writes u look txns → versions_of_writes ws k ≡ produced_versions u other txns k
-made_produced u look other txns ws k well same is = ap (λ (xs : List Write). versions_of_writes xs k) is ∙ made_written u look txns k well ∙ produced_same u look other txns k well same
+pub made_produced : (u : ℕ) (look other : Look) (txns : List Txn) (ws : List KeyedVersion) (k : List ℕ) → All IsWellFormedTxn txns → Agree txns look other → ws ≡ all_txn_writes u look txns → versions_of_writes ws k ≡ produced_versions u other txns k
+made_produced u look other txns ws k well same is = ap (λ (xs : List KeyedVersion). versions_of_writes xs k) is ∙ made_written u look txns k well ∙ produced_same u look other txns k well same
 
 pub settled_low : (top : ℕ) (look : Look) (txns : List Txn) (k : List ℕ) (old new : List Version) → new ≡ old ++ produced_versions (top + 1) look txns k → UpTo top old → UpTo (top + length txns) new
 settled_low top look txns k old new is low =

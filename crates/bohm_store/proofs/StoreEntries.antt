@@ -10,18 +10,9 @@ use Rattle.bohm_tree.specs.declared.cell.Cell.TheVariants.{Absent, Present}
 use Rattle.bohm_txn.specs.Meaning.{number_in}
 use Rattle.bohm_txn.specs.Stores.{cell_of, cell_in, store_of}
 use Rattle.bohm_store.specs.declared.version.Version.{Version}
-use Rattle.bohm_store.specs.declared.chain.Chain.{Chain}
 use Rattle.bohm_store.specs.Versions.{cell_at}
-use Rattle.bohm_store.specs.Chains.{items, table, cell_entry, chain_entries_at, timeline_entries_at}
+use Rattle.bohm_store.specs.Chains.{cell_entry, timeline_entries_at}
 use Rattle.bohm_txn.proofs.ForCallers.{get-store_of}
-
-pub picks_table : (ts : ℕ) (es : List (List ℕ × Chain)) → chain_entries_at ts es ≡ timeline_entries_at ts (table es)
-picks_table ts [] = refl
-picks_table ts (e ∷ es) = ap (cell_entry e.0 (cell_at ts (items e.1) Absent)) (picks_table ts es)
-
-pub keys_table : (es : List (List ℕ × Chain)) → keys_of (table es) ≡ keys_of es
-keys_table [] = refl
-keys_table (e ∷ es) = ap (λ ks. e.0 ∷ ks) (keys_table es)
 
 -- ---- the keys differ
 

@@ -15,12 +15,12 @@ use Rattle.bohm_txn.specs.Serial.{after, state}
 use Rattle.bohm_txn.proofs.ForCallers.{drop_at, next, rising_writes}
 use Rattle.bohm_place.specs.Shares.{AreDistinct}
 use Rattle.bohm_place.proofs.ForCallers.{AreDistinct-rising}
-use Rattle.bohm_store.specs.declared.version.Write.{Write}
+use Rattle.bohm_store.specs.Versions.{KeyedVersion}
 use Rattle.bohm_store.specs.Versions.{produced_versions}
 use Rattle.bohm_store.specs.Chains.{versions_of_writes, Climb}
 use Rattle.bohm_store.specs.Writes.{txn_writes, all_txn_writes}
 
-made-append : (xs ys : List Write) (k : List ℕ) → versions_of_writes (xs ++ ys) k ≡ versions_of_writes xs k ++ versions_of_writes ys k
+made-append : (xs ys : List KeyedVersion) (k : List ℕ) → versions_of_writes (xs ++ ys) k ≡ versions_of_writes xs k ++ versions_of_writes ys k
 made-append [] ys k = refl
 made-append (x ∷ xs) ys k = rw (made-append xs ys k) (sym (append_assoc (if bytes_eq x.key k then record { begin = x.begin; cell = x.cell } ∷ [] else []) (versions_of_writes xs k) (versions_of_writes ys k)))
 
@@ -50,7 +50,7 @@ made_written u look (t ∷ txns) k well =
     made-append (txn_writes u (after look t) t.writes) (all_txn_writes (u + 1) (after look t) txns) k
     ∙ rw (made_once u (after look t) t.writes k (AreDistinct-rising t.writes (rising_writes t (All-head IsWellFormedTxn t txns well))), made_written (u + 1) (after look t) txns k (All-tail IsWellFormedTxn t txns well)) refl
 
-climb_behind : (n u top : ℕ) (look : Look) (ks : List (List ℕ)) (ws : List Write) → n ≤ u → u ≤ top → ((m : ℕ) → m ≤ u → Climb m ws top) → Climb n (txn_writes u look ks ++ ws) top
+climb_behind : (n u top : ℕ) (look : Look) (ks : List (List ℕ)) (ws : List KeyedVersion) → n ≤ u → u ≤ top → ((m : ℕ) → m ≤ u → Climb m ws top) → Climb n (txn_writes u look ks ++ ws) top
 climb_behind n u top look [] ws low high more = more n low
 climb_behind n u top look (k ∷ ks) ws low high more = (low, climb_behind u u top look ks ws (omega arith) high more)
 
@@ -66,10 +66,10 @@ written_more u look ks i d inside = rw (take_more ks i d inside) (pushed (take i
   where
     pushed : (xs : List (List ℕ)) (k : List ℕ) → txn_writes u look (xs ++ k ∷ []) ≡ txn_writes u look xs ++ record { begin = u; key = k; cell = look k } ∷ []
     pushed [] k = refl
-    pushed (x ∷ xs) k = ap (λ (ws : List Write). record { begin = u; key = x; cell = look x } ∷ ws) (pushed xs k)
+    pushed (x ∷ xs) k = ap (λ (ws : List KeyedVersion). record { begin = u; key = x; cell = look x } ∷ ws) (pushed xs k)
 
 -- one transaction more
-pub written_step : (base : Look) (txns : List Txn) (first i : ℕ) (x : Txn) (out whole : List Write) → slice_get txns i ≡ Some x
+pub written_step : (base : Look) (txns : List Txn) (first i : ℕ) (x : Txn) (out whole : List KeyedVersion) → slice_get txns i ≡ Some x
     → out ++ all_txn_writes (first + i) (state base txns i) (drop i txns) ≡ whole
     → (out ++ txn_writes (first + i) (state base txns (i + 1)) x.writes) ++ all_txn_writes (first + (i + 1)) (state base txns (i + 1)) (drop (i + 1) txns) ≡ whole
 written_step base txns first i x out whole here h =
@@ -82,7 +82,7 @@ pub all_at : {A : Type 0} (P : A → Type 0) (xs : List A) (i : ℕ) (x : A) →
 all_at P xs i x h e = subst P (get_or_from_slice_get xs i x x e) (h i x (slice_get_within xs i x e))
 
 -- one key more
-pub written_push : (u : ℕ) (look : Look) (ks : List (List ℕ)) (i : ℕ) (k : List ℕ) (c : Cell) (out : List Write) → slice_get ks i ≡ Some k → look k ≡ c
+pub written_push : (u : ℕ) (look : Look) (ks : List (List ℕ)) (i : ℕ) (k : List ℕ) (c : Cell) (out : List KeyedVersion) → slice_get ks i ≡ Some k → look k ≡ c
     → (out ++ txn_writes u look (take i ks)) ++ record { begin = u; key = k; cell = c } ∷ [] ≡ out ++ txn_writes u look (take (i + 1) ks)
 written_push u look ks i k c out here is =
     let same : get_or ks i k ≡ k = get_or_from_slice_get ks i k k here in

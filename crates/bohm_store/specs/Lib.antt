@@ -1,4 +1,6 @@
 pub mod Versions
 pub mod Chains
+pub mod Held
+pub mod Numbered
 pub mod Writes
 pub mod Nexts

@@ -1,22 +1,50 @@
--- The list of the writes of transactions that run one after another.
-use Rattle.std.specs.Prelude.{◌≡◌, ℕ, ◌+◌, ◌≤◌, List, [], ◌∷◌, ◌++◌, length, Some}
+-- The list of the writes of transactions that run one after another, by keys and by the numbers of keys.
+use Rattle.std.specs.Prelude.{◌≡◌, ℕ, ◌+◌, ◌<◌, ◌≤◌, ◌==◌, All, List, [], ◌∷◌, ◌++◌, length, map, Some, if◌then◌else◌}
 use Rattle.bohm_tree.specs.Txn.{Txn}
 use Rattle.bohm_txn.specs.Meaning.{Look}
 use Rattle.bohm_txn.specs.Serial.{after}
+use Rattle.bohm_log.specs.Parts.{name_at}
 use Rattle.bohm_board.specs.declared.batch.Batch.{Batch}
-use Rattle.bohm_board.specs.Batches.{txn_at}
-use Rattle.bohm_store.specs.declared.version.Write.{Write}
+use Rattle.bohm_board.specs.Batches.{base_of, first_of, txn_at, txns_of}
+use Rattle.bohm_store.specs.declared.version.Version.{Version}
+use Rattle.bohm_store.specs.declared.numbered_write.NumberedWrite.{NumberedWrite}
+use Rattle.bohm_store.specs.Versions.{KeyedVersion}
 
 -- of the transaction at u, which leaves this look
-abbrev pub txn_writes : ℕ → Look → List (List ℕ) → List Write
+abbrev pub txn_writes : ℕ → Look → List (List ℕ) → List KeyedVersion
 txn_writes u look [] = []
 txn_writes u look (k ∷ ks) = record { begin = u; key = k; cell = look k } ∷ txn_writes u look ks
 
 -- of all, the first of which is at u and sees this look
-abbrev pub all_txn_writes : ℕ → Look → List Txn → List Write
+abbrev pub all_txn_writes : ℕ → Look → List Txn → List KeyedVersion
 all_txn_writes u look [] = []
 all_txn_writes u look (t ∷ ts) = txn_writes u (after look t) t.writes ++ all_txn_writes (u + 1) (after look t) ts
 
 -- the transaction with the timestamp t declares to write these keys
 abbrev pub IsTxnWriting : Batch → ℕ → List (List ℕ) → Type 0
 IsTxnWriting b t keys = (x : Txn) × (txn_at b t ≡ Some x) × (x.writes ≡ keys) × (length keys ≤ 16)
+
+-- ---- by the numbers of keys
+
+-- the same with its key
+abbrev pub named_write : List (List ℕ) → NumberedWrite → KeyedVersion
+named_write names w = record { begin = w.version.begin; key = name_at names w.number; cell = w.version.cell }
+
+-- the versions that they make of the key with a number
+abbrev pub versions_by : List NumberedWrite → ℕ → List Version
+versions_by [] n = []
+versions_by (w ∷ ws) n = (if (w.number == n) then w.version ∷ [] else []) ++ versions_by ws n
+
+-- each begins at or above the one before, the first at or above n, and none above the top
+abbrev pub ClimbTo : ℕ → ℕ → List NumberedWrite → Type 0
+ClimbTo n top [] = n ≤ top
+ClimbTo n top (w ∷ ws) = (n ≤ w.version.begin) × ClimbTo w.version.begin top ws
+
+-- the number of each is that of one of these many keys
+abbrev pub AreBelow : ℕ → List NumberedWrite → Type 0
+AreBelow count ws = All (λ w. w.number < count) ws
+
+-- by these names they are the writes of the batch, in log order
+pub record AreWritesOf (names : List (List ℕ)) (b : Batch) (ws : List NumberedWrite) : Type 0 where
+  pub below : AreBelow (length names) ws
+  pub listed : map (named_write names) ws ≡ all_txn_writes (first_of b) (base_of b) (txns_of b)

@@ -1,55 +1,72 @@
-//! What the keys of a batch hold before it.
+//! What keys held.
 
 ghost use Rattle.std.specs.Prelude.{◌≡◌, map, IfOk};
-ghost use Rattle.bohm_tree.specs.declared.cell.Cell.TheVariants.{Absent};
-ghost use Rattle.bohm_store.specs.Versions.{cell_at};
-ghost use Rattle.bohm_store.specs.Chains.{chain};
+ghost use Rattle.bohm_store.specs.Versions.{IsCellAt, past, versions};
+ghost use Rattle.bohm_store.specs.Numbered.{timeline};
 
-use crate::chain::Chain;
-use crate::chains::{cell_in, seat_of};
+use crate::numbered::NumberedHistory;
+use crate::numbering::is_numbered;
 use crate::seats::Hints;
-use bohm_log::HashSeed;
+use bohm_log::{HashSeed, Names};
 use bohm_place::NumberedKey;
 use bohm_tree::{Cell, Key, NoMemory};
-use indexmap::IndexMap;
 use std::alloc::Global;
 
-// The cell of the newest version of a key that begins at or below a timestamp, or absence. It takes
-// down where the key stands.
-fn cell_by(
-    chains: &IndexMap<Key, Chain, HashSeed>,
-    hints: &mut Hints,
-    number: u32,
-    key: &Key,
-    ts: u32,
-) -> Cell
-    ensures { result ≡ cell_at ts (chain chains.now key.now) Absent }
+/// What a key held after the transaction with a timestamp. Its time is that of one look-up, and
+/// grows with how many versions of all keys ended above the timestamp.
+pub fn cell_of(names: &Names<HashSeed>, numbered: &NumberedHistory, key: &Key, ts: u32) -> Cell
+    ensures cell { result ≡ past (timeline names.now numbered.now) ts key.now }
+    ensures newest { IsCellAt ts (versions (timeline names.now numbered.now) key.now) result }
 {
-    match seat_of(chains, hints.place(number), key) {
-        Some(place) => {
-            hints.note(number, place);
-            cell_in(chains, place, ts)
+    let _ = names.as_slice();
+    match names.find(key) {
+        Some(number) => numbered.cell_at(number, ts),
+        None => Cell::Absent,
+    }
+}
+
+// What a key holds at the top. It is hashed only where the number that it had when it was last seen
+// is not its own.
+fn cell_by(
+    names: &Names<HashSeed>,
+    numbered: &NumberedHistory,
+    hints: &mut Hints,
+    place: u32,
+    key: &Key,
+) -> Cell
+    ensures { result ≡ past (timeline names.now numbered.now) numbered.now.top key.now }
+{
+    let hint = hints.number(place);
+    if is_numbered(names.as_slice(), hint, key) {
+        return numbered.cell(hint);
+    }
+    match names.find(key) {
+        Some(number) => {
+            hints.note(place, number);
+            numbered.cell(number)
         }
         None => Cell::Absent,
     }
 }
 
-/// Each of these keys, with the cell of its newest version that begins at or below a timestamp. A
-/// key is hashed only where it doesn't stand where it was last seen.
-pub fn base_at(
-    chains: &IndexMap<Key, Chain, HashSeed>,
+/// Each of these keys, with what it holds at the top. A key is hashed only where the number that it
+/// had when it was last seen is not its own.
+pub fn base_of(
+    names: &Names<HashSeed>,
+    numbered: &NumberedHistory,
     alloc: Global,
     hints: &mut Hints,
     keys: &[NumberedKey],
-    ts: u32,
 ) -> Result<Vec<(Key, Cell)>, NoMemory>
     ensures { IfOk result (λ v. v.items
-        ≡ map (λ k. (k, cell_at ts (chain chains.now k) Absent)) (map (λ k. k.key) keys.now)) }
+        ≡ map (λ k. (k, past (timeline names.now numbered.now) numbered.now.top k))
+        (map (λ k. k.key) keys.now)) }
 {
     let mut base = Vec::with_capacity(alloc, keys.len())?;
-    for numbered in keys {
-        let key = numbered.key;
-        base.push((key, cell_by(chains, hints, numbered.number, &key, ts)))?;
+    for numbered_key in keys {
+        let key = numbered_key.key;
+        let cell = cell_by(names, numbered, hints, numbered_key.number, &key);
+        base.push((key, cell))?;
     }
     Ok(base)
 }

@@ -14,38 +14,50 @@ mod reads;
 mod settle;
 mod trim;
 
-use crate::chain::Chain;
-use crate::chains::start;
-use crate::followers::Follower;
-use bohm_log::HashSeed;
+use crate::numbered::NumberedHistory;
+use bohm_log::{HashSeed, Names};
 use bohm_tree::{Key, NoMemory, Value};
-use indexmap::IndexMap;
 use std::alloc::Global;
-use std::collections::VecDeque;
 use std::marker::Model;
 
 /// The versions of each key from a floor up to a top, which are timestamps.
 #[derive(Drop)]
 pub struct History {
-    // New keys go last, and only a refusal takes keys away again, the last ones: a key keeps its
-    // place.
-    chains: IndexMap<Key, Chain, HashSeed>,
-    // The versions that follow another one of their key, in the order of their begins. Each has the
-    // place of its key, so that a trim looks up none.
-    followers: VecDeque<Follower>,
-    floor: u32,
-    top: u32,
+    // A key keeps its number for the history's life. Behind those with versions there may be keys
+    // that a refusal left without one.
+    names: Names<HashSeed>,
+    numbered: NumberedHistory,
 }
 
 impl Model for History {
+    ghost use Rattle.std.specs.Prelude.{length, ◌≤◌};
     ghost use Rattle.bohm_store.specs.Versions.{Timeline};
-    ghost use Rattle.bohm_store.specs.Chains.{IsHistory, table};
+    ghost use Rattle.bohm_store.specs.Numbered.{timeline};
 
     ghost Value = { Timeline };
 
-    ghost view = { λ h. record { floor = h.floor; top = h.top; chains = table h.chains.entries } };
+    ghost view = { λ h. timeline h.names h.numbered };
 
-    ghost invariant = { λ h. IsHistory h.chains h.followers.items h.floor h.top };
+    ghost invariant = { λ h. length h.numbered.newest ≤ length h.names };
+}
+
+// The keys of entries that rise, each at its place.
+fn names_in(
+    alloc: Global,
+    entries: &[(Key, Value)],
+    seed: HashSeed,
+) -> Result<Names<HashSeed>, NoMemory>
+    requires { rising (names_of entries.now) ≡ true }
+    ensures { IfOk result (λ names. names ≡ names_of entries.now) }
+{
+    let mut names = Names::new(alloc, seed);
+    for (key, _) in entries {
+        match names.id(*key) {
+            Ok(_) => {}
+            Err(_) => return Err(NoMemory),
+        }
+    }
+    Ok(names)
 }
 
 impl History {
@@ -77,13 +89,9 @@ impl History {
             → versions h k ≡ starting_versions (cell_in (store_of entries.now) k)) }
         ensures past { IfOk result (λ h. past h 0 ≡ cell_in (store_of entries.now)) }
     {
-        let chains = start(alloc, entries, seed)?;
-        Ok(History {
-            chains,
-            followers: VecDeque::new(alloc),
-            floor: 0,
-            top: 0,
-        })
+        let names = names_in(alloc, entries, seed)?;
+        let numbered = NumberedHistory::open(alloc, entries)?;
+        Ok(History { names, numbered })
     }
 
     /// The history of the empty store. Keys are hashed from the fixed seed. It takes no memory.
@@ -93,10 +101,8 @@ impl History {
         ensures versions { (k : List ℕ) → versions result k ≡ [] }
     {
         History {
-            chains: IndexMap::with_hasher(alloc, HashSeed::fixed()),
-            followers: VecDeque::new(alloc),
-            floor: 0,
-            top: 0,
+            names: Names::new(alloc, HashSeed::fixed()),
+            numbered: NumberedHistory::empty(alloc),
         }
     }
 
@@ -104,7 +110,7 @@ impl History {
     pub fn floor(&self) -> u32
         ensures { result ≡ self.now.floor }
     {
-        self.floor
+        self.numbered.floor()
     }
 
     /// The timestamp of the last transaction, or 0.
@@ -112,16 +118,15 @@ impl History {
         ensures top { result ≡ self.now.top }
         ensures ordered { self.now.floor ≤ result }
     {
-        self.top
+        self.numbered.top()
     }
 
     /// The number of kept versions, or the greatest number of 64 bits where there are more. Its
-    /// time is constant: each key has one version that follows no other, and the others stand in a
-    /// queue.
+    /// time grows with the number of keys.
     pub fn version_count(&self) -> u64
         ensures count { result ≡ min (total self.now.chains) 18446744073709551615 }
         ensures distinct { IsDistinct bytes_eq (keys_of self.now.chains) }
     {
-        (self.chains.len() as u64).saturating_add(self.followers.len() as u64)
+        self.numbered.count(self.names.as_slice())
     }
 }

@@ -2,15 +2,16 @@
 #![tactic(auto)]
 
 mod base;
-mod batch_writes;
-mod chain;
-mod chains;
 mod fault;
-mod followers;
+mod held;
 mod history;
 pub mod laws;
 mod listing;
-mod renewal;
+mod numbered;
+mod numbered_write;
+mod numbering;
+mod older;
+mod replacing;
 mod seats;
 mod version;
 

@@ -1,42 +1,106 @@
 //! What all keys hold.
 
-ghost use Rattle.std.specs.Prelude.{◌≡◌, ◌++◌, [], IfOk, OnOk};
-ghost use Rattle.std.specs.HashMap.{IsUnique};
-ghost use Rattle.std.specs.Str.{bytes_eq};
-ghost use Rattle.bohm_tree.specs.declared.cell.Cell.TheVariants.{Absent};
+ghost use Rattle.std.specs.Prelude.{◌≡◌, ◌++◌, ◌∷◌, ◌<◌, ◌≤◌, ◌==◌, ℕ, [], IfOk, OnOk, length};
+ghost use Rattle.std.specs.Prelude.{if◌then◌else◌};
+ghost use Rattle.bohm_tree.specs.declared.cell.Cell.TheVariants as cells;
+ghost use Rattle.bohm_store.specs.Chains.{cell_entry, timeline_entries_at};
 ghost use Rattle.bohm_store.specs.Versions.{cell_at};
-ghost use Rattle.bohm_store.specs.Chains.{items, cell_entry, chain_entries_at};
+ghost use Rattle.bohm_store.specs.Held.{held_at, held_versions};
+ghost use Rattle.bohm_store.specs.Numbered.{EndsRise, filled, first_after, named};
 
-use crate::chain::Chain;
-use bohm_log::HashSeed;
+use crate::held::Held;
+use crate::older::Older;
 use bohm_tree::{Cell, Key, NoMemory, Value};
-use indexmap::IndexMap;
 use std::alloc::Global;
+use std::collections::VecDeque;
 
-// Lists a key with its value at a timestamp, where it has one.
-fn list_one(out: &mut Vec<(Key, Value)>, key: &Key, chain: &Chain, ts: u32) -> Result<(), NoMemory>
-    ensures { OnOk result
-        (out.new.items
-        ≡ out.old.items ++ cell_entry key.now (cell_at ts (items chain.now) Absent) []) }
+// Puts an older version in place of what its key holds, where there is room for the key.
+fn put_back(newest: &mut [Held], one: Older)
+    ensures { (n : ℕ) → n < length newest.old → held_at newest.new n
+        ≡ (if (one.number == n) then one.version ∷ [] else held_at newest.old n) }
 {
-    if let Cell::Present(value) = chain.cell_at(ts) {
+    let place = one.number as usize;
+    let begin = one.version.begin;
+    let held = Held::new(begin, one.version.cell);
+    if place < newest.len() {
+        newest[place] = held;
+    }
+}
+
+/// Puts in place of what keys hold what they held at a timestamp. Its time grows with how many
+/// versions ended above the timestamp.
+pub fn rewind(newest: &mut [Held], older: &VecDeque<Older>, ts: u32)
+    requires { (top : ℕ) × EndsRise top older.now.items }
+    ensures { (n : ℕ) → n < length newest.old
+        → held_at newest.new n ≡ first_after ts older.now.items n (held_at newest.old n) }
+{
+    let mut i = older.len();
+    while i > 0 {
+        i -= 1;
+        let one = older[i];
+        if one.end <= ts {
+            return;
+        }
+        put_back(newest, one);
+    }
+}
+
+// Lists a key with its value, where it has one.
+fn list_one(out: &mut Vec<(Key, Value)>, key: &Key, held: Held, ts: u32) -> Result<(), NoMemory>
+    ensures { OnOk result (out.new.items ≡ out.old.items
+        ++ cell_entry key.now (cell_at ts (held_versions held) cells.Absent) []) }
+{
+    if let Cell::Present(value) = held.cell_at(ts) {
         out.push((*key, value))?;
     }
     Ok(())
 }
 
-/// The keys that have a value at a timestamp, with it, in the map's order.
+/// The keys that have a value at a timestamp, with it, in the order of their numbers.
 pub fn present(
-    chains: &IndexMap<Key, Chain, HashSeed>,
     alloc: Global,
+    newest: &[Held],
+    names: &[Key],
     ts: u32,
 ) -> Result<Vec<(Key, Value)>, NoMemory>
-    ensures picks { IfOk result (λ v. v.items ≡ chain_entries_at ts chains.now.entries) }
-    ensures unique { IsUnique bytes_eq chains.now }
+    requires { length names.now ≤ length newest.now }
+    ensures { IfOk result (λ v. v.items
+        ≡ timeline_entries_at ts (named (held_at newest.now) 0 names.now)) }
 {
-    let mut out = Vec::with_capacity(alloc, chains.len())?;
-    for (key, chain) in chains {
-        list_one(&mut out, key, chain, ts)?;
+    let mut out = Vec::with_capacity(alloc, names.len())?;
+    for i in 0..names.len() {
+        list_one(&mut out, &names[i], newest[i], ts)?;
     }
     Ok(out)
+}
+
+/// The same where older versions are known too.
+pub fn present_at(
+    alloc: Global,
+    newest: &[Held],
+    older: &VecDeque<Older>,
+    names: &[Key],
+    ts: u32,
+) -> Result<Vec<(Key, Value)>, NoMemory>
+    requires long { length names.now ≤ length newest.now }
+    requires climbs { (top : ℕ) × EndsRise top older.now.items }
+    ensures { IfOk result (λ v. v.items ≡ timeline_entries_at ts
+        (named (λ n. first_after ts older.now.items n (held_at newest.now n)) 0 names.now)) }
+{
+    let mut then = Vec::with_capacity(alloc, newest.len())?;
+    then.extend_from_slice(newest)?;
+    rewind(then.as_mut_slice(), older, ts);
+    let list = present(alloc, &then, names, ts)?;
+    Ok(list)
+}
+
+/// How many keys have a version.
+pub fn count_held(newest: &[Held]) -> usize
+    ensures { result ≡ filled newest.now }
+{
+    let mut count = 0usize;
+    for i in 0..newest.len() {
+        count += newest[i].count();
+    }
+    count
 }

@@ -1,42 +1,43 @@
-//! What a run keeps of the keys of its log, by their numbers.
+//! What a run keeps of the keys of its log, by their numbers there.
 
 use bohm_tree::NoMemory;
 use std::alloc::Global;
 
-/// Where each key of a log stood in a history when it was last seen, by the number of the key. Each
-/// place is compared with its key before it is used, so no answer depends on it.
+/// The number that each key of a log had in a history when it was last seen, by the number of the
+/// key in the log. Each is compared with its key before it is used, so no answer depends on it.
 #[derive(Drop)]
 pub struct Hints {
-    places: Vec<u32>,
+    numbers: Vec<u32>,
 }
 
 impl Hints {
     /// Makes room for the keys with numbers below a count.
     pub fn cover(&mut self, count: usize) -> Result<(), NoMemory> {
-        if self.places.len() < count {
-            self.places.resize(count, u32::MAX)?;
+        if self.numbers.len() < count {
+            self.numbers.resize(count, u32::MAX)?;
         }
         Ok(())
     }
 
-    /// Where the key with a number stood, or a place behind all.
-    pub fn place(&self, number: u32) -> usize {
-        match self.places.get(number as usize) {
-            Some(place) => *place as usize,
-            None => usize::MAX,
+    /// The number in the history of the key with a number in the log, or one that no key has.
+    pub fn number(&self, place: u32) -> u32 {
+        match self.numbers.get(place as usize) {
+            Some(number) => *number,
+            None => u32::MAX,
         }
     }
 
-    /// Takes down where the key with a number stands, where there is room for it.
-    pub fn note(&mut self, number: u32, place: usize) {
-        if let Some(hint) = self.places.get_mut(number as usize) {
-            *hint = u32::try_from(place).unwrap_or(u32::MAX);
+    /// Takes down the number in the history of the key with a number in the log, where there is
+    /// room for it.
+    pub fn note(&mut self, place: u32, number: u32) {
+        if let Some(hint) = self.numbers.get_mut(place as usize) {
+            *hint = number;
         }
     }
 }
 
 /// What a run keeps from batch to batch so that it looks each key of its log up once: by the number
-/// of the key, where it stood in the history. No answer depends on it.
+/// of the key in the log, its number in the history. No answer depends on it.
 #[derive(Drop)]
 pub struct Seats {
     pub(crate) hints: Hints,
@@ -47,7 +48,7 @@ impl Seats {
     pub fn new(alloc: Global) -> Seats {
         Seats {
             hints: Hints {
-                places: Vec::new(alloc),
+                numbers: Vec::new(alloc),
             },
         }
     }

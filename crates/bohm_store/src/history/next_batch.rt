@@ -7,7 +7,7 @@ ghost use Rattle.bohm_board.specs.Bases.{IsBatched};
 ghost use Rattle.bohm_board.specs.Batches.{plan_of, txns_of};
 ghost use Rattle.bohm_store.specs.Nexts.{IsNext};
 
-use crate::base::base_at;
+use crate::base::base_of;
 use crate::history::History;
 use crate::seats::Seats;
 use bohm_board::Batch;
@@ -36,12 +36,12 @@ impl History {
         self.batch_with(alloc, &mut Seats::new(alloc), txns, plan)
     }
 
-    /// The same with what the run keeps from batch to batch: a key is hashed only where it doesn't
-    /// stand where it was last seen, and none is sorted or searched for. A key that the history
-    /// lacks, as one that is only ever read, stands nowhere: it is looked up in each batch that
-    /// declares it. The time grows with the number of keys that the transactions declare; only
-    /// where the log has more keys than ever before does it grow with these too, and only for a
-    /// plan without keys with the number of accesses.
+    /// The same with what the run keeps from batch to batch: a key is hashed only where its number
+    /// isn't the one that it had when it was last seen, and none is sorted or searched for. A key
+    /// that the history lacks, as one that is only ever read, has no number: it is looked up in each
+    /// batch that declares it. The time grows with the number of keys that the transactions
+    /// declare; only where the log has more keys than ever before does it grow with these too, and
+    /// only for a plan without keys with the number of accesses.
     pub fn batch_with<'a>(
         &self,
         alloc: Global,
@@ -60,7 +60,7 @@ impl History {
         let hints = &mut seats.hints;
         hints.cover(txns.keys().names().len())?;
         let keys = plan.keys();
-        let base = base_at(&self.chains, alloc, hints, keys, self.top)?;
+        let base = base_of(&self.names, &self.numbered, alloc, hints, keys)?;
         Ok(Batch::by_place(txns.fork(), plan, base))
     }
 }

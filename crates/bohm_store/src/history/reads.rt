@@ -5,18 +5,17 @@ ghost use Rattle.std.specs.FinMap.{entries};
 ghost use Rattle.bohm_txn.specs.Stores.{cell_in, store_of};
 ghost use Rattle.bohm_store.specs.Versions.{IsCellAt, past, versions};
 
-use crate::chains::cell_of;
+use crate::base::cell_of;
 use crate::fault::{PastFault, StoreFault};
 use crate::history::History;
-use crate::listing::present;
 use bohm_tree::{Cell, Key, Value};
 use std::alloc::Global;
 
 impl History {
     /// What a key holds after the transaction with a timestamp: the cell of its version with the
     /// greatest begin at or below it. `Trimmed` below the floor, `Future` above the top. Its time
-    /// is that of one look-up, and grows with how many versions of the key are newer. It takes no
-    /// memory.
+    /// is that of one look-up, and grows with how many versions of all keys ended above the
+    /// timestamp. It takes no memory.
     pub fn value_at(&self, key: &Key, ts: u32) -> Result<Cell, PastFault>
         ensures trimmed { (result ≡ Err PastFault.Trimmed) ↔ (ts < self.now.floor) }
         ensures future { (result ≡ Err PastFault.Future) ↔ (self.now.top < ts) }
@@ -24,19 +23,20 @@ impl History {
             → result ≡ Ok (past self.now ts key.now) }
         ensures newest { IfOk result (IsCellAt ts (versions self.now key.now)) }
     {
-        if ts < self.floor {
+        let (floor, top) = (self.floor(), self.top());
+        if ts < floor {
             return Err(PastFault::Trimmed);
         }
-        if self.top < ts {
+        if top < ts {
             return Err(PastFault::Future);
         }
-        Ok(cell_of(&self.chains, key, ts))
+        Ok(cell_of(&self.names, &self.numbered, key, ts))
     }
 
     /// What each key holds after the transaction with a timestamp: the keys that have a value,
     /// rising, with it. `Trimmed` below the floor and `Future` above the top, which are decided
     /// before any growth. It goes over all keys: its time grows with their number n as n log n, and
-    /// with how many versions are newer.
+    /// with how many versions ended above the timestamp.
     pub fn store_at(&self, alloc: Global, ts: u32) -> Result<Vec<(Key, Value)>, StoreFault>
         ensures trimmed { (result ≡ Err StoreFault.Trimmed) ↔ (ts < self.now.floor) }
         ensures future { (result ≡ Err StoreFault.Future) ↔ (self.now.top < ts) }
@@ -45,17 +45,17 @@ impl History {
         ensures past { IfOk result (λ v. cell_in (store_of v.items) ≡ past self.now ts) }
         ensures entries { IfOk result (λ v. v.items ≡ entries (store_of v.items)) }
     {
-        if ts < self.floor {
+        let (floor, top) = (self.floor(), self.top());
+        if ts < floor {
             return Err(StoreFault::Trimmed);
         }
-        if self.top < ts {
+        if top < ts {
             return Err(StoreFault::Future);
         }
-        match present(&self.chains, alloc, ts) {
-            Ok(mut list) => {
-                list.sort_unstable_by(|entry, other| entry.0.cmp(&other.0));
-                Ok(list)
-            }
+        let known = self.numbered.len();
+        let names = &self.names.as_slice()[..known];
+        match self.numbered.store_at(alloc, names, ts) {
+            Ok(list) => Ok(list),
             Err(_) => Err(StoreFault::NoMemory),
         }
     }

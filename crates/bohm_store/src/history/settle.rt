@@ -1,17 +1,15 @@
 //! A finished batch becomes a part of the history.
 
-ghost use Rattle.std.specs.Prelude.{◌≡◌, ◌≤◌, ◌+◌, length, OnOk, OnErr};
-ghost use Rattle.bohm_board.specs.Batches.{base_of, first_of, txns_of};
+ghost use Rattle.std.specs.Prelude.{◌≡◌, ◌≤◌, ◌+◌, length, IfOk, OnOk, OnErr};
+ghost use Rattle.std.specs.Map.{keys_of};
+ghost use Rattle.bohm_board.specs.Batches.{txns_of};
 ghost use Rattle.bohm_exec.specs.Answers.{batch_of_finished};
 ghost use Rattle.bohm_store.specs.Nexts.{IsNext, IsSame, IsSettled, IsSettledKept};
-ghost use Rattle.bohm_store.specs.Writes.{all_txn_writes};
+ghost use Rattle.bohm_store.specs.Writes.{AreWritesOf};
 
-use crate::batch_writes::writes_of;
-use crate::chains::{add, trim};
 use crate::history::History;
-use crate::renewal::{renew, seat};
+use crate::numbered_write::{NumberedWrite, numbered_writes};
 use crate::seats::{Hints, Seats};
-use crate::version::Write;
 use bohm_board::Batch;
 use bohm_exec::Finished;
 use bohm_tree::NoMemory;
@@ -21,10 +19,8 @@ impl History {
     /// Adds a version for each declared write of each transaction of the batch, aborted ones
     /// included, and moves the top to the batch's end. The batch is the next one of this history.
     ///
-    /// A refusal changes nothing that is seen: a key may be new, and how many versions it gets
-    /// comes out only on the way, so not all growth can come first; the versions that were added
-    /// are let go again, newest first. The time grows with the number of the batch's declared
-    /// writes, on a refusal too.
+    /// A refusal changes nothing that is seen: all growth comes first, and a key may have got its
+    /// number. The time grows with the number of the batch's declared writes.
     pub fn settle(&mut self, alloc: Global, finished: &Finished<'_>) -> Result<(), NoMemory>
         requires { IsNext self.old (batch_of_finished finished.now) }
         ensures err { OnErr result (IsSame self.old self.new) }
@@ -34,8 +30,8 @@ impl History {
         self.settle_with(alloc, &mut Seats::new(alloc), finished)
     }
 
-    /// The same, with what the run keeps from batch to batch: no key is hashed that stands where it
-    /// was last seen.
+    /// The same, with what the run keeps from batch to batch: a key is hashed only where its number
+    /// isn't the one that it had when it was last seen.
     pub fn settle_with(
         &mut self,
         alloc: Global,
@@ -47,12 +43,14 @@ impl History {
         ensures ok { OnOk result
             (IsSettled self.old self.new (txns_of (batch_of_finished finished.now))) }
     {
-        let writes = writes_of(alloc, finished)?;
-        self.settle_writes(alloc, &mut seats.hints, finished.batch(), &writes)
+        let writes = self.list_writes(alloc, &mut seats.hints, finished)?;
+        self.settle_all(finished.batch(), &writes)?;
+        Ok(())
     }
 
     /// The same, and trims at a floor, which is at most the batch's end. Where it is the batch's
-    /// end, no version is made but the newest one of each key that the batch writes.
+    /// end, no version is kept but the newest one of each key that the batch writes, and none is
+    /// moved.
     ///
     /// A refusal changes nothing that is seen. The time grows with the number of the batch's
     /// declared writes and with how many versions from before it go, on a refusal with the former
@@ -70,88 +68,59 @@ impl History {
         ensures ok { let txns = txns_of (batch_of_finished finished.now) in
             OnOk result (IsSettledKept self.old self.new txns floor) }
     {
-        let writes = writes_of(alloc, finished)?;
-        let batch = finished.batch();
-        if floor == self.top + batch.len() {
-            self.settle_newest(alloc, &mut seats.hints, batch, &writes)
-        } else {
-            self.settle_above(alloc, &mut seats.hints, batch, &writes, floor)
-        }
+        let writes = self.list_writes(alloc, &mut seats.hints, finished)?;
+        self.settle_listed(finished.batch(), &writes, floor)?;
+        Ok(())
+    }
+
+    // The writes of a finished batch, by the numbers of their keys. A key without a number gets
+    // one.
+    fn list_writes(
+        &mut self,
+        alloc: Global,
+        hints: &mut Hints,
+        finished: &Finished<'_>,
+    ) -> Result<Vec<NumberedWrite>, NoMemory>
+        ensures same { IsSame self.old self.new }
+        ensures writes { IfOk result
+            (λ v. AreWritesOf (keys_of self.new.chains) (batch_of_finished finished.now) v.items) }
+    {
+        let _ = self.numbered.len();
+        numbered_writes(alloc, &mut self.names, hints, finished)
     }
 
     // Adds the versions of the next batch, by the list of its writes.
-    fn settle_writes(
-        &mut self,
-        alloc: Global,
-        hints: &mut Hints,
-        batch: &Batch<'_>,
-        writes: &[Write<'_>],
-    ) -> Result<(), NoMemory>
+    fn settle_all(&mut self, batch: &Batch<'_>, writes: &[NumberedWrite]) -> Result<(), NoMemory>
         requires next { IsNext self.old batch.now }
-        requires writes { writes.now
-            ≡ all_txn_writes (first_of batch.now) (base_of batch.now) (txns_of batch.now) }
+        requires writes { AreWritesOf (keys_of self.old.chains) batch.now writes.now }
         ensures err { OnErr result (IsSame self.old self.new) }
         ensures ok { OnOk result (IsSettled self.old self.new (txns_of batch.now)) }
     {
-        match add(&mut self.chains, &mut self.followers, alloc, hints, writes) {
-            Ok(()) => {
-                self.top += batch.len();
-                Ok(())
-            }
-            Err(error) => Err(error),
-        }
+        self.numbered.cover(self.names.len())?;
+        self.numbered
+            .settle_writes(self.names.as_slice(), batch, writes)
     }
 
-    // The same, and then trims.
-    fn settle_above(
+    // The same, and trims at a floor.
+    fn settle_listed(
         &mut self,
-        alloc: Global,
-        hints: &mut Hints,
         batch: &Batch<'_>,
-        writes: &[Write<'_>],
+        writes: &[NumberedWrite],
         floor: u32,
     ) -> Result<(), NoMemory>
         requires next { IsNext self.old batch.now }
-        requires writes { writes.now
-            ≡ all_txn_writes (first_of batch.now) (base_of batch.now) (txns_of batch.now) }
+        requires writes { AreWritesOf (keys_of self.old.chains) batch.now writes.now }
         requires floor { floor ≤ self.old.top + length (txns_of batch.now) }
         ensures err { OnErr result (IsSame self.old self.new) }
         ensures ok { OnOk result (IsSettledKept self.old self.new (txns_of batch.now) floor) }
     {
-        match self.settle_writes(alloc, hints, batch, writes) {
-            Ok(()) => {
-                self.trim(floor);
-                Ok(())
-            }
-            Err(error) => Err(error),
+        self.numbered.cover(self.names.len())?;
+        let names = self.names.as_slice();
+        if floor == self.numbered.top() + batch.len() {
+            self.numbered.settle_newest(names, batch, writes);
+            return Ok(());
         }
-    }
-
-    // Moves the top and the floor to the end of the next batch: of each key that it writes there
-    // is made the newest version alone. New keys come first, since they alone take memory.
-    fn settle_newest(
-        &mut self,
-        alloc: Global,
-        hints: &mut Hints,
-        batch: &Batch<'_>,
-        writes: &[Write<'_>],
-    ) -> Result<(), NoMemory>
-        requires next { IsNext self.old batch.now }
-        requires writes { writes.now
-            ≡ all_txn_writes (first_of batch.now) (base_of batch.now) (txns_of batch.now) }
-        ensures err { OnErr result (IsSame self.old self.new) }
-        ensures ok { let end = self.old.top + length (txns_of batch.now) in
-            OnOk result (IsSettledKept self.old self.new (txns_of batch.now) end) }
-    {
-        match seat(&mut self.chains, alloc, hints, writes) {
-            Ok(()) => {
-                trim(&mut self.chains, &mut self.followers, self.top);
-                renew(&mut self.chains, hints, writes);
-                self.top += batch.len();
-                self.floor = self.top;
-                Ok(())
-            }
-            Err(error) => Err(error),
-        }
+        self.numbered.settle_above(names, batch, writes, floor)?;
+        Ok(())
     }
 }

@@ -4,7 +4,6 @@ ghost use Rattle.std.specs.Prelude.{◌≡◌, ◌<◌, ◌≤◌, ◌↔◌, �
 ghost use Rattle.bohm_store.specs.declared.version.Version.{Version};
 ghost use Rattle.bohm_store.specs.Versions.{IsKept, kept_versions, past, versions};
 
-use crate::chains::trim;
 use crate::history::History;
 
 impl History {
@@ -24,10 +23,6 @@ impl History {
             → Contains (versions self.new k) v ↔ IsKept floor (versions self.old k) v }
         ensures past { (ts : ℕ) → self.new.floor ≤ ts → past self.new ts ≡ past self.old ts }
     {
-        if floor <= self.floor {
-            return;
-        }
-        trim(&mut self.chains, &mut self.followers, floor);
-        self.floor = floor;
+        self.numbered.trim(floor);
     }
 }

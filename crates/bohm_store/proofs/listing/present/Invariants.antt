@@ -1,6 +1,8 @@
-use Rattle.std.proofs.Common.{◌≡◌, ◌++◌}
-use Rattle.bohm_store.specs.Chains.{chain_entries_at}
+use Rattle.std.proofs.Common.{◌≡◌, ◌++◌, drop}
+use Rattle.bohm_store.specs.Chains.{timeline_entries_at}
+use Rattle.bohm_store.specs.Held.{held_at}
+use Rattle.bohm_store.specs.Numbered.{named}
 use Rattle.bohm_store.proofs.listing.present.Given as goal
 
-abbrev pub invariant-loop-key : goal.invariant-loop-key
-invariant-loop-key l = l.out.items ++ chain_entries_at l.ts l.key-iterator ≡ chain_entries_at l.ts l.chains.entries
+abbrev pub invariant-loop-i : goal.invariant-loop-i
+invariant-loop-i l = l.out.items ++ timeline_entries_at l.ts (named (held_at l.newest) l.i (drop l.i l.names)) ≡ timeline_entries_at l.ts (named (held_at l.newest) 0 l.names)

@@ -1,6 +1,5 @@
-use Rattle.std.proofs.Common.{◌≡◌, ◌∙◌, List, ℕ, ap, sym, subst, true}
+use Rattle.std.proofs.Common.{◌≡◌, ◌∙◌, List, ℕ, ap, subst, true}
 use Rattle.std.specs.List.{list_any}
-use Rattle.std.specs.Str.{bytes_eq}
 use Rattle.bohm_tree.specs.declared.cell.Cell.{Cell}
 use Rattle.bohm_tree.specs.Txn.{Txn}
 use Rattle.bohm_tree.specs.declared.cell.Cell.TheVariants.{Absent}
@@ -8,21 +7,19 @@ use Rattle.bohm_tree.specs.Keys.{is_among}
 use Rattle.bohm_txn.specs.Meaning.{newest}
 use Rattle.bohm_place.specs.Noting.{declares_key}
 use Rattle.bohm_board.specs.Bases.{keys_of}
-use Rattle.bohm_store.specs.Versions.{cell_at}
-use Rattle.bohm_store.specs.Chains.{chain}
+use Rattle.bohm_store.specs.Versions.{past}
+use Rattle.bohm_store.specs.Numbered.{timeline}
 use Rattle.bohm_store.proofs.Bases.{keys_paired, newest_paired}
-use Rattle.bohm_store.proofs.TimelineLookups.{lookup_table}
 use Rattle.bohm_store.proofs.history.History.batch_with.Goals as goal
 
 pub by_place-requires-clause-base : goal.by_place-requires-clause-base
 by_place-requires-clause-base c =
-    let hold : List ℕ → Cell = λ k. cell_at c.self.inside.top (chain c.self.inside.chains k) Absent in
+    let hold : List ℕ → Cell = past (timeline c.self.inside.names c.self.inside.numbered) c.self.inside.numbered.top in
     ap keys_of c.in_ok-base.ensures ∙ rw c.keys-keys.ensures (keys_paired hold c.in_ok-plan.plan.keys)
 
 pub returns-clause-next : goal.returns-clause-next
 returns-clause-next c =
-    let chains = c.self.inside.chains in
-    let hold : List ℕ → Cell = λ k. cell_at c.self.inside.top (chain chains k) Absent in
+    let hold : List ℕ → Cell = past (timeline c.self.inside.names c.self.inside.numbered) c.self.inside.numbered.top in
     let names = c.in_ok-plan.plan.keys in
     let first = rw (← c.self.view_is) at c.requires.first in
     rw (← c.self.view_is) (record {
@@ -31,6 +28,5 @@ returns-clause-next c =
           (let here : list_any (declares_key k) c.args.txns.now ≡ true = subst (λ (ts : List Txn). list_any (declares_key k) ts ≡ true) (c.by_place.ensures.txns ∙ c.fork.ensures) declared in
           let among : is_among names k ≡ true = c.in_ok-plan.ensures.keys.keys.each k ∙ here in
           ap (λ (es : List (List ℕ × Cell)). newest es k Absent) (c.by_place.ensures.base ∙ c.in_ok-base.ensures)
-          ∙ rw c.keys-keys.ensures (newest_paired hold names k Absent among)
-          ∙ ap (λ vs. cell_at c.self.inside.top vs Absent) (sym (lookup_table (bytes_eq k) chains.entries)));
+          ∙ rw c.keys-keys.ensures (newest_paired hold names k Absent among));
     })

@@ -1,0 +1,35 @@
+-- The newest of versions alone.
+use Rattle.std.proofs.Common.{◌≡◌, ℕ, ◌≤◌, ◌∙◌, Bool, true, false, List, [], ◌∷◌, ◌++◌, refl, sym, ap, arith, if◌then◌else◌, nat_le, append-nil, append_assoc}
+use Rattle.std.proofs.lemmas.Bool.Decides.{nat_tests}
+use Rattle.std.proofs.lemmas.List.Elements.{All-head, All-tail}
+use Rattle.bohm_store.specs.declared.version.Version.{Version}
+use Rattle.bohm_store.specs.Versions.{kept_versions}
+use Rattle.bohm_store.specs.Chains.{UpTo, later_begins, newest_only}
+
+newest_pushed : (v : Version) (xs : List Version) (w : Version) → newest_only (v ∷ (xs ++ w ∷ [])) ≡ w ∷ []
+newest_pushed v [] w = refl
+newest_pushed v (x ∷ xs) w = newest_pushed x xs w
+
+pub newest_push : (xs : List Version) (w : Version) → newest_only (xs ++ w ∷ []) ≡ w ∷ []
+newest_push [] w = refl
+newest_push (x ∷ xs) w = newest_pushed x xs w
+
+pub newest_single : (vs : List Version) → later_begins vs ≡ [] → newest_only vs ≡ vs
+newest_single [] h = refl
+newest_single (v ∷ []) h = refl
+newest_single (v ∷ w ∷ ws) h = absurd cc
+
+-- a floor that no version is above keeps it alone
+pub kept_newest : (floor : ℕ) (vs : List Version) → UpTo floor vs → kept_versions floor vs ≡ newest_only vs
+kept_newest floor [] h = refl
+kept_newest floor (v ∷ []) h = refl
+kept_newest floor (v ∷ w ∷ ws) h =
+    let rest : UpTo floor (w ∷ ws) = All-tail (λ (x : Version). x.begin ≤ floor) v (w ∷ ws) h in
+    let low : w.begin ≤ floor = All-head (λ (x : Version). x.begin ≤ floor) w ws rest in
+    let is : nat_le w.begin floor ≡ true = grind (arith, nat_tests) in
+    rw is (kept_newest floor (w ∷ ws) rest)
+
+-- where one more comes it takes the place of what was held
+pub replaced_by : (old ms mid new : List Version) (v : Version) (b : Bool) → mid ≡ newest_only (old ++ ms) → new ≡ (if b then v ∷ [] else mid) → new ≡ newest_only (old ++ (ms ++ (if b then v ∷ [] else [])))
+replaced_by old ms mid new v true was is = is ∙ sym (newest_push (old ++ ms) v) ∙ ap newest_only (append_assoc old ms (v ∷ []))
+replaced_by old ms mid new v false was is = is ∙ was ∙ ap (λ (xs : List Version). newest_only (old ++ xs)) (sym (append-nil ms))

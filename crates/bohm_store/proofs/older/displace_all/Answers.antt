@@ -1,0 +1,68 @@
+use Rattle.std.proofs.Common.{◌≡◌, ◌++◌, ◌∷◌, [], ◌∙◌, ◌==◌, List, take, drop, get_or, ap, sym, arith, append-nil, append_assoc, if◌then◌else◌}
+use Rattle.std.proofs.lemmas.List.{take_all}
+use Rattle.bohm_store.specs.declared.version.Version.{Version}
+use Rattle.bohm_store.specs.declared.numbered_write.NumberedWrite.{NumberedWrite}
+use Rattle.bohm_store.specs.Held.{held_at}
+use Rattle.bohm_store.specs.Numbered.{older_of}
+use Rattle.bohm_store.specs.Writes.{versions_by}
+use Rattle.bohm_store.proofs.NumberedWrites.{by_more, climb_more, climb_end}
+use Rattle.bohm_store.proofs.OlderVersions.{rise_higher}
+use Rattle.bohm_store.proofs.older.displace_all.Goals as goal
+
+pub loop-i-init : goal.loop-i-init
+loop-i-init c = record {
+  room = omega (arith, c.requires.room);
+  versions = λ n linked. (sym (append-nil (older_of c.args.older.now.items n ++ held_at c.args.newest.now n)), linked);
+  climbs = λ n top rise climb. (n, omega arith, rise, climb);
+  due = λ floor n top rise climb h lt. h;
+}
+
+pub displace-requires-clause-number : goal.displace-requires-clause-number
+displace-requires-clause-number c =
+    let w = c.index-writes-i.result in
+    let low = c.requires.numbers c.loop-i.i w c.loop-i-test.true in
+    let here : w.number ≡ (get_or c.args.writes.now c.loop-i.i w).number = ap (λ (x : NumberedWrite). x.number) c.index-writes-i.is in
+    omega (arith, low, here)
+
+pub loop-i-preserved : goal.loop-i-preserved
+loop-i-preserved c =
+    let w = c.index-writes-i.result in
+    let ws = c.args.writes.now in
+    let i = c.loop-i.i in
+    let lt = c.loop-i-test.true in
+    let was = c.loop-i.invariant in
+    let made = c.displace.ensures in
+    record {
+      room = omega (arith, was.room, made.len, made.capacity);
+      versions = λ n linked. (
+          let (before, link) = was.versions n linked in
+          let old : List Version = older_of c.args.older.now.items n ++ held_at c.args.newest.now n in (
+            made.versions n link
+                ∙ ap (λ (vs : List Version). vs ++ (if (w.number == n) then w.version ∷ [] else [])) before
+                ∙ append_assoc old (versions_by (take i ws) n) (if (w.number == n) then w.version ∷ [] else [])
+                ∙ ap (λ (vs : List Version). old ++ vs) (sym (by_more ws i w n lt c.index-writes-i.is)),
+            made.linked n link,
+          ));
+      climbs = λ n top rise climb. (
+          let (m, le, risen, left) = was.climbs n top rise climb in
+          let (low, more) = climb_more ws i m top w lt c.index-writes-i.is left in
+          (w.version.begin, omega arith, made.climbs m risen low, more));
+      due = λ floor n top rise climb h above. (
+          let (m, le, risen, left) = was.climbs n top rise climb in
+          let (low, more) = climb_more ws i m top w lt c.index-writes-i.is left in
+          made.due floor (was.due floor n top rise climb h above) (omega arith));
+    }
+
+pub returns-clause-versions : goal.returns-clause-versions
+returns-clause-versions c n linked =
+    let ws = c.args.writes.now in
+    let whole : take c.loop-i.i ws ≡ ws = take_all c.loop-i.i ws c.loop-i-test.false in
+    (c.loop-i.invariant.versions n linked).0 ∙ ap (λ (xs : List NumberedWrite). (older_of c.args.older.now.items n ++ held_at c.args.newest.now n) ++ versions_by xs n) whole
+
+pub returns-clause-climbs : goal.returns-clause-climbs
+returns-clause-climbs c n top rise climb =
+    let (m, le, risen, left) = c.loop-i.invariant.climbs n top rise climb in
+    rise_higher m top c.loop-i.older.items risen (climb_end m top (drop c.loop-i.i c.args.writes.now) left)
+
+pub returns-clause-due : goal.returns-clause-due
+returns-clause-due c floor n top rise climb h lt = c.loop-i.invariant.due floor n top rise climb h lt

@@ -1,0 +1,75 @@
+-- A history by the numbers of keys.
+use Rattle.std.specs.Prelude.{◌≡◌, ℕ, ◌+◌, ◌<◌, ◌≤◌, ◌==◌, ◌&&◌, nat_lt, All, List, [], ◌∷◌, ◌++◌, length, if◌then◌else◌}
+use Rattle.bohm_store.specs.declared.version.Version.{Version}
+use Rattle.bohm_store.specs.Versions.{Rises, Timeline}
+use Rattle.bohm_store.specs.Chains.{UpTo, later_begins}
+use Rattle.bohm_store.specs.declared.held.Held.{Held}
+use Rattle.bohm_store.specs.declared.older.Older.{Older}
+use Rattle.bohm_store.specs.Held.{held_at, held_versions}
+
+-- what it is seen as
+pub record Numbered : Type 0 where
+  pub floor : ℕ
+  pub top : ℕ
+  pub newest : List Held
+  pub older : List Older
+
+-- ---- older versions, in the order in which others took their place
+
+-- those of the key with this number
+abbrev pub older_of : List Older → ℕ → List Version
+older_of [] n = []
+older_of (o ∷ os) n = (if (o.number == n) then o.version ∷ [] else []) ++ older_of os n
+
+-- where the versions begin that took their place
+abbrev pub ends_of : List Older → ℕ → List ℕ
+ends_of [] n = []
+ends_of (o ∷ os) n = (if (o.number == n) then o.end ∷ [] else []) ++ ends_of os n
+
+-- each ended at or above the one before, and none above the top
+abbrev pub EndsRise : ℕ → List Older → Type 0
+EndsRise top [] = Unit {0}
+EndsRise top (o ∷ os) = (o.end ≤ top) × All (λ p. o.end ≤ p.end) os × EndsRise top os
+
+-- where these versions of the key with this number end, before what is held, the next one begins
+abbrev pub IsLinked : List Older → ℕ → List Version → Type 0
+IsLinked os n held = later_begins (older_of os n ++ held) ≡ ends_of os n
+
+-- the first one ended above the floor
+abbrev pub IsNotDue : ℕ → List Older → Type 0
+IsNotDue floor [] = Unit {0}
+IsNotDue floor (o ∷ os) = floor < o.end
+
+-- of the key with this number the first older version that ended above ts, or the present one
+abbrev pub first_after : ℕ → List Older → ℕ → List Version → List Version
+first_after ts [] n now = now
+first_after ts (o ∷ os) n now = if ((o.number == n) && nat_lt ts o.end) then o.version ∷ [] else first_after ts os n now
+
+-- ---- all versions
+
+-- of the key with this number, oldest first
+abbrev pub versions_at : Numbered → ℕ → List Version
+versions_at h n = older_of h.older n ++ held_at h.newest n
+
+-- the versions of each number rise up to the top, and each older one ended where the next one begins, above the floor
+pub record IsNumbered (h : Numbered) : Type 0 where
+  pub ordered : h.floor ≤ h.top
+  pub low : (n : ℕ) → UpTo h.top (versions_at h n)
+  pub rising : (n : ℕ) → Rises (versions_at h n)
+  pub linked : (n : ℕ) → later_begins (versions_at h n) ≡ ends_of h.older n
+  pub climbs : EndsRise h.top h.older
+  pub due : All (λ o. h.floor < o.end) h.older
+
+-- each of these keys with what f says of its number, the first of which is n
+abbrev pub named : (ℕ → List Version) → ℕ → List (List ℕ) → List (List ℕ × List Version)
+named f n [] = []
+named f n (k ∷ ks) = (k, f n) ∷ named f (n + 1) ks
+
+-- the same history by the keys, of which each has its place in the names as its number
+abbrev pub timeline : List (List ℕ) → Numbered → Timeline
+timeline names h = record { floor = h.floor; top = h.top; chains = named (versions_at h) 0 names }
+
+-- how many of them are held
+abbrev pub filled : List Held → ℕ
+filled [] = 0
+filled (v ∷ vs) = length (held_versions v) + filled vs

@@ -1,0 +1,90 @@
+//! What a key holds.
+
+ghost use Rattle.std.specs.Prelude.{◌≡◌, ◌≤◌, [], ◌∷◌, length, option_to_list, slice_index_or};
+ghost use Rattle.bohm_tree.specs.declared.cell.Cell.TheVariants as cells;
+ghost use Rattle.bohm_store.specs.Versions.{cell_at};
+ghost use Rattle.bohm_store.specs.Held.{held_cell, held_versions};
+ghost use Rattle.bohm_store.specs.declared.held.Held.TheVariants.{Never};
+
+use crate::version::Version;
+use bohm_tree::{Cell, Value};
+
+/// What a key holds, and since which timestamp. It takes 16 bytes.
+#[derive(Clone, Copy, Debug)]
+pub enum Held {
+    /// The key has no version.
+    Never,
+    Absent { begin: u32 },
+    Present { begin: u32, value: Value },
+}
+
+impl Held {
+    pub fn new(begin: u32, cell: Cell) -> Held
+        ensures { held_versions result ≡ record { begin = begin; cell = cell } ∷ [] }
+    {
+        match cell {
+            Cell::Absent => Held::Absent { begin },
+            Cell::Present(value) => Held::Present { begin, value },
+        }
+    }
+
+    /// Its version.
+    pub fn version(self) -> Option<Version>
+        ensures { option_to_list result ≡ held_versions self }
+    {
+        match self {
+            Held::Never => None,
+            Held::Absent { begin } => Some(Version {
+                begin,
+                cell: Cell::Absent,
+            }),
+            Held::Present { begin, value } => Some(Version {
+                begin,
+                cell: Cell::Present(value),
+            }),
+        }
+    }
+
+    /// How many versions that is.
+    pub fn count(self) -> usize
+        ensures count { result ≡ length (held_versions self) }
+        ensures one { result ≤ 1 }
+    {
+        match self {
+            Held::Never => 0,
+            _ => 1,
+        }
+    }
+
+    /// The cell at or above the begin of its version.
+    pub fn cell(self) -> Cell
+        ensures { result ≡ held_cell self }
+    {
+        match self {
+            Held::Present { value, .. } => Cell::Present(value),
+            _ => Cell::Absent,
+        }
+    }
+
+    /// The cell at a timestamp, where no older version is known.
+    pub fn cell_at(self, ts: u32) -> Cell
+        ensures { result ≡ cell_at ts (held_versions self) cells.Absent }
+    {
+        match self {
+            Held::Present { begin, value } if begin <= ts => Cell::Present(value),
+            _ => Cell::Absent,
+        }
+    }
+}
+
+const _: () = prove!(std::mem::size_of::<Held>() == 16);
+
+/// What the key with a number holds.
+pub fn held_of(newest: &[Held], number: u32) -> Held
+    ensures { result ≡ slice_index_or newest.now number Never }
+{
+    match newest.get(number as usize) {
+        Some(held) => *held,
+        None => Held::Never,
+    }
+}

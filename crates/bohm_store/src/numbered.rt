@@ -1,0 +1,278 @@
+//! The versions of all keys, by the numbers of the keys.
+
+ghost use Rattle.std.specs.Prelude.{◌≡◌, ◌+◌, ◌++◌, ◌<◌, ◌≤◌, ℕ, List, [], length, max, min, true, OnOk, OnErr, IfOk};
+ghost use Rattle.std.specs.FinMap.{entries};
+ghost use Rattle.std.specs.List.{IsDistinct};
+ghost use Rattle.std.specs.Str.{bytes_eq};
+ghost use Rattle.bohm_tree.specs.Keys.{rising, names_of};
+ghost use Rattle.bohm_tree.specs.declared.cell.Cell.TheVariants as cells;
+ghost use Rattle.bohm_txn.specs.Stores.{cell_in, store_of};
+ghost use Rattle.bohm_board.specs.Batches.{txns_of};
+ghost use Rattle.bohm_store.specs.Versions.{IsCellAt, Rises, cell_at, kept_versions, past, total, versions};
+ghost use Rattle.bohm_store.specs.Chains.{starting_versions};
+ghost use Rattle.bohm_store.specs.Nexts.{IsNext, IsSettled, IsSettledKept};
+ghost use Rattle.bohm_store.specs.Writes.{AreWritesOf};
+ghost use Rattle.bohm_store.specs.Numbered.{timeline, versions_at};
+
+use crate::held::{Held, held_of};
+use crate::listing::{count_held, present_at};
+use crate::numbered_write::NumberedWrite;
+use crate::older::{Older, add, cell_before, trim};
+use crate::replacing::replace_all;
+use bohm_board::Batch;
+use bohm_tree::{Cell, Key, NoMemory, Value};
+use std::alloc::Global;
+use std::collections::VecDeque;
+use std::marker::Model;
+
+/// The versions of each key, by its number, from a floor up to a top, which are timestamps. The
+/// newest one lies at the number, and the others stand in a queue, in the order of their ends.
+#[derive(Drop)]
+pub struct NumberedHistory {
+    newest: Vec<Held>,
+    older: VecDeque<Older>,
+    floor: u32,
+    top: u32,
+}
+
+impl Model for NumberedHistory {
+    ghost use Rattle.bohm_store.specs.Numbered.{Numbered, IsNumbered};
+
+    ghost Value = { Numbered };
+
+    ghost view = { λ h. record {
+      floor = h.floor;
+      top = h.top;
+      newest = h.newest.items;
+      older = h.older.items;
+    } };
+
+    ghost invariant = { λ h. IsNumbered (record {
+      floor = h.floor;
+      top = h.top;
+      newest = h.newest.items;
+      older = h.older.items;
+    }) };
+}
+
+impl NumberedHistory {
+    /// The history of the empty store, for no key. It takes no memory.
+    pub fn empty(alloc: Global) -> NumberedHistory
+        ensures floor { result.floor ≡ 0 }
+        ensures top { result.top ≡ 0 }
+        ensures none { result.newest ≡ [] }
+        ensures versions { (n : ℕ) → versions_at result n ≡ [] }
+    {
+        NumberedHistory {
+            newest: Vec::new(alloc),
+            older: VecDeque::new(alloc),
+            floor: 0,
+            top: 0,
+        }
+    }
+
+    /// The history of a starting store, whose entries rise by their keys: the number of a key is
+    /// its place among them.
+    pub fn open(alloc: Global, entries: &[(Key, Value)]) -> Result<NumberedHistory, NoMemory>
+        requires { rising (names_of entries.now) ≡ true }
+        ensures floor { IfOk result (λ h. h.floor ≡ 0) }
+        ensures top { IfOk result (λ h. h.top ≡ 0) }
+        ensures long { IfOk result (λ h. length h.newest ≡ length entries.now) }
+        ensures versions { IfOk result
+            (λ h. (k : List ℕ)
+            → versions (timeline (names_of entries.now) h) k
+            ≡ starting_versions (cell_in (store_of entries.now) k)) }
+    {
+        let mut newest = Vec::with_capacity(alloc, entries.len())?;
+        for (_, value) in entries {
+            newest.push(Held::Present {
+                begin: 0,
+                value: *value,
+            })?;
+        }
+        Ok(NumberedHistory {
+            newest,
+            older: VecDeque::new(alloc),
+            floor: 0,
+            top: 0,
+        })
+    }
+
+    /// The least timestamp of which the past is kept.
+    pub fn floor(&self) -> u32
+        ensures { result ≡ self.now.floor }
+    {
+        self.floor
+    }
+
+    /// The timestamp of the last transaction, or 0.
+    pub fn top(&self) -> u32
+        ensures top { result ≡ self.now.top }
+        ensures ordered { self.now.floor ≤ result }
+    {
+        self.top
+    }
+
+    /// For how many keys there is room. Those behind have no version.
+    pub fn len(&self) -> usize
+        ensures len { result ≡ length self.now.newest }
+        ensures behind { (n : ℕ) → length self.now.newest ≤ n → versions_at self.now n ≡ [] }
+    {
+        self.newest.len()
+    }
+
+    /// Makes room for the keys with numbers below a count: new ones have no version. Its time grows
+    /// with how many are new.
+    pub fn cover(&mut self, count: usize) -> Result<(), NoMemory>
+        ensures floor { self.new.floor ≡ self.old.floor }
+        ensures top { self.new.top ≡ self.old.top }
+        ensures versions { (n : ℕ) → versions_at self.new n ≡ versions_at self.old n }
+        ensures long { OnOk result (length self.new.newest ≡ max (length self.old.newest) count) }
+        ensures same { OnErr result (self.new ≡ self.old) }
+    {
+        if self.newest.len() < count {
+            self.newest.resize(count, Held::Never)?;
+        }
+        Ok(())
+    }
+
+    /// What the key with a number holds at the top.
+    pub fn cell(&self, number: u32) -> Cell
+        ensures { result ≡ cell_at self.now.top (versions_at self.now number) cells.Absent }
+    {
+        held_of(&self.newest, number).cell()
+    }
+
+    /// What the key with a number held after the transaction with a timestamp. Its time grows with
+    /// how many versions of all keys ended above the timestamp.
+    pub fn cell_at(&self, number: u32, ts: u32) -> Cell
+        ensures cell { result ≡ cell_at ts (versions_at self.now number) cells.Absent }
+        ensures newest { IsCellAt ts (versions_at self.now number) result }
+    {
+        cell_before(&self.older, held_of(&self.newest, number), number, ts)
+    }
+
+    /// Where the floor is above the present one it becomes the floor, and of each key there stay
+    /// the versions that begin above it and the newest one at or below it. Its time grows with how
+    /// many versions go.
+    pub fn trim(&mut self, floor: u32)
+        requires { floor ≤ self.old.top }
+        ensures floor { self.new.floor ≡ max self.old.floor floor }
+        ensures top { self.new.top ≡ self.old.top }
+        ensures newest { self.new.newest ≡ self.old.newest }
+        ensures versions { self.old.floor < floor → (n : ℕ)
+            → versions_at self.new n ≡ kept_versions floor (versions_at self.old n) }
+        ensures unchanged { floor ≤ self.old.floor → (n : ℕ)
+            → versions_at self.new n ≡ versions_at self.old n }
+        ensures rising { (n : ℕ) → Rises (versions_at self.old n) }
+    {
+        if floor <= self.floor {
+            return;
+        }
+        trim(&mut self.older, floor);
+        self.floor = floor;
+    }
+
+    /// Settles the next batch, by the list of its writes, and keeps the batch's end alone. It takes
+    /// no memory. Its time grows with the number of the writes.
+    pub fn settle_newest(&mut self, names: &[Key], batch: &Batch<'_>, writes: &[NumberedWrite])
+        requires names { IsDistinct bytes_eq names.now }
+        requires long { length names.now ≤ length self.old.newest }
+        requires next { IsNext (timeline names.now self.old) batch.now }
+        requires writes { AreWritesOf names.now batch.now writes.now }
+        ensures long { length self.new.newest ≡ length self.old.newest }
+        ensures settled { IsSettledKept (timeline names.now self.old) (timeline names.now self.new)
+            (txns_of batch.now) (self.old.top + length (txns_of batch.now)) }
+    {
+        self.older.clear();
+        replace_all(self.newest.as_mut_slice(), writes);
+        self.top += batch.len();
+        self.floor = self.top;
+    }
+
+    /// Adds the versions of the next batch, by the list of its writes. A refusal changes nothing.
+    pub fn settle_writes(
+        &mut self,
+        names: &[Key],
+        batch: &Batch<'_>,
+        writes: &[NumberedWrite],
+    ) -> Result<(), NoMemory>
+        requires names { IsDistinct bytes_eq names.now }
+        requires long { length names.now ≤ length self.old.newest }
+        requires next { IsNext (timeline names.now self.old) batch.now }
+        requires writes { AreWritesOf names.now batch.now writes.now }
+        ensures err { OnErr result (self.new ≡ self.old) }
+        ensures long { OnOk result (length self.new.newest ≡ length self.old.newest) }
+        ensures ok { OnOk result (IsSettled
+            (timeline names.now self.old) (timeline names.now self.new) (txns_of batch.now)) }
+    {
+        match add(self.newest.as_mut_slice(), &mut self.older, writes) {
+            Ok(()) => {
+                self.top += batch.len();
+                Ok(())
+            }
+            Err(error) => Err(error),
+        }
+    }
+
+    /// The same, and then trims. A refusal changes nothing.
+    pub fn settle_above(
+        &mut self,
+        names: &[Key],
+        batch: &Batch<'_>,
+        writes: &[NumberedWrite],
+        floor: u32,
+    ) -> Result<(), NoMemory>
+        requires names { IsDistinct bytes_eq names.now }
+        requires long { length names.now ≤ length self.old.newest }
+        requires next { IsNext (timeline names.now self.old) batch.now }
+        requires writes { AreWritesOf names.now batch.now writes.now }
+        requires floor { floor ≤ self.old.top + length (txns_of batch.now) }
+        ensures err { OnErr result (self.new ≡ self.old) }
+        ensures long { OnOk result (length self.new.newest ≡ length self.old.newest) }
+        ensures ok { OnOk result (IsSettledKept
+            (timeline names.now self.old) (timeline names.now self.new) (txns_of batch.now) floor) }
+    {
+        match self.settle_writes(names, batch, writes) {
+            Ok(()) => {
+                self.trim(floor);
+                Ok(())
+            }
+            Err(error) => Err(error),
+        }
+    }
+
+    /// What each key held after the transaction with a timestamp: the keys that had a value, rising,
+    /// with it. Its time grows with the number n of names as n log n, and with how many versions
+    /// ended above the timestamp.
+    pub fn store_at(
+        &self,
+        alloc: Global,
+        names: &[Key],
+        ts: u32,
+    ) -> Result<Vec<(Key, Value)>, NoMemory>
+        requires names { IsDistinct bytes_eq names.now }
+        requires long { length names.now ≤ length self.now.newest }
+        ensures past { IfOk result
+            (λ v. cell_in (store_of v.items) ≡ past (timeline names.now self.now) ts) }
+        ensures entries { IfOk result (λ v. v.items ≡ entries (store_of v.items)) }
+    {
+        match present_at(alloc, &self.newest, &self.older, names, ts) {
+            Ok(mut list) => {
+                list.sort_unstable_by(|entry, other| entry.0.cmp(&other.0));
+                Ok(list)
+            }
+            Err(error) => Err(error),
+        }
+    }
+
+    /// How many versions the keys with these names have, or the greatest number of 64 bits where
+    /// there are more. Its time grows with the number of keys.
+    pub fn count(&self, names: &[Key]) -> u64
+        requires { length self.now.newest ≤ length names.now }
+        ensures { result ≡ min (total (timeline names.now self.now).chains) 18446744073709551615 }
+    {
+        let _ = names;
+        (count_held(&self.newest) as u64).saturating_add(self.older.len() as u64)
+    }
+}

@@ -1,0 +1,44 @@
+//! The numbers of keys in a history.
+
+ghost use Rattle.std.specs.Prelude.{◌≡◌, Some, slice_get, true, IfOk};
+ghost use Rattle.bohm_log.specs.Parts.{Begins};
+
+use crate::seats::Hints;
+use bohm_log::{HashSeed, Names};
+use bohm_tree::{Key, NoMemory};
+
+/// Whether this number is that of a key.
+pub fn is_numbered(names: &[Key], number: u32, key: &Key) -> bool
+    ensures { result ≡ true → slice_get names.now number ≡ Some key.now }
+{
+    let number = number as usize;
+    if number < names.len() {
+        names[number] == *key
+    } else {
+        false
+    }
+}
+
+/// The number of a key, which gets one if it has none. It is hashed only where the number that it
+/// had when it was last seen is not its own. A refusal leaves no key without its number.
+pub fn number_of(
+    names: &mut Names<HashSeed>,
+    hints: &mut Hints,
+    place: u32,
+    key: &Key,
+) -> Result<u32, NoMemory>
+    ensures longer { Begins names.old names.new }
+    ensures named { IfOk result (λ n. slice_get names.new n ≡ Some key.now) }
+{
+    let hint = hints.number(place);
+    if is_numbered(names.as_slice(), hint, key) {
+        return Ok(hint);
+    }
+    match names.id(*key) {
+        Ok(number) => {
+            hints.note(place, number);
+            Ok(number)
+        }
+        Err(_) => Err(NoMemory),
+    }
+}
