@@ -1,7 +1,7 @@
 /* bohm.h: the proved executor in another program.
  *
- * Link crates/bohm_c/out/libbohm_c.a and the toolchain's c/liblibc_c.a. docs/embedding.md says how it is
- * built, and what is trusted.
+ * Link libbohm.a, or its shared object libbohm.so.0. docs/embedding.md says how they are built, and what is
+ * trusted.
  *
  * Of every call:
  * - No pointer is null, also where its length is 0, and none points into what another one points to.

@@ -20,7 +20,7 @@ pub use alone::apply_alone;
 pub use answering::{read_log, run_text};
 pub use applying::{Applied, apply};
 pub use bohm_line::{ByteSum, Cuts, Line, PlanNote, PlanReceiver, PlanSender, plan_line};
-pub use bytes::{LONGEST_TEXT, write_all};
+pub use bytes::{LONGEST_TEXT, read_all, write_all};
 pub use fault::RunFault;
 pub use fault_line::{print_fault, write_fault};
 pub use running::{Answer, run};
