@@ -6,6 +6,8 @@ mod Inside
 mod Rising
 mod Greatest
 mod Rules
+mod Chaining
+mod Drawn
 mod Steps
 mod Listing
 mod Tallying

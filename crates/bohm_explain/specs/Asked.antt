@@ -1,6 +1,5 @@
 -- What is asked of an explanation, the ranges and the defaults.
 use Rattle.std.specs.Prelude.{ℕ, ◌≤◌, Option, None, IfSome}
-use Rattle.bohm_explain.specs.declared.request.TheConstants.{LARGEST_BATCH, MOST_LISTED, LAST_BATCH}
 
 pub record Asked : Type 0 where
   pub batch : ℕ
@@ -12,9 +11,9 @@ IsBetween least most n = (least ≤ n) × (n ≤ most)
 
 -- each number lies in its range
 pub record AreInRange (asked : Asked) : Type 0 where
-  pub batch : IsBetween 1 LARGEST_BATCH asked.batch
-  pub top : asked.top ≤ MOST_LISTED
-  pub picture : IfSome asked.picture (IsBetween 1 LAST_BATCH)
+  pub batch : IsBetween 1 4096 asked.batch
+  pub top : asked.top ≤ 1000
+  pub picture : IfSome asked.picture (IsBetween 1 1000000)
 
 abbrev pub defaults : Asked
-defaults = record { batch = LARGEST_BATCH; top = 10; picture = None }
+defaults = record { batch = 4096; top = 10; picture = None }

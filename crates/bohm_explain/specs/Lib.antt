@@ -1,6 +1,7 @@
 pub mod Asked
 pub mod Wanted
 pub mod Heaviest
+pub mod Chains
 pub mod Weighing
 pub mod Figures
 pub mod Table

@@ -1,13 +1,17 @@
 //! Laws over the definitions alone. No running call uses them.
 
-ghost use Rattle.std.specs.Prelude.{◌≡◌, ◌+◌, ◌<◌, ℕ, List, length, slice_index};
+ghost use Rattle.std.specs.Prelude.{◌≡◌, ◌+◌, ◌<◌, ◌↔◌, ℕ, List, Contains, length, slice_index, slice_index_or, true, false};
 ghost use Rattle.bohm_tree.specs.Txn.{Txn};
 ghost use Rattle.bohm_explain.specs.declared.arrow.Arrow.{Arrow};
 ghost use Rattle.bohm_explain.specs.declared.heat.Heat.{Heat};
+ghost use Rattle.bohm_place.specs.Chains.{greatest};
+ghost use Rattle.bohm_explain.specs.Chains.{EndsAt, IsChainOf, IsGreatest, IsOn, LeadsOn, weight_of};
 ghost use Rattle.bohm_explain.specs.Figures.{depths};
 ghost use Rattle.bohm_explain.specs.Heaviest.{AreRising, greatest_wanted, greatest_wanting, heaviest_from, heaviest_to};
+ghost use Rattle.bohm_explain.specs.Printed.{heights, longest};
 ghost use Rattle.bohm_explain.specs.Ranking.{IsRanking};
 ghost use Rattle.bohm_explain.specs.Wanted.{arrows};
+ghost use Rattle.bohm_explain.specs.Weighing.{weights};
 
 /// Each transaction wants versions of earlier ones alone, and the wanted versions stand in log
 /// order.
@@ -36,6 +40,26 @@ pub fn chain_from_each()
     ensures { (weights : List ℕ) (wanted : List Arrow) (p : ℕ) → AreRising 0 wanted
         → p < length weights → slice_index (heaviest_from weights wanted) p
         ≡ slice_index weights p + greatest_wanting (slice_index (heaviest_from weights wanted)) wanted p }
+{}
+
+/// What is told of a batch's chains: a chain is a list of its transactions, each of which but the
+/// first wants a version of the one before. A depth is the length of a longest chain, of all or of
+/// those that end at a transaction; an arrow's chain that of a longest one by the arrow; the
+/// heaviest weight that of a heaviest chain; and a transaction is marked exactly where a longest
+/// chain has it.
+pub fn chains_of_a_batch()
+    ensures depth { (txns : List Txn) → 0 < length txns
+        → IsGreatest length (IsChainOf txns) (greatest (depths txns)) }
+    ensures depth_at { (txns : List Txn) (p : ℕ) → p < length txns
+        → IsGreatest length (λ c. IsChainOf txns c × EndsAt p c) (slice_index (depths txns) p) }
+    ensures through { (txns : List Txn) (a : Arrow) → Contains (arrows txns) a
+        → IsGreatest length (λ c. IsChainOf txns c × LeadsOn a.from a.to c)
+        (slice_index (depths txns) a.from + slice_index (heights txns) a.to) }
+    ensures heaviest { (txns : List Txn) → 0 < length txns
+        → IsGreatest (weight_of (weights txns)) (IsChainOf txns)
+        (greatest (heaviest_to (weights txns) (arrows txns))) }
+    ensures longest { (txns : List Txn) (p : ℕ) → p < length txns
+        → (slice_index_or (longest txns) p false ≡ true) ↔ IsOn txns p (greatest (depths txns)) }
 {}
 
 /// There is one ranking of some heats, however they come.
