@@ -1,0 +1,9 @@
+mod Lists
+mod Listing
+mod Leading
+mod Counting
+mod Adding
+mod Falling
+mod Totals
+mod Placed
+mod Rows

@@ -1,0 +1,38 @@
+-- A statement of a transaction by its row.
+use Rattle.std.proofs.Common.{◌≡◌, ℕ, zero, suc, ◌<◌, List, [], ◌∷◌, length, map, take, get_or, Some, refl, ap, sym, ◌∙◌, subst, arith}
+use Rattle.std.specs.Prelude.{Option, IsSomeAnd}
+use Rattle.std.specs.List.{slice_get}
+use Rattle.std.proofs.lemmas.List.{take-map}
+use Rattle.bohm_tree.specs.declared.edition.Edition.{Edition}
+use Rattle.bohm_tree.specs.Stmt.{Stmt}
+use Rattle.bohm_tree.specs.Txn.{Txn}
+use Rattle.bohm_log.specs.declared.row.StmtRow.{StmtRow}
+use Rattle.bohm_log.specs.Parts.{Parts, stmt_of, txn_of}
+
+pub mapped : {A B : Type 0} (f : A → B) (xs : List A) (i : ℕ) (d : A) → i < length xs → slice_get (map f xs) i ≡ Some (f (get_or xs i d))
+mapped f [] i d inside = absurd (omega (arith, inside))
+mapped f (x ∷ xs) zero d inside = refl
+mapped f (x ∷ xs) (suc i) d inside = mapped f xs i d (omega (arith, inside))
+
+pub mapped_length : {A B : Type 0} (f : A → B) (xs : List A) → length (map f xs) ≡ length xs
+mapped_length f [] = refl
+mapped_length f (x ∷ xs) = ap (λ n. suc n) (mapped_length f xs)
+
+module _ (t : Txn) (e : Edition) (p : Parts) (same : txn_of e p ≡ t) (rows : List StmtRow) (held : rows ≡ p.rows) (i : ℕ) where
+  body_mapped : t.body ≡ map (stmt_of p) rows
+  body_mapped = ap (λ (t : Txn). t.body) (sym same) ∙ ap (map (stmt_of p)) (sym held)
+
+  -- a statement is that of its row
+  pub row_there : (d : StmtRow) → i < length rows → slice_get t.body i ≡ Some (stmt_of p (get_or rows i d))
+  row_there d inside = rw body_mapped (mapped (stmt_of p) rows i d inside)
+
+  -- and those before it those of the rows before it
+  pub rows_before : map (stmt_of p) (take i rows) ≡ take i t.body
+  rows_before = sym (take-map (stmt_of p) i rows) ∙ ap (take i) (sym body_mapped)
+
+  pub rows_within : i < length t.body → i < length rows
+  rows_within inside = subst (λ (n : ℕ). i < n) (ap length body_mapped ∙ mapped_length (stmt_of p) rows) inside
+
+  -- what holds of the row's statement holds of the statement there
+  pub row_at : i < length t.body → (P : Stmt → Type 0) (d : StmtRow) → P (stmt_of p (get_or rows i d)) → IsSomeAnd (slice_get t.body i) P
+  row_at inside P d h = subst (λ (o : Option Stmt). IsSomeAnd o P) (sym (row_there d (rows_within inside))) h

@@ -1,0 +1,84 @@
+//! The check of a text.
+
+ghost use Rattle.std.specs.Prelude.{◌≡◌, IfOk, IfErr};
+ghost use Rattle.bohm_tree.specs.Sound.{IsDocument};
+ghost use Rattle.bohm_text.specs.Print.{print_doc};
+ghost use Rattle.bohm_txn.specs.Faulty.{WellFormed};
+ghost use Rattle.bohm_check.specs.Refusals.{IsChecked, RefusesDocument, RefusesText, Refuses};
+
+use crate::finding::faults;
+use crate::refusal::Refusal;
+use crate::report::put_faults;
+use crate::summary::Summary;
+use crate::text_faults::put_text_fault;
+use bohm_log::{Doc, HashSeed};
+use bohm_text::{TextFault, parse_with_seed};
+use bohm_txn::{Checked, check};
+use std::alloc::Global;
+
+/// The document that a text is. What is said of a text that is none is added to the report, as far
+/// as there is memory.
+fn read_document(
+    alloc: Global,
+    seed: HashSeed,
+    text: &[u8],
+    report: &mut Vec<u8>,
+) -> Result<Doc, Refusal>
+    ensures found { IfOk result (λ doc. print_doc doc ≡ text.now) }
+    ensures sound { IfOk result IsDocument }
+    ensures err { IfErr result (RefusesText text.now) }
+{
+    match parse_with_seed(alloc, seed, text) {
+        Ok(doc) => Ok(doc),
+        Err(TextFault::NoMemory) => Err(Refusal::NoMemory),
+        Err(fault) => {
+            let _ = put_text_fault(alloc, report, text, fault);
+            Err(Refusal::Text(fault))
+        }
+    }
+}
+
+/// The document, if it has no faults. What is said of its faults is added to the report, as far as
+/// there is memory.
+fn check_document(
+    alloc: Global,
+    doc: Doc,
+    text: &[u8],
+    report: &mut Vec<u8>,
+) -> Result<Checked, Refusal>
+    ensures ok { IfOk result (λ checked. checked ≡ doc) }
+    ensures well_formed { IfOk result WellFormed }
+    ensures err { IfErr result (RefusesDocument doc) }
+{
+    let told = faults(alloc, &doc)?;
+    match told.as_slice() {
+        [first, ..] => {
+            let _ = put_faults(alloc, report, &doc, text, told.as_slice());
+            Err(Refusal::Check(first.fault))
+        }
+        [] => match check(doc) {
+            Ok(checked) => Ok(checked),
+            Err(fault) => Err(Refusal::Check(fault)),
+        },
+    }
+}
+
+/// What the log that a text is holds, or why it is none, which is what a run refuses it for. What is
+/// to be said of it to people is added to the report, as far as there is memory: of a text that is no
+/// document's, its first bad line; of a document, its faults, up to 20.
+///
+/// Names are hashed from the seed. The time grows with the length of the text, and with the number k
+/// of its keys as k log k.
+pub fn check_text(
+    alloc: Global,
+    seed: HashSeed,
+    text: &[u8],
+    report: &mut Vec<u8>,
+) -> Result<Summary, Refusal>
+    ensures ok { IfOk result (IsChecked text.now) }
+    ensures err { IfErr result (Refuses text.now) }
+{
+    let doc = read_document(alloc, seed, text, report)?;
+    let checked = check_document(alloc, doc, text, report)?;
+    Ok(Summary::of(alloc, &checked)?)
+}

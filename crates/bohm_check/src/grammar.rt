@@ -1,0 +1,259 @@
+//! What may stand on a line, word by word.
+
+use crate::spelling::{Fit, Spelling, best_fit};
+
+/// Which line comes next in a text.
+#[derive(Clone, Copy, Debug, PartialEq, Eq)]
+pub enum Place {
+    Head,
+    /// A line of the store, or the first transaction's opening.
+    Store,
+    /// A further transaction's opening.
+    Between,
+    Reads,
+    Writes,
+    /// A statement, or the transaction's closing.
+    Body,
+}
+
+impl Place {
+    /// Which line comes behind a line that may stand here.
+    pub fn behind(self, line: &[u8]) -> Place {
+        match self {
+            Place::Head => Place::Store,
+            Place::Store if line != b"txn".as_slice() => Place::Store,
+            Place::Store | Place::Between => Place::Reads,
+            Place::Reads => Place::Writes,
+            Place::Writes => Place::Body,
+            Place::Body if line != b"end".as_slice() => Place::Body,
+            Place::Body => Place::Between,
+        }
+    }
+
+    /// Whether a text may end here.
+    pub fn may_end(self) -> bool {
+        matches!(self, Place::Store | Place::Between)
+    }
+}
+
+/// What a sum's end may be.
+#[derive(Clone, Copy, Debug, PartialEq, Eq)]
+pub enum SumEnd {
+    /// The end of the line.
+    Line,
+    /// The end of the line, or `when`.
+    Guard,
+    /// A comparison.
+    Comparison,
+}
+
+/// Which word comes next on a line.
+#[derive(Clone, Copy, Debug, PartialEq, Eq)]
+pub enum State {
+    Log,
+    Edition,
+    Entry,
+    /// The number of a line of the store. Its key may be `txn`, which opens a transaction as well.
+    Number { opens: bool },
+    Opening,
+    Reads,
+    Writes,
+    MoreKeys,
+    Verb,
+    SetKey,
+    SetEquals,
+    LetName,
+    LetEquals,
+    Need,
+    /// What is behind `need has` and `need no`: a key, or what is behind a sum's first term.
+    Presence,
+    DropKey,
+    FirstTerm(SumEnd),
+    BehindTerm(SumEnd),
+    FurtherTerm { minus: bool, end: SumEnd },
+    LineEnd,
+}
+
+const CMP: Spelling = Spelling::OneOf(&[b"<", b"<=", b"=", b">=", b">"]);
+
+const SIGN: Spelling = Spelling::OneOf(&[b"+", b"-"]);
+
+impl State {
+    /// The first word of a line.
+    pub fn at(place: Place) -> State {
+        match place {
+            Place::Head => State::Log,
+            Place::Store => State::Entry,
+            Place::Between => State::Opening,
+            Place::Reads => State::Reads,
+            Place::Writes => State::Writes,
+            Place::Body => State::Verb,
+        }
+    }
+
+    /// Whether the line may end before this word.
+    pub fn may_end(self) -> bool {
+        matches!(
+            self,
+            State::LineEnd
+                | State::MoreKeys
+                | State::Number { opens: true }
+                | State::BehindTerm(SumEnd::Line | SumEnd::Guard)
+        )
+    }
+
+    /// The spellings of the word.
+    fn spellings(self) -> &'static [Spelling] {
+        match self {
+            State::Log => &[Spelling::OneOf(&[b"log"])],
+            State::Edition => &[Spelling::OneOf(&[b"1", b"2"])],
+            State::Entry | State::MoreKeys | State::SetKey | State::DropKey => &[Spelling::Key],
+            State::Number { .. } => &[Spelling::Number],
+            State::Opening => &[Spelling::OneOf(&[b"txn"])],
+            State::Reads => &[Spelling::OneOf(&[b"reads"])],
+            State::Writes => &[Spelling::OneOf(&[b"writes"])],
+            State::Verb => &[Spelling::OneOf(&[
+                b"set", b"let", b"need", b"show", b"drop", b"fail", b"end",
+            ])],
+            State::SetEquals | State::LetEquals => &[Spelling::OneOf(&[b"="])],
+            State::LetName => &[Spelling::Local],
+            State::Need | State::FirstTerm(_) => &[Spelling::FirstTerm],
+            State::Presence => &[Spelling::Key, SIGN, CMP],
+            State::BehindTerm(SumEnd::Line) => &[SIGN],
+            State::BehindTerm(SumEnd::Guard) => &[SIGN, Spelling::OneOf(&[b"when"])],
+            State::BehindTerm(SumEnd::Comparison) => &[SIGN, CMP],
+            State::FurtherTerm { minus: true, .. } => &[Spelling::TakenAtom],
+            State::FurtherTerm { minus: false, .. } => &[Spelling::Atom],
+            State::LineEnd => &[],
+        }
+    }
+
+    /// What the word is called.
+    pub fn called(self) -> &'static str {
+        match self {
+            State::Log | State::Edition => "`log 1` or `log 2`",
+            State::Entry => "a key of the store and its number, or `txn`",
+            State::Number { .. } =>
+                "a whole number, from -9223372036854775808 to 9223372036854775807",
+            State::Opening => "`txn`",
+            State::Reads => "`reads` and the keys that the transaction reads",
+            State::Writes => "`writes` and the keys that the transaction writes",
+            State::MoreKeys => "a key or the line's end",
+            State::Verb => "a statement (`set`, `let`, `need`, `show`, `drop` or `fail`) or `end`",
+            State::SetKey | State::DropKey => "a key",
+            State::SetEquals | State::LetEquals => "`=`",
+            State::LetName => "a local, which is `$` and a name",
+            State::Need => "`has`, `no` or a sum",
+            State::Presence => "a key",
+            State::FirstTerm(_) => "a sum: a number, a key or a local",
+            State::FurtherTerm { .. } => "a number, a key or a local",
+            State::BehindTerm(SumEnd::Line) => "`+`, `-` or the line's end",
+            State::BehindTerm(SumEnd::Guard) => "`+`, `-`, `when` or the line's end",
+            State::BehindTerm(SumEnd::Comparison) => "`+`, `-`, `<`, `<=`, `=`, `>=` or `>`",
+            State::LineEnd => "the line's end",
+        }
+    }
+
+    /// Whether the word may be a number.
+    pub fn takes_number(self) -> bool {
+        matches!(
+            self,
+            State::Number { .. } | State::Need | State::FirstTerm(_) | State::FurtherTerm { .. }
+        )
+    }
+
+    /// How far a word is one that may stand here.
+    pub fn fit(self, word: &[u8]) -> Fit {
+        best_fit(self.spellings(), word)
+    }
+
+    /// Which word comes behind one that may stand here.
+    pub fn behind(self, word: &[u8]) -> State {
+        match self {
+            State::Log => State::Edition,
+            State::Edition | State::Opening | State::DropKey | State::LineEnd => State::LineEnd,
+            State::Entry => State::Number {
+                opens: word == b"txn".as_slice(),
+            },
+            State::Number { .. } => State::LineEnd,
+            State::Reads | State::Writes | State::MoreKeys => State::MoreKeys,
+            State::Verb => behind_verb(word),
+            State::SetKey => State::SetEquals,
+            State::SetEquals => State::FirstTerm(SumEnd::Guard),
+            State::LetName => State::LetEquals,
+            State::LetEquals => State::FirstTerm(SumEnd::Line),
+            State::Need if word == b"has".as_slice() || word == b"no".as_slice() => State::Presence,
+            State::Need => State::BehindTerm(SumEnd::Comparison),
+            State::Presence if word.first().is_some_and(|byte| byte.is_ascii_lowercase()) => {
+                State::LineEnd
+            }
+            State::Presence => behind_term(SumEnd::Comparison, word),
+            State::FirstTerm(end) => State::BehindTerm(end),
+            State::BehindTerm(end) => behind_term(end, word),
+            State::FurtherTerm { end, .. } => State::BehindTerm(end),
+        }
+    }
+}
+
+/// What comes behind a statement's first word.
+fn behind_verb(verb: &[u8]) -> State {
+    match verb.first() {
+        Some(b's') if verb == b"set".as_slice() => State::SetKey,
+        Some(b's') => State::FirstTerm(SumEnd::Line),
+        Some(b'l') => State::LetName,
+        Some(b'n') => State::Need,
+        Some(b'd') => State::DropKey,
+        _ => State::LineEnd,
+    }
+}
+
+/// What comes behind the word behind a term: a sign, `when` or a comparison.
+fn behind_term(end: SumEnd, word: &[u8]) -> State {
+    match word.first() {
+        Some(b'+') => State::FurtherTerm { minus: false, end },
+        Some(b'-') => State::FurtherTerm { minus: true, end },
+        Some(b'w') => State::FirstTerm(SumEnd::Comparison),
+        _ => State::FirstTerm(SumEnd::Line),
+    }
+}
+
+/// Where a line stops being one that may stand at a place.
+#[derive(Clone, Copy, Debug, PartialEq, Eq)]
+pub struct Halt {
+    /// The bytes before it, with which a line that may stand there begins.
+    pub offset: usize,
+    /// Which word stands there, or isn't there.
+    pub state: State,
+}
+
+/// Where a line stops being one that may stand at a place: at the least number of bytes of which,
+/// with one more, no such line begins. Nothing where it is one. The time grows with the line.
+pub fn first_halt(place: Place, line: &[u8]) -> Option<Halt> {
+    let mut state = State::at(place);
+    let mut offset: usize = 0;
+    for word in line.split(|byte| *byte == b' ') {
+        if state == State::LineEnd {
+            return Some(Halt {
+                offset: offset.saturating_sub(1),
+                state,
+            });
+        }
+        let fit = state.fit(word);
+        if !fit.is_whole {
+            return Some(Halt {
+                offset: offset.saturating_add(fit.good),
+                state,
+            });
+        }
+        state = state.behind(word);
+        offset = offset.saturating_add(word.len()).saturating_add(1);
+    }
+    if state.may_end() {
+        None
+    } else {
+        Some(Halt {
+            offset: line.len(),
+            state,
+        })
+    }
+}

@@ -1,0 +1,35 @@
+//! What is wrong with a log, for the people who write logs: all faults of a document with the lines
+//! on which they stand, where a bad line stops being one, and what to write instead.
+#![tactic(auto)]
+
+mod checking;
+mod cursor;
+mod finding;
+mod grammar;
+mod heads;
+mod lines;
+mod locals;
+mod marking;
+mod mending;
+mod mistakes;
+mod names;
+mod refusal;
+mod report;
+mod sets;
+mod shown;
+mod spelling;
+mod statements;
+mod summary;
+mod terms;
+mod text_faults;
+mod told;
+
+pub use checking::check_text;
+pub use finding::faults;
+pub use lines::line_at;
+pub use refusal::Refusal;
+pub use report::put_faults;
+pub use shown::{put_bad_line, put_line};
+pub use summary::Summary;
+pub use text_faults::put_text_fault;
+pub use told::{MOST_TOLD, Told};

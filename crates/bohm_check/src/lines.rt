@@ -1,0 +1,35 @@
+//! Lines of a text by their numbers.
+
+use memchr::memchr;
+
+/// What follows the first newline of a text, and nothing where there is none.
+fn behind_line(text: &[u8]) -> &[u8] {
+    let Some(at) = memchr(b'\n', text) else {
+        return &[];
+    };
+    text.get(at.saturating_add(1)..).unwrap_or(&[])
+}
+
+/// The text from a line on, which is counted from the text's first, 0.
+pub fn behind_lines(text: &[u8], count: u64) -> &[u8] {
+    let mut rest = text;
+    for _ in 0..count {
+        if rest.is_empty() {
+            return rest;
+        }
+        rest = behind_line(rest);
+    }
+    rest
+}
+
+/// The first line of a text, without its newline.
+pub fn first_line(text: &[u8]) -> &[u8] {
+    let end = memchr(b'\n', text).unwrap_or(text.len());
+    text.get(..end).unwrap_or(text)
+}
+
+/// A line of a text, counted from 1, without its newline. Empty where the text has no such line. The
+/// time grows with the text before it.
+pub fn line_at(text: &[u8], line: u64) -> &[u8] {
+    first_line(behind_lines(text, line.saturating_sub(1)))
+}

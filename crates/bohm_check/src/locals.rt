@@ -1,0 +1,162 @@
+//! What is said of locals.
+
+use crate::marking::{PlacedName, bytes_before, put_marked};
+use crate::names::is_unread;
+use crate::shown::{put_name, put_number, put_quoted, put_text};
+use crate::statements::Site;
+use crate::terms::{atoms_of, local_read, long_sum};
+use bohm_log::{StmtView, TxnView};
+use bohm_tree::{Key, MOST_TERMS, NoMemory};
+use std::alloc::Global;
+
+/// The index of the first of a body's first statements that binds the name.
+fn binding(txn: &TxnView<'_>, stmts: usize, name: Key) -> Option<usize> {
+    for index in 0..stmts.min(txn.body_len()) {
+        if txn.stmt(index).bound() == Some(name) {
+            return Some(index);
+        }
+    }
+    None
+}
+
+/// The first local that a statement reads and that none of the statements before it binds.
+fn unbound(
+    alloc: Global,
+    txn: &TxnView<'_>,
+    index: usize,
+    stmt: &StmtView<'_>,
+) -> Result<Option<PlacedName>, NoMemory> {
+    for placed in atoms_of(alloc, stmt)? {
+        if let Some(name) = local_read(placed.atom) {
+            if binding(txn, index, name).is_none() {
+                return Ok(Some(PlacedName {
+                    name,
+                    is_local: true,
+                    word: placed.word,
+                }));
+            }
+        }
+    }
+    Ok(None)
+}
+
+fn put_local(out: &mut Vec<u8>, name: Key) -> Result<(), NoMemory> {
+    put_text(out, "$")?;
+    put_name(out, name)
+}
+
+/// The line of a body's statement.
+fn line_of(site: Site<'_>, index: usize) -> u64 {
+    site.opening.saturating_add(3).saturating_add(index as u64)
+}
+
+/// A name that the transaction has nowhere: this one with `_` and a digit behind it.
+fn fresh_name(alloc: Global, txn: &TxnView<'_>, name: Key) -> Result<Option<Key>, NoMemory> {
+    let mut text = Vec::new(alloc);
+    text.extend_from_slice(name.text().as_slice())?;
+    text.push(b'_')?;
+    let placed = txn.placed();
+    for digit in b'2'..=b'9' {
+        text.push(digit)?;
+        let fresh = Key::new(text.as_slice());
+        text.pop();
+        if let Some(key) = fresh {
+            if key.place_among(placed.others()).is_none() {
+                return Ok(Some(key));
+            }
+        }
+    }
+    Ok(None)
+}
+
+/// The statement with another name, where nothing else is wrong with it.
+fn put_rebound_help(
+    alloc: Global,
+    out: &mut Vec<u8>,
+    site: Site<'_>,
+    txn: &TxnView<'_>,
+    index: usize,
+    stmt: &StmtView<'_>,
+    name: Key,
+) -> Result<(), NoMemory> {
+    if is_unread(&txn.reads(), stmt)
+        || long_sum(stmt, MOST_TERMS as usize).is_some()
+        || unbound(alloc, txn, index, stmt)?.is_some()
+    {
+        return Ok(());
+    }
+    let Some(fresh) = fresh_name(alloc, txn, name)? else {
+        return Ok(());
+    };
+    let line = site.shown();
+    put_text(out, "help: let ")?;
+    put_local(out, fresh)?;
+    put_text(out, " ")?;
+    out.extend_from_slice(line.get(bytes_before(line, 2)..).unwrap_or(&[]))?;
+    put_text(out, "\n")
+}
+
+/// What is said of a name that a statement binds once more.
+fn put_rebound(
+    alloc: Global,
+    out: &mut Vec<u8>,
+    site: Site<'_>,
+    txn: &TxnView<'_>,
+    index: usize,
+    stmt: &StmtView<'_>,
+    name: Key,
+    first: usize,
+) -> Result<(), NoMemory> {
+    let local = PlacedName {
+        name,
+        is_local: true,
+        word: 1,
+    };
+    put_marked(out, site.shown(), local)?;
+    put_local(out, name)?;
+    put_text(out, " is bound twice: line ")?;
+    put_number(out, line_of(site, first))?;
+    put_text(out, " has ")?;
+    put_quoted(out, site.text.line(line_of(site, first)))?;
+    put_text(out, "\n")?;
+    put_rebound_help(alloc, out, site, txn, index, stmt, name)
+}
+
+/// What is said of a local that is read before it is bound.
+fn put_unbound(
+    out: &mut Vec<u8>,
+    site: Site<'_>,
+    txn: &TxnView<'_>,
+    local: PlacedName,
+) -> Result<(), NoMemory> {
+    let name = local.name;
+    put_marked(out, site.shown(), local)?;
+    put_local(out, name)?;
+    put_text(out, " isn't bound by an earlier statement")?;
+    if let Some(later) = binding(txn, txn.body_len(), name) {
+        put_text(out, ": line ")?;
+        put_number(out, line_of(site, later))?;
+        put_text(out, " binds it too late")?;
+    }
+    put_text(out, "\n")
+}
+
+/// What is said of a statement that binds a name once more, or else reads a local too early.
+pub fn put_misnamed(
+    alloc: Global,
+    out: &mut Vec<u8>,
+    site: Site<'_>,
+    txn: &TxnView<'_>,
+    index: usize,
+    stmt: &StmtView<'_>,
+) -> Result<(), NoMemory> {
+    if let Some(name) = stmt.bound() {
+        if let Some(first) = binding(txn, index, name) {
+            return put_rebound(alloc, out, site, txn, index, stmt, name, first);
+        }
+    }
+    match unbound(alloc, txn, index, stmt)? {
+        Some(local) => put_unbound(out, site, txn, local),
+        None => Ok(()),
+    }
+}

@@ -1,0 +1,38 @@
+//! Names on a statement's line, with carets below them.
+
+use crate::shown::put_line;
+use bohm_tree::{Key, NoMemory};
+
+/// A name on a statement's line.
+#[derive(Clone, Copy)]
+pub struct PlacedName {
+    pub name: Key,
+    pub is_local: bool,
+    /// Which word of the line it stands in, counted from 0.
+    pub word: usize,
+}
+
+/// The bytes of a line before a word, which is counted from 0. All where there are fewer words.
+pub fn bytes_before(line: &[u8], word: usize) -> usize {
+    let mut offset: usize = 0;
+    for (place, part) in line.split(|byte| *byte == b' ').enumerate() {
+        if place == word {
+            return offset;
+        }
+        offset = offset.saturating_add(part.len()).saturating_add(1);
+    }
+    line.len()
+}
+
+/// The line, with a caret below each byte of a name.
+pub fn put_marked(out: &mut Vec<u8>, line: &[u8], name: PlacedName) -> Result<(), NoMemory> {
+    let mut offset = bytes_before(line, name.word);
+    if line.get(offset) == Some(&b'-') {
+        offset = offset.saturating_add(1);
+    }
+    let mut carets = name.name.text().as_slice().len();
+    if name.is_local {
+        carets = carets.saturating_add(1);
+    }
+    put_line(out, line, offset.saturating_add(1), carets)
+}

@@ -1,0 +1,27 @@
+//! Why a text is no log that is run.
+
+use bohm_text::TextFault;
+use bohm_tree::NoMemory;
+use bohm_txn::CheckFault;
+
+/// Why a text is no log that is run.
+#[derive(Clone, Copy, Debug, PartialEq, Eq)]
+pub enum Refusal {
+    /// It is no document's. Want of memory is never told so.
+    Text(TextFault),
+    /// The document that it is has faults, and this is the first.
+    Check(CheckFault),
+    /// A growth was refused.
+    NoMemory,
+}
+
+impl From<NoMemory> for Refusal {
+    ghost use Rattle.std.specs.Prelude.{◌≡◌};
+    ghost use Rattle.bohm_check.specs.declared.refusal.Refusal.TheVariants.{NoMemory};
+
+    ghost from_gives = { λ _ e. e ≡ NoMemory };
+
+    fn from(_e: NoMemory) -> Refusal {
+        Refusal::NoMemory
+    }
+}

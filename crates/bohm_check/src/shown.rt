@@ -1,0 +1,135 @@
+//! How a line of a text is shown to people.
+
+use crate::lines::line_at;
+use bohm_tree::{Key, NoMemory};
+use itoa::{Buffer, Integer};
+
+/// The most bytes of a line that are shown.
+const SHOWN_BYTES: usize = 120;
+
+/// The blanks before a line that is shown.
+const INDENT: usize = 4;
+
+/// What stands where a part of a line is left out.
+const CUT: &[u8] = b"..";
+
+pub fn put_text(out: &mut Vec<u8>, text: &str) -> Result<(), NoMemory> {
+    out.extend_from_slice(text.as_bytes())?;
+    Ok(())
+}
+
+pub fn put_number<I: Integer>(out: &mut Vec<u8>, number: I) -> Result<(), NoMemory> {
+    out.extend_from_slice(Buffer::new().format(number).as_bytes())?;
+    Ok(())
+}
+
+pub fn put_name(out: &mut Vec<u8>, name: Key) -> Result<(), NoMemory> {
+    out.extend_from_slice(name.text().as_slice())?;
+    Ok(())
+}
+
+fn put_times(out: &mut Vec<u8>, byte: u8, count: usize) -> Result<(), NoMemory> {
+    for _ in 0..count {
+        out.push(byte)?;
+    }
+    Ok(())
+}
+
+/// Bytes as they can be shown: those outside of 32 to 126 as `?`.
+fn put_printable(out: &mut Vec<u8>, bytes: &[u8]) -> Result<(), NoMemory> {
+    for byte in bytes {
+        out.push(if (32..=126).contains(byte) {
+            *byte
+        } else {
+            b'?'
+        })?;
+    }
+    Ok(())
+}
+
+/// The part of a line that is shown: all of it, or `SHOWN_BYTES` bytes round an offset.
+#[derive(Clone, Copy)]
+struct Window<'a> {
+    bytes: &'a [u8],
+    /// The bytes before it and behind it.
+    before: usize,
+    behind: usize,
+}
+
+impl<'a> Window<'a> {
+    fn round(line: &'a [u8], offset: usize) -> Window<'a> {
+        let spare = line.len().saturating_sub(SHOWN_BYTES);
+        let before = offset.saturating_sub(SHOWN_BYTES / 2).min(spare);
+        Window {
+            bytes: line
+                .get(before..before.saturating_add(SHOWN_BYTES).min(line.len()))
+                .unwrap_or(line),
+            before,
+            behind: spare - before,
+        }
+    }
+
+    fn put(&self, out: &mut Vec<u8>) -> Result<(), NoMemory> {
+        if self.before > 0 {
+            out.extend_from_slice(CUT)?;
+        }
+        put_printable(out, self.bytes)?;
+        if self.behind > 0 {
+            out.extend_from_slice(CUT)?;
+        }
+        Ok(())
+    }
+}
+
+/// A line among words: all of it, or its first `SHOWN_BYTES` bytes.
+pub fn put_quoted(out: &mut Vec<u8>, line: &[u8]) -> Result<(), NoMemory> {
+    out.push(b'`')?;
+    Window::round(line, 0).put(out)?;
+    out.push(b'`')?;
+    Ok(())
+}
+
+/// A line behind four blanks, and below it so many carets from a column on; no line below where
+/// there are none. Columns count bytes from 1. Of a line of more than 120 bytes, 120 round the
+/// column are shown.
+pub fn put_line(
+    out: &mut Vec<u8>,
+    line: &[u8],
+    column: usize,
+    carets: usize,
+) -> Result<(), NoMemory> {
+    let offset = column.saturating_sub(1);
+    let window = Window::round(line, offset);
+    put_times(out, b' ', INDENT)?;
+    window.put(out)?;
+    out.push(b'\n')?;
+    if carets == 0 {
+        return Ok(());
+    }
+    put_times(out, b' ', INDENT)?;
+    if window.before > 0 {
+        put_times(out, b' ', CUT.len())?;
+    }
+    put_times(out, b' ', offset.saturating_sub(window.before))?;
+    put_times(out, b'^', carets)?;
+    out.push(b'\n')?;
+    Ok(())
+}
+
+/// A line that no line of the text may be, for people: its number, the line with a caret under a
+/// column, and what was expected there, which is a line of its own. Lines and columns count from 1,
+/// columns in bytes.
+pub fn put_bad_line(
+    out: &mut Vec<u8>,
+    text: &[u8],
+    line: u64,
+    column: usize,
+    expected: &str,
+) -> Result<(), NoMemory> {
+    put_text(out, "line ")?;
+    put_number(out, line)?;
+    put_text(out, ":\n")?;
+    put_line(out, line_at(text, line), column, 1)?;
+    put_text(out, expected)?;
+    put_text(out, "\n")
+}

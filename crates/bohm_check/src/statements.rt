@@ -1,0 +1,145 @@
+//! What is said of the keys and sums of statements.
+
+use crate::cursor::Cursor;
+use crate::marking::{PlacedName, put_marked};
+use crate::names::is_among;
+use crate::sets::{in_order, keys_of, put_set_help};
+use crate::shown::{put_line, put_name, put_number, put_quoted, put_text};
+use crate::terms::{atoms_of, key_read, long_sum};
+use bohm_log::{Keys, StmtView, TxnView};
+use bohm_tree::{Key, MOST_TERMS, NoMemory};
+use std::alloc::Global;
+
+/// A text, and the line in it of a statement of which something is said.
+#[derive(Clone, Copy)]
+pub struct Site<'a> {
+    pub text: Cursor<'a>,
+    pub line: u64,
+    /// The line of the transaction's opening.
+    pub opening: u64,
+}
+
+impl<'a> Site<'a> {
+    pub fn shown(self) -> &'a [u8] {
+        self.text.line(self.line)
+    }
+}
+
+/// A set in which names are missing.
+#[derive(Drop)]
+struct Declared<'a> {
+    keys: Keys<'a>,
+    /// Its line, the word there, and what its keys are.
+    line: u64,
+    word: &'static str,
+    are: &'static str,
+}
+
+/// What is said of names that a set lacks, and the set with them.
+fn put_missing(
+    alloc: Global,
+    out: &mut Vec<u8>,
+    site: Site<'_>,
+    set: &Declared<'_>,
+    names: &[PlacedName],
+) -> Result<(), NoMemory> {
+    let Some(first) = names.first() else {
+        return Ok(());
+    };
+    put_marked(out, site.shown(), *first)?;
+    put_name(out, first.name)?;
+    put_text(out, set.are)?;
+    put_text(out, " and isn't declared: line ")?;
+    put_number(out, set.line)?;
+    put_text(out, " has ")?;
+    put_quoted(out, site.text.line(set.line))?;
+    put_text(out, "\n")?;
+    let mut keys = keys_of(alloc, &set.keys)?;
+    for name in names {
+        keys.push(name.name)?;
+    }
+    let keys = in_order(alloc, keys)?;
+    put_set_help(out, Some(set.line), set.word, keys.as_slice())
+}
+
+/// The keys that a statement reads or tests and that are none of these.
+fn unread_names(
+    alloc: Global,
+    reads: &Keys<'_>,
+    stmt: &StmtView<'_>,
+) -> Result<Vec<PlacedName>, NoMemory> {
+    let mut names = Vec::new(alloc);
+    for placed in atoms_of(alloc, stmt)? {
+        if let Some(name) = key_read(placed.atom) {
+            if !is_among(reads, &name) {
+                names.push(PlacedName {
+                    name,
+                    is_local: false,
+                    word: placed.word,
+                })?;
+            }
+        }
+    }
+    if let Some(name) = stmt.tested() {
+        names.push(PlacedName {
+            name,
+            is_local: false,
+            word: 2,
+        })?;
+    }
+    Ok(names)
+}
+
+/// What is said of a statement that reads or tests keys that aren't declared.
+pub fn put_unread(
+    alloc: Global,
+    out: &mut Vec<u8>,
+    site: Site<'_>,
+    txn: &TxnView<'_>,
+    stmt: &StmtView<'_>,
+) -> Result<(), NoMemory> {
+    let set = Declared {
+        keys: txn.reads(),
+        line: site.opening.saturating_add(1),
+        word: "reads",
+        are: " is read",
+    };
+    let names = unread_names(alloc, &set.keys, stmt)?;
+    put_missing(alloc, out, site, &set, names.as_slice())
+}
+
+/// What is said of a statement that writes a key that isn't declared.
+pub fn put_unwritten(
+    alloc: Global,
+    out: &mut Vec<u8>,
+    site: Site<'_>,
+    txn: &TxnView<'_>,
+    stmt: &StmtView<'_>,
+) -> Result<(), NoMemory> {
+    let Some(name) = stmt.target() else {
+        return Ok(());
+    };
+    let set = Declared {
+        keys: txn.writes(),
+        line: site.opening.saturating_add(2),
+        word: "writes",
+        are: " is written",
+    };
+    let target = PlacedName {
+        name,
+        is_local: false,
+        word: 1,
+    };
+    put_missing(alloc, out, site, &set, &[target])
+}
+
+/// What is said of a statement with a sum that is too long.
+pub fn put_long(out: &mut Vec<u8>, site: Site<'_>, stmt: &StmtView<'_>) -> Result<(), NoMemory> {
+    put_line(out, site.shown(), 1, 0)?;
+    let terms = long_sum(stmt, MOST_TERMS as usize).unwrap_or(0);
+    put_text(out, "a sum has at most ")?;
+    put_number(out, MOST_TERMS)?;
+    put_text(out, " terms, and this one has ")?;
+    put_number(out, terms as u64)?;
+    put_text(out, "\n")
+}

@@ -1,0 +1,121 @@
+//! What a good log holds, in one line.
+
+ghost use Rattle.std.specs.Prelude.{◌≡◌, length, count_by, IfOk};
+ghost use Rattle.bohm_txn.specs.Sure.{is_sure};
+
+use crate::shown::{put_number, put_text};
+use bohm_log::LogPart;
+use bohm_tree::{Edition, Key, NoMemory, Value};
+use bohm_txn::{Checked, sure};
+use std::alloc::Global;
+
+/// How much a log holds.
+#[derive(Clone, Copy, Debug, PartialEq, Eq)]
+pub struct Summary {
+    pub edition: Edition,
+    /// The keys of the starting store.
+    pub keys: usize,
+    pub transactions: usize,
+    /// The different keys of the store and of all sets.
+    pub distinct: usize,
+    /// The transactions that commit whatever the store holds.
+    pub sure: usize,
+}
+
+/// Marks the numbers of a set.
+fn mark(marks: &mut [bool], numbers: &[u32]) {
+    for number in numbers {
+        if let Some(mark) = marks.get_mut(*number as usize) {
+            *mark = true;
+        }
+    }
+}
+
+/// The keys that the transactions declare, each once, by rising order.
+fn declared_keys(alloc: Global, log: &LogPart<'_>) -> Result<Vec<Key>, NoMemory> {
+    let declared = log.keys();
+    let names = declared.names();
+    let mut marks = vec![in alloc; false; names.len()]?;
+    for index in 0..declared.len() {
+        let (reads, writes) = declared.sets(index);
+        mark(&mut marks, reads);
+        mark(&mut marks, writes);
+    }
+    let mut keys = Vec::new(alloc);
+    for (name, is_declared) in names.iter().zip(marks.iter()) {
+        if *is_declared {
+            keys.push(*name)?;
+        }
+    }
+    keys.sort()?;
+    Ok(keys)
+}
+
+/// How many of these entries' keys are none of those, which rise.
+fn count_others(store: &[(Key, Value)], keys: &[Key]) -> usize {
+    let mut others: usize = 0;
+    for (key, _) in store {
+        if keys.binary_search(key).is_err() {
+            others = others.saturating_add(1);
+        }
+    }
+    others
+}
+
+/// How many of the transactions are sure.
+fn count_sure(log: &LogPart<'_>) -> usize
+    ensures { result ≡ count_by is_sure log.now }
+{
+    let mut count: usize = 0;
+    for index in 0..log.len() {
+        if sure(&log.txn(index)) {
+            count += 1;
+        }
+    }
+    count
+}
+
+impl Summary {
+    /// What a checked log holds. The time grows with the number k of its keys as k log k, and with
+    /// its transactions; the memory with the keys.
+    pub fn of(alloc: Global, checked: &Checked) -> Result<Summary, NoMemory>
+        ensures edition { IfOk result (λ s. s.edition ≡ checked.now.edition) }
+        ensures keys { IfOk result (λ s. s.keys ≡ length checked.now.store) }
+        ensures transactions { IfOk result (λ s. s.transactions ≡ length checked.now.log) }
+        ensures sure { IfOk result (λ s. s.sure ≡ count_by is_sure checked.now.log) }
+    {
+        let log = checked.log();
+        let declared = declared_keys(alloc, &log)?;
+        let store = checked.store();
+        Ok(Summary {
+            edition: checked.edition(),
+            keys: store.len(),
+            transactions: log.len(),
+            distinct: declared
+                .len()
+                .saturating_add(count_others(store, declared.as_slice())),
+            sure: count_sure(&log),
+        })
+    }
+
+    /// Its line, with a newline.
+    pub fn print(&self, alloc: Global) -> Result<Vec<u8>, NoMemory> {
+        let mut out = Vec::new(alloc);
+        put_text(
+            &mut out,
+            match self.edition {
+                Edition::One => "log 1, ",
+                Edition::Two => "log 2, ",
+            },
+        )?;
+        put_number(&mut out, self.keys as u64)?;
+        put_text(&mut out, " keys, ")?;
+        put_number(&mut out, self.transactions as u64)?;
+        put_text(&mut out, " transactions, ")?;
+        put_number(&mut out, self.distinct as u64)?;
+        put_text(&mut out, " distinct keys, ")?;
+        put_number(&mut out, self.sure as u64)?;
+        put_text(&mut out, " sure\n")?;
+        Ok(out)
+    }
+}

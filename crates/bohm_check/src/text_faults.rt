@@ -1,0 +1,160 @@
+//! What is said of a text that is no document's.
+
+use crate::grammar::{Halt, Place, State, first_halt};
+use crate::lines::{behind_lines, first_line};
+use crate::mending::mended;
+use crate::mistakes::Mistake;
+use crate::shown::{put_line, put_number, put_quoted, put_text};
+use bohm_text::TextFault;
+use bohm_tree::NoMemory;
+use std::alloc::Global;
+
+/// A line of a text at which it can't go on, and which lines may stand there.
+#[derive(Clone, Copy)]
+struct BadLine<'a> {
+    number: u64,
+    place: Place,
+    line: &'a [u8],
+    /// Whether a newline ends it.
+    is_whole: bool,
+}
+
+impl<'a> BadLine<'a> {
+    /// The line behind the lines that begin some document's text.
+    fn behind(text: &'a [u8], whole: u64) -> BadLine<'a> {
+        let mut place = Place::Head;
+        let mut rest = text;
+        for _ in 0..whole {
+            place = place.behind(first_line(rest));
+            rest = behind_lines(rest, 1);
+        }
+        let line = first_line(rest);
+        BadLine {
+            number: whole.saturating_add(1),
+            place,
+            line,
+            is_whole: line.len() < rest.len(),
+        }
+    }
+
+    /// Where it stops being one, and the line behind the last one at its begin.
+    fn halt(&self) -> Halt {
+        first_halt(self.place, self.line).unwrap_or(Halt {
+            offset: self.line.len(),
+            state: State::LineEnd,
+        })
+    }
+
+    /// What is said of it.
+    fn put_words(&self, out: &mut Vec<u8>, halt: Halt) -> Result<(), NoMemory> {
+        if !self.is_whole && self.line.is_empty() {
+            return self.put_end(out);
+        }
+        if !self.is_whole && halt.state == State::LineEnd && halt.offset == self.line.len() {
+            return put_text(
+                out,
+                "expected a newline: the last line of a log ends with one too\n",
+            );
+        }
+        match Mistake::at(self.place, self.line, halt) {
+            Mistake::Word => self.put_word(out, halt),
+            mistake => {
+                if mistake.leaves_open() {
+                    put_text(out, "expected ")?;
+                    put_text(out, halt.state.called())?;
+                    put_text(out, ": ")?;
+                }
+                put_text(out, mistake.words())?;
+                put_text(out, "\n")
+            }
+        }
+    }
+
+    /// What is said of a word that isn't spelled as any that may stand there.
+    fn put_word(&self, out: &mut Vec<u8>, halt: Halt) -> Result<(), NoMemory> {
+        put_text(out, "expected ")?;
+        put_text(out, halt.state.called())?;
+        put_text(out, ", and not ")?;
+        put_quoted(out, word_round(self.line, halt.offset))?;
+        put_text(out, "\n")
+    }
+
+    /// What is said of a text that ends too soon.
+    fn put_end(&self, out: &mut Vec<u8>) -> Result<(), NoMemory> {
+        put_text(out, "expected ")?;
+        put_text(out, State::at(self.place).called())?;
+        put_text(
+            out,
+            match self.place {
+                Place::Head => ": the text is empty\n",
+                Place::Body => ": the last transaction isn't closed\n",
+                _ => ": the text ends in the middle of a transaction\n",
+            },
+        )
+    }
+
+    /// The line that was meant, if the text can go on with it, and else, if it ends there, end.
+    fn put_help(&self, alloc: Global, out: &mut Vec<u8>) -> Result<(), NoMemory> {
+        if !self.is_whole && self.line.is_empty() && self.place == Place::Body {
+            return put_text(out, "help: end\n");
+        }
+        let Some(line) = mended(alloc, self.place, self.line)? else {
+            return Ok(());
+        };
+        if self.is_whole || self.place.behind(line.as_slice()).may_end() {
+            put_text(out, "help: ")?;
+            out.extend_from_slice(line.as_slice())?;
+            put_text(out, "\n")?;
+        }
+        Ok(())
+    }
+}
+
+/// The word at an offset of a line.
+fn word_round(line: &[u8], offset: usize) -> &[u8] {
+    let before = line.get(..offset).unwrap_or(line);
+    let begin = match before.iter().rev().position(|byte| *byte == b' ') {
+        Some(letters) => before.len().saturating_sub(letters),
+        None => 0,
+    };
+    let word = line.get(begin..).unwrap_or(line);
+    let end = word
+        .iter()
+        .position(|byte| *byte == b' ')
+        .unwrap_or(word.len());
+    word.get(..end).unwrap_or(word)
+}
+
+/// How many whole lines a text has.
+fn whole_lines(text: &[u8]) -> u64 {
+    let mut count: u64 = 0;
+    for byte in text {
+        if *byte == b'\n' {
+            count = count.saturating_add(1);
+        }
+    }
+    count
+}
+
+/// What is said of a text with a fault, as `parse` tells it: the line, where it stops being one that
+/// may stand there, what was expected, and the line that was meant where that is plain. Nothing of
+/// want of memory.
+pub fn put_text_fault(
+    alloc: Global,
+    out: &mut Vec<u8>,
+    text: &[u8],
+    fault: TextFault,
+) -> Result<(), NoMemory> {
+    let bad = match fault {
+        TextFault::Line(number) => BadLine::behind(text, number.saturating_sub(1)),
+        TextFault::Short => BadLine::behind(text, whole_lines(text)),
+        TextFault::NoMemory => return Ok(()),
+    };
+    let halt = bad.halt();
+    put_text(out, "line ")?;
+    put_number(out, bad.number)?;
+    put_text(out, ":\n")?;
+    put_line(out, bad.line, halt.offset.saturating_add(1), 1)?;
+    bad.put_words(out, halt)?;
+    bad.put_help(alloc, out)
+}

@@ -1,0 +1,14 @@
+//! Faults with the lines on which they stand.
+
+use bohm_txn::CheckFault;
+
+/// The most faults that are told.
+pub const MOST_TOLD: usize = 20;
+
+/// A fault of a document.
+#[derive(Clone, Copy, Debug, PartialEq, Eq)]
+pub struct Told {
+    pub fault: CheckFault,
+    /// The line of the document's text on which its place stands, counted from 1.
+    pub line: u64,
+}
