@@ -1,0 +1,10 @@
+mod KeySets
+mod Lists
+mod ByWords
+mod Rises
+mod Stores
+mod Sound
+mod Exact
+mod Settling
+mod Readings
+mod TidyLaws

@@ -1,0 +1,123 @@
+-- A settled document is one, its keys rise, and one whose keys rise is settled.
+use Rattle.std.proofs.Common.{◌≡◌, ℕ, Bool, true, false, cond, List, [], ◌∷◌, ◌++◌, map, refl, ap, sym, subst, ◌∙◌}
+use Rattle.std.specs.Prelude.{ℤ, Option, Some, None}
+use Rattle.std.specs.Cmp.Lexicographic.{slice_cmp}
+use Rattle.std.specs.FinMap.{entries}
+use Rattle.std.specs.List.{AllByRecursion, flat_map}
+use Rattle.std.specs.Ordering.{nat_cmp}
+use Rattle.std.specs.declared.cmp.Ordering.{Ordering}
+use Rattle.std.specs.declared.cmp.Ordering.TheVariants.{Less, Equal, Greater}
+use Rattle.bohm_tree.specs.Document.{Document}
+use Rattle.bohm_tree.specs.Parts.{key_read, sums, tested, target}
+use Rattle.bohm_tree.specs.Sound.{IsName, IsTerm, IsSum, IsStmt, IsTxn, IsDocument}
+use Rattle.bohm_tree.specs.Stmt.{Cond, Stmt, Bind, Need, Has, Lacks, Put, Remove, Show, Fail}
+use Rattle.bohm_tree.specs.Term.{Atom, Lit, Read, Local}
+use Rattle.bohm_tree.specs.Txn.{Txn}
+use Rattle.bohm_tree.specs.declared.edition.Edition.{Edition}
+use Rattle.bohm_txn.proofs.ForCallers.{each_append}
+use Rattle.bohm_txn.specs.Stores.{store_of}
+use Rattle.bohm_tidy.specs.Settled.{set_by, insert_key, key_set, the_key, sum_reads, stmt_reads, body_reads, body_writes, settled_txn, settled_log, settled, first_flag, other_flags}
+use Rattle.bohm_tidy.specs.Tidied.{HasRisingSets, HasRisingKeys}
+use Rattle.bohm_tidy.proofs.KeySets.{key_set-rises, key_set-settled}
+use Rattle.bohm_tidy.proofs.Stores.{entries_rise, rising_entries, entries_sound}
+
+abbrev AreNames : List (List ℕ) → Type 0
+AreNames ks = AllByRecursion IsName ks
+
+-- ---- names
+
+insert_names : (k : List ℕ) (xs : List (List ℕ)) → IsName k → AreNames xs → AreNames (insert_key k xs)
+unfolding insert_key
+insert_names k [] name all = (name, tt)
+insert_names k (x ∷ xs) name all =
+    elim (slice_cmp nat_cmp k x) as (λ o. AreNames (set_by o k x xs (insert_key k xs))) [
+      | Less ↦ (name, (all.0, all.1))
+      | Equal ↦ (all.0, all.1)
+      | Greater ↦ (all.0, insert_names k xs name all.1)
+    ]
+
+set_names : (ks : List (List ℕ)) → AreNames ks → AreNames (key_set ks)
+unfolding key_set
+set_names [] all = tt
+set_names (k ∷ ks) all = insert_names k (key_set ks) all.0 (set_names ks all.1)
+
+atom_names : (t : Bool × Atom) → IsTerm t → AreNames (the_key (key_read t.1))
+atom_names (m, Lit n) sound = tt
+atom_names (m, Read k) sound = (sound.1, tt)
+atom_names (m, Local x) sound = tt
+
+sum_names : (sum : List (Bool × Atom)) → AllByRecursion IsTerm sum → AreNames (sum_reads sum)
+sum_names [] all = tt
+sum_names (t ∷ ts) all = each_append IsName (the_key (key_read t.1)) (sum_reads ts) (atom_names t all.0) (sum_names ts all.1)
+
+one_sum : (sum : List (Bool × Atom)) (others : List (List ℕ)) → IsSum sum → AreNames others → AreNames (sum_reads sum ++ others)
+one_sum sum others sound names = each_append IsName (sum_reads sum) others (sum_names sum sound.1) names
+
+stmt_names : (s : Stmt) → IsStmt s → AreNames (stmt_reads s)
+stmt_names (Bind x sum) sound = each_append IsName (flat_map sum_reads (sum ∷ [])) [] (one_sum sum [] sound.1 tt) tt
+stmt_names (Need c) sound = each_append IsName (flat_map sum_reads (c.left ∷ c.right ∷ [])) [] (one_sum c.left _ sound.0 (one_sum c.right [] sound.1 tt)) tt
+stmt_names (Has k) sound = (sound, tt)
+stmt_names (Lacks k) sound = (sound, tt)
+stmt_names (Put k sum None) sound = each_append IsName (flat_map sum_reads (sum ∷ [])) [] (one_sum sum [] sound.1 tt) tt
+stmt_names (Put k sum (Some c)) sound = each_append IsName (flat_map sum_reads (sum ∷ c.left ∷ c.right ∷ [])) [] (one_sum sum _ sound.1 (one_sum c.left _ sound.2.0 (one_sum c.right [] sound.2.1 tt))) tt
+stmt_names (Remove k) sound = tt
+stmt_names (Show sum) sound = each_append IsName (flat_map sum_reads (sum ∷ [])) [] (one_sum sum [] sound tt) tt
+stmt_names Fail sound = tt
+
+target_names : (s : Stmt) → IsStmt s → AreNames (the_key (target s))
+target_names (Bind x sum) sound = tt
+target_names (Need c) sound = tt
+target_names (Has k) sound = tt
+target_names (Lacks k) sound = tt
+target_names (Put k sum guard) sound = (sound.0, tt)
+target_names (Remove k) sound = (sound, tt)
+target_names (Show sum) sound = tt
+target_names Fail sound = tt
+
+read_names : (body : List Stmt) → AllByRecursion IsStmt body → AreNames (body_reads body)
+read_names [] all = tt
+read_names (s ∷ ss) all = each_append IsName (stmt_reads s) (body_reads ss) (stmt_names s all.0) (read_names ss all.1)
+
+written_names : (body : List Stmt) → AllByRecursion IsStmt body → AreNames (body_writes body)
+written_names [] all = tt
+written_names (s ∷ ss) all = each_append IsName (the_key (target s)) (body_writes ss) (target_names s all.0) (written_names ss all.1)
+
+chosen_names : (b : Bool) (ks ns : List (List ℕ)) → AreNames ks → AreNames ns → AreNames (key_set (cond b ks ns))
+chosen_names true ks ns all other = set_names ks all
+chosen_names false ks ns all other = set_names ns other
+
+-- ---- transactions
+
+txn_sound : (edition : Edition) (r w : Bool) (t : Txn) → IsTxn edition t → IsTxn edition (settled_txn r w t)
+txn_sound edition r w t sound = record {
+  same = sound.same;
+  reads = chosen_names r (body_reads t.body) t.reads (read_names t.body sound.body) sound.reads;
+  writes = chosen_names w (body_writes t.body) t.writes (written_names t.body sound.body) sound.writes;
+  body = sound.body;
+}
+
+log_sound : (edition : Edition) (rs ws : List Bool) (log : List Txn) → AllByRecursion (IsTxn edition) log → AllByRecursion (IsTxn edition) (settled_log rs ws log)
+log_sound edition rs ws [] all = tt
+log_sound edition rs ws (t ∷ ts) all = (txn_sound edition (first_flag rs) (first_flag ws) t all.0, log_sound edition (other_flags rs) (other_flags ws) ts all.1)
+
+log_rises : (rs ws : List Bool) (log : List Txn) → AllByRecursion HasRisingSets (settled_log rs ws log)
+log_rises rs ws [] = tt
+log_rises rs ws (t ∷ ts) = (record { reads = key_set-rises _; writes = key_set-rises _ }, log_rises (other_flags rs) (other_flags ws) ts)
+
+txn_stays : (t : Txn) → HasRisingSets t → settled_txn false false t ≡ t
+txn_stays t rises = λ i. record t { reads = key_set-settled t.reads rises.reads i; writes = key_set-settled t.writes rises.writes i }
+
+log_stays : (log : List Txn) → AllByRecursion HasRisingSets log → settled_log [] [] log ≡ log
+log_stays [] all = refl
+log_stays (t ∷ ts) all = ap (λ (s : Txn). s ∷ settled_log [] [] ts) (txn_stays t all.0) ∙ ap (λ (ss : List Txn). t ∷ ss) (log_stays ts all.1)
+
+-- ---- documents
+
+pub settled_sound : (rs ws : List Bool) (d : Document) → IsDocument d → IsDocument (settled rs ws d)
+settled_sound rs ws d sound = record { store = entries_sound d.store sound.store; log = log_sound d.edition rs ws d.log sound.log }
+
+pub settled_rises : (rs ws : List Bool) (d : Document) → HasRisingKeys (settled rs ws d)
+settled_rises rs ws d = record { store = entries_rise (store_of d.store); log = log_rises rs ws d.log }
+
+pub settled_stays : (d : Document) → HasRisingKeys d → settled [] [] d ≡ d
+settled_stays d rises = λ i. record d { store = rising_entries d.store rises.store i; log = log_stays d.log rises.log i }

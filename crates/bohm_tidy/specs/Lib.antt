@@ -1,0 +1,4 @@
+pub mod Line
+pub mod Plain
+pub mod Settled
+pub mod Tidied

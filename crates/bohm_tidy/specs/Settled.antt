@@ -1,0 +1,75 @@
+-- A document whose keys are put in order.
+use Rattle.std.specs.Prelude.{ℕ, ℤ, List, [], ◌∷◌, ◌++◌, Bool, true, false, Option, Some, None, if◌then◌else◌}
+use Rattle.std.specs.FinMap.{entries}
+use Rattle.std.specs.List.{flat_map}
+use Rattle.std.specs.Ordering.{nat_cmp}
+use Rattle.std.specs.Cmp.Lexicographic.{slice_cmp}
+use Rattle.std.specs.declared.cmp.Ordering.{Ordering}
+use Rattle.std.specs.declared.cmp.Ordering.TheVariants.{Less, Equal, Greater}
+use Rattle.bohm_tree.specs.Document.{Document}
+use Rattle.bohm_tree.specs.Parts.{key_read, sums, tested, target}
+use Rattle.bohm_tree.specs.Stmt.{Cond, Stmt}
+use Rattle.bohm_tree.specs.Term.{Atom}
+use Rattle.bohm_tree.specs.Txn.{Txn}
+use Rattle.bohm_txn.specs.Stores.{store_of}
+
+-- ---- sets
+
+abbrev pub set_by : Ordering → List ℕ → List ℕ → List (List ℕ) → List (List ℕ) → List (List ℕ)
+set_by Less k x xs others = k ∷ x ∷ xs
+set_by Equal k x xs others = x ∷ xs
+set_by Greater k x xs others = x ∷ others
+
+-- a key put into a list whose keys rise, unless it is there
+unfoldable pub insert_key : List ℕ → List (List ℕ) → List (List ℕ)
+insert_key k [] = k ∷ []
+insert_key k (x ∷ xs) = set_by (slice_cmp nat_cmp k x) k x xs (insert_key k xs)
+
+-- the keys in order, each once
+unfoldable pub key_set : List (List ℕ) → List (List ℕ)
+key_set [] = []
+key_set (k ∷ ks) = insert_key k (key_set ks)
+
+-- ---- what a body reads and writes
+
+abbrev pub the_key : Option (List ℕ) → List (List ℕ)
+the_key None = []
+the_key (Some k) = k ∷ []
+
+abbrev pub sum_reads : List (Bool × Atom) → List (List ℕ)
+sum_reads sum = flat_map (λ t. the_key (key_read t.1)) sum
+
+abbrev pub stmt_reads : Stmt → List (List ℕ)
+stmt_reads s = flat_map sum_reads (sums s) ++ the_key (tested s)
+
+abbrev pub body_reads : List Stmt → List (List ℕ)
+body_reads body = flat_map stmt_reads body
+
+abbrev pub body_writes : List Stmt → List (List ℕ)
+body_writes body = flat_map (λ s. the_key (target s)) body
+
+-- ---- documents
+
+-- a transaction with its sets in order, where one is missing with what its body reads or writes
+abbrev pub settled_txn : Bool → Bool → Txn → Txn
+settled_txn no_reads no_writes t = record t {
+  reads = key_set (if no_reads then body_reads t.body else t.reads);
+  writes = key_set (if no_writes then body_writes t.body else t.writes);
+}
+
+-- the first flag, and none where they are used up
+abbrev pub first_flag : List Bool → Bool
+first_flag [] = false
+first_flag (b ∷ bs) = b
+
+abbrev pub other_flags : List Bool → List Bool
+other_flags [] = []
+other_flags (b ∷ bs) = bs
+
+abbrev pub settled_log : List Bool → List Bool → List Txn → List Txn
+settled_log no_reads no_writes [] = []
+settled_log no_reads no_writes (t ∷ ts) = settled_txn (first_flag no_reads) (first_flag no_writes) t ∷ settled_log (other_flags no_reads) (other_flags no_writes) ts
+
+-- the store by its keys; a transaction's flags say whether its reads, and its writes, are missing
+abbrev pub settled : List Bool → List Bool → Document → Document
+settled no_reads no_writes d = record d { store = entries (store_of d.store); log = settled_log no_reads no_writes d.log }

@@ -1,0 +1,75 @@
+-- What a text says that was written at ease, and the exact text of that.
+use Rattle.std.specs.Prelude.{◌≡◌, ◌≢◌, ◌⊎◌, ℕ, List, [], Bool, true, Option, Some, None}
+use Rattle.std.specs.List.{AllByRecursion, IsDistinct}
+use Rattle.std.specs.Str.{bytes_eq}
+use Rattle.bohm_tree.specs.Document.{Document}
+use Rattle.bohm_tree.specs.Keys.{names_of, rising}
+use Rattle.bohm_tree.specs.Sound.{IsDocument}
+use Rattle.bohm_tree.specs.Txn.{Txn}
+use Rattle.bohm_text.specs.Print.{print_doc}
+use Rattle.bohm_tidy.specs.Plain.{written}
+use Rattle.bohm_tidy.specs.Settled.{settled}
+
+-- a document whose keys stand in any order, and for each of its transactions whether its reads, and its writes, are missing
+pub record Loose : Type 0 where
+  pub document : Document
+  pub no_reads : List Bool
+  pub no_writes : List Bool
+
+-- a document whose text it is, or there is none
+abbrev pub IsExactDoc : List ℕ → Option Document → Type 0
+IsExactDoc text (Some d) = IsDocument d × (print_doc d ≡ text)
+IsExactDoc text None = (d : Document) → IsDocument d → print_doc d ≢ text
+
+-- an exact text is read as it stands
+pub record IsExact (text : List ℕ) (l : Loose) : Type 0 where
+  pub prints : print_doc l.document ≡ text
+  pub no_reads : l.no_reads ≡ []
+  pub no_writes : l.no_writes ≡ []
+
+-- another text is read by the exact lines that its lines make
+pub record IsByLines (text : List ℕ) (l : Loose) : Type 0 where
+  pub prints : print_doc l.document ≡ (written text).text
+  pub no_reads : l.no_reads ≡ (written text).no_reads
+  pub no_writes : l.no_writes ≡ (written text).no_writes
+
+-- the loose reading of a text
+pub record IsReading (text : List ℕ) (l : Loose) : Type 0 where
+  pub sound : IsDocument l.document
+  pub distinct : IsDistinct bytes_eq (names_of l.document.store)
+  pub read : IsExact text l ⊎ (IsExactDoc text None × IsByLines text l)
+
+abbrev pub settled_text : Loose → List ℕ
+settled_text l = print_doc (settled l.no_reads l.no_writes l.document)
+
+-- the exact text of what the loose text says
+pub record IsTidied (text exact : List ℕ) : Type 0 where
+  pub loose : Loose
+  pub reading : IsReading text loose
+  pub is : exact ≡ settled_text loose
+
+-- the same, whether or not the text is exact already
+pub record IsTidiedByLines (text exact : List ℕ) : Type 0 where
+  pub loose : Loose
+  pub sound : IsDocument loose.document
+  pub distinct : IsDistinct bytes_eq (names_of loose.document.store)
+  pub read : IsByLines text loose
+  pub is : exact ≡ settled_text loose
+
+-- ---- keys in order
+
+pub record HasRisingSets (t : Txn) : Type 0 where
+  pub reads : rising t.reads ≡ true
+  pub writes : rising t.writes ≡ true
+
+-- the keys of the store and of all sets rise
+pub record HasRisingKeys (d : Document) : Type 0 where
+  pub store : rising (names_of d.store) ≡ true
+  pub log : AllByRecursion HasRisingSets d.log
+
+-- an exact text whose keys rise
+pub record IsTidyText (text : List ℕ) : Type 0 where
+  pub document : Document
+  pub sound : IsDocument document
+  pub rises : HasRisingKeys document
+  pub prints : text ≡ print_doc document

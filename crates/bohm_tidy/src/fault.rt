@@ -1,0 +1,51 @@
+//! Why a text is refused.
+
+ghost use Rattle.std.specs.Prelude.{◌≡◌};
+ghost use Rattle.bohm_tidy.specs.declared.fault.TidyFault.TheVariants.{NoMemory};
+
+use std::alloc::{AllocError, AllocFailed};
+
+/// Two lines of a store that name one key, numbered from 1 in the text as it was handed in.
+#[derive(Clone, Copy, Debug)]
+pub struct Double {
+    pub first: u64,
+    pub again: u64,
+}
+
+/// Why a text is no log's, however loosely it is read.
+#[derive(Clone, Copy, Debug)]
+pub enum TidyFault {
+    /// The lines before this one begin a log, and with this one they don't. Lines count from 1 in
+    /// the text as it was handed in.
+    Line(u64),
+    /// All lines begin a log, but it isn't ended.
+    Short,
+    /// The store names a key twice.
+    Twice(Double),
+    /// A growth was refused.
+    NoMemory,
+}
+
+impl From<AllocError> for TidyFault {
+    ghost from_gives = { λ _ e. e ≡ NoMemory };
+
+    fn from(_e: AllocError) -> TidyFault {
+        TidyFault::NoMemory
+    }
+}
+
+impl<T: Drop> From<AllocFailed<T>> for TidyFault {
+    ghost from_gives = { λ _ e. e ≡ NoMemory };
+
+    fn from(_e: AllocFailed<T>) -> TidyFault {
+        TidyFault::NoMemory
+    }
+}
+
+impl From<bohm_tree::NoMemory> for TidyFault {
+    ghost from_gives = { λ _ e. e ≡ NoMemory };
+
+    fn from(_e: bohm_tree::NoMemory) -> TidyFault {
+        TidyFault::NoMemory
+    }
+}

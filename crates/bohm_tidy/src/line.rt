@@ -1,0 +1,164 @@
+//! One line of a loose text, as the exact text has it.
+
+ghost use Rattle.std.specs.Prelude.{◌≡◌, ◌++◌, ◌∷◌, [], IfOk};
+ghost use Rattle.bohm_tidy.specs.declared.line.Gap.TheVariants.{Start};
+ghost use Rattle.bohm_tidy.specs.Line.{is_sign, is_cut, cut_text, shown, apart, without_return};
+ghost use Rattle.bohm_tidy.specs.Line.{before_comment, gap_behind, next_gap, gap_text, joined};
+ghost use Rattle.bohm_tidy.specs.Line.{exact_line};
+
+use crate::bytes::place_of;
+use bohm_text::Words;
+use bohm_tree::NoMemory;
+
+/// What stands before the next word.
+#[derive(Clone, Copy)]
+pub enum Gap {
+    /// No word yet.
+    Start,
+    /// A word behind which a sum begins, or goes on with an atom.
+    Sum,
+    /// The minus of a sum's first term, which stands at its atom.
+    Minus,
+    /// An atom or a key.
+    Atom,
+}
+
+/// Whether it is a byte of a sign or of a comparison.
+fn is_sign(byte: u8) -> bool
+    ensures { result ≡ is_sign byte }
+{
+    matches!(byte, b'+' | b'-' | b'<' | b'=' | b'>')
+}
+
+/// Whether a word ends between two bytes that are no blanks.
+fn is_cut(byte: u8, next: u8) -> bool
+    ensures { result ≡ is_cut byte next }
+{
+    if next == b'=' && (byte == b'<' || byte == b'>') {
+        return false;
+    }
+    is_sign(byte) || is_sign(next)
+}
+
+/// The byte, a space where it is a tab.
+fn shown(byte: u8) -> u8
+    ensures { result ≡ shown byte }
+{
+    if byte == b'\t' { b' ' } else { byte }
+}
+
+/// Appends a byte that stands behind another one, with a space between them where a word ends.
+fn put_byte(out: &mut Vec<u8>, signs: bool, before: u8, byte: u8) -> Result<(), NoMemory>
+    ensures { IfOk result (λ _. out.new.items
+        ≡ out.old.items ++ (cut_text signs before byte ++ shown byte ∷ [])) }
+{
+    if signs && is_cut(before, byte) {
+        out.push(b' ')?;
+        out.push(shown(byte))?;
+        return Ok(());
+    }
+    out.push(shown(byte))?;
+    Ok(())
+}
+
+/// Appends the bytes with a space between any two words. `signs` says whether a sign is a word by
+/// itself.
+#[tactic(auto, unfolding(crate::specs::Line::apart))]
+fn set_apart(out: &mut Vec<u8>, signs: bool, bytes: &[u8]) -> Result<(), NoMemory>
+    ensures { IfOk result (λ _. out.new.items ≡ out.old.items ++ apart signs 32 bytes.now) }
+{
+    let mut before = b' ';
+    for byte in bytes {
+        put_byte(out, signs, before, *byte)?;
+        before = *byte;
+    }
+    Ok(())
+}
+
+/// The gap behind a sign, or behind an atom.
+#[tactic(auto, unfolding(crate::specs::Line::gap_behind))]
+fn gap_behind(word: &[u8]) -> Gap
+    ensures { result ≡ gap_behind word.now }
+{
+    match word {
+        [first, ..] if is_sign(*first) => Gap::Sum,
+        _ => Gap::Atom,
+    }
+}
+
+/// The gap behind a word.
+#[tactic(auto, unfolding(crate::specs::Line::next_gap))]
+fn next_gap(gap: Gap, signs: bool, word: &[u8]) -> Gap
+    ensures { result ≡ next_gap gap signs word.now }
+{
+    match gap {
+        Gap::Start => if signs { Gap::Sum } else { Gap::Atom },
+        Gap::Sum if word == b"-".as_slice() => Gap::Minus,
+        Gap::Atom if word == b"when".as_slice() => Gap::Sum,
+        _ => gap_behind(word),
+    }
+}
+
+/// Appends a word of the line behind others.
+fn put_word(out: &mut Vec<u8>, gap: Gap, word: &[u8]) -> Result<(), NoMemory>
+    ensures { IfOk result (λ _. out.new.items ≡ out.old.items ++ gap_text gap ++ word.now) }
+{
+    match gap {
+        Gap::Start | Gap::Minus => {}
+        Gap::Sum | Gap::Atom => out.push(b' ')?,
+    }
+    out.extend_from_slice(word)?;
+    Ok(())
+}
+
+/// Appends the words as the exact text spaces them.
+#[tactic(auto, unfolding(crate::specs::Line::joined))]
+fn put_joined(out: &mut Vec<u8>, signs: bool, words: &mut Words) -> Result<(), NoMemory>
+    ensures { IfOk result (λ _. out.new.items ≡ out.old.items ++ joined signs Start words.old) }
+{
+    let mut gap = Gap::Start;
+    'each: while let Some(word) = words.next() {
+        if word.is_empty() {
+            continue;
+        }
+        put_word(out, gap, word)?;
+        gap = next_gap(gap, signs, word);
+    }
+    Ok(())
+}
+
+/// The line without a carriage return at its end.
+fn without_return(line: &[u8]) -> &[u8]
+    ensures { result.now ≡ without_return line.now }
+{
+    match line.strip_suffix(b"\r".as_slice()) {
+        Some(front) => front,
+        None => line,
+    }
+}
+
+/// What stands before a comment.
+fn before_comment(line: &[u8]) -> &[u8]
+    ensures { result.now ≡ before_comment line.now }
+{
+    match place_of(b'#', line) {
+        None => line,
+        Some(at) => &line[..at],
+    }
+}
+
+/// Appends the line as an exact text has it, without its newline: its words with a space between
+/// two of them, without its comment. A line without words appends nothing. `signs` says whether the
+/// signs of sums and comparisons are words by themselves. `room` is room for the work.
+pub fn put_line(
+    out: &mut Vec<u8>,
+    room: &mut Vec<u8>,
+    signs: bool,
+    line: &[u8],
+) -> Result<(), NoMemory>
+    ensures { IfOk result (λ _. out.new.items ≡ out.old.items ++ exact_line signs line.now) }
+{
+    room.clear();
+    set_apart(room, signs, before_comment(without_return(line)))?;
+    put_joined(out, signs, &mut Words::of(room.as_slice()))
+}

@@ -1,0 +1,221 @@
+//! A loose text line by line, as lines of an exact text.
+
+ghost use Rattle.std.specs.Prelude.{◌≡◌, ◌≤◌, IfOk, OnOk, codes, length};
+ghost use Rattle.bohm_tidy.specs.Plain.{begins, fed, filled, has_writes, nothing, place_after};
+ghost use Rattle.bohm_tidy.specs.Plain.{signs_at, with_line, without_mark, written, written_of};
+ghost use Rattle.bohm_tidy.specs.declared.plain.Place.TheVariants as places;
+
+use crate::bytes::place_of;
+use crate::line::put_line;
+use bohm_text::Words;
+use bohm_tree::NoMemory;
+use std::alloc::Global;
+
+/// Which line comes next.
+#[derive(Clone, Copy)]
+pub enum Place {
+    /// The head, a line of the store, or a transaction's opening.
+    Between,
+    /// The reads of the transaction that was opened.
+    Opened,
+    /// Its writes.
+    Reading,
+    /// A statement or its closing.
+    Body,
+}
+
+/// Lines of an exact text that were made of those of a loose one. Where a transaction has no line
+/// of its reads or of its writes, an empty one stands, and it is kept in mind.
+#[derive(Drop)]
+pub struct Plain {
+    pub place: Place,
+    pub text: Vec<u8>,
+    /// For each transaction whether its reads are missing.
+    pub no_reads: Vec<bool>,
+    /// For each transaction whether its writes are missing.
+    pub no_writes: Vec<bool>,
+    line: Vec<u8>,
+    room: Vec<u8>,
+}
+
+/// Whether signs are words by themselves.
+fn signs_at(place: Place) -> bool
+    ensures { result ≡ signs_at place }
+{
+    match place {
+        Place::Between => false,
+        Place::Opened | Place::Reading | Place::Body => true,
+    }
+}
+
+/// Whether the line's first word is this.
+fn begins(line: &[u8], word: &[u8]) -> bool
+    ensures { result ≡ begins line.now word.now }
+{
+    match Words::of(line).next() {
+        Some(first) => first == word,
+        None => false,
+    }
+}
+
+/// Which line comes after this one.
+fn place_after(place: Place, line: &[u8]) -> Place
+    ensures { result ≡ place_after place line.now }
+{
+    match place {
+        Place::Between => if line == b"txn".as_slice() {
+            Place::Opened
+        } else {
+            Place::Between
+        },
+        Place::Opened => Place::Reading,
+        Place::Reading => Place::Body,
+        Place::Body => if line == b"end".as_slice() {
+            Place::Between
+        } else {
+            Place::Body
+        },
+    }
+}
+
+impl Plain {
+    pub fn new(alloc: Global) -> Plain
+        ensures { written_of result ≡ nothing }
+    {
+        Plain {
+            place: Place::Between,
+            text: Vec::new(alloc),
+            no_reads: Vec::new(alloc),
+            no_writes: Vec::new(alloc),
+            line: Vec::new(alloc),
+            room: Vec::new(alloc),
+        }
+    }
+
+    /// Puts an empty line of writes before the next line, where that is none.
+    fn fill_writes(&mut self) -> Result<(), NoMemory>
+        ensures filled { IfOk result (λ _. written_of self.new
+            ≡ has_writes (begins self.old.line.items (codes "writes")) (written_of self.old)) }
+        ensures line { OnOk result (self.new.line.items ≡ self.old.line.items) }
+    {
+        if begins(self.line.as_slice(), b"writes") {
+            self.no_writes.push(false)?;
+            return Ok(());
+        }
+        self.no_writes.push(true)?;
+        self.text.extend_from_slice(b"writes\n")?;
+        self.place = Place::Body;
+        Ok(())
+    }
+
+    /// Puts an empty line of reads before the next line, where that is none, and then one of writes.
+    fn fill_reads(&mut self) -> Result<(), NoMemory>
+        requires { self.old.place ≡ places.Opened }
+        ensures filled { IfOk result (λ _. written_of self.new
+            ≡ filled self.old.line.items (written_of self.old)) }
+        ensures line { OnOk result (self.new.line.items ≡ self.old.line.items) }
+    {
+        if begins(self.line.as_slice(), b"reads") {
+            self.no_reads.push(false)?;
+            return Ok(());
+        }
+        self.no_reads.push(true)?;
+        self.text.extend_from_slice(b"reads\n")?;
+        self.place = Place::Reading;
+        self.fill_writes()
+    }
+
+    /// Puts empty lines of sets before the next line, where they are missing.
+    fn fill(&mut self) -> Result<(), NoMemory>
+        ensures filled { IfOk result (λ _. written_of self.new
+            ≡ filled self.old.line.items (written_of self.old)) }
+        ensures line { OnOk result (self.new.line.items ≡ self.old.line.items) }
+    {
+        match self.place {
+            Place::Between => Ok(()),
+            Place::Opened => self.fill_reads(),
+            Place::Reading => self.fill_writes(),
+            Place::Body => Ok(()),
+        }
+    }
+
+    /// Puts the next line down.
+    fn put(&mut self) -> Result<(), NoMemory>
+        ensures { IfOk result
+            (λ _. written_of self.new ≡ with_line self.old.line.items (written_of self.old)) }
+    {
+        self.text.extend_from_slice(self.line.as_slice())?;
+        self.text.push(b'\n')?;
+        self.place = place_after(self.place, self.line.as_slice());
+        Ok(())
+    }
+
+    /// Takes the next line of the loose text in.
+    pub fn feed(&mut self, line: &[u8]) -> Result<(), NoMemory>
+        ensures { IfOk result (λ _. written_of self.new ≡ fed (written_of self.old) line.now) }
+    {
+        self.line.clear();
+        put_line(&mut self.line, &mut self.room, signs_at(self.place), line)?;
+        if self.line.as_slice().is_empty() {
+            return Ok(());
+        }
+        self.fill()?;
+        self.put()?;
+        Ok(())
+    }
+}
+
+/// The text without a byte order mark before it.
+fn without_mark(text: &[u8]) -> &[u8]
+    ensures value { result.now ≡ without_mark text.now }
+    ensures short { length result.now ≤ length text.now }
+{
+    match text.strip_prefix(b"\xef\xbb\xbf".as_slice()) {
+        Some(rest) => rest,
+        None => text,
+    }
+}
+
+/// The lines of an exact text that a loose one is read as. Its time and memory grow with the length
+/// of the text.
+pub fn plain_text(alloc: Global, text: &[u8]) -> Result<Plain, NoMemory>
+    ensures { IfOk result (λ plain. written_of plain ≡ written text.now) }
+{
+    let mut plain = Plain::new(alloc);
+    let mut rest = without_mark(text);
+    'lines: while let Some(at) = place_of(b'\n', rest) {
+        plain.feed(&rest[..at])?;
+        rest = &rest[at + 1..];
+    }
+    plain.feed(rest)?;
+    Ok(plain)
+}
+
+/// The line of the loose text, counted from 1, that the byte at this place of the plain text was
+/// made of, or the last one where that has no such place.
+pub fn line_at(alloc: Global, text: &[u8], place: usize) -> Result<u64, NoMemory> {
+    let mut plain = Plain::new(alloc);
+    let mut rest = without_mark(text);
+    let mut number: usize = 1;
+    'lines: while let Some(at) = place_of(b'\n', rest) {
+        plain.feed(&rest[..at])?;
+        if plain.text.len() > place {
+            return Ok(number as u64);
+        }
+        number += 1;
+        rest = &rest[at + 1..];
+    }
+    Ok(number as u64)
+}
+
+/// Where a line of a text, counted from 1, begins.
+pub fn line_start(text: &[u8], line: u64) -> usize {
+    let mut rest = text;
+    for _line in 1..line {
+        match place_of(b'\n', rest) {
+            Some(at) => rest = &rest[at + 1..],
+            None => return text.len(),
+        }
+    }
+    text.len() - rest.len()
+}

@@ -1,0 +1,112 @@
+//! From a text that was written at ease to the exact one.
+
+ghost use Rattle.std.specs.Prelude.{◌≡◌, [], IfOk, OnOk};
+ghost use Rattle.std.specs.List.{IsDistinct};
+ghost use Rattle.std.specs.Str.{bytes_eq};
+ghost use Rattle.bohm_tree.specs.Keys.{names_of};
+ghost use Rattle.bohm_text.specs.Print.{print_doc};
+ghost use Rattle.bohm_tidy.specs.Settled.{settled};
+ghost use Rattle.bohm_tidy.specs.Tidied.{IsExactDoc, IsTidied, IsTidiedByLines};
+
+use crate::doubles::first_double;
+use crate::fault::{Double, TidyFault};
+use crate::plain::{Plain, line_at, line_start, plain_text};
+use crate::settled::print_settled;
+use crate::store::Unsettled;
+use bohm_log::{Doc, HashSeed};
+use bohm_text::{TextFault, parse_with_seed};
+use bohm_tree::NoMemory;
+use std::alloc::Global;
+
+/// The line of the loose text that made this line of the plain one. Both count from 1.
+fn loose_line(alloc: Global, text: &[u8], plain: &Plain, line: u64) -> Result<u64, NoMemory> {
+    line_at(alloc, text, line_start(plain.text.as_slice(), line))
+}
+
+/// The double key of a document that was read from a plain text.
+fn twice(alloc: Global, text: &[u8], plain: &Plain, doc: &Doc) -> Result<TidyFault, NoMemory> {
+    let places = first_double(alloc, doc.store())?;
+    Ok(TidyFault::Twice(Double {
+        first: loose_line(alloc, text, plain, (places.first as u64).saturating_add(2))?,
+        again: loose_line(alloc, text, plain, (places.again as u64).saturating_add(2))?,
+    }))
+}
+
+/// The double key of a document that was read from an exact text.
+fn twice_exactly(alloc: Global, doc: &Doc) -> Result<TidyFault, NoMemory> {
+    let places = first_double(alloc, doc.store())?;
+    Ok(TidyFault::Twice(Double {
+        first: (places.first as u64).saturating_add(2),
+        again: (places.again as u64).saturating_add(2),
+    }))
+}
+
+/// The exact text of a text that isn't exact.
+fn tidy_by_lines(alloc: Global, seed: HashSeed, text: &[u8]) -> Result<Vec<u8>, TidyFault>
+    ensures { IfOk result (λ exact. IsTidiedByLines text.now exact.items) }
+{
+    let plain = plain_text(alloc, text)?;
+    let doc = match parse_with_seed(alloc, seed, plain.text.as_slice()) {
+        Ok(doc) => doc,
+        Err(TextFault::Line(line)) => {
+            return Err(TidyFault::Line(loose_line(alloc, text, &plain, line)?));
+        }
+        Err(TextFault::Short) => return Err(TidyFault::Short),
+        Err(TextFault::NoMemory) => return Err(TidyFault::NoMemory),
+    };
+    match print_settled(
+        alloc,
+        &doc,
+        plain.no_reads.as_slice(),
+        plain.no_writes.as_slice(),
+    ) {
+        Ok(exact) => Ok(exact),
+        Err(Unsettled::NoMemory) => Err(TidyFault::NoMemory),
+        Err(Unsettled::Twice) => Err(twice(alloc, text, &plain, &doc)?),
+    }
+}
+
+/// The document whose text this is, if there is one.
+fn exact_doc(alloc: Global, seed: HashSeed, text: &[u8]) -> Result<Option<Doc>, NoMemory>
+    ensures { IfOk result (IsExactDoc text.now) }
+{
+    match parse_with_seed(alloc, seed, text) {
+        Ok(doc) => Ok(Some(doc)),
+        Err(TextFault::Line(_)) => Ok(None),
+        Err(TextFault::Short) => Ok(None),
+        Err(TextFault::NoMemory) => Err(NoMemory),
+    }
+}
+
+/// The exact text of a document that was read from an exact one.
+fn tidy_exactly(alloc: Global, doc: &Doc) -> Result<Vec<u8>, TidyFault>
+    ensures text { IfOk result (λ exact. exact.items ≡ print_doc (settled [] [] doc.now)) }
+    ensures distinct { OnOk result (IsDistinct bytes_eq (names_of doc.now.store)) }
+{
+    match print_settled(alloc, doc, &[], &[]) {
+        Ok(exact) => Ok(exact),
+        Err(Unsettled::NoMemory) => Err(TidyFault::NoMemory),
+        Err(Unsettled::Twice) => Err(twice_exactly(alloc, doc)?),
+    }
+}
+
+/// The exact text of a log that was written at ease: with comments, free spacing, keys in any
+/// order, and sets that are missing. Names are hashed from the seed. The time grows with the length
+/// of the text, and with the number n of the keys of a set or of the store as n log n; the memory
+/// grows with the text.
+///
+/// # Errors
+///
+/// `Line` and `Short` say where the text stops being the beginning of a log, `Twice` which key the
+/// store names twice. `NoMemory` says that a growth was refused.
+pub fn tidy(alloc: Global, seed: HashSeed, text: &[u8]) -> Result<Vec<u8>, TidyFault>
+    ensures { IfOk result (λ exact. IsTidied text.now exact.items) }
+{
+    match exact_doc(alloc, seed, text)? {
+        Some(doc) => match tidy_exactly(alloc, &doc) {
+            Ok(exact) => Ok(exact),
+            Err(fault) => Err(fault),
+        },
+        None => tidy_by_lines(alloc, seed, text),
+    }
+}

@@ -1,0 +1,24 @@
+-- What the program reads and writes.
+use Rattle.std.specs.Prelude.{ℕ, ◌≤◌, List, length, Option}
+use Rattle.std.specs.Io.KnownBytes.{Appends}
+use Rattle.bohm_run.specs.Bytes.{ReadsAll, Sends}
+use Rattle.bohm_tidy.specs.Tidied.{IsTidied}
+
+-- all that the reader had is a text whose exact text this is, and that isn't too long
+pub record ReadsLoose (unread unread' : Option (List ℕ)) (exact : List ℕ) : Type 0 where
+  pub text : List ℕ
+  pub read : ReadsAll unread unread' text
+  pub tidied : IsTidied text exact
+  pub short : length exact ≤ 67108864
+
+-- the exact text was written and nothing else
+pub record Tidies (unread unread' written written' : Option (List ℕ)) : Type 0 where
+  pub exact : List ℕ
+  pub loose : ReadsLoose unread unread' exact
+  pub wrote : Appends written written' exact
+
+-- the first bytes of the exact text were written
+pub record StopsTidying (unread unread' written written' : Option (List ℕ)) (sent : ℕ) : Type 0 where
+  pub exact : List ℕ
+  pub loose : ReadsLoose unread unread' exact
+  pub wrote : Sends written written' exact sent

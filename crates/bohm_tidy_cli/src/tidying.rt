@@ -1,0 +1,68 @@
+//! A log that was written at ease, from bytes to bytes.
+
+ghost use Rattle.std.specs.Prelude.{◌≡◌, ◌≤◌, ℕ, length, IfOk, IfErr, OnOk, Err};
+ghost use Rattle.bohm_run.specs.Headline.{IsBeforeWriting};
+ghost use Rattle.bohm_tidy.specs.Tidied.{IsTidied};
+ghost use Rattle.bohm_tidy_cli.specs.Tidying.{StopsTidying, Tidies};
+
+use bohm_log::HashSeed;
+use bohm_run::{LONGEST_TEXT, RunFault, read_all, write_all};
+use bohm_text::TextFault;
+use bohm_tidy::{TidyFault, tidy};
+use bohm_txn::{CheckFault, CheckKind};
+use std::alloc::Global;
+use std::io::{Read, Write};
+use std::random::RandomSource;
+
+/// The refusal of a text that is no log's.
+fn refusal_of(fault: TidyFault) -> RunFault
+    ensures { IsBeforeWriting result }
+{
+    match fault {
+        TidyFault::Line(line) => RunFault::Text(TextFault::Line(line)),
+        TidyFault::Short => RunFault::Text(TextFault::Short),
+        TidyFault::Twice(_) => RunFault::Check(CheckFault {
+            txn: 0,
+            stmt: 0,
+            kind: CheckKind::Order,
+        }),
+        TidyFault::NoMemory => RunFault::NoMemory,
+    }
+}
+
+/// The exact text, if it isn't too long for a text.
+fn exact_text<T: RandomSource>(rt: &T, alloc: Global, text: &[u8]) -> Result<Vec<u8>, RunFault>
+    ensures tidied { IfOk result (λ exact. IsTidied text.now exact.items) }
+    ensures short { IfOk result (λ exact. length exact.items ≤ LONGEST_TEXT) }
+    ensures before { IfErr result IsBeforeWriting }
+{
+    match tidy(alloc, HashSeed::drawn(rt), text) {
+        Ok(exact) if exact.len() > LONGEST_TEXT => Err(RunFault::TooLong),
+        Ok(exact) => Ok(exact),
+        Err(fault) => Err(refusal_of(fault)),
+    }
+}
+
+/// Reads a text to the reader's end, and writes the exact text of the log that it loosely is, and
+/// nothing else. The whole text is made before the first byte is written. Every failure of a reader
+/// or a writer counts, an interrupted call too.
+pub fn tidy_text<T: RandomSource, R: Read, W: Write>(
+    rt: &T,
+    alloc: Global,
+    reader: &mut R,
+    writer: &mut W,
+) -> Result<(), RunFault>
+    ensures ok { OnOk result
+        (Tidies (R.remaining reader.old) (R.remaining reader.new) (W.contents writer.old)
+        (W.contents writer.new)) }
+    ensures sent { (sent : ℕ) → result ≡ Err (RunFault.Write sent)
+        → StopsTidying (R.remaining reader.old) (R.remaining reader.new) (W.contents writer.old)
+        (W.contents writer.new) sent }
+
+    // Before all faults but those of the writing the writer isn't touched.
+    ensures untouched { IfErr result (λ e. IsBeforeWriting e → writer.new ≡ writer.old) }
+{
+    let text = read_all(alloc, reader)?;
+    let exact = exact_text(rt, alloc, text.as_slice())?;
+    write_all(writer, exact.as_slice())
+}
