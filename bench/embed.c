@@ -1,6 +1,6 @@
 /* The cost of segments: `embed STORE SIZE < SEGMENTS` opens a machine on the snapshot in the file STORE, applies
- * the transactions on standard input in segments of SIZE, trims the past behind each, and writes the seconds that
- * this took, and then the store. */
+ * the transactions on standard input in segments of SIZE, trims the past behind each, and writes the store, and the
+ * seconds that this took on standard error. */
 #include "../crates/bohm_c/include/bohm.h"
 
 #include <stdio.h>
@@ -49,7 +49,7 @@ int main(int argc, char **argv) {
         bohm_free_bytes(&out);
         at = end;
     }
-    printf("%.9f\n", spent);
+    fprintf(stderr, "%.9f\n", spent);
     bohm_machine_counts counts;
     bohm_counts(&machine, &counts);
     if (bohm_store_at(&machine, counts.top, &out)) return 1;

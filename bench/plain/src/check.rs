@@ -1,33 +1,44 @@
 //! The check of a log that was read, with its exact first fault.
 
 use crate::fault::{Fault, Kind};
-use crate::log::{Act, Log, MOST_KEYS, MOST_STATEMENTS, MOST_TERMS, NOWHERE, Source, Statement, Term, Txn};
+use crate::log::{
+    Act, Columns, Log, MOST_KEYS, MOST_STATEMENTS, MOST_TERMS, NOWHERE, Source, Statement, Term, Txn,
+};
+use crate::names::Name;
 
-const MOST_TXNS: usize = 1_000_000;
+pub const MOST_TXNS: usize = 1_000_000;
 const MOST_SHOWS: usize = 16;
 
 pub fn check(log: &Log) -> Result<(), Fault> {
-    let names = log.names.all();
-    let in_order = |(index, entry): (usize, &(u32, i64))| entry.0 as usize == index;
-    let stored = log.store.len();
-    if !log.store.iter().enumerate().all(in_order) || !names[..stored].is_sorted() {
-        return Err(Fault::Check(Kind::Order, 0, 0));
-    }
-    if log.len() > MOST_TXNS {
+    check_store(log)?;
+    if log.txns.len() > MOST_TXNS {
         return Err(Fault::Check(Kind::Limit, 0, 0));
     }
+    let names = log.names.all();
+    check_txns(&log.txns, log.store.len(), |number| &names[number as usize])
+}
+
+pub fn check_store(log: &Log) -> Result<(), Fault> {
+    let names = &log.names.all()[..log.store.len()];
+    let rises = names.is_sorted_by(|first, second| first < second);
+    if rises { Ok(()) } else { Err(Fault::Check(Kind::Order, 0, 0)) }
+}
+
+/// The first fault of the transactions, which it counts from 1. So many names are those of the store.
+#[inline(always)]
+pub fn check_txns<'a>(txns: &Columns, stored: usize, name: impl Fn(u32) -> &'a Name) -> Result<(), Fault> {
     // The numbers of stored keys are in the order of their names.
-    let rises = |[first, second]: &[u32; 2]| match (*first as usize, *second as usize) {
-        (first, second) if first < stored && second < stored => first < second,
-        (first, second) => names[first] < names[second],
+    let rises = |[first, second]: &[u32; 2]| match (*first, *second) {
+        (first, second) if (first as usize) < stored && (second as usize) < stored => first < second,
+        (first, second) => name(first) < name(second),
     };
-    for index in 0..log.len() {
-        let txn = log.txn(index);
+    for index in 0..txns.len() {
+        let txn = txns.txn(index);
         let fault = |kind, statement| Err(Fault::Check(kind, index + 1, statement));
         if !txn.reads.array_windows().all(rises) || !txn.writes.array_windows().all(rises) {
             return fault(Kind::Order, 0);
         }
-        let shows = log.shows(index + 1) - log.shows(index);
+        let shows = txns.shows(index + 1) - txns.shows(index);
         if txn.body.len() > MOST_STATEMENTS
             || txn.reads.len() > MOST_KEYS
             || txn.writes.len() > MOST_KEYS

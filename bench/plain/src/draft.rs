@@ -1,12 +1,12 @@
 //! The transaction that is being read: the names that it declares and binds, and its statement under way.
-//! Terms and statements go to the log at once, declared keys when the transaction is closed: numbered all
+//! Terms and statements go to their columns at once, declared keys when the transaction is closed: numbered all
 //! together, so that waits for the table of names overlap.
 
 use crate::log::{
-    Act, Comparison, Log, MOST_KEYS, MOST_STATEMENTS, MOST_TERMS, NOWHERE, Source, Statement, Term,
+    Act, Columns, Comparison, MOST_KEYS, MOST_STATEMENTS, MOST_TERMS, NOWHERE, Source, Statement, Term,
 };
-use crate::names::{Known, Name, glimpse};
-use crate::text::Text;
+use crate::names::{Known, Name, Numbers, glimpse};
+use crate::text::Window;
 
 pub struct Draft {
     reads: Vec<Known>,
@@ -147,11 +147,11 @@ impl Draft {
     }
 
     #[inline(always)]
-    fn push(&mut self, log: &mut Log, term: Term) {
+    fn push(&mut self, txns: &mut Columns, term: Term) {
         if self.terms <= MOST_TERMS {
             self.terms += 1;
-            log.terms.push(term);
-        } else if let Some(last) = log.terms.last_mut() {
+            txns.terms.push(term);
+        } else if let Some(last) = txns.terms.last_mut() {
             // The statement is refused for its worst term, or for the length of the sum.
             if term.source > last.source {
                 *last = term;
@@ -160,20 +160,20 @@ impl Draft {
     }
 
     #[inline(always)]
-    pub fn literal(&mut self, log: &mut Log, minus: bool, number: u64) {
+    pub fn literal(&mut self, txns: &mut Columns, minus: bool, number: u64) {
         if let Ok(value) = u16::try_from(number) {
-            self.push(log, Term { source: Source::Small, minus, value });
+            self.push(txns, Term { source: Source::Small, minus, value });
         } else {
-            log.large.push(number);
+            txns.large.push(number);
             self.large += 1;
             // A checked transaction has fewer large literals than 65,536.
-            self.push(log, Term { source: Source::Large, minus, value: (self.large - 1) as u16 });
+            self.push(txns, Term { source: Source::Large, minus, value: (self.large - 1) as u16 });
         }
     }
 
     /// The local whose name begins at `at`; answers where it ends.
     #[inline(always)]
-    pub fn local(&mut self, log: &mut Log, minus: bool, text: &Text, at: usize) -> Option<usize> {
+    pub fn local(&mut self, txns: &mut Columns, minus: bool, text: Window, at: usize) -> Option<usize> {
         let (index, end) = match self.glimpsed_local(text, at) {
             Some(found) => found,
             None => {
@@ -181,19 +181,19 @@ impl Draft {
                 match self.index_of_local(&name) {
                     Some(index) => (index, end),
                     None => {
-                        self.push(log, Term { source: Source::Unbound, minus, value: 0 });
+                        self.push(txns, Term { source: Source::Unbound, minus, value: 0 });
                         return Some(end);
                     }
                 }
             }
         };
-        self.push(log, Term { source: Source::Local, minus, value: (MOST_KEYS + index) as u16 });
+        self.push(txns, Term { source: Source::Local, minus, value: (MOST_KEYS + index) as u16 });
         Some(end)
     }
 
     /// A local of less than eight bytes that is the last one of its glance, and where it ends.
     #[inline(always)]
-    fn glimpsed_local(&self, text: &Text, at: usize) -> Option<(usize, usize)> {
+    fn glimpsed_local(&self, text: Window, at: usize) -> Option<(usize, usize)> {
         let (word, size) = glimpse(text, at)?;
         let (txn, index) = self.bound[Name::glance(word)];
         let index = usize::from(index);
@@ -202,7 +202,7 @@ impl Draft {
 
     /// The key whose name begins at `at`; answers where it ends.
     #[inline(always)]
-    pub fn read(&mut self, log: &mut Log, minus: bool, text: &Text, at: usize) -> Option<usize> {
+    pub fn read(&mut self, txns: &mut Columns, minus: bool, text: Window, at: usize) -> Option<usize> {
         let (place, end) = match self.glimpsed_read(text, at) {
             Some(found) => found,
             None => {
@@ -212,14 +212,14 @@ impl Draft {
         };
         self.next_read = place + 1;
         let source = if place == usize::from(NOWHERE) { Source::Unread } else { Source::Read };
-        self.push(log, Term { source, minus, value: place as u16 });
+        self.push(txns, Term { source, minus, value: place as u16 });
         Some(end)
     }
 
     /// The read that is expected next, or one of less than eight bytes, and where it ends. What stands in
     /// the text is compared in place: no name is made of it.
     #[inline(always)]
-    fn glimpsed_read(&mut self, text: &Text, at: usize) -> Option<(usize, usize)> {
+    fn glimpsed_read(&mut self, text: Window, at: usize) -> Option<(usize, usize)> {
         let reads = &self.reads[..self.reads.len().min(MOST_KEYS)];
         let Some((word, size)) = glimpse(text, at) else {
             let expected = reads.get(self.next_read)?;
@@ -245,7 +245,7 @@ impl Draft {
 
     /// Opens a `set` or a `drop` of the key whose name begins at `at`; answers where it ends.
     #[inline(always)]
-    pub fn target(&mut self, act: Act, text: &Text, at: usize) -> Option<usize> {
+    pub fn target(&mut self, act: Act, text: Window, at: usize) -> Option<usize> {
         self.open(act);
         let count = self.writes.len().min(MOST_KEYS);
         let mut found = self.next_write;
@@ -266,25 +266,25 @@ impl Draft {
     }
 
     #[inline(always)]
-    pub fn close_statement(&mut self, log: &mut Log) {
+    pub fn close_statement(&mut self, txns: &mut Columns) {
         self.shows += u32::from(self.statement.act == Act::Show);
-        log.body.push(self.statement);
+        txns.body.push(self.statement);
     }
 
     #[inline(always)]
-    pub fn close(&mut self, log: &mut Log) {
-        let first = log.reads.len();
+    pub fn close(&mut self, txns: &mut Columns, names: &mut impl Numbers) {
+        let first = txns.reads.len();
         for read in &self.reads {
-            log.reads.push(log.names.number(&read.name));
+            txns.reads.push(names.number(&read.name));
         }
         for (write, own) in self.writes.iter().zip(&self.own) {
             let key = match *own {
-                NOWHERE => log.names.number(&write.name),
-                place => log.reads[first + usize::from(place)],
+                NOWHERE => names.number(&write.name),
+                place => txns.reads[first + usize::from(place)],
             };
-            log.writes.push(key);
+            txns.writes.push(key);
         }
-        log.own.extend_from_slice(&self.own);
-        log.close(self.shows);
+        txns.own.extend_from_slice(&self.own);
+        txns.close(self.shows);
     }
 }

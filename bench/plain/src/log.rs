@@ -1,4 +1,4 @@
-//! A log as flat columns that all transactions share. A transaction's part of a column begins where its head
+//! A log as flat columns that its transactions share. A transaction's part of a column begins where its head
 //! says, and ends where that of the next one begins; behind the last one stands a head for its end.
 
 use crate::names::Names;
@@ -92,12 +92,8 @@ pub enum Edition {
     Two,
 }
 
-pub struct Log {
-    /// None before the head is read.
-    pub edition: Option<Edition>,
-    pub names: Names,
-    /// The starting store, its keys by their numbers.
-    pub store: Vec<(u32, i64)>,
+/// Transactions as columns.
+pub struct Columns {
     heads: Vec<Head>,
     pub reads: Vec<u32>,
     pub writes: Vec<u32>,
@@ -107,6 +103,15 @@ pub struct Log {
     pub terms: Vec<Term>,
     pub large: Vec<u64>,
     shows: u32,
+}
+
+pub struct Log {
+    /// None before the head is read.
+    pub edition: Option<Edition>,
+    pub names: Names,
+    /// The values of the starting store. Its keys have the first numbers, in the order of their lines.
+    pub store: Vec<i64>,
+    pub txns: Columns,
 }
 
 /// One transaction.
@@ -122,10 +127,23 @@ pub struct Txn<'a> {
 
 impl Log {
     pub fn new() -> Log {
-        Log {
-            edition: None,
-            names: Names::new(),
-            store: Vec::new(),
+        Log { edition: None, names: Names::new(), store: Vec::new(), txns: Columns::new() }
+    }
+
+    /// Whether a body sees its own writes.
+    pub fn sees_writes(&self) -> bool {
+        self.edition == Some(Edition::Two)
+    }
+
+    /// How many lines its text has.
+    pub fn lines(&self) -> usize {
+        usize::from(self.edition.is_some()) + self.store.len() + self.txns.lines()
+    }
+}
+
+impl Columns {
+    pub fn new() -> Columns {
+        Columns {
             heads: vec![Head::default()],
             reads: Vec::new(),
             writes: Vec::new(),
@@ -137,20 +155,26 @@ impl Log {
         }
     }
 
-    /// How many transactions it has.
+    /// How many transactions there are.
     pub fn len(&self) -> usize {
         self.heads.len() - 1
     }
 
-    /// Whether a body sees its own writes.
-    pub fn sees_writes(&self) -> bool {
-        self.edition == Some(Edition::Two)
+    /// How many lines their text has.
+    pub fn lines(&self) -> usize {
+        4 * self.len() + self.heads.last().map_or(0, |head| head.body as usize)
     }
 
-    /// How many lines its text has.
-    pub fn lines(&self) -> usize {
-        let ends = self.heads.last().map_or(0, |head| head.body as usize);
-        usize::from(self.edition.is_some()) + self.store.len() + 4 * self.len() + ends
+    /// Takes all transactions away, and keeps the room.
+    pub fn clear(&mut self) {
+        self.heads.truncate(1);
+        self.reads.clear();
+        self.writes.clear();
+        self.own.clear();
+        self.body.clear();
+        self.terms.clear();
+        self.large.clear();
+        self.shows = 0;
     }
 
     /// Takes away what stands behind the last transaction.

@@ -6,6 +6,9 @@
 //!     plain serial      flat columns and dense key numbers, one transaction after another
 //!     plain bohm [--cc 1] [--exec 1] [--parts 1] [--batch 4096]
 //!                       the same log by BOHM's steps, on so many planning and executing threads
+//!     plain flow [--threads 1] [--window 262144]
+//!                       the log in windows of so many bytes, read, checked and printed on so many threads and
+//!                       run in order
 //!
 //! With --times each says on standard error how many seconds its parts took, as JSON.
 
@@ -14,6 +17,7 @@ mod bohm;
 mod check;
 mod draft;
 mod fault;
+mod flow;
 mod log;
 mod names;
 mod parse;
@@ -26,7 +30,6 @@ mod text;
 mod times;
 mod tree;
 
-use bohm::Settings;
 use fault::Fault;
 use log::Log;
 use run::Answer;
@@ -37,7 +40,7 @@ use times::Times;
 
 /// An engine over the flat log.
 fn flat(times: &mut Times, run: impl FnOnce(&Log, &mut Times) -> Answer) -> Result<(), Fault> {
-    let mut text = Text::open()?;
+    let mut text = Text::open(text::WINDOW)?;
     let start = Instant::now();
     let log = parse::parse(&mut text)?;
     times.note("read", text.reading);
@@ -45,7 +48,7 @@ fn flat(times: &mut Times, run: impl FnOnce(&Log, &mut Times) -> Answer) -> Resu
     times.take("check", || check::check(&log))?;
     let answer = times.take_with("execute", |times| run(&log, times));
     let out = times.take("print", || print::print(&log, &answer));
-    let written = times.take("write", || text::write(&out));
+    let written = times.take("write", || text::write([out.as_slice()]));
     // The process ends, which gives all back at once.
     std::mem::forget((log, answer, out));
     written
@@ -60,37 +63,46 @@ fn tree(times: &mut Times, parses_alone: bool) -> Result<(), Fault> {
     }
     let (replies, store) = times.take("execute", || tree::run::run(&doc));
     let out = times.take("print", || tree::run::print(&replies, &store));
-    times.take("write", || text::write(&out))
+    times.take("write", || text::write([out.as_slice()]))
+}
+
+struct Settings {
+    bohm: bohm::Settings,
+    flow: flow::Settings,
+    tells: bool,
 }
 
 /// The words behind the engine's name.
-fn settings(words: impl Iterator<Item = String>) -> Option<(Settings, bool)> {
-    let mut settings = Settings { planners: 1, executors: 1, parts: 1, batch: 4096 };
-    let (mut tells, mut words) = (false, words);
+fn settings(mut words: impl Iterator<Item = String>) -> Option<Settings> {
+    let mut settings = Settings {
+        bohm: bohm::Settings { planners: 1, executors: 1, parts: 1, batch: 4096 },
+        flow: flow::Settings { threads: 1, window: text::WINDOW },
+        tells: false,
+    };
     while let Some(word) = words.next() {
         let number = match word.as_str() {
-            "--cc" => &mut settings.planners,
-            "--exec" => &mut settings.executors,
-            "--parts" => &mut settings.parts,
-            "--batch" => &mut settings.batch,
+            "--cc" => &mut settings.bohm.planners,
+            "--exec" => &mut settings.bohm.executors,
+            "--parts" => &mut settings.bohm.parts,
+            "--batch" => &mut settings.bohm.batch,
+            "--threads" => &mut settings.flow.threads,
+            "--window" => &mut settings.flow.window,
             "--times" => {
-                tells = true;
+                settings.tells = true;
                 continue;
             }
             _ => return None,
         };
         *number = words.next()?.parse().ok().filter(|number| *number > 0)?;
     }
-    Some((settings, tells))
+    Some(settings)
 }
 
 fn main() -> ExitCode {
     let mut words = std::env::args().skip(1);
     let engine = words.next().unwrap_or_default();
-    let Some((settings, tells)) = settings(words) else {
-        eprintln!(
-            "plain: tree, tree-parse, serial or bohm, then --cc, --exec, --parts, --batch N or --times"
-        );
+    let Some(settings) = settings(words) else {
+        eprintln!("plain: an engine, then --cc, --exec, --parts, --batch, --threads, --window N or --times");
         return ExitCode::from(2);
     };
     let mut times = Times::new();
@@ -98,13 +110,14 @@ fn main() -> ExitCode {
         "tree" => tree(&mut times, false),
         "tree-parse" => tree(&mut times, true),
         "serial" => flat(&mut times, |log, _| run::serial(log)),
-        "bohm" => flat(&mut times, |log, times| bohm::run(log, &settings, times)),
+        "bohm" => flat(&mut times, |log, times| bohm::run(log, &settings.bohm, times)),
+        "flow" => flow::run(&settings.flow, &mut times),
         _ => {
             eprintln!("plain: no engine {engine}");
             return ExitCode::from(2);
         }
     };
-    if tells {
+    if settings.tells {
         times.tell();
     }
     match done {

@@ -1,6 +1,6 @@
 //! Names as four words, and numbers for them.
 
-use crate::text::Text;
+use crate::text::Window;
 use std::hash::{BuildHasher, RandomState};
 
 /// A name of up to 32 bytes, big-endian with zeros behind it: names are ordered as their words.
@@ -38,7 +38,7 @@ fn front(word: u64, count: usize) -> u64 {
 impl Name {
     /// The name that begins at `at`, and where it ends.
     #[inline(always)]
-    pub fn scan(text: &Text, at: usize) -> Option<(Name, usize)> {
+    pub fn scan(text: Window, at: usize) -> Option<(Name, usize)> {
         let word = text.word(at);
         if !((word >> 56) as u8).is_ascii_lowercase() {
             return None;
@@ -52,7 +52,7 @@ impl Name {
     }
 
     /// The same for a name of eight bytes at least.
-    fn scan_on(text: &Text, at: usize) -> Option<(Name, usize)> {
+    fn scan_on(text: Window, at: usize) -> Option<(Name, usize)> {
         let mut words = [0; 4];
         for (number, place) in words.iter_mut().enumerate() {
             let word = text.word(at + 8 * number);
@@ -99,7 +99,7 @@ pub struct Known {
 impl Known {
     /// Whether the name stands at `at`, with a space or a newline behind it.
     #[inline(always)]
-    pub fn stands(&self, text: &Text, at: usize) -> bool {
+    pub fn stands(&self, text: Window, at: usize) -> bool {
         if self.size <= 8 {
             (text.word(at) ^ self.name.0[0]) >> (64 - 8 * self.size) == 0 && text.byte(at + self.size) <= b' '
         } else {
@@ -107,7 +107,7 @@ impl Known {
         }
     }
 
-    fn stands_on(&self, text: &Text, at: usize) -> bool {
+    fn stands_on(&self, text: Window, at: usize) -> bool {
         let differs = |number: usize| {
             let count = self.size.saturating_sub(8 * number).min(8);
             count > 0 && (text.word(at + 8 * number) ^ self.name.0[number]) >> (64 - 8 * count) != 0
@@ -119,7 +119,7 @@ impl Known {
 /// What stands before the next space or newline, if that is less than eight bytes: as the first word of a
 /// name, and its size. It may be no name, but then it is the first word of none.
 #[inline(always)]
-pub fn glimpse(text: &Text, at: usize) -> Option<(u64, usize)> {
+pub fn glimpse(text: Window, at: usize) -> Option<(u64, usize)> {
     let word = text.word(at);
     // The top bit of each byte up to a space; a byte before one may be taken for one as well, if no name
     // has it.
@@ -143,21 +143,29 @@ pub struct Names {
     shift: u32,
     seed: u64,
     names: Vec<Name>,
+    /// How many of the names stand in the table.
+    indexed: usize,
 }
 
 impl Names {
     pub fn new() -> Names {
-        let bits = 12;
-        Names {
-            table: vec![FREE; 1 << bits],
-            shift: 64 - bits,
+        let mut names = Names {
+            table: Vec::new(),
+            shift: 0,
             seed: RandomState::new().hash_one(0u64),
             names: Vec::new(),
-        }
+            indexed: 0,
+        };
+        names.rebuild(12);
+        names
     }
 
     pub fn all(&self) -> &[Name] {
         &self.names
+    }
+
+    pub fn into_all(self) -> Vec<Name> {
+        self.names
     }
 
     #[inline(always)]
@@ -169,9 +177,75 @@ impl Names {
         (hash >> self.shift) as usize
     }
 
-    /// The name's number; a new name gets the next one.
+    /// The name's number, if it has one.
     #[inline(always)]
-    pub fn number(&mut self, name: &Name) -> u32 {
+    pub fn find(&self, name: &Name) -> Option<u32> {
+        let mask = self.table.len() - 1;
+        let mut at = self.home(name);
+        loop {
+            let slot = self.table[at & mask];
+            if slot.first == name.0[0] && (slot.first & 255 == 0 || self.names[slot.number as usize] == *name)
+            {
+                return Some(slot.number);
+            }
+            if slot.first == 0 {
+                return None;
+            }
+            at += 1;
+        }
+    }
+
+    /// The next number for a name that is new. It isn't found before `index`.
+    #[inline(always)]
+    pub fn push(&mut self, name: Name) {
+        self.names.push(name);
+    }
+
+    /// Lets all names be found: one table of their final number is cheaper than one that grows with them.
+    pub fn index(&mut self) {
+        if self.indexed < self.names.len() {
+            let slots = (2 * self.names.len()).next_power_of_two().max(self.table.len());
+            self.rebuild(slots.trailing_zeros());
+        }
+    }
+
+    #[inline(never)]
+    fn add(&mut self, at: usize, name: &Name) -> u32 {
+        let number = self.names.len() as u32;
+        self.table[at] = Slot { first: name.0[0], number };
+        self.names.push(*name);
+        self.indexed += 1;
+        if self.names.len() * 2 > self.table.len() {
+            self.rebuild(65 - self.shift);
+        }
+        number
+    }
+
+    /// The table anew, with so many bits.
+    fn rebuild(&mut self, bits: u32) {
+        self.shift = 64 - bits;
+        self.table = vec![FREE; 1 << bits];
+        self.indexed = self.names.len();
+        let mask = self.table.len() - 1;
+        for (number, name) in self.names.iter().enumerate() {
+            let mut at = self.home(name);
+            while self.table[at & mask].first != 0 {
+                at += 1;
+            }
+            self.table[at & mask] = Slot { first: name.0[0], number: number as u32 };
+        }
+    }
+}
+
+/// What gives names numbers.
+pub trait Numbers {
+    /// The name's number; a new name gets the next one.
+    fn number(&mut self, name: &Name) -> u32;
+}
+
+impl Numbers for Names {
+    #[inline(always)]
+    fn number(&mut self, name: &Name) -> u32 {
         let mask = self.table.len() - 1;
         let mut at = self.home(name);
         loop {
@@ -187,28 +261,27 @@ impl Names {
             at += 1;
         }
     }
+}
 
-    #[inline(never)]
-    fn add(&mut self, at: usize, name: &Name) -> u32 {
-        let number = self.names.len() as u32;
-        self.table[at] = Slot { first: name.0[0], number };
-        self.names.push(*name);
-        if self.names.len() * 2 > self.table.len() {
-            self.grow();
-        }
-        number
+/// Names that threads share and none adds to, and behind them those that one thread met first.
+pub struct Layered<'a> {
+    pub shared: &'a Names,
+    pub own: Names,
+}
+
+impl Layered<'_> {
+    pub fn name(&self, number: u32) -> &Name {
+        let (shared, own) = (&self.shared.names, &self.own.names);
+        shared.get(number as usize).unwrap_or_else(|| &own[number as usize - shared.len()])
     }
+}
 
-    fn grow(&mut self) {
-        self.shift -= 1;
-        self.table = vec![FREE; self.table.len() * 2];
-        let mask = self.table.len() - 1;
-        for (number, name) in self.names.iter().enumerate() {
-            let mut at = self.home(name);
-            while self.table[at & mask].first != 0 {
-                at += 1;
-            }
-            self.table[at & mask] = Slot { first: name.0[0], number: number as u32 };
+impl Numbers for Layered<'_> {
+    #[inline(always)]
+    fn number(&mut self, name: &Name) -> u32 {
+        match self.shared.find(name) {
+            Some(number) => number,
+            None => self.shared.names.len() as u32 + self.own.number(name),
         }
     }
 }

@@ -2,9 +2,9 @@
 
 use crate::draft::Draft;
 use crate::fault::Fault;
-use crate::log::{Act, Comparison, Edition, Log};
-use crate::names::Name;
-use crate::text::Text;
+use crate::log::{Act, Columns, Comparison, Edition, Log};
+use crate::names::{Name, Numbers};
+use crate::text::{Text, Window};
 
 const fn four(word: &[u8; 4]) -> u32 {
     u32::from_be_bytes(*word)
@@ -25,34 +25,79 @@ enum Stop {
     Compare(Comparison),
 }
 
-struct Parser<'a> {
-    text: &'a mut Text,
+pub struct Parser<'a> {
+    text: Window<'a>,
     at: usize,
     /// Where the line begins that is being read.
     line: usize,
-    draft: Draft,
+    draft: &'a mut Draft,
 }
 
 /// The whole log. The window is read line by line of the head and the store, then transaction by
 /// transaction; what it breaks off in is read again when more has come.
 pub fn parse(text: &mut Text) -> Result<Log, Fault> {
-    let mut parser = Parser { text, at: 0, line: 0, draft: Draft::new() };
-    let mut log = Log::new();
+    read_log(text, false).map(|(log, _)| log)
+}
+
+/// The head and the store; answers also where the first transaction begins, or the window ends.
+pub fn parse_store(text: &mut Text) -> Result<(Log, usize), Fault> {
+    let (mut log, at) = read_log(text, true)?;
+    log.names.index();
+    Ok((log, at))
+}
+
+fn read_log(text: &mut Text, is_store: bool) -> Result<(Log, usize), Fault> {
+    let (mut log, mut draft, mut at) = (Log::new(), Draft::new(), 0);
     loop {
-        let from = parser.parts(&mut log);
-        if parser.text.read_on(from)? > 0 {
-            log.reopen();
-            (parser.at, parser.line) = (0, 0);
-        } else if parser.text.len() == 0 && log.lines() > 0 {
-            return Ok(log);
+        let mut parser = Parser::new(text.window(), at, &mut draft);
+        let from = if is_store { parser.entries(&mut log) } else { parser.parts(&mut log) };
+        let line = parser.line;
+        if is_store && log.edition.is_some() && starts_txn(text.window(), from) {
+            return Ok((log, from));
+        }
+        if text.read_on(from)? > 0 {
+            log.txns.reopen();
+            at = 0;
+        } else if text.window().len() == 0 && log.edition.is_some() {
+            return Ok((log, 0));
         } else {
-            parser.line -= from;
-            return Err(parser.fault(&log));
+            return Err(match bad_line(text.window(), line - from, true) {
+                Some(line) => Fault::Line(log.lines() + line),
+                None => Fault::Short,
+            });
         }
     }
 }
 
-impl Parser<'_> {
+/// Whether the line that begins at `at` is `txn`.
+#[inline(always)]
+fn starts_txn(text: Window, at: usize) -> bool {
+    (text.word(at) >> 32) as u32 == TXN
+}
+
+/// The number of the line that begins at `line`, from 1; none if the text breaks off in it.
+pub fn bad_line(text: Window, line: usize, is_last: bool) -> Option<usize> {
+    let (before, behind) = text.bytes().split_at(line);
+    let is_short = is_last && !behind.contains(&b'\n');
+    (!is_short).then(|| before.iter().filter(|byte| **byte == b'\n').count() + 1)
+}
+
+impl<'a> Parser<'a> {
+    /// A parser that goes on at `at`, where a line begins.
+    pub fn new(text: Window<'a>, at: usize, draft: &'a mut Draft) -> Parser<'a> {
+        Parser { text, at, line: at, draft }
+    }
+
+    /// All transactions of a window that ends with one; else answers where the line begins that none goes on
+    /// with.
+    pub fn txns(&mut self, txns: &mut Columns, names: &mut impl Numbers) -> Result<(), usize> {
+        while self.at < self.text.len() {
+            self.line = self.at;
+            self.txn(txns, names).ok_or(self.line)?;
+        }
+        Ok(())
+    }
+
     /// All parts that stand whole in the window; answers where the first other one begins.
     fn parts(&mut self, log: &mut Log) -> usize {
         let mut from = self.at;
@@ -62,27 +107,34 @@ impl Parser<'_> {
         from
     }
 
+    /// The same of the head and the store.
+    fn entries(&mut self, log: &mut Log) -> usize {
+        let mut from = self.at;
+        while from < self.text.len() && !(log.edition.is_some() && starts_txn(self.text, from)) {
+            self.line = from;
+            let part = if log.edition.is_some() { self.entry(log) } else { self.head(log) };
+            if part.is_none() {
+                break;
+            }
+            from = self.at;
+        }
+        from
+    }
+
     /// The head, a line of the store, or a transaction.
     #[inline(always)]
     fn part(&mut self, log: &mut Log) -> Option<()> {
         self.line = self.at;
-        if log.len() > 0 || log.lines() > 0 && self.next_four() == TXN {
-            self.txn(log)
-        } else if log.lines() > 0 {
-            self.entry(log)
-        } else {
+        if log.txns.len() > 0 {
+            self.txn(&mut log.txns, &mut log.names)
+        } else if log.edition.is_none() {
             self.head(log)
+        } else if starts_txn(self.text, self.at) {
+            log.names.index();
+            self.txn(&mut log.txns, &mut log.names)
+        } else {
+            self.entry(log)
         }
-    }
-
-    /// The fault of a text that breaks off in the part that the window begins with, or can't go on as the
-    /// line of it does that is being read.
-    fn fault(&self, log: &Log) -> Fault {
-        let bytes = self.text.bytes();
-        if !bytes[self.line..].contains(&b'\n') {
-            return Fault::Short;
-        }
-        Fault::Line(log.lines() + bytes[..self.line].iter().filter(|byte| **byte == b'\n').count() + 1)
     }
 
     #[inline(always)]
@@ -137,34 +189,34 @@ impl Parser<'_> {
     }
 
     #[inline(always)]
-    fn term(&mut self, log: &mut Log, minus: bool) -> Option<()> {
+    fn term(&mut self, txns: &mut Columns, minus: bool) -> Option<()> {
         let first = self.byte();
         if first.is_ascii_digit() {
             let number = self.whole(i64::MAX as u64)?;
             if minus && number == 0 {
                 return None;
             }
-            self.draft.literal(log, minus, number);
+            self.draft.literal(txns, minus, number);
         } else if first == b'$' {
-            self.at = self.draft.local(log, minus, self.text, self.at + 1)?;
+            self.at = self.draft.local(txns, minus, self.text, self.at + 1)?;
         } else {
-            self.at = self.draft.read(log, minus, self.text, self.at)?;
+            self.at = self.draft.read(txns, minus, self.text, self.at)?;
         }
         Some(())
     }
 
     #[inline(always)]
-    fn sum(&mut self, log: &mut Log) -> Option<Stop> {
+    fn sum(&mut self, txns: &mut Columns) -> Option<Stop> {
         self.draft.open_sum();
-        let stop = self.terms(log)?;
+        let stop = self.terms(txns)?;
         self.draft.close_sum();
         Some(stop)
     }
 
     #[inline(always)]
-    fn terms(&mut self, log: &mut Log) -> Option<Stop> {
+    fn terms(&mut self, txns: &mut Columns) -> Option<Stop> {
         let minus = self.eat(b'-').is_some();
-        self.term(log, minus)?;
+        self.term(txns, minus)?;
         loop {
             let [first, sign, second, ..] = self.text.word(self.at).to_be_bytes();
             if first == b'\n' {
@@ -176,7 +228,7 @@ impl Parser<'_> {
                 return self.stop();
             }
             self.at += 3;
-            self.term(log, sign == b'-')?;
+            self.term(txns, sign == b'-')?;
         }
     }
 
@@ -204,29 +256,29 @@ impl Parser<'_> {
 
     /// A sum to the end of the line.
     #[inline(always)]
-    fn last_sum(&mut self, log: &mut Log) -> Option<()> {
-        matches!(self.sum(log)?, Stop::Line).then_some(())
+    fn last_sum(&mut self, txns: &mut Columns) -> Option<()> {
+        matches!(self.sum(txns)?, Stop::Line).then_some(())
     }
 
     /// A comparison to the end of the line.
     #[inline(always)]
-    fn condition(&mut self, log: &mut Log) -> Option<()> {
-        let Stop::Compare(comparison) = self.sum(log)? else {
+    fn condition(&mut self, txns: &mut Columns) -> Option<()> {
+        let Stop::Compare(comparison) = self.sum(txns)? else {
             return None;
         };
         self.draft.compare(comparison);
-        self.last_sum(log)
+        self.last_sum(txns)
     }
 
     #[inline(always)]
-    fn set(&mut self, log: &mut Log) -> Option<()> {
+    fn set(&mut self, txns: &mut Columns) -> Option<()> {
         self.at = self.draft.target(Act::Put, self.text, self.at)?;
         self.eat_all(b" = ")?;
-        match self.sum(log)? {
+        match self.sum(txns)? {
             Stop::Line => Some(()),
             Stop::When => {
                 self.draft.guard();
-                self.condition(log)
+                self.condition(txns)
             }
             Stop::Compare(_) => None,
         }
@@ -234,7 +286,7 @@ impl Parser<'_> {
 
     /// A `need` behind its first word.
     #[inline(always)]
-    fn need(&mut self, log: &mut Log) -> Option<()> {
+    fn need(&mut self, txns: &mut Columns) -> Option<()> {
         let word = self.text.word(self.at);
         let has = (word >> 32) as u32 == four(b"has ");
         if has || word >> 40 == u64::from(four(b"\0no ")) {
@@ -249,17 +301,17 @@ impl Parser<'_> {
             }
         }
         self.draft.open(Act::Need);
-        self.condition(log)
+        self.condition(txns)
     }
 
-    fn bind(&mut self, log: &mut Log) -> Option<()> {
+    fn bind(&mut self, txns: &mut Columns) -> Option<()> {
         self.eat(b'$')?;
         let from = self.at;
         let name = self.name()?;
         let size = self.at - from;
         self.eat_all(b" = ")?;
         self.draft.open(Act::Bind);
-        self.last_sum(log)?;
+        self.last_sum(txns)?;
         // Its own sum doesn't see the local.
         self.draft.bind(name, size);
         Some(())
@@ -267,22 +319,22 @@ impl Parser<'_> {
 
     /// A line of the body; false for its `end`.
     #[inline(always)]
-    fn statement(&mut self, log: &mut Log) -> Option<bool> {
+    fn statement(&mut self, txns: &mut Columns) -> Option<bool> {
         let word = self.next_four();
         self.at += 4;
         match word {
-            SET => self.set(log)?,
+            SET => self.set(txns)?,
             END => return Some(false),
             NEED => {
                 self.eat(b' ')?;
-                self.need(log)?;
+                self.need(txns)?;
             }
             SHOW => {
                 self.eat(b' ')?;
                 self.draft.open(Act::Show);
-                self.last_sum(log)?;
+                self.last_sum(txns)?;
             }
-            LET => self.bind(log)?,
+            LET => self.bind(txns)?,
             DROP => {
                 self.eat(b' ')?;
                 self.at = self.draft.target(Act::Drop, self.text, self.at)?;
@@ -294,12 +346,12 @@ impl Parser<'_> {
             }
             _ => return None,
         }
-        self.draft.close_statement(log);
+        self.draft.close_statement(txns);
         Some(true)
     }
 
     #[inline(always)]
-    fn txn(&mut self, log: &mut Log) -> Option<()> {
+    fn txn(&mut self, txns: &mut Columns, names: &mut impl Numbers) -> Option<()> {
         self.draft.clear();
         self.eat_all(b"txn\n")?;
         self.line = self.at;
@@ -320,10 +372,10 @@ impl Parser<'_> {
         self.eat(b'\n')?;
         self.draft.match_writes();
         self.line = self.at;
-        while self.statement(log)? {
+        while self.statement(txns)? {
             self.line = self.at;
         }
-        self.draft.close(log);
+        self.draft.close(txns, names);
         Some(())
     }
 
@@ -337,8 +389,8 @@ impl Parser<'_> {
         }
         self.eat(b'\n')?;
         let value = if minus { (number as i64).wrapping_neg() } else { number as i64 };
-        let key = log.names.number(&name);
-        log.store.push((key, value));
+        log.names.push(name);
+        log.store.push(value);
         Some(())
     }
 

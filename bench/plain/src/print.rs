@@ -1,8 +1,8 @@
 //! The text of the answer.
 
-use crate::log::Log;
+use crate::log::{Columns, Log};
 use crate::names::Name;
-use crate::run::{Answer, Reason, Reply};
+use crate::run::{Answer, Cell, Reason, Reply};
 
 const DIGITS: [[u8; 2]; 100] = {
     let mut digits = [[0; 2]; 100];
@@ -44,6 +44,16 @@ struct Counter {
 }
 
 impl Counter {
+    fn new(number: usize) -> Counter {
+        let (mut text, mut from, mut left) = ([b'0'; 8], 8, number);
+        while left > 0 {
+            from -= 1;
+            text[from] = b'0' + (left % 10) as u8;
+            left /= 10;
+        }
+        Counter { text, from: from.min(7) }
+    }
+
     fn step(&mut self) {
         let mut at = 7;
         while self.text[at] == b'9' {
@@ -83,7 +93,7 @@ fn push_reply(out: &mut Vec<u8>, number: &[u8], reply: Reply, shows: &[i64]) {
 }
 
 /// The numbers of all keys in the order of their names. Those of the starting store are in order already.
-fn in_order(names: &[Name], stored: usize) -> Vec<u32> {
+pub fn in_order(names: &[Name], stored: usize) -> Vec<u32> {
     let mut fresh: Vec<u32> = (stored as u32..names.len() as u32).collect();
     fresh.sort_unstable_by_key(|key| names[*key as usize]);
     let mut all = Vec::with_capacity(names.len());
@@ -99,25 +109,38 @@ fn in_order(names: &[Name], stored: usize) -> Vec<u32> {
     all
 }
 
+/// The line between the replies and the store.
+pub const BETWEEN: &[u8] = b"--\n";
+
 pub fn print(log: &Log, answer: &Answer) -> Vec<u8> {
     let names = log.names.all();
     // Room for usual answers; others take more when they need it.
-    let mut out = Vec::with_capacity(18 * log.len() + 8 * answer.shows.len() + 16 * names.len() + 64);
-    let mut counter = Counter { text: [b'0'; 8], from: 7 };
-    for (index, reply) in answer.replies.iter().enumerate() {
+    let mut out = Vec::with_capacity(18 * log.txns.len() + 8 * answer.shows.len() + 16 * names.len() + 64);
+    print_replies(&mut out, &log.txns, 0, &answer.replies, &answer.shows);
+    out.extend_from_slice(BETWEEN);
+    print_entries(&mut out, &in_order(names, log.store.len()), names, &answer.cells);
+    out
+}
+
+/// The replies of transactions that stand behind so many others.
+pub fn print_replies(out: &mut Vec<u8>, txns: &Columns, before: usize, replies: &[Reply], shows: &[i64]) {
+    let mut counter = Counter::new(before);
+    for (index, reply) in replies.iter().enumerate() {
         counter.step();
-        push_reply(&mut out, counter.text(), *reply, &answer.shows[log.shows(index)..log.shows(index + 1)]);
+        push_reply(out, counter.text(), *reply, &shows[txns.shows(index)..txns.shows(index + 1)]);
     }
-    out.extend_from_slice(b"--\n");
-    for key in in_order(names, log.store.len()) {
-        let cell = answer.cells[key as usize];
+}
+
+/// What these keys hold in the store that is left.
+pub fn print_entries(out: &mut Vec<u8>, keys: &[u32], names: &[Name], cells: &[Cell]) {
+    for key in keys {
+        let cell = cells[*key as usize];
         if cell.present {
-            let (bytes, size) = names[key as usize].bytes();
+            let (bytes, size) = names[*key as usize].bytes();
             out.extend_from_slice(&bytes[..size]);
             out.push(b' ');
-            push_number(&mut out, cell.value);
+            push_number(out, cell.value);
             out.push(b'\n');
         }
     }
-    out
 }

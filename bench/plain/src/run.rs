@@ -1,6 +1,8 @@
 //! What a transaction does, and the log one transaction after another.
 
-use crate::log::{Act, Comparison, Log, MOST_KEYS, NOWHERE, REGISTERS, Source, Statement, Term, Txn};
+use crate::log::{
+    Act, Columns, Comparison, Log, MOST_KEYS, NOWHERE, REGISTERS, Source, Statement, Term, Txn,
+};
 
 #[derive(Clone, Copy)]
 #[repr(u8)]
@@ -212,34 +214,46 @@ pub struct Answer {
 /// A cell for each key, as the starting store has them.
 pub fn starting_cells(log: &Log) -> Vec<Cell> {
     let mut cells = vec![Cell::default(); log.names.all().len()];
-    for (key, value) in &log.store {
-        cells[*key as usize] = Cell { value: *value, present: true };
+    for (cell, value) in cells.iter_mut().zip(&log.store) {
+        *cell = Cell { value: *value, present: true };
     }
     cells
 }
 
 pub fn serial(log: &Log) -> Answer {
     let mut cells = starting_cells(log);
-    let mut shows = vec![0; log.shows(log.len())];
-    let mut machine = Machine::new();
-    let replies = (0..log.len())
-        .map(|index| {
-            let txn = log.txn(index);
-            machine.clear();
-            for (place, key) in txn.reads.iter().enumerate() {
-                machine.read(place, cells[*key as usize]);
-            }
-            let reply = machine.run(&txn, log.sees_writes());
-            if let Reply::Commit = reply {
-                for (place, key) in txn.writes.iter().enumerate() {
-                    if let Some(cell) = machine.written(place) {
-                        cells[*key as usize] = cell;
-                    }
-                }
-                shows[log.shows(index)..log.shows(index + 1)].copy_from_slice(machine.shows());
-            }
-            reply
-        })
-        .collect();
+    let mut shows = vec![0; log.txns.shows(log.txns.len())];
+    let replies = run_all(&log.txns, log.sees_writes(), &mut cells, &mut shows, |key| key);
     Answer { replies, shows, cells }
+}
+
+/// One transaction after another. A key's cell is the one that `number` says; what is shown goes where the
+/// columns say.
+#[inline(always)]
+pub fn run_all(
+    txns: &Columns,
+    sees_writes: bool,
+    cells: &mut [Cell],
+    shows: &mut [i64],
+    number: impl Fn(u32) -> u32,
+) -> Vec<Reply> {
+    let mut machine = Machine::new();
+    let run = |index| {
+        let txn = txns.txn(index);
+        machine.clear();
+        for (place, key) in txn.reads.iter().enumerate() {
+            machine.read(place, cells[number(*key) as usize]);
+        }
+        let reply = machine.run(&txn, sees_writes);
+        if let Reply::Commit = reply {
+            for (place, key) in txn.writes.iter().enumerate() {
+                if let Some(cell) = machine.written(place) {
+                    cells[number(*key) as usize] = cell;
+                }
+            }
+            shows[txns.shows(index)..txns.shows(index + 1)].copy_from_slice(machine.shows());
+        }
+        reply
+    };
+    (0..txns.len()).map(run).collect()
 }

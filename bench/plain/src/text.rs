@@ -9,17 +9,70 @@ use std::time::{Duration, Instant};
 /// The most bytes that a log may have.
 const LIMIT: usize = 67_108_864;
 
-/// The size of a window that no transaction is too large for.
-const WINDOW: usize = 1 << 18;
+/// The usual size of a window. One that a transaction is too large for grows.
+pub const WINDOW: usize = 1 << 18;
 
 /// Zero bytes behind the window, so that a word may be loaded at any place of it. No line has a zero byte.
 const PAD: usize = 64;
 
-pub struct Text {
-    input: File,
-    /// The window, the room that it may fill, and the pad.
+/// A window, the room that it may fill, and the pad.
+#[derive(Default)]
+pub struct Buffer {
     bytes: Vec<u8>,
     length: usize,
+}
+
+impl Buffer {
+    fn new(room: usize) -> Buffer {
+        Buffer { bytes: vec![0; room + PAD], length: 0 }
+    }
+
+    fn room(&self) -> usize {
+        self.bytes.len() - PAD
+    }
+
+    /// Ends the window at `length`.
+    fn end(&mut self, length: usize) {
+        self.length = length;
+        self.bytes[length..length + PAD].fill(0);
+    }
+
+    pub fn window(&self) -> Window<'_> {
+        Window { bytes: &self.bytes, length: self.length }
+    }
+}
+
+/// What can be read of a text, and the pad behind it.
+#[derive(Clone, Copy)]
+pub struct Window<'a> {
+    bytes: &'a [u8],
+    length: usize,
+}
+
+impl<'a> Window<'a> {
+    pub fn len(self) -> usize {
+        self.length
+    }
+
+    pub fn bytes(self) -> &'a [u8] {
+        &self.bytes[..self.length]
+    }
+
+    #[inline(always)]
+    pub fn byte(self, at: usize) -> u8 {
+        self.bytes[at]
+    }
+
+    /// The eight bytes from `at` on, the first one highest.
+    #[inline(always)]
+    pub fn word(self, at: usize) -> u64 {
+        u64::from_be_bytes(*self.bytes[at..].first_chunk().expect("room behind the window"))
+    }
+}
+
+pub struct Text {
+    input: File,
+    buffer: Buffer,
     /// How many bytes came in all.
     came: usize,
     /// How long reading took.
@@ -27,50 +80,61 @@ pub struct Text {
 }
 
 impl Text {
-    /// Standard input, of which nothing is read yet.
-    pub fn open() -> Result<Text, Fault> {
+    /// Standard input, of which nothing is read yet, by windows of so many bytes.
+    pub fn open(room: usize) -> Result<Text, Fault> {
         let input = file(std::io::stdin())?;
-        Ok(Text { input, bytes: vec![0; WINDOW + PAD], length: 0, came: 0, reading: Duration::ZERO })
+        Ok(Text { input, buffer: Buffer::new(room), came: 0, reading: Duration::ZERO })
+    }
+
+    pub fn window(&self) -> Window<'_> {
+        self.buffer.window()
     }
 
     /// Lets go of what stands before `at`, so that the rest stands at 0, and reads on behind it. Answers
     /// how many bytes came, 0 at the input's end.
     pub fn read_on(&mut self, at: usize) -> Result<usize, Fault> {
-        let start = Instant::now();
-        self.bytes.copy_within(at..self.length, 0);
-        self.length -= at;
-        let room = self.bytes.len() - PAD;
-        if self.length > room / 2 {
-            self.bytes.resize(2 * room + PAD, 0);
+        let length = self.buffer.length;
+        self.buffer.bytes.copy_within(at..length, 0);
+        self.buffer.end(length - at);
+        if self.buffer.length > self.buffer.room() / 2 {
+            self.grow();
         }
-        let room = self.bytes.len() - PAD;
-        let count = self.input.read(&mut self.bytes[self.length..room]).map_err(|_| Fault::Read)?;
-        self.length += count;
-        self.bytes[self.length..self.length + PAD].fill(0);
+        self.read()
+    }
+
+    /// Twice the room.
+    pub fn grow(&mut self) {
+        self.buffer.bytes.resize(2 * self.buffer.room() + PAD, 0);
+    }
+
+    /// Reads until the room is full; false if the input ends before.
+    pub fn fill(&mut self) -> Result<bool, Fault> {
+        while self.buffer.length < self.buffer.room() {
+            if self.read()? == 0 {
+                return Ok(false);
+            }
+        }
+        Ok(true)
+    }
+
+    fn read(&mut self) -> Result<usize, Fault> {
+        let start = Instant::now();
+        let (room, length) = (self.buffer.room(), self.buffer.length);
+        let count = self.input.read(&mut self.buffer.bytes[length..room]).map_err(|_| Fault::Read)?;
+        self.buffer.end(length + count);
         self.came += count;
         self.reading += start.elapsed();
         if self.came > LIMIT { Err(Fault::TooLong) } else { Ok(count) }
     }
 
-    /// The window's length.
-    pub fn len(&self) -> usize {
-        self.length
-    }
-
-    /// The window.
-    pub fn bytes(&self) -> &[u8] {
-        &self.bytes[..self.length]
-    }
-
-    #[inline(always)]
-    pub fn byte(&self, at: usize) -> u8 {
-        self.bytes[at]
-    }
-
-    /// The eight bytes from `at` on, the first one highest.
-    #[inline(always)]
-    pub fn word(&self, at: usize) -> u64 {
-        u64::from_be_bytes(*self.bytes[at..].first_chunk().expect("room behind the window"))
+    /// Hands over what stands before `at`, for the room of another window; the rest stands at 0 then.
+    pub fn hand_over(&mut self, at: usize, other: &mut Buffer) {
+        let rest = &self.buffer.bytes[at..self.buffer.length];
+        other.bytes.resize(self.buffer.bytes.len(), 0);
+        other.bytes[..rest.len()].copy_from_slice(rest);
+        other.end(rest.len());
+        std::mem::swap(&mut self.buffer, other);
+        other.end(at);
     }
 }
 
@@ -86,14 +150,16 @@ pub fn read_all() -> Result<Vec<u8>, Fault> {
     Ok(text)
 }
 
-/// Writes all of the answer to standard output.
-pub fn write(answer: &[u8]) -> Result<(), Fault> {
+/// Writes all parts of the answer to standard output.
+pub fn write<'a>(answer: impl IntoIterator<Item = &'a [u8]>) -> Result<(), Fault> {
     let mut output = file(std::io::stdout())?;
     let mut sent = 0;
-    while sent < answer.len() {
-        match output.write(&answer[sent..]) {
-            Ok(count) if count > 0 => sent += count,
-            _ => return Err(Fault::Write(sent)),
+    for mut part in answer {
+        while !part.is_empty() {
+            match output.write(part) {
+                Ok(count) if count > 0 => (part, sent) = (&part[count..], sent + count),
+                _ => return Err(Fault::Write(sent)),
+            }
         }
     }
     Ok(())

@@ -1,0 +1,76 @@
+/* Transfers by a peer: `PEER STORE TOGETHER < TRANSFERS` takes lines PAYER AMOUNT PAYEE, runs TOGETHER of them as one
+ * transaction of the peer, and writes the answer that the log of these transfers has; on standard error the seconds
+ * that running took, without reading, filling and writing. */
+#include "peer.h"
+
+#include <dirent.h>
+#include <stdio.h>
+#include <stdlib.h>
+#include <string.h>
+#include <time.h>
+#include <unistd.h>
+
+static char directory[64];
+
+void check(int is_so, const char *what) {
+    if (is_so) return;
+    fprintf(stderr, "peer: %s\n", what);
+    exit(1);
+}
+
+const char *new_directory(void) {
+    strcpy(directory, access("/dev/shm", W_OK) ? "/tmp/peer.XXXXXX" : "/dev/shm/peer.XXXXXX");
+    check(mkdtemp(directory) != NULL, "no directory");
+    return directory;
+}
+
+void remove_directory(void) {
+    DIR *files = opendir(directory);
+    for (struct dirent *file; files && (file = readdir(files));) unlinkat(dirfd(files), file->d_name, 0);
+    if (files) closedir(files);
+    rmdir(directory);
+}
+
+static double seconds(void) {
+    struct timespec now;
+    clock_gettime(CLOCK_MONOTONIC, &now);
+    return (double)now.tv_sec + (double)now.tv_nsec * 1e-9;
+}
+
+static void fill(const char *store) {
+    FILE *file = fopen(store, "r");
+    char key[LONGEST_KEY + 1];
+    long long balance;
+    check(file && fscanf(file, "log 1\n") == 0, "no store");
+    while (fscanf(file, "%32s %lld", key, &balance) == 2) peer_put(key, balance);
+    peer_filled();
+    fclose(file);
+}
+
+static transfer *read_transfers(size_t *count) {
+    size_t room = 1 << 16, got = 0;
+    transfer *all = malloc(room * sizeof *all);
+    while (all && scanf("%32s %lld %32s", all[got].payer, &all[got].amount, all[got].payee) == 3)
+        if (++got == room) all = realloc(all, (room *= 2) * sizeof *all);
+    check(all != NULL, "no memory");
+    *count = got;
+    return all;
+}
+
+static void tell(const char *key, size_t size, long long balance) { printf("%.*s %lld\n", (int)size, key, balance); }
+
+int main(int argc, char **argv) {
+    check(argc == 3 && atol(argv[2]) > 0, "STORE TOGETHER");
+    size_t together = (size_t)atol(argv[2]), count;
+    transfer *transfers = read_transfers(&count);
+    peer_open();
+    fill(argv[1]);
+    double start = seconds();
+    for (size_t at = 0; at < count; at += together) peer_run(transfers + at, count - at < together ? count - at : together);
+    fprintf(stderr, "%.9f\n", seconds() - start);
+    for (size_t at = 0; at < count; at++) printf("%zu %s\n", at + 1, transfers[at].is_done ? "commit" : "abort need 1");
+    printf("--\n");
+    peer_each(tell);
+    peer_close();
+    return 0;
+}

@@ -1,0 +1,59 @@
+/* SQLite in memory, by prepared statements. */
+#include "peer.h"
+
+#include <sqlite3.h>
+
+static sqlite3 *base;
+static sqlite3_stmt *begin, *commit, *insert, *take, *give;
+
+static void checked(int status, int wanted) { check(status == wanted, sqlite3_errmsg(base)); }
+
+static sqlite3_stmt *prepared(const char *words) {
+    sqlite3_stmt *made;
+    checked(sqlite3_prepare_v3(base, words, -1, SQLITE_PREPARE_PERSISTENT, &made, NULL), SQLITE_OK);
+    return made;
+}
+
+static void run(sqlite3_stmt *statement) {
+    checked(sqlite3_step(statement), SQLITE_DONE);
+    sqlite3_reset(statement);
+}
+
+static void change(sqlite3_stmt *statement, const char *key, long long amount) {
+    sqlite3_bind_text(statement, 1, key, -1, SQLITE_STATIC);
+    sqlite3_bind_int64(statement, 2, amount);
+    run(statement);
+}
+
+void peer_open(void) {
+    checked(sqlite3_open(":memory:", &base), SQLITE_OK);
+    run(prepared("create table account (key text primary key, balance integer not null) without rowid"));
+    begin = prepared("begin");
+    commit = prepared("commit");
+    insert = prepared("insert into account values (?1, ?2)");
+    take = prepared("update account set balance = balance - ?2 where key = ?1 and balance >= ?2");
+    give = prepared("update account set balance = balance + ?2 where key = ?1");
+    run(begin);
+}
+
+void peer_put(const char *key, long long balance) { change(insert, key, balance); }
+
+void peer_filled(void) { run(commit); }
+
+void peer_run(transfer *transfers, size_t count) {
+    run(begin);
+    for (transfer *each = transfers; each < transfers + count; each++) {
+        change(take, each->payer, each->amount);
+        each->is_done = sqlite3_changes(base) > 0;
+        if (each->is_done) change(give, each->payee, each->amount);
+    }
+    run(commit);
+}
+
+void peer_each(void (*tell)(const char *key, size_t size, long long balance)) {
+    sqlite3_stmt *all = prepared("select key, balance from account order by key");
+    while (sqlite3_step(all) == SQLITE_ROW)
+        tell((const char *)sqlite3_column_text(all, 0), (size_t)sqlite3_column_bytes(all, 0), sqlite3_column_int64(all, 1));
+}
+
+void peer_close(void) {}
