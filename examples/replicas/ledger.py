@@ -6,7 +6,7 @@ import sys
 from collections.abc import Iterable
 from pathlib import Path
 
-sys.path.insert(0, str(Path(__file__).resolve().parents[1] / "embed" / "python"))
+sys.path.insert(0, str(Path(__file__).resolve().parents[2] / "packaging" / "python"))
 import bohm  # noqa: E402
 from bohm import Refusal, Status  # noqa: E402
 

@@ -1,6 +1,4 @@
 //! A ledger in a Rust program: as `ledger.c`.
-mod bohm;
-
 use bohm::Machine;
 use std::error::Error;
 use std::io::{stdout, Write};

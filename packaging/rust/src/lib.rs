@@ -1,4 +1,5 @@
 //! The calls of `bohm.h`, as Rust wants them: a machine is closed when it is dropped, and bytes are freed.
+
 use std::{fmt, ptr, slice};
 
 #[repr(C)]
@@ -22,6 +23,7 @@ pub struct Counts {
 }
 
 extern "C" {
+    fn bohm_answer(text: *const u8, len: usize, out: *mut RawBytes) -> u32;
     fn bohm_open(machine: *mut RawMachine, text: *const u8, len: usize, top: u32, out: *mut RawBytes) -> u32;
     fn bohm_apply(machine: *mut RawMachine, text: *const u8, len: usize, out: *mut RawBytes) -> u32;
     fn bohm_value_at(machine: *mut RawMachine, key: *const u8, len: usize, ts: u32, present: *mut u8, value: *mut i64) -> u32;
@@ -75,6 +77,14 @@ fn told(status: u32, text: Text) -> Result<Text, Refusal> {
         return Ok(text);
     }
     Err(Refusal { status, line: String::from_utf8_lossy(text.as_slice()).into_owned() })
+}
+
+/// The answer of a whole log.
+pub fn answer(log: &[u8]) -> Result<Text, Refusal> {
+    let mut out = Text::none();
+    // SAFETY: a slice's pointer isn't null.
+    let status = unsafe { bohm_answer(log.as_ptr(), log.len(), &mut out.0) };
+    told(status, out)
 }
 
 /// A store with its past. It may move to another thread, and is in one call at a time.

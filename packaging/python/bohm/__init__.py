@@ -1,6 +1,6 @@
 """The calls of bohm.h for Python: a `Machine` keeps a store with its past, and log segments take it on.
 
-    library = bohm.load("libbohm.so")
+    library = bohm.load()
     with bohm.Machine(library, b"log 1\\nalice 100\\n") as machine:
         replies = machine.apply(b"log 1\\ntxn\\nreads alice\\nwrites\\nshow alice\\nend\\n")
 
@@ -70,9 +70,15 @@ heap.free.argtypes = [c_void_p]
 heap.free.restype = None
 
 
-def load(path: str) -> ctypes.CDLL:
-    """The library in a shared object."""
-    library = ctypes.CDLL(os.path.abspath(path))
+# The shared object's name, which changes with what programs may rely on.
+SHARED = "libbohm.so.0"
+
+
+def load(path: Optional[str] = None) -> ctypes.CDLL:
+    """The library in a shared object: the one that is named, or else the one beside this file or the system's."""
+    beside = os.path.join(os.path.dirname(os.path.abspath(__file__)), SHARED)
+    found = os.path.abspath(path) if path else beside if os.path.exists(beside) else SHARED
+    library = ctypes.CDLL(found)
     machine, text, out = POINTER(RawMachine), [c_char_p, c_size_t], POINTER(RawBytes)
     for name, words in {
         "bohm_answer": [*text, out],
