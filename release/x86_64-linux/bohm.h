@@ -1,0 +1,116 @@
+/* bohm.h: the proved executor in another program.
+ *
+ * Link libbohm.a, or its shared object libbohm.so.0. docs/embedding.md says how they are built, and what is
+ * trusted.
+ *
+ * Of every call:
+ * - No pointer is null, also where its length is 0, and none points into what another one points to.
+ * - It takes the memory that it needs from the C library's heap, and keeps none of the caller's.
+ * - It starts no thread, waits for none, and reads and writes no file. Any thread may call, but no signal
+ *   handler, and no forked child of a process with threads.
+ * - A machine is in one call at a time, and goes to another thread by a lock, or by that thread's start or
+ *   end; two machines share nothing.
+ */
+#ifndef BOHM_H
+#define BOHM_H
+
+/* The version, and the checksum of the sources that the library is built from. */
+#define BOHM_VERSION "0.1.0"
+#define BOHM_SOURCES "e973bb27696fb53c7bd4abb697773f4ec10c3a407c866480302ba48e87b1083c"
+
+/* A program without the C library's headers declares these types, and `free`, itself. */
+#ifndef BOHM_TYPES_ARE_DECLARED
+#include <stddef.h>
+#include <stdint.h>
+#include <stdlib.h>
+#endif
+
+#ifdef __cplusplus
+extern "C" {
+#endif
+
+/* How a call ends. */
+enum {
+    BOHM_DONE = 0,        /* it did what it is for */
+    BOHM_REFUSED = 1,     /* the text was refused: *out is the line that says why; nothing has changed */
+    BOHM_NO_MEMORY = 2,   /* memory was refused, and nothing has changed */
+    BOHM_TRIMMED = 3,     /* the timestamp is below the floor */
+    BOHM_FUTURE = 4,      /* the timestamp is above the top */
+    BOHM_HAS_STORE = 5,   /* the segment has a store of its own; nothing has changed */
+    BOHM_TIMESTAMPS = 6,  /* the segment's timestamps would pass 4294967295; nothing has changed */
+    BOHM_HAS_LOG = 7,     /* the snapshot has transactions; nothing has changed */
+    BOHM_NO_KEY = 8,      /* the bytes are no key's */
+    BOHM_WAITING = 9,     /* replies wait: call bohm_replies first; nothing has changed */
+    BOHM_STOPPED = 10,    /* memory was refused on the way: *out is the replies up to the end of a batch */
+    BOHM_KEPT = 11        /* transactions ran, but the text of their replies found no memory: they wait */
+};
+
+/* Bytes that a call hands out. Before a call it is BOHM_NO_BYTES; a call that hands out none leaves it. The
+ * caller frees them by bohm_free_bytes, whose pointer to no bytes isn't the heap's. */
+typedef struct {
+    uint8_t *at;
+    size_t len;
+} bohm_bytes;
+
+#define BOHM_NO_BYTES {(uint8_t *)16, 0}
+
+static inline void bohm_free_bytes(bohm_bytes *bytes) {
+    if (bytes->len) free(bytes->at);
+    bytes->at = (uint8_t *)16;
+    bytes->len = 0;
+}
+
+/* Runs the log text[0..len] and hands out its answer: BOHM_DONE, BOHM_REFUSED or BOHM_NO_MEMORY. */
+uint32_t bohm_answer(const uint8_t *text, size_t len, bohm_bytes *out);
+
+/* A store with its past from a floor up to a top, which are timestamps. {0} is closed. An open one isn't
+ * copied, overwritten or let go: bohm_close frees it. */
+typedef struct {
+    void *at;
+} bohm_machine;
+
+/* Opens a closed machine on a snapshot: `log 1` and a line for each key of the store, rising, and no
+ * transaction. `top` is the timestamp of the last transaction behind which the store stands, 0 for a new one.
+ * BOHM_DONE, BOHM_REFUSED, BOHM_NO_MEMORY or BOHM_HAS_LOG; but for the first it stays closed. */
+uint32_t bohm_open(bohm_machine *machine, const uint8_t *text, size_t len, uint32_t top, bohm_bytes *out);
+
+/* Runs a segment on an open machine: `log 1` or `log 2` and transactions, without a store. Hands out a line
+ * for each reply, the first of which is numbered top + 1. All ran at BOHM_DONE. At BOHM_STOPPED and BOHM_KEPT
+ * as many ran as the top has risen by: whole batches of 4096, and the rest can be applied again. Or
+ * BOHM_REFUSED, BOHM_NO_MEMORY, BOHM_HAS_STORE, BOHM_TIMESTAMPS, BOHM_WAITING. */
+uint32_t bohm_apply(bohm_machine *machine, const uint8_t *text, size_t len, bohm_bytes *out);
+
+/* Hands out the replies that wait after BOHM_KEPT, as bohm_apply would have: BOHM_DONE or BOHM_NO_MEMORY. */
+uint32_t bohm_replies(bohm_machine *machine, bohm_bytes *out);
+
+/* What a key of an open machine holds after the transaction with a timestamp: *present is 1 and *value its
+ * value, or *present is 0. BOHM_DONE, BOHM_TRIMMED, BOHM_FUTURE or BOHM_NO_KEY. It takes no memory. Before the
+ * call *present is 0 or 1. */
+uint32_t bohm_value_at(bohm_machine *machine, const uint8_t *key, size_t len, uint32_t ts,
+                       uint8_t *present, int64_t *value);
+
+/* Hands out the snapshot of a timestamp, which bohm_open takes: BOHM_DONE, BOHM_TRIMMED, BOHM_FUTURE or
+ * BOHM_NO_MEMORY. */
+uint32_t bohm_store_at(bohm_machine *machine, uint32_t ts, bohm_bytes *out);
+
+/* Lets the past below a timestamp go, where it is above the floor: BOHM_DONE, or BOHM_FUTURE where it is above
+ * the top. It takes no memory. */
+uint32_t bohm_trim(bohm_machine *machine, uint32_t floor);
+
+typedef struct {
+    uint32_t floor;    /* the least timestamp that can be read */
+    uint32_t top;      /* the greatest, which is that of the last transaction */
+    uint64_t versions; /* how many versions are kept */
+    uint64_t waiting;  /* how many replies wait */
+} bohm_machine_counts;
+
+void bohm_counts(bohm_machine *machine, bohm_machine_counts *counts);
+
+/* Frees an open machine, which then is closed. */
+void bohm_close(bohm_machine *machine);
+
+#ifdef __cplusplus
+}
+#endif
+
+#endif
