@@ -1,4 +1,4 @@
-//! Batches.
+//! A batch: its transactions, their plan and base.
 
 ghost use Rattle.std.specs.Prelude.{◌≡◌, ◌<◌, length, Some, IsSomeAnd, slice_get, true};
 ghost use Rattle.std.specs.List.{IsDistinct};

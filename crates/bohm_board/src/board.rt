@@ -1,4 +1,4 @@
-//! Boards.
+//! The board of a batch, and its rule.
 
 ghost use Rattle.std.specs.Prelude.{◌≡◌, ◌+◌, length};
 ghost use Rattle.bohm_board.specs.Batches.{rights_of, txns_of};
@@ -29,8 +29,8 @@ impl<'a> TableRule<(), View, Batch<'a>> for BoardRule {
     ghost first = { λ batch. new_view (rights_of batch) };
 }
 
-/// The shared words of a batch: a status word for each position, and behind them a presence word
-/// for each slot and a value word for each slot.
+/// The shared words of a batch: a status word for each position, and after them a presence word for
+/// each slot and a value word for each slot.
 #[derive(Drop)]
 pub struct Board<'a> {
     table: Table<(), View, Batch<'a>, BoardRule, Global>,

@@ -1,4 +1,4 @@
-//! What a board leaves.
+//! The words of a closed board.
 
 ghost use Rattle.std.specs.Prelude.{◌≡◌, ◌+◌, ◌<◌, ◌≤◌, ℕ, length, slice_index, vec_len};
 ghost use Rattle.std.specs.Slots.{slots_items, slots_len, IsFull};

@@ -1,4 +1,4 @@
-//! What passes know. No value of these types is made.
+//! Ghost views: what passes have observed. No value of these types is made.
 
 use crate::slot::Slot;
 use bohm_tree::Cell;

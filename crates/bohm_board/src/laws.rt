@@ -1,4 +1,4 @@
-//! Laws that tie the steps on a board's words to the core. No running call uses them.
+//! Laws that tie the steps on a board's words to the core. No call uses them.
 
 ghost use Rattle.std.specs.Prelude.{◌≡◌, ◌≢◌, ℕ, Contains, ◌∷◌, [], ◌++◌, length};
 ghost use Rattle.std.specs.Prelude.{slice_index};
@@ -77,7 +77,7 @@ pub fn steps_are_events()
         (table_after_step t (presence_place b x) (filled_word c) p (after_presence_store v x)) }
 {}
 
-/// A split adds a pass, and a join leaves one behind. They change no word.
+/// A split adds a pass, and a join consumes one. Neither changes a word.
 pub fn splits_and_joins_are_events()
     ensures split { (b : Batch) (t : Table (Unit {0}) View) (s : State) (p : ℕ) (v : View)
         → IsBefore b t s p v → HoldsNothing v

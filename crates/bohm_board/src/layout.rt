@@ -1,4 +1,4 @@
-//! Where the slots of a batch lie.
+//! The layout of a batch's slots.
 
 ghost use Rattle.std.specs.Prelude.{◌≡◌, ◌<◌, ◌≤◌, length, IfOk};
 ghost use Rattle.bohm_txn.specs.Faulty.{IsWellFormedTxn};

@@ -1,4 +1,4 @@
-//! Passes.
+//! Passes: the tokens that threads step with.
 
 ghost use Rattle.std.specs.Prelude.{◌≡◌, []};
 ghost use Rattle.bohm_board.specs.Views.{IsKept};
@@ -6,8 +6,8 @@ ghost use Rattle.bohm_board.specs.Views.{IsKept};
 use crate::knowledge::View;
 use atomic_table::Seat;
 
-/// What a thread steps on a board with, and what it knows of it. Where a pass is dropped, the
-/// position that it held stays Busy for good.
+/// The token with which a thread steps on a board. Its ghost view is what it has observed. If a
+/// pass is dropped, the position that it held stays Busy for good.
 #[derive(Drop)]
 pub struct Pass {
     pub(crate) seat: Seat<(), View>,

@@ -1,4 +1,4 @@
-//! Slots.
+//! Slots: places for the cells that transactions produce.
 
 ghost use Rattle.std.specs.Prelude.{◌≡◌, ◌≤◌};
 ghost use Rattle.bohm_txn.specs.Faulty.{IsWellFormedTxn};

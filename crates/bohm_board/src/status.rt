@@ -1,4 +1,4 @@
-//! How far a position is.
+//! The status of a position.
 
 /// How far a position is.
 #[derive(Clone, Copy, Debug, PartialEq, Eq)]

@@ -1,11 +1,11 @@
-//! What a sweep sets aside.
+//! Deferred positions.
 
 ghost use Rattle.std.specs.Prelude.{◌≡◌};
 
 use std::marker::Model;
 
-/// Pairs of a position that was set aside and of the position that was busy, by their timestamps,
-/// in the order in which they were set aside. Only `sweep` makes one.
+/// Pairs of a position that was deferred and of the position that was busy, by their timestamps, in
+/// the order in which they were deferred. Only `sweep` makes one.
 #[derive(Drop)]
 pub struct Aside {
     pairs: Vec<(u32, u32)>,

@@ -1,4 +1,4 @@
-//! Evaluating what no sweep has finished.
+//! Evaluates the positions that no sweep finished.
 
 ghost use Rattle.std.specs.Prelude.{◌≡◌, ◌≢◌, ◌<◌, ℕ};
 ghost use Rattle.bohm_board.specs.Batches.{accesses_in, IsIn, position, width_at};
@@ -75,7 +75,7 @@ fn evaluate_left(closed: &mut Closed, t: u32, evaluator: &mut Evaluator)
 }
 
 /// Evaluates in log order each position without an outcome. It allocates nothing. Such a position
-/// was set aside by a sweep, as one of the `Aside`s shows.
+/// was deferred by a sweep, as one of the `Aside`s shows.
 pub fn complete<'a>(mut closed: Closed<'a>, asides: &[Aside], scratch: &mut Scratch) -> Finished<'a>
     requires aside { (t : ℕ) →
         IsIn (batch_of_closed closed) t → IsUnfinished closed t → IsSetAside asides.now t }

@@ -13,7 +13,7 @@ use bohm_place::{DeclaredSet, Source};
 use bohm_tree::{Cell, MOST_KEYS};
 use bohm_txn::{Outcome, Scratch, eval};
 
-/// Puts the base's cells at the places of the accesses whose version stands when the batch starts.
+/// Puts the base's cells at the places of the accesses that take the version before the batch.
 fn add_base(batch: &Batch, t: u32, set: DeclaredSet, cells: &mut [Cell])
     requires inside { IsIn batch.now t }
     requires paired { length (accesses_in set batch.now t) ≡ length cells.old }
@@ -30,11 +30,11 @@ fn add_base(batch: &Batch, t: u32, set: DeclaredSet, cells: &mut [Cell])
     }
 }
 
-/// Evaluates one position after another. What it works in is made once, and nothing of it is
-/// cleared between two positions.
+/// Evaluates one position after another. Its memory is allocated once, and isn't cleared between
+/// two positions.
 #[derive(Drop)]
 pub(crate) struct Evaluator<'a> {
-    /// The cells of the position's declared reads, at their places. What lies behind them is of
+    /// The cells of the position's declared reads, at their places. What lies after them is of
     /// other positions.
     pub(crate) reads: [Cell; MOST_KEYS],
     /// The same of its declared writes, before it. A sure position needs none of them.

@@ -1,4 +1,4 @@
-//! Filling the slots of a position, and finishing it.
+//! Fills a position's slots, and finishes it.
 
 ghost use Rattle.std.specs.Prelude.{◌≡◌};
 ghost use Rattle.bohm_board.specs.Batches.{IsRightOutcome};

@@ -1,4 +1,4 @@
-//! What a finished batch answers.
+//! The results of a finished batch.
 
 ghost use Rattle.std.specs.Prelude.{◌≡◌, ◌<◌, ℕ, length};
 ghost use Rattle.bohm_board.specs.Batches.{IsIn, first_of, txns_of};
@@ -8,8 +8,8 @@ use bohm_board::{Batch, Closed, Slot};
 use bohm_tree::Cell;
 use bohm_txn::Outcome;
 
-/// A batch whose positions have all been evaluated: what it answers is what the serial run answers.
-/// Only `complete` makes one.
+/// A batch whose positions have all been evaluated: its results are the serial run's. Only
+/// `complete` makes one.
 #[derive(Drop)]
 pub struct Finished<'a> {
     closed: Closed<'a>,

@@ -1,4 +1,4 @@
-//! Places at which a caller may look at a run.
+//! Hooks at fixed points of a run.
 
 /// How far a run is. Batches count from 1.
 #[derive(Clone, Copy, Debug, PartialEq, Eq)]
@@ -11,7 +11,7 @@ pub enum Point {
     Finished(u32),
 }
 
-/// What is called at each point, from the thread that gets there. It returns.
+/// Called at each point, by the thread that gets there. It returns.
 pub trait Gate: Sync {
     fn at(&self, point: Point);
 }

@@ -1,4 +1,4 @@
-//! Laws of the core, over the definitions alone. No running call uses them.
+//! Laws of the core, over the definitions alone. No call uses them.
 
 ghost use Rattle.std.specs.Prelude.{◌≡◌, ℕ, ◌+◌, ◌-◌, ◌%◌, ◌<◌, ◌≤◌, List, All, Contains, count_by};
 ghost use Rattle.std.specs.Prelude.{Some, ◌↔◌, slice_get};
@@ -27,7 +27,7 @@ pub fn reached_is_lawful()
     ensures { (b : Batch) (s : State) → IsReached b s → IsLawful b s }
 {}
 
-/// In a list of events each position has at most one claim that is answered Mine, and at most one
+/// In a list of events each position has at most one claim that returns Mine, and at most one
 /// finish.
 pub fn claimed_and_finished_once()
     ensures claim { (b : Batch) (es : List Event) (t : ℕ) →
@@ -93,7 +93,7 @@ pub fn shares_cover_the_batch()
         All (λ t. (first ≤ t) × (t < first + len)) (share first len worker workers) }
 {}
 
-/// What is set aside of a share is of the share.
+/// What is deferred of a share is of the share.
 pub fn set_aside_is_of_the_share()
     ensures { (xs ys : List ℕ) (t : ℕ) → IsPickedFrom xs ys → Contains xs t → Contains ys t }
 {}

@@ -1,5 +1,5 @@
-//! Evaluation on demand: a pass sweeps a share of a batch's positions, and what it finds busy is
-//! set aside; once no thread steps on the board any more, the positions that are left are evaluated
+//! Evaluation on demand. A pass sweeps a share of a batch's positions, and what it finds busy is
+//! deferred; once no thread steps on the board any more, the positions that are left are evaluated
 //! in log order. The design is that of BOHM: Faleiro and Abadi, "Rethinking Serializable
 //! Multiversion Concurrency Control", VLDB 2015.
 #![tactic(auto)]

@@ -1,4 +1,4 @@
-//! What a position is evaluated over, looked up on the board.
+//! Looks up on the board the cells that a position needs.
 
 ghost use Rattle.std.specs.Prelude.{◌≡◌, IfSome, IsNone};
 ghost use Rattle.bohm_board.specs.Batches.{accesses_in};
@@ -14,7 +14,7 @@ use bohm_tree::{Cell, MOST_KEYS};
 
 impl Stepper<'_, '_> {
     /// Looks up the versions of the batch among the accesses of a declared set, and puts their
-    /// cells at their places. Answers the producer of the first one that isn't there yet.
+    /// cells at their places. Returns the producer of the first one that isn't there yet.
     fn find(&mut self, t: u32, set: DeclaredSet, cells: &mut [Cell; MOST_KEYS]) -> Option<u32>
         requires pass { IsPassFor self.old t }
         requires wanted { WantsAllOf (batch_on self.old) t set }

@@ -1,4 +1,4 @@
-//! How a sweeper brings one position about.
+//! Evaluates one position after those that it depends on.
 
 ghost use Rattle.std.specs.Prelude.{◌≡◌, ◌∷◌, [], ◌++◌, MatchOption};
 ghost use Rattle.bohm_board.specs.Batches.{Leads};
@@ -10,7 +10,7 @@ use crate::sweeper::Sweeper;
 use crate::turns::Turned;
 
 impl<G: Gate> Sweeper<'_, '_, G> {
-    /// Evaluates a position after all that it leads to, but for what other passes have. Answers a
+    /// Evaluates a position after all that it leads to, but for what other passes have. Returns a
     /// position that another pass has, where it leads to one.
     pub(crate) fn pursue(&mut self, start: u32) -> Option<u32>
         requires start { IsFreeFor self.old.stepper start }

@@ -1,4 +1,4 @@
-//! How the positions of a batch are shared out.
+//! Divides a batch's positions among workers.
 
 ghost use Rattle.std.specs.Prelude.{◌≡◌, ◌+◌, ◌-◌, ◌%◌, ◌<◌, ◌≤◌, ◌^◌, ◌==◌, IfOk};
 ghost use Rattle.std.specs.List.{filter, range_with_len};

@@ -1,4 +1,4 @@
-//! A pass on its board.
+//! A pass with its board.
 
 use bohm_board::{Board, Pass};
 

@@ -1,4 +1,4 @@
-//! What one worker evaluates positions with.
+//! The state of one worker.
 
 ghost use Rattle.std.specs.Prelude.{◌≡◌};
 

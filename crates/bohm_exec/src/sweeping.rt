@@ -16,8 +16,8 @@ use bohm_txn::Scratch;
 use std::alloc::Global;
 
 /// Evaluates the positions of the share, in its order, each after all that it leads to, but for
-/// what other passes have: a position that leads to one of those is set aside. A refusal comes
-/// before the first step. The work stack has room for the batch, and the answer for the share.
+/// what other passes have: a position that leads to one of those is deferred. An error comes before
+/// the first step. The work stack has room for the batch, and the answer for the share.
 pub fn sweep<G: Gate>(
     alloc: Global,
     board: &Board,

@@ -1,4 +1,4 @@
-//! A turn of a sweeper on one position.
+//! One step of a sweeper on one position.
 
 ghost use Rattle.std.specs.Prelude.{◌≡◌};
 ghost use Rattle.bohm_exec.specs.Turns.{IsFreeFor, Turns};

@@ -1,4 +1,4 @@
-//! The slots behind the accesses of a declared set.
+//! The slots that the accesses of a declared set refer to.
 
 ghost use Rattle.std.specs.Prelude.{◌≡◌, ◌<◌, ◌≤◌, length};
 ghost use Rattle.bohm_board.specs.Batches.{accesses_in, IsIn};

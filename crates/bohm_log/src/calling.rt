@@ -1,4 +1,4 @@
-//! What a call makes of a procedure's columns.
+//! Builds the instance of a call from a procedure's columns.
 
 ghost use Rattle.std.specs.Prelude.{◌≡◌, ◌≤◌, ◌++◌, map, length, OnOk, IfOk};
 ghost use Rattle.bohm_tree.specs.KeySets.{inserted, key_set};
@@ -154,7 +154,7 @@ fn relocate_terms(
     Ok(())
 }
 
-/// Statements over other keys, behind those that are there.
+/// Statements over other keys, after those that are there.
 fn relocate_rows(
     moved: &mut Vec<StmtRow>,
     rows: &[StmtRow],
@@ -170,7 +170,7 @@ fn relocate_rows(
     Ok(())
 }
 
-/// The term of a literal. A large one comes behind the large ones.
+/// The term of a literal. A large one comes after the large ones.
 fn literal(large: &mut Vec<u64>, minus: bool, number: u64) -> Result<TermRow, LogFault>
     ensures term { IfOk result
         (λ t. t ≡ literal_term (length large.old.items) minus number) }
@@ -203,7 +203,7 @@ fn is_minus(number: i64) -> bool
     number < 0
 }
 
-/// The terms of a value, behind the others.
+/// The terms of a value, after the others.
 fn add_value(large: &mut Vec<u64>, terms: &mut Vec<TermRow>, value: Value) -> Result<(), LogFault>
     ensures terms { OnOk result
         (terms.new.items ≡ terms.old.items ++ value_terms (length large.old.items) value) }
@@ -286,7 +286,7 @@ pub struct CallBuffer {
 }
 
 impl CallBuffer {
-    /// Empty buffers. It takes no memory.
+    /// Empty buffers. It allocates nothing.
     pub fn new(alloc: Global) -> CallBuffer {
         CallBuffer {
             read_keys: Vec::new(alloc),

@@ -30,7 +30,7 @@ pub struct Columns<S: BuildHasher> {
     pub rows: Vec<StmtRow>,
 }
 
-/// The offset behind this many entries. A column with more than 2^32 - 1 is `Full`.
+/// The offset after this many entries. A column with more than 2^32 - 1 is `Full`.
 fn offset(length: usize) -> Result<u32, LogFault>
     ensures { IfOk result (λ n. n ≡ length) }
 {

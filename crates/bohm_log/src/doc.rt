@@ -66,7 +66,7 @@ impl Doc {
         }
     }
 
-    /// No store and no transactions. It takes no memory.
+    /// No store and no transactions. It allocates nothing.
     pub fn empty(alloc: Global, seed: HashSeed, edition: Edition) -> Doc
         ensures { result ≡ empty_document edition }
     {

@@ -1,4 +1,4 @@
-//! The transaction that is being read.
+//! The transaction being read.
 
 ghost use Rattle.std.specs.Prelude.{◌≡◌, ◌<◌, [], true, false, IfOk, OnOk, OnErr, length};
 ghost use Rattle.std.specs.Prelude.{Some, None, ◌||◌};
@@ -21,10 +21,10 @@ use std::alloc::Global;
 use std::hash::{BuildHasher, BuildHasherDefault, FoldHasher};
 use std::marker::Model;
 
-/// A transaction so far. Its room is used again for the next one. The declared keys are read before
+/// A transaction so far. Its memory is reused for the next one. The declared keys are read before
 /// the body, and the sums of a statement term by term before the statement itself, in the order in
 /// which they stand in it. After an `Err` it shows what it showed before; names that came stay in
-/// its room.
+/// memory.
 #[derive(Drop)]
 pub struct Draft<S: BuildHasher = BuildHasherDefault<FoldHasher>> {
     edition: Edition,
@@ -43,7 +43,7 @@ impl<S: BuildHasher> Model for Draft<S> {
 }
 
 impl<S: BuildHasher> Draft<S> {
-    /// An empty transaction. It takes no memory.
+    /// An empty transaction. It allocates nothing.
     pub fn new(alloc: Global, hasher: S, edition: Edition) -> Draft<S>
         ensures { result ≡ fresh edition }
     {
@@ -134,6 +134,7 @@ impl<S: BuildHasher> Draft<S> {
 
 /// Terms of the sum that is read.
 impl<S: BuildHasher + Drop> Draft<S> {
+    #[inline(always)]
     fn add_term(&mut self, minus: bool, atom: AtomParts) -> Result<(), LogFault>
         ensures ok { OnOk result (self.new ≡ with_term self.old minus (atom_shown atom)) }
         ensures err { OnErr result (self.new ≡ self.old) }
@@ -146,7 +147,8 @@ impl<S: BuildHasher + Drop> Draft<S> {
     }
 
     /// Adds the declared read that a word names, if it stands where such a one was found last: it
-    /// is compared in place, and no key is made of it. Answers whether it does.
+    /// is compared in place, and no key is made of it. Returns whether it does.
+    #[inline(always)]
     pub fn read_again(&mut self, minus: bool, word: &[u8]) -> Result<bool, LogFault>
         ensures added { IfOk result (λ done. done ≡ true
             → self.new ≡ with_term self.old minus (Read word.now)) }
@@ -189,7 +191,7 @@ impl<S: BuildHasher + Drop> Draft<S> {
     }
 }
 
-/// Statements, each behind its sums.
+/// Statements, each after its sums.
 impl<S: BuildHasher + Drop> Draft<S> {
     /// Ends a statement with this name.
     fn end_named(&mut self, action: Action, name: Key) -> Result<(), LogFault>

@@ -1,4 +1,4 @@
-//! Why no more was taken.
+//! Why a log takes no more.
 
 use std::alloc::{AllocError, AllocFailed};
 use thiserror::Error;
@@ -6,7 +6,7 @@ use thiserror::Error;
 /// Why a set of names, a draft or a log took no more. It is as it was.
 #[derive(Clone, Copy, Debug, PartialEq, Eq, Error)]
 pub enum LogFault {
-    /// A growth was refused.
+    /// An allocation failed.
     #[error("out of memory")]
     NoMemory,
     /// All of the numbers that 32 bits have are in use.

@@ -1,11 +1,11 @@
-//! What the hash of a key starts from.
+//! The seed of key hashes.
 
 use std::hash::{BuildHasher, FoldHasher, Hasher};
 use std::random::RandomSource;
 
-/// What the hash of each key of a map starts from. Keys that collide from a start that is known
-/// need not from another one: whoever writes a log can't choose keys that collide in a run that
-/// draws its own. No answer depends on it.
+/// The seed from which a map hashes its keys. Keys that collide under one seed needn't under
+/// another: an author of logs can't choose colliding keys for a run that draws its seed. No answer
+/// depends on it.
 #[derive(Clone, Copy)]
 pub struct HashSeed {
     start: FoldHasher,

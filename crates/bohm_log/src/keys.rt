@@ -62,7 +62,8 @@ impl<'a> Keys<'a> {
         name_by(self.names, self.ids, place)
     }
 
-    /// The number of a key, counted from 0, among the names of the log's keys.
+    /// The number of a key, counted from 0, among the names of the log's keys. It is a hint: no
+    /// clause says which key has the number, so whoever goes by it compares the key that it finds.
     #[tactic(auto, using(crate::proofs::Viewing::mapped_length))]
     pub fn number(&self, place: usize) -> u32
         requires { place < length self.now }

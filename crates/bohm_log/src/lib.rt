@@ -1,5 +1,5 @@
-//! A log whose transactions share a few columns: names with numbers, terms and statements of a
-//! fixed size, and views that show each transaction as the one of the tree.
+//! A log whose transactions share a few columns. Names have numbers, terms and statements a fixed
+//! size, and views show each transaction as the one of the definitions.
 #![tactic(auto)]
 
 mod calling;

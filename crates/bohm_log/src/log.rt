@@ -36,7 +36,7 @@ impl<S: BuildHasher> Model for Log<S> {
 }
 
 impl<S: BuildHasher> Log<S> {
-    /// No transactions. It takes no memory.
+    /// No transactions. It allocates nothing.
     pub fn new(alloc: Global, hasher: S) -> Log<S>
         ensures { result ≡ [] }
     {

@@ -1,4 +1,4 @@
-//! Names with numbers.
+//! Distinct names, numbered.
 
 ghost use Rattle.std.specs.Prelude.{◌≡◌, ◌<◌, ◌≤◌, ◌^◌, [], Some, None, IfOk};
 ghost use Rattle.std.specs.Prelude.{IfErr, OnOk, OnErr, length, slice_get, position};
@@ -38,7 +38,7 @@ impl<S: BuildHasher> Model for Names<S> {
 }
 
 impl<S: BuildHasher> Names<S> {
-    /// No names, in a table with this hasher. It takes no memory.
+    /// No names, in a table with this hasher. It allocates nothing.
     pub fn new(alloc: Global, hasher: S) -> Names<S>
         ensures { result ≡ [] }
     {
@@ -104,7 +104,7 @@ impl<S: BuildHasher> Names<S> {
         &self.set.as_slice()[id as usize]
     }
 
-    /// Takes all names out. Room for a few is kept.
+    /// Removes all names. Capacity for a few is kept.
     pub fn clear(&mut self)
         ensures { self.new ≡ [] }
     {

@@ -1,4 +1,4 @@
-//! A part of a log.
+//! A slice of a log.
 
 ghost use Rattle.std.specs.Prelude.{◌≡◌, ◌<◌, ◌≤◌, length, Some, slice_get};
 ghost use Rattle.std.specs.List.{between};
@@ -9,8 +9,8 @@ use crate::table::{Head, Table, txn_by};
 use crate::view::TxnView;
 use std::marker::Model;
 
-/// Transactions of a log, one behind the other, which contracts see as a list of them. It borrows
-/// the log, and takes no memory.
+/// Transactions of a log, one after the other, which contracts see as a list of them. It borrows
+/// the log, and allocates nothing.
 #[derive(Drop)]
 pub struct LogPart<'a> {
     pub(crate) table: Table<'a>,

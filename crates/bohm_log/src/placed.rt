@@ -1,4 +1,4 @@
-//! A transaction by places.
+//! A transaction whose names are indices.
 
 ghost use Rattle.std.specs.Prelude.{◌≡◌, ◌<◌, ◌≤◌, IfSome, length};
 ghost use Rattle.std.specs.List.{All, between, IsDistinct};
@@ -12,9 +12,8 @@ use crate::seen::Seen;
 use bohm_tree::Key;
 use std::marker::Model;
 
-/// A transaction whose terms and statements have places in the stead of names. Whoever goes over it
-/// keeps arrays: of the declared reads' cells, of the declared writes' cells, and of the other
-/// names' values.
+/// A transaction whose terms and statements have places instead of names. Its user keeps arrays: of
+/// the declared reads' cells, of the declared writes' cells, and of the other names' values.
 #[derive(Drop)]
 pub struct PlacedTxn<'a> {
     pub(crate) seen: Seen<'a>,

@@ -1,4 +1,4 @@
-//! Terms and statements of a fixed size, which name keys and sums by places.
+//! Terms and statements of a fixed size, which refer to names by index.
 
 ghost use Rattle.std.specs.Prelude.{◌≡◌};
 ghost use Rattle.bohm_log.specs.Drafting.{opened, first_end, second_end};

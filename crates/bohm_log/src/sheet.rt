@@ -1,4 +1,4 @@
-//! The columns of one transaction, while it is read.
+//! The columns of the transaction being read.
 
 pub(crate) mod places;
 
@@ -103,6 +103,7 @@ impl<S: BuildHasher> Sheet<S> {
 /// Terms.
 impl<S: BuildHasher + Drop> Sheet<S> {
     /// The term of a literal.
+    #[inline(always)]
     fn literal(&mut self, minus: bool, number: u64) -> Result<TermRow, LogFault>
         ensures grows { NamesGrow (parts_of self.old) (parts_of self.new) }
         ensures ok { IfOk result (λ t. Stands (parts_of self.new) t minus (Lit number)) }
@@ -155,6 +156,7 @@ impl<S: BuildHasher + Drop> Sheet<S> {
     }
 
     /// The term of an atom.
+    #[inline(always)]
     fn term(&mut self, minus: bool, atom: AtomParts) -> Result<TermRow, LogFault>
         ensures grows { NamesGrow (parts_of self.old) (parts_of self.new) }
         ensures ok { IfOk result (λ t. Stands (parts_of self.new) t minus (atom_shown atom)) }
@@ -168,6 +170,7 @@ impl<S: BuildHasher + Drop> Sheet<S> {
 
     /// The place of the declared read that a word names, if it stands where such a one was found
     /// last.
+    #[inline(always)]
     pub fn read_place(&self, word: &[u8]) -> Option<u32>
         ensures place { IfSome result
             (λ i. slice_get (parts_of self.now).reads i ≡ Some word.now) }
@@ -191,6 +194,7 @@ impl<S: BuildHasher + Drop> Sheet<S> {
         Ok(())
     }
 
+    #[inline(always)]
     pub fn add_term(&mut self, minus: bool, atom: AtomParts) -> Result<(), LogFault>
         ensures ok { OnOk result
             (AddsTerm (parts_of self.old) (parts_of self.new) minus (atom_shown atom)) }

@@ -48,7 +48,7 @@ pub enum StmtParts<'a> {
     Fail,
 }
 
-/// A statement, which contracts see as the one of the tree.
+/// A statement, which contracts see as the one of the definitions.
 #[derive(Drop)]
 pub struct StmtView<'a> {
     pub(crate) seen: &'a Seen<'a>,

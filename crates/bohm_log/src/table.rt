@@ -1,4 +1,4 @@
-//! The columns as slices, and where a transaction lies in them.
+//! A log's columns as slices.
 
 ghost use Rattle.std.specs.Prelude.{◌≡◌};
 ghost use Rattle.bohm_log.specs.Columns.{txn_at, HeadIn, AllNamed};

@@ -37,8 +37,8 @@ pub struct BodyColumns {
     pub rows: Vec<StmtRow>,
 }
 
-/// A procedure, which contracts see as that of the tree. Its terms and statements are those of
-/// its own instance, and its values' names are among the other names.
+/// A procedure, which contracts see as that of the definitions. Its terms and statements are those
+/// of its own instance, and its values' names are among the other names.
 #[derive(Drop)]
 pub struct Template {
     pub(crate) edition: Edition,

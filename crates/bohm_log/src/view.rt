@@ -10,7 +10,7 @@ use crate::stmt::{StmtView, stmt_by};
 use bohm_tree::Edition;
 use std::marker::Model;
 
-/// A transaction, which contracts see as the one of the tree.
+/// A transaction, which contracts see as the one of the definitions.
 #[derive(Drop)]
 pub struct TxnView<'a> {
     pub(crate) seen: Seen<'a>,

@@ -3,7 +3,7 @@
 /// Where an access finds its version.
 #[derive(Clone, Copy, Debug, PartialEq, Eq)]
 pub enum Source {
-    /// The version that stands when the batch starts.
+    /// The version before the batch.
     Before,
     /// The version that the transaction with this timestamp, one of the batch, produces.
     Within(u32),

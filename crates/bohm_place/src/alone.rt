@@ -19,8 +19,8 @@ use std::alloc::Global;
 /// its transactions, in log order, the newest writer of the key among the transactions of the batch
 /// before it. The plan is the one that `plan` makes.
 ///
-/// The array is the one that was handed back for the batch before, or a new one. A refusal gives it
-/// up. The time grows with the number of accesses, and with how many keys of the log are new to the
+/// The array is the one that was handed back for the batch before, or a new one. An error drops it.
+/// The time grows with the number of accesses, and with how many keys of the log are new to the
 /// array.
 pub fn plan_alone(
     alloc: Global,

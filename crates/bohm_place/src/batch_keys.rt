@@ -20,7 +20,7 @@ fn stands(numbers: &[u32], places: &[u32], number: u32) -> bool
     place < numbers.len() && numbers[place] == number
 }
 
-// Adds a number behind the others, unless it is one of them.
+// Adds a number after the others, unless it is one of them.
 fn add(numbers: &mut Vec<u32>, places: &mut [u32], number: u32) -> Result<(), NoMemory>
     requires known { number < length places.old }
     requires few { length numbers.old.items < 2 ^ 32 }
@@ -72,13 +72,13 @@ fn add_sets(
     Ok(())
 }
 
-/// The keys that a batch declares, each once, by number, in the order in which they are declared
-/// first, and by number where each of them stands among these. It keeps its room from one batch to
-/// the next.
+/// The keys that a batch declares, each once, by number, and by number where each of them stands
+/// among these. They come in the order in which they are declared first, which is a hint alone: no
+/// clause says their order. It keeps its room from one batch to the next.
 #[derive(Drop)]
 pub struct BatchKeys {
     numbers: Vec<u32>,
-    // What stands here for a number that is none of those above is left from batches before.
+    // Entries for other numbers are left from earlier batches.
     places: Vec<u32>,
 }
 
@@ -91,7 +91,7 @@ impl Model for BatchKeys {
 }
 
 impl BatchKeys {
-    /// No keys. It takes no memory.
+    /// No keys. It allocates nothing.
     pub fn new(alloc: Global) -> BatchKeys
         ensures { result.numbers ≡ [] }
     {
@@ -101,10 +101,10 @@ impl BatchKeys {
         }
     }
 
-    /// The keys that these transactions declare, in the stead of those before. Its time grows with
-    /// how many keys each of them declares: a key is neither hashed nor compared with another. Only
-    /// where the log has more names than ever before does it grow with these too. After a refusal
-    /// it stands for no batch.
+    /// The keys that these transactions declare, instead of those before. Its time grows with how
+    /// many keys each of them declares: a key is neither hashed nor compared with another. Only
+    /// where the log has more names than ever before does it grow with these too. After an error it
+    /// stands for no batch.
     pub fn gather(&mut self, keys: &DeclaredKeys<'_>) -> Result<(), NoMemory>
         requires txns { length keys.now.sets ≤ 4096 }
         requires sets { All AreFew keys.now.sets }
@@ -125,8 +125,7 @@ impl BatchKeys {
         &self.numbers
     }
 
-    /// At the number of each of the keys its place among them. What stands at other numbers means
-    /// nothing.
+    /// At the number of each of the keys its place among them. Other entries have no meaning.
     pub fn places(&self) -> &[u32]
         ensures { result.now ≡ self.now.places }
     {

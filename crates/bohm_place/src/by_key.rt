@@ -1,4 +1,4 @@
-//! What one planning worker does that goes by keys.
+//! One planning worker that goes by keys.
 
 ghost use Rattle.std.specs.Prelude.{◌≡◌, ℕ, List, ◌++◌, ◌<◌, ◌≤◌, [], length, map, OnOk, IfOk};
 ghost use Rattle.bohm_place.specs.Chains.{placeholders_in};
@@ -16,7 +16,7 @@ use bohm_log::Keys;
 use bohm_tree::{Key, NoMemory};
 use std::alloc::Global;
 
-/// A worker, and the parts that it alone holds while it plans, with empty ones in the place of the
+/// A worker, and the parts that it alone holds while it plans, with empty ones in place of the
 /// others.
 #[derive(Drop)]
 pub struct PartsJob {

@@ -1,4 +1,4 @@
-//! What one planning worker does that goes by the numbers of keys.
+//! One planning worker that goes by key numbers.
 
 ghost use Rattle.std.specs.Prelude.{◌≡◌, ◌+◌, ◌++◌, ◌<◌, ◌≤◌, [], length, map};
 ghost use Rattle.std.specs.Prelude.{All, OnOk, IfOk, slice_set, if◌then◌else◌};

@@ -11,8 +11,8 @@ use bohm_tree::{Key, NoMemory};
 use std::alloc::Global;
 use std::collections::VecDeque;
 
-/// The placeholders of one key, rising. It is never empty, and takes no memory of its own for the
-/// newest one.
+/// The placeholders of one key, rising. It is never empty, and needs no allocation for the newest
+/// one.
 #[derive(Drop)]
 pub struct Chain {
     pub older: VecDeque<Placeholder>,
@@ -29,8 +29,8 @@ impl Chain {
         }
     }
 
-    /// Adds a placeholder, and answers the one that was the newest. The key is listed where it
-    /// wasn't; a refusal may leave it listed too.
+    /// Adds a placeholder, and returns the one that was the newest. The key is listed where it
+    /// wasn't; an error may leave it listed too.
     pub fn extend(
         &mut self,
         long: &mut Vec<Key>,
@@ -64,8 +64,8 @@ impl Chain {
         }
     }
 
-    /// Lets all go that are older than the newest one at or below the floor, and answers whether
-    /// more than one is left. Its time grows with how many go.
+    /// Drops all that are older than the newest one at or below the floor, and returns whether more
+    /// than one is left. Its time grows with how many are dropped.
     pub fn shorten(&mut self, floor: u32) -> bool
         ensures items { items self.new ≡ kept_items floor (items self.old) }
         ensures left { IsTrue result ↔ (1 < length (items self.new)) }

@@ -42,7 +42,7 @@ fn jobs(alloc: Global, mut arrays: Vec<Newest>) -> Result<Vec<NumberJob>, NoMemo
     Ok(jobs)
 }
 
-// Lets each worker do its job, in a thread of its own where there is more than one.
+// Runs each worker's job, in a thread of its own where there is more than one.
 fn plan_all<P: Partition, R: Threads + Sync>(
     rt: &R,
     alloc: Global,
@@ -114,10 +114,10 @@ fn gather<P: Partition>(
 /// plan is the same for every number of workers and every partition.
 ///
 /// The arrays are those that were handed back for the batch before, or new ones; their number may
-/// change from batch to batch. A refusal gives them up. The time of one worker grows with the
-/// number of accesses, with one question to the partition for each where there is more than one
-/// worker, and with how many keys of the log are new to its array. Joining what they found takes
-/// time that grows with the number of accesses times that of the workers.
+/// change from batch to batch. An error drops them. The time of one worker grows with the number of
+/// accesses, with one question to the partition for each where there is more than one worker, and
+/// with how many keys of the log are new to its array. Joining what they found takes time that
+/// grows with the number of accesses times that of the workers.
 pub fn plan_by_number<P: Partition, R: Threads + Sync>(
     rt: &R,
     alloc: Global,

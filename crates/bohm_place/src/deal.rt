@@ -1,4 +1,4 @@
-//! Dealing the parts to the workers, and gathering them again.
+//! Divides the parts among workers, and collects them.
 
 ghost use Rattle.std.specs.Prelude.{◌≡◌, ℕ, List, ◌++◌, ◌%◌, ◌<◌, ◌==◌, [], length, nat_lt};
 ghost use Rattle.std.specs.Prelude.{IfOk, OnOk, slice_get, slice_index_or, if◌then◌else◌};

@@ -17,8 +17,8 @@ pub fn newest_state()
         → state look txns i k ≡ state look txns (upto first s) k }
 {}
 
-/// The same of a log: a key's cell before the transaction at t is the one after its newest writer
-/// below t, or that of the starting store where there is none.
+/// Of a log: a key's cell before the transaction at t is the one after its newest writer below t,
+/// or that of the starting store where there is none.
 pub fn newest_state_in_log()
     ensures { (look : Look) (log : List Txn) (t : ℕ) (k : List ℕ) (s : Source)
         → AreWellFormed log → 1 ≤ t → t ≤ length log + 1 → IsNewest 1 log k t s

@@ -9,8 +9,8 @@ use std::alloc::Global;
 use std::marker::Model;
 
 /// The newest placeholder of each key of a log, by the key's number; `none` where planning has made
-/// none. The placeholders of earlier batches stay, and are told by their begins: nothing is cleared
-/// between two batches.
+/// none. The placeholders of earlier batches stay, and are recognized by their begins: nothing is
+/// cleared between two batches.
 #[derive(Drop)]
 pub struct Newest {
     placeholders: Vec<Placeholder>,
@@ -26,7 +26,7 @@ impl Model for Newest {
 }
 
 impl Newest {
-    /// No placeholders. It takes no memory.
+    /// No placeholders. It allocates nothing.
     pub fn new(alloc: Global) -> Newest
         ensures { result ≡ [] }
     {

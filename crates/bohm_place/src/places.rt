@@ -14,7 +14,7 @@ use std::alloc::Global;
 use std::collections::HashMap;
 use std::marker::Model;
 
-// Adds a placeholder to the chain of its key, and answers the one that was the newest.
+// Adds a placeholder to the chain of its key, and returns the one that was the newest.
 fn append(
     chains: &mut HashMap<Key, Chain, HashSeed>,
     long: &mut Vec<Key>,
@@ -38,7 +38,7 @@ fn append(
     }
 }
 
-// Shortens the chain of a key, and answers whether it has more than one begin then.
+// Shortens the chain of a key, and returns whether it has more than one begin then.
 fn shorten(chains: &mut HashMap<Key, Chain, HashSeed>, key: &Key, floor: u32) -> bool
     ensures chains { (k : List ℕ) → items_at chains.new k
         ≡ (if bytes_eq key.now k
@@ -125,7 +125,7 @@ impl Places {
         Ok(())
     }
 
-    /// Adds a placeholder to the chain of a key, and answers the one that was the newest.
+    /// Adds a placeholder to the chain of a key, and returns the one that was the newest.
     pub(crate) fn annotate(
         &mut self,
         alloc: Global,
@@ -166,7 +166,8 @@ impl Places {
     }
 
     /// Keeps in each chain the newest begin at or below the floor, and all begins above it. Its
-    /// time grows with how many chains have more than one begin, and with how many begins go.
+    /// time grows with how many chains have more than one begin, and with how many begins are
+    /// dropped.
     pub(crate) fn trim(&mut self, floor: u32)
         ensures { (k : List ℕ) → chain self.new k ≡ kept floor (chain self.old k) }
     {

@@ -1,4 +1,4 @@
-//! A plan gets the keys of its batch, and its accesses their places among these.
+//! Adds the batch's keys to a plan, and their indices to its accesses.
 
 ghost use Rattle.std.specs.Prelude.{◌≡◌, ◌+◌, ◌-◌, ◌≤◌, ◌^◌, All, Contains, IfOk, length, map};
 ghost use Rattle.bohm_txn.specs.Faulty.{IsWellFormedTxn};
@@ -87,9 +87,9 @@ fn numbered_keys(
 
 impl Plan {
     /// Gathers the keys that the batch declares, each once, and notes at each access whose source
-    /// is `Before` the place of its key among them: a base of these keys is read by place. A
-    /// refusal gives the plan up. The time grows with the number of accesses: no key is hashed or
-    /// compared with another.
+    /// is `Before` the place of its key among them: a base of these keys is read by place. An error
+    /// drops the plan. The time grows with the number of accesses: no key is hashed or compared
+    /// with another.
     pub fn gather_keys(
         self,
         alloc: Global,
@@ -113,8 +113,8 @@ impl Plan {
     }
 
     /// The plan with the keys of its batch: as it is where it has them, else with keys that are
-    /// gathered now. A refusal gives the plan up. The time grows with the number of accesses where
-    /// it has no keys, and else it is constant.
+    /// gathered now. An error drops the plan. The time grows with the number of accesses where it
+    /// has no keys, and else it is constant.
     pub fn ensure_keys(self, alloc: Global, txns: &LogPart<'_>) -> Result<Plan, NoMemory>
         requires few { length txns.now ≤ 4096 }
         requires room { self.first + length txns.now ≤ 2 ^ 32 }

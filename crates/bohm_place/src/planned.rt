@@ -1,4 +1,4 @@
-//! Plans.
+//! The plan of a batch.
 
 ghost use Rattle.std.specs.Prelude.{◌≡◌, [], ◌-◌, ◌<◌, ◌≤◌, length, slice_get, Some, IsSomeAnd};
 ghost use Rattle.bohm_place.specs.Plans.{access_of};
@@ -15,6 +15,8 @@ use std::marker::Model;
 #[derive(Clone, Copy, Debug)]
 pub struct NumberedKey {
     pub key: Key,
+    /// A hint: no clause says which key has the number, so whoever goes by it compares the key that
+    /// it finds.
     pub number: u32,
 }
 
@@ -84,7 +86,7 @@ impl Plan {
         }
     }
 
-    /// The same plan, with these keys in the stead of those that it has.
+    /// The same plan, with these keys instead of those that it has.
     pub(crate) fn with_keys(self, keys: Vec<NumberedKey>) -> Plan
         ensures { result ≡ record self { keys = map (λ k. k.key) keys.items } }
     {
@@ -164,7 +166,8 @@ impl Plan {
         requires first { self.old.first ≤ t }
         requires index { index < length (planned_in set self.old (t - self.old.first)) }
         requires source { source_in set self.old (t - self.old.first) index ≡ Some Before }
-        ensures { IsNoted self.old self.new set (t - self.old.first) index place }
+        ensures noted { IsNoted self.old self.new set (t - self.old.first) index place }
+        ensures keys { self.new.keys ≡ self.old.keys }
     {
         let row = self.rows[(t - self.first) as usize];
         let accessed = row.place(set, index);

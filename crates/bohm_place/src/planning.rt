@@ -1,4 +1,4 @@
-//! Planning a batch.
+//! Plans a batch by key, with whole chains.
 
 ghost use Rattle.std.specs.Prelude.{◌≡◌, ℕ, List, ◌+◌, ◌++◌, ◌<◌};
 ghost use Rattle.std.specs.Prelude.{length, All, IfOk, slice_index_or};
@@ -39,7 +39,7 @@ pub(crate) fn accesses(rows: &[Row]) -> usize {
     }
 }
 
-// Lets each worker do its job, in a thread of its own where there is more than one.
+// Runs each worker's job, in a thread of its own where there is more than one.
 fn plan_all<P: Partition, R: Threads + Sync>(
     rt: &R,
     alloc: Global,
@@ -77,8 +77,8 @@ fn plan_all<P: Partition, R: Threads + Sync>(
 /// whose number is i modulo `cc`; each goes through all transactions, in a thread of its own where
 /// there is more than one.
 ///
-/// A refusal gives the shards up. The time of one worker grows with the number of accesses, and
-/// with one look-up for each access of its own.
+/// An error drops the shards. The time of one worker grows with the number of accesses, and with
+/// one look-up for each access of its own.
 pub fn plan<P: Partition, R: Threads + Sync>(
     rt: &R,
     alloc: Global,

@@ -1,4 +1,4 @@
-//! Where the accesses of a transaction lie.
+//! Where a transaction's accesses lie in a plan.
 
 ghost use Rattle.std.specs.Prelude.{◌≡◌, ◌<◌, ◌≤◌, ◌+◌, ◌^◌, length, IfOk};
 ghost use Rattle.bohm_place.specs.Plans.{start_in};
@@ -11,7 +11,7 @@ use bohm_txn::sure;
 use std::alloc::Global;
 
 /// The accesses of one transaction in a list of all: its reads from `start` on, and its writes
-/// behind them. And whether the transaction is sure.
+/// after them. And whether the transaction is sure.
 #[derive(Clone, Copy, Debug)]
 pub struct Row {
     pub start: usize,

@@ -75,7 +75,8 @@ impl Shards {
     }
 
     /// Keeps in each chain the newest begin at or below the floor, and all begins above it. Its
-    /// time grows with how many chains have more than one begin, and with how many begins go.
+    /// time grows with how many chains have more than one begin, and with how many begins are
+    /// dropped.
     pub fn trim_places(&mut self, floor: u32)
         ensures parts { length self.new ≡ length self.old }
         ensures chains { (part : List ℕ → ℕ) (k : List ℕ)

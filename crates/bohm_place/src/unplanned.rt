@@ -1,4 +1,4 @@
-//! A batch that is to be planned.
+//! The input of planning.
 
 ghost use Rattle.std.specs.Prelude.{◌+◌, ◌<◌, ◌≤◌, ◌^◌, All, length};
 ghost use Rattle.bohm_txn.specs.Faulty.{IsWellFormedTxn};

@@ -1,11 +1,13 @@
 mod Digits
 mod Cuts
 mod Cutting
+mod Signs
 mod Printed
 mod TermLoops
 mod KeyLoops
 mod WordTakes
 mod Takes
+mod Needs
 mod Sounds
 mod Again
 mod WordLaws

@@ -1,12 +1,10 @@
 -- Terms that are added to a draft, one after the other.
-use Rattle.std.proofs.Common.{◌≡◌, ℕ, Bool, true, false, cond, List, [], ◌∷◌, Some, None, Ok, Err, inl, inr, refl, ap, sym, subst, ◌∙◌, append_assoc}
-use Rattle.std.specs.Prelude.{Option, Result, ◌⊎◌, codes}
+use Rattle.std.proofs.Common.{◌≡◌, ℕ, Bool, true, List, [], ◌∷◌, Some, None, Ok, Err, inl, inr, refl, ap, sym, subst, ◌∙◌, append_assoc}
+use Rattle.std.specs.Prelude.{Option, Result, ◌⊎◌, MatchOption}
 use Rattle.std.specs.Option.{option_map}
 use Rattle.std.specs.Result.{IsErrAnd}
-use Rattle.std.specs.Str.{bytes_eq}
 use Rattle.std.proofs.lemmas.List.{append-nil}
 use Rattle.std.proofs.lemmas.Option.{same_Some}
-use Rattle.std.proofs.lemmas.Slice.Eq.{bytes_eq-Decides}
 use Rattle.bohm_tree.specs.declared.cmp.Cmp.{Cmp}
 use Rattle.bohm_tree.specs.Name.{is_name}
 use Rattle.bohm_tree.specs.Term.{Atom, Read}
@@ -16,7 +14,8 @@ use Rattle.bohm_text.specs.declared.fault.ReadFault.TheVariants.{Bad, NoMemory}
 use Rattle.bohm_text.specs.declared.stops.Stop.{Stop}
 use Rattle.bohm_text.specs.declared.stops.Stop.TheVariants as stops
 use Rattle.bohm_text.specs.Print.{Words}
-use Rattle.bohm_text.specs.Reading.{◌>>=◌, Fails, first_of, sign_of, further_of, cmp_of, stop_of, Ending, End, When, Compared, ending, Terms, stopped, longer, terms_of, sum_from, at_end, last_sum}
+use Rattle.bohm_text.specs.Reading.{◌>>=◌, Fails, first_of, sign_of, further_of, stop_of, Ending, End, When, Compared, ending, Terms, longer, terms_of, sum_from, at_end, last_sum}
+use Rattle.bohm_text.specs.Signs.{behind_sign, end_of, sign_ahead}
 use Rattle.bohm_text.proofs.Again.{further_again}
 use Rattle.bohm_text.specs.Taking.{TakesTerms, taken, with_one, with_terms}
 
@@ -38,20 +37,6 @@ fails_up (Err other) fault read rest before now is e = subst (λ (f : ReadFault)
 
 -- ---- one term more, or the end
 
-no_stop : (sign : List ℕ) (minus : Bool) → sign_of sign ≡ Some minus → stop_of sign ≡ None
-unfolding sign_of stop_of cmp_of
-no_stop sign minus e =
-    let P : Bool → Type 0 = λ (t : Bool). bytes_eq sign (codes "-") ≡ t → cond t (Some true) (cond (bytes_eq sign (codes "+")) (Some false) None) ≡ Some minus → stop_of sign ≡ None in
-    let Q : Bool → Type 0 = λ (t : Bool). bytes_eq sign (codes "+") ≡ t → cond t (Some false) None ≡ Some minus → stop_of sign ≡ None in
-    elim (bytes_eq sign (codes "-")) as P [
-      | true ↦ λ is _. subst (λ (w : List ℕ). stop_of w ≡ None) (sym ((bytes_eq-Decides sign (codes "-")).0 is)) refl
-      | false ↦ λ _ h.
-          elim (bytes_eq sign (codes "+")) as Q [
-            | true ↦ λ is _. subst (λ (w : List ℕ). stop_of w ≡ None) (sym ((bytes_eq-Decides sign (codes "+")).0 is)) refl
-            | false ↦ λ _ none. absurd cc
-          ] refl h
-    ] refl e
-
 pub terms_of-sign : (words w1 w2 : Words) (sign word : List ℕ) (minus : Bool) (term : Bool × Atom) → words ≡ sign ∷ w1 → w1 ≡ word ∷ w2 → sign_of sign ≡ Some minus → further_of minus word ≡ Some term → terms_of words ≡ longer term (terms_of w2)
 unfolding terms_of
 terms_of-sign words w1 w2 sign word minus term e1 e2 s t = rw (e1, e2, s, t) refl
@@ -60,21 +45,24 @@ pub terms_of-bad : (words w1 w2 : Words) (sign word : List ℕ) (minus : Bool) �
 unfolding terms_of
 terms_of-bad words w1 w2 sign word minus e1 e2 s t = rw (e1, e2, s, t) refl
 
-pub terms_of-lone : (words w1 : Words) (sign : List ℕ) (minus : Bool) → words ≡ sign ∷ w1 → w1 ≡ [] → sign_of sign ≡ Some minus → terms_of words ≡ None
+-- no sign is ahead
+pub terms_of-stop : (words : Words) → sign_ahead words ≡ None → terms_of words ≡ end_of words
 unfolding terms_of
-terms_of-lone words w1 sign minus e1 e2 s = rw (e1, e2, no_stop sign minus s) refl
+terms_of-stop [] h = refl
+terms_of-stop (sign ∷ []) h = refl
+terms_of-stop (sign ∷ word ∷ words) h = rw h refl
 
-stops_at : (w1 : Words) (sign : List ℕ) → sign_of sign ≡ None → terms_of (sign ∷ w1) ≡ stopped sign w1
-unfolding terms_of
-stops_at [] sign s = refl
-stops_at (word ∷ w2) sign s = rw s refl
+pub stopped_at : (r : Option Stop) (words w1 : Words) (word : List ℕ) → words ≡ word ∷ w1 → r ≡ stop_of word
+    → MatchOption r (end_of words ≡ None) (λ stop. end_of words ≡ Some ([], ending stop w1))
+stopped_at None words w1 word e is = rw (e, sym is) refl
+stopped_at (Some stop) words w1 word e is = rw (e, sym is) refl
 
-pub terms_of-stop : (words w1 : Words) (sign : List ℕ) → words ≡ sign ∷ w1 → sign_of sign ≡ None → terms_of words ≡ stopped sign w1
-terms_of-stop words w1 sign e1 s = rw e1 (stops_at w1 sign s)
-
-pub terms_of-end : (words : Words) → words ≡ [] → terms_of words ≡ Some ([], End)
-unfolding terms_of
-terms_of-end words e = rw e refl
+-- the sign that is ahead
+pub sign_taken : (words w1 : Words) (minus : Bool) → Some minus ≡ sign_ahead words → w1 ≡ behind_sign (Some minus) words
+    → (sign : List ℕ) × (words ≡ sign ∷ w1) × (sign_of sign ≡ Some minus)
+sign_taken [] w1 minus h e = absurd cc
+sign_taken (sign ∷ []) w1 minus h e = absurd cc
+sign_taken (sign ∷ word ∷ words) w1 minus h e = (sign, ap (λ (ws : Words). sign ∷ ws) (sym e), sym h)
 
 -- ---- adding terms
 
@@ -100,16 +88,14 @@ module _ (before now : Drafted) (old words : Words) (so_far : taken now (terms_o
   take_fails Bad w1 w2 sign word minus e1 e2 s t = take_none (terms_of-bad words w1 w2 sign word minus e1 e2 (sym s) t)
   take_fails NoMemory w1 w2 sign word minus e1 e2 s t = tt
 
-  pub take_stop : (w1 : Words) (sign : List ℕ) (stop : Stop) → terms_of words ≡ stopped sign w1 → stop_of sign ≡ Some stop → taken before (terms_of old) ≡ Some (now, ending stop w1)
-  take_stop w1 sign stop e is =
-      let one : terms_of words ≡ Some ([], ending stop w1) = e ∙ ap (λ (o : Option Stop). o >>= λ s. Some ([], ending s w1)) is in
+  pub take_stop : (w1 : Words) (stop : Stop) → sign_ahead words ≡ None → end_of words ≡ Some ([], ending stop w1)
+      → taken before (terms_of old) ≡ Some (now, ending stop w1)
+  take_stop w1 stop none e =
+      let one : terms_of words ≡ Some ([], ending stop w1) = terms_of-stop words none ∙ e in
       sym so_far ∙ (ap (taken now) one ∙ ap (λ (d : Drafted). Some (d, ending stop w1)) (nothing_more now))
 
-  pub take_stop_bad : (w1 : Words) (sign : List ℕ) → terms_of words ≡ stopped sign w1 → stop_of sign ≡ None → terms_of old ≡ None
-  take_stop_bad w1 sign e is = take_none (e ∙ ap (λ (o : Option Stop). o >>= λ s. Some ([], ending s w1)) is)
-
-  pub take_end : terms_of words ≡ Some ([], End) → taken before (terms_of old) ≡ Some (now, End)
-  take_end e = sym so_far ∙ (ap (taken now) e ∙ ap (λ (d : Drafted). Some (d, End)) (nothing_more now))
+  pub take_stop_bad : sign_ahead words ≡ None → end_of words ≡ None → terms_of old ≡ None
+  take_stop_bad none e = take_none (terms_of-stop words none ∙ e)
 
 -- ---- whole sums
 

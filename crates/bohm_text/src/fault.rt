@@ -44,7 +44,7 @@ impl From<bohm_tree::NoMemory> for ReadFault {
     }
 }
 
-/// Places and numbers have 32 bits, and a log that needs more takes more memory than that.
+/// Indices have 32 bits, and a log that needs more takes more memory than that.
 impl From<LogFault> for ReadFault {
     ghost use Rattle.std.specs.Prelude.{◌≡◌};
     ghost use Rattle.bohm_text.specs.declared.fault.ReadFault.TheVariants.{NoMemory};
@@ -56,27 +56,28 @@ impl From<LogFault> for ReadFault {
     }
 }
 
-/// Why a text is no document's. A whole line is what stands before a newline byte.
+/// Why a text isn't a document's. A whole line is one that a newline byte ends.
 #[derive(Clone, Copy, Debug, PartialEq, Eq)]
 pub enum TextFault {
-    /// The whole lines before this one begin a document's text, and with this one they do not.
-    /// Lines count from 1.
+    /// The complete lines before this one are a prefix of a document's text, and with this one they
+    /// are not. Lines count from 1.
     Line(u64),
-    /// The whole lines begin a document's text, but the text is no document's.
+    /// The complete lines are a prefix of a document's text, but the text isn't a document's.
     Short,
-    /// A growth was refused.
+    /// An allocation failed.
     NoMemory,
 }
 
 /// Why a window's text isn't that of whole transactions. Its lines count from 1.
 #[derive(Clone, Copy, Debug, PartialEq, Eq)]
 pub enum WindowFault {
-    /// The whole lines before this one begin transactions, and with this one they do not.
+    /// The complete lines before this one are a prefix of transactions, and with this one they are
+    /// not.
     Line(u64),
-    /// The whole lines, of which there are so many, begin transactions, but the text ends inside of
-    /// one.
+    /// The text ends inside a transaction. Its complete lines, this many, are a prefix of
+    /// transactions.
     Open(u64),
-    /// A growth was refused.
+    /// An allocation failed.
     NoMemory,
 }
 

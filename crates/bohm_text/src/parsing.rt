@@ -16,6 +16,7 @@ use bohm_tree::Edition;
 use std::alloc::Global;
 
 /// The first whole line, and what follows its newline.
+#[inline(always)]
 pub fn split_line(text: &[u8]) -> Option<(&[u8], &[u8])>
     ensures none { IfNone result (whole_lines text.now ≡ []) }
     ensures lines { IfSome result
@@ -28,7 +29,7 @@ pub fn split_line(text: &[u8]) -> Option<(&[u8], &[u8])>
     }
 }
 
-/// Reads lines that stand behind an edition's head line, and counts them.
+/// Reads lines that stand after an edition's head line, and counts them.
 pub(crate) fn read_lines(
     alloc: Global,
     seed: HashSeed,
@@ -83,8 +84,8 @@ pub(crate) fn read_text(
 ///
 /// # Errors
 ///
-/// `Line` and `Short` say where the text stops being the beginning of a document's text. `NoMemory`
-/// says that a growth was refused.
+/// `Line` and `Short` say where the text stops being a prefix of a document's text. `NoMemory` says
+/// that an allocation failed.
 pub fn parse(alloc: Global, text: &[u8]) -> Result<Doc, TextFault>
     ensures found { IfOk result (λ doc. print_doc doc ≡ text.now) }
     ensures sound { IfOk result IsDocument }

@@ -29,6 +29,7 @@ fn newline_near(bytes: &[u8]) -> Option<usize>
 }
 
 /// The first newline.
+#[inline(always)]
 #[tactic(auto, using(crate::proofs::Searches::first_newline))]
 pub fn newline_at(bytes: &[u8]) -> Option<usize>
     ensures first { result ≡ newline_in bytes.now }

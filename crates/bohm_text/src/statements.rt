@@ -1,12 +1,13 @@
-//! Statements and the other lines that are read by words.
+//! Statements and other lines that are read word by word.
 
-ghost use Rattle.std.specs.Prelude.{◌≡◌, codes};
+ghost use Rattle.std.specs.Prelude.{◌≡◌, ◌∷◌, ◌||◌, [], codes, MatchOption};
+ghost use Rattle.std.specs.Str.{bytes_eq};
 ghost use Rattle.std.specs.Option.{option_map};
-ghost use Rattle.bohm_tree.specs.Stmt.{Show};
+ghost use Rattle.bohm_tree.specs.Stmt.{Need, Show};
 ghost use Rattle.bohm_log.specs.Drafting.{IsBare, IsBetween};
 ghost use Rattle.bohm_text.specs.Reading.{Gives, keys_of, local_of, after, last_sum};
 ghost use Rattle.bohm_text.specs.Reading.{assigned_of, bind_of, put_of, presence_of, need_of};
-ghost use Rattle.bohm_text.specs.Reading.{remove_of, fail_of, stmt_of, entry_of};
+ghost use Rattle.bohm_text.specs.Reading.{cond_of, remove_of, fail_of, stmt_of, entry_of};
 ghost use Rattle.bohm_text.specs.Taking.{Takes, TakesStmt, with_reads, with_terms, with_writes};
 
 use crate::conditions::read_cond;
@@ -99,20 +100,37 @@ fn read_presence(draft: &mut Draft<HashSeed>, word: &[u8], name: &[u8]) -> Resul
     Ok(())
 }
 
+/// Whether a word behind `need` may say that a key's presence is tested.
+fn is_test(word: &[u8]) -> bool
+    ensures { result ≡ (bytes_eq word.now (codes "has") || bytes_eq word.now (codes "no")) }
+{
+    word == b"has".as_slice() || word == b"no".as_slice()
+}
+
+/// The two words of a test of a key's presence, where the words are no more than these.
+#[tactic(auto, using(crate::proofs::Needs::no_words, crate::proofs::Needs::one_word))]
+fn test_in<'a>(words: &Words<'a>) -> Option<(&'a [u8], &'a [u8])>
+    ensures { MatchOption result (need_of words.now ≡ option_map Need (cond_of words.now))
+        (λ test. words.now ≡ test.0.now ∷ test.1.now ∷ []) }
+{
+    let mut ahead = words.fork();
+    let word = ahead.next()?;
+    if !is_test(word) {
+        return None;
+    }
+    let name = ahead.next()?;
+    match ahead.next() {
+        None => Some((word, name)),
+        Some(_) => None,
+    }
+}
+
 /// Two words test a key's presence, more are a condition.
-#[tactic(auto, unfolding(crate::specs::Reading::need_of))]
 fn read_need(draft: &mut Draft<HashSeed>, words: &mut Words) -> Result<(), ReadFault>
     requires { IsBetween draft.old }
     ensures { TakesStmt result (need_of words.old) draft.old draft.new }
 {
-    let mut ahead = words.fork();
-    let Some(word) = ahead.next() else {
-        return Err(ReadFault::Bad);
-    };
-    let Some(name) = ahead.next() else {
-        return Err(ReadFault::Bad);
-    };
-    if ahead.next().is_none() {
+    if let Some((word, name)) = test_in(words) {
         return read_presence(draft, word, name);
     }
     let cmp = read_cond(draft, words)?;

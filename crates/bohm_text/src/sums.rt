@@ -1,15 +1,16 @@
-//! Sums, read term by term into the transaction that is read.
+//! Sums, read term by term into the draft.
 
-ghost use Rattle.std.specs.Prelude.{◌≡◌, OnOk, IfErr};
+ghost use Rattle.std.specs.Prelude.{◌≡◌, [], OnOk, IfErr, MatchOption, Some, None};
 ghost use Rattle.bohm_log.specs.Drafting.{with_term};
 ghost use Rattle.bohm_log.specs.Seeing.{atom_shown};
 ghost use Rattle.bohm_text.specs.declared.fault.ReadFault.TheVariants.{NoMemory};
-ghost use Rattle.bohm_text.specs.Reading.{first_of, further_of, last_sum, sum_from, terms_of};
+ghost use Rattle.bohm_text.specs.Reading.{ending, first_of, further_of, last_sum, sum_from, terms_of};
+ghost use Rattle.bohm_text.specs.Signs.{end_of};
 ghost use Rattle.bohm_text.specs.Taking.{Takes, TakesTerms, with_one, with_terms};
 
 use crate::fault::ReadFault;
 use crate::stops::{Stop, read_stop};
-use crate::terms::{read_further, read_sign};
+use crate::terms::read_further;
 use crate::words::Words;
 use bohm_log::{AtomParts, Draft, HashSeed, TermParts};
 
@@ -26,18 +27,26 @@ fn add_term(draft: &mut Draft<HashSeed>, term: TermParts) -> Result<(), ReadFaul
     Ok(())
 }
 
-/// Adds the term of a word whose sign was read. A declared read that stands where it was found last
-/// is compared in place.
+/// Adds the term of a word whose sign was read.
+#[inline(never)]
+fn take_other(draft: &mut Draft<HashSeed>, minus: bool, word: &[u8]) -> Result<(), ReadFault>
+    ensures { Takes result (further_of minus word.now) (with_one draft.old) draft.new }
+{
+    let Some(term) = read_further(minus, word) else {
+        return Err(ReadFault::Bad);
+    };
+    add_term(draft, term)
+}
+
+/// The same. A declared read that stands where it was found last is compared in place.
+#[inline(always)]
 fn take_term(draft: &mut Draft<HashSeed>, minus: bool, word: &[u8]) -> Result<(), ReadFault>
     ensures { Takes result (further_of minus word.now) (with_one draft.old) draft.new }
 {
     if draft.read_again(minus, word)? {
         return Ok(());
     }
-    let Some(term) = read_further(minus, word) else {
-        return Err(ReadFault::Bad);
-    };
-    add_term(draft, term)
+    take_other(draft, minus, word)
 }
 
 /// Adds the first term, its sign at the atom.
@@ -57,26 +66,37 @@ fn take_first(draft: &mut Draft<HashSeed>, word: &[u8]) -> Result<(), ReadFault>
     }
 }
 
-/// Adds further terms, and answers what ends them.
+/// What ends a sum, after its last term.
+#[inline(always)]
+fn read_end(words: &mut Words) -> Option<Stop>
+    ensures { MatchOption result (end_of words.old ≡ None)
+        (λ stop. end_of words.old ≡ Some ([], ending stop words.new)) }
+{
+    match words.next() {
+        None => Some(Stop::End),
+        Some(word) => read_stop(word),
+    }
+}
+
+/// Adds further terms, and returns what ends them.
 fn read_terms(draft: &mut Draft<HashSeed>, words: &mut Words) -> Result<Stop, ReadFault>
     ensures { TakesTerms result (terms_of words.old) words.new draft.old draft.new }
 {
-    'terms: while let Some(word) = words.next() {
-        let Some(minus) = read_sign(word) else {
-            let Some(stop) = read_stop(word) else {
-                return Err(ReadFault::Bad);
-            };
-            return Ok(stop);
-        };
-        let Some(word) = words.next() else {
+    let mut ahead = words.fork();
+    'terms: while let Some(minus) = ahead.next_sign() {
+        let Some(word) = ahead.next() else {
             return Err(ReadFault::Bad);
         };
         take_term(draft, minus, word)?;
     }
-    Ok(Stop::End)
+    let Some(stop) = read_end(&mut ahead) else {
+        return Err(ReadFault::Bad);
+    };
+    *words = ahead;
+    Ok(stop)
 }
 
-/// Adds the sum at the beginning of the words, and answers what ends it.
+/// Adds the sum at the beginning of the words, and returns what ends it.
 pub fn read_sum(draft: &mut Draft<HashSeed>, words: &mut Words) -> Result<Stop, ReadFault>
     ensures { TakesTerms result (sum_from words.old) words.new draft.old draft.new }
 {

@@ -4,7 +4,7 @@ ghost use Rattle.std.specs.Prelude.{◌≡◌};
 ghost use Rattle.std.specs.Option.{option_map};
 ghost use Rattle.bohm_tree.specs.Shape.{term_of};
 ghost use Rattle.bohm_log.specs.Seeing.{atom_shown, term_shown};
-ghost use Rattle.bohm_text.specs.Reading.{atom_of, sign_of, further_of};
+ghost use Rattle.bohm_text.specs.Reading.{atom_of, further_of};
 
 use crate::numbers::read_lit;
 use bohm_log::{AtomParts, TermParts};
@@ -30,20 +30,6 @@ fn term_of(minus: bool, atom: AtomParts) -> Option<TermParts>
     match atom {
         AtomParts::Lit(number) if number > GREATEST_LITERAL || minus && number == 0 => None,
         _ => Some(TermParts { minus, atom }),
-    }
-}
-
-/// Whether a word between two terms is a minus.
-#[tactic(auto, unfolding(crate::specs::Reading::sign_of))]
-pub fn read_sign(word: &[u8]) -> Option<bool>
-    ensures { result ≡ sign_of word.now }
-{
-    if word == b"-".as_slice() {
-        Some(true)
-    } else if word == b"+".as_slice() {
-        Some(false)
-    } else {
-        None
     }
 }
 

@@ -1,5 +1,5 @@
-//! Reading a text in windows: the first one has the head, the store and perhaps transactions, and each
-//! later one begins with the line `txn`.
+//! Reading a text in windows. The first one has the head, the store and perhaps transactions, and
+//! each later one begins with the line `txn`.
 
 ghost use Rattle.bohm_text.specs.Windows.{IsWindow};
 ghost use Rattle.bohm_text.specs.Windowing.{ReadsFirst, ReadsWindow};
@@ -34,8 +34,8 @@ pub struct FirstWindow {
 ///
 /// # Errors
 ///
-/// `Line` and `Open` say where the window stops being the beginning of a document. `NoMemory` says
-/// that a growth was refused.
+/// `Line` and `Open` say where the window stops being a prefix of a document. `NoMemory` says that
+/// an allocation failed.
 pub fn parse_first_window(
     alloc: Global,
     seed: HashSeed,
@@ -58,15 +58,15 @@ pub fn parse_first_window(
     })
 }
 
-/// Reads a window that stands behind others of a text of this edition, and begins with the line
+/// Reads a window that stands after others of a text of this edition, and begins with the line
 /// `txn`. What it reads doesn't depend on the windows before it, so windows are read in any order.
 /// Its time and memory grow with the length of the window. Names are hashed from the seed, and are
 /// numbered for this window alone.
 ///
 /// # Errors
 ///
-/// `Line` and `Open` say where the window stops being the beginning of transactions. `NoMemory` says
-/// that a growth was refused.
+/// `Line` and `Open` say where the window stops being a prefix of transactions. `NoMemory` says
+/// that an allocation failed.
 pub fn parse_window(
     alloc: Global,
     seed: HashSeed,

@@ -1,7 +1,8 @@
 //! The words of a line.
 
-ghost use Rattle.std.specs.Prelude.{◌≡◌, ◌∷◌, [], MatchOption};
+ghost use Rattle.std.specs.Prelude.{◌≡◌, ◌∷◌, [], MatchOption, ◌≤◌, true, length};
 ghost use Rattle.bohm_text.specs.Cut.{split};
+ghost use Rattle.bohm_text.specs.Signs.{begins_signed, behind_sign, sign_ahead};
 
 use crate::separators::space_at;
 use std::marker::Model;
@@ -22,6 +23,19 @@ impl<'a> Model for Words<'a> {
     ghost view = { words_of };
 }
 
+/// Whether the bytes begin with a sign and a space.
+#[inline(always)]
+#[tactic(auto, unfolding(crate::specs::Signs::begins_signed))]
+fn begins_signed(bytes: &[u8]) -> bool
+    ensures signed { result ≡ begins_signed bytes.now }
+    ensures long { result ≡ true → 2 ≤ length bytes.now }
+{
+    match bytes {
+        [sign, space, ..] => *space == b' ' && (*sign == b'-' || *sign == b'+'),
+        _ => false,
+    }
+}
+
 impl<'a> Words<'a> {
     pub fn of(line: &'a [u8]) -> Words<'a>
         ensures { result ≡ split 32 line.now }
@@ -36,6 +50,22 @@ impl<'a> Words<'a> {
         Words { rest: self.rest }
     }
 
+    /// The sign of a further term, where the next word is one and another stands behind it: it is
+    /// taken then.
+    #[inline(always)]
+    pub fn next_sign(&mut self) -> Option<bool>
+        ensures sign { result ≡ sign_ahead self.old }
+        ensures rest { self.new ≡ behind_sign result self.old }
+    {
+        let rest = self.rest?;
+        if !begins_signed(rest) {
+            return None;
+        }
+        self.rest = Some(&rest[2..]);
+        Some(rest[0] == b'-')
+    }
+
+    #[inline(always)]
     pub fn next(&mut self) -> Option<&'a [u8]>
         ensures { MatchOption result ((self.old ≡ []) × (self.new ≡ []))
             (λ word. self.old ≡ word.now ∷ self.new) }

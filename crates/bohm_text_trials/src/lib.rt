@@ -1,5 +1,5 @@
-//! Tests of what a log is made of, over public calls: names, terms, statements and documents, the
-//! log in columns, and texts, as they are read, refused and printed.
+//! Tests of what a log is made of, over public calls. They cover names, terms, statements and
+//! documents, the log in columns, and texts, as they are read, refused and printed.
 #![tactic(auto)]
 
 #[cfg(test)]

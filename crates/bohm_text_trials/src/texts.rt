@@ -1,4 +1,4 @@
-//! Texts that are documents', texts that are not, and what is printed.
+//! Texts that are read, refused and printed.
 
 use bohm_text::{TextFault, laws, parse, print_answer, print_doc, print_replies, print_store};
 use bohm_tree::{Key, Value};

@@ -1,4 +1,4 @@
-//! Terms that find the keys that they read, and the text of a want of memory.
+//! Terms that find the keys that they read, and the text of an allocation failure.
 
 ghost use Rattle.bohm_log.specs.Parts.{RowIn};
 

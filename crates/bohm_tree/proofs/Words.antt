@@ -15,7 +15,7 @@ use Rattle.std.proofs.lemmas.Slice.Eq.{bytes_eq-Decides}
 use Rattle.std.proofs.lemmas.Bool.Decides.{same_from_decides}
 use Rattle.std.proofs.Math.Seq.{take-append_seam}
 use Rattle.std.specs.Cmp.{unsigned_Decides}
-use Rattle.std.specs.Prelude.{nat_eq}
+use Rattle.std.specs.Prelude.{nat_eq, Bool, false}
 use Rattle.std.proofs.Math.Nat.{mul_comm, pow-succ'}
 use Rattle.std.proofs.Common.{true, Some, replicate}
 use Rattle.bohm_tree.specs.Name.{is_name, key_of}
@@ -228,11 +228,23 @@ named_by k h name f e = same_from_decides (bytes_eq k.words (words_of name)) (by
     back : name_of k ≡ name → bytes_eq k.words (words_of name) ≡ true
     back q = (bytes_eq-Decides k.words (words_of name)).1 (h.made ∙ ap words_of (named_by_it k h ∙ q))
 
-pub other_size : (k : Inside) (h : IsWorded k) (name : List ℕ) (n : ℕ) → n ≡ length h.name → (length name ≡ n → ⊥) → nat_eq (length name) n ≡ bytes_eq (name_of k) name
-other_size k h name n e apart = same_from_decides (nat_eq (length name) n) (bytes_eq (name_of k) name) (there, back) (bytes_eq-Decides (name_of k) name)
+-- where the words are the same, the sizes decide
+pub same_size : (k : Inside) (h : IsWorded k) (name : List ℕ) (n : ℕ) → AreBytes name → n ≡ length h.name → bytes_eq k.words (words_of name) ≡ true
+    → nat_eq (length name) n ≡ bytes_eq (name_of k) name
+same_size k h name n f e t = same_from_decides (nat_eq (length name) n) (bytes_eq (name_of k) name) (there, back) (bytes_eq-Decides (name_of k) name)
   where
     there : nat_eq (length name) n ≡ true → name_of k ≡ name
-    there t = absurd (apart ((unsigned_Decides (length name) n).0 t))
+    there s = (bytes_eq-Decides (name_of k) name).0 (sym (named_by k h name f (sym e ∙ sym ((unsigned_Decides (length name) n).0 s))) ∙ t)
 
     back : name_of k ≡ name → nat_eq (length name) n ≡ true
-    back q = absurd (apart (sym (ap length (named_by_it k h ∙ q)) ∙ sym e))
+    back q = (unsigned_Decides (length name) n).1 (sym (ap length q) ∙ ap length (sym (named_by_it k h)) ∙ sym e)
+
+pub other_words : (k : Inside) (h : IsWorded k) (name : List ℕ) (same : Bool) → same ≡ bytes_eq k.words (words_of name) → same ≡ false
+    → same ≡ bytes_eq (name_of k) name
+other_words k h name same e apart = same_from_decides same (bytes_eq (name_of k) name) (there, back) (bytes_eq-Decides (name_of k) name)
+  where
+    there : same ≡ true → name_of k ≡ name
+    there t = absurd cc
+
+    back : name_of k ≡ name → same ≡ true
+    back q = e ∙ (bytes_eq-Decides k.words (words_of name)).1 (h.made ∙ ap words_of (named_by_it k h ∙ q))

@@ -1,4 +1,4 @@
-//! Values, and what a key holds.
+//! Values and cells.
 
 ghost use Rattle.std.specs.Prelude.{◌≡◌, Some};
 

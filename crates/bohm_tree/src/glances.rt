@@ -1,14 +1,15 @@
-//! Where names were found last.
+//! A cache of where names were found.
 
 ghost use Rattle.std.specs.Prelude.{◌≡◌, IfSome, IsSome, Some, true, slice_get};
 ghost use Rattle.bohm_tree.specs.Name.{is_name};
+ghost use Rattle.bohm_tree.specs.Words.{words_of};
 
 use crate::key::Key;
 use crate::packing::{glance_at, words_of};
 
-/// For each glance of a name a place at which such a name was found last. A place is compared with
-/// the name before it is used: a wrong one costs the search that there would be without it, so none
-/// is ever cleared.
+/// For each glance, an 8-bit hash of a name, the place at which such a name was found last. A place
+/// is compared with the name before it is used: a wrong one costs the search that would be needed
+/// without it, so none is ever cleared.
 #[derive(Clone, Copy)]
 pub struct Glances {
     places: [u8; 256],
@@ -41,10 +42,31 @@ impl Glances {
         if word.first()?.is_ascii_digit() {
             return None;
         }
-        let words = words_of(word);
-        let place = self.places[glance_at(&words)];
+        if word.len() > 8 {
+            return self.place_of_long(names, word);
+        }
+        self.place_of_packed(names, word, &words_of(word))
+    }
+
+    /// The same of a word that doesn't begin with a digit. Few are long: they stand out of the way.
+    #[inline(never)]
+    fn place_of_long(&self, names: &[Key], word: &[u8]) -> Option<u32>
+        ensures place { IfSome result (λ i. slice_get names.now i ≡ Some word.now) }
+        ensures name { IsSome result → is_name word.now ≡ true }
+    {
+        self.place_of_packed(names, word, &words_of(word))
+    }
+
+    /// The same of a word that was packed into these words.
+    #[inline(always)]
+    fn place_of_packed(&self, names: &[Key], word: &[u8], words: &[u64; 4]) -> Option<u32>
+        requires { words.now ≡ words_of word.now }
+        ensures place { IfSome result (λ i. slice_get names.now i ≡ Some word.now) }
+        ensures name { IsSome result → is_name word.now ≡ true }
+    {
+        let place = self.places[glance_at(words)];
         let there = names.get(place as usize)?;
-        if there.is_packed(word, &words) {
+        if there.is_packed(word, words) {
             Some(place as u32)
         } else {
             None

@@ -6,7 +6,8 @@ use crate::memory::NoMemory;
 use std::alloc::Global;
 use std::marker::Model;
 
-/// The values of a `Vec`, in order. It is made from a `Vec` and gives it back without memory.
+/// The values of a `Vec`, in order. It is made from a `Vec`, and gives it back without an
+/// allocation.
 #[derive(Debug, Drop)]
 pub struct Items<T> {
     values: Vec<T>,
@@ -55,7 +56,7 @@ impl<T> Items<T> {
         Ok(())
     }
 
-    /// Gives back the room that no value takes.
+    /// Frees unused capacity.
     pub fn shrink_to_fit(&mut self)
         ensures { self.new ≡ self.old }
     {

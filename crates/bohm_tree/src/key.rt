@@ -18,8 +18,8 @@ use std::hash::{Hash, Hasher};
 use std::marker::Model;
 
 /// A name of 1 to 32 bytes: a lower-case letter, then lower-case letters, digits and underscores.
-/// It stands in four words, its first byte worth most, with zeros behind: the order of names is
-/// that of their words.
+/// It is kept in four words, most significant byte first, padded with zeros: names are ordered as
+/// their words are.
 #[derive(Clone, Copy, Debug)]
 pub struct Key {
     words: [u64; 4],
@@ -73,7 +73,7 @@ fn is_name(name: &[u8]) -> bool
     }
 }
 
-/// The bytes of a name, in a room of their own.
+/// The bytes of a name, in a buffer.
 #[derive(Debug, Drop)]
 pub struct KeyText {
     bytes: [u8; 32],
@@ -134,7 +134,7 @@ impl Key {
         ensures same { result ≡ bytes_eq self.now word.now }
         ensures name { result ≡ true → is_name word.now ≡ true }
     {
-        word.len() == size_of(&self.words) && self.words == *words
+        self.words == *words && word.len() == size_of(&self.words)
     }
 
     /// A number below 256 that equal keys share.

@@ -5,8 +5,8 @@ ghost use Rattle.std.specs.Int.{w64, from_be_bytes, trailing_zeros};
 ghost use Rattle.bohm_tree.specs.Name.{is_name};
 ghost use Rattle.bohm_tree.specs.Words.{padded, words_of, spread};
 
-/// The word of the first 8 bytes, with zeros behind where there are fewer. No room in memory is
-/// filled with them: most names are short.
+/// The word of the first 8 bytes, padded with zeros. No buffer is filled with them: most names are
+/// short.
 #[inline(always)]
 fn first_word(bytes: &[u8]) -> u64
     ensures { result ≡ from_be_bytes w64 (padded 8 bytes.now) }
@@ -24,14 +24,24 @@ fn first_word(bytes: &[u8]) -> u64
     }
 }
 
-/// The bytes behind the first 8.
+/// The bytes after the first 8.
 fn behind(bytes: &[u8]) -> &[u8]
     ensures { result.now ≡ drop 8 bytes.now }
 {
     if bytes.len() <= 8 { &[] } else { &bytes[8..] }
 }
 
-/// The words of a name of more than 8 bytes.
+/// The same word, where it is no name's only one: few are.
+#[inline(never)]
+fn further_word(bytes: &[u8]) -> u64
+    ensures { result ≡ from_be_bytes w64 (padded 8 bytes.now) }
+{
+    first_word(bytes)
+}
+
+/// The words of a name of more than 8 bytes. They are returned one by one, so that no name has its
+/// words in memory for the sake of the long ones.
+#[inline(always)]
 fn long_words_of(name: &[u8]) -> [u64; 4]
     ensures { result ≡ words_of name.now }
 {
@@ -39,10 +49,10 @@ fn long_words_of(name: &[u8]) -> [u64; 4]
     let third = behind(second);
     let fourth = behind(third);
     [
-        first_word(name),
-        first_word(second),
-        first_word(third),
-        first_word(fourth),
+        further_word(name),
+        further_word(second),
+        further_word(third),
+        further_word(fourth),
     ]
 }
 
@@ -71,13 +81,15 @@ pub(crate) fn spread(words: &[u64; 4]) -> [u8; 32]
 }
 
 /// How many bytes of 0 a word ends with.
+#[inline(always)]
 fn zeros_behind(word: u64) -> usize
     ensures { result ≡ trailing_zeros w64 word / 8 }
 {
     (word.trailing_zeros() / 8) as usize
 }
 
-/// The length of the name that four words are: behind it there are zeros alone.
+/// The length of the name in four words: only zeros follow it.
+#[inline(always)]
 pub(crate) fn size_of(words: &[u64; 4]) -> usize
     ensures short { result ≤ 32 }
     ensures size { (name : List ℕ) → is_name name ≡ true → words.now ≡ words_of name

@@ -22,7 +22,7 @@ pub use Rattle.bohm_txn.proofs.Listed.{same_moved, entries_listed}
 pub use Rattle.bohm_txn.proofs.Chunked.{store_checked, no_store_fault, no_store_fault_of}
 pub use Rattle.bohm_txn.proofs.UseLaws.{few_txns}
 -- the first fault of a document, of a transaction and of a statement
-pub use Rattle.bohm_txn.proofs.FirstLaw.{Lesser, least_law, txn_law, well_formed, first_fault}
+pub use Rattle.bohm_txn.proofs.FirstLaw.{well_formed, first_fault}
 -- steps along a list of keys
 pub use Rattle.bohm_txn.proofs.Checking.{falls, climbs}
 pub use Rattle.bohm_txn.proofs.Rises.{below}

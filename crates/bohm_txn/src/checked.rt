@@ -31,7 +31,7 @@ impl Model for Checked {
 }
 
 impl Checked {
-    /// No store and no transactions. It takes no memory.
+    /// No store and no transactions. It allocates nothing.
     pub fn empty(alloc: Global, seed: HashSeed, edition: Edition) -> Checked
         ensures { result ≡ empty_document edition }
     {
@@ -96,8 +96,8 @@ impl Checked {
 /// The document, if it has no faulty place; or else its first faulty place, by transaction and then
 /// by statement, with the least kind of fault there. A refused document is dropped.
 ///
-/// It takes no memory. Its time grows with the number of the document's store entries, keys, terms
-/// and statements.
+/// It allocates nothing. Its time grows with the number of the document's store entries, keys,
+/// terms and statements.
 #[tactic(auto, using(crate::proofs::FirstLaw::well_formed))]
 pub fn check(doc: Doc) -> Result<Checked, CheckFault>
     ensures ok { IfOk result (λ checked. checked ≡ doc) }

@@ -1,4 +1,4 @@
-//! Sums and conditions over what a statement sees.
+//! Evaluates the sums and conditions of a statement.
 
 ghost use Rattle.std.specs.Prelude.{◌≡◌, ◌≤◌, pos, ◌+◌, ◌+ℤ◌};
 ghost use Rattle.std.specs.Prelude.{◌≤ℤ◌, ◌^◌, length, map, reverse, true, All, IfSome};
@@ -143,7 +143,7 @@ impl Environment<'_> {
         }
     }
 
-    /// Whether a comparison of two sums, one behind the other, holds.
+    /// Whether a comparison of two sums, one after the other, holds.
     pub fn holds(&self, cmp: Cmp, from: u32, middle: u32, to: u32) -> Result<bool, Reason>
         requires left { from ≤ middle }
         requires right { middle ≤ to }

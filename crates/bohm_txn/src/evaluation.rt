@@ -15,8 +15,8 @@ use bohm_tree::Cell;
 /// it is sure, its declared writes have the cells `earlier`. It leaves in the scratch the cells of
 /// the declared writes after the transaction, and the shown values. It allocates nothing.
 ///
-/// Its time grows with the terms of the body. A term has its key's place; a local is sought among
-/// those that are bound.
+/// Its time grows with the terms of the body. A term has its key's place; a local is searched for
+/// among those that are bound.
 pub fn eval(txn: &TxnView<'_>, reads: &[Cell], earlier: &[Cell], scratch: &mut Scratch) -> Outcome
     requires well { IsWellFormedTxn txn.now }
     requires reads { length txn.now.reads ≡ length reads.now }

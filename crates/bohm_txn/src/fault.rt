@@ -1,6 +1,6 @@
-//! What the check refuses a document for.
+//! The faults that the check finds.
 
-/// The kinds of faults, in the order in which one place's are answered.
+/// The kinds of faults. Of several at one place the first in this order is reported.
 #[derive(Clone, Copy, Debug, PartialEq, Eq)]
 pub enum CheckKind {
     /// The store's keys, or a transaction's reads or writes, don't strictly rise.

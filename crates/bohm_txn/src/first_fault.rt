@@ -44,7 +44,7 @@ pub fn is_large(txn: &TxnView<'_>) -> bool
         || shows(txn) > MOST_SHOWS
 }
 
-/// The least kind of fault of a statement that stands behind these others.
+/// The least kind of fault of a statement that stands after these others.
 fn stmt_fault(txn: &PlacedTxn<'_>, before: &[StmtRow], row: &StmtRow) -> Option<CheckKind>
     requires reads { length txn.now.reads ≤ 16 }
     requires writes { length txn.now.writes ≤ 16 }

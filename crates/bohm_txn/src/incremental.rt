@@ -1,5 +1,5 @@
-//! The check of a document whose transactions come in chunks: the store first, then chunk after
-//! chunk, and the end.
+//! The check of a document whose transactions come in chunks. The store is first, then chunk after
+//! chunk, then the end.
 
 ghost use Rattle.std.specs.Prelude.{◌≡◌, ◌+◌, ◌++◌, ◌≤◌, None, length, All, IfSome};
 ghost use Rattle.bohm_tree.specs.Document.{Document};
@@ -34,7 +34,7 @@ pub fn check_store(store: &[(Key, Value)]) -> Option<CheckFault>
     }
 }
 
-/// The first fault of a document with the transactions of a chunk behind so many others, of which
+/// The first fault of a document with the transactions of a chunk after this many others, of which
 /// this fault was found. Where there are more than a log may have, nothing is promised.
 ///
 /// Its time grows with the number of the chunk's keys, terms and statements, and is constant where a
@@ -64,8 +64,8 @@ pub fn check_more(
     })
 }
 
-/// The first fault of a document of so many transactions, of whose store this fault was found, and
-/// of its transactions this one.
+/// The first fault of a document of this many transactions, of whose store this fault was found,
+/// and of its transactions this one.
 pub fn check_end(
     in_store: Option<CheckFault>,
     count: usize,

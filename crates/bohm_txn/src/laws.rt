@@ -1,4 +1,4 @@
-//! Laws over the definitions alone, for the proofs of the crates above. No running call uses them.
+//! Laws over the definitions alone, for the proofs of the crates above. No call uses them.
 
 ghost use Rattle.std.specs.Prelude.{◌≡◌, true, All, ℕ, suc, List, length, map, Some, Ok};
 ghost use Rattle.bohm_tree.specs.Document.{Document};

@@ -23,7 +23,7 @@ pub enum Outcome {
     Abort { reason: Reason, stmt: u32 },
 }
 
-/// What a transaction answers.
+/// The reply to a transaction.
 #[derive(Debug, Drop)]
 pub enum Reply {
     /// The shown values, in the order of the statements.

@@ -10,7 +10,7 @@ use bohm_tree::{NoMemory, Value};
 use std::alloc::Global;
 use std::marker::Model;
 
-/// A reply, lent by the list that holds it.
+/// A reply, borrowed from its list.
 #[derive(Clone, Copy, Debug)]
 pub enum ReplyView<'a> {
     /// The shown values, in the order of the statements.
@@ -85,7 +85,7 @@ fn add(rows: &mut Vec<ReplyRow>, values: &mut Vec<Value>, shows: &[Value]) -> Re
 }
 
 impl Replies {
-    /// No replies. It takes no memory.
+    /// No replies. It allocates nothing.
     pub fn new(alloc: Global) -> Replies
         ensures { result ≡ [] }
     {
@@ -95,7 +95,7 @@ impl Replies {
         }
     }
 
-    /// Makes room for so many replies more, apart from the values that they show.
+    /// Makes room for this many replies more, apart from the values that they show.
     pub fn reserve(&mut self, more: usize) -> Result<(), NoMemory>
         ensures { self.new ≡ self.old }
     {
@@ -116,7 +116,8 @@ impl Replies {
         self.rows.is_empty()
     }
 
-    /// An upper bound of how many values are shown.
+    /// How many values the replies show, those that were let go by `truncate` among them. It is a
+    /// hint of how much room a text of them takes: no clause says more.
     pub fn most_shows(&self) -> usize {
         self.values.len()
     }
@@ -129,7 +130,7 @@ impl Replies {
         lent(self.values.as_slice(), row_at(self.rows.as_slice(), index))
     }
 
-    /// Adds an abort at the end. A refusal leaves the list as it was.
+    /// Adds an abort at the end. An error leaves the list as it was.
     pub fn push_abort(&mut self, reason: Reason, stmt: u32) -> Result<(), NoMemory>
         ensures ok { OnOk result (self.new ≡ self.old ++ replies_are.Abort reason stmt ∷ []) }
         ensures err { OnErr result (self.new ≡ self.old) }
@@ -138,7 +139,7 @@ impl Replies {
         Ok(())
     }
 
-    /// Adds a commit that shows these values at the end. A refusal leaves the list as it was.
+    /// Adds a commit that shows these values at the end. An error leaves the list as it was.
     #[tactic(auto, using(crate::proofs::ReplyRows::commit_inside))]
     pub fn push_commit(&mut self, shows: &[Value]) -> Result<(), NoMemory>
         ensures ok { OnOk result (self.new ≡ self.old ++ replies_are.Commit shows.now ∷ []) }
@@ -147,7 +148,7 @@ impl Replies {
         add(&mut self.rows, &mut self.values, shows)
     }
 
-    /// Keeps the first so many replies.
+    /// Keeps the first replies, this many.
     pub fn truncate(&mut self, len: usize)
         ensures { self.new ≡ take len self.old }
     {

@@ -1,4 +1,4 @@
-//! A list with room made before.
+//! A list with capacity made before.
 
 ghost use Rattle.std.specs.Prelude.{◌≡◌, ◌<◌, ◌≤◌, [], ◌∷◌, ◌++◌, length};
 ghost use Rattle.std.specs.Prelude.{IfOk, slice_set};

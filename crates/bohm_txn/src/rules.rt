@@ -1,4 +1,4 @@
-//! What the check asks of a statement's sums and names, by places.
+//! The check's rules for a statement's sums and names.
 
 ghost use Rattle.std.specs.Prelude.{◌≡◌, ◌<◌, ◌≤◌, length, map, All};
 ghost use Rattle.std.specs.List.{flat_map, list_all, list_any};
@@ -83,10 +83,11 @@ pub fn is_unwritten(txn: &PlacedTxn<'_>, row: &StmtRow) -> bool
     writes_key(row) && !row.declared
 }
 
+/// The names are compared first: most rows have another one.
 fn binds(row: &StmtRow, place: u32) -> bool
     ensures { result ≡ binds_at place row.now }
 {
-    matches!(row.action, Action::Bind) && row.name == place
+    row.name == place && matches!(row.action, Action::Bind)
 }
 
 fn are_binding(rows: &[StmtRow], place: u32) -> bool

@@ -1,4 +1,4 @@
-//! Room to evaluate transactions in.
+//! Memory to evaluate transactions in.
 
 ghost use Rattle.std.specs.Prelude.{◌≡◌, [], IfOk};
 
@@ -7,7 +7,7 @@ use bohm_tree::{Cell, NoMemory, Value};
 use std::alloc::Global;
 use std::marker::Model;
 
-/// Room for the evaluation of any well-formed transaction, and what the last one left.
+/// Memory for the evaluation of any well-formed transaction, and the results of the last one.
 #[derive(Debug, Drop)]
 pub struct Scratch {
     pub(crate) work: Work,
@@ -25,7 +25,7 @@ impl Model for Scratch {
 }
 
 impl Scratch {
-    /// A scratch that shows nothing yet.
+    /// A scratch without results.
     pub fn new(alloc: Global) -> Result<Scratch, NoMemory>
         ensures cells { IfOk result (λ scratch. scratch.cells ≡ []) }
         ensures shows { IfOk result (λ scratch. scratch.shows ≡ []) }

@@ -1,4 +1,4 @@
-//! What a transaction shows.
+//! How many values a transaction shows.
 
 ghost use Rattle.std.specs.Prelude.{◌≡◌, ◌≤◌, length};
 ghost use Rattle.bohm_txn.specs.Declares.{shows_in};

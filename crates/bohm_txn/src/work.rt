@@ -1,4 +1,4 @@
-//! Running a body, statement by statement.
+//! Runs a body, statement by statement.
 
 ghost use Rattle.std.specs.Prelude.{◌≡◌, ◌≤◌, ◌<◌, [], length, true, false};
 ghost use Rattle.std.specs.Prelude.{MatchResult, IfOk, Ok, Err};

@@ -1,4 +1,4 @@
-//! The plan of a batch gets the places of its keys in the base.
+//! Notes in a batch's plan the indices of its keys in the base.
 
 ghost use Rattle.std.specs.Prelude.{◌≡◌, ℕ, List, ◌-◌, ◌<◌, ◌≤◌, ◌^◌, IfOk};
 ghost use Rattle.std.specs.Prelude.{OnErr, length, slice_get, Some, true, false};

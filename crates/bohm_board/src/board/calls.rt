@@ -1,4 +1,4 @@
-//! The calls of a board. None waits, and all but `open` allocate nothing.
+//! The calls of a board. None blocks, and only `open` allocates.
 
 ghost use Rattle.std.specs.Prelude.{◌≡◌, ℕ, IfOk, IsNone, IfSome};
 ghost use Rattle.bohm_board.specs.Batches.{rights_of, IsIn, IsSlot, IsRightCell, IsRightOutcome};
@@ -29,7 +29,7 @@ use std::alloc::Global;
 
 impl<'a> Board<'a> {
     /// Opens a board for a batch: all positions are Open, and all slots empty. The pass has seen
-    /// nothing and holds nothing. A refusal gives the batch up. The time and the room grow with the
+    /// nothing and holds nothing. An error drops the batch. The time and the memory grow with the
     /// number of transactions and of their slots.
     pub fn open(alloc: Global, batch: Batch<'a>) -> Result<(Board<'a>, Pass), NoMemory>
         ensures batch { IfOk result (λ b. batch_of b.0 ≡ batch.entry) }

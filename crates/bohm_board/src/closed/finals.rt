@@ -1,4 +1,4 @@
-//! What is read from a closed board, and what is added to it. None of these calls allocates.
+//! Reads and completes a closed board. No call allocates.
 
 ghost use Rattle.std.specs.Prelude.{◌≡◌, ◌≢◌, ◌<◌, ◌↔◌, ℕ, IsSome, IfSome};
 ghost use Rattle.bohm_board.specs.declared.slot.Slot.{Slot};

@@ -1,4 +1,4 @@
-//! Where names stand among the columns of a transaction, sought first where they were found last.
+//! Indices of names in the transaction being read.
 
 ghost use Rattle.std.specs.Prelude.{◌≡◌, Some, IfOk, IfSome, IfNone, slice_get};
 ghost use Rattle.bohm_log.specs.Parts.{Begins, IsApart};
@@ -24,7 +24,7 @@ pub(crate) fn place_in(keys: &[Key], key: &Key) -> Option<u32>
     Some(place as u32)
 }
 
-/// The same, sought first where it was found last.
+/// The same, looked for first where it was found last.
 pub(crate) fn place_again(keys: &[Key], places: &mut Glances, key: &Key) -> Option<u32>
     ensures found { IfSome result (λ i. slice_get keys.now i ≡ Some key.now) }
     ensures none { IfNone result (IsApart keys.now key.now) }
@@ -73,7 +73,7 @@ pub(crate) fn place_name<S: BuildHasher + Drop>(
     }
 }
 
-/// The declared keys among which a statement's name is sought.
+/// The declared keys among which a statement's name is searched for.
 pub(crate) fn keys_of<'a>(action: Action, reads: &'a [Key], writes: &'a [Key]) -> &'a [Key]
     ensures { result.now ≡ keys_of action reads.now writes.now }
 {

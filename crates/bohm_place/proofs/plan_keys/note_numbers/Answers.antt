@@ -48,7 +48,7 @@ loop-place-preserved c =
     elim c.match-access.branch [
       | in-Before w ↦
           let place = get_or c.places-places.result.now n 0 in
-          let now = subst (λ (f : ℕ). IsNoted q w.note.new.self set (c.args.t - f) j place) noted.sources.first w.note.ensures in
+          let now = subst (λ (f : ℕ). IsNoted q w.note.new.self set (c.args.t - f) j place) noted.sources.first w.note.ensures.noted in
           let before = ap (option_map (λ (a : Access). a.source)) at ∙ ap (λ o. Some o) w.in-Before.is in
           let (m, at_n, at_m) = place_there g.numbers g.places n c.requires.placed (there (goal.at.loop-place-preserved c).In-loop-place) in
           let same : m ≡ place = sym (get_or_from_slice_get g.places n m 0 at_n) ∙ ap (λ (ps : List ℕ). get_or ps n 0) (sym c.places-places.ensures) in

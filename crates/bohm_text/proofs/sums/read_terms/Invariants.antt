@@ -4,7 +4,7 @@ use Rattle.bohm_text.specs.Taking.{taken}
 use Rattle.bohm_text.proofs.sums.read_terms.Given as goal
 
 abbrev pub invariant-terms : goal.invariant-terms
-invariant-terms l = taken l.draft (terms_of l.words) ≡ taken l.fn.draft (terms_of l.fn.words)
+invariant-terms l = taken l.draft (terms_of l.ahead) ≡ taken l.fn.draft (terms_of l.fn.words)
 
 abbrev pub decreases-terms : goal.decreases-terms
-decreases-terms l = length l.words
+decreases-terms l = length l.ahead

@@ -3,8 +3,8 @@ use Rattle.bohm_place.specs.declared.planned.NumberedKey.{NumberedKey}
 use Rattle.bohm_place.proofs.Noted.{noted_there}
 use Rattle.bohm_place.proofs.planned.Plan.note.Goals as goal
 
-pub returns : goal.returns
-returns c =
+pub returns-clause-noted : goal.returns-clause-noted
+returns-clause-noted c =
     let inside = rw (← c.self.view_is) at c.requires.index in
     let before = rw (← c.self.view_is) at c.requires.source in
     let value = rw c.place-accessed.ensures at c.index_mut.ensures.value in

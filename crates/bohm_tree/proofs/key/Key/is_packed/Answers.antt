@@ -1,30 +1,29 @@
-use Rattle.std.proofs.Common.{arith, ap, sym, ◌≡◌, ◌∙◌}
-use Rattle.std.specs.Prelude.{length}
+use Rattle.std.proofs.Common.{arith, ap, sym, true, ◌≡◌, ◌∙◌}
+use Rattle.std.specs.Prelude.{length, nat_eq}
 use Rattle.std.specs.Str.{bytes_eq}
 use Rattle.std.proofs.lemmas.Slice.Eq.{bytes_eq-Decides}
 use Rattle.bohm_tree.specs.Name.{is_name}
-use Rattle.bohm_tree.proofs.Words.{is_a_name, named_by, other_size}
+use Rattle.bohm_tree.specs.Words.{words_of}
+use Rattle.bohm_tree.proofs.Words.{is_a_name, other_words, same_size}
 use Rattle.bohm_tree.proofs.key.Key.is_packed.Goals as goal
 
-same : (c : goal.After-eq) → c.eq.result ≡ bytes_eq c.args.self.now c.args.word.now
+same : (c : goal.After-size_of) → nat_eq (length c.args.word.now) c.size_of.result ≡ bytes_eq c.args.self.now c.args.word.now
 same c =
     let h = c.self.invariant in
     let size : c.size_of.result ≡ length h.name = c.size_of.ensures.size h.name h.is h.made in
-    c.eq.ensures
-    ∙ ap (bytes_eq c.self.inside.words) c.requires
-    ∙ named_by c.self.inside h c.args.word.now (λ i. omega (arith, c.type_inv.word i)) (sym size ∙ sym c.if-word-size_of.true)
+    let words : bytes_eq c.self.inside.words (words_of c.args.word.now) ≡ true = sym (c.eq.ensures ∙ ap (bytes_eq c.self.inside.words) c.requires) ∙ c.if-eq.true in
+    same_size c.self.inside h c.args.word.now c.size_of.result (λ i. omega (arith, c.type_inv.word i)) size words
     ∙ ap (λ k. bytes_eq k c.args.word.now) c.self.view_is
 
-pub returns-then-word-size_of-clause-same : goal.returns-then-word-size_of-clause-same
-returns-then-word-size_of-clause-same c = same c
+pub returns-then-eq-clause-same : goal.returns-then-eq-clause-same
+returns-then-eq-clause-same c = same c
 
-pub returns-then-word-size_of-clause-name : goal.returns-then-word-size_of-clause-name
-returns-then-word-size_of-clause-name c = λ t.
+pub returns-then-eq-clause-name : goal.returns-then-eq-clause-name
+returns-then-eq-clause-name c = λ t.
     let it : c.args.self.now ≡ c.args.word.now = (bytes_eq-Decides c.args.self.now c.args.word.now).0 (sym (same c) ∙ t) in
     ap is_name (sym (c.self.view_is ∙ it)) ∙ is_a_name c.self.inside c.self.invariant
 
-pub returns-else-word-size_of-clause-same : goal.returns-else-word-size_of-clause-same
-returns-else-word-size_of-clause-same c =
-    let h = c.self.invariant in
-    other_size c.self.inside h c.args.word.now c.size_of.result (c.size_of.ensures.size h.name h.is h.made) c.if-word-size_of.false
+pub returns-else-eq-clause-same : goal.returns-else-eq-clause-same
+returns-else-eq-clause-same c =
+    other_words c.self.inside c.self.invariant c.args.word.now c.eq.result (c.eq.ensures ∙ ap (bytes_eq c.self.inside.words) c.requires) c.if-eq.false
     ∙ ap (λ k. bytes_eq k c.args.word.now) c.self.view_is

@@ -1,7 +1,7 @@
 use Rattle.std.proofs.Common.{Some, slice_index_or, length, refl, ap, sym, ◌∙◌}
 use Rattle.std.proofs.lemmas.Option.{slice_get_read}
 use Rattle.std.proofs.lemmas.Slice.Eq.{bytes_eq-Decides}
-use Rattle.bohm_tree.proofs.glances.Glances.place_of_word.Goals as goal
+use Rattle.bohm_tree.proofs.glances.Glances.place_of_packed.Goals as goal
 
 pub returns-then-is_packed-clause-place : goal.returns-then-is_packed-clause-place
 returns-then-is_packed-clause-place c =
