@@ -1,5 +1,5 @@
-//! Tests of the layers that a run is made of, over their public calls: sure transactions, plans,
-//! sweeps by several passes and threads, and histories in use.
+//! Tests of the layers that a run is made of, over their public calls. They cover sure
+//! transactions, plans, sweeps by several passes and threads, and histories in use.
 #![tactic(auto)]
 
 #[cfg(test)]

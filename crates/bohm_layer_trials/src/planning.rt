@@ -1,4 +1,4 @@
-//! Plans of a batch behind an earlier one, and the chains that they leave.
+//! Plans of a batch after an earlier one, and the chains that they leave.
 
 ghost use Rattle.std.specs.Prelude.{◌≡◌, ◌%◌, ◌<◌, ℕ, List, [], length, slice_index};
 ghost use Rattle.std.proofs.Math.Nat.{mod-lt};
@@ -229,7 +229,7 @@ fn assert_chains(
     assert_chain(rt, shards, 99 % parts.parts, b"c", c);
 }
 
-// Chains of no key, in so many parts.
+// Chains of no key, in this many parts.
 fn no_chains(rt: &impl Abort, alloc: Global, parts: u32) -> Shards
     ensures parts { length result ≡ parts }
     ensures empty { (part : List ℕ → ℕ) (k : List ℕ) → chain_in part result k ≡ [] }
@@ -237,7 +237,7 @@ fn no_chains(rt: &impl Abort, alloc: Global, parts: u32) -> Shards
     Shards::new(alloc, parts).expect(rt, "memory")
 }
 
-// Plans the batch behind an earlier one, looks at the plan and the chains, and trims them twice.
+// Plans the batch after an earlier one, looks at the plan and the chains, and trims them twice.
 fn plan_batch<R: Abort + Threads + Sync>(
     rt: &R,
     alloc: Global,
@@ -271,7 +271,7 @@ fn plan_batch<R: Abort + Threads + Sync>(
     assert_chains(rt, &shards, &parts, &a, &b, &c);
 }
 
-// Plans the batch behind an earlier one of another log, by the numbers of keys, and looks at the
+// Plans the batch after an earlier one of another log, by the numbers of keys, and looks at the
 // plan.
 fn plan_numbered<P: Partition, R: Abort + Threads + Sync>(
     rt: &R,

@@ -72,7 +72,7 @@ impl<'a> Sweeper<'a> {
         Sweeper { board, pass }
     }
 
-    /// What a sweep of these positions sets aside.
+    /// What a sweep of these positions defers.
     pub fn sweep<G: Gate>(
         &mut self,
         rt: &impl Abort,

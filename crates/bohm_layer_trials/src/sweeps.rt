@@ -25,8 +25,8 @@ fn counters(rt: &impl Abort, alloc: Global, count: u32) -> Checked {
     checked(rt, alloc, "log 1\na 0\n", txns.as_str())
 }
 
-/// Asserts that each of the first so many transactions shows how many are before it, and leaves one
-/// more.
+/// Asserts that each of the first transactions, this many, shows how many are before it, and leaves
+/// one more.
 fn assert_counted(rt: &impl Abort, finished: &Finished, len: u32) {
     let mut before = 0u32;
     for t in 1..=len {
@@ -44,7 +44,7 @@ fn assert_counted(rt: &impl Abort, finished: &Finished, len: u32) {
     }
 }
 
-/// Sweeps these positions, and asserts that these pairs are set aside.
+/// Sweeps these positions, and asserts that these pairs are deferred.
 fn sweeps_so(
     rt: &impl Abort,
     alloc: Global,
@@ -57,7 +57,7 @@ fn sweeps_so(
     aside
 }
 
-/// Closes a board of so many counters, of which so many have no outcome yet.
+/// Closes a board of this many counters, of which this many have no outcome yet.
 fn ends_counted(
     rt: &impl Abort,
     alloc: Global,
@@ -106,8 +106,8 @@ fn backwards(rt: HostRuntime) {
     assert_failed(&rt, &finished);
 }
 
-/// Sets a flag at each of the two points of position 1, and goes on from its claim once it is let
-/// go.
+/// Sets a flag at each of the two points of position 1, and goes on from its claim once it is
+/// released.
 #[derive(Drop)]
 struct FirstHeld {
     claimed: AtomicU64,

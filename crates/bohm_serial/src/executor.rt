@@ -1,4 +1,4 @@
-//! Running a log.
+//! Runs a log serially.
 
 ghost use Rattle.std.specs.Prelude.{◌≡◌, [], ◌∷◌, ◌++◌, map, length, All, IfOk, OnOk};
 ghost use Rattle.std.specs.FinMap.{entries};
@@ -15,7 +15,7 @@ use bohm_tree::{Cell, Items, Key, NoMemory, Value};
 use bohm_txn::{Checked, Outcome, Replies, Scratch, eval};
 use std::alloc::Global;
 
-/// What a run answers: the replies in log order, and the entries of the store that it leaves, in
+/// The result of a run: the replies in log order, and the entries of the store that it leaves, in
 /// the order of their keys.
 #[derive(Debug, Drop)]
 pub struct Answer {

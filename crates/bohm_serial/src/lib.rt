@@ -1,4 +1,4 @@
-//! The plain executor: a log's transactions, one after another.
+//! The reference executor: a log's transactions, one after another.
 #![tactic(auto)]
 
 mod executor;

@@ -1,6 +1,6 @@
-//! Values by key.
+//! A store as a hash map.
 
-ghost use Rattle.std.specs.Prelude.{◌≡◌, true, IfOk, OnOk};
+ghost use Rattle.std.specs.Prelude.{◌≡◌, true, IfOk, OnErr, OnOk};
 ghost use Rattle.std.specs.FinMap.{entries};
 ghost use Rattle.std.specs.HashMap.{IsUnique};
 ghost use Rattle.std.specs.Str.{bytes_eq};
@@ -55,9 +55,10 @@ impl Store {
         }
     }
 
-    /// Gives the key this cell.
+    /// Gives the key this cell. A refusal leaves the store as it was.
     pub fn put(&mut self, key: &Key, cell: Cell) -> Result<(), NoMemory>
-        ensures { OnOk result (self.new ≡ put self.old key.now cell) }
+        ensures ok { OnOk result (self.new ≡ put self.old key.now cell) }
+        ensures err { OnErr result (self.new ≡ self.old) }
     {
         match cell {
             Cell::Absent => {

@@ -19,10 +19,13 @@ newest_kept f (x ∷ ks) k before e = newest_kept f ks k (if bytes_eq x k then f
     by true is = ap f (same_key x k is)
     by false is = e
 
-newest_by : (f : List ℕ → Cell) (x : List ℕ) (ks : List (List ℕ)) (k : List ℕ) (before : Cell) (b : Bool) → bytes_eq x k ≡ b → (b || is_among ks k) ≡ true → ((c : Cell) → is_among ks k ≡ true → newest (map (λ j. (j, f j)) ks) k c ≡ f k) → newest (map (λ j. (j, f j)) ks) k (if b then f x else before) ≡ f k
+newest_by : (f : List ℕ → Cell) (x : List ℕ) (ks : List (List ℕ)) (k : List ℕ) (before : Cell) (b : Bool) → bytes_eq x k ≡ b
+    → (b || is_among ks k) ≡ true → ((c : Cell) → is_among ks k ≡ true → newest (map (λ j. (j, f j)) ks) k c ≡ f k)
+    → newest (map (λ j. (j, f j)) ks) k (if b then f x else before) ≡ f k
 newest_by f x ks k before true is h more = newest_kept f ks k (f x) (ap f (same_key x k is))
 newest_by f x ks k before false is h more = more before h
 
-pub newest_paired : (f : List ℕ → Cell) (ks : List (List ℕ)) (k : List ℕ) (before : Cell) → is_among ks k ≡ true → newest (map (λ j. (j, f j)) ks) k before ≡ f k
+pub newest_paired : (f : List ℕ → Cell) (ks : List (List ℕ)) (k : List ℕ) (before : Cell) → is_among ks k ≡ true
+    → newest (map (λ j. (j, f j)) ks) k before ≡ f k
 newest_paired f [] k before h = absurd cc
 newest_paired f (x ∷ ks) k before h = newest_by f x ks k before (bytes_eq x k) refl h (λ c. newest_paired f ks k c)

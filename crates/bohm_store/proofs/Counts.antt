@@ -29,19 +29,24 @@ versions_if : (b : Bool) (o : Option (List Version)) → unwrap_or (cond b None 
 versions_if true o = refl
 versions_if false o = refl
 
-versions_removed : (k q : List ℕ) (fs : Keyed) → IsDistinct bytes_eq (keys_of fs) → versions_in (remove_entry (bytes_eq k) fs) q ≡ (if bytes_eq k q then [] else versions_in fs q)
+versions_removed : (k q : List ℕ) (fs : Keyed) → IsDistinct bytes_eq (keys_of fs)
+    → versions_in (remove_entry (bytes_eq k) fs) q ≡ (if bytes_eq k q then [] else versions_in fs q)
 versions_removed k q fs d =
-    ap (λ (o : Option (List Version)). unwrap_or o []) (lookup-remove_entry nat_list_eq_equiv (bytes_eq k) (λ x y e. nat_list_eq_equiv.congr k x y e) q fs d) ∙ versions_if (bytes_eq k q) (lookup (bytes_eq q) fs)
+    ap (λ (o : Option (List Version)). unwrap_or o []) (lookup-remove_entry nat_list_eq_equiv (bytes_eq k) (λ x y e. nat_list_eq_equiv.congr k x y e) q fs d)
+    ∙ versions_if (bytes_eq k q) (lookup (bytes_eq q) fs)
 
 all_removed : (P : List ℕ → Type 0) (k : List ℕ) (fs : Keyed) → AllByRecursion P (keys_of fs) → AllByRecursion P (keys_of (remove_entry (bytes_eq k) fs))
 all_removed P k [] h = h
 all_removed P k (f ∷ fs) h = by P k f fs (bytes_eq k f.0) refl h (all_removed P k fs h.1)
   where
-    by : (P : List ℕ → Type 0) (k : List ℕ) (f : List ℕ × List Version) (fs : Keyed) (b : Bool) → bytes_eq k f.0 ≡ b → AllByRecursion P (keys_of (f ∷ fs)) → AllByRecursion P (keys_of (remove_entry (bytes_eq k) fs)) → AllByRecursion P (keys_of (remove_entry (bytes_eq k) (f ∷ fs)))
+    by : (P : List ℕ → Type 0) (k : List ℕ) (f : List ℕ × List Version) (fs : Keyed) (b : Bool) → bytes_eq k f.0 ≡ b
+        → AllByRecursion P (keys_of (f ∷ fs)) → AllByRecursion P (keys_of (remove_entry (bytes_eq k) fs))
+        → AllByRecursion P (keys_of (remove_entry (bytes_eq k) (f ∷ fs)))
     by P k f fs true e h more = rw e h.1
     by P k f fs false e h more = rw e (h.0, more)
 
-distinct_by : (k : List ℕ) (f : List ℕ × List Version) (fs : Keyed) (b : Bool) → bytes_eq k f.0 ≡ b → IsDistinct bytes_eq (keys_of (f ∷ fs)) → IsDistinct bytes_eq (keys_of (remove_entry (bytes_eq k) fs)) → IsDistinct bytes_eq (keys_of (remove_entry (bytes_eq k) (f ∷ fs)))
+distinct_by : (k : List ℕ) (f : List ℕ × List Version) (fs : Keyed) (b : Bool) → bytes_eq k f.0 ≡ b → IsDistinct bytes_eq (keys_of (f ∷ fs))
+    → IsDistinct bytes_eq (keys_of (remove_entry (bytes_eq k) fs)) → IsDistinct bytes_eq (keys_of (remove_entry (bytes_eq k) (f ∷ fs)))
 unfolding IsDistinct
 distinct_by k f fs true e d more = rw e d.1
 distinct_by k f fs false e d more = rw e (all_removed (λ y. bytes_eq f.0 y ≡ false) k fs d.0, more)
@@ -61,7 +66,8 @@ pub gone : (e : List ℕ × List Version) (es : Keyed) (k : List ℕ) → IsDist
 unfolding IsDistinct
 gone e es k d same = ap (λ (o : Option (List Version)). unwrap_or o []) (none_from e.0 k es same d.0)
 
-rest_by : (e : List ℕ × List Version) (es fs : Keyed) (k : List ℕ) (b : Bool) → bytes_eq e.0 k ≡ b → IsDistinct bytes_eq (keys_of (e ∷ es)) → versions_in (e ∷ es) k ≡ versions_in fs k → versions_in es k ≡ (if bytes_eq e.0 k then [] else versions_in fs k)
+rest_by : (e : List ℕ × List Version) (es fs : Keyed) (k : List ℕ) (b : Bool) → bytes_eq e.0 k ≡ b → IsDistinct bytes_eq (keys_of (e ∷ es))
+    → versions_in (e ∷ es) k ≡ versions_in fs k → versions_in es k ≡ (if bytes_eq e.0 k then [] else versions_in fs k)
 rest_by e es fs k true is d same = rw is (gone e es k d (nat_list_eq_equiv.symm k e.0 ∙ is))
 rest_by e es fs k false is d same =
     let other : bytes_eq k e.0 ≡ false = nat_list_eq_equiv.symm k e.0 ∙ is in
@@ -76,15 +82,19 @@ total_none (f ∷ fs) d none =
     let long : 0 ≡ length f.1 = ap (λ (vs : List Version). length vs) first in
     omega (arith, rest, long)
   where
-    rest_empty : (f : List ℕ × List Version) (fs : Keyed) (k : List ℕ) (b : Bool) → bytes_eq k f.0 ≡ b → IsDistinct bytes_eq (keys_of (f ∷ fs)) → [] ≡ versions_in (f ∷ fs) k → [] ≡ versions_in fs k
+    rest_empty : (f : List ℕ × List Version) (fs : Keyed) (k : List ℕ) (b : Bool) → bytes_eq k f.0 ≡ b
+        → IsDistinct bytes_eq (keys_of (f ∷ fs)) → [] ≡ versions_in (f ∷ fs) k → [] ≡ versions_in fs k
     rest_empty f fs k true is d same = sym (gone f fs k d is)
     rest_empty f fs k false is d same = rw is at same
 
-pub total_same : (es fs : Keyed) → IsDistinct bytes_eq (keys_of es) → IsDistinct bytes_eq (keys_of fs) → ((k : List ℕ) → versions_in es k ≡ versions_in fs k) → total es ≡ total fs
+pub total_same : (es fs : Keyed) → IsDistinct bytes_eq (keys_of es) → IsDistinct bytes_eq (keys_of fs)
+    → ((k : List ℕ) → versions_in es k ≡ versions_in fs k) → total es ≡ total fs
 total_same [] fs d f same = sym (total_none fs f same)
 total_same (e ∷ es) fs d f same =
     let others = remove_entry (bytes_eq e.0) fs in
-    let rest : total es ≡ total others = total_same es others (rest_distinct e es d) (distinct_removed e.0 fs f) (λ k. rest_by e es fs k (bytes_eq e.0 k) refl d (same k) ∙ sym (versions_removed e.0 k fs f)) in
+    let rest : total es ≡ total others =
+    total_same es others (rest_distinct e es d) (distinct_removed e.0 fs f)
+    (λ k. rest_by e es fs k (bytes_eq e.0 k) refl d (same k) ∙ sym (versions_removed e.0 k fs f)) in
     let here : e.1 ≡ versions_in fs e.0 = rw (key_itself e.0) at (same e.0) in
     let whole = total_removed e.0 fs in
     let long : length e.1 ≡ length (versions_in fs e.0) = ap (λ (vs : List Version). length vs) here in

@@ -1,5 +1,6 @@
 -- What the keys with numbers hold at a time.
-use Rattle.std.proofs.Common.{◌≡◌, ◌≢◌, ℕ, zero, suc, ◌+◌, ◌<◌, ◌≤◌, ◌==◌, ◌∙◌, true, false, List, [], ◌∷◌, ◌++◌, length, drop, get_or, slice_set, refl, sym, ap, ⊎_elim, arith, if◌then◌else◌, append_assoc, add-one, drop-cons}
+use Rattle.std.proofs.Common.{◌≡◌, ◌≢◌, ℕ, zero, suc, ◌+◌, ◌<◌, ◌≤◌, ◌==◌, ◌∙◌, true, false, List, [], ◌∷◌, ◌++◌, length, drop, get_or}
+use Rattle.std.proofs.Common.{slice_set, refl, sym, ap, ⊎_elim, arith, if◌then◌else◌, append_assoc, add-one, drop-cons}
 use Rattle.std.specs.Prelude.{ℤ}
 use Rattle.std.specs.Map.{keys_of}
 use Rattle.std.proofs.lemmas.Bool.{cases_eq}
@@ -20,7 +21,10 @@ entry_before k cells.Absent rest = refl
 entry_before k (cells.Present z) rest = refl
 
 -- one key more
-pub listed_more : (ts : ℕ) (f : ℕ → List Version) (names : List (List ℕ)) (i : ℕ) (k : List ℕ) (out new whole : List (List ℕ × ℤ)) → i < length names → get_or names i [] ≡ k → out ++ timeline_entries_at ts (named f i (drop i names)) ≡ whole → new ≡ out ++ cell_entry k (cell_at ts (f i) cells.Absent) [] → new ++ timeline_entries_at ts (named f (i + 1) (drop (i + 1) names)) ≡ whole
+pub listed_more : (ts : ℕ) (f : ℕ → List Version) (names : List (List ℕ)) (i : ℕ) (k : List ℕ) (out new whole : List (List ℕ × ℤ))
+    → i < length names → get_or names i [] ≡ k → out ++ timeline_entries_at ts (named f i (drop i names)) ≡ whole
+    → new ≡ out ++ cell_entry k (cell_at ts (f i) cells.Absent) []
+    → new ++ timeline_entries_at ts (named f (i + 1) (drop (i + 1) names)) ≡ whole
 listed_more ts f names i k out new whole lt at before is =
     let left : drop i names ≡ k ∷ drop (i + 1) names = rw add-one (drop-cons names i [] lt) ∙ ap (λ (x : List ℕ). x ∷ drop (i + 1) names) at in
     let rest = timeline_entries_at ts (named f (i + 1) (drop (i + 1) names)) in
@@ -31,7 +35,9 @@ listed_more ts f names i k out new whole lt at before is =
     ∙ before
 
 -- versions that say the same of the time are listed alike
-pub entries_same : (ts : ℕ) (f g : ℕ → List Version) (from : ℕ) (names : List (List ℕ)) → ((n : ℕ) → from ≤ n → n < from + length names → cell_at ts (f n) cells.Absent ≡ cell_at ts (g n) cells.Absent) → timeline_entries_at ts (named f from names) ≡ timeline_entries_at ts (named g from names)
+pub entries_same : (ts : ℕ) (f g : ℕ → List Version) (from : ℕ) (names : List (List ℕ))
+    → ((n : ℕ) → from ≤ n → n < from + length names → cell_at ts (f n) cells.Absent ≡ cell_at ts (g n) cells.Absent)
+    → timeline_entries_at ts (named f from names) ≡ timeline_entries_at ts (named g from names)
 entries_same ts f g from [] same = refl
 entries_same ts f g from (k ∷ names) same =
     rw (same from (omega arith) (omega arith), entries_same ts f g (from + 1) names (λ n low high. same n (omega arith) (omega arith))) refl
@@ -41,11 +47,13 @@ keys_named f from [] = refl
 keys_named f from (k ∷ names) = ap (λ (ks : List (List ℕ)). k ∷ ks) (keys_named f (from + 1) names)
 
 -- one older version put back
-pub put_back : (now : List Held) (number n : ℕ) (v : Held) (x : Version) → number < length now → held_versions v ≡ x ∷ [] → held_at (slice_set now number v) n ≡ (if (number == n) then x ∷ [] else held_at now n)
+pub put_back : (now : List Held) (number n : ℕ) (v : Held) (x : Version) → number < length now → held_versions v ≡ x ∷ []
+    → held_at (slice_set now number v) n ≡ (if (number == n) then x ∷ [] else held_at now n)
 put_back now number n v x inside is = ⊎_elim
     (λ (same : n ≡ number).
     let yes : (number == n) ≡ true = grind (arith, nat_tests) in
-    let at : get_or (slice_set now number v) n Never ≡ v = ap (λ (m : ℕ). get_or (slice_set now number v) m Never) same ∙ get_or-set_same now number v Never inside in
+    let at : get_or (slice_set now number v) n Never ≡ v =
+    ap (λ (m : ℕ). get_or (slice_set now number v) m Never) same ∙ get_or-set_same now number v Never inside in
     ap held_versions at ∙ is ∙ rw yes refl)
     (λ (other : n ≢ number).
     let no : (number == n) ≡ false = grind (arith, nat_tests) in

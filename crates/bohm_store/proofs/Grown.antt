@@ -28,17 +28,23 @@ module _ (names : List (List ℕ)) (b : Batch) (old : Numbered) (ws : List Numbe
   listed_next : map (named_write names) ws ≡ all_txn_writes (old.top + 1) (base_of b) (txns_of b)
   listed_next = listed ∙ ap (λ (u : ℕ). all_txn_writes u (base_of b) (txns_of b)) next.first
 
-  pub made : (k : List ℕ) → versions_of_writes (map (named_write names) ws) k ≡ produced_versions (old.top + 1) (past (timeline names old) old.top) (txns_of b) k
-  made k = made_produced (old.top + 1) (base_of b) (past (timeline names old) old.top) (txns_of b) (map (named_write names) ws) k b.batched.formed next.base listed_next
+  pub made : (k : List ℕ)
+      → versions_of_writes (map (named_write names) ws) k ≡ produced_versions (old.top + 1) (past (timeline names old) old.top) (txns_of b) k
+  made k =
+      made_produced (old.top + 1) (base_of b) (past (timeline names old) old.top) (txns_of b)
+      (map (named_write names) ws) k b.batched.formed next.base listed_next
 
   pub climb : ClimbTo (old.top + 1) (old.top + length (txns_of b)) ws
   climb =
       let some = b.batched.some in
-      named_climb names (old.top + 1) (old.top + length (txns_of b)) ws (subst (λ (xs : List KeyedVersion). Climb (old.top + 1) xs (old.top + length (txns_of b))) (sym listed_next) (written_climbs (old.top + 1) (old.top + 1) (old.top + length (txns_of b)) (base_of b) (txns_of b) (omega arith) (omega arith) (omega arith)))
+      named_climb names (old.top + 1) (old.top + length (txns_of b)) ws (subst
+      (λ (xs : List KeyedVersion). Climb (old.top + 1) xs (old.top + length (txns_of b))) (sym listed_next)
+      (written_climbs (old.top + 1) (old.top + 1) (old.top + length (txns_of b)) (base_of b) (txns_of b) (omega arith) (omega arith) (omega arith)))
 
   module _ (new : Numbered) (floor : new.floor ≡ old.floor) (top : new.top ≡ old.top + length (txns_of b))
       (grew : (n : ℕ) → versions_at new n ≡ versions_at old n ++ versions_by ws n) where
-    grown : (n : ℕ) → n < length names → versions_at new n ≡ versions_at old n ++ produced_versions (old.top + 1) (past (timeline names old) old.top) (txns_of b) (name_at names n)
+    grown : (n : ℕ) → n < length names
+        → versions_at new n ≡ versions_at old n ++ produced_versions (old.top + 1) (past (timeline names old) old.top) (txns_of b) (name_at names n)
     grown n inside = grew n ∙ ap (λ (vs : List Version). versions_at old n ++ vs) (sym (keyed_versions names ws n apart below inside) ∙ made (name_at names n))
 
     stays : (n : ℕ) → length names ≤ n → versions_at new n ≡ versions_at old n
@@ -46,13 +52,16 @@ module _ (names : List (List ℕ)) (b : Batch) (old : Numbered) (ws : List Numbe
 
     pub grown_low : (n : ℕ) → UpTo new.top (versions_at new n)
     grown_low n = rw top (⊎_elim
-        (λ lt. settled_low old.top (past (timeline names old) old.top) (txns_of b) (name_at names n) (versions_at old n) (versions_at new n) (grown n lt) (h.low n))
-        (λ le. rw (stays n le) (All-weaker (λ (v : Version). v.begin ≤ old.top) (λ (v : Version). v.begin ≤ old.top + length (txns_of b)) (λ v l. omega arith) (versions_at old n) (h.low n)))
+        (λ lt. settled_low old.top (past (timeline names old) old.top) (txns_of b) (name_at names n) (versions_at old n) (versions_at new n)
+        (grown n lt) (h.low n))
+        (λ le. rw (stays n le) (All-weaker (λ (v : Version). v.begin ≤ old.top) (λ (v : Version). v.begin ≤ old.top + length (txns_of b))
+        (λ v l. omega arith) (versions_at old n) (h.low n)))
         (cases_lt n (length names)))
 
     pub grown_rises : (n : ℕ) → Rises (versions_at new n)
     grown_rises n = ⊎_elim
-        (λ lt. settled_rises old.top (past (timeline names old) old.top) (txns_of b) (name_at names n) (versions_at old n) (versions_at new n) (grown n lt) (h.low n) (h.rising n))
+        (λ lt. settled_rises old.top (past (timeline names old) old.top) (txns_of b) (name_at names n) (versions_at old n)
+        (versions_at new n) (grown n lt) (h.low n) (h.rising n))
         (λ le. rw (stays n le) (h.rising n))
         (cases_lt n (length names))
 

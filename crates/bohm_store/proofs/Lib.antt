@@ -12,6 +12,7 @@ mod Named
 mod Linked
 mod Longer
 mod OlderVersions
+mod Places
 mod NumberedWrites
 mod Kept
 mod Settled

@@ -1,5 +1,6 @@
 -- Older versions and the present one, by number.
-use Rattle.std.proofs.Common.{◌≡◌, ℕ, zero, suc, ◌<◌, ◌≤◌, ◌==◌, ◌∙◌, Bool, true, false, List, [], ◌∷◌, ◌++◌, length, get_or, take, replicate, refl, ap, arith, nat_le}
+use Rattle.std.proofs.Common.{◌≡◌, ℕ, zero, suc, ◌<◌, ◌≤◌, ◌==◌, ◌∙◌, Bool, true, false, List, [], ◌∷◌, ◌++◌, length, get_or, take}
+use Rattle.std.proofs.Common.{replicate, refl, ap, arith, nat_le}
 use Rattle.bohm_store.specs.declared.version.Version.{Version}
 use Rattle.std.proofs.lemmas.List.Elements.{All-nil, All-head, All-tail}
 use Rattle.std.proofs.lemmas.Bool.Decides.{nat_tests}
@@ -28,7 +29,8 @@ rises_held (Present b z) = (All-nil (λ w. b < w.begin), tt)
 pub single_at : (now : List Held) (n : ℕ) → later_begins (held_at now n) ≡ []
 single_at now n = held_single (get_or now n Never)
 
-as_many_by : (o : Older) (os : List Older) (n : ℕ) (b : Bool) → (o.number == n) ≡ b → length (older_of os n) ≡ length (ends_of os n) → length (older_of (o ∷ os) n) ≡ length (ends_of (o ∷ os) n)
+as_many_by : (o : Older) (os : List Older) (n : ℕ) (b : Bool) → (o.number == n) ≡ b → length (older_of os n) ≡ length (ends_of os n)
+    → length (older_of (o ∷ os) n) ≡ length (ends_of (o ∷ os) n)
 as_many_by o os n true e more = rw e (ap suc more)
 as_many_by o os n false e more = rw e more
 
@@ -52,13 +54,16 @@ length_nil [] = refl
 length_nil (a ∷ xs) = ap suc (length_nil xs)
 
 -- where there are older versions one is held
-pub newest_held : (xs hs ps : List Version) (es : List ℕ) → later_begins (xs ++ hs) ≡ es → length xs ≡ length es → newest_only (xs ++ (hs ++ ps)) ≡ newest_only (hs ++ ps)
+pub newest_held : (xs hs ps : List Version) (es : List ℕ) → later_begins (xs ++ hs) ≡ es → length xs ≡ length es
+    → newest_only (xs ++ (hs ++ ps)) ≡ newest_only (hs ++ ps)
 newest_held [] hs ps es e l = refl
 newest_held (a ∷ xs) (h ∷ hs) ps es e l = newest_skip (a ∷ xs) (hs ++ ps) h
 newest_held (a ∷ xs) [] ps es e l = absurd (omega (arith, l, ap length e, length_later a (xs ++ []), length_nil xs))
 
 -- a history whose keys hold the same
-pub numbered_same : (floor top : ℕ) (old new : List Held) (older : List Older) → IsNumbered (record { floor = floor; top = top; newest = old; older = older }) → ((n : ℕ) → held_at new n ≡ held_at old n) → IsNumbered (record { floor = floor; top = top; newest = new; older = older })
+pub numbered_same : (floor top : ℕ) (old new : List Held) (older : List Older)
+    → IsNumbered (record { floor = floor; top = top; newest = old; older = older }) → ((n : ℕ) → held_at new n ≡ held_at old n)
+    → IsNumbered (record { floor = floor; top = top; newest = new; older = older })
 numbered_same floor top old new older h same = record {
   ordered = h.ordered;
   low = λ n. rw (same n) (h.low n);
@@ -84,7 +89,8 @@ pub none_older : (vs : List Version) (es : List ℕ) → later_begins (vs ++ [])
 none_older [] es e l = refl
 none_older (v ∷ vs) es e l = absurd (omega (arith, l, ap length e, length_later v (vs ++ []), length_nil vs))
 
-pub cell_held : (top : ℕ) (vs : List Version) (v : Held) (es : List ℕ) → later_begins (vs ++ held_versions v) ≡ es → length vs ≡ length es → UpTo top (vs ++ held_versions v) → cell_at top (vs ++ held_versions v) cells.Absent ≡ held_cell v
+pub cell_held : (top : ℕ) (vs : List Version) (v : Held) (es : List ℕ) → later_begins (vs ++ held_versions v) ≡ es → length vs ≡ length es
+    → UpTo top (vs ++ held_versions v) → cell_at top (vs ++ held_versions v) cells.Absent ≡ held_cell v
 cell_held top vs Never es e l low = ap (λ (xs : List Version). cell_at top (xs ++ []) cells.Absent) (none_older vs es e l)
 cell_held top vs (Absent b) es e l low = cell_last top vs (record { begin = b; cell = cells.Absent }) low
 cell_held top vs (Present b z) es e l low = cell_last top vs (record { begin = b; cell = cells.Present z }) low

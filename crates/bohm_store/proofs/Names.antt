@@ -1,5 +1,6 @@
 -- Keys by their numbers.
-use Rattle.std.proofs.Common.{◌≡◌, ℕ, zero, suc, ◌+◌, ◌<◌, ◌∙◌, Bool, true, false, ◌||◌, cond, List, [], ◌∷◌, length, get_or, Some, None, refl, sym, ap, inl, inr, ◌⊎◌, ⊎_elim, arith, slice_get}
+use Rattle.std.proofs.Common.{◌≡◌, ℕ, zero, suc, ◌+◌, ◌<◌, ◌∙◌, Bool, true, false, ◌||◌, cond, List, [], ◌∷◌, length, get_or, Some, None}
+use Rattle.std.proofs.Common.{refl, sym, ap, inl, inr, ◌⊎◌, ⊎_elim, arith, slice_get}
 use Rattle.std.specs.List.{IsDistinct, AllByRecursion, list_any, position, position_from}
 use Rattle.std.proofs.lemmas.Iterator.Adapters.{position_from-zero}
 use Rattle.std.proofs.lemmas.List.Quantifiers.{position-Some}
@@ -13,13 +14,15 @@ use Rattle.bohm_store.specs.declared.version.Version.{Version}
 use Rattle.bohm_store.specs.Versions.{versions_in}
 use Rattle.bohm_store.specs.Numbered.{named}
 
-apart_at : (x : List ℕ) (names : List (List ℕ)) (i : ℕ) → AllByRecursion (λ y. bytes_eq x y ≡ false) names → i < length names → bytes_eq (get_or names i []) x ≡ false
+apart_at : (x : List ℕ) (names : List (List ℕ)) (i : ℕ) → AllByRecursion (λ y. bytes_eq x y ≡ false) names → i < length names
+    → bytes_eq (get_or names i []) x ≡ false
 apart_at x [] i h lt = absurd (omega arith)
 apart_at x (y ∷ names) zero h lt = nat_list_eq_equiv.symm y x ∙ h.0
 apart_at x (y ∷ names) (suc i) h lt = apart_at x names i h.1 (omega arith)
 
 -- the key with a number has what stands there
-named_at : (f : ℕ → List Version) (from : ℕ) (names : List (List ℕ)) (i : ℕ) → IsDistinct bytes_eq names → i < length names → versions_in (named f from names) (get_or names i []) ≡ f (from + i)
+named_at : (f : ℕ → List Version) (from : ℕ) (names : List (List ℕ)) (i : ℕ) → IsDistinct bytes_eq names → i < length names
+    → versions_in (named f from names) (get_or names i []) ≡ f (from + i)
 unfolding IsDistinct
 named_at f from [] i d lt = absurd (omega arith)
 named_at f from (k ∷ names) zero d lt = let e : from + 0 ≡ from = omega arith in rw (key_itself k, e) refl
@@ -27,10 +30,13 @@ named_at f from (k ∷ names) (suc i) d lt =
     let e : (from + 1) + i ≡ from + suc i = omega arith in
     rw (apart_at k names i d.0 (omega arith)) (named_at f (from + 1) names i d.1 (omega arith) ∙ ap f e)
 
-pub versions_named : (f : ℕ → List Version) (names : List (List ℕ)) (n : ℕ) → IsDistinct bytes_eq names → n < length names → versions_in (named f 0 names) (name_at names n) ≡ f n
+pub versions_named : (f : ℕ → List Version) (names : List (List ℕ)) (n : ℕ) → IsDistinct bytes_eq names → n < length names
+    → versions_in (named f 0 names) (name_at names n) ≡ f n
 versions_named f names n d lt = let e : 0 + n ≡ n = omega arith in named_at f 0 names n d lt ∙ ap f e
 
-none_by : (f : ℕ → List Version) (from : ℕ) (x : List ℕ) (names : List (List ℕ)) (k : List ℕ) (b : Bool) → bytes_eq x k ≡ b → (b || is_among names k) ≡ false → (is_among names k ≡ false → versions_in (named f (from + 1) names) k ≡ []) → versions_in (named f from (x ∷ names)) k ≡ []
+none_by : (f : ℕ → List Version) (from : ℕ) (x : List ℕ) (names : List (List ℕ)) (k : List ℕ) (b : Bool) → bytes_eq x k ≡ b
+    → (b || is_among names k) ≡ false → (is_among names k ≡ false → versions_in (named f (from + 1) names) k ≡ [])
+    → versions_in (named f from (x ∷ names)) k ≡ []
 none_by f from x names k true e h more = absurd cc
 none_by f from x names k false e h more = let other : bytes_eq k x ≡ false = nat_list_eq_equiv.symm k x ∙ e in rw other (more h)
 
@@ -48,7 +54,8 @@ pub record HasNumber (names : List (List ℕ)) (k : List ℕ) : Type 0 where
   pub inside : number < length names
   pub is : name_at names number ≡ k
 
-number_by : (x : List ℕ) (names : List (List ℕ)) (k : List ℕ) (b : Bool) → bytes_eq x k ≡ b → HasNumber names k ⊎ (is_among names k ≡ false) → HasNumber (x ∷ names) k ⊎ (is_among (x ∷ names) k ≡ false)
+number_by : (x : List ℕ) (names : List (List ℕ)) (k : List ℕ) (b : Bool) → bytes_eq x k ≡ b → HasNumber names k ⊎ (is_among names k ≡ false)
+    → HasNumber (x ∷ names) k ⊎ (is_among (x ∷ names) k ≡ false)
 number_by x names k true e more = inl (record { number = 0; inside = omega arith; is = same_key x k e })
 number_by x names k false e more = ⊎_elim
     (λ (h : HasNumber names k). inl (record { number = suc h.number; inside = omega (arith, h.inside); is = h.is }))

@@ -30,6 +30,7 @@ kept_newest floor (v ∷ w ∷ ws) h =
     rw is (kept_newest floor (w ∷ ws) rest)
 
 -- where one more comes it takes the place of what was held
-pub replaced_by : (old ms mid new : List Version) (v : Version) (b : Bool) → mid ≡ newest_only (old ++ ms) → new ≡ (if b then v ∷ [] else mid) → new ≡ newest_only (old ++ (ms ++ (if b then v ∷ [] else [])))
+pub replaced_by : (old ms mid new : List Version) (v : Version) (b : Bool) → mid ≡ newest_only (old ++ ms)
+    → new ≡ (if b then v ∷ [] else mid) → new ≡ newest_only (old ++ (ms ++ (if b then v ∷ [] else [])))
 replaced_by old ms mid new v true was is = is ∙ sym (newest_push (old ++ ms) v) ∙ ap newest_only (append_assoc old ms (v ∷ []))
 replaced_by old ms mid new v false was is = is ∙ was ∙ ap (λ (xs : List Version). newest_only (old ++ xs)) (sym (append-nil ms))

@@ -22,7 +22,8 @@ contains_cases v w vs (suc k, lt, e) = inr (k, omega arith, e)
 
 all_contains : (P : Version → Type 0) (vs : List Version) (w : Version) → All P vs → Contains vs w → P w
 all_contains P [] w h (k, lt, e) = absurd (omega arith)
-all_contains P (v ∷ vs) w h m = ⊎_elim (λ same. subst P same (All-head P v vs h)) (λ there. all_contains P vs w (All-tail P v vs h) there) (contains_cases v w vs m)
+all_contains P (v ∷ vs) w h m =
+    ⊎_elim (λ same. subst P same (All-head P v vs h)) (λ there. all_contains P vs w (All-tail P v vs h) there) (contains_cases v w vs m)
 
 -- ---- the cell at a time
 
@@ -40,7 +41,9 @@ newest_first : (ts : ℕ) (v : Version) (vs : List Version) → v.begin ≤ ts �
 newest_first ts v vs low above = record {
   there = contains_head v vs;
   low = low;
-  newest = All-cons (λ x. x.begin ≤ ts → x.begin ≤ v.begin) v vs (λ l. omega arith) (All-weaker (λ x. ts < x.begin) (λ x. x.begin ≤ ts → x.begin ≤ v.begin) (λ x lt l. absurd (omega arith)) vs above);
+  newest =
+      All-cons (λ x. x.begin ≤ ts → x.begin ≤ v.begin) v vs (λ l. omega arith)
+      (All-weaker (λ x. ts < x.begin) (λ x. x.begin ≤ ts → x.begin ≤ v.begin) (λ x lt l. absurd (omega arith)) vs above);
 }
 
 -- a version that the first one is below is the newest at ts, or all are above
@@ -71,7 +74,8 @@ cell_at-newest ts vs r = found ts vs Absent r
 
 -- ---- what a floor keeps
 
-all_kept_by : (P : Version → Type 0) (floor : ℕ) (v w : Version) (ws : List Version) (b : Bool) → nat_le w.begin floor ≡ b → All P (v ∷ w ∷ ws) → All P (kept_versions floor (w ∷ ws)) → All P (kept_versions floor (v ∷ w ∷ ws))
+all_kept_by : (P : Version → Type 0) (floor : ℕ) (v w : Version) (ws : List Version) (b : Bool) → nat_le w.begin floor ≡ b
+    → All P (v ∷ w ∷ ws) → All P (kept_versions floor (w ∷ ws)) → All P (kept_versions floor (v ∷ w ∷ ws))
 all_kept_by P floor v w ws true e h more = rw e more
 all_kept_by P floor v w ws false e h more = rw e h
 
@@ -80,7 +84,8 @@ All-kept P floor [] h = h
 All-kept P floor (v ∷ []) h = h
 All-kept P floor (v ∷ w ∷ ws) h = all_kept_by P floor v w ws (nat_le w.begin floor) refl h (All-kept P floor (w ∷ ws) (All-tail P v (w ∷ ws) h))
 
-rises_kept_by : (floor : ℕ) (v w : Version) (ws : List Version) (b : Bool) → nat_le w.begin floor ≡ b → Rises (v ∷ w ∷ ws) → Rises (kept_versions floor (w ∷ ws)) → Rises (kept_versions floor (v ∷ w ∷ ws))
+rises_kept_by : (floor : ℕ) (v w : Version) (ws : List Version) (b : Bool) → nat_le w.begin floor ≡ b → Rises (v ∷ w ∷ ws)
+    → Rises (kept_versions floor (w ∷ ws)) → Rises (kept_versions floor (v ∷ w ∷ ws))
 rises_kept_by floor v w ws true e h more = rw e more
 rises_kept_by floor v w ws false e h more = rw e h
 
@@ -90,7 +95,9 @@ Rises-kept floor (v ∷ []) h = h
 Rises-kept floor (v ∷ w ∷ ws) h = rises_kept_by floor v w ws (nat_le w.begin floor) refl h (Rises-kept floor (w ∷ ws) h.1)
 
 -- one that begins above the first is not the newest before it
-to_by : (floor : ℕ) (v w x : Version) (ws : List Version) (b : Bool) → nat_le w.begin floor ≡ b → v.begin < w.begin → IsKept floor (v ∷ w ∷ ws) x → (IsKept floor (w ∷ ws) x → Contains (kept_versions floor (w ∷ ws)) x) → Contains (kept_versions floor (v ∷ w ∷ ws)) x
+to_by : (floor : ℕ) (v w x : Version) (ws : List Version) (b : Bool) → nat_le w.begin floor ≡ b → v.begin < w.begin
+    → IsKept floor (v ∷ w ∷ ws) x → (IsKept floor (w ∷ ws) x → Contains (kept_versions floor (w ∷ ws)) x)
+    → Contains (kept_versions floor (v ∷ w ∷ ws)) x
 to_by floor v w x ws true e lt (inl (there, above)) more =
     let low : w.begin ≤ floor = grind (arith, nat_tests) in
     rw e (⊎_elim
@@ -100,7 +107,9 @@ to_by floor v w x ws true e lt (inl (there, above)) more =
 to_by floor v w x ws true e lt (inr n) more =
     let low : w.begin ≤ floor = grind (arith, nat_tests) in
     rw e (⊎_elim
-    (λ (same : v ≡ x). let under : w.begin ≤ x.begin = All-head (λ y. y.begin ≤ floor → y.begin ≤ x.begin) w ws (All-tail (λ y. y.begin ≤ floor → y.begin ≤ x.begin) v (w ∷ ws) n.newest) low in let here : w.begin ≤ v.begin = subst (λ y. w.begin ≤ y.begin) (sym same) under in absurd (omega arith))
+    (λ (same : v ≡ x). let under : w.begin ≤ x.begin = All-head (λ y. y.begin ≤ floor → y.begin ≤ x.begin) w ws
+    (All-tail (λ y. y.begin ≤ floor → y.begin ≤ x.begin) v (w ∷ ws) n.newest) low in let here : w.begin ≤ v.begin = subst
+    (λ y. w.begin ≤ y.begin) (sym same) under in absurd (omega arith))
     (λ there. more (inr (record { there = there; low = n.low; newest = All-tail (λ y. y.begin ≤ floor → y.begin ≤ x.begin) v (w ∷ ws) n.newest })))
     (contains_cases v x (w ∷ ws) n.there))
 to_by floor v w x ws false e lt (inl (there, above)) more = rw e there
@@ -124,7 +133,9 @@ kept_first floor v vs above = ⊎_elim (λ lt. inl (contains_head v vs, lt)) (λ
 all_above : (floor : ℕ) (w : Version) (ws : List Version) → floor < w.begin → Rises (w ∷ ws) → All (λ y. floor < y.begin) (w ∷ ws)
 all_above floor w ws lt r = All-cons (λ y. floor < y.begin) w ws lt (All-weaker (λ y. w.begin < y.begin) (λ y. floor < y.begin) (λ y l. omega arith) ws r.0)
 
-from_by : (floor : ℕ) (v w x : Version) (ws : List Version) (b : Bool) → nat_le w.begin floor ≡ b → Rises (v ∷ w ∷ ws) → Contains (kept_versions floor (v ∷ w ∷ ws)) x → (Contains (kept_versions floor (w ∷ ws)) x → IsKept floor (w ∷ ws) x) → IsKept floor (v ∷ w ∷ ws) x
+from_by : (floor : ℕ) (v w x : Version) (ws : List Version) (b : Bool) → nat_le w.begin floor ≡ b → Rises (v ∷ w ∷ ws)
+    → Contains (kept_versions floor (v ∷ w ∷ ws)) x → (Contains (kept_versions floor (w ∷ ws)) x → IsKept floor (w ∷ ws) x)
+    → IsKept floor (v ∷ w ∷ ws) x
 from_by floor v w x ws true e r m more = kept_behind floor v x (w ∷ ws) r.0 (more (rw e at m))
 from_by floor v w x ws false e r m more =
     let past : floor < w.begin = grind (arith, nat_tests) in

@@ -1,5 +1,6 @@
 -- The cell at a time, of versions one after another.
-use Rattle.std.proofs.Common.{◌≡◌, ℕ, zero, suc, ◌-◌, ◌<◌, ◌≤◌, Bool, true, false, List, [], ◌∷◌, ◌++◌, length, drop, get_or, refl, ◌∙◌, arith, if◌then◌else◌, nat_le}
+use Rattle.std.proofs.Common.{◌≡◌, ℕ, zero, suc, ◌-◌, ◌<◌, ◌≤◌, Bool, true, false, List, [], ◌∷◌, ◌++◌, length, drop, get_or, refl, ◌∙◌}
+use Rattle.std.proofs.Common.{arith, if◌then◌else◌, nat_le}
 use Rattle.std.proofs.lemmas.Bool.Decides.{nat_tests}
 use Rattle.std.proofs.lemmas.List.Elements.{All-head, All-tail}
 use Rattle.bohm_tree.specs.declared.cell.Cell.{Cell}
@@ -29,14 +30,16 @@ cell_at-up_to top ts (v ∷ vs) c h le =
     rw (at_top, at_ts) (cell_at-up_to top ts vs v.cell (All-tail (λ v. v.begin ≤ top) v vs h) le)
 
 -- the last one at or below the time is the one that counts
-found_from : (ts i : ℕ) (vs : List Version) (d : Version) (c : Cell) → i < length vs → (get_or vs i d).begin ≤ ts → Above ts (drop (suc i) vs) → cell_at ts vs c ≡ (get_or vs i d).cell
+found_from : (ts i : ℕ) (vs : List Version) (d : Version) (c : Cell) → i < length vs → (get_or vs i d).begin ≤ ts
+    → Above ts (drop (suc i) vs) → cell_at ts vs c ≡ (get_or vs i d).cell
 found_from ts i [] d c inside low above = absurd (omega arith)
 found_from ts zero (v ∷ vs) d c inside low above =
     let here : nat_le v.begin ts ≡ true = grind (arith, nat_tests) in
     rw here (cell_at-above ts vs v.cell above)
 found_from ts (suc i) (v ∷ vs) d c inside low above = found_from ts i vs d (if nat_le v.begin ts then v.cell else c) (omega arith) low above
 
-pub cell_at-found : (ts n : ℕ) (vs : List Version) (d : Version) (c : Cell) → 0 < n → n ≤ length vs → (get_or vs (n - 1) d).begin ≤ ts → Above ts (drop n vs) → cell_at ts vs c ≡ (get_or vs (n - 1) d).cell
+pub cell_at-found : (ts n : ℕ) (vs : List Version) (d : Version) (c : Cell) → 0 < n → n ≤ length vs → (get_or vs (n - 1) d).begin ≤ ts
+    → Above ts (drop n vs) → cell_at ts vs c ≡ (get_or vs (n - 1) d).cell
 cell_at-found ts zero vs d c pos inside low above = absurd (omega arith)
 cell_at-found ts (suc i) vs d c pos inside low above =
     let e : suc i - 1 ≡ i = omega arith in

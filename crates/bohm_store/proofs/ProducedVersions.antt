@@ -1,5 +1,6 @@
 -- What transactions that run one after another produce: versions that rise, and say what each key holds after each of them.
-use Rattle.std.proofs.Common.{◌≡◌, ℕ, suc, ◌+◌, ◌-◌, ◌<◌, ◌≤◌, Bool, true, false, List, [], ◌∷◌, ◌++◌, length, All, refl, sym, ap, ◌∙◌, arith, if◌then◌else◌, nat_le, ⊎_elim}
+use Rattle.std.proofs.Common.{◌≡◌, ℕ, suc, ◌+◌, ◌-◌, ◌<◌, ◌≤◌, Bool, true, false, List, [], ◌∷◌, ◌++◌, length, All, refl, sym, ap, ◌∙◌}
+use Rattle.std.proofs.Common.{arith, if◌then◌else◌, nat_le, ⊎_elim}
 use Rattle.std.specs.List.{list_any}
 use Rattle.std.proofs.lemmas.Bool.{cases_lt, or_left, or_right, true≢false}
 use Rattle.std.proofs.lemmas.Bool.Decides.{nat_tests}
@@ -32,18 +33,27 @@ all_one P false u c h = All-nil P
 
 pub produced_from : (n u : ℕ) (look : Look) (ts : List Txn) (k : List ℕ) → n < u → Above n (produced_versions u look ts k)
 produced_from n u look [] k lt = All-nil (λ v. n < v.begin)
-produced_from n u look (t ∷ ts) k lt = All-append (λ v. n < v.begin) (one (is_among t.writes k) u (after look t k)) (produced_versions (u + 1) (after look t) ts k) (all_one (λ v. n < v.begin) (is_among t.writes k) u (after look t k) lt) (produced_from n (u + 1) (after look t) ts k (omega arith))
+produced_from n u look (t ∷ ts) k lt =
+    All-append (λ v. n < v.begin) (one (is_among t.writes k) u (after look t k)) (produced_versions (u + 1) (after look t) ts k)
+    (all_one (λ v. n < v.begin) (is_among t.writes k) u (after look t k) lt) (produced_from n (u + 1) (after look t) ts k (omega arith))
 
 pub produced_up_to : (top u : ℕ) (look : Look) (ts : List Txn) (k : List ℕ) → u + length ts ≤ top + 1 → UpTo top (produced_versions u look ts k)
 produced_up_to top u look [] k le = All-nil (λ v. v.begin ≤ top)
-produced_up_to top u look (t ∷ ts) k le = All-append (λ v. v.begin ≤ top) (one (is_among t.writes k) u (after look t k)) (produced_versions (u + 1) (after look t) ts k) (all_one (λ v. v.begin ≤ top) (is_among t.writes k) u (after look t k) (omega arith)) (produced_up_to top (u + 1) (after look t) ts k (omega arith))
+produced_up_to top u look (t ∷ ts) k le =
+    All-append (λ v. v.begin ≤ top) (one (is_among t.writes k) u (after look t k)) (produced_versions (u + 1) (after look t) ts k)
+    (all_one (λ v. v.begin ≤ top) (is_among t.writes k) u (after look t k) (omega arith))
+    (produced_up_to top (u + 1) (after look t) ts k (omega arith))
 
 -- versions that rise, behind ones that rise and begin before them
 pub Rises-append : (top : ℕ) (vs ws : List Version) → Rises vs → Rises ws → UpTo top vs → Above top ws → Rises (vs ++ ws)
 Rises-append top [] ws r s low above = s
 Rises-append top (v ∷ vs) ws r s low above =
-    let first : v.begin ≤ top = All-head (λ x. x.begin ≤ top) v vs low in
-    (All-append (λ x. v.begin < x.begin) vs ws r.0 (All-weaker (λ x. top < x.begin) (λ x. v.begin < x.begin) (λ x lt. omega arith) ws above), Rises-append top vs ws r.1 s (All-tail (λ x. x.begin ≤ top) v vs low) above)
+    let first : v.begin ≤ top = All-head (λ x. x.begin ≤ top) v vs low in (
+      All-append (λ x. v.begin < x.begin) vs ws r.0
+          (All-weaker (λ x. top < x.begin) (λ x. v.begin < x.begin) (λ x lt. omega arith) ws above),
+      Rises-append top vs ws r.1 s
+          (All-tail (λ x. x.begin ≤ top) v vs low) above,
+    )
 
 rises_one : (b : Bool) (u : ℕ) (c : Cell) → Rises (one b u c)
 rises_one true u c = (All-nil (λ x. u < x.begin), tt)
@@ -51,7 +61,11 @@ rises_one false u c = tt
 
 pub produced_rises : (u : ℕ) (look : Look) (ts : List Txn) (k : List ℕ) → Rises (produced_versions u look ts k)
 produced_rises u look [] k = tt
-produced_rises u look (t ∷ ts) k = Rises-append u (one (is_among t.writes k) u (after look t k)) (produced_versions (u + 1) (after look t) ts k) (rises_one (is_among t.writes k) u (after look t k)) (produced_rises (u + 1) (after look t) ts k) (all_one (λ v. v.begin ≤ u) (is_among t.writes k) u (after look t k) (omega arith)) (produced_from u (u + 1) (after look t) ts k (omega arith))
+produced_rises u look (t ∷ ts) k =
+    Rises-append u (one (is_among t.writes k) u (after look t k)) (produced_versions (u + 1) (after look t) ts k)
+    (rises_one (is_among t.writes k) u (after look t k)) (produced_rises (u + 1) (after look t) ts k)
+    (all_one (λ v. v.begin ≤ u) (is_among t.writes k) u (after look t k) (omega arith))
+    (produced_from u (u + 1) (after look t) ts k (omega arith))
 
 -- ---- what they say
 
@@ -63,7 +77,8 @@ unwritten : (look : Look) (t : Txn) (k : List ℕ) → IsWellFormedTxn t → is_
 unwritten look t k well none = kept look t k (usable t well) (λ among. true≢false (sym among ∙ none))
 
 -- after the transaction at ts each key holds what the newest of them at or below ts says
-pub produced_state : (n ts : ℕ) (look : Look) (txns : List Txn) (k : List ℕ) → All IsWellFormedTxn txns → ts ≤ n + length txns → n ≤ ts → cell_at ts (produced_versions (n + 1) look txns k) (look k) ≡ state look txns (ts - n) k
+pub produced_state : (n ts : ℕ) (look : Look) (txns : List Txn) (k : List ℕ) → All IsWellFormedTxn txns → ts ≤ n + length txns → n ≤ ts
+    → cell_at ts (produced_versions (n + 1) look txns k) (look k) ≡ state look txns (ts - n) k
 produced_state n ts look [] k well high low = let none : ts - n ≡ 0 = omega arith in rw none refl
 produced_state n ts look (t ∷ txns) k well high low = ⊎_elim
     (λ (lt : n < ts).
@@ -71,7 +86,8 @@ produced_state n ts look (t ∷ txns) k well high low = ⊎_elim
     let head = one (is_among t.writes k) (n + 1) (after look t k) in
     let rest = produced_versions (n + 1 + 1) (after look t) txns k in
     cell_at-append ts head rest (look k)
-    ∙ ap (cell_at ts rest) (one_by (n + 1) ts (is_among t.writes k) (after look t k) (look k) (omega arith) (unwritten look t k (All-head IsWellFormedTxn t txns well)))
+    ∙ ap (cell_at ts rest) (one_by (n + 1) ts (is_among t.writes k) (after look t k) (look k) (omega arith)
+    (unwritten look t k (All-head IsWellFormedTxn t txns well)))
     ∙ produced_state (n + 1) ts (after look t) txns k (All-tail IsWellFormedTxn t txns well) (omega arith) (omega arith)
     ∙ rw next refl)
     (λ (le : ts ≤ n).
@@ -81,8 +97,11 @@ produced_state n ts look (t ∷ txns) k well high low = ⊎_elim
 
 -- ---- what keys that no transaction declares hold doesn't matter
 
-agree_after : (look other : Look) (t : Txn) (txns : List Txn) → IsWellFormedTxn t → Agree (t ∷ txns) look other → Agree (t ∷ txns) (after look t) (after other t)
-agree_after look other t txns well same = λ k declared. same_after look other t k (same_reads look other t (usable t well) (λ j among. same j (or_left (declares_key j t) (list_any (declares_key j) txns) (or_left (is_among t.reads j) (is_among t.writes j) among)))) (same k declared)
+agree_after : (look other : Look) (t : Txn) (txns : List Txn) → IsWellFormedTxn t → Agree (t ∷ txns) look other
+    → Agree (t ∷ txns) (after look t) (after other t)
+agree_after look other t txns well same =
+    λ k declared. same_after look other t k (same_reads look other t (usable t well) (λ j among. same j
+    (or_left (declares_key j t) (list_any (declares_key j) txns) (or_left (is_among t.reads j) (is_among t.writes j) among)))) (same k declared)
 
 one_same : (b : Bool) (u : ℕ) (c d : Cell) → (b ≡ true → c ≡ d) → one b u c ≡ one b u d
 one_same true u c d same = ap (λ x. record { begin = u; cell = x } ∷ []) (same refl)
@@ -91,20 +110,28 @@ one_same false u c d same = refl
 both : (xs ys us vs : List Version) → xs ≡ us → ys ≡ vs → xs ++ ys ≡ us ++ vs
 both xs ys us vs e f = rw (e, f) refl
 
-pub produced_same : (u : ℕ) (look other : Look) (txns : List Txn) (k : List ℕ) → All IsWellFormedTxn txns → Agree txns look other → produced_versions u look txns k ≡ produced_versions u other txns k
+pub produced_same : (u : ℕ) (look other : Look) (txns : List Txn) (k : List ℕ) → All IsWellFormedTxn txns → Agree txns look other
+    → produced_versions u look txns k ≡ produced_versions u other txns k
 produced_same u look other [] k well same = refl
 produced_same u look other (t ∷ txns) k well same =
     let next = agree_after look other t txns (All-head IsWellFormedTxn t txns well) same in
-    both (one (is_among t.writes k) u (after look t k)) (produced_versions (u + 1) (after look t) txns k) (one (is_among t.writes k) u (after other t k)) (produced_versions (u + 1) (after other t) txns k)
-    (one_same (is_among t.writes k) u (after look t k) (after other t k) (λ among. next k (or_left (declares_key k t) (list_any (declares_key k) txns) (or_right (is_among t.reads k) (is_among t.writes k) among))))
-    (produced_same (u + 1) (after look t) (after other t) txns k (All-tail IsWellFormedTxn t txns well) (λ j declared. next j (or_right (declares_key j t) (list_any (declares_key j) txns) declared)))
+    both (one (is_among t.writes k) u (after look t k)) (produced_versions (u + 1) (after look t) txns k)
+    (one (is_among t.writes k) u (after other t k)) (produced_versions (u + 1) (after other t) txns k)
+    (one_same (is_among t.writes k) u (after look t k) (after other t k)
+    (λ among. next k (or_left (declares_key k t) (list_any (declares_key k) txns) (or_right (is_among t.reads k) (is_among t.writes k) among))))
+    (produced_same (u + 1) (after look t) (after other t) txns k (All-tail IsWellFormedTxn t txns well)
+    (λ j declared. next j (or_right (declares_key j t) (list_any (declares_key j) txns) declared)))
 
 pub replies_same : (look other : Look) (txns : List Txn) → All IsWellFormedTxn txns → Agree txns look other → replies look txns ≡ replies other txns
 replies_same look other [] well same = refl
 replies_same look other (t ∷ txns) well same =
     let next = agree_after look other t txns (All-head IsWellFormedTxn t txns well) same in
-    let here : body look t ≡ body other t = same_reads look other t (usable t (All-head IsWellFormedTxn t txns well)) (λ j among. same j (or_left (declares_key j t) (list_any (declares_key j) txns) (or_left (is_among t.reads j) (is_among t.writes j) among))) in
-    let rest = replies_same (after look t) (after other t) txns (All-tail IsWellFormedTxn t txns well) (λ j declared. next j (or_right (declares_key j t) (list_any (declares_key j) txns) declared)) in
+    let here : body look t ≡ body other t =
+    same_reads look other t (usable t (All-head IsWellFormedTxn t txns well))
+    (λ j among. same j (or_left (declares_key j t) (list_any (declares_key j) txns) (or_left (is_among t.reads j) (is_among t.writes j) among))) in
+    let rest =
+    replies_same (after look t) (after other t) txns (All-tail IsWellFormedTxn t txns well)
+    (λ j declared. next j (or_right (declares_key j t) (list_any (declares_key j) txns) declared)) in
     λ i. reply_of (here i) ∷ rest i
 
 -- so the next batch answers over its base what it answers over the past at the top

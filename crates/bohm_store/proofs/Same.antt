@@ -16,14 +16,16 @@ use Rattle.bohm_store.proofs.Named.{mapped_versions}
 
 -- ---- more names, and more room
 
-pub named_more : (h : Numbered) (names names' : List (List ℕ)) → length h.newest ≤ length names → ((n : ℕ) → length h.newest ≤ n → versions_at h n ≡ []) → Begins names names' → IsSame (timeline names h) (timeline names' h)
+pub named_more : (h : Numbered) (names names' : List (List ℕ)) → length h.newest ≤ length names
+    → ((n : ℕ) → length h.newest ≤ n → versions_at h n ≡ []) → Begins names names' → IsSame (timeline names h) (timeline names' h)
 named_more h names names' long behind (more, is) = rw is (record {
   floor = refl;
   top = refl;
   versions = λ k. longer_names (versions_at h) (versions_at h) 0 names more k (λ n. refl) (λ n le. behind n (omega (arith, le, long)));
 })
 
-pub covered_same : (names : List (List ℕ)) (old new : Numbered) → new.floor ≡ old.floor → new.top ≡ old.top → ((n : ℕ) → versions_at new n ≡ versions_at old n) → IsSame (timeline names old) (timeline names new)
+pub covered_same : (names : List (List ℕ)) (old new : Numbered) → new.floor ≡ old.floor → new.top ≡ old.top
+    → ((n : ℕ) → versions_at new n ≡ versions_at old n) → IsSame (timeline names old) (timeline names new)
 covered_same names old new floor top same = record {
   floor = floor;
   top = top;
@@ -31,7 +33,8 @@ covered_same names old new floor top same = record {
 }
 
 -- the names behind those with room have no versions
-pub shorter : (h : Numbered) (names : List (List ℕ)) (m : ℕ) (k : List ℕ) → m ≤ length names → ((n : ℕ) → m ≤ n → versions_at h n ≡ []) → versions (timeline names h) k ≡ versions (timeline (take m names) h) k
+pub shorter : (h : Numbered) (names : List (List ℕ)) (m : ℕ) (k : List ℕ) → m ≤ length names → ((n : ℕ) → m ≤ n → versions_at h n ≡ [])
+    → versions (timeline names h) k ≡ versions (timeline (take m names) h) k
 shorter h names m k low behind =
     let whole : names ≡ take m names ++ drop m names = sym (take-append-drop m names) in
     let len : length (take m names) ≡ m = length-take-le m names low in

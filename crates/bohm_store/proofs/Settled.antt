@@ -35,25 +35,36 @@ module _ (names : List (List ℕ)) (b : Batch) (old new : Numbered) (ws : List N
 
   -- the newest of all versions is what the batch leaves of what is held
   newest_of : (n : ℕ) (ps : List Version) → newest_only (versions_at old n ++ ps) ≡ newest_only (held_at old.newest n ++ ps)
-  newest_of n ps = ap newest_only (append_assoc (older_of old.older n) (held_at old.newest n) ps) ∙ newest_held (older_of old.older n) (held_at old.newest n) ps (ends_of old.older n) (h.linked n) (as_many old.older n)
+  newest_of n ps =
+      ap newest_only (append_assoc (older_of old.older n) (held_at old.newest n) ps)
+      ∙ newest_held (older_of old.older n) (held_at old.newest n) ps (ends_of old.older n) (h.linked n) (as_many old.older n)
 
   left : (n : ℕ) → versions_at new n ≡ newest_only (versions_at old n ++ versions_by ws n)
   left n = alone n ∙ done n ∙ sym (newest_of n (versions_by ws n))
 
-  grown_up : (n : ℕ) (k : List ℕ) → UpTo (old.top + length (txns_of b)) (versions_at old n ++ produced_versions (old.top + 1) (past (timeline names old) old.top) (txns_of b) k)
-  grown_up n k = settled_low old.top (past (timeline names old) old.top) (txns_of b) k (versions_at old n) (versions_at old n ++ produced_versions (old.top + 1) (past (timeline names old) old.top) (txns_of b) k) refl (h.low n)
+  grown_up : (n : ℕ) (k : List ℕ)
+      → UpTo (old.top + length (txns_of b)) (versions_at old n ++ produced_versions (old.top + 1) (past (timeline names old) old.top) (txns_of b) k)
+  grown_up n k =
+      settled_low old.top (past (timeline names old) old.top) (txns_of b) k (versions_at old n)
+      (versions_at old n ++ produced_versions (old.top + 1) (past (timeline names old) old.top) (txns_of b) k) refl (h.low n)
 
   by_writes : (n : ℕ) → n < length names → versions_by ws n ≡ produced_versions (old.top + 1) (past (timeline names old) old.top) (txns_of b) (name_at names n)
   by_writes n inside = sym (keyed_versions names ws n apart writes.below inside) ∙ made names b old ws h apart next writes.below writes.listed (name_at names n)
 
-  pub grown : (n : ℕ) → n < length names → versions_at new n ≡ kept_versions (old.top + length (txns_of b)) (versions_at old n ++ produced_versions (old.top + 1) (past (timeline names old) old.top) (txns_of b) (name_at names n))
+  pub grown : (n : ℕ) → n < length names
+      → versions_at new n ≡ kept_versions (old.top + length (txns_of b))
+      (versions_at old n ++ produced_versions (old.top + 1) (past (timeline names old) old.top) (txns_of b) (name_at names n))
   grown n inside =
       left n
       ∙ ap (λ (xs : List Version). newest_only (versions_at old n ++ xs)) (by_writes n inside)
-      ∙ sym (kept_newest (old.top + length (txns_of b)) (versions_at old n ++ produced_versions (old.top + 1) (past (timeline names old) old.top) (txns_of b) (name_at names n)) (grown_up n (name_at names n)))
+      ∙ sym (kept_newest (old.top + length (txns_of b))
+      (versions_at old n ++ produced_versions (old.top + 1) (past (timeline names old) old.top) (txns_of b) (name_at names n))
+      (grown_up n (name_at names n)))
 
   up_to_end : (n : ℕ) → UpTo (old.top + length (txns_of b)) (versions_at old n)
-  up_to_end n = All-weaker (λ (v : Version). v.begin ≤ old.top) (λ (v : Version). v.begin ≤ old.top + length (txns_of b)) (λ v l. omega arith) (versions_at old n) (h.low n)
+  up_to_end n =
+      All-weaker (λ (v : Version). v.begin ≤ old.top) (λ (v : Version). v.begin ≤ old.top + length (txns_of b)) (λ v l. omega arith)
+      (versions_at old n) (h.low n)
 
   unnamed : (n : ℕ) → length names ≤ n → versions_at new n ≡ kept_versions (old.top + length (txns_of b)) (versions_at old n)
   unnamed n out =
@@ -64,8 +75,11 @@ module _ (names : List (List ℕ)) (b : Batch) (old new : Numbered) (ws : List N
 
   low_of : (n : ℕ) → UpTo (old.top + length (txns_of b)) (versions_at new n)
   low_of n = ⊎_elim
-      (λ lt. rw (grown n lt) (All-kept (λ (v : Version). v.begin ≤ old.top + length (txns_of b)) (old.top + length (txns_of b)) (versions_at old n ++ produced_versions (old.top + 1) (past (timeline names old) old.top) (txns_of b) (name_at names n)) (grown_up n (name_at names n))))
-      (λ le. rw (unnamed n le) (All-kept (λ (v : Version). v.begin ≤ old.top + length (txns_of b)) (old.top + length (txns_of b)) (versions_at old n) (up_to_end n)))
+      (λ lt. rw (grown n lt) (All-kept (λ (v : Version). v.begin ≤ old.top + length (txns_of b)) (old.top + length (txns_of b))
+      (versions_at old n ++ produced_versions (old.top + 1) (past (timeline names old) old.top) (txns_of b) (name_at names n))
+      (grown_up n (name_at names n))))
+      (λ le. rw (unnamed n le) (All-kept (λ (v : Version). v.begin ≤ old.top + length (txns_of b)) (old.top + length (txns_of b))
+      (versions_at old n) (up_to_end n)))
       (cases_lt n (length names))
 
   rising_of : (n : ℕ) → Rises (versions_at new n)
@@ -81,9 +95,11 @@ module _ (names : List (List ℕ)) (b : Batch) (old new : Numbered) (ws : List N
     due = rw gone (All-nil (λ (o : Older). new.floor < o.end));
   }
 
-  none_grown : (k : List ℕ) → is_among names k ≡ false → kept_versions (old.top + length (txns_of b)) ([] ++ produced_versions (old.top + 1) (past (timeline names old) old.top) (txns_of b) k) ≡ []
+  none_grown : (k : List ℕ) → is_among names k ≡ false
+      → kept_versions (old.top + length (txns_of b)) ([] ++ produced_versions (old.top + 1) (past (timeline names old) old.top) (txns_of b) k) ≡ []
   none_grown k absent =
-      let none : produced_versions (old.top + 1) (past (timeline names old) old.top) (txns_of b) k ≡ [] = sym (made names b old ws h apart next writes.below writes.listed k) ∙ unnamed_versions names ws k writes.below absent in
+      let none : produced_versions (old.top + 1) (past (timeline names old) old.top) (txns_of b) k ≡ [] =
+      sym (made names b old ws h apart next writes.below writes.listed k) ∙ unnamed_versions names ws k writes.below absent in
       ap (λ (vs : List Version). kept_versions (old.top + length (txns_of b)) ([] ++ vs)) none
 
   pub settled_kept : IsSettledKept (timeline names old) (timeline names new) (txns_of b) (old.top + length (txns_of b))
@@ -91,4 +107,5 @@ module _ (names : List (List ℕ)) (b : Batch) (old new : Numbered) (ws : List N
       (by_key names old (λ k vs. UpTo old.top vs) apart (λ n lt. h.low n) (λ k absent. All-nil (λ (v : Version). v.begin ≤ old.top)))
       (omega (arith, floor, h.ordered)) top
       (λ le. absurd (omega (arith, le, h.ordered, b.batched.some)))
-      (λ lt. grown_by_key names old new (λ k vs. kept_versions (old.top + length (txns_of b)) (vs ++ produced_versions (old.top + 1) (past (timeline names old) old.top) (txns_of b) k)) apart grown none_grown)
+      (λ lt. grown_by_key names old new (λ k vs. kept_versions (old.top + length (txns_of b))
+      (vs ++ produced_versions (old.top + 1) (past (timeline names old) old.top) (txns_of b) k)) apart grown none_grown)

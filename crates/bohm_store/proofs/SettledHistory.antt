@@ -17,29 +17,43 @@ use Rattle.bohm_store.proofs.ProducedVersions.{Rises-append, produced_from, prod
 use Rattle.bohm_store.proofs.WrittenVersions.{made_written}
 
 -- the writes make what the transactions produce over a look that agrees
-pub made_produced : (u : ℕ) (look other : Look) (txns : List Txn) (ws : List KeyedVersion) (k : List ℕ) → All IsWellFormedTxn txns → Agree txns look other → ws ≡ all_txn_writes u look txns → versions_of_writes ws k ≡ produced_versions u other txns k
-made_produced u look other txns ws k well same is = ap (λ (xs : List KeyedVersion). versions_of_writes xs k) is ∙ made_written u look txns k well ∙ produced_same u look other txns k well same
+pub made_produced : (u : ℕ) (look other : Look) (txns : List Txn) (ws : List KeyedVersion) (k : List ℕ) → All IsWellFormedTxn txns
+    → Agree txns look other → ws ≡ all_txn_writes u look txns → versions_of_writes ws k ≡ produced_versions u other txns k
+made_produced u look other txns ws k well same is =
+    ap (λ (xs : List KeyedVersion). versions_of_writes xs k) is ∙ made_written u look txns k well ∙ produced_same u look other txns k well same
 
-pub settled_low : (top : ℕ) (look : Look) (txns : List Txn) (k : List ℕ) (old new : List Version) → new ≡ old ++ produced_versions (top + 1) look txns k → UpTo top old → UpTo (top + length txns) new
+pub settled_low : (top : ℕ) (look : Look) (txns : List Txn) (k : List ℕ) (old new : List Version)
+    → new ≡ old ++ produced_versions (top + 1) look txns k → UpTo top old → UpTo (top + length txns) new
 settled_low top look txns k old new is low =
-    rw is (All-append (λ (v : Version). v.begin ≤ top + length txns) old (produced_versions (top + 1) look txns k) (All-weaker (λ (v : Version). v.begin ≤ top) (λ (v : Version). v.begin ≤ top + length txns) (λ v l. omega arith) old low) (produced_up_to (top + length txns) (top + 1) look txns k (omega arith)))
+    rw is (All-append (λ (v : Version). v.begin ≤ top + length txns) old (produced_versions (top + 1) look txns k)
+    (All-weaker (λ (v : Version). v.begin ≤ top) (λ (v : Version). v.begin ≤ top + length txns) (λ v l. omega arith) old low)
+    (produced_up_to (top + length txns) (top + 1) look txns k (omega arith)))
 
-pub settled_rises : (top : ℕ) (look : Look) (txns : List Txn) (k : List ℕ) (old new : List Version) → new ≡ old ++ produced_versions (top + 1) look txns k → UpTo top old → Rises old → Rises new
-settled_rises top look txns k old new is low rises = rw is (Rises-append top old (produced_versions (top + 1) look txns k) rises (produced_rises (top + 1) look txns k) low (produced_from top (top + 1) look txns k (omega arith)))
+pub settled_rises : (top : ℕ) (look : Look) (txns : List Txn) (k : List ℕ) (old new : List Version)
+    → new ≡ old ++ produced_versions (top + 1) look txns k → UpTo top old → Rises old → Rises new
+settled_rises top look txns k old new is low rises =
+    rw is (Rises-append top old (produced_versions (top + 1) look txns k) rises (produced_rises (top + 1) look txns k) low
+    (produced_from top (top + 1) look txns k (omega arith)))
 
-pub settled_earlier : (top ts : ℕ) (look : Look) (txns : List Txn) (k : List ℕ) (old new : List Version) → new ≡ old ++ produced_versions (top + 1) look txns k → ts ≤ top → cell_at ts new Absent ≡ cell_at ts old Absent
+pub settled_earlier : (top ts : ℕ) (look : Look) (txns : List Txn) (k : List ℕ) (old new : List Version)
+    → new ≡ old ++ produced_versions (top + 1) look txns k → ts ≤ top → cell_at ts new Absent ≡ cell_at ts old Absent
 settled_earlier top ts look txns k old new is le =
-    rw is (cell_at-append ts old (produced_versions (top + 1) look txns k) Absent ∙ cell_at-above ts (produced_versions (top + 1) look txns k) (cell_at ts old Absent) (produced_from ts (top + 1) look txns k (omega arith)))
+    rw is (cell_at-append ts old (produced_versions (top + 1) look txns k) Absent
+    ∙ cell_at-above ts (produced_versions (top + 1) look txns k) (cell_at ts old Absent) (produced_from ts (top + 1) look txns k (omega arith)))
 
-pub settled_later : (top ts : ℕ) (look : Look) (txns : List Txn) (k : List ℕ) (old new : List Version) → new ≡ old ++ produced_versions (top + 1) look txns k → UpTo top old → look k ≡ cell_at top old Absent → All IsWellFormedTxn txns → top ≤ ts → ts ≤ top + length txns → cell_at ts new Absent ≡ state look txns (ts - top) k
+pub settled_later : (top ts : ℕ) (look : Look) (txns : List Txn) (k : List ℕ) (old new : List Version)
+    → new ≡ old ++ produced_versions (top + 1) look txns k → UpTo top old → look k ≡ cell_at top old Absent → All IsWellFormedTxn txns
+    → top ≤ ts → ts ≤ top + length txns → cell_at ts new Absent ≡ state look txns (ts - top) k
 settled_later top ts look txns k old new is low at well from to =
     let here : cell_at ts old Absent ≡ look k = cell_at-up_to top ts old Absent low from ∙ sym at in
-    rw is (cell_at-append ts old (produced_versions (top + 1) look txns k) Absent ∙ ap (cell_at ts (produced_versions (top + 1) look txns k)) here ∙ produced_state top ts look txns k well to from)
+    rw is (cell_at-append ts old (produced_versions (top + 1) look txns k) Absent
+    ∙ ap (cell_at ts (produced_versions (top + 1) look txns k)) here ∙ produced_state top ts look txns k well to from)
 
 -- ---- the same, and then trimmed
 
 pub settled_trimmed : (was mid now : Timeline) (txns : List Txn) (low : ℕ) → IsSettled was mid txns → now.floor ≡ max mid.floor low → now.top ≡ mid.top
-    → (mid.floor < low → (k : List ℕ) → versions now k ≡ kept_versions low (versions mid k)) → (low ≤ mid.floor → (k : List ℕ) → versions now k ≡ versions mid k)
+    → (mid.floor < low → (k : List ℕ) → versions now k ≡ kept_versions low (versions mid k))
+    → (low ≤ mid.floor → (k : List ℕ) → versions now k ≡ versions mid k)
     → ((ts : ℕ) → now.floor ≤ ts → past now ts ≡ past mid ts) → IsSettledKept was now txns low
 settled_trimmed was mid now txns low h floor top less same seen = record {
   floor = rw h.floor at floor;

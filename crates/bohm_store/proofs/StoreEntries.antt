@@ -16,15 +16,18 @@ use Rattle.bohm_txn.proofs.ForCallers.{get-store_of}
 
 -- ---- the keys differ
 
-all_pick : (P : List ℕ → Type 0) (k : List ℕ) (c : Cell) (rest : List (List ℕ × ℤ)) → P k → AllByRecursion P (keys_of rest) → AllByRecursion P (keys_of (cell_entry k c rest))
+all_pick : (P : List ℕ → Type 0) (k : List ℕ) (c : Cell) (rest : List (List ℕ × ℤ)) → P k → AllByRecursion P (keys_of rest)
+    → AllByRecursion P (keys_of (cell_entry k c rest))
 all_pick P k Absent rest p h = h
 all_pick P k (Present z) rest p h = (p, h)
 
-all_held : (P : List ℕ → Type 0) (ts : ℕ) (es : List (List ℕ × List Version)) → AllByRecursion P (keys_of es) → AllByRecursion P (keys_of (timeline_entries_at ts es))
+all_held : (P : List ℕ → Type 0) (ts : ℕ) (es : List (List ℕ × List Version)) → AllByRecursion P (keys_of es)
+    → AllByRecursion P (keys_of (timeline_entries_at ts es))
 all_held P ts [] h = h
 all_held P ts (e ∷ es) h = all_pick P e.0 (cell_at ts e.1 Absent) (timeline_entries_at ts es) h.0 (all_held P ts es h.1)
 
-distinct_pick : (k : List ℕ) (c : Cell) (rest : List (List ℕ × ℤ)) → AllByRecursion (λ y. bytes_eq k y ≡ false) (keys_of rest) → IsDistinct bytes_eq (keys_of rest) → IsDistinct bytes_eq (keys_of (cell_entry k c rest))
+distinct_pick : (k : List ℕ) (c : Cell) (rest : List (List ℕ × ℤ)) → AllByRecursion (λ y. bytes_eq k y ≡ false) (keys_of rest)
+    → IsDistinct bytes_eq (keys_of rest) → IsDistinct bytes_eq (keys_of (cell_entry k c rest))
 unfolding IsDistinct
 distinct_pick k Absent rest a h = h
 distinct_pick k (Present z) rest a h = (a, h)
@@ -32,17 +35,20 @@ distinct_pick k (Present z) rest a h = (a, h)
 pub distinct_held : (ts : ℕ) (es : List (List ℕ × List Version)) → IsDistinct bytes_eq (keys_of es) → IsDistinct bytes_eq (keys_of (timeline_entries_at ts es))
 unfolding IsDistinct
 distinct_held ts [] h = h
-distinct_held ts (e ∷ es) h = distinct_pick e.0 (cell_at ts e.1 Absent) (timeline_entries_at ts es) (all_held (λ y. bytes_eq e.0 y ≡ false) ts es h.0) (distinct_held ts es h.1)
+distinct_held ts (e ∷ es) h =
+    distinct_pick e.0 (cell_at ts e.1 Absent) (timeline_entries_at ts es) (all_held (λ y. bytes_eq e.0 y ≡ false) ts es h.0) (distinct_held ts es h.1)
 
 -- ---- what is listed of a key
 
-pub none_from : {X : Type 0} (x k : List ℕ) (es : List (List ℕ × X)) → bytes_eq k x ≡ true → AllByRecursion (λ y. bytes_eq x y ≡ false) (keys_of es) → lookup (bytes_eq k) es ≡ None
+pub none_from : {X : Type 0} (x k : List ℕ) (es : List (List ℕ × X)) → bytes_eq k x ≡ true
+    → AllByRecursion (λ y. bytes_eq x y ≡ false) (keys_of es) → lookup (bytes_eq k) es ≡ None
 none_from x k [] same h = refl
 none_from x k (e ∷ es) same h =
     let other : bytes_eq k e.0 ≡ false = nat_list_eq_equiv.congr k x e.0 same ∙ h.0 in
     rw other (none_from x k es same h.1)
 
-held_by : (ts : ℕ) (k : List ℕ) (e : List ℕ × List Version) (es : List (List ℕ × List Version)) (c : Cell) → cell_at ts e.1 Absent ≡ c → (b : Bool) → bytes_eq k e.0 ≡ b
+held_by : (ts : ℕ) (k : List ℕ) (e : List ℕ × List Version) (es : List (List ℕ × List Version)) (c : Cell) → cell_at ts e.1 Absent ≡ c
+    → (b : Bool) → bytes_eq k e.0 ≡ b
     → (bytes_eq k e.0 ≡ true → lookup (bytes_eq k) es ≡ None)
     → lookup (bytes_eq k) (timeline_entries_at ts es) ≡ number_in (cell_at ts (unwrap_or (lookup (bytes_eq k) es) []) Absent)
     → lookup (bytes_eq k) (timeline_entries_at ts (e ∷ es)) ≡ number_in (cell_at ts (unwrap_or (lookup (bytes_eq k) (e ∷ es)) []) Absent)
@@ -51,15 +57,19 @@ held_by ts k e es Absent at true same none h = let gone = none same in let more 
 held_by ts k e es (Present z) at false same none h = rw (at, same) h
 held_by ts k e es Absent at false same none h = rw (at, same) h
 
-lookup_held : (ts : ℕ) (k : List ℕ) (es : List (List ℕ × List Version)) → IsDistinct bytes_eq (keys_of es) → lookup (bytes_eq k) (timeline_entries_at ts es) ≡ number_in (cell_at ts (unwrap_or (lookup (bytes_eq k) es) []) Absent)
+lookup_held : (ts : ℕ) (k : List ℕ) (es : List (List ℕ × List Version)) → IsDistinct bytes_eq (keys_of es)
+    → lookup (bytes_eq k) (timeline_entries_at ts es) ≡ number_in (cell_at ts (unwrap_or (lookup (bytes_eq k) es) []) Absent)
 unfolding IsDistinct
 lookup_held ts k [] h = refl
-lookup_held ts k (e ∷ es) h = held_by ts k e es (cell_at ts e.1 Absent) refl (bytes_eq k e.0) refl (λ same. none_from e.0 k es same h.0) (lookup_held ts k es h.1)
+lookup_held ts k (e ∷ es) h =
+    held_by ts k e es (cell_at ts e.1 Absent) refl (bytes_eq k e.0) refl (λ same. none_from e.0 k es same h.0) (lookup_held ts k es h.1)
 
 cell_again : (c : Cell) → cell_of (number_in c) ≡ c
 cell_again Absent = refl
 cell_again (Present z) = refl
 
 -- the listed store says of each key what its versions say
-pub cell_held : (ts : ℕ) (k : List ℕ) (es : List (List ℕ × List Version)) → IsDistinct bytes_eq (keys_of es) → cell_in (store_of (timeline_entries_at ts es)) k ≡ cell_at ts (unwrap_or (lookup (bytes_eq k) es) []) Absent
-cell_held ts k es h = ap cell_of (get-store_of (timeline_entries_at ts es) k ∙ lookup_held ts k es h) ∙ cell_again (cell_at ts (unwrap_or (lookup (bytes_eq k) es) []) Absent)
+pub cell_held : (ts : ℕ) (k : List ℕ) (es : List (List ℕ × List Version)) → IsDistinct bytes_eq (keys_of es)
+    → cell_in (store_of (timeline_entries_at ts es)) k ≡ cell_at ts (unwrap_or (lookup (bytes_eq k) es) []) Absent
+cell_held ts k es h =
+    ap cell_of (get-store_of (timeline_entries_at ts es) k ∙ lookup_held ts k es h) ∙ cell_again (cell_at ts (unwrap_or (lookup (bytes_eq k) es) []) Absent)

@@ -1,5 +1,6 @@
 -- The writes of transactions make the versions that they produce.
-use Rattle.std.proofs.Common.{◌≡◌, ℕ, ◌+◌, ◌<◌, ◌≤◌, Bool, true, false, List, [], ◌∷◌, ◌++◌, length, All, refl, sym, ap, ◌∙◌, arith, if◌then◌else◌, append_assoc, subst, take, drop, get_or, add-one, Some}
+use Rattle.std.proofs.Common.{◌≡◌, ℕ, ◌+◌, ◌<◌, ◌≤◌, Bool, true, false, List, [], ◌∷◌, ◌++◌, length, All, refl, sym, ap, ◌∙◌, arith}
+use Rattle.std.proofs.Common.{if◌then◌else◌, append_assoc, subst, take, drop, get_or, add-one, Some}
 use Rattle.std.specs.List.{slice_get}
 use Rattle.std.specs.Str.{bytes_eq}
 use Rattle.std.proofs.lemmas.List.{take_more}
@@ -22,46 +23,64 @@ use Rattle.bohm_store.specs.Writes.{txn_writes, all_txn_writes}
 
 made-append : (xs ys : List KeyedVersion) (k : List ℕ) → versions_of_writes (xs ++ ys) k ≡ versions_of_writes xs k ++ versions_of_writes ys k
 made-append [] ys k = refl
-made-append (x ∷ xs) ys k = rw (made-append xs ys k) (sym (append_assoc (if bytes_eq x.key k then record { begin = x.begin; cell = x.cell } ∷ [] else []) (versions_of_writes xs k) (versions_of_writes ys k)))
+made-append (x ∷ xs) ys k =
+    rw (made-append xs ys k) (sym (append_assoc (if bytes_eq x.key k then record { begin = x.begin; cell = x.cell } ∷ [] else [])
+    (versions_of_writes xs k) (versions_of_writes ys k)))
 
 made_none : (u : ℕ) (look : Look) (ks : List (List ℕ)) (k : List ℕ) → is_among ks k ≡ false → versions_of_writes (txn_writes u look ks) k ≡ []
 made_none u look [] k h = refl
 made_none u look (j ∷ ks) k h = made_none_by u look j ks k (bytes_eq j k) refl h (made_none u look ks k)
   where
-    made_none_by : (u : ℕ) (look : Look) (j : List ℕ) (ks : List (List ℕ)) (k : List ℕ) (b : Bool) → bytes_eq j k ≡ b → is_among (j ∷ ks) k ≡ false → (is_among ks k ≡ false → versions_of_writes (txn_writes u look ks) k ≡ []) → versions_of_writes (txn_writes u look (j ∷ ks)) k ≡ []
+    made_none_by : (u : ℕ) (look : Look) (j : List ℕ) (ks : List (List ℕ)) (k : List ℕ) (b : Bool) → bytes_eq j k ≡ b
+        → is_among (j ∷ ks) k ≡ false → (is_among ks k ≡ false → versions_of_writes (txn_writes u look ks) k ≡ [])
+        → versions_of_writes (txn_writes u look (j ∷ ks)) k ≡ []
     made_none_by u look j ks k true e h more = let h' = rw e at h in absurd cc
     made_none_by u look j ks k false e h more = let h' = rw e at h in rw e (more h')
 
 -- one transaction's writes make one version of each key that it declares to write
-made_once : (u : ℕ) (look : Look) (ks : List (List ℕ)) (k : List ℕ) → AreDistinct ks → versions_of_writes (txn_writes u look ks) k ≡ (if is_among ks k then record { begin = u; cell = look k } ∷ [] else [])
+made_once : (u : ℕ) (look : Look) (ks : List (List ℕ)) (k : List ℕ) → AreDistinct ks
+    → versions_of_writes (txn_writes u look ks) k ≡ (if is_among ks k then record { begin = u; cell = look k } ∷ [] else [])
 made_once u look [] k d = refl
 made_once u look (j ∷ ks) k d = made_once_by u look j ks k (bytes_eq j k) refl d.0 (made_once u look ks k d.1)
   where
-    made_once_by : (u : ℕ) (look : Look) (j : List ℕ) (ks : List (List ℕ)) (k : List ℕ) (b : Bool) → bytes_eq j k ≡ b → is_among ks j ≡ false → versions_of_writes (txn_writes u look ks) k ≡ (if is_among ks k then record { begin = u; cell = look k } ∷ [] else []) → versions_of_writes (txn_writes u look (j ∷ ks)) k ≡ (if is_among (j ∷ ks) k then record { begin = u; cell = look k } ∷ [] else [])
+    made_once_by : (u : ℕ) (look : Look) (j : List ℕ) (ks : List (List ℕ)) (k : List ℕ) (b : Bool) → bytes_eq j k ≡ b
+        → is_among ks j ≡ false
+        → versions_of_writes (txn_writes u look ks) k ≡ (if is_among ks k then record { begin = u; cell = look k } ∷ [] else [])
+        → versions_of_writes (txn_writes u look (j ∷ ks)) k ≡ (if is_among (j ∷ ks) k then record { begin = u; cell = look k } ∷ [] else [])
     made_once_by u look j ks k true e none more =
         let same : j ≡ k = (bytes_eq-Decides j k).0 e in
         let others : versions_of_writes (txn_writes u look ks) k ≡ [] = made_none u look ks k (subst (λ (x : List ℕ). is_among ks x ≡ false) same none) in
         rw (e, others) (ap (λ (x : List ℕ). record { begin = u; cell = look x } ∷ []) same)
     made_once_by u look j ks k false e none more = rw e more
 
-pub made_written : (u : ℕ) (look : Look) (txns : List Txn) (k : List ℕ) → All IsWellFormedTxn txns → versions_of_writes (all_txn_writes u look txns) k ≡ produced_versions u look txns k
+pub made_written : (u : ℕ) (look : Look) (txns : List Txn) (k : List ℕ) → All IsWellFormedTxn txns
+    → versions_of_writes (all_txn_writes u look txns) k ≡ produced_versions u look txns k
 made_written u look [] k well = refl
 made_written u look (t ∷ txns) k well =
     made-append (txn_writes u (after look t) t.writes) (all_txn_writes (u + 1) (after look t) txns) k
-    ∙ rw (made_once u (after look t) t.writes k (AreDistinct-rising t.writes (rising_writes t (All-head IsWellFormedTxn t txns well))), made_written (u + 1) (after look t) txns k (All-tail IsWellFormedTxn t txns well)) refl
+    ∙ rw (
+      made_once u (after look t) t.writes k
+          (AreDistinct-rising t.writes (rising_writes t (All-head IsWellFormedTxn t txns well))),
+      made_written (u + 1) (after look t) txns k
+          (All-tail IsWellFormedTxn t txns well),
+    ) refl
 
-climb_behind : (n u top : ℕ) (look : Look) (ks : List (List ℕ)) (ws : List KeyedVersion) → n ≤ u → u ≤ top → ((m : ℕ) → m ≤ u → Climb m ws top) → Climb n (txn_writes u look ks ++ ws) top
+climb_behind : (n u top : ℕ) (look : Look) (ks : List (List ℕ)) (ws : List KeyedVersion) → n ≤ u → u ≤ top
+    → ((m : ℕ) → m ≤ u → Climb m ws top) → Climb n (txn_writes u look ks ++ ws) top
 climb_behind n u top look [] ws low high more = more n low
 climb_behind n u top look (k ∷ ks) ws low high more = (low, climb_behind u u top look ks ws (omega arith) high more)
 
 -- they climb up to the last transaction
 pub written_climbs : (n u top : ℕ) (look : Look) (txns : List Txn) → n ≤ u → n ≤ top → u + length txns ≤ top + 1 → Climb n (all_txn_writes u look txns) top
 written_climbs n u top look [] low under high = under
-written_climbs n u top look (t ∷ txns) low under high = climb_behind n u top (after look t) t.writes (all_txn_writes (u + 1) (after look t) txns) low (omega arith) (λ m le. written_climbs m (u + 1) top (after look t) txns (omega arith) (omega arith) (omega arith))
+written_climbs n u top look (t ∷ txns) low under high =
+    climb_behind n u top (after look t) t.writes (all_txn_writes (u + 1) (after look t) txns) low (omega arith)
+    (λ m le. written_climbs m (u + 1) top (after look t) txns (omega arith) (omega arith) (omega arith))
 
 -- ---- listing them
 
-pub written_more : (u : ℕ) (look : Look) (ks : List (List ℕ)) (i : ℕ) (d : List ℕ) → i < length ks → txn_writes u look (take (i + 1) ks) ≡ txn_writes u look (take i ks) ++ record { begin = u; key = get_or ks i d; cell = look (get_or ks i d) } ∷ []
+pub written_more : (u : ℕ) (look : Look) (ks : List (List ℕ)) (i : ℕ) (d : List ℕ) → i < length ks
+    → txn_writes u look (take (i + 1) ks) ≡ txn_writes u look (take i ks) ++ record { begin = u; key = get_or ks i d; cell = look (get_or ks i d) } ∷ []
 written_more u look ks i d inside = rw (take_more ks i d inside) (pushed (take i ks) (get_or ks i d))
   where
     pushed : (xs : List (List ℕ)) (k : List ℕ) → txn_writes u look (xs ++ k ∷ []) ≡ txn_writes u look xs ++ record { begin = u; key = k; cell = look k } ∷ []
@@ -71,7 +90,8 @@ written_more u look ks i d inside = rw (take_more ks i d inside) (pushed (take i
 -- one transaction more
 pub written_step : (base : Look) (txns : List Txn) (first i : ℕ) (x : Txn) (out whole : List KeyedVersion) → slice_get txns i ≡ Some x
     → out ++ all_txn_writes (first + i) (state base txns i) (drop i txns) ≡ whole
-    → (out ++ txn_writes (first + i) (state base txns (i + 1)) x.writes) ++ all_txn_writes (first + (i + 1)) (state base txns (i + 1)) (drop (i + 1) txns) ≡ whole
+    → (out ++ txn_writes (first + i) (state base txns (i + 1)) x.writes) ++ all_txn_writes (first + (i + 1)) (state base txns (i + 1)) (drop (i + 1) txns)
+    ≡ whole
 written_step base txns first i x out whole here h =
     let after_it : state base txns (i + 1) ≡ after (state base txns i) x = rw add-one (next base txns i x here) in
     let number : first + (i + 1) ≡ first + i + 1 = omega arith in
@@ -87,5 +107,7 @@ pub written_push : (u : ℕ) (look : Look) (ks : List (List ℕ)) (i : ℕ) (k :
 written_push u look ks i k c out here is =
     let same : get_or ks i k ≡ k = get_or_from_slice_get ks i k k here in
     let more = written_more u look ks i k (slice_get_within ks i k here) in
-    let more' : txn_writes u look (take (i + 1) ks) ≡ txn_writes u look (take i ks) ++ record { begin = u; key = k; cell = look k } ∷ [] = subst (λ (j : List ℕ). txn_writes u look (take (i + 1) ks) ≡ txn_writes u look (take i ks) ++ record { begin = u; key = j; cell = look j } ∷ []) same more in
+    let more' : txn_writes u look (take (i + 1) ks) ≡ txn_writes u look (take i ks) ++ record { begin = u; key = k; cell = look k } ∷ [] =
+    subst (λ (j : List ℕ). txn_writes u look (take (i + 1) ks)
+    ≡ txn_writes u look (take i ks) ++ record { begin = u; key = j; cell = look j } ∷ []) same more in
     rw (more', is, append_assoc) refl

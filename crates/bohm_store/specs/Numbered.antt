@@ -16,10 +16,13 @@ pub record Numbered : Type 0 where
 
 -- ---- older versions, in the order in which others took their place
 
+abbrev pub version_of : Older → Version
+version_of o = record { begin = o.begin; cell = o.cell }
+
 -- those of the key with this number
 abbrev pub older_of : List Older → ℕ → List Version
 older_of [] n = []
-older_of (o ∷ os) n = (if (o.number == n) then o.version ∷ [] else []) ++ older_of os n
+older_of (o ∷ os) n = (if (o.number == n) then version_of o ∷ [] else []) ++ older_of os n
 
 -- where the versions begin that took their place
 abbrev pub ends_of : List Older → ℕ → List ℕ
@@ -43,7 +46,7 @@ IsNotDue floor (o ∷ os) = floor < o.end
 -- of the key with this number the first older version that ended above ts, or the present one
 abbrev pub first_after : ℕ → List Older → ℕ → List Version → List Version
 first_after ts [] n now = now
-first_after ts (o ∷ os) n now = if ((o.number == n) && nat_lt ts o.end) then o.version ∷ [] else first_after ts os n now
+first_after ts (o ∷ os) n now = if ((o.number == n) && nat_lt ts o.end) then version_of o ∷ [] else first_after ts os n now
 
 -- ---- all versions
 

@@ -80,4 +80,5 @@ store_versions (p ∷ ps) k = if bytes_eq p.0 k then record { begin = 0; cell = 
 -- the versions that transactions give a key, the first of which is at u and sees this look: one for each that declares to write it, aborted ones included
 abbrev pub produced_versions : ℕ → Look → List Txn → List ℕ → List Version
 produced_versions u look [] k = []
-produced_versions u look (t ∷ ts) k = (if is_among t.writes k then record { begin = u; cell = after look t k } ∷ [] else []) ++ produced_versions (u + 1) (after look t) ts k
+produced_versions u look (t ∷ ts) k =
+    (if is_among t.writes k then record { begin = u; cell = after look t k } ∷ [] else []) ++ produced_versions (u + 1) (after look t) ts k

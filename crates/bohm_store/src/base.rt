@@ -1,4 +1,4 @@
-//! What keys held.
+//! What keys hold at the top, and held before.
 
 ghost use Rattle.std.specs.Prelude.{◌≡◌, map, IfOk};
 ghost use Rattle.bohm_store.specs.Versions.{IsCellAt, past, versions};
@@ -13,7 +13,7 @@ use bohm_tree::{Cell, Key, NoMemory};
 use std::alloc::Global;
 
 /// What a key held after the transaction with a timestamp. Its time is that of one look-up, and
-/// grows with how many versions of all keys ended above the timestamp.
+/// grows with how many of the key's versions ended above the timestamp.
 pub fn cell_of(names: &Names<HashSeed>, numbered: &NumberedHistory, key: &Key, ts: u32) -> Cell
     ensures cell { result ≡ past (timeline names.now numbered.now) ts key.now }
     ensures newest { IsCellAt ts (versions (timeline names.now numbered.now) key.now) result }
@@ -25,8 +25,8 @@ pub fn cell_of(names: &Names<HashSeed>, numbered: &NumberedHistory, key: &Key, t
     }
 }
 
-// What a key holds at the top. It is hashed only where the number that it had when it was last seen
-// is not its own.
+// What a key holds at the top. It is hashed only if the number that it had when it was last seen is
+// another key's.
 fn cell_by(
     names: &Names<HashSeed>,
     numbered: &NumberedHistory,
@@ -49,8 +49,8 @@ fn cell_by(
     }
 }
 
-/// Each of these keys, with what it holds at the top. A key is hashed only where the number that it
-/// had when it was last seen is not its own.
+/// Each of these keys, with what it holds at the top. A key is hashed only if the number that it
+/// had when it was last seen is another key's.
 pub fn base_of(
     names: &Names<HashSeed>,
     numbered: &NumberedHistory,

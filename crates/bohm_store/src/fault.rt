@@ -1,4 +1,4 @@
-//! Why there is no answer about the past.
+//! Why a timestamp can't be read.
 
 use bohm_tree::NoMemory;
 

@@ -1,4 +1,4 @@
-//! What a key holds.
+//! The newest version of a key.
 
 ghost use Rattle.std.specs.Prelude.{◌≡◌, ◌≤◌, [], ◌∷◌, length, option_to_list, slice_index_or};
 ghost use Rattle.bohm_tree.specs.declared.cell.Cell.TheVariants as cells;

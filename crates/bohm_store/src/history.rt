@@ -1,6 +1,6 @@
 //! The history of a store.
 
-ghost use Rattle.std.specs.Prelude.{◌≡◌, ◌≤◌, ℕ, List, [], min, true, IfOk};
+ghost use Rattle.std.specs.Prelude.{◌≡◌, ◌≤◌, ℕ, List, [], length, min, true, IfOk};
 ghost use Rattle.std.specs.List.{IsDistinct};
 ghost use Rattle.std.specs.Map.{keys_of};
 ghost use Rattle.std.specs.Str.{bytes_eq};
@@ -23,8 +23,8 @@ use std::marker::Model;
 /// The versions of each key from a floor up to a top, which are timestamps.
 #[derive(Drop)]
 pub struct History {
-    // A key keeps its number for the history's life. Behind those with versions there may be keys
-    // that a refusal left without one.
+    // A key keeps its number for the history's life. After those with versions there may be keys
+    // that an error left without one.
     names: Names<HashSeed>,
     numbered: NumberedHistory,
 }
@@ -70,6 +70,7 @@ impl History {
         ensures versions { IfOk result
             (λ h. (k : List ℕ)
             → versions h k ≡ starting_versions (cell_in (store_of entries.now) k)) }
+        ensures count { IfOk result (λ h. total h.chains ≡ length entries.now) }
         ensures past { IfOk result (λ h. past h 0 ≡ cell_in (store_of entries.now)) }
     {
         History::open_with_seed(alloc, entries, HashSeed::fixed())
@@ -87,14 +88,50 @@ impl History {
         ensures versions { IfOk result
             (λ h. (k : List ℕ)
             → versions h k ≡ starting_versions (cell_in (store_of entries.now) k)) }
+        ensures count { IfOk result (λ h. total h.chains ≡ length entries.now) }
         ensures past { IfOk result (λ h. past h 0 ≡ cell_in (store_of entries.now)) }
     {
+        History::restore_with_seed(alloc, entries, 0, seed)
+    }
+
+    /// The history of a store as it stands after the transaction with a timestamp, which becomes
+    /// the floor and the top. The entries rise by their keys, and each has one version. The time
+    /// grows with their number. Keys are hashed from the fixed seed.
+    pub fn restore(alloc: Global, entries: &[(Key, Value)], ts: u32) -> Result<History, NoMemory>
+        requires { rising (names_of entries.now) ≡ true }
+        ensures floor { IfOk result (λ h. h.floor ≡ ts) }
+        ensures top { IfOk result (λ h. h.top ≡ ts) }
+        ensures versions { IfOk result
+            (λ h. (k : List ℕ)
+            → versions h k ≡ starting_versions (cell_in (store_of entries.now) k)) }
+        ensures count { IfOk result (λ h. total h.chains ≡ length entries.now) }
+        ensures past { IfOk result (λ h. past h ts ≡ cell_in (store_of entries.now)) }
+    {
+        History::restore_with_seed(alloc, entries, ts, HashSeed::fixed())
+    }
+
+    /// The same, with keys hashed from this seed.
+    pub fn restore_with_seed(
+        alloc: Global,
+        entries: &[(Key, Value)],
+        ts: u32,
+        seed: HashSeed,
+    ) -> Result<History, NoMemory>
+        requires { rising (names_of entries.now) ≡ true }
+        ensures floor { IfOk result (λ h. h.floor ≡ ts) }
+        ensures top { IfOk result (λ h. h.top ≡ ts) }
+        ensures versions { IfOk result
+            (λ h. (k : List ℕ)
+            → versions h k ≡ starting_versions (cell_in (store_of entries.now) k)) }
+        ensures count { IfOk result (λ h. total h.chains ≡ length entries.now) }
+        ensures past { IfOk result (λ h. past h ts ≡ cell_in (store_of entries.now)) }
+    {
         let names = names_in(alloc, entries, seed)?;
-        let numbered = NumberedHistory::open(alloc, entries)?;
+        let numbered = NumberedHistory::open(alloc, entries, ts)?;
         Ok(History { names, numbered })
     }
 
-    /// The history of the empty store. Keys are hashed from the fixed seed. It takes no memory.
+    /// The history of the empty store. Keys are hashed from the fixed seed. It allocates nothing.
     pub fn empty(alloc: Global) -> History
         ensures floor { result.floor ≡ 0 }
         ensures top { result.top ≡ 0 }

@@ -1,4 +1,4 @@
-//! Laws over the definitions alone. No running call uses them.
+//! Laws over the definitions alone. No call uses them.
 
 ghost use Rattle.std.specs.Prelude.{◌≡◌, ◌+◌, ◌-◌, ◌≤◌, ◌↔◌, ℕ, List, All, Contains, length};
 ghost use Rattle.std.specs.List.{IsDistinct};
@@ -30,7 +30,7 @@ pub fn kept_members()
         → Contains (kept_versions floor vs) v ↔ IsKept floor vs v }
 {}
 
-/// The versions that transactions behind n produce say of each timestamp what their serial run
+/// The versions that transactions after n produce say of each timestamp what their serial run
 /// leaves.
 pub fn produced_is_serial()
     ensures { (n ts : ℕ) (look : Look) (txns : List Txn) (k : List ℕ) → All IsWellFormedTxn txns
@@ -45,7 +45,7 @@ pub fn same_versions_same_count()
         → total t.chains ≡ total r.chains }
 {}
 
-/// A history's next batch answers over its base what it answers over the past at the top.
+/// A history's next batch has the same replies over its base as over the past at the top.
 pub fn next_replies()
     ensures { (t : Timeline) (b : Batch) → IsNext t b
         → replies (base_of b) (txns_of b) ≡ replies (past t t.top) (txns_of b) }

@@ -1,4 +1,4 @@
-//! The versions of each key, and the stores of the past that they say.
+//! The versions of each key, and the past that they define.
 #![tactic(auto)]
 
 mod base;

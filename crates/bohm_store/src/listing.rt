@@ -1,4 +1,4 @@
-//! What all keys hold.
+//! Lists the keys that have a value.
 
 ghost use Rattle.std.specs.Prelude.{◌≡◌, ◌++◌, ◌∷◌, ◌<◌, ◌≤◌, ◌==◌, ℕ, [], IfOk, OnOk, length};
 ghost use Rattle.std.specs.Prelude.{if◌then◌else◌};
@@ -6,22 +6,20 @@ ghost use Rattle.bohm_tree.specs.declared.cell.Cell.TheVariants as cells;
 ghost use Rattle.bohm_store.specs.Chains.{cell_entry, timeline_entries_at};
 ghost use Rattle.bohm_store.specs.Versions.{cell_at};
 ghost use Rattle.bohm_store.specs.Held.{held_at, held_versions};
-ghost use Rattle.bohm_store.specs.Numbered.{EndsRise, filled, first_after, named};
+ghost use Rattle.bohm_store.specs.Numbered.{EndsRise, filled, first_after, named, version_of};
 
 use crate::held::Held;
-use crate::older::Older;
+use crate::older::{Older, OlderVersions};
 use bohm_tree::{Cell, Key, NoMemory, Value};
 use std::alloc::Global;
-use std::collections::VecDeque;
 
 // Puts an older version in place of what its key holds, where there is room for the key.
 fn put_back(newest: &mut [Held], one: Older)
     ensures { (n : ℕ) → n < length newest.old → held_at newest.new n
-        ≡ (if (one.number == n) then one.version ∷ [] else held_at newest.old n) }
+        ≡ (if (one.number == n) then version_of one ∷ [] else held_at newest.old n) }
 {
     let place = one.number as usize;
-    let begin = one.version.begin;
-    let held = Held::new(begin, one.version.cell);
+    let held = Held::new(one.begin, one.cell);
     if place < newest.len() {
         newest[place] = held;
     }
@@ -29,7 +27,7 @@ fn put_back(newest: &mut [Held], one: Older)
 
 /// Puts in place of what keys hold what they held at a timestamp. Its time grows with how many
 /// versions ended above the timestamp.
-pub fn rewind(newest: &mut [Held], older: &VecDeque<Older>, ts: u32)
+pub fn rewind(newest: &mut [Held], older: &OlderVersions, ts: u32)
     requires { (top : ℕ) × EndsRise top older.now.items }
     ensures { (n : ℕ) → n < length newest.old
         → held_at newest.new n ≡ first_after ts older.now.items n (held_at newest.old n) }
@@ -37,7 +35,7 @@ pub fn rewind(newest: &mut [Held], older: &VecDeque<Older>, ts: u32)
     let mut i = older.len();
     while i > 0 {
         i -= 1;
-        let one = older[i];
+        let one = older.at(i);
         if one.end <= ts {
             return;
         }
@@ -78,7 +76,7 @@ pub fn present(
 pub fn present_at(
     alloc: Global,
     newest: &[Held],
-    older: &VecDeque<Older>,
+    older: &OlderVersions,
     names: &[Key],
     ts: u32,
 ) -> Result<Vec<(Key, Value)>, NoMemory>

@@ -17,12 +17,11 @@ ghost use Rattle.bohm_store.specs.Numbered.{timeline, versions_at};
 use crate::held::{Held, held_of};
 use crate::listing::{count_held, present_at};
 use crate::numbered_write::NumberedWrite;
-use crate::older::{Older, add, cell_before, trim};
+use crate::older::{OlderVersions, add, cell_before, trim};
 use crate::replacing::replace_all;
 use bohm_board::Batch;
 use bohm_tree::{Cell, Key, NoMemory, Value};
 use std::alloc::Global;
-use std::collections::VecDeque;
 use std::marker::Model;
 
 /// The versions of each key, by its number, from a floor up to a top, which are timestamps. The
@@ -30,7 +29,7 @@ use std::marker::Model;
 #[derive(Drop)]
 pub struct NumberedHistory {
     newest: Vec<Held>,
-    older: VecDeque<Older>,
+    older: OlderVersions,
     floor: u32,
     top: u32,
 }
@@ -56,7 +55,7 @@ impl Model for NumberedHistory {
 }
 
 impl NumberedHistory {
-    /// The history of the empty store, for no key. It takes no memory.
+    /// The history of the empty store, for no key. It allocates nothing.
     pub fn empty(alloc: Global) -> NumberedHistory
         ensures floor { result.floor ≡ 0 }
         ensures top { result.top ≡ 0 }
@@ -65,23 +64,29 @@ impl NumberedHistory {
     {
         NumberedHistory {
             newest: Vec::new(alloc),
-            older: VecDeque::new(alloc),
+            older: OlderVersions::new(alloc),
             floor: 0,
             top: 0,
         }
     }
 
-    /// The history of a starting store, whose entries rise by their keys: the number of a key is
-    /// its place among them.
-    pub fn open(alloc: Global, entries: &[(Key, Value)]) -> Result<NumberedHistory, NoMemory>
+    /// The history of a store as it stands at a timestamp, whose entries rise by their keys: the
+    /// number of a key is its place among them.
+    pub fn open(
+        alloc: Global,
+        entries: &[(Key, Value)],
+        ts: u32,
+    ) -> Result<NumberedHistory, NoMemory>
         requires { rising (names_of entries.now) ≡ true }
-        ensures floor { IfOk result (λ h. h.floor ≡ 0) }
-        ensures top { IfOk result (λ h. h.top ≡ 0) }
+        ensures floor { IfOk result (λ h. h.floor ≡ ts) }
+        ensures top { IfOk result (λ h. h.top ≡ ts) }
         ensures long { IfOk result (λ h. length h.newest ≡ length entries.now) }
         ensures versions { IfOk result
             (λ h. (k : List ℕ)
             → versions (timeline (names_of entries.now) h) k
             ≡ starting_versions (cell_in (store_of entries.now) k)) }
+        ensures count { IfOk result
+            (λ h. total (timeline (names_of entries.now) h).chains ≡ length entries.now) }
     {
         let mut newest = Vec::with_capacity(alloc, entries.len())?;
         for (_, value) in entries {
@@ -92,9 +97,9 @@ impl NumberedHistory {
         }
         Ok(NumberedHistory {
             newest,
-            older: VecDeque::new(alloc),
-            floor: 0,
-            top: 0,
+            older: OlderVersions::new(alloc),
+            floor: ts,
+            top: ts,
         })
     }
 
@@ -113,7 +118,7 @@ impl NumberedHistory {
         self.top
     }
 
-    /// For how many keys there is room. Those behind have no version.
+    /// For how many keys there is room. Keys with greater numbers have no version.
     pub fn len(&self) -> usize
         ensures len { result ≡ length self.now.newest }
         ensures behind { (n : ℕ) → length self.now.newest ≤ n → versions_at self.now n ≡ [] }
@@ -144,7 +149,7 @@ impl NumberedHistory {
     }
 
     /// What the key with a number held after the transaction with a timestamp. Its time grows with
-    /// how many versions of all keys ended above the timestamp.
+    /// how many of the key's versions ended above the timestamp.
     pub fn cell_at(&self, number: u32, ts: u32) -> Cell
         ensures cell { result ≡ cell_at ts (versions_at self.now number) cells.Absent }
         ensures newest { IsCellAt ts (versions_at self.now number) result }
@@ -154,7 +159,7 @@ impl NumberedHistory {
 
     /// Where the floor is above the present one it becomes the floor, and of each key there stay
     /// the versions that begin above it and the newest one at or below it. Its time grows with how
-    /// many versions go.
+    /// many versions are dropped.
     pub fn trim(&mut self, floor: u32)
         requires { floor ≤ self.old.top }
         ensures floor { self.new.floor ≡ max self.old.floor floor }
@@ -173,8 +178,8 @@ impl NumberedHistory {
         self.floor = floor;
     }
 
-    /// Settles the next batch, by the list of its writes, and keeps the batch's end alone. It takes
-    /// no memory. Its time grows with the number of the writes.
+    /// Settles the next batch, by the list of its writes, and keeps the batch's end alone. It
+    /// allocates nothing. Its time grows with the number of the writes.
     pub fn settle_newest(&mut self, names: &[Key], batch: &Batch<'_>, writes: &[NumberedWrite])
         requires names { IsDistinct bytes_eq names.now }
         requires long { length names.now ≤ length self.old.newest }
@@ -190,7 +195,7 @@ impl NumberedHistory {
         self.floor = self.top;
     }
 
-    /// Adds the versions of the next batch, by the list of its writes. A refusal changes nothing.
+    /// Adds the versions of the next batch, by the list of its writes. An error changes nothing.
     pub fn settle_writes(
         &mut self,
         names: &[Key],
@@ -215,7 +220,7 @@ impl NumberedHistory {
         }
     }
 
-    /// The same, and then trims. A refusal changes nothing.
+    /// The same, and then trims. An error changes nothing.
     pub fn settle_above(
         &mut self,
         names: &[Key],

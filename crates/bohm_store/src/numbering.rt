@@ -19,8 +19,8 @@ pub fn is_numbered(names: &[Key], number: u32, key: &Key) -> bool
     }
 }
 
-/// The number of a key, which gets one if it has none. It is hashed only where the number that it
-/// had when it was last seen is not its own. A refusal leaves no key without its number.
+/// The number of a key, which gets one if it has none. It is hashed only if the number that it had
+/// when it was last seen is another key's. An error leaves no key without its number.
 pub fn number_of(
     names: &mut Names<HashSeed>,
     hints: &mut Hints,

@@ -1,67 +1,208 @@
-//! Versions that are no longer the newest of their keys.
+//! Superseded versions, in a queue.
 
-ghost use Rattle.std.specs.Prelude.{◌≡◌, ◌+◌, ◌<◌, ◌≤◌, ◌==◌, ◌++◌, ◌∷◌, [], ℕ, List, All, length};
-ghost use Rattle.std.specs.Prelude.{if◌then◌else◌, MatchOption, OnErr, OnOk};
+ghost use Rattle.std.specs.Prelude.{◌≡◌, ◌≢◌, ◌+◌, ◌<◌, ◌≤◌, ◌==◌, ◌++◌, ◌∷◌, [], ℕ, List, All, length};
+ghost use Rattle.std.specs.Prelude.{if◌then◌else◌, get_or, MatchOption, OnErr, OnOk};
 ghost use Rattle.bohm_store.specs.Writes.{AreBelow, ClimbTo, versions_by};
-ghost use Rattle.std.specs.VecDeque.{deque_len, deque_capacity};
 ghost use Rattle.bohm_tree.specs.declared.cell.Cell.TheVariants as cells;
 ghost use Rattle.bohm_store.specs.declared.version.Version.{Version};
+ghost use Rattle.bohm_store.specs.declared.older.Older.{Older};
 ghost use Rattle.bohm_store.specs.Versions.{cell_at, kept_versions};
 ghost use Rattle.bohm_store.specs.Chains.{later_begins};
 ghost use Rattle.bohm_store.specs.Held.{held_at, held_versions};
-ghost use Rattle.bohm_store.specs.Numbered.{EndsRise, IsLinked, IsNotDue, ends_of, first_after, older_of};
+ghost use Rattle.bohm_store.specs.Numbered.{EndsRise, IsLinked, IsNotDue, ends_of, first_after, older_of, version_of};
 
 use crate::held::Held;
 use crate::numbered_write::NumberedWrite;
 use crate::version::Version;
 use bohm_tree::{Cell, NoMemory};
+use std::alloc::Global;
 use std::collections::VecDeque;
+use std::marker::Model;
 
 /// A version in whose place another one of the key with the number came, and where that one begins.
+/// It takes 32 bytes.
 #[derive(Clone, Copy, Debug)]
 pub struct Older {
     pub number: u32,
     pub end: u32,
-    pub version: Version,
+    pub begin: u32,
+    // Directly before it in the queue there are at least so many of other keys.
+    others: u32,
+    pub cell: Cell,
+}
+
+const _: () = prove!(std::mem::size_of::<Older>() == 32);
+
+impl Older {
+    /// The version.
+    pub fn version(self) -> Version
+        ensures { result ≡ version_of self }
+    {
+        Version {
+            begin: self.begin,
+            cell: self.cell,
+        }
+    }
+}
+
+/// Versions that are no longer the newest of their keys, in the order of their ends, and where the
+/// latest one of each key stands among them.
+#[derive(Drop)]
+pub struct OlderVersions {
+    queue: VecDeque<Older>,
+    // How many have left the queue, up to the greatest number.
+    gone: u64,
+    // By the number of a key how many had come in all with the key's latest one, or 0 where the key
+    // never had one. The greatest number says nothing.
+    latest: Vec<u64>,
+}
+
+impl Model for OlderVersions {
+    ghost use Rattle.std.specs.Prelude.{◌-◌, length};
+    ghost use Rattle.std.specs.VecDeque.{deque_len, deque_capacity};
+    ghost use Rattle.bohm_store.specs.Places.{IsPlaced, OlderList};
+
+    ghost Value = { OlderList };
+
+    ghost view = { λ o. record {
+      items = o.queue.items;
+      room = deque_capacity o.queue - deque_len o.queue;
+      places = length o.latest.items;
+    } };
+
+    ghost invariant = { λ o. IsPlaced o.gone o.latest.items o.queue.items };
+}
+
+impl OlderVersions {
+    /// None. It takes no memory.
+    pub fn new(alloc: Global) -> OlderVersions
+        ensures items { result.items ≡ [] }
+    {
+        OlderVersions {
+            queue: VecDeque::new(alloc),
+            gone: 0,
+            latest: Vec::new(alloc),
+        }
+    }
+
+    /// How many there are.
+    pub fn len(&self) -> usize
+        ensures { result ≡ length self.now.items }
+    {
+        self.queue.len()
+    }
+
+    /// The one behind so many. Directly before it there are as many of other keys as it says.
+    pub fn at(&self, place: usize) -> Older
+        requires { place < length self.now.items }
+        ensures item { result ≡ get_or self.now.items place result }
+        ensures others { (i : ℕ) (d : Older) → i < place → place ≤ i + result.others
+            → (get_or self.now.items i d).number ≢ result.number }
+    {
+        self.queue[place]
+    }
+
+    // Behind so many there is none of the key with the number.
+    fn latest(&self, number: u32) -> usize
+        ensures inside { result ≤ length self.now.items }
+        ensures none { (i : ℕ) (d : Older) → result ≤ i → i < length self.now.items
+            → (get_or self.now.items i d).number ≢ number }
+    {
+        let count = match self.latest.get(number as usize) {
+            Some(count) => *count,
+            None => 0,
+        };
+        let len = self.queue.len();
+        if count == u64::MAX {
+            return len;
+        }
+        len.min(count.saturating_sub(self.gone) as usize)
+    }
+
+    /// Lets all go.
+    pub fn clear(&mut self)
+        ensures items { self.new.items ≡ [] }
+    {
+        self.gone = self.gone.saturating_add(self.queue.len() as u64);
+        self.queue.clear();
+    }
+
+    // Makes room for so many more, and a place for the keys with numbers below a count.
+    fn reserve(&mut self, keys: usize, more: usize) -> Result<(), NoMemory>
+        ensures items { self.new.items ≡ self.old.items }
+        ensures room { OnOk result (more ≤ self.new.room) }
+        ensures places { OnOk result (keys ≤ self.new.places) }
+    {
+        self.queue.reserve(more)?;
+        if self.latest.len() < keys {
+            self.latest.resize(keys, 0)?;
+        }
+        Ok(())
+    }
+
+    // Takes in a version that ended here. There is room for it, and a place for its key.
+    fn push(&mut self, number: u32, end: u32, version: Version)
+        requires room { 0 < self.old.room }
+        requires place { number < self.old.places }
+        ensures items { (o : Older) × (self.new.items ≡ self.old.items ++ o ∷ [])
+            × (o.number ≡ number) × (o.end ≡ end) × (version_of o ≡ version) }
+        ensures room { self.new.room + 1 ≡ self.old.room }
+        ensures places { self.new.places ≡ self.old.places }
+    {
+        let before = self.gone.saturating_add(self.queue.len() as u64);
+        let others = before.saturating_sub(self.latest[number as usize]);
+        self.latest[number as usize] = before.saturating_add(1);
+        self.queue.push_back_reserved(Older {
+            number,
+            end,
+            begin: version.begin,
+            others: others.min(u32::MAX as u64) as u32,
+            cell: version.cell,
+        });
+    }
+
+    // Takes the first one out, if it ended at or below the floor.
+    fn take_due(&mut self, floor: u32) -> Option<Older>
+        ensures { MatchOption result
+            ((self.new.items ≡ self.old.items) × IsNotDue floor self.old.items)
+            (λ o. (self.old.items ≡ o ∷ self.new.items) × (o.end ≤ floor)) }
+    {
+        let first = *self.queue.front()?;
+        if floor < first.end {
+            return None;
+        }
+        let taken = self.queue.pop_front()?;
+        self.gone = self.gone.saturating_add(1);
+        Some(taken)
+    }
 }
 
 /// What the key with a number held at a timestamp, where it holds this now. Its time grows with how
-/// many versions ended above the timestamp.
-pub fn cell_before(older: &VecDeque<Older>, newest: Held, number: u32, ts: u32) -> Cell
+/// many versions of the key ended above the timestamp.
+pub fn cell_before(older: &OlderVersions, newest: Held, number: u32, ts: u32) -> Cell
     requires { (top : ℕ) × EndsRise top older.now.items }
     ensures { result ≡ cell_at ts
         (first_after ts older.now.items number (held_versions newest)) cells.Absent }
 {
     let mut cell = newest.cell_at(ts);
-    let mut i = older.len();
+    let mut i = older.latest(number);
     while i > 0 {
         i -= 1;
-        let one = older[i];
+        let one = older.at(i);
         if one.end <= ts {
             return cell;
         }
         if one.number == number {
-            cell = one.version.cell_or(ts, Cell::Absent);
+            i = i.saturating_sub(one.others as usize);
+            let version = one.version();
+            cell = version.cell_or(ts, Cell::Absent);
         }
     }
     cell
 }
 
-// Takes the first one, if it ended at or below the floor.
-fn take_due(older: &mut VecDeque<Older>, floor: u32) -> Option<Older>
-    ensures { MatchOption result
-        ((older.new.items ≡ older.old.items) × IsNotDue floor older.old.items)
-        (λ o. (older.old.items ≡ o ∷ older.new.items) × (o.end ≤ floor)) }
-{
-    let first = *older.front()?;
-    if floor < first.end {
-        return None;
-    }
-    older.pop_front()
-}
-
 /// Lets those go that ended at or below the floor. Its time grows with how many go.
-pub fn trim(older: &mut VecDeque<Older>, floor: u32)
+pub fn trim(older: &mut OlderVersions, floor: u32)
     ensures versions { (n top : ℕ) (held : List Version) → EndsRise top older.old.items
         → IsLinked older.old.items n held
         → older_of older.new.items n ++ held
@@ -72,14 +213,15 @@ pub fn trim(older: &mut VecDeque<Older>, floor: u32)
     ensures due { (top : ℕ) → EndsRise top older.old.items
         → All (λ o. floor < o.end) older.new.items }
 {
-    while let Some(_) = take_due(older, floor) {}
+    while let Some(_) = older.take_due(floor) {}
 }
 
 /// Puts a version in place of what the key holds, which is kept as an older one. There is room for
 /// it.
-pub fn displace(newest: &mut [Held], older: &mut VecDeque<Older>, write: NumberedWrite)
+pub fn displace(newest: &mut [Held], older: &mut OlderVersions, write: NumberedWrite)
     requires number { write.number < length newest.old }
-    requires room { deque_len older.old < deque_capacity older.old }
+    requires places { length newest.old ≤ older.old.places }
+    requires room { 0 < older.old.room }
     ensures versions { (n : ℕ) → IsLinked older.old.items n (held_at newest.old n)
         → older_of older.new.items n ++ held_at newest.new n
         ≡ (older_of older.old.items n ++ held_at newest.old n)
@@ -90,25 +232,22 @@ pub fn displace(newest: &mut [Held], older: &mut VecDeque<Older>, write: Numbere
         → EndsRise write.version.begin older.new.items }
     ensures due { (floor : ℕ) → All (λ o. floor < o.end) older.old.items
         → floor < write.version.begin → All (λ o. floor < o.end) older.new.items }
-    ensures len { deque_len older.new ≤ deque_len older.old + 1 }
-    ensures capacity { deque_capacity older.new ≡ deque_capacity older.old }
+    ensures room { older.old.room ≤ older.new.room + 1 }
+    ensures places { older.new.places ≡ older.old.places }
 {
     let number = write.number;
     let begin = write.version.begin;
     if let Some(version) = newest[number as usize].version() {
-        older.push_back_reserved(Older {
-            number,
-            end: begin,
-            version,
-        });
+        older.push(number, begin, version);
     }
     newest[number as usize] = Held::new(begin, write.version.cell);
 }
 
 // Puts these versions in place, one after another. There is room for what they displace.
-fn displace_all(newest: &mut [Held], older: &mut VecDeque<Older>, writes: &[NumberedWrite])
+fn displace_all(newest: &mut [Held], older: &mut OlderVersions, writes: &[NumberedWrite])
     requires numbers { AreBelow (length newest.old) writes.now }
-    requires room { deque_len older.old + length writes.now ≤ deque_capacity older.old }
+    requires places { length newest.old ≤ older.old.places }
+    requires room { length writes.now ≤ older.old.room }
     ensures versions { (n : ℕ) → IsLinked older.old.items n (held_at newest.old n)
         → older_of older.new.items n ++ held_at newest.new n
         ≡ (older_of older.old.items n ++ held_at newest.old n) ++ versions_by writes.now n }
@@ -125,10 +264,10 @@ fn displace_all(newest: &mut [Held], older: &mut VecDeque<Older>, writes: &[Numb
     }
 }
 
-/// Adds these versions. A refusal changes nothing.
+/// Adds these versions. An error changes nothing.
 pub fn add(
     newest: &mut [Held],
-    older: &mut VecDeque<Older>,
+    older: &mut OlderVersions,
     writes: &[NumberedWrite],
 ) -> Result<(), NoMemory>
     requires numbers { AreBelow (length newest.old) writes.now }
@@ -149,7 +288,7 @@ pub fn add(
         → All (λ o. floor < o.end) older.old.items → floor < n
         → All (λ o. floor < o.end) older.new.items) }
 {
-    older.reserve(writes.len())?;
+    older.reserve(newest.len(), writes.len())?;
     displace_all(newest, older, writes);
     Ok(())
 }

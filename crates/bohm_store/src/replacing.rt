@@ -1,4 +1,4 @@
-//! Versions in place of what their keys hold.
+//! Replaces what keys hold by new versions.
 
 ghost use Rattle.std.specs.Prelude.{◌≡◌, ◌==◌, ◌<◌, ◌++◌, ◌∷◌, [], ℕ, length, if◌then◌else◌};
 ghost use Rattle.bohm_store.specs.Chains.{newest_only};
@@ -20,7 +20,7 @@ fn replace(newest: &mut [Held], write: NumberedWrite)
 }
 
 /// Puts these versions in place of what their keys hold, one after another: of each key the last
-/// one stays. It takes no memory.
+/// one stays. It allocates nothing.
 pub fn replace_all(newest: &mut [Held], writes: &[NumberedWrite])
     requires { AreBelow (length newest.old) writes.now }
     ensures { (n : ℕ) → held_at newest.new n

@@ -1,4 +1,4 @@
-//! What a run keeps of the keys of its log, by their numbers there.
+//! Hints: the numbers of a log's keys in the history.
 
 use bohm_tree::NoMemory;
 use std::alloc::Global;
@@ -27,8 +27,8 @@ impl Hints {
         }
     }
 
-    /// Takes down the number in the history of the key with a number in the log, where there is
-    /// room for it.
+    /// Notes the number in the history of the key with a number in the log, where there is room for
+    /// it.
     pub fn note(&mut self, place: u32, number: u32) {
         if let Some(hint) = self.numbers.get_mut(place as usize) {
             *hint = number;
@@ -44,7 +44,7 @@ pub struct Seats {
 }
 
 impl Seats {
-    /// Those of a run before its first batch. It takes no memory.
+    /// Those of a run before its first batch. It allocates nothing.
     pub fn new(alloc: Global) -> Seats {
         Seats {
             hints: Hints {

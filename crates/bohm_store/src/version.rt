@@ -1,4 +1,4 @@
-//! Versions.
+//! A version of a key.
 
 ghost use Rattle.std.specs.Prelude.{◌≡◌, nat_le, if◌then◌else◌};
 

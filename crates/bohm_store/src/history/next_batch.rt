@@ -1,4 +1,4 @@
-//! The batch that starts behind the top of the history.
+//! Makes the batch that follows the top of the history.
 
 ghost use Rattle.std.specs.Prelude.{◌≡◌, ◌+◌, IfOk};
 ghost use Rattle.bohm_place.specs.Noting.{MayHaveKeysOf};
@@ -17,8 +17,8 @@ use bohm_tree::NoMemory;
 use std::alloc::Global;
 
 impl History {
-    /// The batch of these transactions that starts behind the top, with what their keys hold there.
-    /// The plan is given up on a refusal. The time grows with the number of keys that the
+    /// The batch of these transactions that starts after the top, with what their keys hold there.
+    /// On an error the plan is dropped. The time grows with the number of keys that the
     /// transactions declare and with that of the log's keys.
     pub fn batch<'a>(
         &self,
@@ -36,10 +36,10 @@ impl History {
         self.batch_with(alloc, &mut Seats::new(alloc), txns, plan)
     }
 
-    /// The same with what the run keeps from batch to batch: a key is hashed only where its number
+    /// The same with what the run keeps from batch to batch: a key is hashed only if its number
     /// isn't the one that it had when it was last seen, and none is sorted or searched for. A key
-    /// that the history lacks, as one that is only ever read, has no number: it is looked up in each
-    /// batch that declares it. The time grows with the number of keys that the transactions
+    /// that the history lacks, as one that is only ever read, has no number: it is looked up in
+    /// each batch that declares it. The time grows with the number of keys that the transactions
     /// declare; only where the log has more keys than ever before does it grow with these too, and
     /// only for a plan without keys with the number of accesses.
     pub fn batch_with<'a>(

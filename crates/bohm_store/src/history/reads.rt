@@ -1,4 +1,4 @@
-//! What the history says of the past.
+//! Reads of the past.
 
 ghost use Rattle.std.specs.Prelude.{◌≡◌, ◌<◌, ◌≤◌, ◌↔◌, Err, Ok, IfOk, OnErr};
 ghost use Rattle.std.specs.FinMap.{entries};
@@ -14,8 +14,8 @@ use std::alloc::Global;
 impl History {
     /// What a key holds after the transaction with a timestamp: the cell of its version with the
     /// greatest begin at or below it. `Trimmed` below the floor, `Future` above the top. Its time
-    /// is that of one look-up, and grows with how many versions of all keys ended above the
-    /// timestamp. It takes no memory.
+    /// is that of one look-up, and grows with how many of the key's versions begin above the
+    /// timestamp. It allocates nothing.
     pub fn value_at(&self, key: &Key, ts: u32) -> Result<Cell, PastFault>
         ensures trimmed { (result ≡ Err PastFault.Trimmed) ↔ (ts < self.now.floor) }
         ensures future { (result ≡ Err PastFault.Future) ↔ (self.now.top < ts) }
@@ -35,8 +35,8 @@ impl History {
 
     /// What each key holds after the transaction with a timestamp: the keys that have a value,
     /// rising, with it. `Trimmed` below the floor and `Future` above the top, which are decided
-    /// before any growth. It goes over all keys: its time grows with their number n as n log n, and
-    /// with how many versions ended above the timestamp.
+    /// before any allocation. It goes over all keys: its time grows with their number n as n log n,
+    /// and with how many versions ended above the timestamp.
     pub fn store_at(&self, alloc: Global, ts: u32) -> Result<Vec<(Key, Value)>, StoreFault>
         ensures trimmed { (result ≡ Err StoreFault.Trimmed) ↔ (ts < self.now.floor) }
         ensures future { (result ≡ Err StoreFault.Future) ↔ (self.now.top < ts) }

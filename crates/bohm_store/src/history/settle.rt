@@ -1,4 +1,4 @@
-//! A finished batch becomes a part of the history.
+//! Installs a finished batch in the history.
 
 ghost use Rattle.std.specs.Prelude.{◌≡◌, ◌≤◌, ◌+◌, length, IfOk, OnOk, OnErr};
 ghost use Rattle.std.specs.Map.{keys_of};
@@ -19,8 +19,8 @@ impl History {
     /// Adds a version for each declared write of each transaction of the batch, aborted ones
     /// included, and moves the top to the batch's end. The batch is the next one of this history.
     ///
-    /// A refusal changes nothing that is seen: all growth comes first, and a key may have got its
-    /// number. The time grows with the number of the batch's declared writes.
+    /// An error changes nothing that is seen: all allocation comes first, and a key may have got
+    /// its number. The time grows with the number of the batch's declared writes.
     pub fn settle(&mut self, alloc: Global, finished: &Finished<'_>) -> Result<(), NoMemory>
         requires { IsNext self.old (batch_of_finished finished.now) }
         ensures err { OnErr result (IsSame self.old self.new) }
@@ -30,7 +30,7 @@ impl History {
         self.settle_with(alloc, &mut Seats::new(alloc), finished)
     }
 
-    /// The same, with what the run keeps from batch to batch: a key is hashed only where its number
+    /// The same, with what the run keeps from batch to batch: a key is hashed only if its number
     /// isn't the one that it had when it was last seen.
     pub fn settle_with(
         &mut self,
@@ -52,8 +52,8 @@ impl History {
     /// end, no version is kept but the newest one of each key that the batch writes, and none is
     /// moved.
     ///
-    /// A refusal changes nothing that is seen. The time grows with the number of the batch's
-    /// declared writes and with how many versions from before it go, on a refusal with the former
+    /// An error changes nothing that is seen. The time grows with the number of the batch's
+    /// declared writes and with how many earlier versions are dropped, on an error with the former
     /// alone.
     pub fn settle_kept(
         &mut self,

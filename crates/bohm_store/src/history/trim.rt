@@ -1,4 +1,4 @@
-//! Versions that are let go.
+//! Drops old versions.
 
 ghost use Rattle.std.specs.Prelude.{◌≡◌, ◌<◌, ◌≤◌, ◌↔◌, ℕ, List, max, Contains};
 ghost use Rattle.bohm_store.specs.declared.version.Version.{Version};
@@ -9,8 +9,8 @@ use crate::history::History;
 impl History {
     /// Where the floor is above the present one it becomes the floor, and of each key there stay
     /// the versions that begin above it and the newest one at or below it. Else nothing changes.
-    /// Its time grows with how many versions go, whatever keys and versions stay. It takes no
-    /// memory.
+    /// Its time grows with how many versions are dropped, whatever keys and versions stay. It
+    /// allocates nothing.
     pub fn trim(&mut self, floor: u32)
         requires { floor ≤ self.old.top }
         ensures floor { self.new.floor ≡ max self.old.floor floor }

@@ -23,16 +23,19 @@ returns-in-Some-clause-newest c =
     let n = c.in-Some.number in
     let k = c.args.key.now in
     let (inside, is) = found_at names k n (sym c.find.ensures ∙ c.in-Some.is) in
-    let here : versions (timeline names h) k ≡ versions_at h n = ap (λ (j : List ℕ). versions (timeline names h) j) (sym is) ∙ versions_named (versions_at h) names n c.as_slice.ensures.apart inside in
+    let here : versions (timeline names h) k ≡ versions_at h n =
+    ap (λ (j : List ℕ). versions (timeline names h) j) (sym is) ∙ versions_named (versions_at h) names n c.as_slice.ensures.apart inside in
     subst (λ (vs : List Version). IsCellAt c.args.ts vs c.cell_at.result) (sym here) c.cell_at.ensures.newest
 
 pub returns-in-None-clause-cell : goal.returns-in-None-clause-cell
 returns-in-None-clause-cell c =
-    sym (past_unnamed c.args.names.now c.args.numbered.now c.args.ts c.args.key.now (not_found c.args.names.now c.args.key.now (sym c.find.ensures ∙ c.in-None.is)))
+    sym (past_unnamed c.args.names.now c.args.numbered.now c.args.ts c.args.key.now
+    (not_found c.args.names.now c.args.key.now (sym c.find.ensures ∙ c.in-None.is)))
 
 pub returns-in-None-clause-newest : goal.returns-in-None-clause-newest
 returns-in-None-clause-newest c =
     let names = c.args.names.now in
     let k = c.args.key.now in
-    let none : versions (timeline names c.args.numbered.now) k ≡ [] = versions_none (versions_at c.args.numbered.now) names k (not_found names k (sym c.find.ensures ∙ c.in-None.is)) in
+    let none : versions (timeline names c.args.numbered.now) k ≡ [] =
+    versions_none (versions_at c.args.numbered.now) names k (not_found names k (sym c.find.ensures ∙ c.in-None.is)) in
     rw none (inr (All-nil (λ (v : Version). c.args.ts < v.begin), refl))

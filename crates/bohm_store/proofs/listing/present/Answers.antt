@@ -21,11 +21,14 @@ loop-i-preserved c =
     let inside : i < length now = omega (arith, c.requires) in
     let at : get_or names i [] ≡ k = get_or_default names i [] k c.loop-i-test.true ∙ sym c.index-names-i.is in
     let held : v ≡ get_or now i Never = c.index-newest-i.is ∙ get_or_default now i v Never inside in
-    listed_more ts (held_at now) names i k c.loop-i.out.items c.list_one.new.out.items (timeline_entries_at ts (named (held_at now) 0 names)) c.loop-i-test.true at c.loop-i.invariant
+    listed_more ts (held_at now) names i k c.loop-i.out.items c.list_one.new.out.items
+    (timeline_entries_at ts (named (held_at now) 0 names)) c.loop-i-test.true at c.loop-i.invariant
     (c.in_ok-list_one.ensures ∙ ap (λ (w : Held). c.loop-i.out.items ++ cell_entry k (cell_at ts (held_versions w) cells.Absent) []) held)
 
 pub returns : goal.returns
 returns c =
     let names = c.args.names.now in
     let none : drop c.loop-i.i names ≡ [] = drop_end names c.loop-i.i c.loop-i-test.false in
-    sym (append-nil c.loop-i.out.items) ∙ sym (ap (λ (ks : List (List ℕ)). c.loop-i.out.items ++ timeline_entries_at c.args.ts (named (held_at c.args.newest.now) c.loop-i.i ks)) none) ∙ c.loop-i.invariant
+    sym (append-nil c.loop-i.out.items)
+    ∙ sym (ap (λ (ks : List (List ℕ)). c.loop-i.out.items ++ timeline_entries_at c.args.ts (named (held_at c.args.newest.now) c.loop-i.i ks)) none)
+    ∙ c.loop-i.invariant

@@ -5,4 +5,5 @@ use Rattle.bohm_store.specs.Numbered.{named}
 use Rattle.bohm_store.proofs.listing.present.Given as goal
 
 abbrev pub invariant-loop-i : goal.invariant-loop-i
-invariant-loop-i l = l.out.items ++ timeline_entries_at l.ts (named (held_at l.newest) l.i (drop l.i l.names)) ≡ timeline_entries_at l.ts (named (held_at l.newest) 0 l.names)
+invariant-loop-i l =
+    l.out.items ++ timeline_entries_at l.ts (named (held_at l.newest) l.i (drop l.i l.names)) ≡ timeline_entries_at l.ts (named (held_at l.newest) 0 l.names)

@@ -13,7 +13,8 @@ pub present-requires : goal.present-requires
 present-requires c =
     let now = c.args.newest.now in
     let then = c.rewind.new.newest in
-    let copied : c.extend_from_slice.new.self.items ≡ now = c.in_ok-extend_from_slice.ensures.items ∙ ap (λ (xs : List Held). xs ++ now) c.in_ok-then.ensures.items in
+    let copied : c.extend_from_slice.new.self.items ≡ now =
+    c.in_ok-extend_from_slice.ensures.items ∙ ap (λ (xs : List Held). xs ++ now) c.in_ok-then.ensures.items in
     let given : c.as_mut_slice.result.now ≡ now = c.as_mut_slice.ensures.value ∙ copied in
     let same = c.rewind.auto.newest in
     let is = with_items_is c.extend_from_slice.new.self then (omega (arith, same, c.as_mut_slice.ensures.len)) in
@@ -25,7 +26,8 @@ pub returns : goal.returns
 returns c =
     let now = c.args.newest.now in
     let then = c.rewind.new.newest in
-    let copied : c.extend_from_slice.new.self.items ≡ now = c.in_ok-extend_from_slice.ensures.items ∙ ap (λ (xs : List Held). xs ++ now) c.in_ok-then.ensures.items in
+    let copied : c.extend_from_slice.new.self.items ≡ now =
+    c.in_ok-extend_from_slice.ensures.items ∙ ap (λ (xs : List Held). xs ++ now) c.in_ok-then.ensures.items in
     let given : c.as_mut_slice.result.now ≡ now = c.as_mut_slice.ensures.value ∙ copied in
     let same = c.rewind.auto.newest in
     let is = with_items_is c.extend_from_slice.new.self then (omega (arith, same, c.as_mut_slice.ensures.len)) in
@@ -35,5 +37,8 @@ returns c =
     let ts = c.args.ts in
     let os = c.args.older.now.items in
     let told = rw given at c.rewind.ensures in
-    let each : (n : ℕ) → n < length now → held_at c.deref.result.now n ≡ first_after ts os n (held_at now n) = λ n lt. ap (λ (xs : List Held). held_at xs n) at ∙ told n lt in
-    c.in_ok-list.ensures ∙ entries_same ts (held_at c.deref.result.now) (λ n. first_after ts os n (held_at now n)) 0 names (λ n low high. ap (λ (vs : List Version). cell_at ts vs cells.Absent) (each n (omega (arith, c.requires.long))))
+    let each : (n : ℕ) → n < length now → held_at c.deref.result.now n ≡ first_after ts os n (held_at now n) =
+    λ n lt. ap (λ (xs : List Held). held_at xs n) at ∙ told n lt in
+    c.in_ok-list.ensures
+    ∙ entries_same ts (held_at c.deref.result.now) (λ n. first_after ts os n (held_at now n)) 0 names
+    (λ n low high. ap (λ (vs : List Version). cell_at ts vs cells.Absent) (each n (omega (arith, c.requires.long))))

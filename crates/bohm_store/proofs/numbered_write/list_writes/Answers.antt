@@ -40,7 +40,9 @@ loop-i-preserved c =
     let before = map (named_write c.args.names.now) c.args.out.now.items in
     record {
       longer = begins_twice c.args.names.now names names' was.longer longer;
-      below = rw c.in_ok-push.ensures.items (All-push (λ (y : NumberedWrite). y.number < length names') out w (below_longer names names' out longer was.below) inside);
+      below =
+          rw c.in_ok-push.ensures.items (All-push (λ (y : NumberedWrite). y.number < length names') out w
+          (below_longer names names' out longer was.below) inside);
       listed = ap (λ (ws : List NumberedWrite). map (named_write names') ws) c.in_ok-push.ensures.items
           ∙ map-append (named_write names') out (w ∷ [])
           ∙ ap (λ (ws : List KeyedVersion). ws ++ named_write names' w ∷ []) (longer_writes names names' out longer was.below ∙ was.listed)

@@ -9,5 +9,6 @@ abbrev pub invariant-loop-i : goal.invariant-loop-i
 invariant-loop-i l = record {
   longer : Begins l.initial.names l.names;
   below : AreBelow (length l.names) l.out.items;
-  listed : map (named_write l.names) l.out.items ≡ map (named_write l.initial.names) l.initial.out.items ++ txn_writes l.t (state_after (batch_of_finished l.finished) l.t) (take l.i l.keys);
+  listed : map (named_write l.names) l.out.items
+      ≡ map (named_write l.initial.names) l.initial.out.items ++ txn_writes l.t (state_after (batch_of_finished l.finished) l.t) (take l.i l.keys);
 }

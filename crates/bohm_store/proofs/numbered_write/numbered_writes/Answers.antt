@@ -36,12 +36,14 @@ loop-place-preserved c =
     let here : slice_get txns i ≡ Some txn = subst (λ (n : ℕ). slice_get txns n ≡ Some txn) place there in
     let number : t ≡ first_of batch + i = ap (λ (n : ℕ). n + i) c.first-first.ensures in
     let before = map (named_write names) out in
-    let listed : map (named_write names') c.list_writes.new.out.items ≡ before ++ txn_writes (first_of batch + i) (state (base_of batch) txns (i + 1)) txn.writes =
+    let listed : map (named_write names') c.list_writes.new.out.items
+    ≡ before ++ txn_writes (first_of batch + i) (state (base_of batch) txns (i + 1)) txn.writes =
     c.in_ok-list_writes.ensures.listed
     ∙ rw (c.writes.ensures) (ap (λ (n : ℕ). before ++ txn_writes t (state (base_of batch) txns (n + 1)) txn.writes) place)
     ∙ ap (λ (n : ℕ). before ++ txn_writes n (state (base_of batch) txns (i + 1)) txn.writes) number in
     record {
       longer = begins_twice c.args.names.now names names' was.longer c.list_writes.ensures.longer;
       below = c.in_ok-list_writes.ensures.below;
-      listed = rw listed (written_step (base_of batch) txns (first_of batch) i txn before (all_txn_writes (first_of batch) (base_of batch) txns) here was.listed);
+      listed =
+          rw listed (written_step (base_of batch) txns (first_of batch) i txn before (all_txn_writes (first_of batch) (base_of batch) txns) here was.listed);
     }

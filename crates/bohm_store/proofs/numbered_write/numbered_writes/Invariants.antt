@@ -13,5 +13,6 @@ invariant-loop-place l =
     record {
       longer : Begins l.initial.names l.names;
       below : AreBelow (length l.names) l.out.items;
-      listed : map (named_write l.names) l.out.items ++ all_txn_writes (first_of batch + l.place) (state (base_of batch) txns l.place) (drop l.place txns) ≡ all_txn_writes (first_of batch) (base_of batch) txns;
+      listed : map (named_write l.names) l.out.items ++ all_txn_writes (first_of batch + l.place) (state (base_of batch) txns l.place) (drop l.place txns)
+          ≡ all_txn_writes (first_of batch) (base_of batch) txns;
     }

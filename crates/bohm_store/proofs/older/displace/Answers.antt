@@ -1,10 +1,11 @@
-use Rattle.std.proofs.Common.{◌≡◌, ◌∷◌, [], ◌∙◌, ◌<◌, ap, refl}
+use Rattle.std.proofs.Common.{◌≡◌, ◌∷◌, [], ◌∙◌, ◌<◌, ap, refl, sym, arith}
 use Rattle.std.specs.Prelude.{option_to_list}
-use Rattle.std.proofs.Common.{Global}
-use Rattle.std.specs.declared.collections.VecDeque.{VecDeque}
 use Rattle.std.proofs.lemmas.List.Elements.{All-push}
 use Rattle.bohm_store.specs.declared.older.Older.{Older}
+use Rattle.bohm_store.specs.declared.version.Version.{Version}
 use Rattle.bohm_store.specs.Held.{held_at}
+use Rattle.bohm_store.specs.Numbered.{version_of}
+use Rattle.bohm_store.specs.Places.{OlderList}
 use Rattle.bohm_store.proofs.OlderVersions.{had, displaced_one, displaced_none, rise_higher, rise_push}
 use Rattle.bohm_store.proofs.older.displace.Goals.{in-Some, in_default}
 use Rattle.bohm_store.proofs.older.displace.Goals as goal
@@ -14,17 +15,19 @@ returns-clause-versions c n linked =
     let now = c.args.newest.now in
     let os = c.args.older.now.items in
     let number = c.args.write.number in
+    let v = c.args.write.version in
+    let olds = c.match-version.older.items in
     let held = had now number c.index-newest-number.result c.version.result c.index-newest-number.is c.requires.number c.version.ensures in
     elim c.match-version.branch [
       | in-Some w ↦
-          let x = w.in-Some.version in
-          let was : held_at now number ≡ x ∷ [] = held ∙ ap option_to_list w.in-Some.is in
-          let more = ap (λ (q : VecDeque Older Global). q.items) w.older-is ∙ w.push_back_reserved.ensures.items in
-          (displaced_one os c.match-version.older.items now _ number c.args.write.version c.new.result c.requires.number refl c.new.ensures x was more n linked).0
+          let (o, pushed, own, ended, said) = w.push.ensures.items in
+          let was : held_at now number ≡ version_of o ∷ [] = held ∙ ap option_to_list w.in-Some.is ∙ ap (λ (v : Version). v ∷ []) (sym said) in
+          let more = ap (λ (l : OlderList). l.items) w.older-is ∙ pushed in
+          (displaced_one os olds now _ number v c.new.result c.requires.number refl c.new.ensures o was own ended more n linked).0
       | in_default w ↦
           let was : held_at now number ≡ [] = held ∙ ap option_to_list w.in_default.is in
-          let more = ap (λ (q : VecDeque Older Global). q.items) w.older-is in
-          (displaced_none os c.match-version.older.items now _ number c.args.write.version c.new.result c.requires.number refl c.new.ensures was more n linked).0
+          let more = ap (λ (l : OlderList). l.items) w.older-is in
+          (displaced_none os olds now _ number v c.new.result c.requires.number refl c.new.ensures was more n linked).0
     ]
 
 pub returns-clause-linked : goal.returns-clause-linked
@@ -32,17 +35,19 @@ returns-clause-linked c n linked =
     let now = c.args.newest.now in
     let os = c.args.older.now.items in
     let number = c.args.write.number in
+    let v = c.args.write.version in
+    let olds = c.match-version.older.items in
     let held = had now number c.index-newest-number.result c.version.result c.index-newest-number.is c.requires.number c.version.ensures in
     elim c.match-version.branch [
       | in-Some w ↦
-          let x = w.in-Some.version in
-          let was : held_at now number ≡ x ∷ [] = held ∙ ap option_to_list w.in-Some.is in
-          let more = ap (λ (q : VecDeque Older Global). q.items) w.older-is ∙ w.push_back_reserved.ensures.items in
-          (displaced_one os c.match-version.older.items now _ number c.args.write.version c.new.result c.requires.number refl c.new.ensures x was more n linked).1
+          let (o, pushed, own, ended, said) = w.push.ensures.items in
+          let was : held_at now number ≡ version_of o ∷ [] = held ∙ ap option_to_list w.in-Some.is ∙ ap (λ (v : Version). v ∷ []) (sym said) in
+          let more = ap (λ (l : OlderList). l.items) w.older-is ∙ pushed in
+          (displaced_one os olds now _ number v c.new.result c.requires.number refl c.new.ensures o was own ended more n linked).1
       | in_default w ↦
           let was : held_at now number ≡ [] = held ∙ ap option_to_list w.in_default.is in
-          let more = ap (λ (q : VecDeque Older Global). q.items) w.older-is in
-          (displaced_none os c.match-version.older.items now _ number c.args.write.version c.new.result c.requires.number refl c.new.ensures was more n linked).1
+          let more = ap (λ (l : OlderList). l.items) w.older-is in
+          (displaced_none os olds now _ number v c.new.result c.requires.number refl c.new.ensures was more n linked).1
     ]
 
 pub returns-clause-climbs : goal.returns-clause-climbs
@@ -50,8 +55,8 @@ returns-clause-climbs c top rise le =
     let os = c.args.older.now.items in
     elim c.match-version.branch [
       | in-Some w ↦
-          let o : Older = record { number = c.args.write.number; end = c.args.write.version.begin; version = w.in-Some.version } in
-          rw (w.older-is, w.push_back_reserved.ensures.items) (rise_push top os o rise le)
+          let (o, pushed, own, ended, said) = w.push.ensures.items in
+          rw (w.older-is, pushed, ← ended) (rise_push top os o rise (omega (arith, le, ended)))
       | in_default w ↦ rw w.older-is (rise_higher top c.args.write.version.begin os rise le)
     ]
 
@@ -60,7 +65,7 @@ returns-clause-due c floor h lt =
     let os = c.args.older.now.items in
     elim c.match-version.branch [
       | in-Some w ↦
-          let o : Older = record { number = c.args.write.number; end = c.args.write.version.begin; version = w.in-Some.version } in
-          rw (w.older-is, w.push_back_reserved.ensures.items) (All-push (λ (p : Older). floor < p.end) os o h lt)
+          let (o, pushed, own, ended, said) = w.push.ensures.items in
+          rw (w.older-is, pushed) (All-push (λ (p : Older). floor < p.end) os o h (omega (arith, lt, ended)))
       | in_default w ↦ rw w.older-is h
     ]

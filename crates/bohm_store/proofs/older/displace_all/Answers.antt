@@ -12,6 +12,7 @@ use Rattle.bohm_store.proofs.older.displace_all.Goals as goal
 pub loop-i-init : goal.loop-i-init
 loop-i-init c = record {
   room = omega (arith, c.requires.room);
+  places = c.requires.places;
   versions = λ n linked. (sym (append-nil (older_of c.args.older.now.items n ++ held_at c.args.newest.now n)), linked);
   climbs = λ n top rise climb. (n, omega arith, rise, climb);
   due = λ floor n top rise climb h lt. h;
@@ -33,7 +34,8 @@ loop-i-preserved c =
     let was = c.loop-i.invariant in
     let made = c.displace.ensures in
     record {
-      room = omega (arith, was.room, made.len, made.capacity);
+      room = omega (arith, was.room, made.room);
+      places = omega (arith, was.places, made.places, c.displace.auto.newest);
       versions = λ n linked. (
           let (before, link) = was.versions n linked in
           let old : List Version = older_of c.args.older.now.items n ++ held_at c.args.newest.now n in (
@@ -57,7 +59,8 @@ pub returns-clause-versions : goal.returns-clause-versions
 returns-clause-versions c n linked =
     let ws = c.args.writes.now in
     let whole : take c.loop-i.i ws ≡ ws = take_all c.loop-i.i ws c.loop-i-test.false in
-    (c.loop-i.invariant.versions n linked).0 ∙ ap (λ (xs : List NumberedWrite). (older_of c.args.older.now.items n ++ held_at c.args.newest.now n) ++ versions_by xs n) whole
+    (c.loop-i.invariant.versions n linked).0
+    ∙ ap (λ (xs : List NumberedWrite). (older_of c.args.older.now.items n ++ held_at c.args.newest.now n) ++ versions_by xs n) whole
 
 pub returns-clause-climbs : goal.returns-clause-climbs
 returns-clause-climbs c n top rise climb =

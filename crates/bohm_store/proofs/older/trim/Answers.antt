@@ -6,7 +6,7 @@ use Rattle.bohm_store.proofs.older.trim.Goals as goal
 pub loop-preserved : goal.loop-preserved
 loop-preserved c =
     let o = c.in-Some.field-0 in
-    let new = c.take_due.new.older.items in
+    let new = c.take_due.new.self.items in
     let at : c.loop.older.items ≡ o ∷ new = c.in-Some.ensures.0 in
     record {
       versions = λ n held linked. (
@@ -27,7 +27,8 @@ pub returns-clause-linked : goal.returns-clause-linked
 returns-clause-linked c n held linked = rw c.in_default.ensures.0 ((c.loop.invariant.versions n held linked).1)
 
 pub returns-clause-due : goal.returns-clause-due
-returns-clause-due c top rise = rw c.in_default.ensures.0 (all_due c.args.floor top c.loop.older.items c.in_default.ensures.1 (c.loop.invariant.climbs top rise))
+returns-clause-due c top rise =
+    rw c.in_default.ensures.0 (all_due c.args.floor top c.loop.older.items c.in_default.ensures.1 (c.loop.invariant.climbs top rise))
 
 pub returns-clause-climbs : goal.returns-clause-climbs
 returns-clause-climbs c top rise = rw c.in_default.ensures.0 (c.loop.invariant.climbs top rise)

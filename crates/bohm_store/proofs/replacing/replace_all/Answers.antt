@@ -28,8 +28,10 @@ loop-i-preserved c n =
     let i = c.loop-i.i in
     let w : NumberedWrite = c.index-writes-i.result in
     let old = held_at c.args.newest.now n in
-    let more : versions_by (take (i + 1) ws) n ≡ versions_by (take i ws) n ++ (if (w.number == n) then w.version ∷ [] else []) = by_more ws i w n c.loop-i-test.true c.index-writes-i.is in
-    replaced_by old (versions_by (take i ws) n) (held_at c.loop-i.newest n) (held_at c.replace.new.newest n) w.version (w.number == n) (c.loop-i.invariant n) (c.replace.ensures n)
+    let more : versions_by (take (i + 1) ws) n ≡ versions_by (take i ws) n ++ (if (w.number == n) then w.version ∷ [] else []) =
+    by_more ws i w n c.loop-i-test.true c.index-writes-i.is in
+    replaced_by old (versions_by (take i ws) n) (held_at c.loop-i.newest n) (held_at c.replace.new.newest n) w.version (w.number == n)
+    (c.loop-i.invariant n) (c.replace.ensures n)
     ∙ ap (λ (vs : List Version). newest_only (old ++ vs)) (sym more)
 
 pub returns : goal.returns

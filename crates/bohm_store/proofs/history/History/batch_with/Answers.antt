@@ -25,7 +25,8 @@ returns-clause-next c =
     rw (← c.self.view_is) (record {
       first = c.by_place.ensures.first ∙ c.in_ok-plan.ensures.sources.first ∙ first;
       base = λ k declared.
-          (let here : list_any (declares_key k) c.args.txns.now ≡ true = subst (λ (ts : List Txn). list_any (declares_key k) ts ≡ true) (c.by_place.ensures.txns ∙ c.fork.ensures) declared in
+          (let here : list_any (declares_key k) c.args.txns.now
+          ≡ true = subst (λ (ts : List Txn). list_any (declares_key k) ts ≡ true) (c.by_place.ensures.txns ∙ c.fork.ensures) declared in
           let among : is_among names k ≡ true = c.in_ok-plan.ensures.keys.keys.each k ∙ here in
           ap (λ (es : List (List ℕ × Cell)). newest es k Absent) (c.by_place.ensures.base ∙ c.in_ok-base.ensures)
           ∙ rw c.keys-keys.ensures (newest_paired hold names k Absent among));

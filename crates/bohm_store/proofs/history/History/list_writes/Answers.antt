@@ -8,8 +8,12 @@ use Rattle.bohm_store.proofs.Same.{named_more}
 use Rattle.bohm_store.proofs.history.History.list_writes.Goals as goal
 
 pub returns-clause-same : goal.returns-clause-same
-returns-clause-same c = rw (← c.self.view_is) (named_more c.self.inside.numbered c.self.inside.names c.numbered_writes.new.names c.self.invariant c.len.ensures.behind c.numbered_writes.ensures.longer)
+returns-clause-same c =
+    let h = c.self.inside.numbered in
+    let more = c.numbered_writes.new.names in
+    rw (← c.self.view_is) (named_more h c.self.inside.names more c.self.invariant c.len.ensures.behind c.numbered_writes.ensures.longer)
 
 pub returns-clause-writes : goal.returns-clause-writes
 returns-clause-writes c =
-    subst (λ (names : List (List ℕ)). IfOk c.numbered_writes.result (λ v. AreWritesOf names (batch_of_finished c.args.finished.now) v.items)) (sym (keys_named (versions_at c.self.inside.numbered) 0 c.numbered_writes.new.names)) c.numbered_writes.ensures.writes
+    subst (λ (names : List (List ℕ)). IfOk c.numbered_writes.result (λ v. AreWritesOf names (batch_of_finished c.args.finished.now) v.items))
+    (sym (keys_named (versions_at c.self.inside.numbered) 0 c.numbered_writes.new.names)) c.numbered_writes.ensures.writes

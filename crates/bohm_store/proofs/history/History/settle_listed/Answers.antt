@@ -14,7 +14,9 @@ settle_newest-requires c =
     rw c.as_slice-names.ensures.names (record {
       names = c.as_slice-names.ensures.apart;
       long = omega (arith, c.in_ok-cover.ensures, c.len.ensures);
-      next = next_same (timeline names c.self.inside.numbered) (timeline names c.cover.new.self) c.args.batch.now (covered_same names c.self.inside.numbered c.cover.new.self c.cover.ensures.floor c.cover.ensures.top c.cover.ensures.versions) next;
+      next =
+          next_same (timeline names c.self.inside.numbered) (timeline names c.cover.new.self) c.args.batch.now
+          (covered_same names c.self.inside.numbered c.cover.new.self c.cover.ensures.floor c.cover.ensures.top c.cover.ensures.versions) next;
       writes = writes;
     })
 
@@ -27,7 +29,9 @@ settle_above-requires c =
     rw c.as_slice-names.ensures.names (record {
       names = c.as_slice-names.ensures.apart;
       long = omega (arith, c.in_ok-cover.ensures, c.len.ensures);
-      next = next_same (timeline names c.self.inside.numbered) (timeline names c.cover.new.self) c.args.batch.now (covered_same names c.self.inside.numbered c.cover.new.self c.cover.ensures.floor c.cover.ensures.top c.cover.ensures.versions) next;
+      next =
+          next_same (timeline names c.self.inside.numbered) (timeline names c.cover.new.self) c.args.batch.now
+          (covered_same names c.self.inside.numbered c.cover.new.self c.cover.ensures.floor c.cover.ensures.top c.cover.ensures.versions) next;
       writes = writes;
       floor = omega (arith, low, c.cover.ensures.top);
     })
@@ -41,7 +45,8 @@ returns-then-floor-top-clause-ok c =
     let txns = txns_of c.args.batch.now in
     let told = rw c.as_slice-names.ensures.names at c.settle_newest.ensures.settled in
     let end : mid.top + length txns ≡ c.args.floor = omega (arith, c.if-floor-top.true, c.top.ensures.top, c.len-2.ensures) in
-    rw (← c.self.view_is) (kept_same (timeline names old) (timeline names mid) (timeline names new) txns c.args.floor (covered_same names old mid c.cover.ensures.floor c.cover.ensures.top c.cover.ensures.versions)
+    rw (← c.self.view_is) (kept_same (timeline names old) (timeline names mid) (timeline names new) txns c.args.floor
+    (covered_same names old mid c.cover.ensures.floor c.cover.ensures.top c.cover.ensures.versions)
     (subst (λ (low : ℕ). IsSettledKept (timeline names mid) (timeline names new) txns low) end told))
 
 pub returns-clause-ok : goal.returns-clause-ok
@@ -51,4 +56,5 @@ returns-clause-ok c =
     let mid = c.cover.new.self in
     let new = c.settle_above.new.self in
     let told = rw c.as_slice-names.ensures.names at c.in_ok-settle_above.ensures.ok in
-    rw (← c.self.view_is) (kept_same (timeline names old) (timeline names mid) (timeline names new) (txns_of c.args.batch.now) c.args.floor (covered_same names old mid c.cover.ensures.floor c.cover.ensures.top c.cover.ensures.versions) told)
+    rw (← c.self.view_is) (kept_same (timeline names old) (timeline names mid) (timeline names new) (txns_of c.args.batch.now) c.args.floor
+    (covered_same names old mid c.cover.ensures.floor c.cover.ensures.top c.cover.ensures.versions) told)

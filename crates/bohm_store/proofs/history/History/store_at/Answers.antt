@@ -18,6 +18,8 @@ returns-in-Ok-clause-past c =
     let h = c.self.inside.numbered in
     let m = c.len-known.result in
     let low : m ≤ length names = omega (arith, c.len-known.ensures.len, c.self.invariant) in
-    let same : (k : List ℕ) → past (timeline (take m names) h) ts k ≡ past (timeline names h) ts k = λ k. ap (λ (vs : List Version). cell_at ts vs Absent) (sym (shorter h names m k low (λ n le. c.len-known.ensures.behind n (omega (arith, le, c.len-known.ensures.len))))) in
+    let same : (k : List ℕ) → past (timeline (take m names) h) ts k ≡ past (timeline names h) ts k =
+    λ k. ap (λ (vs : List Version). cell_at ts vs Absent)
+    (sym (shorter h names m k low (λ n le. c.len-known.ensures.behind n (omega (arith, le, c.len-known.ensures.len))))) in
     let told = rw c.as_slice.ensures.names at c.in-Ok.ensures.past in
     rw (← c.self.view_is) (told ∙ (λ i k. same k i))

@@ -13,4 +13,5 @@ returns c =
     let items = c.self.inside.newest.items in
     let v : Held = get_or items n Never in
     let here : c.held_of.result ≡ v = c.held_of.ensures ∙ ap (λ (xs : List Held). get_or xs n Never) c.deref.ensures.value in
-    rw (← c.self.view_is) (c.cell.ensures ∙ ap held_cell here ∙ sym (cell_held c.self.inside.top (older_of os n) v (ends_of os n) (c.self.invariant.linked n) (as_many os n) (c.self.invariant.low n)))
+    rw (← c.self.view_is) (c.cell.ensures ∙ ap held_cell here
+    ∙ sym (cell_held c.self.inside.top (older_of os n) v (ends_of os n) (c.self.invariant.linked n) (as_many os n) (c.self.invariant.low n)))

@@ -10,7 +10,9 @@ use Rattle.bohm_store.proofs.OlderVersions.{first_seen}
 use Rattle.bohm_store.proofs.numbered.NumberedHistory.cell_at.Goals as goal
 use Rattle.bohm_store.proofs.numbered.NumberedHistory.cell_at.Goals.{After-cell_before}
 
-seen : (c : After-cell_before) → c.cell_before.result ≡ cell_at c.args.ts (older_of c.self.inside.older.items c.args.number ++ held_at c.self.inside.newest.items c.args.number) cells.Absent
+seen : (c : After-cell_before)
+    → c.cell_before.result ≡ cell_at c.args.ts
+    (older_of c.self.inside.older.items c.args.number ++ held_at c.self.inside.newest.items c.args.number) cells.Absent
 seen c =
     let n = c.args.number in
     let ts = c.args.ts in
@@ -25,4 +27,7 @@ pub returns-clause-cell : goal.returns-clause-cell
 returns-clause-cell c = rw (← c.self.view_is) (seen c)
 
 pub returns-clause-newest : goal.returns-clause-newest
-returns-clause-newest c = rw (← c.self.view_is, seen c) (cell_at-newest c.args.ts (older_of c.self.inside.older.items c.args.number ++ held_at c.self.inside.newest.items c.args.number) (c.self.invariant.rising c.args.number))
+returns-clause-newest c =
+    rw (← c.self.view_is, seen c) (cell_at-newest c.args.ts
+    (older_of c.self.inside.older.items c.args.number ++ held_at c.self.inside.newest.items c.args.number)
+    (c.self.invariant.rising c.args.number))

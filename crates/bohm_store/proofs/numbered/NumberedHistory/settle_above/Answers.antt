@@ -12,4 +12,5 @@ trim-requires c =
 pub returns-in-Ok-clause-ok : goal.returns-in-Ok-clause-ok
 returns-in-Ok-clause-ok c =
     let done = c.trim.ensures in
-    trim_settled c.args.names.now (timeline c.args.names.now c.args.self.now) c.settle_writes.new.self c.trim.new.self (txns_of c.args.batch.now) c.args.floor c.requires.names c.in-Ok.ensures.ok done.floor done.top done.versions done.unchanged
+    trim_settled c.args.names.now (timeline c.args.names.now c.args.self.now) c.settle_writes.new.self c.trim.new.self
+    (txns_of c.args.batch.now) c.args.floor c.requires.names c.in-Ok.ensures.ok done.floor done.top done.versions done.unchanged

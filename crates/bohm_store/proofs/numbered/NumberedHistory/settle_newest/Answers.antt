@@ -24,7 +24,8 @@ invariant_of-self c =
     let value = c.as_mut_slice.ensures.value in
     let is = with_items_is c.self.inside.newest newest (omega (arith, c.replace_all.auto.newest, ap length value, c.as_mut_slice.ensures.len)) in
     let old : Numbered = record { floor = c.self.inside.floor; top = c.self.inside.top; newest = items; older = c.self.inside.older.items } in
-    let new : Numbered = record { floor = c.self.inside.top + c.len.result; top = c.self.inside.top + c.len.result; newest = newest; older = c.clear.new.self.items } in
+    let new : Numbered =
+    record { floor = c.self.inside.top + c.len.result; top = c.self.inside.top + c.len.result; newest = newest; older = c.clear.new.self.items } in
     let end : c.self.inside.top + c.len.result ≡ c.self.inside.top + length (txns_of b) = ap (λ (n : ℕ). c.self.inside.top + n) c.len.ensures in
     let done : (n : ℕ) → held_at newest n ≡ newest_only (held_at items n ++ versions_by ws n) = rw value at c.replace_all.ensures in
     rw is (numbered names b old new ws c.self.invariant c.requires.names given c.requires.writes end end c.clear.ensures.items done)
@@ -40,7 +41,8 @@ returns-clause-settled c =
     let value = c.as_mut_slice.ensures.value in
     let is = with_items_is c.self.inside.newest newest (omega (arith, c.replace_all.auto.newest, ap length value, c.as_mut_slice.ensures.len)) in
     let old : Numbered = record { floor = c.self.inside.floor; top = c.self.inside.top; newest = items; older = c.self.inside.older.items } in
-    let new : Numbered = record { floor = c.self.inside.top + c.len.result; top = c.self.inside.top + c.len.result; newest = newest; older = c.clear.new.self.items } in
+    let new : Numbered =
+    record { floor = c.self.inside.top + c.len.result; top = c.self.inside.top + c.len.result; newest = newest; older = c.clear.new.self.items } in
     let end : c.self.inside.top + c.len.result ≡ c.self.inside.top + length (txns_of b) = ap (λ (n : ℕ). c.self.inside.top + n) c.len.ensures in
     let done : (n : ℕ) → held_at newest n ≡ newest_only (held_at items n ++ versions_by ws n) = rw value at c.replace_all.ensures in
     rw (← c.self.view_is) (rw is (settled_kept names b old new ws c.self.invariant c.requires.names given c.requires.writes end end c.clear.ensures.items done))

@@ -30,14 +30,17 @@ invariant_of-self c =
     let linked = rw value at c.in-Ok.ensures.linked in
     let grew : (n : ℕ) → versions_at new n ≡ versions_at old n ++ versions_by ws n = λ n. versions n (was.linked n) in
     let climbs = climb names b old ws was c.requires.names given c.requires.writes.below c.requires.writes.listed in
-    let rise : EndsRise (c.self.inside.top + 1) c.self.inside.older.items = rise_higher c.self.inside.top (c.self.inside.top + 1) c.self.inside.older.items was.climbs (omega arith) in
+    let rise : EndsRise (c.self.inside.top + 1) c.self.inside.older.items =
+    rise_higher c.self.inside.top (c.self.inside.top + 1) c.self.inside.older.items was.climbs (omega arith) in
     rw is (record {
       ordered = omega (arith, was.ordered);
       low = grown_low names b old ws was c.requires.names given c.requires.writes.below c.requires.writes.listed new refl end grew;
       rising = grown_rises names b old ws was c.requires.names given c.requires.writes.below c.requires.writes.listed new refl end grew;
       linked = λ n. linked n (was.linked n);
       climbs = rw end (c.in-Ok.ensures.climbs (c.self.inside.top + 1) (c.self.inside.top + length (txns_of b)) rise climbs);
-      due = c.in-Ok.ensures.due c.self.inside.floor (c.self.inside.top + 1) (c.self.inside.top + length (txns_of b)) rise climbs was.due (omega (arith, was.ordered));
+      due =
+          c.in-Ok.ensures.due c.self.inside.floor (c.self.inside.top + 1) (c.self.inside.top + length (txns_of b)) rise climbs was.due
+          (omega (arith, was.ordered));
     })
 
 pub returns-in-Ok-clause-ok : goal.returns-in-Ok-clause-ok

@@ -35,10 +35,15 @@ returns-in-Ok-clause-past c =
     let es = named (versions_at h) 0 names in
     let sorted = c.sort_unstable_by.new.self.items in
     let unique : IsDistinct bytes_eq (keys_of es) = rw (keys_named (versions_at h) 0 names) c.requires.names in
-    let each : (n : ℕ) → cell_at ts (first_after ts os n (held_at c.deref.result.now n)) cells.Absent ≡ cell_at ts (versions_at h n) cells.Absent = λ n. ap (λ (xs : List Held). cell_at ts (first_after ts os n (held_at xs n)) cells.Absent) c.deref.ensures.value ∙ sym (first_seen ts os n (held_at items n) (c.self.invariant.rising n) (c.self.invariant.linked n)) in
-    let is : c.in-Ok.list.items ≡ timeline_entries_at ts es = c.in-Ok.ensures ∙ entries_same ts (λ n. first_after ts os n (held_at c.deref.result.now n)) (versions_at h) 0 names (λ n low high. each n) in
-    let moved : IsPermutation (timeline_entries_at ts es) sorted = subst (λ (xs : List (List ℕ × ℤ)). IsPermutation xs sorted) is c.sort_unstable_by.ensures.permutation in
-    let same : (k : List ℕ) → _ = λ k. ap (λ (s : Store). cell_in s k) (same_moved (timeline_entries_at ts es) sorted moved (distinct_held ts es unique)) ∙ cell_held ts k es unique in
+    let each : (n : ℕ) → cell_at ts (first_after ts os n (held_at c.deref.result.now n)) cells.Absent ≡ cell_at ts (versions_at h n) cells.Absent =
+    λ n. ap (λ (xs : List Held). cell_at ts (first_after ts os n (held_at xs n)) cells.Absent) c.deref.ensures.value
+    ∙ sym (first_seen ts os n (held_at items n) (c.self.invariant.rising n) (c.self.invariant.linked n)) in
+    let is : c.in-Ok.list.items ≡ timeline_entries_at ts es =
+    c.in-Ok.ensures ∙ entries_same ts (λ n. first_after ts os n (held_at c.deref.result.now n)) (versions_at h) 0 names (λ n low high. each n) in
+    let moved : IsPermutation (timeline_entries_at ts es) sorted =
+    subst (λ (xs : List (List ℕ × ℤ)). IsPermutation xs sorted) is c.sort_unstable_by.ensures.permutation in
+    let same : (k : List ℕ) → _ =
+    λ k. ap (λ (s : Store). cell_in s k) (same_moved (timeline_entries_at ts es) sorted moved (distinct_held ts es unique)) ∙ cell_held ts k es unique in
     rw (← c.self.view_is) (λ i k. same k i)
 
 pub returns-in-Ok-clause-entries : goal.returns-in-Ok-clause-entries
@@ -51,8 +56,13 @@ returns-in-Ok-clause-entries c =
     let es = named (versions_at h) 0 names in
     let sorted = c.sort_unstable_by.new.self.items in
     let unique : IsDistinct bytes_eq (keys_of es) = rw (keys_named (versions_at h) 0 names) c.requires.names in
-    let each : (n : ℕ) → cell_at ts (first_after ts os n (held_at c.deref.result.now n)) cells.Absent ≡ cell_at ts (versions_at h n) cells.Absent = λ n. ap (λ (xs : List Held). cell_at ts (first_after ts os n (held_at xs n)) cells.Absent) c.deref.ensures.value ∙ sym (first_seen ts os n (held_at items n) (c.self.invariant.rising n) (c.self.invariant.linked n)) in
-    let is : c.in-Ok.list.items ≡ timeline_entries_at ts es = c.in-Ok.ensures ∙ entries_same ts (λ n. first_after ts os n (held_at c.deref.result.now n)) (versions_at h) 0 names (λ n low high. each n) in
-    let moved : IsPermutation (timeline_entries_at ts es) sorted = subst (λ (xs : List (List ℕ × ℤ)). IsPermutation xs sorted) is c.sort_unstable_by.ensures.permutation in
+    let each : (n : ℕ) → cell_at ts (first_after ts os n (held_at c.deref.result.now n)) cells.Absent ≡ cell_at ts (versions_at h n) cells.Absent =
+    λ n. ap (λ (xs : List Held). cell_at ts (first_after ts os n (held_at xs n)) cells.Absent) c.deref.ensures.value
+    ∙ sym (first_seen ts os n (held_at items n) (c.self.invariant.rising n) (c.self.invariant.linked n)) in
+    let is : c.in-Ok.list.items ≡ timeline_entries_at ts es =
+    c.in-Ok.ensures ∙ entries_same ts (λ n. first_after ts os n (held_at c.deref.result.now n)) (versions_at h) 0 names (λ n low high. each n) in
+    let moved : IsPermutation (timeline_entries_at ts es) sorted =
+    subst (λ (xs : List (List ℕ × ℤ)). IsPermutation xs sorted) is c.sort_unstable_by.ensures.permutation in
     entries_listed (timeline_entries_at ts es) sorted moved (distinct_held ts es unique)
-    (c.sort_unstable_by.ensures.sorted (λ x y. is_lt (slice_cmp nat_cmp x.0 y.0)) (ranks_by nat_list_cmp_total (λ e. e.0)) (answers_always _ (λ a r. is_lt r ≡ is_lt (slice_cmp nat_cmp a.0.now.0 a.1.0.now.0)) _ (λ f a r g q. search rules)))
+    (c.sort_unstable_by.ensures.sorted (λ x y. is_lt (slice_cmp nat_cmp x.0 y.0)) (ranks_by nat_list_cmp_total (λ e. e.0))
+    (answers_always _ (λ a r. is_lt r ≡ is_lt (slice_cmp nat_cmp a.0.now.0 a.1.0.now.0)) _ (λ f a r g q. search rules)))

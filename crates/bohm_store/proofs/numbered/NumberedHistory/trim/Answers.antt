@@ -14,7 +14,8 @@ invariant_of-self c =
     let old = c.self.inside.older.items in
     let floor = c.args.floor in
     let low : floor ≤ top = rw (← c.self.view_is) at c.requires in
-    let kept : (n : ℕ) → older_of c.trim.new.older.items n ++ held_at newest n ≡ kept_versions floor (older_of old n ++ held_at newest n) = λ n. c.trim.ensures.versions n top (held_at newest n) was.climbs (was.linked n) in
+    let kept : (n : ℕ) → older_of c.trim.new.older.items n ++ held_at newest n ≡ kept_versions floor (older_of old n ++ held_at newest n) =
+    λ n. c.trim.ensures.versions n top (held_at newest n) was.climbs (was.linked n) in
     record {
       ordered = low;
       low = λ n. rw (kept n) (All-kept (λ (v : Version). v.begin ≤ top) floor (older_of old n ++ held_at newest n) (was.low n));

@@ -5,7 +5,7 @@ use Rattle.bohm_tree.specs.declared.cell.Cell.TheVariants.{Absent}
 use Rattle.bohm_txn.specs.Stores.{cell_in, store_of}
 use Rattle.bohm_store.specs.Versions.{cell_at}
 use Rattle.bohm_store.proofs.Opened.{started_past}
-use Rattle.bohm_store.proofs.history.History.open_with_seed.Goals as goal
+use Rattle.bohm_store.proofs.history.History.restore_with_seed.Goals as goal
 
 pub invariant_of-result : goal.invariant_of-result
 invariant_of-result c =
@@ -18,5 +18,8 @@ returns-clause-versions c k = rw c.in_ok-names.ensures (c.in_ok-numbered.ensures
 pub returns-clause-past : goal.returns-clause-past
 returns-clause-past c =
     let look = cell_in (store_of c.args.entries.now) in
-    let same : (k : List ℕ) → _ = λ k. ap (λ vs. cell_at 0 vs Absent) (c.in_ok-numbered.ensures.versions k) ∙ started_past (look k) in
+    let same : (k : List ℕ) → _ = λ k. ap (λ vs. cell_at c.args.ts vs Absent) (c.in_ok-numbered.ensures.versions k) ∙ started_past c.args.ts (look k) in
     rw c.in_ok-names.ensures (λ i k. same k i)
+
+pub returns-clause-count : goal.returns-clause-count
+returns-clause-count c = rw c.in_ok-names.ensures c.in_ok-numbered.ensures.count
