@@ -23,7 +23,7 @@ Ends (Help text) out out' (Err (BadWords other)) = ⊥
 Ends (Bad text) out out' result = Keeps out out' × (result ≡ Err (BadWords text))
 Ends NoMemory out out' result = Keeps out out' × (result ≡ Err (Run run.NoMemory))
 
--- what was written to standard error
-abbrev pub Tells : NoAnswer → Option (List ℕ) → Option (List ℕ) → Type 0
-Tells (BadWords text) err err' = Appends err err' (string_bytes text)
-Tells (Run fault) err err' = Appends err err' (fault_line fault)
+-- what is told on standard error
+abbrev pub text_of : NoAnswer → List ℕ
+text_of (BadWords text) = string_bytes text
+text_of (Run fault) = fault_line fault

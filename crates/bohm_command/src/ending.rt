@@ -1,25 +1,27 @@
-//! How a program ends.
+//! How a program ends: help, messages, exit status.
 
-ghost use Rattle.std.specs.Prelude.{◌≡◌, OnOk};
+ghost use Rattle.std.specs.Prelude.{◌≡◌, OnErr, OnOk};
+ghost use Rattle.std.specs.Io.KnownBytes.{Appends};
 ghost use Rattle.std.specs.Process.{exit_status};
-ghost use Rattle.bohm_command.specs.Endings.{status_of, Ends, Tells};
+ghost use Rattle.bohm_run.specs.FaultLine.{AppendsFront};
+ghost use Rattle.bohm_command.specs.Endings.{status_of, text_of, Ends};
 ghost use Rattle.bohm_command.specs.declared.ending.NoAnswer.TheVariants.{Run};
 
 use crate::fault::WordFault;
-use bohm_run::{RunFault, write_all, write_fault};
+use bohm_run::{RunFault, write_all, write_bytes, write_fault};
 use std::io::{self, Write};
 use std::process::ExitCode;
 
 /// The exit status where the run was refused.
 const REFUSED: u8 = 1;
 
-/// The exit status where the words were refused.
+/// The exit status where the arguments were refused.
 const BAD_WORDS: u8 = 2;
 
 /// Why a program gives no answer.
 #[derive(Debug, Drop)]
 pub enum NoAnswer {
-    /// The words are none of the program's, with the text that says so.
+    /// The arguments aren't the program's, with the text that says so.
     BadWords(String),
     /// The run was refused, or the help that was asked for couldn't be written.
     Run(RunFault),
@@ -33,8 +35,8 @@ impl From<RunFault> for NoAnswer {
     }
 }
 
-/// Ends a program whose words gave no request: help is the answer where it was asked for, and is
-/// written.
+/// Ends a program whose arguments gave no request: help is the answer where it was asked for, and
+/// is written.
 pub fn without_request<O: Write>(out: &mut O, fault: WordFault) -> Result<(), NoAnswer>
     ensures { Ends fault (O.contents out.old) (O.contents out.new) result }
 {
@@ -59,12 +61,16 @@ pub fn exit_code(answered: &Result<(), NoAnswer>) -> ExitCode
     }
 }
 
-/// Says why there is no answer. It takes no memory.
+/// Says why there is no answer. It allocates nothing. If the writer fails, it holds a beginning of
+/// the text.
 pub fn tell<E: Write>(err: &mut E, reason: &NoAnswer) -> io::Result<()>
-    ensures { OnOk result (Tells reason.now (E.contents err.old) (E.contents err.new)) }
+    ensures ok { OnOk result (Appends (E.contents err.old) (E.contents err.new)
+        (text_of reason.now)) }
+    ensures err { OnErr result (AppendsFront (E.contents err.old) (E.contents err.new)
+        (text_of reason.now)) }
 {
     match reason {
-        NoAnswer::BadWords(text) => err.write_all(text.as_bytes()),
+        NoAnswer::BadWords(text) => write_bytes(err, text.as_bytes()),
         NoAnswer::Run(fault) => write_fault(err, fault),
     }
 }

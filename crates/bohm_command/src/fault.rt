@@ -1,4 +1,4 @@
-//! What is wrong with words.
+//! Faults of the arguments.
 
 ghost use Rattle.std.specs.Prelude.{◌≡◌};
 ghost use Rattle.bohm_command.specs.Faults.{IsOfKind};
@@ -9,14 +9,14 @@ use clap::Error;
 use clap::error::ErrorKind;
 use std::alloc::{AllocError, AllocFailed, Global};
 
-/// Why words ask a program for nothing that it is to do.
+/// Why arguments give no request.
 #[derive(Debug, Drop)]
 pub enum WordFault {
-    /// The words are none of the program's, with the text that says so.
+    /// The arguments aren't the program's, with the text that says so.
     Bad(String),
     /// Help was asked for, with its text.
     Help(String),
-    /// A growth was refused.
+    /// An allocation failed.
     NoMemory,
 }
 
@@ -37,7 +37,7 @@ impl<T: Drop> From<AllocFailed<T>> for WordFault {
 }
 
 impl WordFault {
-    /// What clap says of the words, with its text.
+    /// What clap says of the arguments, with its text.
     pub(crate) fn of(alloc: Global, error: Error) -> WordFault
         ensures { IsOfKind (kind_of error) result }
     {

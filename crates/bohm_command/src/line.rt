@@ -1,4 +1,4 @@
-//! The line that a program is started with: its name and the words behind it.
+//! The command line: a program's name and its arguments.
 
 ghost use Rattle.std.specs.Prelude.{◌≡◌, true, [], ◌∷◌, map, string_bytes, IfOk, IfErr};
 ghost use Rattle.bohm_command.specs.Faults.{IsNoMemory, IsFoundAmong};
@@ -12,8 +12,8 @@ use std::alloc::{AllocError, Global};
 use std::env::{self, Env};
 use std::io;
 
-/// The words that the program of this name was started with, without the name. One that is no text,
-/// which clap can't be handed, is refused with the text that clap has for it in Rust.
+/// The arguments of the program of this name. One that isn't UTF-8, which clap can't be given here,
+/// is refused with the text that clap has for it in Rust.
 pub fn words_given<R: Env + AllocGlobal>(rt: &R, name: &str) -> Result<Vec<String>, WordFault> {
     let mut given = match env::args(rt) {
         Ok(given) => given,
@@ -35,7 +35,7 @@ pub fn words_given<R: Env + AllocGlobal>(rt: &R, name: &str) -> Result<Vec<Strin
     Ok(words)
 }
 
-/// What is said of a word that is no text.
+/// The message about an argument that isn't UTF-8.
 fn not_utf8(alloc: Global, name: &str) -> Result<String, AllocError> {
     format!(in alloc;
         "\
@@ -48,7 +48,7 @@ For more information, try '--help'.
     )
 }
 
-/// The program's name and the words.
+/// The program's name and its arguments.
 pub fn command_line<'a>(
     alloc: Global,
     name: &'a str,

@@ -1,3 +1,4 @@
 mod Moves
+mod Plans
 mod Sizes
 pub mod ForCallers

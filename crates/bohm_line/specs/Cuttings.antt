@@ -1,5 +1,5 @@
 -- Cuttings of a log into batches, and the plans that are right for them.
-use Rattle.std.specs.Prelude.{◌≡◌, ℕ, ◌+◌, ◌<◌, ◌≤◌, List, length, take, drop, slice_index, Bool, ◌&&◌, nat_le, Option, Some, None, if◌then◌else◌, All}
+use Rattle.std.specs.Prelude.{◌≡◌, ℕ, ◌+◌, ◌<◌, ◌≤◌, List, length, take, drop, slice_get, slice_index, Bool, ◌&&◌, nat_le, Option, Some, None, if◌then◌else◌, All}
 use Rattle.std.specs.List.{sum, list_all}
 use Rattle.bohm_tree.specs.Txn.{Txn}
 use Rattle.bohm_place.specs.Noting.{MayHaveKeysOf}
@@ -28,6 +28,11 @@ pub record IsPlanAt (c : Cutting) (i : ℕ) (p : Planned) : Type 0 where
   pub first : p.first ≡ first_at c i
   pub right : ∥ IsRightPlan (txns_at c i) p ∥₁
   pub keys : MayHaveKeysOf (txns_at c i) p
+
+-- each batch has its plan, in order
+pub record ArePlans (c : Cutting) (plans : List Planned) : Type 0 where
+  pub count : length plans ≡ length c.sizes
+  pub each : (i : ℕ) (p : Planned) → slice_get plans i ≡ Some p → IsPlanAt c i p
 
 -- ---- the sizes of batches
 

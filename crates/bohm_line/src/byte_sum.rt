@@ -1,4 +1,4 @@
-//! A partition of the keys.
+//! A partition of the keys by the sum of their bytes.
 
 ghost use Rattle.std.specs.Prelude.{◌≡◌, ◌<◌, ◌≤◌, ◌%◌, length, IfSome, is_some, nat_lt};
 ghost use Rattle.std.specs.List.{sum};

@@ -47,8 +47,8 @@ impl<'a> CutLog<'a> {
         self.cuts.count()
     }
 
-    /// The transactions of the batch at a place, counted from 0, ahead of which `start`
-    /// transactions stand.
+    /// The transactions of the batch at this index, counted from 0, with `start` transactions
+    /// before it.
     pub fn batch(&self, place: u32, start: usize) -> LogPart<'a>
         requires place { place < length (cutting_of self.now).sizes }
         requires start { start ≡ ahead (cutting_of self.now).sizes place }

@@ -1,4 +1,4 @@
-//! How a log is cut into batches.
+//! The sizes of a log's batches.
 
 ghost use Rattle.std.specs.Prelude.{◌≡◌, ◌<◌, ◌≤◌, ◌+◌, length, slice_index, Some, None, nat_le};
 ghost use Rattle.std.specs.Prelude.{IfOk, if◌then◌else◌};
@@ -51,9 +51,7 @@ fn total_of(sizes: &[u32]) -> Option<u32>
 }
 
 impl Cuts {
-    /// The cutting into batches of these sizes, if each is from 1 to 4096 and their total is at
-    /// most
-    /// 4294967295.
+    /// Batches of these sizes, if each is from 1 to 4096 and their total is at most 4294967295.
     pub fn new(sizes: Vec<u32>) -> Option<Cuts>
         ensures { result ≡ cuts_of sizes.items }
     {

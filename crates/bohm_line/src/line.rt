@@ -1,4 +1,4 @@
-//! The line of plans: planning tells each batch's plan to execution, once and in order.
+//! The plan queue: it carries each batch's plan to execution, once and in order.
 
 mod ends;
 mod note;

@@ -15,7 +15,7 @@ use std::alloc::Global;
 use std::sync::Wait;
 use std::thread::Threads;
 
-/// The plan of a batch, with its keys. A refusal gives the arrays up.
+/// The plan of a batch, with its keys. An error drops the arrays.
 fn plan_batch<P: Partition, R: Threads + Sync>(
     rt: &R,
     alloc: Global,
@@ -42,9 +42,9 @@ fn plan_batch<P: Partition, R: Threads + Sync>(
 }
 
 /// Plans the batches of a log and sends a note for each, in order: its plan, or that planning was
-/// refused, behind which there is none. `planned` is told the number of each batch, counted from 1,
-/// once its plan is made and before it is sent. It waits while the line is full, for ever where
-/// nobody takes.
+/// refused, after which there is none. It calls `planned` with the number of each batch, counted
+/// from 1, once its plan is made and before it is sent. It blocks while the queue is full, forever
+/// if nobody takes.
 ///
 /// There are as many planning workers as arrays of newest placeholders. The time grows with the
 /// number of keys that the transactions declare.

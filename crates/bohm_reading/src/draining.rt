@@ -1,4 +1,4 @@
-//! What a refused text has left.
+//! Reads the rest of a refused text.
 
 ghost use Rattle.std.specs.Prelude.{◌≤◌};
 ghost use Rattle.bohm_reading.specs.Reading.{Drains};

@@ -1,4 +1,4 @@
-//! Chunks in the order of their windows.
+//! Collects chunks in the order of their windows.
 
 ghost use Rattle.std.specs.Prelude.{◌≡◌, ◌+◌, ◌≤◌, length, IfOk, IfErr, Err};
 ghost use Rattle.bohm_reading.specs.Waves.{AreRead, bytes_of, windows_of, TakesChunk, TakesWave, RefusesWindow, RefusesWave};
@@ -9,7 +9,7 @@ use crate::parsing::{Parsed, Window};
 use bohm_text::{Chunk, WindowFault};
 use bohm_tree::Edition;
 
-/// Why a window behind so many lines is refused.
+/// Why a window after this many lines is refused.
 fn refusal(edition: Edition, lines: u64, window: &Window, fault: WindowFault) -> ReadingFault
     requires read { ReadsWindow edition window.now.text.items (Err fault) }
     requires short { lines + length window.now.text.items ≤ 67108864 }
@@ -25,7 +25,7 @@ fn refusal(edition: Edition, lines: u64, window: &Window, fault: WindowFault) ->
     }
 }
 
-/// Takes a window's chunk in, behind so many lines. It returns how many there are then.
+/// Takes a window's chunk in, after this many lines. It returns how many there are then.
 fn take_one(
     edition: Edition,
     chunks: &mut Vec<Chunk>,

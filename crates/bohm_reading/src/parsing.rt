@@ -1,4 +1,4 @@
-//! Windows that are read side by side.
+//! Parses windows in parallel.
 
 ghost use Rattle.std.specs.Prelude.{◌≡◌, ℕ, ◌<◌, All, IfOk, length, slice_index_or};
 ghost use Rattle.bohm_text.specs.Windows.{IsWindow};

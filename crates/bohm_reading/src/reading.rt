@@ -19,10 +19,10 @@ use std::io::Read;
 use std::mem;
 use std::thread::Threads;
 
-/// Where the reading of a text stands, behind the windows that were read.
+/// Where the reading of a text stands, after the windows that were read.
 #[derive(Drop)]
 pub struct Source {
-    /// What came behind the windows already: the beginning of the next one.
+    /// What came after the windows already: the beginning of the next one.
     pub rest: Vec<u8>,
     /// How many bytes came so far.
     pub total: usize,
@@ -50,7 +50,7 @@ fn first_refusal(text: &[u8], last: bool, fault: WindowFault) -> ReadingFault
 }
 
 /// Reads the first window of a text: the head, the store, and the transactions up to the last line
-/// `txn` once so many bytes came. Where it is refused, the rest of the text is read all the same,
+/// `txn` once this many bytes came. Where it is refused, the rest of the text is read all the same,
 /// since a failed read and a text that is too long come first.
 ///
 /// The time and memory grow with the length of the window.
@@ -90,10 +90,11 @@ pub fn read_first<R: Read>(
     Err(drain(reader, total, fault))
 }
 
-/// Reads the next windows of a text of this edition, at most so many, side by side: each in a thread
-/// of its own where there is more than one. A window is cut before its last line `txn` once it has so
-/// many bytes; where a transaction is longer, it goes on. Where a window is refused, the rest of the
-/// text is read all the same, since a failed read and a text that is too long come first.
+/// Reads the next windows of a text of this edition, at most this many, side by side: each in a
+/// thread of its own where there is more than one. A window is cut before its last line `txn` once
+/// it has this many bytes; where a transaction is longer, it goes on. Where a window is refused,
+/// the rest of the text is read all the same, since a failed read and a text that is too long come
+/// first.
 ///
 /// The chunks of the windows come back in their order. An `Err` leaves nothing to go on with.
 ///

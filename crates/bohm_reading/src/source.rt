@@ -1,4 +1,4 @@
-//! The bytes of a text, window after window.
+//! The bytes of a text, window by window.
 
 ghost use Rattle.std.specs.Prelude.{◌≡◌, ◌+◌, ◌++◌, ◌<◌, ◌≤◌, ℕ, List, [], length, take, drop, IfOk, IfErr, Err};
 ghost use Rattle.std.specs.Io.KnownBytes.{Consumes};
@@ -20,7 +20,7 @@ pub(crate) const READ_SIZE: usize = 65_536;
 /// The bytes of a newline and `txn`: the beginning of a cut that the next read may end.
 const HALF_CUT: usize = 4;
 
-/// A window, and what was read behind it.
+/// A window, and what was read after it.
 #[derive(Drop)]
 pub(crate) struct Piece {
     pub text: Vec<u8>,
@@ -71,9 +71,9 @@ fn divided(
     })
 }
 
-/// The next window, which begins with what was read already: once it has so many bytes it is cut
-/// before its last line `txn`, and where it has none behind its first line, it goes on. A cut is
-/// sought in what came last alone.
+/// The next window, which begins with what was read already: once it has this many bytes it is cut
+/// before its last line `txn`, and where it has none after its first line, it goes on. A cut is
+/// searched for in what came last alone.
 pub(crate) fn next_piece<R: Read>(
     alloc: Global,
     reader: &mut R,

@@ -1,4 +1,4 @@
-//! The next windows of a reader.
+//! Reads the next wave of windows.
 
 ghost use Rattle.std.specs.Prelude.{◌≡◌, ◌+◌, ◌<◌, ◌≤◌, ℕ, List, length, IfOk, IfErr, Err};
 ghost use Rattle.std.specs.Io.KnownBytes.{Consumes};
@@ -11,7 +11,7 @@ use crate::source::{LONGEST_TEXT, Piece, next_piece};
 use std::alloc::Global;
 use std::io::Read;
 
-/// Windows, and what was read behind them.
+/// Windows, and what was read after them.
 #[derive(Drop)]
 pub(crate) struct Wave {
     pub windows: Vec<Window>,
@@ -20,7 +20,7 @@ pub(crate) struct Wave {
     pub ended: bool,
 }
 
-/// The next windows, at most so many, in spare buffers as far as there are any.
+/// The next windows, at most this many, in spare buffers as far as there are any.
 pub(crate) fn next_wave<R: Read>(
     alloc: Global,
     reader: &mut R,

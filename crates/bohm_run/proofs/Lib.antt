@@ -5,4 +5,9 @@ mod Walks
 mod Replying
 mod Swept
 mod OneSweep
+mod CheckedWaveLaws
+mod ChunkLaws
+mod StreamLaws
+mod AnswerLaws
 pub mod ForCallers
+mod Fronts

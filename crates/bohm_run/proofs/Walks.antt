@@ -1,5 +1,5 @@
 -- A walk over a cut log, batch after batch.
-use Rattle.std.proofs.Common.{◌≡◌, ℕ, ◌+◌, ◌-◌, ◌<◌, ◌≤◌, ◌++◌, List, length, take, drop, refl, ap, sym, ◌∙◌, arith, Bool, true, false, [], ◌∷◌}
+use Rattle.std.proofs.Common.{◌≡◌, ℕ, ◌+◌, ◌-◌, ◌<◌, ◌≤◌, ◌++◌, List, length, take, drop, refl, ap, sym, ◌∙◌, arith, Bool, true, false, [], ◌∷◌, append_assoc, append-nil, subst, length-append, slice_get, Some}
 use Rattle.std.specs.Prelude.{slice_index, ℤ}
 use Rattle.std.specs.FinMap.{entries}
 use Rattle.std.specs.List.{sum}
@@ -12,8 +12,11 @@ use Rattle.bohm_txn.specs.Serial.{replies, state}
 use Rattle.bohm_txn.specs.Stores.{Store, cell_in, store_of, store_after}
 use Rattle.bohm_txn.proofs.ForCallers.{length-replies, state-front, cell_in-after, same_store}
 use Rattle.bohm_store.specs.Versions.{Timeline, past}
-use Rattle.bohm_line.specs.Cuttings.{Cutting, ahead, txns_at}
+use Rattle.bohm_place.specs.Plans.{Planned}
+use Rattle.bohm_line.specs.Cuttings.{ArePlans, Cutting, IsPlanAt, ahead, txns_at}
 use Rattle.bohm_txn.specs.Meaning.{Look}
+use Rattle.bohm_run.specs.declared.executing.Progress.{Progress}
+use Rattle.bohm_run.specs.Progresses.{GoesOn}
 use Rattle.bohm_run.specs.Runs.{IsApplied, IsWalked, IsHistoryOf, floor_after}
 use Rattle.bohm_run.proofs.Going.{went_on, at_rest}
 use Rattle.bohm_line.proofs.ForCallers.{ahead_next}
@@ -29,6 +32,39 @@ front_more c i start txns inside here is next =
 pub walked_on : (was mid now : Timeline) (c : Cutting) (i start keep : ℕ) (a : List Reply) (txns : List Txn) → was.floor ≤ was.top → i < length c.sizes → start ≡ ahead c.sizes i → txns ≡ txns_at c i → ahead c.sizes (i + 1) ≡ start + length txns
     → IsApplied was mid (take start c.log) keep a → IsApplied mid now txns keep (replies (past mid mid.top) txns) → IsApplied was now (take (start + length txns) c.log) keep (a ++ replies (past mid mid.top) txns)
 walked_on was mid now c i start keep a txns ordered inside here is next h g = rw (front_more c i start txns inside here is next) (went_on was mid now (take start c.log) txns keep a (replies (past mid mid.top) txns) ordered h g)
+
+-- a history and its replies go on by a batch
+pub goes_on_more : (was mid now : Progress) (c : Cutting) (i start keep : ℕ) (txns : List Txn) → was.history.floor ≤ was.history.top → i < length c.sizes → start ≡ ahead c.sizes i → txns ≡ txns_at c i → ahead c.sizes (i + 1) ≡ start + length txns
+    → GoesOn was mid (take start c.log) keep → GoesOn mid now txns keep → GoesOn was now (take (start + length txns) c.log) keep
+goes_on_more was mid now c i start keep txns ordered inside here is next h g =
+    let before = replies (past was.history was.history.top) (take start c.log) in
+    let more = replies (past mid.history mid.history.top) txns in
+    let on = walked_on was.history mid.history now.history c i start keep before txns ordered inside here is next h.applied g.applied in
+    record {
+      applied = subst (λ (a : List Reply). IsApplied was.history now.history (take (start + length txns) c.log) keep a) on.replies on;
+      replies = g.replies ∙ (ap (λ (a : List Reply). a ++ more) h.replies ∙ (append_assoc was.replies before more ∙ ap (λ (a : List Reply). was.replies ++ a) on.replies));
+    }
+
+-- before the first batch
+pub goes_nowhere : (p : Progress) (keep : ℕ) → GoesOn p p [] keep
+goes_nowhere p keep = record { applied = at_rest p.history keep; replies = sym (append-nil p.replies) }
+
+plan_at : (ys : List Planned) (p : Planned) (rest : List Planned) → slice_get (ys ++ p ∷ rest) (length ys) ≡ Some p
+plan_at [] p rest = refl
+plan_at (y ∷ ys) p rest = plan_at ys p rest
+
+-- the plan behind others is that of the batch behind theirs
+pub plan_there : (c : Cutting) (ys : List Planned) (p : Planned) (rest all : List Planned) → ys ++ p ∷ rest ≡ all → ArePlans c all → (length ys < length c.sizes) × IsPlanAt c (length ys) p
+plan_there c ys p rest all whole plans = (
+  omega (arith, ap length whole, length-append ys (p ∷ rest), plans.count),
+  plans.each (length ys) p (ap (λ (l : List Planned). slice_get l (length ys)) (sym whole) ∙ plan_at ys p rest),
+)
+
+-- behind all plans the whole log stands
+pub all_ahead : (c : Cutting) (n start : ℕ) → n ≡ length c.sizes → start ≡ ahead c.sizes n → sum c.sizes ≡ length c.log → take start c.log ≡ c.log
+all_ahead c n start all here total =
+    let whole : start ≡ length c.log = here ∙ (ap (ahead c.sizes) all ∙ (ap sum (take-length c.sizes) ∙ total)) in
+    ap (λ (m : ℕ). take m c.log) whole ∙ take-length c.log
 
 ahead_within : (sizes : List ℕ) (i : ℕ) → ahead sizes i ≤ sum sizes
 ahead_within sizes i = omega (arith, sum_by-take-drop (λ x. x) sizes i)

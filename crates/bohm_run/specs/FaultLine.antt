@@ -1,6 +1,7 @@
 -- The line of each fault.
-use Rattle.std.specs.Prelude.{ℕ, List, [], ◌∷◌, ◌++◌, codes}
+use Rattle.std.specs.Prelude.{◌≡◌, ℕ, List, [], ◌∷◌, ◌++◌, Option, codes}
 use Rattle.std.specs.Fmt.{decimal}
+use Rattle.std.specs.Io.KnownBytes.{Appends}
 use Rattle.bohm_txn.specs.declared.fault.CheckFault.{CheckFault}
 use Rattle.bohm_txn.specs.declared.fault.CheckKind.{CheckKind}
 use Rattle.bohm_txn.specs.declared.fault.CheckKind.TheVariants.{Order, Unread, Unwritten, Local, Limit}
@@ -36,3 +37,10 @@ fault_words (Write sent) = codes "refused: write" ++ spaced_decimal sent
 -- with its newline byte
 abbrev pub fault_line : RunFault → List ℕ
 fault_line f = fault_words f ++ 10 ∷ []
+
+-- what a writer holds grew by a beginning of these bytes
+pub record AppendsFront (written written' : Option (List ℕ)) (bytes : List ℕ) : Type 0 where
+  pub front : List ℕ
+  pub rest : List ℕ
+  pub whole : bytes ≡ front ++ rest
+  pub wrote : Appends written written' front

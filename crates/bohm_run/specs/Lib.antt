@@ -9,3 +9,8 @@ pub mod Replies
 pub mod Sweeps
 pub mod Times
 pub mod Sides
+pub mod Preparing
+pub mod CheckedWaves
+pub mod Reading
+pub mod Chunks
+pub mod Streaming

@@ -1,18 +1,22 @@
--- Timestamps whose store can't be printed.
-use Rattle.std.specs.Prelude.{◌-◌, ◌<◌, length}
-use Rattle.bohm_tree.specs.Document.{Document}
+-- Timestamps whose store can be printed, or can't.
+use Rattle.std.specs.Prelude.{◌≡◌, ℕ, ◌-◌, ◌<◌, ◌≤◌, unwrap_or}
 use Rattle.bohm_run.specs.Given.{Given}
-use Rattle.bohm_run.specs.Headline.{time_of}
 use Rattle.bohm_run.specs.declared.fault.RunFault.{RunFault}
 use Rattle.bohm_run.specs.declared.fault.RunFault.TheVariants.{Read, TooLong, Text, Check, Trimmed, Future, NoMemory, Write}
 
--- a fault of the timestamp that is asked for
-abbrev pub IsUnreadable : Given → Document → RunFault → Type 0
-IsUnreadable given d Read = ⊥
-IsUnreadable given d TooLong = ⊥
-IsUnreadable given d (Text fault) = ⊥
-IsUnreadable given d (Check fault) = ⊥
-IsUnreadable given d Trimmed = time_of given d < length d.log - given.keep
-IsUnreadable given d Future = length d.log < time_of given d
-IsUnreadable given d NoMemory = ⊥
-IsUnreadable given d (Write sent) = ⊥
+-- behind so many transactions the timestamp is the one that is asked for, and it is kept
+pub record IsReadableAt (given : Given) (count ts : ℕ) : Type 0 where
+  pub time : ts ≡ unwrap_or given.at count
+  pub there : ts ≤ count
+  pub kept : count - given.keep ≤ ts
+
+-- a fault of the timestamp that is asked for, behind so many transactions
+abbrev pub IsUnreadable : Given → ℕ → RunFault → Type 0
+IsUnreadable given count Read = ⊥
+IsUnreadable given count TooLong = ⊥
+IsUnreadable given count (Text fault) = ⊥
+IsUnreadable given count (Check fault) = ⊥
+IsUnreadable given count Trimmed = unwrap_or given.at count < count - given.keep
+IsUnreadable given count Future = count < unwrap_or given.at count
+IsUnreadable given count NoMemory = ⊥
+IsUnreadable given count (Write sent) = ⊥

@@ -1,4 +1,4 @@
-//! A log upon a history, on the caller's thread.
+//! Applies a log to a history on the caller's thread.
 
 ghost use Rattle.std.specs.Prelude.{◌≡◌, ◌+◌, ◌++◌, ◌<◌, ◌≤◌, ◌^◌, [], All, length, take, true, is_ok, IfOk, OnOk, OnErr};
 ghost use Rattle.std.specs.List.{sum};
@@ -25,8 +25,7 @@ use bohm_tree::NoMemory;
 use bohm_txn::{Replies, Scratch};
 use std::alloc::Global;
 
-/// Executes a batch by one worker, and what it set aside in log order. A refusal gives the batch
-/// up.
+/// Executes a batch by one worker, and what it deferred in log order. An error drops the batch.
 fn finish_alone<'a>(
     alloc: Global,
     batch: Batch<'a>,
@@ -45,7 +44,7 @@ fn finish_alone<'a>(
 }
 
 /// Runs the batch that follows the history's top, of which this is the plan, and appends its
-/// replies. A refusal changes nothing that is seen.
+/// replies. An error changes nothing that is seen.
 fn run_batch(
     alloc: Global,
     history: &mut History,
@@ -108,12 +107,12 @@ fn run_batches(
     Ok(())
 }
 
-/// Runs the transactions upon a history as `apply` does, on the caller's thread alone, for callers
+/// Applies the transactions to a history as `apply` does, on the caller's thread alone, for callers
 /// that can start no threads: it plans, executes and settles one batch after another. The scratch
 /// serves any number of calls.
 ///
-/// Where it is refused memory, the history stands at the end of a batch, and the replies up to
-/// there are answered: nothing is lost, and the rest can be applied again. The time grows with the
+/// Where an allocation fails, the history stands at the end of a batch, and the replies up to there
+/// are returned: nothing is lost, and the rest can be applied again. The time grows with the
 /// numbers of the transactions' terms, of the keys that each batch declares and of the log's keys.
 pub fn apply_alone(
     alloc: Global,

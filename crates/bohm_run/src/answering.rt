@@ -1,30 +1,31 @@
 //! A log from bytes to bytes.
 
-ghost use Rattle.std.specs.Prelude.{◌≡◌, ◌-◌, ◌≤◌, None, length, take, IfOk, OnOk, IfErr};
-ghost use Rattle.std.specs.FinMap.{entries};
-ghost use Rattle.bohm_txn.specs.Serial.{replies};
-ghost use Rattle.bohm_txn.specs.Stores.{store_of, store_after, cell_in};
+ghost use Rattle.std.specs.Prelude.{◌≡◌, ◌<◌, ◌≤◌, ℕ, List, Option, None, IfOk, OnOk, IfErr};
 ghost use Rattle.bohm_run.specs.Given.{Given};
-ghost use Rattle.bohm_run.specs.Headline.{answer_of, time_of, Answers, Refuses, ReadsDocument, IsReadable, IsBeforeWriting};
+ghost use Rattle.bohm_run.specs.Headline.{answer_of, Answers, Refuses, ReadsDocument, IsBeforeWriting};
+ghost use Rattle.bohm_run.specs.Streaming.{IsLogRun};
+ghost use Rattle.bohm_run.specs.Times.{IsReadableAt, IsUnreadable};
 ghost use Rattle.bohm_store.specs.Versions.{past};
-ghost use Rattle.bohm_run.specs.Times.{IsUnreadable};
+ghost use Rattle.bohm_txn.specs.Stores.{store_of, cell_in};
+ghost use Rattle.std.specs.FinMap.{entries};
 
 use crate::bytes::{read_all, write_all};
+use crate::chunks::RunState;
 use crate::fault::RunFault;
-use crate::running::{Answer, run};
 use crate::settings::Settings;
-use bohm_exec::OpenGate;
-use bohm_line::{ByteSum, Cuts};
+use crate::streaming::run_log;
 use bohm_log::HashSeed;
 use bohm_store::History;
-use bohm_text::{parse_with_seed, print_answer};
-use bohm_tree::{Key, NoMemory, Value};
-use bohm_txn::{Checked, Replies, check};
+use bohm_text::{parse_with_seed, put_store};
+use bohm_tree::{Key, MOST_TXNS, NoMemory, Value};
+use bohm_txn::{Checked, check};
 use std::alloc::Global;
 use std::io::{Read, Write};
 use std::random::RandomSource;
-use std::sync::Wait;
 use std::thread::Threads;
+
+/// How many bytes a window of a text has at least, but for the last one.
+const WINDOW_SIZE: usize = 262_144;
 
 /// The log that the reader holds, read to the reader's end, or why it is none. Its text is let go.
 /// Names are hashed from the seed.
@@ -40,15 +41,14 @@ pub fn read_log<R: Read>(alloc: Global, seed: HashSeed, reader: &mut R) -> Resul
     Ok(check(doc)?)
 }
 
-/// The timestamp whose store is printed, if it will be readable once the log has run. It is known
-/// before anything runs: a timestamp above the log's length is refused, and then one below the
-/// final floor.
-fn readable_time(checked: &Checked, settings: Settings) -> Result<u32, RunFault>
-    ensures time { IfOk result (λ ts. ts ≡ time_of settings checked.now) }
-    ensures readable { IfOk result (λ ts. IsReadable settings checked.now) }
-    ensures refused { IfErr result (IsUnreadable settings checked.now) }
+/// The timestamp whose store is printed, if it is readable behind so many transactions: a timestamp
+/// above their number is refused, and then one below the final floor.
+fn readable_time(count: usize, settings: Settings) -> Result<u32, RunFault>
+    requires { count ≤ MOST_TXNS }
+    ensures readable { IfOk result (IsReadableAt settings count) }
+    ensures refused { IfErr result (IsUnreadable settings count) }
 {
-    let end = checked.log().len() as u32;
+    let end = count as u32;
     let ts = settings.at().unwrap_or(end);
     if end < ts {
         return Err(RunFault::Future);
@@ -72,54 +72,22 @@ fn store_then(alloc: Global, history: &History, ts: u32) -> Result<Vec<(Key, Val
     }
 }
 
-/// The replies of a log, and the entries of the store of a timestamp. The log is let go.
-fn executed<T: Threads + Wait + Sync + RandomSource>(
-    rt: &T,
-    alloc: Global,
-    checked: Checked,
-    settings: Settings,
-    ts: u32,
-) -> Result<(Replies, Vec<(Key, Value)>), NoMemory>
-    requires there { ts ≤ length checked.log }
-    requires kept { length checked.log - settings.keep ≤ ts }
-    ensures replies { IfOk result
-        (λ a. a.0 ≡ replies (cell_in (store_of checked.store)) checked.log) }
-    ensures store { IfOk result
-        (λ a. a.1.items ≡ entries (store_after (store_of checked.store) (take ts checked.log))) }
+/// The text of the answer of a log that ran, with the store of a timestamp.
+fn answer(alloc: Global, state: RunState, ts: u32) -> Result<Vec<u8>, NoMemory>
+    requires kept { state.progress.history.floor ≤ ts }
+    requires there { ts ≤ state.progress.history.top }
+    ensures { IfOk result
+        (λ text. (keep : ℕ) (unread unread' : Option (List ℕ))
+        → (run : IsLogRun keep unread unread' state) → text.items ≡ answer_of run.document ts) }
 {
-    let cuts = Cuts::even(alloc, checked.log().len() as u32, settings.batch())?;
-    let Some(partition) = ByteSum::new(settings.parts()) else {
-        unreachable!()
-    };
-    let Answer { replies, history } = run(
-        rt,
-        alloc,
-        &checked,
-        &cuts,
-        settings.cc(),
-        settings.exec(),
-        settings.keep(),
-        &partition,
-        &OpenGate,
-    )?;
-    let store = store_then(alloc, &history, ts)?;
-    Ok((replies, store))
-}
-
-/// The text of the answer, with the store of a timestamp.
-fn answer<T: Threads + Wait + Sync + RandomSource>(
-    rt: &T,
-    alloc: Global,
-    checked: Checked,
-    settings: Settings,
-    ts: u32,
-) -> Result<Vec<u8>, NoMemory>
-    requires there { ts ≤ length checked.log }
-    requires kept { length checked.log - settings.keep ≤ ts }
-    ensures { IfOk result (λ text. text.items ≡ answer_of checked ts) }
-{
-    let (replies, store) = executed(rt, alloc, checked, settings, ts)?;
-    print_answer(alloc, &replies, store.as_slice())
+    let RunState {
+        progress,
+        mut text,
+        ..
+    } = state;
+    let store = store_then(alloc, &progress.history, ts)?;
+    put_store(&mut text, store.as_slice())?;
+    Ok(text)
 }
 
 /// Reads a log to the reader's end, runs it as the settings say, and writes the text of its answer
@@ -127,9 +95,19 @@ fn answer<T: Threads + Wait + Sync + RandomSource>(
 /// answer is made before the first byte is written. Every failure of a reader or a writer counts,
 /// an interrupted call too.
 ///
-/// The time grows with the text, with what the run takes (`run`) and with the number of the store's
-/// keys k as k log k. The memory grows with the text.
-pub fn run_text<T: Threads + Wait + Sync + RandomSource, R: Read, W: Write>(
+/// The log is read in windows, and runs as it is read: while `exec` workers execute the transactions
+/// of some windows, the next ones are read, checked and planned, `cc` of them side by side. Windows
+/// share out the planning, so the partitions of the keys aren't used. A log of one window is read and
+/// run on the caller's thread where one worker executes.
+///
+/// The time grows with the text and its answer, with the terms of the transactions and the keys that
+/// they declare, and with the number of the store's keys k as k log k. Reading, checking and planning
+/// are spread over `cc` threads, and the sweeps over `exec` threads; on one thread are the cutting of
+/// the windows, the bases and the settling of the batches, and the printing. The memory grows with
+/// the keys of the log, with the text of the answer, and with twice as many windows as are read side
+/// by side, a window being as long as the head and the store, or as a transaction, where these are
+/// longer than 256 KiB.
+pub fn run_text<T: Threads + Sync + RandomSource, R: Read, W: Write>(
     rt: &T,
     alloc: Global,
     reader: &mut R,
@@ -146,8 +124,31 @@ pub fn run_text<T: Threads + Wait + Sync + RandomSource, R: Read, W: Write>(
     // Before all faults but those of the writing the writer isn't touched.
     ensures untouched { IfErr result (λ e. IsBeforeWriting e → writer.new ≡ writer.old) }
 {
-    let checked = read_log(alloc, HashSeed::drawn(rt), reader)?;
-    let ts = readable_time(&checked, settings)?;
-    let text = answer(rt, alloc, checked, settings, ts)?;
+    run_text_in_windows(rt, alloc, reader, writer, settings, WINDOW_SIZE)
+}
+
+/// Runs a text as `run_text` does, in windows of so many bytes at least but for the last one. The
+/// answer and the refusals are the same for every size.
+pub fn run_text_in_windows<T: Threads + Sync + RandomSource, R: Read, W: Write>(
+    rt: &T,
+    alloc: Global,
+    reader: &mut R,
+    writer: &mut W,
+    settings: Settings,
+    size: usize,
+) -> Result<(), RunFault>
+    ensures ok { OnOk result
+        (Answers settings (R.remaining reader.old) (R.remaining reader.new) (W.contents writer.old)
+        (W.contents writer.new)) }
+    ensures err { IfErr result
+        (Refuses settings (R.remaining reader.old) (R.remaining reader.new) (W.contents writer.old)
+        (W.contents writer.new)) }
+
+    // Before all faults but those of the writing the writer isn't touched.
+    ensures untouched { IfErr result (λ e. IsBeforeWriting e → writer.new ≡ writer.old) }
+{
+    let state = run_log(rt, alloc, reader, settings, size)?;
+    let ts = readable_time(state.count, settings)?;
+    let text = answer(alloc, state, ts)?;
     write_all(writer, text.as_slice())
 }

@@ -1,4 +1,4 @@
-//! A log upon a history: planning in a thread of its own, ahead of execution.
+//! Applies a log to a history: planning in a thread of its own, ahead of execution.
 
 ghost use Rattle.std.specs.Prelude.{◌≡◌, ℕ, ◌+◌, ◌<◌, ◌^◌, [], All, length, take, true, is_ok};
 ghost use Rattle.std.specs.Prelude.{IfOk};
@@ -26,12 +26,12 @@ use std::sync::Wait;
 use std::thread::Threads;
 use std::{mem, thread};
 
-/// What running a log upon a history answers.
+/// The result of applying a log to a history.
 #[derive(Drop)]
 pub struct Applied {
     /// The replies of the transactions that were settled, in log order.
     pub replies: Replies,
-    /// Whether all of them were settled, or the rest was refused for want of memory.
+    /// Whether all of them were settled, or an allocation failed before the rest.
     pub end: Result<(), NoMemory>,
 }
 
@@ -119,7 +119,7 @@ fn walk<L: Line + Send + Sync, P: Partition, G: Gate, R: Threads + Wait + Sync>(
     )
 }
 
-/// Goes through some transactions, whose cutting the line of plans is for.
+/// Goes through some transactions, whose cutting the plan queue is for.
 fn apply_on<L: Line + Send + Sync, P: Partition, G: Gate, R: Threads + Wait + Sync>(
     rt: &R,
     alloc: Global,
@@ -154,8 +154,8 @@ fn apply_on<L: Line + Send + Sync, P: Partition, G: Gate, R: Threads + Wait + Sy
     }
 }
 
-/// Runs the transactions upon a history, in batches of this cutting, the first of which starts
-/// behind the top.
+/// Applies the transactions to a history, in batches of this cutting, the first of which starts
+/// after the top.
 ///
 /// A planning side in a thread of its own plans batch after batch, with `cc` workers, and is up to
 /// three batches ahead; of each batch that it has planned `exec` workers sweep their shares at the
@@ -163,9 +163,9 @@ fn apply_on<L: Line + Send + Sync, P: Partition, G: Gate, R: Threads + Wait + Sy
 /// that. Both numbers of workers may be larger than there is work for: no worker starts that has
 /// none.
 ///
-/// Where it is refused memory or the planning side's thread, the history stands at the end of a
-/// batch, and the replies up to there are answered: nothing is lost, and the rest can be applied
-/// again.
+/// Where an allocation or the start of the planning side's thread fails, the history stands at the
+/// end of a batch, and the replies up to there are returned: nothing is lost, and the rest can be
+/// applied again.
 ///
 /// The time grows with the terms of the transactions, these spread over the executing workers where
 /// bodies don't wait for one another. On the executing side's one thread it grows besides with the

@@ -1,16 +1,14 @@
-//! Bytes from a reader, and bytes to a writer.
+//! Reads all bytes of a reader, and writes bytes to a writer.
 
 ghost use Rattle.std.specs.Prelude.{◌≡◌, ◌<◌, ◌≤◌, List, ℕ, length, IfOk, IfErr, OnOk, Err};
 ghost use Rattle.std.specs.Io.KnownBytes.{Consumes, IsAtEnd, Appends};
 ghost use Rattle.bohm_run.specs.Bytes.{IsReadFault, IsWriteFault};
 
 use crate::fault::RunFault;
+use bohm_reading::LONGEST_TEXT;
 use bohm_tree::NoMemory;
 use std::alloc::Global;
 use std::io::{Read, Write};
-
-/// The most bytes that a text may have.
-pub const LONGEST_TEXT: usize = 67_108_864;
 
 /// How many bytes one read asks for.
 const READ_SIZE: usize = 65_536;

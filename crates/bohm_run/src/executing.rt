@@ -5,6 +5,7 @@ ghost use Rattle.bohm_txn.specs.Faulty.{IsWellFormedTxn};
 ghost use Rattle.bohm_place.specs.Noting.{MayHaveKeysOf};
 ghost use Rattle.bohm_place.specs.Plans.{IsRightPlan};
 ghost use Rattle.bohm_line.specs.CutLogs.{cutting_of};
+ghost use Rattle.bohm_line.specs.Cuttings.{ArePlans};
 ghost use Rattle.bohm_run.specs.Progresses.{GoesOn, IsWalkOf, StaysPut};
 ghost use Rattle.bohm_run.specs.Sides.{CanExecute};
 
@@ -71,6 +72,35 @@ impl Executor {
             &finished,
             self.keep,
         )?;
+        Ok(())
+    }
+
+    /// Runs the batches of a log by their plans. A refusal ends the run.
+    #[tactic(auto, using(crate::proofs::Walks::goes_nowhere))]
+    pub(crate) fn run_planned<G: Gate, R: Threads + Sync>(
+        &mut self,
+        rt: &R,
+        alloc: Global,
+        progress: &mut Progress,
+        log: CutLog<'_>,
+        plans: Vec<Plan>,
+        gate: &G,
+    ) -> Result<(), NoMemory>
+        requires first { (cutting_of log).first ≡ progress.old.history.top + 1 }
+        requires ordered { progress.old.history.floor ≤ progress.old.history.top }
+        requires plans { ArePlans (cutting_of log) plans.items }
+        ensures keep { self.new.keep ≡ self.old.keep }
+        ensures ran { OnOk result
+            (GoesOn progress.old progress.new (cutting_of log.entry).log self.old.keep) }
+    {
+        let mut start = 0usize;
+        let mut place = 0u32;
+        for plan in plans {
+            let txns = log.batch(place, start);
+            self.run_batch(rt, alloc, progress, &txns, plan, gate)?;
+            start += txns.len();
+            place += 1;
+        }
         Ok(())
     }
 

@@ -2,8 +2,9 @@
 
 ghost use Rattle.std.specs.Prelude.{◌≡◌};
 ghost use Rattle.bohm_run.specs.declared.fault.RunFault.TheVariants.{NoMemory, Check};
-ghost use Rattle.bohm_run.specs.Refusing.{refusal_of};
+ghost use Rattle.bohm_run.specs.Refusing.{refusal_of, reading_refusal_of};
 
+use bohm_reading::ReadingFault;
 use bohm_text::TextFault;
 use bohm_tree::NoMemory;
 use bohm_txn::CheckFault;
@@ -18,7 +19,7 @@ pub enum RunFault {
     /// More bytes came than a text may have.
     #[error("the text is too long")]
     TooLong,
-    /// The text is no document's. Want of memory is never told so.
+    /// The text isn't a document's. An allocation failure is never reported so.
     #[error("the text is no log's: {0:?}")]
     Text(TextFault),
     /// The document isn't well formed.
@@ -30,7 +31,7 @@ pub enum RunFault {
     /// The timestamp asked for lies above the log's length.
     #[error("that timestamp lies in the future")]
     Future,
-    /// A growth was refused.
+    /// An allocation failed.
     #[error("out of memory")]
     NoMemory,
     /// A write failed or took no byte, or the flush failed, after this many bytes of the answer.
@@ -53,6 +54,20 @@ impl From<TextFault> for RunFault {
         match fault {
             TextFault::NoMemory => RunFault::NoMemory,
             _ => RunFault::Text(fault),
+        }
+    }
+}
+
+impl From<ReadingFault> for RunFault {
+    ghost from_gives = { λ fault e. e ≡ reading_refusal_of fault };
+
+    fn from(fault: ReadingFault) -> RunFault {
+        match fault {
+            ReadingFault::Read => RunFault::Read,
+            ReadingFault::TooLong => RunFault::TooLong,
+            ReadingFault::Line(n) => RunFault::Text(TextFault::Line(n)),
+            ReadingFault::Short => RunFault::Text(TextFault::Short),
+            ReadingFault::NoMemory => RunFault::NoMemory,
         }
     }
 }

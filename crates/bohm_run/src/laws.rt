@@ -1,4 +1,4 @@
-//! Laws over the definitions alone. No running call uses them.
+//! Laws over the definitions alone. No call uses them.
 
 ghost use Rattle.std.specs.Prelude.{ℕ, ◌≤◌, ◌++◌, List};
 ghost use Rattle.bohm_tree.specs.Txn.{Txn};

@@ -30,8 +30,7 @@ fn values_shown(values: &mut Vec<Value>, finished: &Finished<'_>, t: u32) -> Res
     Ok(())
 }
 
-/// Appends the reply of the transaction with a timestamp. A refusal leaves the replies as they
-/// were.
+/// Appends the reply of the transaction with a timestamp. An error leaves the replies as they were.
 fn push_reply(
     replies: &mut Replies,
     values: &mut Vec<Value>,
@@ -52,7 +51,8 @@ fn push_reply(
     }
 }
 
-/// Pushes the replies as far as there is memory. One list takes the shows of each in turn.
+/// Pushes the replies as far as allocations succeed. One list holds the shown values of each reply
+/// in turn.
 fn push_some(alloc: Global, replies: &mut Replies, finished: &Finished<'_>) -> Result<(), NoMemory>
     ensures ok { OnOk result (replies.new ≡ replies.old ++ replies_of finished.now) }
     ensures err { OnErr result
@@ -66,7 +66,7 @@ fn push_some(alloc: Global, replies: &mut Replies, finished: &Finished<'_>) -> R
     Ok(())
 }
 
-/// Appends the reply of each transaction of a finished batch, in log order. A refusal leaves the
+/// Appends the reply of each transaction of a finished batch, in log order. An error leaves the
 /// list as it was. The time grows with the number of the batch's statements.
 fn push_replies(
     alloc: Global,
@@ -85,7 +85,7 @@ fn push_replies(
 }
 
 /// Appends the replies of the finished batch, which is the next one of the history, and settles it
-/// there, trimmed at so many timestamps below the batch's end. A refusal changes nothing that is
+/// there, trimmed at this many timestamps below the batch's end. An error changes nothing that is
 /// seen.
 pub(crate) fn settle_batch(
     alloc: Global,

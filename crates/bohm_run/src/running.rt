@@ -19,7 +19,7 @@ use std::random::RandomSource;
 use std::sync::Wait;
 use std::thread::Threads;
 
-/// What a run answers: the replies in log order, and the history that it leaves.
+/// The result of a run: the replies in log order, and the history that it leaves.
 #[derive(Drop)]
 pub struct Answer {
     pub replies: Replies,
@@ -32,10 +32,10 @@ pub struct Answer {
 /// in log order.
 ///
 /// The workers are those of `apply`; `keep` is how many timestamps below the last batch's end stay
-/// readable. `NoMemory` where a growth or the planning side's thread was refused.
+/// readable. `NoMemory` where an allocation or the start of the planning side's thread failed.
 ///
-/// Keys are hashed from a seed that is drawn for this run, so nobody who writes a log can choose
-/// keys that collide. A caller without a source of randomness opens a history and calls `apply`.
+/// Keys are hashed from a seed that is drawn for this run, so an author of logs can't choose
+/// colliding keys. A caller without a source of randomness opens a history and calls `apply`.
 ///
 /// The time grows with the keys of the starting store and with what `apply` takes.
 pub fn run<P: Partition, G: Gate, R: Threads + Wait + Sync + RandomSource>(

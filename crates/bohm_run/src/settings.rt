@@ -1,4 +1,4 @@
-//! How a run is carried out.
+//! The settings of a run.
 
 ghost use Rattle.std.specs.Prelude.{◌≡◌, ◌≤◌};
 ghost use Rattle.std.specs.Option.{SomeIff};
@@ -78,7 +78,7 @@ impl Settings {
     /// Planning workers.
     pub fn cc(&self) -> u32
         ensures value { result ≡ self.now.cc }
-        ensures in_range { IsBetween 1 MOST_WORKERS result }
+        ensures in_range { IsBetween 1 16 result }
     {
         self.cc
     }
@@ -86,7 +86,7 @@ impl Settings {
     /// Executing workers.
     pub fn exec(&self) -> u32
         ensures value { result ≡ self.now.exec }
-        ensures in_range { IsBetween 1 MOST_WORKERS result }
+        ensures in_range { IsBetween 1 16 result }
     {
         self.exec
     }
@@ -94,7 +94,7 @@ impl Settings {
     /// Partitions of the keys.
     pub fn parts(&self) -> u32
         ensures value { result ≡ self.now.parts }
-        ensures in_range { IsBetween 1 MOST_PARTS result }
+        ensures in_range { IsBetween 1 64 result }
     {
         self.parts
     }
@@ -102,7 +102,7 @@ impl Settings {
     /// Transactions of a batch.
     pub fn batch(&self) -> u32
         ensures value { result ≡ self.now.batch }
-        ensures in_range { IsBetween 1 LARGEST_BATCH result }
+        ensures in_range { IsBetween 1 4096 result }
     {
         self.batch
     }
@@ -110,7 +110,7 @@ impl Settings {
     /// How many timestamps below the last batch's end stay readable.
     pub fn keep(&self) -> u32
         ensures value { result ≡ self.now.keep }
-        ensures in_range { result ≤ MOST_KEPT }
+        ensures in_range { result ≤ 4096 }
     {
         self.keep
     }

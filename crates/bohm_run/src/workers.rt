@@ -1,4 +1,4 @@
-//! Workers that execute a batch at the same time.
+//! Executes a batch by workers that run in parallel.
 
 ghost use Rattle.std.specs.Prelude.{◌≡◌, ℕ, ◌<◌, ◌≤◌, All, IfOk, length, slice_index_or, vec_len};
 ghost use denote.Param.Send.{IsSync};
@@ -78,7 +78,7 @@ fn sweep_all<G: Gate, R: Threads + Sync>(
     Ok(swept)
 }
 
-/// Joins the passes of the workers, and gathers what they set aside.
+/// Joins the passes of the workers, and gathers what they deferred.
 fn gather(
     alloc: Global,
     board: &Board,
@@ -107,10 +107,10 @@ fn gather(
 
 /// Executes a batch by a crew of workers, or by as many as it has transactions where those are
 /// fewer. Each sweeps its share of the positions in a thread of its own, and then once more what it
-/// set aside; a single one takes no thread. What is left then is evaluated in log order.
+/// deferred; a single one takes no thread. What is left then is evaluated in log order.
 ///
-/// A worker that is refused memory ends, and the others end their shares. A refusal gives the batch
-/// up, with the scratches of workers that weren't gathered yet.
+/// A worker whose allocation fails ends, and the others end their shares. An error drops the batch,
+/// with the scratches of workers that weren't gathered yet.
 pub fn finish_batch<'a, G: Gate, R: Threads + Sync>(
     rt: &R,
     alloc: Global,

@@ -1,5 +1,5 @@
 //! The plain program: a log on standard input, run one transaction after another, its answer on
-//! standard output. It is what the run by batches is measured beside.
+//! standard output. The run by batches is measured against it.
 #![tactic(auto)]
 
 mod serial;

@@ -17,7 +17,7 @@ use std::alloc::Global;
 use std::io::{Read, Write};
 use std::random::RandomSource;
 
-/// What a run of the log answers. The log is let go.
+/// The result of a run of the log. The log is dropped.
 fn executed(alloc: Global, checked: Checked) -> Result<Answer, NoMemory>
     ensures replies { IfOk result
         (λ a. a.replies ≡ replies (cell_in (store_of checked.store)) checked.log) }
@@ -56,7 +56,7 @@ pub fn serial_text<T: RandomSource, R: Read, W: Write>(
         (Refuses defaults (R.remaining reader.old) (R.remaining reader.new)
         (W.contents writer.old) (W.contents writer.new)) }
 
-    // Before all faults but those of the writing the writer isn't touched.
+    // Before all faults but a failed write the writer is untouched.
     ensures untouched { IfErr result (λ e. IsBeforeWriting e → writer.new ≡ writer.old) }
 {
     let checked = read_log(alloc, HashSeed::drawn(rt), reader)?;

@@ -109,7 +109,7 @@ const STATEMENTS: [&[u8]; 22] = [
     b"fail",
 ];
 
-/// Statements behind one that binds `$x`.
+/// Statements after one that binds `$x`.
 const BOUND: [&[u8]; 5] = [
     b"set ^ = $x",
     b"set ^ = $x + ?",
@@ -240,8 +240,17 @@ fn put_store(text: &mut Vec<u8>, draws: &mut Draws) -> Result<(), NoMemory> {
     Ok(())
 }
 
-/// The first so many transactions of the log that the seed determines.
-pub fn drawn(rt: &impl Abort, alloc: Global, seed: u32, count: u32) -> Checked {
+/// Appends this many transactions that the seed determines.
+pub fn put_txns(rt: &impl Abort, alloc: Global, text: &mut Vec<u8>, seed: u32, count: u32) {
+    let mut draws = Draws::new(seed);
+    let keys = one_of(&mut draws, &KEYS);
+    for _ in 0..count {
+        put_txn(rt, alloc, text, &mut draws, &keys);
+    }
+}
+
+/// The text of the first transactions, this many, of the log that the seed determines.
+pub fn drawn_text(rt: &impl Abort, alloc: Global, seed: u32, count: u32) -> Vec<u8> {
     let mut draws = Draws::new(seed);
     let keys = one_of(&mut draws, &KEYS);
     let head = one_of(&mut draws, &[b"log 1\n", b"log 2\n"]);
@@ -250,5 +259,10 @@ pub fn drawn(rt: &impl Abort, alloc: Global, seed: u32, count: u32) -> Checked {
     for _ in 0..count {
         put_txn(rt, alloc, &mut text, &mut draws, &keys);
     }
-    checked(rt, alloc, text.as_slice())
+    text
+}
+
+/// The first transactions, this many, of the log that the seed determines.
+pub fn drawn(rt: &impl Abort, alloc: Global, seed: u32, count: u32) -> Checked {
+    checked(rt, alloc, drawn_text(rt, alloc, seed, count).as_slice())
 }

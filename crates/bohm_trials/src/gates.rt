@@ -71,7 +71,7 @@ fn assert_seen(rt: &impl Abort, holds: &[Hold]) {
     }
 }
 
-/// A log with so many executing workers and batches of these sizes: each held thread saw what it
+/// A log with this many executing workers and batches of these sizes: each held thread saw what it
 /// waited for, and the log is answered so.
 fn held_so<R: Abort + AllocGlobal + Threads + Wait + Sync + RandomSource>(
     rt: &R,

@@ -1,4 +1,4 @@
-//! What runs leave behind, and logs upon logs, with answers that were made by hand.
+//! What runs leave, and logs after logs, with answers that were made by hand.
 
 use crate::runs::{checked, counters, cuts, ran, settings, told_with_versions};
 use bohm_exec::OpenGate;
@@ -107,7 +107,7 @@ a 2
 a 3
 ";
 
-/// Drops `a`, and aborts twice for want of it.
+/// Drops `a`, and aborts twice since it is missing.
 const REMOVAL: &[u8] = b"\
 log 1
 a 5
@@ -152,7 +152,7 @@ fn versions_that_are_kept(rt: HostRuntime) {
     leaves_so(&rt, &checked(&rt, rt.alloc(), REMOVAL), REMOVED);
 }
 
-/// Applies so many counters in batches of two, on two workers of each kind.
+/// Applies this many counters in batches of two, on two workers of each kind.
 fn count_on<R: Abort + Threads + Wait + Sync + RandomSource>(
     rt: &R,
     alloc: Global,

@@ -69,7 +69,7 @@ fn readers_fail_at_each_call(rt: HostRuntime) {
     }
 }
 
-// The whole log, and its answer, with at most so many bytes a call.
+// The whole log, and its answer, with at most this many bytes a call.
 fn passes<R: Abort + AllocGlobal + Threads + Wait + Sync + RandomSource>(
     rt: &R,
     most: usize,

@@ -1,5 +1,5 @@
-//! Tests of whole runs: drawn logs against the plain program, workers that are held at gates, what
-//! runs leave behind, failing readers and writers, and the line of plans.
+//! Tests of whole runs. They cover drawn logs against the plain program, workers that are held at
+//! gates, what runs leave, failing readers and writers, the plan queue, and texts in windows.
 #![tactic(auto)]
 
 #[cfg(test)]
@@ -22,3 +22,5 @@ mod random;
 mod runs;
 #[cfg(test)]
 mod soak;
+#[cfg(test)]
+mod windows;

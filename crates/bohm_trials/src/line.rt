@@ -1,4 +1,4 @@
-//! The line of plans in one thread.
+//! The plan queue in one thread.
 
 ghost use Rattle.std.specs.Prelude.{◌≡◌, ◌+◌, ◌<◌, ◌≤◌, [], ◌∷◌, length, All, IsSome, OnOk};
 ghost use Rattle.bohm_txn.specs.Faulty.{IsWellFormedTxn};
@@ -141,7 +141,7 @@ fn notes_come_in_order(rt: HostRuntime) -> Result<(), Fail> {
     take_two::<Brand, _>(&rt, alloc, &log.log())
 }
 
-// Sends a plan and then a refusal, and takes both.
+// Sends a plan and then an error, and takes both.
 fn take_refusal<L: Line, R: Abort + Threads + Wait + Sync>(
     rt: &R,
     alloc: Global,

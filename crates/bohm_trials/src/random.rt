@@ -14,7 +14,7 @@ use std::random::RandomSource;
 use std::sync::Wait;
 use std::thread::Threads;
 
-/// The replies, and behind them the store after each count of transactions from this one on.
+/// The replies, and after them the store after each count of transactions from this one on.
 fn serially(rt: &impl Abort, alloc: Global, seed: u32, len: u32, floor: u32) -> Vec<u8> {
     let mut text = serial_replies(rt, alloc, seed, len);
     for count in floor..=len {
@@ -25,7 +25,7 @@ fn serially(rt: &impl Abort, alloc: Global, seed: u32, len: u32, floor: u32) -> 
     text
 }
 
-/// The replies to the first so many transactions.
+/// The replies to the first transactions, this many.
 fn serial_replies(rt: &impl Abort, alloc: Global, seed: u32, len: u32) -> Vec<u8> {
     let log = drawn(rt, alloc, seed, len);
     let answer = bohm_serial::run(alloc, &log).expect(rt, "memory");

@@ -17,7 +17,7 @@ pub fn checked(rt: &impl Abort, alloc: Global, text: &[u8]) -> Checked {
     check(doc).expect(rt, "a document")
 }
 
-/// The opening, and behind it the transaction as often as this.
+/// The opening, and after it the transaction as often as this.
 pub fn repeated(rt: &impl Abort, alloc: Global, opening: &[u8], txn: &[u8], count: u32) -> Vec<u8> {
     let mut text = Vec::from_slice(alloc, opening).expect(rt, "memory");
     for _ in 0..count {
@@ -35,7 +35,7 @@ pub fn counters(rt: &impl Abort, alloc: Global, count: u32) -> Checked {
     checked(rt, alloc, text.as_slice())
 }
 
-/// The number behind a name among these words.
+/// The number after a name among these words.
 fn named(words: &str, name: &str) -> Option<u32> {
     let (_, rest) = words.split_once(name)?;
     rest.split(' ').next()?.parse::<u32>().ok()
@@ -91,7 +91,7 @@ fn put_store(rt: &impl Abort, alloc: Global, text: &mut Vec<u8>, store: &[(Key, 
         .expect(rt, "memory");
 }
 
-/// The replies, and behind them the store of each timestamp from the floor to the top.
+/// The replies, and after them the store of each timestamp from the floor to the top.
 pub fn told(rt: &impl Abort, alloc: Global, replies: &Replies, history: &History) -> Vec<u8> {
     let mut text = print_replies(alloc, replies).expect(rt, "memory");
     for ts in history.floor()..=history.top() {
@@ -114,7 +114,7 @@ pub fn run_told<G: Gate, R: Abort + Threads + Wait + Sync + RandomSource>(
     told(rt, alloc, &replies, &history)
 }
 
-/// The floor, the top and the number of versions, and behind them the replies and the stores.
+/// The floor, the top and the number of versions, and after them the replies and the stores.
 pub fn told_with_versions(
     rt: &impl Abort,
     alloc: Global,

@@ -1,4 +1,4 @@
-//! The two ends of a line of plans.
+//! The two ends of the plan queue.
 
 ghost use Rattle.std.specs.Prelude.{◌≡◌, ◌+◌, ◌<◌, ◌≤◌, ◌++◌, [], ◌∷◌, length, true, false, List, All, IsSome, IfOk};
 ghost use Rattle.std.specs.Option.{ForSome};
@@ -16,7 +16,7 @@ use std::alloc::Global;
 use std::marker::Model;
 use std::sync::Wait;
 
-/// How many notes the line holds at most.
+/// How many notes the queue holds at most.
 const CAPACITY: usize = 2;
 
 /// Where a sending end pushes.
@@ -62,7 +62,7 @@ impl<L: Line> Model for PlanReceiver<L> {
         × (r.taken ≡ length (pass_view r.pass).taken) };
 }
 
-/// The two ends of a line of plans with room for two notes.
+/// The two ends of a plan queue with room for two notes.
 pub fn plan_line<L: Line>(alloc: Global) -> Result<(PlanSender<L>, PlanReceiver<L>), NoMemory>
     ensures sent { IfOk result (λ r. r.0 ≡ []) }
     ensures taken { IfOk result (λ r. r.1 ≡ []) }
@@ -86,7 +86,7 @@ impl<L: Line> PlanSender<L> {
         self.sent
     }
 
-    /// Sends the next note. It waits while the line is full, for ever where nobody takes.
+    /// Sends the next note. It blocks while the queue is full, forever if nobody takes.
     pub fn send<R: Wait>(&mut self, rt: &R, note: PlanNote)
         requires number { note.number ≡ length self.old + 1 }
         requires batch { note.number ≤ length L.cutting.sizes }
@@ -107,7 +107,7 @@ impl<L: Line> PlanReceiver<L> {
         self.taken
     }
 
-    /// Takes the next note. It waits until there is one, for ever where none comes.
+    /// Takes the next note. It blocks until there is one, forever if none comes.
     pub fn take<R: Wait>(&mut self, rt: &R) -> PlanNote
         requires batch { length self.old < length L.cutting.sizes }
         requires open { All (λ taken. IsSome taken.plan) self.old }

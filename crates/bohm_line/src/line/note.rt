@@ -1,4 +1,4 @@
-//! What passes along the line of plans.
+//! The messages of the plan queue.
 
 ghost use Rattle.bohm_line.specs.Cuttings.{Cutting};
 
@@ -12,13 +12,13 @@ pub struct PlanNote {
     pub plan: Option<Plan>,
 }
 
-/// Which log a line of plans is for, and how it is cut into batches. No value of it is made.
+/// The log that a plan queue is for, and its batches. No value of it is made.
 pub trait Line {
     ghost cutting: { Cutting };
 }
 
-/// A call at `Brand` picks in its proof the cutting that its line is for, in place of the empty one
-/// here.
+/// The proof of a call at `Brand` picks the cutting that its queue is for, in place of the empty
+/// one here.
 impl Line for Brand {
     ghost use Rattle.std.specs.Prelude.{[]};
 

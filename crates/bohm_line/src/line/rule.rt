@@ -1,5 +1,5 @@
-//! The rule of the queue: the notes that were taken, and then those that it holds, are those that
-//! were sent, and these are a line of plans. One end at most sends, and one takes.
+//! The rule of the queue: the notes taken, and then those that it holds, are the notes sent, in the
+//! order of the batches. At most one end sends, and one takes.
 
 use crate::line::note::{Line, PlanNote};
 use atomic_table::Split;

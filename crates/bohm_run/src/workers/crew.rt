@@ -1,4 +1,4 @@
-//! A crew: what the workers of a run evaluate with.
+//! A crew: the scratch memory of a run's workers.
 
 ghost use Rattle.std.specs.Prelude.{◌≡◌, ◌+◌, ◌<◌, ◌≤◌, IfOk, OnOk, vec_len};
 
@@ -21,7 +21,7 @@ pub struct Crew {
 impl Crew {
     ghost use Rattle.bohm_run.specs.Sweeps.{workers_of};
 
-    /// Of as many workers.
+    /// For this many workers.
     pub fn new(alloc: Global, count: u32) -> Result<Crew, NoMemory>
         requires { 0 < count }
         ensures { IfOk result (λ crew. workers_of crew ≡ count) }
@@ -41,7 +41,7 @@ impl Crew {
         self.count
     }
 
-    /// Makes the scratches that so many workers lack.
+    /// Makes the scratches that this many workers lack.
     pub(crate) fn fill(&mut self, alloc: Global, workers: u32) -> Result<(), NoMemory>
         ensures count { workers_of self.new ≡ workers_of self.old }
         ensures full { OnOk result (workers ≤ vec_len self.new.scratches) }

@@ -1,4 +1,4 @@
-//! What one worker does.
+//! The job of one worker.
 
 ghost use Rattle.std.specs.Prelude.{◌≡◌, ◌<◌, IfOk};
 ghost use Rattle.bohm_board.specs.Passes.{IsPassOf, HoldsNothing, batch_of, view};
@@ -27,7 +27,7 @@ pub(crate) struct Job {
     pub(crate) scratch: Scratch,
 }
 
-/// What a worker hands back, also where it was refused memory.
+/// What a worker hands back, also where an allocation failed.
 #[derive(Drop)]
 pub(crate) struct Swept {
     pub(crate) pass: Pass,
@@ -35,7 +35,7 @@ pub(crate) struct Swept {
     pub(crate) aside: Result<Aside, NoMemory>,
 }
 
-/// The positions that were set aside.
+/// The positions that were deferred.
 fn positions(alloc: Global, aside: &Aside) -> Result<Vec<u32>, NoMemory>
     ensures { IfOk result (λ v. v.items ≡ positions_in aside.now) }
 {
@@ -43,7 +43,7 @@ fn positions(alloc: Global, aside: &Aside) -> Result<Vec<u32>, NoMemory>
     Ok(positions)
 }
 
-/// Sweeps the share of a worker, and then once more what was set aside.
+/// Sweeps the share of a worker, and then once more what was deferred.
 pub(crate) fn sweep_share<G: Gate>(
     alloc: Global,
     board: &Board,

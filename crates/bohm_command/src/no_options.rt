@@ -1,0 +1,60 @@
+//! Programs without options of their own.
+
+ghost use Rattle.std.specs.Prelude.{◌≡◌, true, [], map, string_bytes, IfOk, IfErr};
+ghost use Rattle.clap.specs.Words.{app_of, is_simple_and_free, new_app};
+ghost use Rattle.bohm_command.specs.Faults.{IsNoMemory, IsFoundAmong};
+ghost use Rattle.bohm_command.specs.Taken.{AreTaken, faults_in};
+
+use crate::fault::WordFault;
+use crate::line::{command_line, parse_line, words_given};
+use clap::Command;
+use std::alloc::Global;
+use std::env::Env;
+
+/// A program that takes no words but a call for help.
+#[derive(Clone, Copy, Debug)]
+pub struct Program<'a> {
+    pub name: &'a str,
+    /// What help says above the options, and below them.
+    pub about: &'a str,
+    pub after_help: &'a str,
+}
+
+/// Its command.
+fn command<'a>(alloc: Global, program: Program<'a>) -> Command<'a>
+    ensures { app_of result ≡ new_app program.entry.name.now }
+{
+    Command::new(alloc, program.name)
+        .about(program.about)
+        .after_help(program.after_help)
+}
+
+/// Whether the words after a program's name ask it for what it does. Words that clap doesn't take are
+/// refused with its text.
+pub fn read_no_options(
+    alloc: Global,
+    program: Program<'_>,
+    words: &[String],
+) -> Result<(), WordFault>
+    requires simple { is_simple_and_free (new_app program.name.now) ≡ true }
+    ensures faultless { IfOk result (λ _.
+        faults_in (new_app program.entry.name.now) (map string_bytes words.now) ≡ []) }
+    ensures taken { AreTaken (new_app program.entry.name.now) (map string_bytes words.now)
+        → IfErr result IsNoMemory }
+    ensures found { IfErr result (IsFoundAmong
+        (faults_in (new_app program.entry.name.now) (map string_bytes words.now))) }
+{
+    let line = command_line(alloc, program.name, words)?;
+    match parse_line(alloc, command(alloc, program), line.as_slice()) {
+        Ok(_) => Ok(()),
+        Err(fault) => Err(fault),
+    }
+}
+
+/// The same of the words that the program was started with.
+pub fn no_options_given<R: Env + AllocGlobal>(rt: &R, program: Program<'_>) -> Result<(), WordFault>
+    requires simple { is_simple_and_free (new_app program.name.now) ≡ true }
+{
+    let words = words_given(rt, program.name)?;
+    read_no_options(rt.alloc(), program, words.as_slice())
+}

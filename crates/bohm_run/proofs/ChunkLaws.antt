@@ -1,0 +1,121 @@
+-- Chunk after chunk is the whole log.
+use Rattle.std.proofs.Common.{◌≡◌, ◌⊎◌, inl, inr, ⊎_elim, ℕ, ◌+◌, ◌≤◌, ◌<◌, ◌++◌, List, [], ◌∷◌, length, length-append, append_assoc, append-nil, refl, ap, sym, subst, ◌∙◌, arith}
+use Rattle.std.specs.Prelude.{Option, Some, None, true, false, is_some}
+use Rattle.std.proofs.lemmas.Bool.{cases_lt}
+use Rattle.bohm_tree.specs.Document.{Document}
+use Rattle.bohm_tree.specs.Txn.{Txn}
+use Rattle.bohm_txn.specs.declared.fault.CheckFault.{CheckFault}
+use Rattle.bohm_txn.specs.declared.outcome.Reply.{Reply}
+use Rattle.bohm_txn.specs.Chunked.{IsCheckedTo, IsCountOf}
+use Rattle.bohm_txn.proofs.ForCallers.{length-replies}
+use Rattle.bohm_store.specs.Versions.{Timeline, past}
+use Rattle.bohm_text.specs.Print.{print_numbered}
+use Rattle.bohm_text.specs.Windows.{with_log}
+use Rattle.bohm_text.proofs.ForCallers.{numbered-append}
+use Rattle.bohm_run.specs.declared.chunks.RunState.{RunState}
+use Rattle.bohm_run.specs.declared.checked_chunk.CheckedChunk.{CheckedChunk}
+use Rattle.bohm_run.specs.Preparing.{count_with}
+use Rattle.bohm_run.specs.CheckedWaves.{txns_of}
+use Rattle.bohm_run.specs.Runs.{IsApplied}
+use Rattle.bohm_run.specs.Preparing.{IsFaultBehind}
+use Rattle.bohm_run.specs.Chunks.{IsPartRun, IsRunTo, RunsChunk}
+use Rattle.bohm_run.proofs.Going.{went_on}
+
+-- ---- counts
+
+-- up to the most that a log may have, the count is exact
+pub exact : (n count : ℕ) → IsCountOf n count → n ≤ 1000000 → count ≡ n
+exact n count (inl e) few = e
+exact n count (inr many) few = absurd (omega (arith, many.0, few))
+
+-- a count goes on
+pub count_on : (n count more : ℕ) → IsCountOf n count → IsCountOf (n + more) (count_with count more)
+count_on n count more (inl e) = ⊎_elim
+    (λ (few : count + more < 1000001). inl (omega (arith, few, e)))
+    (λ (many : 1000001 ≤ count + more). inr (omega (arith, many, e), omega (arith, many)))
+    (cases_lt (count + more) 1000001)
+count_on n count more (inr both) = inr (omega (arith, both.0), omega (arith, both.1))
+
+-- with these there are more transactions than a log may have
+pub too_many : (d : Document) (txns : List Txn) (count : ℕ) → 1000000 < count + length txns → IsCountOf (length d.log) count → length (d.log ++ txns) ≤ 1000000 → ⊥
+too_many d txns count many (inl e) short = omega (arith, many, e, short, length-append d.log txns)
+too_many d txns count many (inr both) short = omega (arith, both.0, short, length-append d.log txns)
+
+-- ---- one chunk
+
+pub some_not : (o : Option CheckFault) → is_some o ≡ true → o ≡ None → ⊥
+some_not None some e = cc
+some_not (Some f) some e = cc
+
+pub no_some : (o : Option CheckFault) → is_some o ≡ false → o ≡ None
+no_some None e = refl
+no_some (Some f) e = absurd cc
+
+module _ (txns : List Txn) (was now : RunState) (same : now.in_store ≡ was.in_store) (keeps : now.executor.keep ≡ was.executor.keep) (count : now.count ≡ count_with was.count (length txns)) where
+  all_counted : (d : Document) → IsCountOf (length d.log) was.count → IsCountOf (length (d.log ++ txns)) now.count
+  all_counted d so_far =
+      let on : IsCountOf (length d.log + length txns) now.count = subst (λ (m : ℕ). IsCountOf (length d.log + length txns) m) (sym count) (count_on (length d.log) was.count (length txns) so_far) in
+      subst (λ (n : ℕ). IsCountOf n now.count) (sym (length-append d.log txns)) on
+
+  -- a chunk without a fault was run
+  pub chunk_ran : was.fault ≡ None → now.fault ≡ None → was.count + length txns ≤ 1000000 → IsFaultBehind was.count txns None → was.progress.history.top ≡ was.count
+      → IsPartRun was.progress.history now.progress.history txns was.executor.keep (was.progress.history.top + 1) was.text.items now.text.items → RunsChunk txns was now
+  chunk_ran clean still few checked top part = record {
+    in_store = same;
+    keep = keeps;
+    level = λ low none short. omega (arith, part.applied.top, top, count, few);
+    runs = λ opened d ordered so_far. record {
+      counted = all_counted d so_far.counted;
+      checked = subst (IsCheckedTo (with_log d txns)) (sym still) (checked d so_far.counted (subst (IsCheckedTo d) clean so_far.checked));
+      run = λ none short.
+          let front : length d.log ≤ 1000000 = omega (arith, short, length-append d.log txns) in
+          let here : was.count ≡ length d.log = exact (length d.log) was.count so_far.counted front in
+          let before = so_far.run clean front in
+          let long : length before.answered ≡ was.count = ap length before.applied.replies ∙ (length-replies (past opened opened.top) d.log ∙ sym here) in
+          let place : 1 + length before.answered ≡ was.progress.history.top + 1 = omega (arith, long, top) in
+          let applied = went_on opened was.progress.history now.progress.history d.log txns was.executor.keep before.answered part.answered ordered before.applied part.applied in
+          record {
+            answered = before.answered ++ part.answered;
+            applied = subst (λ (k : ℕ). IsApplied opened now.progress.history (d.log ++ txns) k (before.answered ++ part.answered)) (sym keeps) applied;
+            wrote = part.wrote ∙ (ap (λ (t : List ℕ). t ++ print_numbered (was.progress.history.top + 1) part.answered) before.wrote
+                ∙ (ap (λ (n : ℕ). print_numbered 1 before.answered ++ print_numbered n part.answered) (sym place)
+                ∙ sym (numbered-append 1 before.answered part.answered)));
+          };
+    };
+  }
+
+  -- where a fault was found, or there are too many transactions, nothing is owed of the history
+  pub chunk_skipped : ((d : Document) → IsCountOf (length d.log) was.count → IsCheckedTo d was.fault → IsCheckedTo (with_log d txns) now.fault) → (now.fault ≡ None → 1000000 < now.count) → RunsChunk txns was now
+  chunk_skipped checked over = record {
+    in_store = same;
+    keep = keeps;
+    level = λ low none few. absurd (omega (arith, over none, few));
+    runs = λ opened d ordered so_far. record {
+      counted = all_counted d so_far.counted;
+      checked = checked d so_far.counted so_far.checked;
+      run = λ none short. absurd (omega (arith, over none, short, exact (length (d.log ++ txns)) now.count (all_counted d so_far.counted) short));
+    };
+  }
+
+-- ---- chunk after chunk
+
+pub runs_none : (s : RunState) → RunsChunk [] s s
+runs_none s = record {
+  in_store = refl;
+  keep = refl;
+  level = λ low. low;
+  runs = λ opened d ordered so_far. subst (λ (log : List Txn). IsRunTo opened (record d { log = log }) s) (sym (append-nil d.log)) so_far;
+}
+
+pub runs_on : (xs ys : List Txn) (was mid now : RunState) → RunsChunk xs was mid → RunsChunk ys mid now → RunsChunk (xs ++ ys) was now
+runs_on xs ys was mid now one two = record {
+  in_store = two.in_store ∙ one.in_store;
+  keep = two.keep ∙ one.keep;
+  level = λ low. two.level (one.level low);
+  runs = λ opened d ordered so_far.
+      subst (λ (log : List Txn). IsRunTo opened (record d { log = log }) now) (append_assoc d.log xs ys) (two.runs opened (with_log d xs) ordered (one.runs opened d ordered so_far));
+}
+
+pub txns_more : (cs : List CheckedChunk) (c : CheckedChunk) → txns_of (cs ++ c ∷ []) ≡ txns_of cs ++ c.log
+txns_more [] c = append-nil c.log
+txns_more (x ∷ xs) c = ap (λ (l : List Txn). x.log ++ l) (txns_more xs c) ∙ sym (append_assoc x.log (txns_of xs) c.log)

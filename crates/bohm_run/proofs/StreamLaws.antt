@@ -1,0 +1,167 @@
+-- Wave after wave, read and run.
+use Rattle.std.proofs.Common.{◌≡◌, ◌⊎◌, inl, inr, ℕ, ℤ, ◌+◌, ◌≤◌, ◌++◌, List, [], ◌∷◌, Bool, true, false, length, length-append, refl, append_assoc, append-nil, ap, sym, subst, ◌∙◌, arith, take}
+use Rattle.std.specs.Prelude.{Option, Some, None, not}
+use Rattle.std.specs.FinMap.{entries}
+use Rattle.std.proofs.Math.Seq.{take-length}
+use Rattle.std.proofs.lemmas.Grind.{flat_map-append}
+use Rattle.bohm_tree.specs.Document.{Document}
+use Rattle.bohm_tree.specs.Keys.{rising, names_of}
+use Rattle.bohm_tree.specs.Txn.{Txn}
+use Rattle.bohm_tree.specs.declared.edition.Edition.{Edition}
+use Rattle.bohm_txn.specs.Chunked.{IsCheckedTo, IsCountOf, store_fault}
+use Rattle.bohm_txn.specs.Faulty.{WellFormed, IsFirstFault}
+use Rattle.bohm_txn.specs.Stores.{cell_in, store_of}
+use Rattle.bohm_txn.specs.declared.fault.CheckFault.{CheckFault}
+use Rattle.bohm_txn.proofs.ForCallers.{store_checked, few_txns, no_store_fault_of, length-replies}
+use Rattle.bohm_store.specs.Versions.{Timeline, past}
+use Rattle.bohm_text.specs.Print.{print_doc}
+use Rattle.bohm_text.specs.Windows.{with_log}
+use Rattle.bohm_text.specs.Windowing.{document_of_first}
+use Rattle.bohm_text.specs.declared.fault.TextFault.TheVariants as texts
+use Rattle.bohm_text.specs.declared.windows.Chunk.{Chunk}
+use Rattle.bohm_text.specs.declared.windows.FirstWindow.{FirstWindow}
+use Rattle.bohm_reading.specs.declared.fault.ReadingFault.{ReadingFault}
+use Rattle.bohm_reading.specs.declared.fault.ReadingFault.TheVariants as reading
+use Rattle.bohm_reading.specs.declared.reading.Source.{Source}
+use Rattle.bohm_reading.specs.Reading.{IsReadOn, ReadsBeginning, ReadsTextOf, RefusesReading, ReadsWave, RefusesWaveBehind, RefusesOn}
+use Rattle.bohm_reading.specs.Waves.{logs_of}
+use Rattle.bohm_reading.proofs.ForCallers.{on_none, on_end, going_on, later_refused, later_read}
+use Rattle.bohm_run.specs.Bytes.{ReadsAll}
+use Rattle.bohm_run.specs.Given.{Given}
+use Rattle.bohm_run.specs.Headline.{ReadsDocument, Refuses, IsBeforeWriting}
+use Rattle.bohm_run.specs.Refusing.{reading_refusal_of}
+use Rattle.bohm_run.specs.declared.chunks.RunState.{RunState}
+use Rattle.bohm_run.specs.declared.fault.RunFault.TheVariants.{Check}
+use Rattle.bohm_run.specs.Runs.{IsApplied}
+use Rattle.bohm_run.specs.Chunks.{IsRun, IsRunTo, IsStarted, RunsChunk}
+use Rattle.bohm_run.specs.Streaming.{IsBegun, IsLogRun, RefusesLog, RunsBehind, RunsBehindTo, StreamsOn, StreamsTo}
+use Rattle.bohm_run.proofs.ChunkLaws.{exact, runs_none, runs_on}
+use Rattle.bohm_run.proofs.Going.{at_rest}
+use Rattle.bohm_run.proofs.Walks.{whole_run}
+
+-- ---- wave after wave
+
+pub begin : (e : Edition) (log : List Txn) (u : Option (List ℕ)) (s : Source) (state : RunState) (pending : List Txn) → pending ≡ log → RunsBehindTo e log u u s s pending state state
+begin e log u s state pending one = λ d begun. record {
+  behind = [];
+  ran = [];
+  read = on_none u d s.lines s.rest.items s.total s.ended begun.is;
+  all = one ∙ (sym begun.log ∙ sym (append-nil d.log));
+  runs = runs_none state;
+}
+
+module _ (e : Edition) (log : List Txn) (u v : Option (List ℕ)) (s mid : Source) (pending : List Txn) (was state : RunState) (so_far : RunsBehindTo e log u v s mid pending was state) where
+  pub go_on : (x : Option (List ℕ)) (now : Source) (chunks : List Chunk) (next : List Txn) (after : RunState) → next ≡ logs_of chunks → RunsChunk pending state after → ReadsWave e v x mid now chunks → RunsBehindTo e log u x s now next was after
+  go_on x now chunks next after is ran read = λ d begun.
+      let there = so_far d begun in
+      let behind : logs_of there.behind ++ next ≡ logs_of (there.behind ++ chunks) = ap (λ (l : List Txn). logs_of there.behind ++ l) is ∙ sym (flat_map-append (λ (k : Chunk). k.log) there.behind chunks) in
+      record {
+        behind = there.behind ++ chunks;
+        ran = there.ran ++ pending;
+        read = read.reads u d s.rest.items there.behind begun.edition there.read;
+        all = ap (λ (l : List Txn). l ++ next) there.all ∙ (append_assoc d.log (logs_of there.behind) next ∙ ap (λ (l : List Txn). d.log ++ l) behind);
+        runs = runs_on there.ran pending was state after there.runs ran;
+      }
+
+  pub refused : (x : Option (List ℕ)) (fault : ReadingFault) → RefusesWaveBehind e v x mid fault → RefusesLog e log u x s fault
+  refused x fault h = λ d begun. let there = so_far d begun in h u d s.rest.items there.behind begun.edition there.read
+
+  pub at_end : mid.ended ≡ true → (next : RunState) → RunsChunk pending state next → RunsBehind e log u v s was next
+  at_end done next ran = λ d begun.
+      let there = so_far d begun in
+      record {
+        log = logs_of there.behind;
+        read = on_end u v d s.rest.items there.behind mid.lines mid.rest.items mid.total
+            (subst (λ (b : Bool). IsReadOn u v d s.rest.items there.behind mid.lines mid.rest.items mid.total b) done there.read);
+        runs = subst (λ (l : List Txn). RunsChunk l was next) there.all (runs_on there.ran pending was state next there.runs ran);
+      }
+
+-- ---- refusals
+
+all_read : (u v : Option (List ℕ)) (d : Document) → ReadsTextOf u v d → ReadsAll u v (print_doc d)
+all_read u v d h = record { read = h.read; at_end = h.at_end; short = h.short }
+
+pub reading_refused : (given : Given) (u v : Option (List ℕ)) (fault : ReadingFault) → RefusesReading u v fault → Refuses given u v None None (reading_refusal_of fault)
+reading_refused given u v reading.Read h = tt
+reading_refused given u v reading.NoMemory h = tt
+reading_refused given u v reading.TooLong h = record { bytes = h.more; long = omega (arith, h.long); read = h.read }
+reading_refused given u v (reading.Line n) h = record { text = h.text; read = record { read = h.read; at_end = h.at_end; short = h.short }; is = h.is }
+reading_refused given u v reading.Short h = record { text = h.text; read = record { read = h.read; at_end = h.at_end; short = h.short }; is = h.is }
+
+pub reading_before : (fault : ReadingFault) → IsBeforeWriting (reading_refusal_of fault)
+reading_before reading.Read = tt
+reading_before reading.NoMemory = tt
+reading_before reading.TooLong = tt
+reading_before (reading.Line n) = tt
+reading_before reading.Short = tt
+
+-- ---- the whole
+
+module _ (u v y : Option (List ℕ)) (first : FirstWindow) (s : Source) (begun : ReadsBeginning u v first s) where
+  abbrev pub d : Document
+  d = document_of_first first
+
+  is_begun : IsBegun first.edition first.chunk.log v s d
+  is_begun = record { edition = refl; log = refl; is = begun.is }
+
+  pub log_refused : (given : Given) (fault : ReadingFault) → RefusesLog first.edition first.chunk.log v y s fault → Refuses given u y None None (reading_refusal_of fault)
+  log_refused given fault h = reading_refused given u y fault (later_refused u v y first s begun fault (h d is_begun))
+
+  module _ (keep : ℕ) (start now : RunState) (started : IsStarted keep first.store.items start) (ran : RunsBehind first.edition first.chunk.log v y s start now) where
+    streams : StreamsOn v y d s.rest.items start now
+    streams = ran d is_begun
+
+    abbrev whole : Document
+    whole = with_log d streams.log
+
+    read : ReadsTextOf u y whole
+    read = later_read u v y first s begun streams.log streams.read
+
+    ordered : start.progress.history.floor ≤ start.progress.history.top
+    ordered = omega (arith, started.top, started.floor)
+
+    abbrev empty : Document
+    empty = record d { log = [] }
+
+    begins : IsRunTo start.progress.history empty start
+    begins = record {
+      counted = inl started.count;
+      checked = subst (IsCheckedTo empty) (sym (started.fault ∙ started.in_store)) (store_checked empty refl);
+      run = λ none few. record { answered = []; applied = at_rest start.progress.history start.executor.keep; wrote = started.text };
+    }
+
+    run_to : IsRunTo start.progress.history whole now
+    run_to = streams.runs.runs start.progress.history empty ordered begins
+
+    kept : now.executor.keep ≡ keep
+    kept = streams.runs.keep ∙ started.keeps
+
+    in_store : now.in_store ≡ store_fault whole.store
+    in_store = streams.runs.in_store ∙ started.in_store
+
+    pub log_faulty : (given : Given) (fault : CheckFault) → ((c : Document) → now.in_store ≡ store_fault c.store → IsCountOf (length c.log) now.count → IsCheckedTo c now.fault → IsFirstFault c fault) → Refuses given u y None None (Check fault)
+    log_faulty given fault h = record {
+      document = whole;
+      sound = read.sound;
+      read = all_read u y whole read;
+      is = h whole in_store run_to.counted run_to.checked;
+    }
+
+    pub log_run : ((c : Document) → now.in_store ≡ store_fault c.store → IsCountOf (length c.log) now.count → IsCheckedTo c now.fault → WellFormed c) → now.fault ≡ None → IsLogRun keep u y now
+    log_run h clean =
+        let formed : WellFormed whole = h whole in_store run_to.counted run_to.checked in
+        let few : length whole.log ≤ 1000000 = few_txns whole formed in
+        let run = run_to.run clean few in
+        let sound : start.in_store ≡ None = started.in_store ∙ no_store_fault_of whole formed in
+        let opened : past start.progress.history 0 ≡ cell_in (store_of whole.store) = started.past sound in
+        let long : length run.answered ≡ length whole.log = ap length run.applied.replies ∙ length-replies (past start.progress.history start.progress.history.top) whole.log in
+        let front : take (length run.answered) whole.log ≡ whole.log = ap (λ (n : ℕ). take n whole.log) long ∙ take-length whole.log in
+        let applied : IsApplied start.progress.history now.progress.history whole.log keep run.answered = subst (λ (k : ℕ). IsApplied start.progress.history now.progress.history whole.log k run.answered) kept run.applied in
+        let result = whole_run (cell_in (store_of whole.store)) start.progress.history now.progress.history whole.log keep run.answered started.floor started.top opened (rw front applied) long in
+        record {
+          document = whole;
+          read = record { sound = read.sound; well_formed = formed; read = all_read u y whole read };
+          count = exact (length whole.log) now.count run_to.counted few;
+          replies = rw (sym result.0) run.wrote;
+          history = result.1;
+        }

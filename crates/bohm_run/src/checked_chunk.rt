@@ -1,0 +1,84 @@
+//! A chunk of a log that is checked and planned ahead of its execution.
+
+ghost use Rattle.std.specs.Prelude.{◌≡◌, IfOk};
+ghost use Rattle.bohm_run.specs.Preparing.{count_with, IsPrepared};
+
+use crate::settings::Settings;
+use bohm_line::{CutLog, Cuts, plan_batches};
+use bohm_log::{HashSeed, Log, LogPart};
+use bohm_place::Plan;
+use bohm_text::Chunk;
+use bohm_tree::{MOST_TXNS, NoMemory};
+use bohm_txn::{CheckFault, check_more};
+use std::alloc::Global;
+
+/// What is known of transactions that stand behind so many others without a fault.
+#[derive(Drop)]
+pub(crate) enum Prepared {
+    /// They have this first fault.
+    Faulty(CheckFault),
+    /// With them there are more than a log may have.
+    TooMany,
+    /// They have no fault, and these are their batches' sizes and plans.
+    Ready { cuts: Cuts, plans: Vec<Plan> },
+}
+
+/// A chunk, how many transactions stand before it, and what is known of it.
+#[derive(Drop)]
+pub(crate) struct CheckedChunk {
+    pub(crate) log: Log<HashSeed>,
+    /// Exact up to the most that a log may have.
+    pub(crate) count: usize,
+    pub(crate) prepared: Prepared,
+}
+
+/// How many transactions there are with these more: exact up to the most that a log may have, and
+/// one above that where there are more.
+pub(crate) fn counted(count: usize, more: usize) -> usize
+    ensures { result ≡ count_with count more }
+{
+    count.saturating_add(more).min(MOST_TXNS + 1)
+}
+
+/// Checks and plans transactions that stand behind so many others.
+fn prepare(
+    alloc: Global,
+    part: &LogPart<'_>,
+    count: usize,
+    settings: Settings,
+) -> Result<Prepared, NoMemory>
+    ensures { IfOk result (IsPrepared count part.entry.now) }
+{
+    if let Some(fault) = check_more(count, None, part) {
+        return Ok(Prepared::Faulty(fault));
+    }
+    if counted(count, part.len()) > MOST_TXNS {
+        return Ok(Prepared::TooMany);
+    }
+    let cuts = Cuts::even(alloc, part.len() as u32, settings.batch())?;
+    let plans = plan_batches(alloc, CutLog::new(count as u32 + 1, part, &cuts))?;
+    Ok(Prepared::Ready { cuts, plans })
+}
+
+impl CheckedChunk {
+    /// Checks and plans a chunk that stands behind so many transactions, in batches of the size
+    /// that the settings give. The time and memory grow with the number of the chunk's keys, terms
+    /// and statements.
+    pub(crate) fn new(
+        alloc: Global,
+        chunk: Chunk,
+        count: usize,
+        settings: Settings,
+    ) -> Result<CheckedChunk, NoMemory>
+        ensures log { IfOk result (λ c. c.log ≡ chunk.log) }
+        ensures count { IfOk result (λ c. c.count ≡ count) }
+        ensures prepared { IfOk result (λ c. IsPrepared count chunk.log c.prepared) }
+    {
+        let prepared = prepare(alloc, &chunk.log.part(), count, settings)?;
+        Ok(CheckedChunk {
+            log: chunk.log,
+            count,
+            prepared,
+        })
+    }
+}

@@ -1,0 +1,184 @@
+//! Chunks of a log that run one after another.
+
+ghost use Rattle.std.specs.Prelude.{◌≡◌, ◌+◌, ◌≤◌, All, length, IfOk, OnOk, None};
+ghost use Rattle.std.specs.List.{sum};
+ghost use Rattle.bohm_txn.specs.Faulty.{IsWellFormedTxn};
+ghost use Rattle.bohm_txn.specs.Chunked.{store_fault};
+ghost use Rattle.bohm_txn.specs.Stores.{cell_in, store_of};
+ghost use Rattle.bohm_store.specs.Versions.{past};
+ghost use Rattle.bohm_line.specs.Cuttings.{ArePlans};
+ghost use Rattle.bohm_run.specs.Runs.{cutting_behind};
+ghost use Rattle.bohm_run.specs.Preparing.{count_with, IsPrepared};
+ghost use Rattle.bohm_run.specs.Chunks.{AreNext, IsLevel, IsPartRun, IsStarted, RunsChunk, RunsWave};
+
+use crate::checked_chunk::{CheckedChunk, Prepared, counted};
+use crate::executing::{Executor, Progress};
+use crate::settings::Settings;
+use crate::workers::Crew;
+use bohm_exec::OpenGate;
+use bohm_line::{CutLog, Cuts};
+use bohm_log::{HashSeed, LogPart};
+use bohm_place::Plan;
+use bohm_store::{History, Seats};
+use bohm_text::put_replies;
+use bohm_tree::{Key, MOST_TXNS, NoMemory, Value};
+use bohm_txn::{CheckFault, Replies, check_more, check_store};
+use std::alloc::Global;
+use std::thread::Threads;
+
+/// How far a log was checked and run.
+#[derive(Drop)]
+pub(crate) struct RunState {
+    /// The history, and the replies of the chunk that ran last.
+    pub(crate) progress: Progress,
+    /// The text of the replies so far.
+    pub(crate) text: Vec<u8>,
+    pub(crate) executor: Executor,
+    /// How many transactions came, exact up to the most that a log may have.
+    pub(crate) count: usize,
+    /// The fault of the starting store.
+    pub(crate) in_store: Option<CheckFault>,
+    /// The first fault so far. Behind one nothing runs.
+    pub(crate) fault: Option<CheckFault>,
+}
+
+/// The history of a store, or of the empty one where the store has a fault.
+fn open_history(
+    alloc: Global,
+    seed: HashSeed,
+    store: &[(Key, Value)],
+    in_store: Option<CheckFault>,
+) -> Result<History, NoMemory>
+    requires { in_store ≡ store_fault store.now }
+    ensures top { IfOk result (λ h. h.top ≡ 0) }
+    ensures floor { IfOk result (λ h. h.floor ≡ 0) }
+    ensures past { in_store ≡ None → IfOk result (λ h. past h 0 ≡ cell_in (store_of store.now)) }
+{
+    if in_store.is_some() {
+        return Ok(History::empty(alloc));
+    }
+    History::open_with_seed(alloc, store, seed)
+}
+
+impl RunState {
+    /// Before the first transaction, over this starting store.
+    pub(crate) fn start(
+        alloc: Global,
+        seed: HashSeed,
+        store: Vec<(Key, Value)>,
+        settings: Settings,
+    ) -> Result<RunState, NoMemory>
+        ensures { IfOk result (IsStarted settings.keep store.items) }
+    {
+        let in_store = check_store(store.as_slice());
+        Ok(RunState {
+            progress: Progress {
+                history: open_history(alloc, seed, store.as_slice(), in_store)?,
+                replies: Replies::new(alloc),
+            },
+            text: Vec::new(alloc),
+            executor: Executor {
+                crew: Crew::new(alloc, settings.exec())?,
+                seats: Seats::new(alloc),
+                keep: settings.keep(),
+            },
+            count: 0,
+            in_store,
+            fault: in_store,
+        })
+    }
+}
+
+/// Runs the transactions behind the history by the plans of their batches, and appends the text of
+/// their replies.
+fn run_clean<T: Threads + Sync>(
+    rt: &T,
+    alloc: Global,
+    progress: &mut Progress,
+    text: &mut Vec<u8>,
+    executor: &mut Executor,
+    part: &LogPart<'_>,
+    cuts: &Cuts,
+    plans: Vec<Plan>,
+) -> Result<(), NoMemory>
+    requires total { sum cuts.now ≡ length part.now }
+    requires few { progress.old.history.top + length part.now ≤ MOST_TXNS }
+    requires formed { All IsWellFormedTxn part.now }
+    requires plans { ArePlans (cutting_behind progress.old.history part.now cuts.now) plans.items }
+    ensures keep { executor.new.keep ≡ executor.old.keep }
+    ensures run { let number = progress.old.history.top + 1 in OnOk result
+        (IsPartRun progress.old.history progress.new.history part.entry.now executor.old.keep number
+        text.old.items text.new.items) }
+{
+    let first = progress.history.top() + 1;
+    let log = CutLog::new(first, part, cuts);
+    // The numbers of the keys are those of this log alone.
+    executor.seats = Seats::new(alloc);
+    progress.replies.truncate(0);
+    executor.run_planned(rt, alloc, progress, log, plans, &OpenGate)?;
+    put_replies(text, first as u64, &progress.replies)?;
+    Ok(())
+}
+
+/// Runs the next chunk, where the log has no fault so far and not too many transactions.
+fn run_chunk<T: Threads + Sync>(
+    rt: &T,
+    alloc: Global,
+    state: &mut RunState,
+    chunk: CheckedChunk,
+) -> Result<(), NoMemory>
+    requires level { IsLevel state.old }
+    requires next { chunk.count ≡ state.old.count }
+    requires prepared { IsPrepared chunk.count chunk.log chunk.prepared }
+    ensures runs { OnOk result (RunsChunk chunk.log state.old state.new) }
+    ensures count { OnOk result (state.new.count ≡ count_with state.old.count (length chunk.log)) }
+{
+    let CheckedChunk {
+        log,
+        count,
+        prepared,
+    } = chunk;
+    state.count = counted(count, log.len());
+    if state.fault.is_some() {
+        // The first fault stays, and this takes constant time.
+        state.fault = check_more(count, state.fault, &log.part());
+        return Ok(());
+    }
+    match prepared {
+        Prepared::Faulty(fault) => {
+            state.fault = Some(fault);
+            Ok(())
+        }
+        Prepared::TooMany => Ok(()),
+        Prepared::Ready { cuts, plans } => {
+            run_clean(
+                rt,
+                alloc,
+                &mut state.progress,
+                &mut state.text,
+                &mut state.executor,
+                &log.part(),
+                &cuts,
+                plans,
+            )?;
+            Ok(())
+        }
+    }
+}
+
+/// Runs the chunks that are next, one after another.
+#[tactic(auto, using(crate::proofs::ChunkLaws::runs_none))]
+pub(crate) fn run_chunks<T: Threads + Sync>(
+    rt: &T,
+    alloc: Global,
+    state: &mut RunState,
+    chunks: Vec<CheckedChunk>,
+) -> Result<(), NoMemory>
+    requires { AreNext state.old chunks.items }
+    ensures { OnOk result (RunsWave chunks.items state.old state.new) }
+{
+    for chunk in chunks {
+        run_chunk(rt, alloc, state, chunk)?;
+    }
+    Ok(())
+}
