@@ -161,7 +161,7 @@ static void take_waiting(bohm_machine *machine, uint32_t top, uint32_t ran) {
     take(now, &out, replies_behind(top, ran));
 }
 
-static long ended[12];
+static long ended[13];
 
 static long apply_refused(long from, long to) {
     uint32_t top = 6, count = least_count;
@@ -206,7 +206,230 @@ static long store_at_refused(long from, long to) {
     return asked_for;
 }
 
-/* A text that is refused, at its third line, is refused so, or for want of memory. */
+/* Writes a digest's text and its digits, which tests/embed holds against those of sha256sum. */
+static void tell_digest(uint32_t ts, const uint8_t digest[32]) {
+    const char *folder = getenv("DIGESTS");
+    if (!folder) return;
+    char name[4096];
+    text digested = digested_behind(ts);
+    snprintf(name, sizeof name, "%s/%" PRIu32, folder, ts);
+    FILE *of = fopen(name, "wb");
+    hold(of && fwrite(digested.at, 1, digested.len, of) == digested.len && !fclose(of), "the text isn't written");
+    free(digested.at);
+    snprintf(name, sizeof name, "%s/told", folder);
+    FILE *told = fopen(name, "ab");
+    hold(told != NULL, "the digest isn't written");
+    for (int i = 0; i < 32; i++) fprintf(told, "%02x", digest[i]);
+    hold(fprintf(told, "  %" PRIu32 "\n", ts) > 0 && !fclose(told), "the digest isn't written");
+}
+
+/* A digest behind a refusal is what it was before. */
+static int is_as_before(const uint8_t digest[32]) {
+    for (int i = 0; i < 32; i++)
+        if (digest[i] != 0xa5) return 0;
+    return 1;
+}
+
+static long digest_refused(long from, long to) {
+    bohm_machine machine = {0};
+    open_behind(&machine, 0);
+    go_on(&machine, 9);
+    uint8_t digest[32];
+    memset(digest, 0xa5, sizeof digest);
+    refuse(from, to);
+    uint32_t status = bohm_digest(&machine, 5, digest);
+    long asked_for = relent();
+    if (status) hold(status == BOHM_NO_MEMORY && is_as_before(digest) && asked_for >= from, "another end");
+    else hold(!is_as_before(digest), "no digest");
+    check_machine(&machine, 9);
+    go_on(&machine, 4);
+    bohm_close(&machine);
+    return asked_for;
+}
+
+/* Two machines have one digest where they hold the same, however they came to it, and others elsewhere. */
+static void digests(void) {
+    now = "digests";
+    bohm_machine one = {0}, other = {0};
+    uint8_t last[32] = {0}, digest[32], same[32];
+    open_behind(&one, 0);
+    go_on(&one, 12);
+    for (uint32_t ts = 0; ts <= 12; ts++) {
+        hold(bohm_digest(&one, ts, digest) == BOHM_DONE, "no digest");
+        tell_digest(ts, digest);
+        open_behind(&other, ts);
+        hold(bohm_digest(&other, ts, same) == BOHM_DONE && !memcmp(digest, same, 32), "another digest of the same");
+        bohm_close(&other);
+        hold((memcmp(digest, last, 32) == 0) == (ts && ts % 4 == 0), "one digest of other stores");
+        memcpy(last, digest, 32);
+    }
+    hold(bohm_trim(&one, 8) == BOHM_DONE, "trim");
+    memset(digest, 0xa5, sizeof digest);
+    hold(bohm_digest(&one, 7, digest) == BOHM_TRIMMED && is_as_before(digest), "a digest below the floor");
+    hold(bohm_digest(&one, 13, digest) == BOHM_FUTURE && is_as_before(digest), "a digest of the future");
+    check_machine(&one, 12);
+    bohm_close(&one);
+}
+
+static long prepare_refused(long from, long to) {
+    bohm_procedure procedure = {0};
+    bohm_bytes out = BOHM_NO_BYTES;
+    refuse(from, to);
+    uint32_t status = bohm_prepare(&procedure, (const uint8_t *)COPY_TEXT, strlen(COPY_TEXT), &out);
+    long asked_for = relent();
+    hold(is_none(out), "something is handed out");
+    if (status) hold(status == BOHM_NO_MEMORY && asked_for >= from && !procedure.at, "another end");
+    else bohm_close_procedure(&procedure);
+    hold(!procedure.at, "it isn't closed");
+    return asked_for;
+}
+
+/* Runs calls on a machine behind `top`, which have to be those of the next `count` transactions. */
+static void run_on(bohm_machine *machine, bohm_calls *calls, uint32_t count) {
+    uint32_t top = counts_of(machine).top;
+    bohm_bytes out = BOHM_NO_BYTES;
+    hold(bohm_run_calls(machine, calls, &out) == BOHM_DONE, "the calls aren't run");
+    take(now, &out, replies_behind(top, count));
+    check_machine(machine, top + count);
+}
+
+/* Of each push the allocations are refused; the list has afterwards just the calls that were taken. */
+static long push_refused(long from, long to) {
+    procedures of = prepare_all(now);
+    bohm_machine machine = {0};
+    bohm_calls calls = {0};
+    uint32_t taken = 0, status;
+    open_behind(&machine, 0);
+    refuse(from, to);
+    status = bohm_open_calls(&calls, 1);
+    while (!status && taken < 12 && !(status = push(&calls, &of, taken + 1))) taken++;
+    long asked_for = relent();
+    hold(!status || (status == BOHM_NO_MEMORY && asked_for >= from), "another end");
+    if (!calls.at) hold(bohm_open_calls(&calls, 1) == BOHM_DONE, "no list of calls");
+    run_on(&machine, &calls, taken);
+    bohm_clear_calls(&calls);
+    for (uint32_t k = taken + 1; k <= 16; k++) hold(push(&calls, &of, k) == BOHM_DONE, "a call isn't taken");
+    run_on(&machine, &calls, 16 - taken);
+    bohm_close(&machine);
+    bohm_close_calls(&calls);
+    hold(!calls.at, "it isn't closed");
+    close_all(&of);
+    return asked_for;
+}
+
+static long run_calls_refused(long from, long to) {
+    uint32_t top = 6, count = least_count;
+    procedures of = prepare_all(now);
+    bohm_machine machine = {0};
+    open_behind(&machine, 0);
+    go_on(&machine, top);
+    bohm_calls calls = calls_behind(now, &of, top, count);
+    bohm_bytes out = BOHM_NO_BYTES;
+    refuse(from, to);
+    uint32_t status = bohm_run_calls(&machine, &calls, &out);
+    long asked_for = relent();
+    uint32_t ran = counts_of(&machine).top - top;
+    hold(status == BOHM_DONE || asked_for >= from, "an end without cause");
+    hold(ran == count || ran % 4096 == 0, "no whole batches");
+    hold(status != BOHM_DONE || ran == count, "some didn't run");
+    hold(counts_of(&machine).waiting == (status == BOHM_KEPT ? ran : 0), "replies that wait");
+    if (status == BOHM_DONE || status == BOHM_STOPPED) take(now, &out, replies_behind(top, ran));
+    else hold(status == BOHM_KEPT && is_none(out), "another end");
+    if (status == BOHM_KEPT && ran) {
+        hold(bohm_run_calls(&machine, &calls, &out) == BOHM_WAITING && is_none(out), "it doesn't wait");
+        take_waiting(&machine, top, ran);
+    }
+    ended[status]++;
+    check_machine(&machine, top + ran);
+    go_on(&machine, count - ran + 4);
+    bohm_close(&machine);
+    bohm_close_calls(&calls);
+    close_all(&of);
+    return asked_for;
+}
+
+/* What a procedure's text is refused with, or "" where it is taken. */
+static void check_refusal(const char *procedure, const char *line) {
+    bohm_procedure made = {0};
+    bohm_bytes out = BOHM_NO_BYTES;
+    text right = {0};
+    uint32_t status = bohm_prepare(&made, (const uint8_t *)procedure, strlen(procedure), &out);
+    put(&right, line, 0, "");
+    hold(status == (*line ? BOHM_REFUSED : BOHM_DONE) && !made.at == !!*line, "another end of a procedure");
+    take(now, &out, right);
+    if (made.at) bohm_close_procedure(&made);
+}
+
+static void each_call_status(void) {
+    now = "calls";
+    check_refusal("procedure 3\n", "refused: line 1\n");
+    check_refusal("procedure 1\nkey x\nvalue x\n", "refused: line 3\n");
+    check_refusal("procedure 1\nkey x\nreads\nwrites\n", "refused: line 4\n");
+    check_refusal("procedure 1\nreads\nwrites\n", "refused: short\n");
+    check_refusal("procedure 1\nvalue v\nreads\nwrites\nneed a > 0\nend\n", "refused: check unread 1 2\n");
+    check_refusal("procedure 2\nreads\nwrites\nend\n", "");
+    procedures of = prepare_all(now);
+    bohm_procedure other = prepared(now, "procedure 2\nreads\nwrites\nend\n");
+    bohm_calls calls = {0};
+    bohm_machine machine = {0};
+    bohm_key a = key_of("a"), none = {(const uint8_t *)"a", 0}, large = key_of("A"), two[] = {a, large};
+    int64_t one = 1;
+    hold(bohm_open_calls(&calls, 0) == BOHM_UNFIT && !calls.at, "a list of no edition");
+    hold(bohm_open_calls(&calls, 3) == BOHM_UNFIT && !calls.at, "a list of no edition");
+    hold(bohm_open_calls(&calls, 1) == BOHM_DONE && calls.at, "no list of calls");
+    open_behind(&machine, 4294967290u);
+    hold(bohm_push(&calls, &of.count, &none, 1, &one, 1) == BOHM_NO_KEY, "no key");
+    hold(bohm_push(&calls, &of.count, &large, 1, &one, 1) == BOHM_NO_KEY, "no key");
+    hold(bohm_push(&calls, &of.copy, two, 2, &one, 1) == BOHM_NO_KEY, "no key");
+    hold(bohm_push(&calls, &of.count, &a, 1, &one, 0) == BOHM_UNFIT, "too few values");
+    hold(bohm_push(&calls, &of.need, &a, 1, &one, 1) == BOHM_UNFIT, "too many values");
+    hold(bohm_push(&calls, &of.copy, &a, 1, &one, 1) == BOHM_UNFIT, "too few keys");
+    hold(bohm_push(&calls, &other, &a, 0, &one, 0) == BOHM_UNFIT, "another edition");
+    run_on(&machine, &calls, 0);
+    for (uint32_t k = 1; k <= 5; k++) hold(push(&calls, &of, 4294967290u + k) == BOHM_DONE, "a call isn't taken");
+    close_all(&of);
+    run_on(&machine, &calls, 5);
+    bohm_bytes out = BOHM_NO_BYTES;
+    hold(bohm_run_calls(&machine, &calls, &out) == BOHM_TIMESTAMPS && is_none(out), "timestamps pass");
+    check_machine(&machine, 4294967295u);
+    bohm_clear_calls(&calls);
+    run_on(&machine, &calls, 0);
+    bohm_close(&machine);
+    bohm_close_procedure(&other);
+    bohm_close_calls(&calls);
+}
+
+/* Calls with equal keys, and with the least and the greatest value. */
+static void arguments(void) {
+    now = "arguments";
+    bohm_machine machine = {0};
+    bohm_calls calls = {0};
+    bohm_bytes out = BOHM_NO_BYTES;
+    bohm_procedure move = prepared(now, "procedure 1\nkey of\nkey to\nvalue by\nreads of to\nwrites of to\n"
+                                        "set to = to + $by\nset of = of - $by\nshow of\nshow to\nshow $by\nend\n");
+    bohm_key both[] = {key_of("b"), key_of("a")}, same[] = {key_of("b"), key_of("b")};
+    int64_t values[] = {3, INT64_MIN, INT64_MAX, 0};
+    text right = {0};
+    open_behind(&machine, 0);
+    hold(bohm_open_calls(&calls, 1) == BOHM_DONE, "no list of calls");
+    hold(bohm_push(&calls, &move, both, 2, &values[0], 1) == BOHM_DONE, "a call isn't taken");
+    hold(bohm_push(&calls, &move, same, 2, &values[0], 1) == BOHM_DONE, "a call isn't taken");
+    hold(bohm_push(&calls, &move, both, 2, &values[1], 1) == BOHM_DONE, "a call isn't taken");
+    hold(bohm_push(&calls, &move, both, 2, &values[2], 1) == BOHM_DONE, "a call isn't taken");
+    hold(bohm_push(&calls, &move, both, 2, &values[3], 1) == BOHM_DONE, "a call isn't taken");
+    /* a 0, b 7; b 4, a 3; both sets are of one key, and the last one counts: b 1; b - least passes the greatest; a +
+     * greatest passes it */
+    put(&right, "1 commit 7 0 3\n2 commit 4 4 3\n3 abort range 3\n4 abort range 2\n5 commit 1 3 0\n", 0, "");
+    hold(bohm_run_calls(&machine, &calls, &out) == BOHM_DONE, "the calls aren't run");
+    take(now, &out, right);
+    check_value(&machine, "a", 5, 1, 3);
+    check_value(&machine, "b", 5, 1, 1);
+    bohm_close_calls(&calls);
+    bohm_close_procedure(&move);
+    bohm_close(&machine);
+}
+
+/* A text that is refused, at its third line, is refused so, or since an allocation failed. */
 static long line_refused(long from, long to) {
     const char *segment = "log 1\ntxn\nreads  a\nwrites a\nend\n";
     text line = {0};
@@ -314,7 +537,10 @@ static void without_memory(void) {
 
 int main(void) {
     each_status();
+    each_call_status();
+    arguments();
     without_memory();
+    digests();
     each_refused("bohm_answer", answer_refused, 9);
     each_refused("bohm_open", open_refused, 0);
     each_refused("bohm_apply", apply_refused, 9);
@@ -322,7 +548,14 @@ int main(void) {
     memset(ended, 0, sizeof ended);
     each_refused("bohm_apply in three batches", apply_refused, 8200);
     hold(ended[BOHM_NO_MEMORY] && ended[BOHM_STOPPED] && ended[BOHM_KEPT], "an end that isn't reached");
+    memset(ended, 0, sizeof ended);
+    each_refused("bohm_run_calls", run_calls_refused, 9);
+    each_refused("bohm_run_calls in three batches", run_calls_refused, 8200);
+    hold(ended[BOHM_STOPPED] && ended[BOHM_KEPT], "an end that isn't reached");
+    each_refused("bohm_prepare", prepare_refused, 0);
+    each_refused("bohm_push", push_refused, 0);
     each_refused("bohm_store_at", store_at_refused, 0);
+    each_refused("bohm_digest", digest_refused, 0);
     each_refused("bohm_apply of a bad line", line_refused, 0);
     puts("each status, and each allocation refused: as it should be");
     return 0;

@@ -48,6 +48,53 @@ static inline text segment_behind(uint32_t top, uint32_t count) {
     return made;
 }
 
+/* The procedures whose calls are these transactions, by k % 4, and their texts. */
+typedef struct {
+    bohm_procedure count, copy, need;
+} procedures;
+
+#define COUNT_TEXT "procedure 1\nkey x\nvalue by\nreads x\nwrites x\nset x = x + $by\nshow x\nend\n"
+#define COPY_TEXT \
+    "procedure 1\nkey of\nkey to\nvalue by\nreads of\nwrites of to\nset to = of\nset of = of + $by\nshow of\nend\n"
+#define NEED_TEXT "procedure 1\nkey x\nreads x\nwrites\nshow x\nneed x < 0\nend\n"
+
+static inline bohm_procedure prepared(const char *what, const char *procedure) {
+    bohm_procedure made = {0};
+    bohm_bytes out = BOHM_NO_BYTES;
+    if (bohm_prepare(&made, (const uint8_t *)procedure, strlen(procedure), &out)) fault(what, "a procedure is refused");
+    return made;
+}
+
+static inline procedures prepare_all(const char *what) {
+    return (procedures){prepared(what, COUNT_TEXT), prepared(what, COPY_TEXT), prepared(what, NEED_TEXT)};
+}
+
+static inline void close_all(procedures *of) {
+    bohm_close_procedure(&of->count);
+    bohm_close_procedure(&of->copy);
+    bohm_close_procedure(&of->need);
+}
+
+static inline bohm_key key_of(const char *name) { return (bohm_key){(const uint8_t *)name, strlen(name)}; }
+
+/* Adds the call that is transaction `k`. */
+static inline uint32_t push(bohm_calls *calls, procedures *of, uint32_t k) {
+    bohm_key a = key_of("a"), both[] = {key_of("b"), key_of("c")};
+    int64_t one = 1;
+    if (k % 2) return bohm_push(calls, &of->count, &a, 1, &one, 1);
+    if (k % 4) return bohm_push(calls, &of->copy, both, 2, &one, 1);
+    return bohm_push(calls, &of->need, &a, 1, &one, 0);
+}
+
+/* The calls that are the segment of `count` transactions behind `top`. */
+static inline bohm_calls calls_behind(const char *what, procedures *of, uint32_t top, uint32_t count) {
+    bohm_calls calls = {0};
+    if (bohm_open_calls(&calls, 1)) fault(what, "no list of calls");
+    for (uint32_t i = 1; i <= count; i++)
+        if (push(&calls, of, top + i)) fault(what, "a call isn't taken");
+    return calls;
+}
+
 static inline void put_replies(text *made, uint32_t top, uint32_t count) {
     for (uint32_t i = 1; i <= count; i++) {
         uint32_t k = top + i;
@@ -100,6 +147,14 @@ static inline text log_of(uint32_t count) {
 }
 
 static inline const uint8_t *bytes_of(text it) { return (const uint8_t *)it.at; }
+
+/* The text whose SHA-256 a digest is: the store's lines behind a line of two dashes. */
+static inline text digested_behind(uint32_t top) {
+    text made = {0};
+    put(&made, "--\n", 0, "");
+    put_store(&made, top);
+    return made;
+}
 
 /* Lets go bytes that were handed out, which have to be these. */
 static inline void take(const char *what, bohm_bytes *out, text right) {

@@ -23,6 +23,14 @@ static void apply_behind(bohm_machine *machine, uint32_t top, uint32_t count) {
     free(segment.at);
 }
 
+static void call_behind(bohm_machine *machine, procedures *of, uint32_t top, uint32_t count) {
+    bohm_calls calls = calls_behind("threads", of, top, count);
+    bohm_bytes out = BOHM_NO_BYTES;
+    if (bohm_run_calls(machine, &calls, &out)) fault("threads", "run_calls");
+    take("threads", &out, replies_behind(top, count));
+    bohm_close_calls(&calls);
+}
+
 static void close_behind(bohm_machine *machine, uint32_t top) {
     bohm_bytes out = BOHM_NO_BYTES;
     if (bohm_store_at(machine, top, &out)) fault("threads", "store_at");
@@ -32,9 +40,15 @@ static void close_behind(bohm_machine *machine, uint32_t top) {
 
 static void run(uint32_t size) {
     bohm_machine machine = {0};
+    procedures of = prepare_all("threads");
     open_new(&machine);
-    for (uint32_t top = 0; top < COUNT; top += size) apply_behind(&machine, top, COUNT - top < size ? COUNT - top : size);
+    for (uint32_t top = 0; top < COUNT; top += size) {
+        uint32_t count = COUNT - top < size ? COUNT - top : size;
+        if (top / size % 2) call_behind(&machine, &of, top, count);
+        else apply_behind(&machine, top, count);
+    }
     close_behind(&machine, COUNT);
+    close_all(&of);
 }
 
 static void *thread(void *size) {

@@ -38,7 +38,7 @@ class Ledger:
             raise Unread(str(refusal)) from refusal
 
     def apply(self, values: list[bytes]) -> list[bytes]:
-        """The reply to each value: the machine's, or why it is skipped. After a Refusal, for want of memory or of
+        """The reply to each value: the machine's, or why it is skipped. After a Refusal, for lack of memory or of
         timestamps, the machine may have gone a part of the way, and the ledger isn't to be used any more."""
         skipped = {at: SHAPELESS for at, value in enumerate(values) if not has_shape(value)}
         try:

@@ -13,7 +13,7 @@ ACCOUNTS = [f"a{number:03d}" for number in range(160)]
 OPENING = 1000
 # Seconds that a client asks for a reply; and one answer may take.
 PATIENCE, ANSWER = 60.0, 10.0
-# Of so many values one is no transaction, and one is put to a key that was there.
+# Of this many values one is no transaction, and one is put to a key that was there.
 BAD, RUDE = 50, 200
 OVERWRITTEN = b"skipped: overwrites"
 

@@ -59,7 +59,7 @@ class Inbox:
             self.waiting.put(fault)
 
     def take(self, wait: float) -> list[Put]:
-        """The next revision, if it comes within so many seconds; else nothing."""
+        """The next revision, if it comes within this many seconds; else nothing."""
         try:
             found = self.waiting.get(timeout=max(0.0, wait))
         except queue.Empty:
@@ -69,7 +69,7 @@ class Inbox:
         return found
 
     def segment(self, most: int, linger: float) -> list[Put]:
-        """At most so many revisions: what is there, and what comes within `linger` seconds of the first."""
+        """At most this many revisions: what is there, and what comes within `linger` seconds of the first."""
         puts: list[Put] = []
         count = size = 0
         more = self.take(TICK)
@@ -139,7 +139,7 @@ class Replica:
         self.since = 0
 
     def reply(self, revision: int, wait: float) -> bytes | None:
-        """The lines of a revision, empty where it has none here; None if it isn't applied within so many seconds."""
+        """The lines of a revision, empty where it has none here; None if it isn't applied within this many seconds."""
         with self.changed:
             if self.changed.wait_for(lambda: self.revision >= revision, wait):
                 return self.replies.find(revision)

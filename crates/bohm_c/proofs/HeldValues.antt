@@ -1,5 +1,5 @@
 -- The machine values of a `Held`. Assumes `Logic`.
-use Rattle.std.proofs.Common.{◌≡◌, ℕ, List, [], ◌∷◌, ◌++◌, refl, subst}
+use Rattle.std.proofs.Common.{◌≡◌, ℕ, List, [], ◌∷◌, ◌++◌, lit<, refl, subst}
 use seplogic.Ra.Ura.{Ura}
 use mir.Syntax.{w64}
 use mir.Raw.{raw as bare}
@@ -10,11 +10,13 @@ use types.Kit.{Item, Goal, Seq, Step, step, ‵, ◌$◌, drop, rewrite, fsplit,
 use denote.RattleType.{RattleType, Valss}
 use denote.Builtin.{RawPtr}
 use denote.Memory.{lone}
+use denote.Param.{layout}
 use denote.RawPtr.{Ptr, block_ptr, null_ptr, ptr_val, in_a_block}
 use denote.Steps.{nothing}
 use denote.Struct.Struct.{within}
 use denote.Struct.Owning.{shape}
 use mathlib.Core.Bool.{Bool, true, false}
+use Rattle.core.proofs.cell.Inside.{Good}
 use Rattle.std.specs.contracts.impls.GlobalAllocator.TheImpl.{ghosts}
 use Rattle.bohm_c.specs.Codes.{when}
 use Rattle.std_alloc.specs.Box.Ownership.{box_owns}
@@ -29,6 +31,10 @@ null_val = vint w64 0
 
 abbrev pub Held : RattleType
 Held = held.the_row
+
+pub pointer_fits : (p : Ptr) → Good (layout Held) (one (ptr_val p))
+pointer_fits (block_ptr b o) = (tt, (tt, tt))
+pointer_fits null_ptr = (tt, (record { fits = lit< tt }, tt))
 
 module _ {M : Type 1} {𝓤 : Ura M} {𝓛 : Logic 𝓤} {K : Type 0} {Γ : List (Item 𝓤)} {G : Goal 𝓤 𝓛.H} where
   pub held_out : K → (d : Held.Denot) (vs : List Val) → d.is_open ≡ true
@@ -51,3 +57,7 @@ module _ {M : Type 1} {𝓤 : Ura M} {𝓛 : Logic 𝓤} {K : Type 0} {Γ : List
   held_none t x = step (λ s. let v : Val = one null_val in
       nothing t $ nothing t $ feq_i t (List Val) (null_val ∷ []) (null_val ∷ []) refl $ fjoin t $ feq_i t (List Val) (v ∷ []) (v ∷ []) refl $ fjoin t $
       fpack t (Valss (RawPtr ∷ [])) (within (shape held.the_type) (null_ptr, tt) (v ∷ [])) (null_val ∷ [], tt) $ fjoin t $ s)
+
+  -- what is left of a handle that is let go
+  pub held_gone : K → (d : Held.Denot) (vs : List Val) → (vs ≡ one (ptr_val d.at) ∷ [] → Seq K 𝓛 Γ G) → Seq K 𝓛 (‵ (Held.own_val d vs) ∷ Γ) G
+  held_gone t d vs k = fsplit t $ fpick t (λ vss. fsplit t $ feq_l t (λ ev. fsplit t $ feq_l t (λ ep. drop t $ drop t $ k (subst (λ (ps : List Val). vs ≡ vstruct (of_list (ps ++ [])) ∷ []) ep ev))))

@@ -5,54 +5,87 @@ use Rattle.bohm_tree.specs.Document.{Document}
 use Rattle.bohm_tree.specs.declared.cell.Cell.{Cell}
 use Rattle.bohm_tree.specs.declared.cell.Cell.TheVariants.{Absent, Present}
 use Rattle.bohm_txn.specs.declared.outcome.Reply.{Reply}
+use Rattle.bohm_txn.specs.Faulty.{WellFormed}
 use Rattle.bohm_txn.specs.Stores.{cell_in, store_of}
 use Rattle.bohm_text.specs.Print.{print_doc, print_numbered}
 use Rattle.bohm_run.specs.Headline.{answer_of}
 use Rattle.bohm_machine.specs.Machines.{GoesOn, HasRun, Ledger, floor_of, past_of, top_of}
-use Rattle.bohm_machine.specs.Segments.{AreWholeBatches, IsTaken, RunsOn}
+use Rattle.bohm_machine.specs.Segments.{AreWholeBatches, IsTaken, RunsOn, IsRefused as IsUntakenBy}
+use Rattle.bohm_machine.specs.declared.fault.SegmentFault.{SegmentFault}
+use Rattle.bohm_run.specs.declared.fault.RunFault.TheVariants.{NoMemory}
 use Rattle.bohm_c.specs.declared.keeper.Keeper.{Keeper}
 use Rattle.bohm_c.specs.declared.keeper.OpenFault.{OpenFault}
 use Rattle.bohm_c.specs.declared.keeper.OpenFault.TheVariants.{Text, HasLog}
 use Rattle.bohm_c.specs.Reading.{IsRead, IsRefused, snapshot_of}
 
 -- the machine of a snapshot's store, as it stands behind a timestamp, and no reply waits
+pub record IsOpened (snapshot : Document) (start : ℕ) (keeper : Keeper) : Type 0 where
+  pub alone : snapshot.log ≡ []
+  pub top : top_of keeper.machine ≡ start
+  pub floor : floor_of keeper.machine ≡ start
+  pub run : HasRun (cell_in (store_of snapshot.store)) start [] keeper.machine
+  pub handed : keeper.waiting ≡ []
+
+-- that of the snapshot that a text is
 pub record IsOpening (text : List ℕ) (start : ℕ) (keeper : Keeper) : Type 0 where
   pub document : Document
   pub read : IsRead text document
-  pub alone : document.log ≡ []
-  pub top : top_of keeper.machine ≡ start
-  pub floor : floor_of keeper.machine ≡ start
-  pub run : HasRun (cell_in (store_of document.store)) start [] keeper.machine
-  pub handed : keeper.waiting ≡ []
+  pub opened : IsOpened document start keeper
 
--- the text is a segment, of which whole batches were run, with these replies
-pub record IsRun (was now : Keeper) (text : List ℕ) (answered : List Reply) : Type 0 where
-  pub document : Document
-  pub read : IsRead text document
-  pub taken : IsTaken was.machine document
-  pub goes_on : GoesOn was.machine now.machine (take (length answered) document.log) answered
-  pub runs_on : RunsOn was.machine now.machine (take (length answered) document.log) answered
-  pub batches : 0 < length answered → AreWholeBatches document.log 4096 (length answered)
+-- why a snapshot isn't opened: it has transactions, or memory was refused
+abbrev pub IsUnopened : Document → OpenFault → Type 0
+IsUnopened snapshot (Text fault) = (snapshot.log ≡ []) × (fault ≡ NoMemory)
+IsUnopened snapshot HasLog = 0 < length snapshot.log
+
+-- no reply waited, and whole batches of a segment were run, with these replies
+pub record IsRun (was now : Keeper) (segment : Document) (answered : List Reply) : Type 0 where
+  pub waited : was.waiting ≡ []
+  pub taken : IsTaken was.machine segment
+  pub goes_on : GoesOn was.machine now.machine (take (length answered) segment.log) answered
+  pub runs_on : RunsOn was.machine now.machine (take (length answered) segment.log) answered
+  pub batches : 0 < length answered → AreWholeBatches segment.log 4096 (length answered)
 
 -- all of it was, and the text of the replies is handed out
-pub record IsDone (was now : Keeper) (text answer : List ℕ) : Type 0 where
+pub record IsRunWhole (was now : Keeper) (segment : Document) (answer : List ℕ) : Type 0 where
   pub answered : List Reply
-  pub run : IsRun was now text answered
-  pub whole : length answered ≡ length run.document.log
+  pub run : IsRun was now segment answered
+  pub whole : length answered ≡ length segment.log
   pub says : answer ≡ print_numbered (top_of was.machine + 1) answered
   pub handed : now.waiting ≡ []
 
 -- some of it was, and the text of the replies is handed out
-pub record IsStopped (was now : Keeper) (text answer : List ℕ) : Type 0 where
+pub record IsRunPartly (was now : Keeper) (segment : Document) (answer : List ℕ) : Type 0 where
   pub answered : List Reply
-  pub run : IsRun was now text answered
+  pub run : IsRun was now segment answered
   pub says : answer ≡ print_numbered (top_of was.machine + 1) answered
   pub handed : now.waiting ≡ []
 
 -- some of it was, and the replies wait
-pub record IsKept (was now : Keeper) (text : List ℕ) : Type 0 where
-  pub run : IsRun was now text now.waiting
+pub record IsRunUntold (was now : Keeper) (segment : Document) : Type 0 where
+  pub run : IsRun was now segment now.waiting
   pub behind : now.behind ≡ top_of was.machine
+
+-- these of the segment that a text is
+pub record IsDone (was now : Keeper) (text answer : List ℕ) : Type 0 where
+  pub document : Document
+  pub read : IsRead text document
+  pub run : IsRunWhole was now document answer
+
+pub record IsStopped (was now : Keeper) (text answer : List ℕ) : Type 0 where
+  pub document : Document
+  pub read : IsRead text document
+  pub run : IsRunPartly was now document answer
+
+pub record IsKept (was now : Keeper) (text : List ℕ) : Type 0 where
+  pub document : Document
+  pub read : IsRead text document
+  pub run : IsRunUntold was now document
+
+-- the text is a segment that the machine refuses, and why
+pub record IsUntaken (m : Ledger) (text : List ℕ) (fault : SegmentFault) : Type 0 where
+  pub document : Document
+  pub read : IsRead text document
+  pub untaken : IsUntakenBy m document fault
 
 -- the text is a well-formed document's that has transactions
 pub record HasTransactions (text : List ℕ) : Type 0 where
@@ -82,12 +115,13 @@ abbrev pub told : Bool → ℤ → Cell
 told true z = Present z
 told false z = Absent
 
--- the text is that of the store after the transaction with a timestamp
+-- the text is that of a well-formed document without transactions, which has the store after the transaction with a timestamp
 pub record IsSnapshot (m : Ledger) (ts : ℕ) (text : List ℕ) : Type 0 where
   pub store : List (List ℕ × ℤ)
   pub readable : IsReadable m ts
   pub holds : cell_in (store_of store) ≡ past_of m ts
   pub listed : store ≡ entries (store_of store)
+  pub formed : WellFormed (snapshot_of store)
   pub printed : text ≡ print_doc (snapshot_of store)
 
 -- the past from the new floor on is as it was, and so are the replies that wait

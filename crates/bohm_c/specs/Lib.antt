@@ -1,3 +1,5 @@
 pub mod Reading
 pub mod Keeping
 pub mod Codes
+pub mod Calling
+pub mod CallCodes

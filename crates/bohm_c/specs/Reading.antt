@@ -26,13 +26,25 @@ pub record IsFaulty (text : List ℕ) (fault : CheckFault) : Type 0 where
   pub printed : print_doc document ≡ text
   pub first : IsFirstFault document fault
 
+-- the text has this fault
+abbrev pub HasFault : List ℕ → RunFault → Type 0
+HasFault text Read = ⊥
+HasFault text TooLong = 67108864 < length text
+HasFault text (Text (texts.Line n)) = IsFirstBadLine (whole_lines text) n
+HasFault text (Text texts.Short) = IsShort text
+HasFault text (Text texts.NoMemory) = ⊥
+HasFault text (Check fault) = IsFaulty text fault
+HasFault text Trimmed = ⊥
+HasFault text Future = ⊥
+HasFault text NoMemory = ⊥
+HasFault text (Write sent) = ⊥
+
+-- why a text isn't read: memory was refused, or the text has this fault
 abbrev pub IsRefused : List ℕ → RunFault → Type 0
 IsRefused text Read = ⊥
-IsRefused text TooLong = 67108864 < length text
-IsRefused text (Text (texts.Line n)) = IsFirstBadLine (whole_lines text) n
-IsRefused text (Text texts.Short) = IsShort text
-IsRefused text (Text texts.NoMemory) = ⊥
-IsRefused text (Check fault) = IsFaulty text fault
+IsRefused text TooLong = HasFault text TooLong
+IsRefused text (Text fault) = HasFault text (Text fault)
+IsRefused text (Check fault) = HasFault text (Check fault)
 IsRefused text Trimmed = ⊥
 IsRefused text Future = ⊥
 IsRefused text NoMemory = Unit {0}
@@ -41,7 +53,7 @@ IsRefused text (Write sent) = ⊥
 -- these bytes are the line of a fault that the text has
 pub record IsRefusal (text line : List ℕ) : Type 0 where
   pub fault : RunFault
-  pub refused : IsRefused text fault
+  pub faulty : HasFault text fault
   pub says : line ≡ fault_line fault
 
 -- the document that has this store and no transactions

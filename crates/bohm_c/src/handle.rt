@@ -8,11 +8,12 @@ use crate::keeper::Keeper;
 use crate::loose::Loose;
 use std::alloc::Global;
 use std::marker::Model;
+use std::mem::replace;
 use std::ptr::null_mut;
 
-/// A machine that C keeps, and gives back with each call.
+/// A machine that C keeps, and gives back with each call. It isn't `Drop`: an open one ends by
+/// `take_back` alone.
 #[repr(C)]
-#[derive(Drop)]
 pub struct BohmMachine {
     at: *mut u8,
     pub ghost value: { Keeper } by { keeper_code },
@@ -55,18 +56,27 @@ pub fn closed() -> BohmMachine
     BohmMachine { at: null_mut() }
 }
 
-/// Hands the machine out.
-pub fn hold(keeper: Box<Keeper>) -> BohmMachine
-    ensures value { result.value ≡ keeper.value }
-    ensures open { result.is_open ≡ true }
+/// Ends a handle of no machine.
+pub fn end_closed(held: BohmMachine)
+    requires { held.is_open ≡ false }
 {
-    erased(Loose::of(keeper))
+    let BohmMachine { at: _ } = held;
 }
 
-/// Has the machine back.
-pub fn take_back(alloc: Global, held: BohmMachine) -> Box<Keeper>
-    requires { held.is_open ≡ true }
-    ensures { result.value ≡ held.value }
+/// Hands the machine out.
+pub fn put_back(machine: &mut BohmMachine, keeper: Box<Keeper>)
+    requires { machine.old.is_open ≡ false }
+    ensures value { machine.new.value ≡ keeper.value }
+    ensures open { machine.new.is_open ≡ true }
 {
-    named(alloc, held).into_box()
+    end_closed(replace(machine, erased(Loose::of(keeper))));
+}
+
+/// Takes the machine back, and leaves the handle closed.
+pub fn take_back(alloc: Global, machine: &mut BohmMachine) -> Box<Keeper>
+    requires { machine.old.is_open ≡ true }
+    ensures value { result.value ≡ machine.old.value }
+    ensures closed { machine.new.is_open ≡ false }
+{
+    named(alloc, replace(machine, closed())).into_box()
 }

@@ -1,33 +1,40 @@
-//! What a handle keeps: a machine, and the replies that could not be handed out yet.
+//! The state behind a handle: a machine, and the replies that could not be handed out yet.
 
-ghost use Rattle.std.specs.Prelude.{◌≡◌, ◌+◌, ◌<◌, ◌≤◌, ◌⊎◌, [], length, true, is_ok, None, IfSome, IfOk, IfErr};
+ghost use Rattle.std.specs.Prelude.{◌≡◌, ◌≢◌, ◌+◌, ◌<◌, ◌≤◌, ◌⊎◌, ◌↔◌, ℕ, List, [], length, true, false, is_ok, None, IfSome, IfOk, IfErr};
 ghost use Rattle.bohm_tree.specs.declared.cell.Cell.TheVariants as cell_is;
 ghost use Rattle.bohm_text.specs.Print.{print_numbered};
-ghost use Rattle.bohm_run.specs.FaultLine.{fault_line};
+ghost use Rattle.bohm_machine.specs.Digests.{IsDigest};
 ghost use Rattle.bohm_machine.specs.Machines.{floor_of, past_of, top_of};
-ghost use Rattle.bohm_c.specs.Keeping.{IsDone, IsKept, IsOpening, IsReadable, IsRefusedOpening, IsSnapshot, IsStopped, IsTrimmed, told};
-ghost use Rattle.bohm_c.specs.Reading.{IsRefusal};
+ghost use Rattle.bohm_machine.specs.Segments.{IsRefused as IsUntakenBy};
+ghost use Rattle.bohm_run.specs.FaultLine.{fault_line};
+ghost use Rattle.bohm_run.specs.declared.fault.RunFault.TheVariants as run_is;
+ghost use Rattle.bohm_machine.specs.declared.fault.SegmentFault.TheVariants as segment_is;
+ghost use Rattle.bohm_c.specs.Keeping.{HasTransactions, IsDone, IsKept, IsOpened, IsOpening, IsReadable, IsRefusedOpening, IsRunPartly, IsRunUntold, IsRunWhole, IsSnapshot, IsStopped, IsTrimmed, IsUnopened, IsUntaken, told};
+ghost use Rattle.bohm_c.specs.Reading.{IsRefusal, IsRefused};
+ghost use Rattle.bohm_c.specs.declared.keeper.OpenFault.TheVariants as open_is;
 
+use crate::call_list::CallList;
 use crate::handing::hand_over;
 use crate::reading::{print_snapshot, read};
 use crate::status::{
-    DONE, FUTURE, HAS_STORE, KEPT, NO_MEMORY, REFUSED, STOPPED, TIMESTAMPS, TRIMMED, WAITING,
+    DONE, FUTURE, HAS_LOG, HAS_STORE, KEPT, NO_MEMORY, REFUSED, STOPPED, TIMESTAMPS, TRIMMED,
+    WAITING,
 };
 use bohm_machine::{Machine, SegmentFault};
 use bohm_run::{Applied, RunFault, print_fault};
 use bohm_store::{PastFault, StoreFault};
 use bohm_text::print_numbered;
-use bohm_tree::{Cell, Key};
-use bohm_txn::Replies;
+use bohm_tree::{Cell, Key, NoMemory};
+use bohm_txn::{Checked, Replies};
 use std::alloc::Global;
 use std::mem;
 
-/// A machine, and the replies of its last segment where their text found no memory.
+/// A machine, and the replies of its last segment whose text could not be allocated.
 #[derive(Drop)]
 pub struct Keeper {
     pub machine: Machine,
     pub waiting: Replies,
-    /// The timestamp that they stand behind.
+    /// The timestamp before the first of them.
     pub behind: u32,
 }
 
@@ -50,12 +57,16 @@ fn number_in(cell: Cell) -> Option<i64>
     }
 }
 
-/// Hands out the line of a fault.
+/// Hands out the line of a fault that a text has.
 pub fn refuse<'a>(alloc: Global, fault: RunFault, out: &mut &'a mut [u8]) -> u32
     ensures status { (result ≡ REFUSED) ⊎ (result ≡ NO_MEMORY) }
     ensures some { 0 < result }
-    ensures refused { result ≡ REFUSED → out.new.now ≡ fault_line fault }
-    ensures untouched { result ≡ NO_MEMORY → out.new ≡ out.old }
+    ensures few { result ≤ NO_MEMORY }
+    ensures refused { result ≡ REFUSED → (text : List ℕ) → IsRefused text fault
+        → IsRefusal text out.new.now }
+    ensures says { result ≡ REFUSED → out.new.now ≡ fault_line fault }
+    ensures fault { result ≡ REFUSED → fault ≢ run_is.NoMemory }
+    ensures untouched { result ≢ REFUSED → out.new ≡ out.old }
 {
     if let RunFault::NoMemory = fault {
         return NO_MEMORY;
@@ -69,28 +80,50 @@ pub fn refuse<'a>(alloc: Global, fault: RunFault, out: &mut &'a mut [u8]) -> u32
     }
 }
 
+/// Hands out the line of a fault that a snapshot's text has. It may have none.
+pub fn refuse_opening<'a>(alloc: Global, fault: OpenFault, out: &mut &'a mut [u8]) -> u32
+    ensures status { (result ≡ REFUSED) ⊎ (result ≡ NO_MEMORY) ⊎ (result ≡ HAS_LOG) }
+    ensures some { 0 < result }
+    ensures log { fault ≡ open_is.HasLog → result ≡ HAS_LOG }
+    ensures has_log { result ≡ HAS_LOG → (text : List ℕ) → IsRefusedOpening text fault
+        → HasTransactions text }
+    ensures refused { result ≡ REFUSED → (text : List ℕ) → IsRefusedOpening text fault
+        → IsRefusal text out.new.now }
+    ensures untouched { result ≢ REFUSED → out.new ≡ out.old }
+{
+    match fault {
+        OpenFault::Text(fault) => refuse(alloc, fault, out),
+        OpenFault::HasLog => HAS_LOG,
+    }
+}
+
 impl Keeper {
-    /// Hands out the text of what a segment behind a timestamp answered. Where there is no memory
-    /// for it the replies wait.
+    /// Hands out the text of the replies of a segment after a timestamp. If the allocation failed,
+    /// the replies wait.
     fn hand_out<'a>(
         &mut self,
         alloc: Global,
         applied: Applied,
         behind: u32,
+        text: Result<Vec<u8>, NoMemory>,
         out: &mut &'a mut [u8],
     ) -> u32
         requires handed { self.old.waiting ≡ [] }
+        requires text { IfOk text (λ t. t.items ≡ print_numbered (behind + 1) applied.replies) }
         ensures machine { self.new.machine ≡ self.old.machine }
         ensures status { (result ≡ DONE) ⊎ (result ≡ STOPPED) ⊎ (result ≡ KEPT) }
         ensures done { result ≡ DONE → is_ok applied.end ≡ true }
+        ensures stopped { result ≡ STOPPED → is_ok applied.end ≡ false }
+        ensures kept { (result ≡ KEPT) ↔ (is_ok text ≡ false) }
         ensures says { result ≤ STOPPED
             → out.new.now ≡ print_numbered (behind + 1) applied.replies }
         ensures handed { result ≤ STOPPED → self.new.waiting ≡ [] }
-        ensures kept { result ≡ KEPT → self.new.waiting ≡ applied.replies }
+        ensures waits { result ≡ KEPT → self.new.waiting ≡ applied.replies }
         ensures behind { result ≡ KEPT → self.new.behind ≡ behind }
+        ensures untouched { result ≡ KEPT → out.new ≡ out.old }
     {
         let Applied { replies, end } = applied;
-        match print_numbered(alloc, u64::from(behind) + 1, &replies) {
+        match text {
             Ok(text) => {
                 *out = hand_over(alloc, text);
                 if end.is_ok() { DONE } else { STOPPED }
@@ -103,7 +136,34 @@ impl Keeper {
         }
     }
 
-    /// Runs the segment that a text is.
+    /// Runs a segment, and hands out the text of its replies.
+    fn run<'a>(&mut self, alloc: Global, segment: &Checked, out: &mut &'a mut [u8]) -> u32
+        requires { self.old.waiting ≡ [] }
+        ensures status { (result ≡ DONE) ⊎ (result ≡ HAS_STORE) ⊎ (result ≡ TIMESTAMPS)
+            ⊎ (result ≡ STOPPED) ⊎ (result ≡ KEPT) }
+        ensures done { result ≡ DONE → IsRunWhole self.old self.new segment.now out.new.now }
+        ensures stopped { result ≡ STOPPED
+            → IsRunPartly self.old self.new segment.now out.new.now }
+        ensures kept { result ≡ KEPT → IsRunUntold self.old self.new segment.now }
+        ensures has_store { result ≡ HAS_STORE
+            → IsUntakenBy self.old.machine segment.now segment_is.Store }
+        ensures timestamps { result ≡ TIMESTAMPS
+            → IsUntakenBy self.old.machine segment.now segment_is.Timestamps }
+        ensures unchanged { 0 < result → result < STOPPED → self.new ≡ self.old }
+        ensures untouched { result ≢ DONE → result ≢ STOPPED → out.new ≡ out.old }
+    {
+        let behind = self.machine.top();
+        match self.machine.apply(alloc, segment) {
+            Ok(applied) => {
+                let text = print_numbered(alloc, u64::from(behind) + 1, &applied.replies);
+                self.hand_out(alloc, applied, behind, text, out)
+            }
+            Err(SegmentFault::Store) => HAS_STORE,
+            Err(SegmentFault::Timestamps) => TIMESTAMPS,
+        }
+    }
+
+    /// Runs the segment of a text.
     pub fn apply<'a>(&mut self, alloc: Global, text: &[u8], out: &mut &'a mut [u8]) -> u32
         ensures status { (result ≡ DONE) ⊎ (result ≡ REFUSED) ⊎ (result ≡ NO_MEMORY)
             ⊎ (result ≡ HAS_STORE)
@@ -112,21 +172,42 @@ impl Keeper {
         ensures stopped { result ≡ STOPPED → IsStopped self.old self.new text.now out.new.now }
         ensures kept { result ≡ KEPT → IsKept self.old self.new text.now }
         ensures refused { result ≡ REFUSED → IsRefusal text.now out.new.now }
+        ensures has_store { result ≡ HAS_STORE
+            → IsUntaken self.old.machine text.now segment_is.Store }
+        ensures timestamps { result ≡ TIMESTAMPS
+            → IsUntaken self.old.machine text.now segment_is.Timestamps }
         ensures waiting { result ≡ WAITING → 0 < length self.old.waiting }
         ensures unchanged { 0 < result → result < STOPPED → self.new ≡ self.old }
+        ensures untouched { result ≢ DONE → result ≢ REFUSED → result ≢ STOPPED
+            → out.new ≡ out.old }
     {
         if !self.waiting.is_empty() {
             return WAITING;
         }
-        let segment = match read(alloc, text) {
-            Ok(segment) => segment,
-            Err(fault) => return refuse(alloc, fault, out),
-        };
-        let behind = self.machine.top();
-        match self.machine.apply(alloc, &segment) {
-            Ok(applied) => self.hand_out(alloc, applied, behind, out),
-            Err(SegmentFault::Store) => HAS_STORE,
-            Err(SegmentFault::Timestamps) => TIMESTAMPS,
+        match read(alloc, text) {
+            Ok(segment) => self.run(alloc, &segment, out),
+            Err(fault) => refuse(alloc, fault, out),
+        }
+    }
+
+    /// Runs calls, as the segment of their instances.
+    pub fn run_calls<'a>(&mut self, alloc: Global, calls: &CallList, out: &mut &'a mut [u8]) -> u32
+        ensures status { (result ≡ DONE) ⊎ (result ≡ TIMESTAMPS) ⊎ (result ≡ WAITING)
+            ⊎ (result ≡ STOPPED) ⊎ (result ≡ KEPT) }
+        ensures done { result ≡ DONE → IsRunWhole self.old self.new calls.now out.new.now }
+        ensures stopped { result ≡ STOPPED
+            → IsRunPartly self.old self.new calls.now out.new.now }
+        ensures kept { result ≡ KEPT → IsRunUntold self.old self.new calls.now }
+        ensures timestamps { result ≡ TIMESTAMPS
+            → IsUntakenBy self.old.machine calls.now segment_is.Timestamps }
+        ensures waiting { result ≡ WAITING → 0 < length self.old.waiting }
+        ensures unchanged { 0 < result → result < STOPPED → self.new ≡ self.old }
+        ensures untouched { result ≢ DONE → result ≢ STOPPED → out.new ≡ out.old }
+    {
+        if self.waiting.is_empty() {
+            self.run(alloc, calls.segment(), out)
+        } else {
+            WAITING
         }
     }
 
@@ -138,6 +219,7 @@ impl Keeper {
             → out.new.now ≡ print_numbered (self.old.behind + 1) self.old.waiting }
         ensures handed { result ≡ DONE → self.new.waiting ≡ [] }
         ensures unchanged { result ≡ NO_MEMORY → self.new ≡ self.old }
+        ensures untouched { result ≡ NO_MEMORY → out.new ≡ out.old }
     {
         let replies = mem::replace(&mut self.waiting, Replies::new(alloc));
         match print_numbered(alloc, u64::from(self.behind) + 1, &replies) {
@@ -185,6 +267,7 @@ impl Keeper {
         ensures done { result ≡ DONE → IsSnapshot self.now.machine ts out.new.now }
         ensures trimmed { result ≡ TRIMMED → ts < floor_of self.now.machine }
         ensures future { result ≡ FUTURE → top_of self.now.machine < ts }
+        ensures no_memory { result ≡ NO_MEMORY → IsReadable self.now.machine ts }
         ensures untouched { 0 < result → out.new ≡ out.old }
     {
         let store = match self.machine.store_at(alloc, ts) {
@@ -202,7 +285,29 @@ impl Keeper {
         }
     }
 
-    /// Lets the past below a timestamp go.
+    /// Writes the digest of what each key holds after the transaction with a timestamp.
+    pub fn digest(&self, alloc: Global, ts: u32, digest: &mut [u8; 32]) -> u32
+        ensures status { (result ≡ DONE) ⊎ (result ≡ NO_MEMORY) ⊎ (result ≡ TRIMMED)
+            ⊎ (result ≡ FUTURE) }
+        ensures done { result ≡ DONE → IsDigest (past_of self.now.machine ts) digest.new }
+        ensures within { result ≡ DONE → IsReadable self.now.machine ts }
+        ensures trimmed { result ≡ TRIMMED → ts < floor_of self.now.machine }
+        ensures future { result ≡ FUTURE → top_of self.now.machine < ts }
+        ensures no_memory { result ≡ NO_MEMORY → IsReadable self.now.machine ts }
+        ensures untouched { 0 < result → digest.new ≡ digest.old }
+    {
+        match self.machine.digest(alloc, ts) {
+            Ok(made) => {
+                *digest = made;
+                DONE
+            }
+            Err(StoreFault::Trimmed) => TRIMMED,
+            Err(StoreFault::Future) => FUTURE,
+            Err(StoreFault::NoMemory) => NO_MEMORY,
+        }
+    }
+
+    /// Drops the past below a timestamp.
     pub fn trim(&mut self, floor: u32) -> u32
         ensures status { (result ≡ DONE) ⊎ (result ≡ FUTURE) }
         ensures done { result ≡ DONE → IsTrimmed self.old self.new floor }
@@ -217,16 +322,11 @@ impl Keeper {
     }
 }
 
-/// Opens a machine on the store that a snapshot is, as it stands after the transaction with a
-/// timestamp.
-pub fn open(alloc: Global, text: &[u8], top: u32) -> Result<Keeper, OpenFault>
-    ensures ok { IfOk result (IsOpening text.now top) }
-    ensures err { IfErr result (IsRefusedOpening text.now) }
+/// The machine of a snapshot's store, as it stands after the transaction with a timestamp.
+fn restore(alloc: Global, snapshot: &Checked, top: u32) -> Result<Keeper, OpenFault>
+    ensures ok { IfOk result (IsOpened snapshot.now top) }
+    ensures err { IfErr result (IsUnopened snapshot.now) }
 {
-    let snapshot = match read(alloc, text) {
-        Ok(snapshot) => snapshot,
-        Err(fault) => return Err(OpenFault::Text(fault)),
-    };
     if snapshot.log().len() > 0 {
         return Err(OpenFault::HasLog);
     }
@@ -237,5 +337,16 @@ pub fn open(alloc: Global, text: &[u8], top: u32) -> Result<Keeper, OpenFault>
             behind: top,
         }),
         Err(_) => Err(OpenFault::Text(RunFault::NoMemory)),
+    }
+}
+
+/// Opens a machine on a snapshot, which is the store after the transaction with a timestamp.
+pub fn open(alloc: Global, text: &[u8], top: u32) -> Result<Keeper, OpenFault>
+    ensures ok { IfOk result (IsOpening text.now top) }
+    ensures err { IfErr result (IsRefusedOpening text.now) }
+{
+    match read(alloc, text) {
+        Ok(snapshot) => restore(alloc, &snapshot, top),
+        Err(fault) => Err(OpenFault::Text(fault)),
     }
 }

@@ -1,6 +1,9 @@
-//! Texts that come over the border.
+//! Texts received from C.
 
 ghost use Rattle.std.specs.Prelude.{◌≡◌, IfOk, IfErr};
+ghost use Rattle.std.specs.FinMap.{entries};
+ghost use Rattle.bohm_txn.specs.Faulty.{WellFormed};
+ghost use Rattle.bohm_txn.specs.Stores.{store_of};
 ghost use Rattle.bohm_text.specs.Print.{print_doc};
 ghost use Rattle.bohm_c.specs.Reading.{IsRead, IsRefused, snapshot_of};
 
@@ -11,7 +14,7 @@ use bohm_tree::{Edition, Key, NoMemory, Value};
 use bohm_txn::{Checked, check};
 use std::alloc::Global;
 
-/// The well-formed document that a text is.
+/// The well-formed document of a text.
 pub fn read(alloc: Global, text: &[u8]) -> Result<Checked, RunFault>
     ensures ok { IfOk result (IsRead text.now) }
     ensures err { IfErr result (IsRefused text.now) }
@@ -23,9 +26,11 @@ pub fn read(alloc: Global, text: &[u8]) -> Result<Checked, RunFault>
     Ok(check(doc)?)
 }
 
-/// The text of the document that has this store and no transactions.
+/// The text of the document that has this store, whose keys rise, and no transactions.
 pub fn print_snapshot(alloc: Global, store: Vec<(Key, Value)>) -> Result<Vec<u8>, NoMemory>
-    ensures { IfOk result (λ text. text.items ≡ print_doc (snapshot_of store.items)) }
+    requires { store.items ≡ entries (store_of store.items) }
+    ensures formed { WellFormed (snapshot_of store.items) }
+    ensures printed { IfOk result (λ text. text.items ≡ print_doc (snapshot_of store.items)) }
 {
     let Some(doc) = Doc::new(Edition::One, store, Log::new(alloc, HashSeed::fixed())) else {
         unreachable!()

@@ -1,4 +1,4 @@
-//! How a call ends, as a number of the header's enum.
+//! Status codes, as in the header's enum.
 
 /// It did what it is for.
 pub const DONE: u32 = 0;
@@ -6,7 +6,7 @@ pub const DONE: u32 = 0;
 /// The text was refused: the line that says why is handed out.
 pub const REFUSED: u32 = 1;
 
-/// A growth was refused, and nothing has changed.
+/// An allocation failed, and nothing has changed.
 pub const NO_MEMORY: u32 = 2;
 
 /// The timestamp is below the floor.
@@ -30,8 +30,11 @@ pub const NO_KEY: u32 = 8;
 /// The replies of an earlier segment wait to be handed out, and nothing has changed.
 pub const WAITING: u32 = 9;
 
-/// The segment ran up to a refused growth, and the replies up to there are handed out.
+/// The segment ran up to a failed allocation, and the replies up to there are handed out.
 pub const STOPPED: u32 = 10;
 
-/// The segment ran, all of it or up to a refused growth, and its replies wait.
+/// The segment ran, all of it or up to a failed allocation, and its replies wait.
 pub const KEPT: u32 = 11;
+
+/// The edition, the numbers of arguments or the number of calls don't fit, and nothing has changed.
+pub const UNFIT: u32 = 12;

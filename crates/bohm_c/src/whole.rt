@@ -1,4 +1,4 @@
-//! A whole log's answer, on the caller's thread.
+//! The answer to a whole log, on the caller's thread.
 
 ghost use Rattle.std.specs.Prelude.{◌≡◌, length, IfOk};
 ghost use Rattle.std.specs.FinMap.{entries};

@@ -1,33 +1,20 @@
 -- The texts of a log's segments are the text of the log.
-use Rattle.std.proofs.Common.{◌≡◌, ℕ, ℤ, ◌+◌, ◌++◌, List, [], ◌∷◌, length, length-append, append_assoc, append-nil, map, refl, ap, sym, subst, ◌∙◌, arith}
+use Rattle.std.proofs.Common.{◌≡◌, ℕ, ℤ, ◌+◌, ◌++◌, List, [], ◌∷◌, length, length-append, append_assoc, append-nil, refl, ap, sym, subst, ◌∙◌, arith}
 use Rattle.std.proofs.Math.Seq.{take-length}
 use Rattle.std.specs.Prelude.{take}
 use Rattle.std.specs.FinMap.{entries}
-use Rattle.std.proofs.lemmas.List.{map-append}
-use Rattle.std.proofs.lemmas.List.Concat.{flat_map-append}
 use Rattle.bohm_tree.specs.Txn.{Txn}
 use Rattle.bohm_txn.specs.declared.outcome.Reply.{Reply}
 use Rattle.bohm_txn.specs.Meaning.{Look}
 use Rattle.bohm_txn.specs.Serial.{replies}
 use Rattle.bohm_txn.specs.Stores.{cell_in, store_after, store_of}
 use Rattle.bohm_txn.proofs.ForCallers.{length-replies}
-use Rattle.bohm_text.specs.Print.{line_text, lines_text, print_answer, print_numbered, print_store, reply_lines, reply_words, text_of, Words}
+use Rattle.bohm_text.specs.Print.{print_answer, print_numbered, print_store}
+use Rattle.bohm_text.proofs.ForCallers.{numbered-append}
 use Rattle.bohm_run.proofs.ForCallers.{store_then}
 use Rattle.bohm_machine.specs.Machines.{Ledger, HasRun, now_of}
 use Rattle.bohm_machine.specs.Texts.{Run, GoesThrough, log_of, texts_of}
 use Rattle.bohm_machine.proofs.GoingOn.{at_top, has_run_on, answers_on}
-
-reply_lines-append : (t : ℕ) (a b : List Reply) → reply_lines t (a ++ b) ≡ reply_lines t a ++ reply_lines (t + length a) b
-reply_lines-append t [] b = let e : t + 0 ≡ t = omega arith in rw e refl
-reply_lines-append t (r ∷ rs) b =
-    let e : (t + 1) + length rs ≡ t + length (r ∷ rs) = omega arith in
-    ap (λ (ls : List Words). reply_words t r ∷ ls) (reply_lines-append (t + 1) rs b ∙ ap (λ (n : ℕ). reply_lines (t + 1) rs ++ reply_lines n b) e)
-
-lines_text-append : (xs ys : List Words) → lines_text (xs ++ ys) ≡ lines_text xs ++ lines_text ys
-lines_text-append xs ys = ap text_of (map-append line_text xs ys) ∙ flat_map-append (λ (line : List ℕ). line ++ 10 ∷ []) (map line_text xs) (map line_text ys)
-
-numbered-append : (t : ℕ) (a b : List Reply) → print_numbered t (a ++ b) ≡ print_numbered t a ++ print_numbered (t + length a) b
-numbered-append t a b = ap lines_text (reply_lines-append t a b) ∙ lines_text-append (reply_lines t a) (reply_lines (t + length a) b)
 
 -- ---- segments after a log
 

@@ -1,3 +1,4 @@
 pub mod Machines
 pub mod Segments
 pub mod Texts
+pub mod Digests

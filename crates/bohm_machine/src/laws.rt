@@ -1,16 +1,18 @@
-//! Laws over the definitions alone. No running call uses them.
+//! Laws over the definitions alone. No call uses them.
 
 ghost use Rattle.std.specs.Prelude.{◌≡◌, ◌≤◌, ◌++◌, ℕ, ℤ, List, []};
 ghost use Rattle.std.specs.FinMap.{entries};
 ghost use Rattle.bohm_tree.specs.Txn.{Txn};
 ghost use Rattle.bohm_txn.specs.declared.outcome.Reply.{Reply};
+ghost use Rattle.bohm_txn.specs.Meaning.{Look};
 ghost use Rattle.bohm_txn.specs.Serial.{replies};
 ghost use Rattle.bohm_txn.specs.Stores.{cell_in, store_after, store_of};
 ghost use Rattle.bohm_text.specs.Print.{print_answer, print_store};
+ghost use Rattle.bohm_machine.specs.Digests.{IsDigest};
 ghost use Rattle.bohm_machine.specs.Machines.{Ledger, GoesOn, HasRun, now_of, past_of, top_of};
 ghost use Rattle.bohm_machine.specs.Texts.{Run, GoesThrough, log_of, texts_of};
 
-/// The answers of a log's segments joined, and then the text of the store at the top, are the
+/// The answers of a log's segments, joined, and then the text of the store at the top are the
 /// answer of the whole log.
 pub fn answers_joined()
     ensures { (store : List (List ℕ × ℤ)) (opened now : Ledger) (runs : List Run)
@@ -22,8 +24,8 @@ pub fn answers_joined()
 {}
 
 /// A machine that holds at its top what another one holds there, and so one that is restored from
-/// its store at the top, goes on as that one does: by the same transactions it answers the same
-/// replies, and comes to the same past behind that timestamp.
+/// its store at the top, goes on as that one does: by the same transactions it returns the same
+/// replies, and comes to the same past after that timestamp.
 pub fn restored_goes_on()
     ensures replies { (one other after1 after2 : Ledger) (txns : List Txn) (a b : List Reply)
         → top_of one ≡ top_of other → now_of one ≡ now_of other → GoesOn one after1 txns a
@@ -32,4 +34,9 @@ pub fn restored_goes_on()
         → top_of one ≡ top_of other → now_of one ≡ now_of other → GoesOn one after1 txns a
         → GoesOn other after2 txns b → (ts : ℕ) → top_of one ≤ ts → ts ≤ top_of after1
         → past_of after1 ts ≡ past_of after2 ts }
+{}
+
+/// A store has one digest.
+pub fn one_digest()
+    ensures { (look : Look) (d e : List ℕ) → IsDigest look d → IsDigest look e → d ≡ e }
 {}

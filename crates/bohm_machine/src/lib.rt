@@ -1,7 +1,9 @@
-//! A replicated state machine: a store with its past, which goes on by log segments as they are
+//! A replicated state machine: a store with its past, to which log segments are applied as they are
 //! agreed on.
 #![tactic(auto)]
 
+mod calls;
+mod digest;
 mod fault;
 pub mod laws;
 mod machine;

@@ -22,8 +22,8 @@ use std::marker::Model;
 use std::sync::Wait;
 use std::thread::Threads;
 
-/// A store with its past from a floor up to a top, which are timestamps. Log segments take it on,
-/// one after another, each behind the top.
+/// A store with its past from a floor up to a top, which are timestamps. Log segments are applied
+/// to it, one after another, each after the top.
 #[derive(Drop)]
 pub struct Machine {
     // The timestamp at which it was restored: the history's own timestamps count from there.
@@ -80,7 +80,7 @@ impl Machine {
     }
 
     /// The number of kept versions, or the greatest number of 64 bits where there are more. Its
-    /// time is constant.
+    /// time grows with the number of keys.
     pub fn version_count(&self) -> u64
         ensures { result ≡ min (total self.now.history.chains) 18446744073709551615 }
     {
@@ -88,8 +88,8 @@ impl Machine {
     }
 
     /// What a key holds after the transaction with a timestamp. `Trimmed` below the floor, `Future`
-    /// above the top. Its time is that of one look-up, and grows with how many versions of the key
-    /// are newer. It takes no memory.
+    /// above the top. Its time is that of one look-up, and grows with how many of the key's versions
+    /// begin above the timestamp. It allocates nothing.
     pub fn value_at(&self, key: &Key, ts: u32) -> Result<Cell, PastFault>
         ensures trimmed { (result ≡ Err past_is.Trimmed) ↔ (ts < floor_of self.now) }
         ensures future { (result ≡ Err past_is.Future) ↔ (top_of self.now < ts) }
@@ -104,8 +104,9 @@ impl Machine {
 
     /// What each key holds after the transaction with a timestamp: the keys that have a value,
     /// rising, with it. `Trimmed` below the floor and `Future` above the top, which are decided
-    /// before any growth. At the top it is a snapshot, which `restore` takes. Its time grows with
-    /// the number n of all keys as n log n, and with how many versions are newer.
+    /// before any allocation. At the top it is a snapshot, which `restore` takes. Its time grows
+    /// with the number n of all keys as n log n, and with how many versions ended above the
+    /// timestamp.
     pub fn store_at(&self, alloc: Global, ts: u32) -> Result<Vec<(Key, Value)>, StoreFault>
         ensures trimmed { (result ≡ Err store_is.Trimmed) ↔ (ts < floor_of self.now) }
         ensures future { (result ≡ Err store_is.Future) ↔ (top_of self.now < ts) }
@@ -120,8 +121,8 @@ impl Machine {
         self.history.store_at(alloc, ts - self.base)
     }
 
-    /// Where the floor is above the present one it becomes the floor, and the past below it is let
-    /// go. Its time grows with how many versions go. It takes no memory.
+    /// Where the floor is above the present one it becomes the floor, and the past below it is
+    /// dropped. Its time grows with how many versions are dropped. It allocates nothing.
     pub fn trim(&mut self, floor: u32)
         requires { floor ≤ top_of self.old }
         ensures floor { floor_of self.new ≡ max (floor_of self.old) floor }
@@ -151,15 +152,15 @@ impl Machine {
         Ok(())
     }
 
-    /// Runs the transactions of a segment behind the top, on the caller's thread, in batches of
+    /// Runs the transactions of a segment after the top, on the caller's thread, in batches of
     /// 4096. A segment is a checked log without a store. The replies are those of the serial run,
     /// and the first is the one of the transaction with the timestamp `top() + 1`. The floor stays.
     ///
-    /// Where it is refused memory it stands at the end of a batch and answers the replies up to
+    /// Where an allocation fails it stands at the end of a batch and returns the replies up to
     /// there: nothing is lost, and the rest can be applied again.
     ///
-    /// Its time grows with the number of the transactions' terms, and with the number n of keys
-    /// that a batch declares as n log n.
+    /// Its time grows with the number of the transactions' terms, and with the number of keys that
+    /// a batch declares.
     pub fn apply(&mut self, alloc: Global, segment: &Checked) -> Result<Applied, SegmentFault>
         ensures taken { OnOk result (IsTaken self.old segment.now) }
         ensures refused { IfErr result (IsRefused self.old segment.now) }
@@ -189,8 +190,7 @@ impl Machine {
     }
 
     /// Runs the transactions of a segment as `apply` does, with as many workers, partitions and
-    /// transactions of a batch as the settings say. What they say of `keep` and `at` is left aside:
-    /// the floor stays.
+    /// transactions of a batch as the settings say. `keep` and `at` are ignored: the floor stays.
     pub fn apply_on_workers<R: Threads + Wait + Sync>(
         &mut self,
         rt: &R,

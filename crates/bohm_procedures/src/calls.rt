@@ -31,8 +31,8 @@ impl Model for Calls {
 }
 
 impl Calls {
-    /// No calls. The seed is that of the table in which the keys' numbers are found. It takes no
-    /// memory.
+    /// No calls. The seed is that of the table in which the keys' numbers are found. It allocates
+    /// nothing.
     pub fn new(alloc: Global, seed: HashSeed, edition: Edition) -> Calls
         ensures { result ≡ empty_document edition }
     {

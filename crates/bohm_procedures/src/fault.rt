@@ -5,10 +5,10 @@ use bohm_txn::CheckFault;
 /// Why a text gives no procedure.
 #[derive(Clone, Copy, Debug, PartialEq, Eq)]
 pub enum ProcedureFault {
-    /// The whole lines before this one begin a procedure's text, and with this one they do not.
-    /// Lines count from 1.
+    /// The complete lines before this one are a prefix of a procedure's text, and with this one
+    /// they are not. Lines count from 1.
     Line(u64),
-    /// The whole lines begin a procedure's text, but the text is no procedure's.
+    /// The complete lines are a prefix of a procedure's text, but the text isn't a procedure's.
     Short,
     /// The check's fault of the procedure's own instance. Its statements count from the `let` of
     /// the first value on.

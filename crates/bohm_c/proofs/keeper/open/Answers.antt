@@ -1,17 +1,8 @@
-use Rattle.std.proofs.Common.{sym, arith}
-use Rattle.std.proofs.lemmas.List.{nil_from_length}
+use Rattle.bohm_c.proofs.Opening.{opened, unopened}
 use Rattle.bohm_c.proofs.keeper.open.Goals as goal
 
-pub returns-in-Ok-restore-clause-ok : goal.returns-in-Ok-restore-clause-ok
-returns-in-Ok-restore-clause-ok c =
-    let len = rw c.log.ensures.same at c.len.ensures in
-    let opened = c.in-Ok-restore.ensures in
-    record {
-      document = c.in-Ok.snapshot;
-      read = c.in-Ok.ensures.ok;
-      alone = nil_from_length c.in-Ok.snapshot.log (omega (arith, len, c.if-len-gt0.false));
-      top = opened.top;
-      floor = opened.floor;
-      run = rw (sym c.store.ensures.same) opened.run;
-      handed = search;
-    }
+pub returns-in-Ok-clause-ok : goal.returns-in-Ok-clause-ok
+returns-in-Ok-clause-ok c = opened c.args.text.now c.in-Ok.snapshot c.in-Ok.ensures.ok c.args.top c.restore.result c.restore.ensures.ok
+
+pub returns-in-Ok-clause-err : goal.returns-in-Ok-clause-err
+returns-in-Ok-clause-err c = unopened c.args.text.now c.in-Ok.snapshot c.in-Ok.ensures.ok c.restore.result c.restore.ensures.err

@@ -1,17 +1,16 @@
-use Rattle.std.proofs.Common.{◌+◌, ◌≤◌, ap, ◌∙◌, arith}
+use Rattle.std.proofs.Common.{◌+◌, ◌≤◌, ap, ◌∙◌, arith, rules}
 use Rattle.bohm_text.specs.Print.{print_numbered}
-use Rattle.bohm_c.proofs.keeper.Keeper.apply.Goals as goal
+use Rattle.bohm_c.proofs.keeper.Keeper.run.Goals as goal
 
-pub returns-in-Ok-apply-clause-done : goal.returns-in-Ok-apply-clause-done
-returns-in-Ok-apply-clause-done c = λ e.
-    let applied = c.in-Ok-apply.applied in
-    let ran = c.in-Ok-apply.ensures in
+pub returns-in-Ok-clause-done : goal.returns-in-Ok-clause-done
+returns-in-Ok-clause-done c = λ e.
+    let applied = c.in-Ok.applied in
+    let ran = c.in-Ok.ensures in
     let few : c.hand_out.result ≤ 10 = omega (arith, e) in
     record {
       answered = applied.replies;
       run = record {
-        document = c.in-Ok.segment;
-        read = c.in-Ok.ensures.ok;
+        waited = c.requires;
         taken = ran.taken;
         goes_on = rw c.hand_out.ensures.machine ran.goes_on;
         runs_on = rw c.hand_out.ensures.machine ran.runs_on;

@@ -1,0 +1,43 @@
+-- `closed` makes a handle that owns nothing.
+use Rattle.std.proofs.Common.{◌≡◌, false, lit<, [], ◌∷◌, refl}
+use mir.Val.{Val}
+use base.Logic.{SProp, emp}
+use base.Fml.{ftrue}
+use types.Kit.{‵, raw, ◌⊛◌, ◌$◌, ◌∵◌, !, qed, by, keep, split, use0}
+use types.Run.{lit, no_more, and_then, returns, enter}
+use types.ByLocal.{alloc_all, pass_all, free_all, look_at, sets}
+use types.Part.{agg}
+use contract.Monad.{fact, fact_i}
+use contract.Running.{tables}
+use denote.RattleType.{owns}
+use denote.Signature.{types_at}
+use denote.RawPtr.{null_ptr}
+use denote.Steps.{nothing}
+use denote.Triple.Walked.{Stays, walk_of}
+use Rattle.std.proofs.raw_atomic.Walks.{proved_at, leaves}
+use Rattle.bohm_c.proofs.CallsValues.{one, null_val}
+use Rattle.bohm_c.specs.contracts.calls_handle.closed.{ended, clauses}
+use Rattle.bohm_c.specs.contracts.calls_handle.closed.Key.{name as #self}
+use Rattle.bohm_c.proofs.calls_handle.closed.Statement.{statement}
+use Rattle.bohm_c.proofs.calls_handle.closed.Code as code
+use Rattle.bohm_tree.specs.Document.{Document}
+use Rattle.bohm_tree.specs.declared.edition.Edition.TheVariants.{One}
+use Rattle.bohm_c.proofs.CallsValues.{held_none}
+
+-- what a closed handle is seen to keep
+abbrev nothing_kept : Document
+nothing_kept = record { edition = One; store = []; log = [] }
+
+pub closed_spec : {M : Type 1} → statement M
+closed_spec 𝓤 𝓛 𝓜 𝓡 wired =
+    let H = 𝓛.H in let 𝓣 = tables 𝓤 H 𝓜 𝓡 𝓡.env in
+    let En = ended in let c = clauses 𝓛 𝓜.mem 𝓡.returns in let fn = code.function in
+    let hs : Stays En.signature.params En.kept = tt in
+    proved_at 𝓛 En hs c 𝓜 𝓡 tt #self fn (code.unfolded 𝓤 H 𝓜 𝓡 wired) (λ z are.
+    let κs = z.0.0 in let Post : Val → SProp 𝓤 = (walk_of 𝓛 En hs c).post z in
+    let asked = raw ((c κs z.0.3).requires z.1) in
+    qed 𝓛 ((‵ ftrue ⊛ ‵ (owns (types_at En.signature.params κs) z.0.3 z.0.4)) ∷ asked ∷ []) ∵ split ! $
+    enter ! 𝓣.C 𝓣.Λ fn [] Post $ alloc_all ! (λ l. pass_all ! refl tt $
+    sets ! (agg ! (and_then ! (lit ! tt) (no_more !))) refl (tt, (record { fits = lit< tt }, tt)) $ held_none ! (nothing_kept) $
+    use0 𝓛 (raw (fact 𝓤 (false ≡ false))) (fact_i 𝓤 (false ≡ false) (emp 𝓤) refl) $ nothing ! $
+    returns ! (look_at ! 0 refl) $ free_all ! refl $ keep ! (3 ∷ 0 ∷ 2 ∷ 1 ∷ []) $ by ! (leaves 𝓛 En hs c z (one null_val) (record { at = null_ptr; value = nothing_kept; is_open = false }) tt tt)))

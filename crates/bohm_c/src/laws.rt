@@ -1,0 +1,43 @@
+//! Laws over the definitions alone. No call uses them.
+
+ghost use Rattle.std.specs.Prelude.{◌≡◌, ℕ, List};
+ghost use Rattle.bohm_tree.specs.Sound.{IsDocument};
+ghost use Rattle.bohm_machine.specs.Machines.{Ledger, now_of, top_of};
+ghost use Rattle.bohm_c.specs.Keeping.{IsOpening, IsSnapshot};
+ghost use Rattle.bohm_c.specs.Reading.{snapshot_of};
+ghost use Rattle.bohm_c.specs.declared.keeper.Keeper.{Keeper};
+
+use crate::status::{
+    DONE, FUTURE, HAS_LOG, HAS_STORE, KEPT, NO_KEY, NO_MEMORY, REFUSED, STOPPED, TIMESTAMPS,
+    TRIMMED, UNFIT, WAITING,
+};
+use bohm_text::laws::one_text;
+
+/// The number of each status, which is that of its name in `include/bohm.h`: `tests/embed` holds
+/// the one list against the other.
+pub fn status_numbers()
+    ensures done { DONE ≡ 0 }
+    ensures refused { REFUSED ≡ 1 }
+    ensures no_memory { NO_MEMORY ≡ 2 }
+    ensures trimmed { TRIMMED ≡ 3 }
+    ensures future { FUTURE ≡ 4 }
+    ensures has_store { HAS_STORE ≡ 5 }
+    ensures timestamps { TIMESTAMPS ≡ 6 }
+    ensures has_log { HAS_LOG ≡ 7 }
+    ensures no_key { NO_KEY ≡ 8 }
+    ensures waiting { WAITING ≡ 9 }
+    ensures stopped { STOPPED ≡ 10 }
+    ensures kept { KEPT ≡ 11 }
+    ensures unfit { UNFIT ≡ 12 }
+{}
+
+/// A machine that is opened on a snapshot of another one's top, at that top, holds what that one
+/// holds there: so it goes on as that one does. The names of the snapshot's keys are names, as
+/// those of every `Key` are.
+pub fn snapshot_goes_on()
+    ensures { (m : Ledger) (text : List ℕ) (keeper : Keeper)
+        → (snapshot : IsSnapshot m (top_of m) text) → IsDocument (snapshot_of snapshot.store)
+        → IsOpening text (top_of m) keeper → now_of keeper.machine ≡ now_of m }
+{
+    one_text();
+}

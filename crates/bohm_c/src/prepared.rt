@@ -1,0 +1,47 @@
+//! Procedures read from C's texts.
+
+ghost use Rattle.std.specs.Prelude.{◌≡◌, ◌≢◌, ◌⊎◌, IfOk, IfErr};
+ghost use Rattle.bohm_c.specs.Calling.{IsPrepared, IsProcedureRefusal, IsUnprepared, told_as};
+
+use crate::keeper::refuse;
+use crate::status::{NO_MEMORY, REFUSED};
+use bohm_log::HashSeed;
+use bohm_procedures::{Procedure, ProcedureFault};
+use bohm_run::RunFault;
+use bohm_text::TextFault;
+use std::alloc::Global;
+
+/// The accepted procedure of a text.
+pub fn prepare(alloc: Global, text: &[u8]) -> Result<Procedure, ProcedureFault>
+    ensures ok { IfOk result (IsPrepared text.now) }
+    ensures err { IfErr result (IsUnprepared text.now) }
+{
+    Procedure::read(alloc, HashSeed::fixed(), text)
+}
+
+/// The fault of a log that is told by the same line.
+fn told_as(fault: ProcedureFault) -> RunFault
+    ensures { result ≡ told_as fault }
+{
+    match fault {
+        ProcedureFault::Line(n) => RunFault::Text(TextFault::Line(n)),
+        ProcedureFault::Short => RunFault::Text(TextFault::Short),
+        ProcedureFault::Check(fault) => RunFault::Check(fault),
+        ProcedureFault::NoMemory => RunFault::NoMemory,
+    }
+}
+
+/// Hands out the line of a fault that a procedure's text has.
+pub fn refuse_procedure<'a>(
+    alloc: Global,
+    fault: ProcedureFault,
+    text: &[u8],
+    out: &mut &'a mut [u8],
+) -> u32
+    requires { IsUnprepared text.now fault }
+    ensures status { (result ≡ REFUSED) ⊎ (result ≡ NO_MEMORY) }
+    ensures refused { result ≡ REFUSED → IsProcedureRefusal text.now out.new.now }
+    ensures untouched { result ≢ REFUSED → out.new ≡ out.old }
+{
+    refuse(alloc, told_as(fault), out)
+}

@@ -1,0 +1,76 @@
+/* Transfers between accounts by procedures: each is read once, and then called with keys and amounts. Writes the
+ * replies, a line `--` and the balances. */
+#include "../../crates/bohm_c/include/bohm.h"
+
+#include <stdio.h>
+#include <string.h>
+
+static const char *accounts = "log 1\nalice 100\nbob 20\ncarol 0\n";
+
+static const char *transfer_text = "procedure 1\n"
+                                   "key from\n"
+                                   "key to\n"
+                                   "value amount\n"
+                                   "reads from to\n"
+                                   "writes from to\n"
+                                   "need from >= $amount\n"
+                                   "set from = from - $amount\n"
+                                   "set to = to + $amount\n"
+                                   "end\n";
+
+static const char *audit_text = "procedure 1\n"
+                                "reads alice bob carol\n"
+                                "writes\n"
+                                "show alice + bob + carol\n"
+                                "show carol\n"
+                                "end\n";
+
+static void need_done(const char *what, uint32_t status) {
+    if (status == BOHM_DONE) return;
+    fprintf(stderr, "%s: %u\n", what, status);
+    exit(1);
+}
+
+static bohm_procedure prepare(const char *text) {
+    bohm_procedure procedure = {0};
+    bohm_bytes line = BOHM_NO_BYTES;
+    need_done("prepare", bohm_prepare(&procedure, (const uint8_t *)text, strlen(text), &line));
+    return procedure;
+}
+
+static void transfer(bohm_calls *calls, bohm_procedure *procedure, const char *from, const char *to, int64_t amount) {
+    const bohm_key keys[] = {{(const uint8_t *)from, strlen(from)}, {(const uint8_t *)to, strlen(to)}};
+    need_done("transfer", bohm_push(calls, procedure, keys, 2, &amount, 1));
+}
+
+int main(void) {
+    bohm_machine machine = {0};
+    bohm_calls calls = {0};
+    bohm_bytes out = BOHM_NO_BYTES;
+    need_done("open", bohm_open(&machine, (const uint8_t *)accounts, strlen(accounts), 0, &out));
+    bohm_procedure by = prepare(transfer_text), audit = prepare(audit_text);
+
+    need_done("open_calls", bohm_open_calls(&calls, 1));
+    transfer(&calls, &by, "alice", "bob", 30);
+    transfer(&calls, &by, "bob", "carol", 80);
+    transfer(&calls, &by, "alice", "carol", 70);
+    transfer(&calls, &by, "alice", "bob", 1);
+    const bohm_key none = {(const uint8_t *)"", 0};
+    const int64_t no_value = 0;
+    need_done("audit", bohm_push(&calls, &audit, &none, 0, &no_value, 0));
+
+    need_done("run_calls", bohm_run_calls(&machine, &calls, &out));
+    fwrite(out.at, 1, out.len, stdout);
+    bohm_free_bytes(&out);
+
+    need_done("store_at", bohm_store_at(&machine, 5, &out));
+    printf("--\n");
+    fwrite(out.at + strlen("log 1\n"), 1, out.len - strlen("log 1\n"), stdout);
+    bohm_free_bytes(&out);
+
+    bohm_close_calls(&calls);
+    bohm_close_procedure(&by);
+    bohm_close_procedure(&audit);
+    bohm_close(&machine);
+    return 0;
+}
