@@ -5,5 +5,6 @@ mod Counting
 mod Adding
 mod Falling
 mod Totals
-mod Placed
+mod Named
+mod Scoped
 mod Rows

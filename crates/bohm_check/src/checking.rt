@@ -1,6 +1,6 @@
-//! The check of a text.
+//! Checks a text and reports its faults.
 
-ghost use Rattle.std.specs.Prelude.{◌≡◌, IfOk, IfErr};
+ghost use Rattle.std.specs.Prelude.{◌≡◌, OnOk, IfOk, IfErr};
 ghost use Rattle.bohm_tree.specs.Sound.{IsDocument};
 ghost use Rattle.bohm_text.specs.Print.{print_doc};
 ghost use Rattle.bohm_txn.specs.Faulty.{WellFormed};
@@ -16,8 +16,8 @@ use bohm_text::{TextFault, parse_with_seed};
 use bohm_txn::{Checked, check};
 use std::alloc::Global;
 
-/// The document that a text is. What is said of a text that is none is added to the report, as far
-/// as there is memory.
+/// The document of a text. If it has none, a message is added to the report, as far as allocations
+/// succeed.
 fn read_document(
     alloc: Global,
     seed: HashSeed,
@@ -26,6 +26,7 @@ fn read_document(
 ) -> Result<Doc, Refusal>
     ensures found { IfOk result (λ doc. print_doc doc ≡ text.now) }
     ensures sound { IfOk result IsDocument }
+    ensures silent { OnOk result (report.new ≡ report.old) }
     ensures err { IfErr result (RefusesText text.now) }
 {
     match parse_with_seed(alloc, seed, text) {
@@ -38,8 +39,8 @@ fn read_document(
     }
 }
 
-/// The document, if it has no faults. What is said of its faults is added to the report, as far as
-/// there is memory.
+/// The document, if it has no faults. The message about its faults is added to the report, as far
+/// as allocations succeed.
 fn check_document(
     alloc: Global,
     doc: Doc,
@@ -48,6 +49,7 @@ fn check_document(
 ) -> Result<Checked, Refusal>
     ensures ok { IfOk result (λ checked. checked ≡ doc) }
     ensures well_formed { IfOk result WellFormed }
+    ensures silent { OnOk result (report.new ≡ report.old) }
     ensures err { IfErr result (RefusesDocument doc) }
 {
     let told = faults(alloc, &doc)?;
@@ -63,9 +65,9 @@ fn check_document(
     }
 }
 
-/// What the log that a text is holds, or why it is none, which is what a run refuses it for. What is
-/// to be said of it to people is added to the report, as far as there is memory: of a text that is no
-/// document's, its first bad line; of a document, its faults, up to 20.
+/// A summary of a text's log, or the fault for which a run refuses it. Messages for people are
+/// added to the report, as far as allocations succeed: for a text that isn't a document's, on its
+/// first bad line; for a document, on its faults, up to 20.
 ///
 /// Names are hashed from the seed. The time grows with the length of the text, and with the number k
 /// of its keys as k log k.
@@ -76,6 +78,7 @@ pub fn check_text(
     report: &mut Vec<u8>,
 ) -> Result<Summary, Refusal>
     ensures ok { IfOk result (IsChecked text.now) }
+    ensures silent { OnOk result (report.new ≡ report.old) }
     ensures err { IfErr result (Refuses text.now) }
 {
     let doc = read_document(alloc, seed, text, report)?;

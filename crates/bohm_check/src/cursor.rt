@@ -1,4 +1,4 @@
-//! A place in a text that goes on from line to line.
+//! A place in a text that advances line by line.
 
 use crate::lines::{behind_lines, first_line};
 

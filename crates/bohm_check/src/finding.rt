@@ -5,20 +5,21 @@ ghost use Rattle.std.specs.Prelude.{Contains, IfOk, OnOk, Some, [], slice_get};
 ghost use Rattle.bohm_tree.specs.Keys.{names_of};
 ghost use Rattle.bohm_txn.specs.declared.fault.CheckKind.{CheckKind};
 ghost use Rattle.bohm_txn.specs.Faulty.{Faulty, whole_faulty, sets_faulty, stmt_faulty};
-ghost use Rattle.bohm_txn.specs.Faulty.{is_misnamed, is_long};
+ghost use Rattle.bohm_txn.specs.Faulty.{is_long};
+ghost use Rattle.bohm_check.specs.Scopes.{IsScopeOf};
 ghost use Rattle.bohm_check.specs.Lines.{opening_line, first_fall, unordered_line, large_line};
 ghost use Rattle.bohm_check.specs.Lines.{sets_line, whole_line};
 ghost use Rattle.bohm_check.specs.Faults.{IsTold, IsFirst, told_at};
 ghost use Rattle.bohm_check.specs.All.{told_of, told_if, kinds_told, body_told, txn_told};
 ghost use Rattle.bohm_check.specs.All.{log_told, doc_told, AreTold, stmt_at};
 
-use crate::names::{is_unread, is_unwritten};
+use crate::names::{is_misnamed, is_unread, is_unwritten};
+use crate::scope::Scope;
 use crate::told::{MOST_TOLD, Told};
 use bohm_log::{Doc, LogPart, TxnView};
 use bohm_tree::{Items, Key, MOST_KEYS, MOST_STMTS, MOST_TXNS, NoMemory, Value};
 use bohm_txn::{
-    CheckFault, CheckKind, are_rising, first_in_txn, is_large, is_long, is_misnamed,
-    is_store_rising,
+    CheckFault, CheckKind, are_rising, first_in_txn, is_large, is_long, is_store_rising,
 };
 use std::alloc::Global;
 
@@ -30,8 +31,7 @@ struct Spot {
     line: u64,
 }
 
-/// A number and more. A document of so many lines or transactions that they have no number takes
-/// more memory than there is.
+/// A number plus another one, which overflows only for a document larger than memory.
 fn further(number: u64, more: usize) -> Result<u64, NoMemory>
     ensures { IfOk result (λ n. n ≡ number + more) }
 {
@@ -66,16 +66,6 @@ fn tell(told: &mut Items<Told>, is_there: bool, spot: Spot, kind: CheckKind) -> 
     Ok(())
 }
 
-/// Whether a statement, counted from 0, reads a local too early or binds a name once more.
-fn is_stmt_misnamed(txn: &TxnView<'_>, index: usize) -> bool
-    requires { index < length txn.now.body }
-    ensures { stmt_at txn.now index (λ s. result ≡ is_misnamed (take index txn.now.body) s) }
-{
-    let placed = txn.placed();
-    let rows = placed.rows();
-    is_misnamed(&placed, &rows[..index], &rows[index])
-}
-
 /// Whether a statement, counted from 0, has a sum that is too long.
 fn is_stmt_long(txn: &TxnView<'_>, index: usize) -> bool
     requires { index < length txn.now.body }
@@ -85,14 +75,16 @@ fn is_stmt_long(txn: &TxnView<'_>, index: usize) -> bool
     is_long(&placed, &placed.rows()[index])
 }
 
-/// Adds the faults of a statement, which is counted from 0.
+/// Adds the faults of a statement, which is counted from 0, by the names that it may use.
 fn tell_stmt(
     told: &mut Items<Told>,
     txn: &TxnView<'_>,
+    scope: &Scope,
     index: usize,
     spot: Spot,
 ) -> Result<(), NoMemory>
-    requires { index < length txn.now.body }
+    requires inside { index < length txn.now.body }
+    requires scope { IsScopeOf txn.now index scope.now }
     ensures { OnOk result (stmt_at txn.now index
         (λ s. told.new ≡ told.old ++ kinds_told spot.txn spot.stmt
         (stmt_faulty txn.now (take index txn.now.body) s) (λ kind. spot.line))) }
@@ -100,23 +92,29 @@ fn tell_stmt(
     let stmt = txn.stmt(index);
     tell(
         told,
-        is_unread(&txn.reads(), &stmt),
+        is_unread(&scope.reads, &stmt),
         spot,
         CheckKind::Unread,
     )?;
     tell(
         told,
-        is_unwritten(&txn.writes(), &stmt),
+        is_unwritten(&scope.writes, &stmt),
         spot,
         CheckKind::Unwritten,
     )?;
-    tell(told, is_stmt_misnamed(txn, index), spot, CheckKind::Local)?;
+    tell(
+        told,
+        is_misnamed(&scope.bound, &stmt),
+        spot,
+        CheckKind::Local,
+    )?;
     tell(told, is_stmt_long(txn, index), spot, CheckKind::Limit)
 }
 
 /// Adds the faults of a transaction's statements until there are enough. Its opening stands on a
-/// line.
+/// line. The time grows with the number n of declared keys, terms and statements as n log n.
 fn tell_body(
+    alloc: Global,
     told: &mut Items<Told>,
     txn: &TxnView<'_>,
     number: u32,
@@ -124,6 +122,7 @@ fn tell_body(
 ) -> Result<(), NoMemory>
     ensures { OnOk result (AreTold told.old (body_told txn.now number opening 0 txn.now.body) told.new) }
 {
+    let mut scope = Scope::of(alloc, txn)?;
     for index in 0..txn.body_len() {
         if told.as_slice().len() >= MOST_TOLD {
             return Ok(());
@@ -133,7 +132,8 @@ fn tell_body(
             stmt: counted(index)?,
             line: further(further(opening, 3)?, index)?,
         };
-        tell_stmt(told, txn, index, spot)?;
+        tell_stmt(told, txn, &scope, index, spot)?;
+        scope.pass(&txn.stmt(index))?;
     }
     Ok(())
 }
@@ -192,6 +192,7 @@ fn tell_sets(
 /// Adds the faults of a transaction, which is counted from 0, until there are enough. Its opening
 /// stands on a line.
 fn tell_txn(
+    alloc: Global,
     told: &mut Items<Told>,
     txn: &TxnView<'_>,
     index: usize,
@@ -204,17 +205,17 @@ fn tell_txn(
     }
     let number = counted(index)?;
     tell_sets(told, txn, number, opening)?;
-    tell_body(told, txn, number, opening)
+    tell_body(alloc, told, txn, number, opening)
 }
 
-/// The line behind a transaction whose opening stands on a line.
+/// The line after a transaction whose opening stands on a line.
 fn behind_txn(txn: &TxnView<'_>, opening: u64) -> Result<u64, NoMemory>
     ensures { IfOk result (λ n. n ≡ opening + length txn.now.body + 4) }
 {
     further(further(opening, txn.body_len())?, 4)
 }
 
-/// The line of the opening of the transaction with this index, or the line behind the log.
+/// The line of the opening of the transaction with this index, or the line after the log.
 fn opening_line(doc: &Doc, index: usize) -> Result<u64, NoMemory>
     requires { index ≤ length doc.now.log }
     ensures { IfOk result (λ n. n ≡ opening_line doc.now index) }
@@ -228,7 +229,7 @@ fn opening_line(doc: &Doc, index: usize) -> Result<u64, NoMemory>
 }
 
 /// Adds the faults of a document's transactions until there are enough.
-fn tell_log(told: &mut Items<Told>, doc: &Doc) -> Result<(), NoMemory>
+fn tell_log(alloc: Global, told: &mut Items<Told>, doc: &Doc) -> Result<(), NoMemory>
     ensures { OnOk result (AreTold told.old (log_told doc.now 0 doc.now.log) told.new) }
 {
     let log = doc.log();
@@ -238,7 +239,7 @@ fn tell_log(told: &mut Items<Told>, doc: &Doc) -> Result<(), NoMemory>
             return Ok(());
         }
         let txn = log.txn(index);
-        tell_txn(told, &txn, index, line)?;
+        tell_txn(alloc, told, &txn, index, line)?;
         line = behind_txn(&txn, line)?;
     }
     Ok(())
@@ -303,7 +304,7 @@ fn collected(alloc: Global, doc: &Doc) -> Result<Items<Told>, NoMemory>
 {
     let mut told = Items::new(alloc);
     tell_whole(&mut told, doc)?;
-    tell_log(&mut told, doc)?;
+    tell_log(alloc, &mut told, doc)?;
     Ok(told)
 }
 
@@ -320,7 +321,7 @@ fn first_faults(alloc: Global, doc: &Doc) -> Result<Vec<Told>, NoMemory>
 /// of the document's text on which it stands. Faults of one place stand in the order of their kinds.
 ///
 /// Its time grows with the number of the document's store entries, keys, terms and statements, and
-/// in a transaction with faults with its terms times its keys and its statements.
+/// in a transaction with faults with the number n of these as n log n.
 pub fn faults(alloc: Global, doc: &Doc) -> Result<Vec<Told>, NoMemory>
     ensures told { IfOk result (λ told. All (IsTold doc.now) told.items) }
     ensures few { IfOk result (λ told. length told.items ≤ MOST_TOLD) }

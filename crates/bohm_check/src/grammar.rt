@@ -17,7 +17,7 @@ pub enum Place {
 }
 
 impl Place {
-    /// Which line comes behind a line that may stand here.
+    /// Which line comes after a line that may stand here.
     pub fn behind(self, line: &[u8]) -> Place {
         match self {
             Place::Head => Place::Store,
@@ -65,7 +65,7 @@ pub enum State {
     LetName,
     LetEquals,
     Need,
-    /// What is behind `need has` and `need no`: a key, or what is behind a sum's first term.
+    /// What is after `need has` and `need no`: a key, or what is after a sum's first term.
     Presence,
     DropKey,
     FirstTerm(SumEnd),
@@ -167,7 +167,7 @@ impl State {
         best_fit(self.spellings(), word)
     }
 
-    /// Which word comes behind one that may stand here.
+    /// Which word comes after one that may stand here.
     pub fn behind(self, word: &[u8]) -> State {
         match self {
             State::Log => State::Edition,
@@ -195,7 +195,7 @@ impl State {
     }
 }
 
-/// What comes behind a statement's first word.
+/// What comes after a statement's first word.
 fn behind_verb(verb: &[u8]) -> State {
     match verb.first() {
         Some(b's') if verb == b"set".as_slice() => State::SetKey,
@@ -207,7 +207,7 @@ fn behind_verb(verb: &[u8]) -> State {
     }
 }
 
-/// What comes behind the word behind a term: a sign, `when` or a comparison.
+/// What comes after the word after a term: a sign, `when` or a comparison.
 fn behind_term(end: SumEnd, word: &[u8]) -> State {
     match word.first() {
         Some(b'+') => State::FurtherTerm { minus: false, end },

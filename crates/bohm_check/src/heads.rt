@@ -1,4 +1,4 @@
-//! What is said of faults of the store, of a log's length, and of a transaction's sets and counts.
+//! Messages about the store, a log's length, and a transaction's sets and counts.
 
 use crate::sets::{first_fall, in_order, keys_of, put_set_help};
 use crate::shown::{put_name, put_number, put_text};
@@ -7,7 +7,7 @@ use bohm_tree::{Key, MOST_KEYS, MOST_SHOWS, MOST_STMTS, MOST_TXNS, NoMemory};
 use bohm_txn::{are_rising, shows};
 use std::alloc::Global;
 
-/// What is said of keys out of order in the store, the reads or the writes.
+/// The message about keys out of order in the store, the reads or the writes.
 fn put_order(out: &mut Vec<u8>, set: &str, before: Key, key: Key) -> Result<(), NoMemory> {
     if key == before {
         put_name(out, key)?;
@@ -23,7 +23,7 @@ fn put_order(out: &mut Vec<u8>, set: &str, before: Key, key: Key) -> Result<(), 
     put_text(out, " rise\n")
 }
 
-/// What is said of the first key of a store that doesn't rise, which stands on this line.
+/// The message about the first key of a store that doesn't rise, which stands on this line.
 pub fn put_store_order(out: &mut Vec<u8>, doc: &Doc, line: u64) -> Result<(), NoMemory> {
     let Some(index) = line.checked_sub(2) else {
         return Ok(());
@@ -91,7 +91,7 @@ const SHOWS: Count = Count {
     most: MOST_SHOWS,
 };
 
-/// What is said of a log that is too long.
+/// The message about a log that is too long.
 pub fn put_length(out: &mut Vec<u8>, doc: &Doc) -> Result<(), NoMemory> {
     put_limit(out, TRANSACTIONS, doc.log().len())
 }
@@ -104,7 +104,7 @@ struct Set<'a> {
     keys: Keys<'a>,
 }
 
-/// What is said of a set that doesn't rise, and the set in order.
+/// The message about a set that doesn't rise, and the set in order.
 fn put_set_order(alloc: Global, out: &mut Vec<u8>, set: &Set<'_>) -> Result<(), NoMemory> {
     let keys = keys_of(alloc, &set.keys)?;
     if let Some((before, key)) = first_fall(keys.as_slice()) {
@@ -114,7 +114,7 @@ fn put_set_order(alloc: Global, out: &mut Vec<u8>, set: &Set<'_>) -> Result<(), 
     put_set_help(out, None, set.word, sorted.as_slice())
 }
 
-/// What is said of a transaction's first set that doesn't rise.
+/// The message about a transaction's first set that doesn't rise.
 pub fn put_sets_order(alloc: Global, out: &mut Vec<u8>, txn: &TxnView<'_>) -> Result<(), NoMemory> {
     if !are_rising(&txn.reads()) {
         let set = Set {
@@ -133,7 +133,7 @@ pub fn put_sets_order(alloc: Global, out: &mut Vec<u8>, txn: &TxnView<'_>) -> Re
     }
 }
 
-/// What is said of the first count of a transaction that is too large.
+/// The message about the first count of a transaction that is too large.
 pub fn put_counts(out: &mut Vec<u8>, txn: &TxnView<'_>) -> Result<(), NoMemory> {
     let (stmts, reads, writes) = (txn.body_len(), txn.reads().len(), txn.writes().len());
     if stmts > MOST_STMTS {

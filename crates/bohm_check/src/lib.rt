@@ -1,5 +1,5 @@
-//! What is wrong with a log, for the people who write logs: all faults of a document with the lines
-//! on which they stand, where a bad line stops being one, and what to write instead.
+//! Reports a log's faults to people. It tells each fault's line, where a bad line goes wrong, and
+//! what to write instead.
 #![tactic(auto)]
 
 mod checking;
@@ -15,6 +15,7 @@ mod mistakes;
 mod names;
 mod refusal;
 mod report;
+mod scope;
 mod sets;
 mod shown;
 mod spelling;

@@ -1,34 +1,54 @@
-//! What is said of locals.
+//! Messages about locals.
 
 use crate::marking::{PlacedName, bytes_before, put_marked};
-use crate::names::is_unread;
+use crate::names::{is_unread, names_of};
 use crate::shown::{put_name, put_number, put_quoted, put_text};
 use crate::statements::Site;
 use crate::terms::{atoms_of, local_read, long_sum};
 use bohm_log::{StmtView, TxnView};
 use bohm_tree::{Key, MOST_TERMS, NoMemory};
 use std::alloc::Global;
+use std::collections::BTreeMap;
 
-/// The index of the first of a body's first statements that binds the name.
-fn binding(txn: &TxnView<'_>, stmts: usize, name: Key) -> Option<usize> {
-    for index in 0..stmts.min(txn.body_len()) {
-        if txn.stmt(index).bound() == Some(name) {
-            return Some(index);
+/// By each local that a body binds, the index of the first statement that binds it.
+#[derive(Drop)]
+struct Bindings {
+    firsts: BTreeMap<Key, usize>,
+}
+
+impl Bindings {
+    fn of(alloc: Global, txn: &TxnView<'_>) -> Result<Bindings, NoMemory> {
+        let mut firsts = BTreeMap::new(alloc);
+        for index in 0..txn.body_len() {
+            if let Some(name) = txn.stmt(index).bound() {
+                if !firsts.contains_key(&name) {
+                    firsts.insert(name, index)?;
+                }
+            }
         }
+        Ok(Bindings { firsts })
     }
-    None
+
+    fn first(&self, name: Key) -> Option<usize> {
+        self.firsts.get(&name).copied()
+    }
+
+    /// The same, if it is one of this many first statements.
+    fn before(&self, stmts: usize, name: Key) -> Option<usize> {
+        self.first(name).filter(|index| *index < stmts)
+    }
 }
 
 /// The first local that a statement reads and that none of the statements before it binds.
 fn unbound(
     alloc: Global,
-    txn: &TxnView<'_>,
+    bindings: &Bindings,
     index: usize,
     stmt: &StmtView<'_>,
 ) -> Result<Option<PlacedName>, NoMemory> {
     for placed in atoms_of(alloc, stmt)? {
         if let Some(name) = local_read(placed.atom) {
-            if binding(txn, index, name).is_none() {
+            if bindings.before(index, name).is_none() {
                 return Ok(Some(PlacedName {
                     name,
                     is_local: true,
@@ -50,7 +70,7 @@ fn line_of(site: Site<'_>, index: usize) -> u64 {
     site.opening.saturating_add(3).saturating_add(index as u64)
 }
 
-/// A name that the transaction has nowhere: this one with `_` and a digit behind it.
+/// A name that the transaction has nowhere: this one with `_` and a digit after it.
 fn fresh_name(alloc: Global, txn: &TxnView<'_>, name: Key) -> Result<Option<Key>, NoMemory> {
     let mut text = Vec::new(alloc);
     text.extend_from_slice(name.text().as_slice())?;
@@ -69,20 +89,17 @@ fn fresh_name(alloc: Global, txn: &TxnView<'_>, name: Key) -> Result<Option<Key>
     Ok(None)
 }
 
-/// The statement with another name, where nothing else is wrong with it.
+/// The statement with another name, where no key and no length of it is wrong.
 fn put_rebound_help(
     alloc: Global,
     out: &mut Vec<u8>,
     site: Site<'_>,
     txn: &TxnView<'_>,
-    index: usize,
     stmt: &StmtView<'_>,
     name: Key,
 ) -> Result<(), NoMemory> {
-    if is_unread(&txn.reads(), stmt)
-        || long_sum(stmt, MOST_TERMS as usize).is_some()
-        || unbound(alloc, txn, index, stmt)?.is_some()
-    {
+    let reads = names_of(alloc, &txn.reads())?;
+    if is_unread(&reads, stmt) || long_sum(stmt, MOST_TERMS as usize).is_some() {
         return Ok(());
     }
     let Some(fresh) = fresh_name(alloc, txn, name)? else {
@@ -96,17 +113,8 @@ fn put_rebound_help(
     put_text(out, "\n")
 }
 
-/// What is said of a name that a statement binds once more.
-fn put_rebound(
-    alloc: Global,
-    out: &mut Vec<u8>,
-    site: Site<'_>,
-    txn: &TxnView<'_>,
-    index: usize,
-    stmt: &StmtView<'_>,
-    name: Key,
-    first: usize,
-) -> Result<(), NoMemory> {
+/// The message about a name that a statement binds once more.
+fn put_rebound(out: &mut Vec<u8>, site: Site<'_>, name: Key, first: usize) -> Result<(), NoMemory> {
     let local = PlacedName {
         name,
         is_local: true,
@@ -118,22 +126,21 @@ fn put_rebound(
     put_number(out, line_of(site, first))?;
     put_text(out, " has ")?;
     put_quoted(out, site.text.line(line_of(site, first)))?;
-    put_text(out, "\n")?;
-    put_rebound_help(alloc, out, site, txn, index, stmt, name)
+    put_text(out, "\n")
 }
 
-/// What is said of a local that is read before it is bound.
+/// The message about a local that is read before it is bound.
 fn put_unbound(
     out: &mut Vec<u8>,
     site: Site<'_>,
-    txn: &TxnView<'_>,
+    bindings: &Bindings,
     local: PlacedName,
 ) -> Result<(), NoMemory> {
     let name = local.name;
     put_marked(out, site.shown(), local)?;
     put_local(out, name)?;
     put_text(out, " isn't bound by an earlier statement")?;
-    if let Some(later) = binding(txn, txn.body_len(), name) {
+    if let Some(later) = bindings.first(name) {
         put_text(out, ": line ")?;
         put_number(out, line_of(site, later))?;
         put_text(out, " binds it too late")?;
@@ -141,7 +148,7 @@ fn put_unbound(
     put_text(out, "\n")
 }
 
-/// What is said of a statement that binds a name once more, or else reads a local too early.
+/// The message about a statement that binds a name once more, or else reads a local too early.
 pub fn put_misnamed(
     alloc: Global,
     out: &mut Vec<u8>,
@@ -150,13 +157,19 @@ pub fn put_misnamed(
     index: usize,
     stmt: &StmtView<'_>,
 ) -> Result<(), NoMemory> {
+    let bindings = Bindings::of(alloc, txn)?;
+    let unbound = unbound(alloc, &bindings, index, stmt)?;
     if let Some(name) = stmt.bound() {
-        if let Some(first) = binding(txn, index, name) {
-            return put_rebound(alloc, out, site, txn, index, stmt, name, first);
+        if let Some(first) = bindings.before(index, name) {
+            put_rebound(out, site, name, first)?;
+            return match unbound {
+                None => put_rebound_help(alloc, out, site, txn, stmt, name),
+                Some(_) => Ok(()),
+            };
         }
     }
-    match unbound(alloc, txn, index, stmt)? {
-        Some(local) => put_unbound(out, site, txn, local),
+    match unbound {
+        Some(local) => put_unbound(out, site, &bindings, local),
         None => Ok(()),
     }
 }

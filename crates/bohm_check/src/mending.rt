@@ -1,4 +1,4 @@
-//! A bad line as it was meant.
+//! Suggests the line that a bad line was meant to be.
 
 use crate::grammar::{Place, first_halt};
 use crate::mistakes::BYTE_ORDER_MARK;

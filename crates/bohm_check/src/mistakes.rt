@@ -1,4 +1,4 @@
-//! What people do first that no line of a log may have.
+//! Common mistakes that have a message of their own.
 
 use crate::grammar::{Halt, Place, State};
 use crate::spelling::{LONGEST_NAME, is_name_byte};
@@ -55,7 +55,7 @@ impl Mistake {
         }
     }
 
-    /// The mistake of a byte between those before it and those behind it.
+    /// The mistake of a byte between those before it and those after it.
     fn of_byte(before: &[u8], byte: u8, others: &[u8], state: State) -> Mistake {
         match byte {
             b'\t' => Mistake::Tab,
@@ -93,7 +93,7 @@ impl Mistake {
         )
     }
 
-    /// What is said of it.
+    /// The message about it.
     pub fn words(self) -> &'static str {
         match self {
             Mistake::ByteOrderMark =>

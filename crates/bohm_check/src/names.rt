@@ -1,100 +1,162 @@
-//! Whether a statement's keys are declared, by their names.
+//! Sets of names, and whether a statement keeps to them.
 
-ghost use Rattle.std.specs.Prelude.{◌≡◌, ◌∷◌, [], not};
+ghost use Rattle.std.specs.Prelude.{◌≡◌, ◌||◌, ℕ, Bool, List, not, IfOk, OnOk};
 ghost use Rattle.std.specs.List.{list_all};
-ghost use Rattle.bohm_tree.specs.Keys.{is_among, some_passes};
-ghost use Rattle.bohm_tree.specs.Parts.{guard_sums, sums};
-ghost use Rattle.bohm_log.specs.Seeing.{atom_shown, guard_shown};
-ghost use Rattle.bohm_txn.specs.Faulty.{reads_among, is_unread, is_unwritten};
+ghost use Rattle.std.specs.Str.{bytes_eq};
+ghost use Rattle.bohm_tree.specs.Keys.{some_passes};
+ghost use Rattle.bohm_tree.specs.Parts.{sums};
+ghost use Rattle.bohm_tree.specs.Stmt.{Stmt};
+ghost use Rattle.bohm_tree.specs.Term.{Atom};
+ghost use Rattle.bohm_log.specs.Seeing.{atom_shown};
+ghost use Rattle.bohm_txn.specs.Faulty.{is_unread, is_unwritten, is_misnamed};
+ghost use Rattle.bohm_check.specs.Names.{has, reads_in, locals_in, Computes};
+ghost use Rattle.bohm_check.specs.Names.{AreNamesOf, AreBoundBy};
 
-use bohm_log::{AtomParts, CondView, Keys, StmtParts, StmtView, SumView};
-use bohm_tree::Key;
+use bohm_log::{AtomParts, Keys, StmtParts, StmtView, SumView};
+use bohm_tree::{Key, NoMemory};
+use std::alloc::Global;
+use std::collections::BTreeSet;
 
-/// Whether a key is one of these.
-#[tactic(auto, using(crate::proofs::Placed::among_place))]
-pub fn is_among(keys: &Keys<'_>, key: &Key) -> bool
-    ensures { result ≡ is_among keys.now key.now }
+/// Whether a name is one of these. The time grows with the logarithm of their number.
+pub fn has(names: &BTreeSet<Key>, name: &Key) -> bool
+    ensures { result ≡ has names.now name.now }
 {
-    keys.place_of(key).is_some()
+    names.contains(name)
+}
+
+/// Adds a name, if it isn't there.
+#[tactic(auto, using(crate::proofs::Named::inserted))]
+pub fn add_name(names: &mut BTreeSet<Key>, name: Key) -> Result<(), NoMemory>
+    ensures { OnOk result
+        ((k : List ℕ) → has names.new k ≡ (has names.old k || bytes_eq name k)) }
+{
+    names.insert(name)?;
+    Ok(())
+}
+
+/// The keys of a set, which may stand in any order and more than once. The time grows with their
+/// number n as n log n.
+#[tactic(auto, using(crate::proofs::Named::none_yet))]
+pub fn names_of(alloc: Global, keys: &Keys<'_>) -> Result<BTreeSet<Key>, NoMemory>
+    ensures { IfOk result (AreNamesOf keys.now) }
+{
+    let mut names = BTreeSet::new(alloc);
+    for place in 0..keys.len() {
+        add_name(&mut names, *keys.key(place))?;
+    }
+    Ok(names)
+}
+
+/// Whether all sums of a statement pass.
+fn all_sums<F: Fn(&SumView<'_>) -> bool>(stmt: &StmtView<'_>, passes: F) -> bool
+    requires { F.IsAlwaysCallable passes }
+    ensures { (p : List (Bool × Atom) → Bool) → Computes F.Fn p passes
+        → result ≡ list_all p (sums stmt.now) }
+{
+    match stmt.parts() {
+        StmtParts::Bind { sum, .. } => passes(&sum),
+        StmtParts::Show(sum) => passes(&sum),
+        StmtParts::Need(cond) => passes(&cond.left) && passes(&cond.right),
+        StmtParts::Put { sum, guard, .. } => {
+            passes(&sum)
+                && match &guard {
+                    Some(cond) => passes(&cond.left) && passes(&cond.right),
+                    None => true,
+                }
+        }
+        StmtParts::Has(_) | StmtParts::Lacks(_) | StmtParts::Remove(_) | StmtParts::Fail => true,
+    }
 }
 
 /// Whether an atom reads no key, or one of these.
-pub fn reads_among(reads: &Keys<'_>, atom: AtomParts) -> bool
-    ensures { result ≡ reads_among reads.now (atom_shown atom) }
+fn is_read_in(names: &BTreeSet<Key>, atom: AtomParts) -> bool
+    ensures { result ≡ reads_in names.now (atom_shown atom) }
 {
     match atom {
-        AtomParts::Read(key) => is_among(reads, &key),
+        AtomParts::Read(key) => has(names, &key),
         AtomParts::Lit(_) | AtomParts::Local(_) => true,
     }
 }
 
-/// Whether the sum reads none but these keys.
-fn is_sum_declared(reads: &Keys<'_>, sum: &SumView<'_>) -> bool
-    ensures { result ≡ list_all (λ term. reads_among reads.now term.1) sum.now }
+/// Whether an atom reads no local, or one of these.
+fn is_local_in(names: &BTreeSet<Key>, atom: AtomParts) -> bool
+    ensures { result ≡ locals_in names.now (atom_shown atom) }
+{
+    match atom {
+        AtomParts::Local(name) => has(names, &name),
+        AtomParts::Lit(_) | AtomParts::Read(_) => true,
+    }
+}
+
+/// Whether a sum reads none but these keys.
+fn are_read_in(names: &BTreeSet<Key>, sum: &SumView<'_>) -> bool
+    ensures { result ≡ list_all (λ term. reads_in names.now term.1) sum.now }
 {
     for index in 0..sum.len() {
-        if !reads_among(reads, sum.term(index).atom) {
+        if !is_read_in(names, sum.term(index).atom) {
             return false;
         }
     }
     true
 }
 
-/// Whether both sides of the condition read none but these keys.
-fn is_cond_declared(reads: &Keys<'_>, cond: &CondView<'_>) -> bool
-    ensures { result ≡ list_all (list_all (λ term. reads_among reads.now term.1))
-        (cond.now.left ∷ cond.now.right ∷ []) }
+/// Whether a sum reads none but these locals.
+fn are_locals_in(names: &BTreeSet<Key>, sum: &SumView<'_>) -> bool
+    ensures { result ≡ list_all (λ term. locals_in names.now term.1) sum.now }
 {
-    is_sum_declared(reads, &cond.left) && is_sum_declared(reads, &cond.right)
-}
-
-/// Whether the guard, if there is one, reads none but these keys.
-fn is_guard_declared(reads: &Keys<'_>, guard: &Option<CondView<'_>>) -> bool
-    ensures { result ≡ list_all (list_all (λ term. reads_among reads.now term.1))
-        (guard_sums (guard_shown guard.now)) }
-{
-    match guard {
-        Some(cond) => is_cond_declared(reads, cond),
-        None => true,
-    }
-}
-
-/// Whether the statement's sums read none but these keys.
-fn are_sums_declared(reads: &Keys<'_>, stmt: &StmtView<'_>) -> bool
-    ensures { result
-        ≡ list_all (list_all (λ term. reads_among reads.now term.1)) (sums stmt.now) }
-{
-    match stmt.parts() {
-        StmtParts::Bind { sum, .. } => is_sum_declared(reads, &sum),
-        StmtParts::Show(sum) => is_sum_declared(reads, &sum),
-        StmtParts::Put { sum, guard, .. } => {
-            is_sum_declared(reads, &sum) && is_guard_declared(reads, &guard)
+    for index in 0..sum.len() {
+        if !is_local_in(names, sum.term(index).atom) {
+            return false;
         }
-        StmtParts::Need(cond) => is_cond_declared(reads, &cond),
-        StmtParts::Has(_) | StmtParts::Lacks(_) | StmtParts::Remove(_) | StmtParts::Fail => true,
     }
+    true
 }
 
-/// Whether there is a key, and it is none of these.
-fn is_undeclared(keys: &Keys<'_>, key: Option<Key>) -> bool
-    ensures { result ≡ some_passes (λ k. not (is_among keys.now k)) key }
+/// Whether there is a name, and it is one of these.
+fn has_some(names: &BTreeSet<Key>, name: Option<Key>) -> bool
+    ensures { result ≡ some_passes (has names.now) name }
 {
-    match key {
-        Some(key) => !is_among(keys, &key),
+    match name {
+        Some(name) => has(names, &name),
         None => false,
     }
 }
 
-/// Whether the statement reads or tests a key that is none of these.
-pub fn is_unread(reads: &Keys<'_>, stmt: &StmtView<'_>) -> bool
-    ensures { result ≡ is_unread reads.now stmt.now }
+/// Whether there is a name, and it is none of these.
+fn lacks_some(names: &BTreeSet<Key>, name: Option<Key>) -> bool
+    ensures { result ≡ some_passes (λ k. not (has names.now k)) name }
 {
-    !are_sums_declared(reads, stmt) || is_undeclared(reads, stmt.tested())
+    match name {
+        Some(name) => !has(names, &name),
+        None => false,
+    }
+}
+
+/// Whether the statement reads or tests a key that is none of these. The time grows with the number
+/// of its terms.
+#[tactic(auto, using(crate::proofs::Named::unread_by))]
+pub fn is_unread(reads: &BTreeSet<Key>, stmt: &StmtView<'_>) -> bool
+    ensures { (keys : List (List ℕ)) → AreNamesOf keys reads.now
+        → result ≡ is_unread keys stmt.now }
+{
+    !all_sums(stmt, |sum| are_read_in(reads, sum)) || lacks_some(reads, stmt.tested())
 }
 
 /// Whether the statement writes a key that is none of these.
-pub fn is_unwritten(writes: &Keys<'_>, stmt: &StmtView<'_>) -> bool
-    ensures { result ≡ is_unwritten writes.now stmt.now }
+#[tactic(auto, using(crate::proofs::Named::unwritten_by))]
+pub fn is_unwritten(writes: &BTreeSet<Key>, stmt: &StmtView<'_>) -> bool
+    ensures { (keys : List (List ℕ)) → AreNamesOf keys writes.now
+        → result ≡ is_unwritten keys stmt.now }
 {
-    is_undeclared(writes, stmt.target())
+    lacks_some(writes, stmt.target())
+}
+
+/// Whether the statement reads a local that is none of these bound ones, or binds one of them once
+/// more. The time grows with the number of its terms.
+#[tactic(auto, using(crate::proofs::Named::misnamed_by))]
+pub fn is_misnamed(bound: &BTreeSet<Key>, stmt: &StmtView<'_>) -> bool
+    ensures { (before : List Stmt) → AreBoundBy before bound.now
+        → result ≡ is_misnamed before stmt.now }
+{
+    !all_sums(stmt, |sum| are_locals_in(bound, sum)) || has_some(bound, stmt.bound())
 }

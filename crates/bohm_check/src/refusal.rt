@@ -1,4 +1,4 @@
-//! Why a text is no log that is run.
+//! Why a log is refused.
 
 use bohm_text::TextFault;
 use bohm_tree::NoMemory;
@@ -7,11 +7,11 @@ use bohm_txn::CheckFault;
 /// Why a text is no log that is run.
 #[derive(Clone, Copy, Debug, PartialEq, Eq)]
 pub enum Refusal {
-    /// It is no document's. Want of memory is never told so.
+    /// It isn't a document's. An allocation failure is never reported so.
     Text(TextFault),
     /// The document that it is has faults, and this is the first.
     Check(CheckFault),
-    /// A growth was refused.
+    /// An allocation failed.
     NoMemory,
 }
 

@@ -1,4 +1,4 @@
-//! What is said of the faults of a document.
+//! The report on a document's faults.
 
 use crate::cursor::Cursor;
 use crate::heads::{put_counts, put_length, put_sets_order, put_store_order};
@@ -26,7 +26,7 @@ fn put_head(out: &mut Vec<u8>, line: u64, txn: u64, stmt: u32) -> Result<(), NoM
     put_text(out, ":\n")
 }
 
-/// What is said of the store, or of the length of the log.
+/// The message about the store, or about the length of the log.
 fn put_whole(out: &mut Vec<u8>, doc: &Doc, text: Cursor<'_>, told: Told) -> Result<(), NoMemory> {
     if told.fault.kind == CheckKind::Order {
         put_head(out, told.line, 0, 0)?;
@@ -39,7 +39,7 @@ fn put_whole(out: &mut Vec<u8>, doc: &Doc, text: Cursor<'_>, told: Told) -> Resu
     }
 }
 
-/// What is said of a transaction's sets and counts.
+/// The message about a transaction's sets and counts.
 fn put_sets(
     alloc: Global,
     out: &mut Vec<u8>,
@@ -55,7 +55,7 @@ fn put_sets(
     }
 }
 
-/// What is said of a statement, which is counted from 0.
+/// The message about a statement, which is counted from 0.
 fn put_stmt(
     alloc: Global,
     out: &mut Vec<u8>,
@@ -105,8 +105,8 @@ fn put_fault(
     }
 }
 
-/// What is said of the faults of the document that a text is, in their order: of each the line, the
-/// name with carets below it, what is wrong, and the line that mends it where there is one.
+/// The message about the faults of the document that a text is, in their order: of each the line,
+/// the name with carets below it, what is wrong, and the line that mends it where there is one.
 pub fn put_faults(
     alloc: Global,
     out: &mut Vec<u8>,

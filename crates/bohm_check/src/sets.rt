@@ -1,11 +1,11 @@
-//! Sets of keys, and their lines as they are to be.
+//! Sets of keys, and their corrected lines.
 
 use crate::shown::{put_number, put_text};
 use bohm_log::Keys;
 use bohm_tree::{Key, MOST_KEYS, NoMemory};
 use std::alloc::Global;
 
-/// The first key that isn't above the one before it, behind that one.
+/// The first key that isn't above the one before it, after that one.
 pub fn first_fall(keys: &[Key]) -> Option<(Key, Key)> {
     let nexts = keys.get(1..).unwrap_or(&[]);
     for (key, next) in keys.iter().zip(nexts.iter()) {
@@ -37,7 +37,7 @@ pub fn in_order(alloc: Global, mut keys: Vec<Key>) -> Result<Vec<Key>, NoMemory>
     Ok(sorted)
 }
 
-/// The line of a set as it is to be, in the place of the line that is shown, or of this one. Nothing
+/// The line of a set as it is to be, in place of the line that is shown, or of this one. Nothing
 /// where it would have too many keys.
 pub fn put_set_help(
     out: &mut Vec<u8>,

@@ -1,4 +1,6 @@
-//! How a line of a text is shown to people.
+//! How a line is displayed, with a caret.
+
+ghost use Rattle.std.specs.Prelude.{◌≡◌, ◌++◌, OnOk};
 
 use crate::lines::line_at;
 use bohm_tree::{Key, NoMemory};
@@ -13,12 +15,16 @@ const INDENT: usize = 4;
 /// What stands where a part of a line is left out.
 const CUT: &[u8] = b"..";
 
-pub fn put_text(out: &mut Vec<u8>, text: &str) -> Result<(), NoMemory> {
+pub fn put_text(out: &mut Vec<u8>, text: &str) -> Result<(), NoMemory>
+    ensures { OnOk result (out.new.items ≡ out.old.items ++ text.now) }
+{
     out.extend_from_slice(text.as_bytes())?;
     Ok(())
 }
 
-pub fn put_number<I: Integer>(out: &mut Vec<u8>, number: I) -> Result<(), NoMemory> {
+pub fn put_number<I: Integer>(out: &mut Vec<u8>, number: I) -> Result<(), NoMemory>
+    ensures { OnOk result (out.new.items ≡ out.old.items ++ I.text number) }
+{
     out.extend_from_slice(Buffer::new().format(number).as_bytes())?;
     Ok(())
 }
@@ -51,7 +57,7 @@ fn put_printable(out: &mut Vec<u8>, bytes: &[u8]) -> Result<(), NoMemory> {
 #[derive(Clone, Copy)]
 struct Window<'a> {
     bytes: &'a [u8],
-    /// The bytes before it and behind it.
+    /// The bytes before it and after it.
     before: usize,
     behind: usize,
 }
@@ -89,7 +95,7 @@ pub fn put_quoted(out: &mut Vec<u8>, line: &[u8]) -> Result<(), NoMemory> {
     Ok(())
 }
 
-/// A line behind four blanks, and below it so many carets from a column on; no line below where
+/// A line after four blanks, and below it this many carets from a column on; no line below where
 /// there are none. Columns count bytes from 1. Of a line of more than 120 bytes, 120 round the
 /// column are shown.
 pub fn put_line(

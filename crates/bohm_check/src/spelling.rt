@@ -1,4 +1,4 @@
-//! How far a word is spelled as one of a kind.
+//! How much of a word matches a kind of word.
 
 use bohm_tree::GREATEST_LITERAL;
 
@@ -37,7 +37,7 @@ impl Fit {
         is_whole: false,
     };
 
-    /// So many bytes more stand before it.
+    /// This many bytes more stand before it.
     fn behind(self, bytes: usize) -> Fit {
         Fit {
             good: self.good.saturating_add(bytes),
@@ -165,7 +165,7 @@ fn with_digit(number: u64, byte: u8, limit: u64) -> Option<u64> {
     }
 }
 
-/// Digits behind a minus, which aren't 0.
+/// Digits after a minus, which aren't 0.
 fn fit_negative(digits: &[u8], limit: u64) -> Fit {
     if digits.first() == Some(&b'0') {
         Fit::NONE

@@ -1,8 +1,8 @@
-//! What is said of the keys and sums of statements.
+//! Messages about the keys and sums of statements.
 
 use crate::cursor::Cursor;
 use crate::marking::{PlacedName, put_marked};
-use crate::names::is_among;
+use crate::names::{has, names_of};
 use crate::sets::{in_order, keys_of, put_set_help};
 use crate::shown::{put_line, put_name, put_number, put_quoted, put_text};
 use crate::terms::{atoms_of, key_read, long_sum};
@@ -35,7 +35,7 @@ struct Declared<'a> {
     are: &'static str,
 }
 
-/// What is said of names that a set lacks, and the set with them.
+/// The message about names that a set lacks, and the set with them.
 fn put_missing(
     alloc: Global,
     out: &mut Vec<u8>,
@@ -68,10 +68,11 @@ fn unread_names(
     reads: &Keys<'_>,
     stmt: &StmtView<'_>,
 ) -> Result<Vec<PlacedName>, NoMemory> {
+    let declared = names_of(alloc, reads)?;
     let mut names = Vec::new(alloc);
     for placed in atoms_of(alloc, stmt)? {
         if let Some(name) = key_read(placed.atom) {
-            if !is_among(reads, &name) {
+            if !has(&declared, &name) {
                 names.push(PlacedName {
                     name,
                     is_local: false,
@@ -90,7 +91,7 @@ fn unread_names(
     Ok(names)
 }
 
-/// What is said of a statement that reads or tests keys that aren't declared.
+/// The message about a statement that reads or tests keys that aren't declared.
 pub fn put_unread(
     alloc: Global,
     out: &mut Vec<u8>,
@@ -108,7 +109,7 @@ pub fn put_unread(
     put_missing(alloc, out, site, &set, names.as_slice())
 }
 
-/// What is said of a statement that writes a key that isn't declared.
+/// The message about a statement that writes a key that isn't declared.
 pub fn put_unwritten(
     alloc: Global,
     out: &mut Vec<u8>,
@@ -133,7 +134,7 @@ pub fn put_unwritten(
     put_missing(alloc, out, site, &set, &[target])
 }
 
-/// What is said of a statement with a sum that is too long.
+/// The message about a statement with a sum that is too long.
 pub fn put_long(out: &mut Vec<u8>, site: Site<'_>, stmt: &StmtView<'_>) -> Result<(), NoMemory> {
     put_line(out, site.shown(), 1, 0)?;
     let terms = long_sum(stmt, MOST_TERMS as usize).unwrap_or(0);

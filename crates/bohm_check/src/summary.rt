@@ -1,7 +1,8 @@
-//! What a good log holds, in one line.
+//! A valid log in one line.
 
 ghost use Rattle.std.specs.Prelude.{◌≡◌, length, count_by, IfOk};
 ghost use Rattle.bohm_txn.specs.Sure.{is_sure};
+ghost use Rattle.bohm_check.specs.SummaryLine.{edition_words, summary_line};
 
 use crate::shown::{put_number, put_text};
 use bohm_log::LogPart;
@@ -75,6 +76,15 @@ fn count_sure(log: &LogPart<'_>) -> usize
     count
 }
 
+fn edition_words(edition: Edition) -> &'static str
+    ensures { result.now ≡ edition_words edition }
+{
+    match edition {
+        Edition::One => "log 1, ",
+        Edition::Two => "log 2, ",
+    }
+}
+
 impl Summary {
     /// What a checked log holds. The time grows with the number k of its keys as k log k, and with
     /// its transactions; the memory with the keys.
@@ -99,15 +109,11 @@ impl Summary {
     }
 
     /// Its line, with a newline.
-    pub fn print(&self, alloc: Global) -> Result<Vec<u8>, NoMemory> {
+    pub fn print(&self, alloc: Global) -> Result<Vec<u8>, NoMemory>
+        ensures { IfOk result (λ line. line.items ≡ summary_line self.now) }
+    {
         let mut out = Vec::new(alloc);
-        put_text(
-            &mut out,
-            match self.edition {
-                Edition::One => "log 1, ",
-                Edition::Two => "log 2, ",
-            },
-        )?;
+        put_text(&mut out, edition_words(self.edition))?;
         put_number(&mut out, self.keys as u64)?;
         put_text(&mut out, " keys, ")?;
         put_number(&mut out, self.transactions as u64)?;

@@ -27,7 +27,7 @@ pub fn local_read(atom: AtomParts) -> Option<Key> {
     }
 }
 
-/// Adds the atoms of a sum that begins with a word, and answers which word a sum behind it begins
+/// Adds the atoms of a sum that begins with a word, and returns which word a sum after it begins
 /// with: one word stands between two terms, and between two sums.
 fn add_sum(
     atoms: &mut Vec<PlacedAtom>,

@@ -1,4 +1,4 @@
-//! What is said of a text that is no document's.
+//! Messages about a text that isn't a document.
 
 use crate::grammar::{Halt, Place, State, first_halt};
 use crate::lines::{behind_lines, first_line};
@@ -20,7 +20,7 @@ struct BadLine<'a> {
 }
 
 impl<'a> BadLine<'a> {
-    /// The line behind the lines that begin some document's text.
+    /// The line after the lines that begin some document's text.
     fn behind(text: &'a [u8], whole: u64) -> BadLine<'a> {
         let mut place = Place::Head;
         let mut rest = text;
@@ -37,7 +37,7 @@ impl<'a> BadLine<'a> {
         }
     }
 
-    /// Where it stops being one, and the line behind the last one at its begin.
+    /// Where it stops being one, and the line after the last one at its begin.
     fn halt(&self) -> Halt {
         first_halt(self.place, self.line).unwrap_or(Halt {
             offset: self.line.len(),
@@ -45,7 +45,7 @@ impl<'a> BadLine<'a> {
         })
     }
 
-    /// What is said of it.
+    /// The message about it.
     fn put_words(&self, out: &mut Vec<u8>, halt: Halt) -> Result<(), NoMemory> {
         if !self.is_whole && self.line.is_empty() {
             return self.put_end(out);
@@ -70,7 +70,7 @@ impl<'a> BadLine<'a> {
         }
     }
 
-    /// What is said of a word that isn't spelled as any that may stand there.
+    /// The message about a word that isn't spelled as any that may stand there.
     fn put_word(&self, out: &mut Vec<u8>, halt: Halt) -> Result<(), NoMemory> {
         put_text(out, "expected ")?;
         put_text(out, halt.state.called())?;
@@ -79,7 +79,7 @@ impl<'a> BadLine<'a> {
         put_text(out, "\n")
     }
 
-    /// What is said of a text that ends too soon.
+    /// The message about a text that ends too soon.
     fn put_end(&self, out: &mut Vec<u8>) -> Result<(), NoMemory> {
         put_text(out, "expected ")?;
         put_text(out, State::at(self.place).called())?;
@@ -136,9 +136,9 @@ fn whole_lines(text: &[u8]) -> u64 {
     count
 }
 
-/// What is said of a text with a fault, as `parse` tells it: the line, where it stops being one that
-/// may stand there, what was expected, and the line that was meant where that is plain. Nothing of
-/// want of memory.
+/// The message about a text with a fault, as `parse` tells it: the line, where it stops being one
+/// that may stand there, what was expected, and the line that was meant where that is plain.
+/// Nothing for an allocation failure.
 pub fn put_text_fault(
     alloc: Global,
     out: &mut Vec<u8>,

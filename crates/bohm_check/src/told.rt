@@ -1,8 +1,8 @@
-//! Faults with the lines on which they stand.
+//! Faults with their lines.
 
 use bohm_txn::CheckFault;
 
-/// The most faults that are told.
+/// The most faults that are reported.
 pub const MOST_TOLD: usize = 20;
 
 /// A fault of a document.

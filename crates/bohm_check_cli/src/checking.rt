@@ -17,8 +17,8 @@ fn refused(refusal: Refusal) -> RunFault {
 }
 
 /// Reads a log to the reader's end, and writes the line that says what it holds. It refuses what a
-/// run refuses, and a failed write as a run does. What is to be said of a refused log, beside the
-/// fault's line, is added to the report, as far as there is memory.
+/// run refuses, and a failed write as a run does. Messages on a refused log, beside the fault's
+/// line, are added to the report, as far as allocations succeed.
 pub fn check_log<T: RandomSource, R: Read, W: Write>(
     rt: &T,
     alloc: Global,

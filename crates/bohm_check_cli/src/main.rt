@@ -13,7 +13,7 @@ use std::io::{self, Write};
 use std::process::ExitCode;
 use words::read_words;
 
-/// Fails where the program was started with words that aren't its own.
+/// Fails where the program was started with arguments.
 fn no_words_given(rt: &HostRuntime) -> Result<(), WordFault> {
     let words = words_given(rt, NAME)?;
     read_words(rt.alloc(), words.as_slice())

@@ -1,4 +1,4 @@
-//! What is printed of a log.
+//! The output: a table or a picture.
 
 ghost use Rattle.std.specs.Prelude.{◌≤◌, length, IfNone, IfOk, IfSome};
 ghost use Rattle.bohm_place.specs.Shares.{AreWellFormed};

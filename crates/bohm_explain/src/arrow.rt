@@ -1,4 +1,4 @@
-//! Who wants whose version.
+//! Arrows: which transaction wants whose version.
 
 ghost use Rattle.std.specs.Prelude.{◌≡◌, ◌+◌, ◌*◌, ◌++◌, ◌<◌, ◌≤◌, ◌^◌, All, length, IfOk};
 ghost use Rattle.bohm_place.specs.Plans.{IsRightPlan};

@@ -1,4 +1,4 @@
-//! A picture of how many transactions each depth has.
+//! A picture with a node for each band of depths.
 
 ghost use Rattle.std.specs.Prelude.{◌≡◌, ℕ, ◌*◌, ◌++◌, ◌<◌, ◌≤◌, All, IfOk, count_by, length};
 ghost use Rattle.std.specs.Prelude.{slice_index};
@@ -28,7 +28,7 @@ fn band_width(deepest: u32) -> u32
     deepest.div_ceil(MOST_NODES)
 }
 
-/// The band behind so many others.
+/// The band after this many others.
 fn band_at(deepest: u32, width: u32, before: u32) -> Band
     requires width { width ≤ 21 }
     requires few { before < 200 }
@@ -70,7 +70,7 @@ fn put_depths(out: &mut Vec<u8>, band: Band) -> Result<(), NoMemory>
     put_decimal(out, band.last)
 }
 
-/// So many transactions in a band, in words.
+/// This many transactions in a band, in words.
 fn put_count(out: &mut Vec<u8>, band: Band, count: u32) -> Result<(), NoMemory>
     ensures { IfOk result (λ _. out.new.items ≡ out.old.items ++ count_text band count) }
 {
@@ -81,7 +81,7 @@ fn put_count(out: &mut Vec<u8>, band: Band, count: u32) -> Result<(), NoMemory>
     put_where(out, count != 1, b"s")
 }
 
-/// So many transactions in a band behind so many others.
+/// This many transactions in a band after this many others.
 fn put_band(out: &mut Vec<u8>, before: u32, band: Band, count: u32) -> Result<(), NoMemory>
     requires few { before < 200 }
     ensures { IfOk result (λ _. out.new.items ≡ out.old.items ++ band_line before band count) }

@@ -1,4 +1,4 @@
-//! A batch of a log, drawn.
+//! Draws a batch of a log.
 
 ghost use Rattle.std.specs.Prelude.{◌≡◌, ◌<◌, ◌≤◌, length, map, IfNone, IfOk, IfSome};
 ghost use Rattle.bohm_place.specs.Shares.{AreWellFormed};

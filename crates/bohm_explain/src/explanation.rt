@@ -1,4 +1,4 @@
-//! A log explained.
+//! The explanation of a log: table, hottest keys, last line.
 
 ghost use Rattle.std.specs.Prelude.{◌≡◌, ◌++◌, ◌∷◌, [], ◌≤◌, List, length, IfOk, OnOk};
 ghost use Rattle.bohm_tree.specs.Txn.{Txn};

@@ -23,7 +23,7 @@ pub struct Gathering {
 }
 
 impl Gathering {
-    /// Of no batch. Keys are hashed from this seed. It takes no memory.
+    /// For no batch yet. Keys are hashed from this seed. It allocates nothing.
     pub fn new(alloc: Global, seed: HashSeed) -> Gathering
         ensures { IsGathered [] [] result }
     {

@@ -1,4 +1,4 @@
-//! How hot a key is.
+//! How often a key is accessed.
 
 use bohm_tree::Key;
 

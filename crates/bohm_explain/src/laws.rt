@@ -1,4 +1,4 @@
-//! Laws over the definitions alone. No running call uses them.
+//! Laws over the definitions alone. No call uses them.
 
 ghost use Rattle.std.specs.Prelude.{◌≡◌, ◌+◌, ◌<◌, ◌↔◌, ℕ, List, Contains, length, slice_index, slice_index_or, true, false};
 ghost use Rattle.bohm_tree.specs.Txn.{Txn};
@@ -42,11 +42,11 @@ pub fn chain_from_each()
         ≡ slice_index weights p + greatest_wanting (slice_index (heaviest_from weights wanted)) wanted p }
 {}
 
-/// What is told of a batch's chains: a chain is a list of its transactions, each of which but the
-/// first wants a version of the one before. A depth is the length of a longest chain, of all or of
-/// those that end at a transaction; an arrow's chain that of a longest one by the arrow; the
-/// heaviest weight that of a heaviest chain; and a transaction is marked exactly where a longest
-/// chain has it.
+/// What the figures say of a batch's chains: a chain is a list of its transactions, each of which
+/// but the first wants a version of the one before. A depth is the length of a longest chain, of
+/// all or of those that end at a transaction; an arrow's chain that of a longest one by the arrow;
+/// the heaviest weight that of a heaviest chain; and a transaction is marked exactly where a
+/// longest chain has it.
 pub fn chains_of_a_batch()
     ensures depth { (txns : List Txn) → 0 < length txns
         → IsGreatest length (IsChainOf txns) (greatest (depths txns)) }

@@ -1,4 +1,4 @@
-//! A picture of each transaction.
+//! A picture with a node for each transaction.
 
 ghost use Rattle.std.specs.Prelude.{◌≡◌, ◌++◌, ◌≤◌, All, IfOk, length};
 ghost use Rattle.bohm_explain.specs.Asked.{IsBetween};

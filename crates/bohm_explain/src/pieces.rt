@@ -1,4 +1,4 @@
-//! What pictures by transaction and by depth have in common.
+//! Parts that both kinds of picture share.
 
 ghost use Rattle.std.specs.Prelude.{◌≡◌, ◌++◌, ◌<◌, ◌≤◌, IfOk};
 ghost use Rattle.bohm_explain.specs.Picture.{column_line, column_lines, joined, legend, opening, shown};
@@ -52,7 +52,7 @@ pub fn put_joined(out: &mut Vec<u8>, before: u32) -> Result<(), NoMemory>
     Ok(())
 }
 
-/// The head of a column, behind so many others.
+/// The head of a column, after this many others.
 fn put_column(out: &mut Vec<u8>, before: u32) -> Result<(), NoMemory>
     requires few { before < 4096 }
     ensures { IfOk result (λ _. out.new.items ≡ out.old.items ++ column_line before) }

@@ -25,7 +25,7 @@ fn rank_cmp(heat: &Heat, other: &Heat) -> Ordering
         .then_with(|| heat.key.cmp(&other.key))
 }
 
-/// The same heats, each hotter than those behind it: by accesses, then by chain, then by key. The
+/// The same heats, each hotter than those after it: by accesses, then by chain, then by key. The
 /// time grows with their number n as n log n.
 pub fn rank(mut heats: Vec<Heat>) -> Vec<Heat>
     requires distinct { IsDistinct bytes_eq (map (λ h. h.key) heats.items) }

@@ -1,4 +1,4 @@
-//! What is asked of an explanation.
+//! The options of an explanation.
 
 ghost use Rattle.std.specs.Prelude.{◌≡◌, ◌≤◌, IfSome};
 ghost use Rattle.std.specs.Option.{SomeIff};
@@ -12,12 +12,12 @@ pub const LARGEST_BATCH: u32 = bohm_tree::LARGEST_BATCH;
 /// The most keys that are listed.
 pub const MOST_LISTED: u32 = 1000;
 
-/// The greatest number that a batch can have: a log has at most so many transactions, and a batch
+/// The greatest number that a batch can have: a log has at most this many transactions, and a batch
 /// at least one.
 pub const LAST_BATCH: u32 = bohm_tree::MOST_TXNS as u32;
 
 /// The transactions of a batch, how many keys are listed, the hottest first, and the number of the
-/// batch whose picture is printed in the place of the table, from 1 on (`None`: the table).
+/// batch whose picture is printed instead of the table, from 1 on (`None`: the table).
 #[derive(Clone, Copy, Debug, PartialEq, Eq)]
 pub struct Request {
     batch: u32,

@@ -10,7 +10,7 @@ use itoa::{Buffer, Integer};
 const HEAD: &[u8] =
     b"  batch  transactions      keys      sure     taken    depth     width       terms   heaviest     width\n";
 
-/// What a text of so many bytes leaves of a column, as blanks.
+/// What a text of this many bytes leaves of a column, as blanks.
 pub fn put_blanks(out: &mut Vec<u8>, width: usize, written: usize) -> Result<(), NoMemory>
     ensures { IfOk result (λ _. out.new.items ≡ out.old.items ++ replicate (width - written) 32) }
 {

@@ -1,4 +1,4 @@
-//! What is counted of keys.
+//! Counters for each key.
 
 ghost use Rattle.std.specs.Prelude.{◌≡◌, ℕ, List, true, ◌||◌, All, length, if◌then◌else◌, OnOk};
 ghost use Rattle.std.specs.List.{list_any, zip};

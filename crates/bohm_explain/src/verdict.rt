@@ -1,4 +1,4 @@
-//! What keeps a log from being faster, in words.
+//! The last line: what limits the speed-up.
 
 ghost use Rattle.std.specs.Prelude.{◌≡◌, ◌++◌, IfOk};
 ghost use Rattle.bohm_explain.specs.Verdict.{leading, speedup_limit, limit_words, key_words, verdict_words, verdict_text};

@@ -1,4 +1,4 @@
-//! Who waits for whom in a batch.
+//! The arrows and chains of a batch.
 
 ghost use Rattle.std.specs.Prelude.{◌≤◌, length, IfOk};
 ghost use Rattle.bohm_place.specs.Plans.{IsPlannable, IsRightPlan};
@@ -22,8 +22,8 @@ pub struct Waits {
     pub heights: Vec<u32>,
 }
 
-/// What is waited for in a batch, of which this is the plan. The time grows with the number of
-/// declared keys.
+/// The arrows and chains of the batch of this plan. The time grows with the number of declared
+/// keys.
 pub fn waits_in(alloc: Global, plan: &Plan, txns: &LogPart<'_>) -> Result<Waits, NoMemory>
     requires few { length txns.now ≤ 4096 }
     requires plannable { IsPlannable plan.now.first txns.now }

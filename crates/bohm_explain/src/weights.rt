@@ -1,4 +1,4 @@
-//! What transactions weigh.
+//! Weights of transactions.
 
 ghost use Rattle.std.specs.Prelude.{◌≡◌, ◌≤◌, All, length, replicate, sum_by, IfOk};
 ghost use Rattle.bohm_place.specs.Shares.{AreWellFormed};

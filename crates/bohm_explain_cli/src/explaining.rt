@@ -28,7 +28,7 @@ pub fn explain_text<T: RandomSource, R: Read, W: Write>(
         (RefusesLog request (R.remaining reader.old) (R.remaining reader.new)
         (W.contents writer.old) (W.contents writer.new)) }
 
-    // Before all faults but those of the writing the writer isn't touched.
+    // Before all faults but a failed write the writer is untouched.
     ensures untouched { IfErr result (λ e. IsBeforeWriting e → writer.new ≡ writer.old) }
 {
     let checked = read_log(alloc, HashSeed::drawn(rt), reader)?;

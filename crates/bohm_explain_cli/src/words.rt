@@ -1,4 +1,4 @@
-//! The request that words make.
+//! The request that the arguments make.
 
 ghost use Rattle.std.specs.Prelude.{◌≡◌, [], map, string_bytes, IfOk, IfErr};
 ghost use Rattle.bohm_command.specs.Taken.{AreTaken, faults_in};
@@ -11,8 +11,8 @@ use bohm_command::{WordFault, command_line, parse_line};
 use bohm_explain::Request;
 use std::alloc::Global;
 
-/// The request that the words after the program's name make, each option that they don't name at
-/// its default. Words that clap doesn't take are refused with its text.
+/// The request that the arguments after the program's name make, with the defaults of absent
+/// options. Arguments that clap doesn't accept are refused with its text.
 pub fn read_words(alloc: Global, words: &[String]) -> Result<Request, WordFault>
     ensures ok { IfOk result (λ request. request ≡ request_in (map string_bytes words.now)) }
     ensures faultless { IfOk result (λ _. faults_in explain (map string_bytes words.now) ≡ []) }

@@ -1,4 +1,4 @@
-//! Where a byte stands.
+//! Finds a byte.
 
 ghost use Rattle.std.specs.Prelude.{◌≡◌, ◌<◌, ◌==◌, IfSome, length};
 ghost use Rattle.std.specs.List.{position_from};

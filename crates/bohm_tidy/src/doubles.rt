@@ -28,7 +28,7 @@ fn earlier(one: Option<Places>, other: Places) -> Places {
     }
 }
 
-/// The least place behind another one of its key, with that, of places by their keys.
+/// The least place after another one of its key, with that, of places by their keys.
 fn least_double(keys: &[(Key, usize)]) -> Places {
     let mut found = None;
     let mut start = 0;

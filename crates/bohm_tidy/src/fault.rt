@@ -15,14 +15,14 @@ pub struct Double {
 /// Why a text is no log's, however loosely it is read.
 #[derive(Clone, Copy, Debug)]
 pub enum TidyFault {
-    /// The lines before this one begin a log, and with this one they don't. Lines count from 1 in
-    /// the text as it was handed in.
+    /// The lines before this one are a prefix of a log, and with this one they aren't. Lines count
+    /// from 1 in the text as it was handed in.
     Line(u64),
-    /// All lines begin a log, but it isn't ended.
+    /// The lines are a prefix of a log, but not a whole one.
     Short,
     /// The store names a key twice.
     Twice(Double),
-    /// A growth was refused.
+    /// An allocation failed.
     NoMemory,
 }
 

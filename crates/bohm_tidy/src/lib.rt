@@ -1,5 +1,5 @@
-//! The exact text of a log that was written at ease: with comments, free spacing, declared sets and
-//! a store in any order, sets with keys named twice or left out.
+//! The exact text of a loosely written log. Such a log may have comments, free spacing, declared
+//! sets and a store in any order, and sets with repeated keys or left out.
 #![tactic(auto)]
 
 mod body_keys;

@@ -15,7 +15,7 @@ use bohm_tree::NoMemory;
 pub enum Gap {
     /// No word yet.
     Start,
-    /// A word behind which a sum begins, or goes on with an atom.
+    /// A word after which a sum begins, or goes on with an atom.
     Sum,
     /// The minus of a sum's first term, which stands at its atom.
     Minus,
@@ -47,7 +47,7 @@ fn shown(byte: u8) -> u8
     if byte == b'\t' { b' ' } else { byte }
 }
 
-/// Appends a byte that stands behind another one, with a space between them where a word ends.
+/// Appends a byte that stands after another one, with a space between them where a word ends.
 fn put_byte(out: &mut Vec<u8>, signs: bool, before: u8, byte: u8) -> Result<(), NoMemory>
     ensures { IfOk result (λ _. out.new.items
         ≡ out.old.items ++ (cut_text signs before byte ++ shown byte ∷ [])) }
@@ -75,7 +75,7 @@ fn set_apart(out: &mut Vec<u8>, signs: bool, bytes: &[u8]) -> Result<(), NoMemor
     Ok(())
 }
 
-/// The gap behind a sign, or behind an atom.
+/// The gap after a sign, or after an atom.
 #[tactic(auto, unfolding(crate::specs::Line::gap_behind))]
 fn gap_behind(word: &[u8]) -> Gap
     ensures { result ≡ gap_behind word.now }
@@ -86,7 +86,7 @@ fn gap_behind(word: &[u8]) -> Gap
     }
 }
 
-/// The gap behind a word.
+/// The gap after a word.
 #[tactic(auto, unfolding(crate::specs::Line::next_gap))]
 fn next_gap(gap: Gap, signs: bool, word: &[u8]) -> Gap
     ensures { result ≡ next_gap gap signs word.now }
@@ -99,7 +99,7 @@ fn next_gap(gap: Gap, signs: bool, word: &[u8]) -> Gap
     }
 }
 
-/// Appends a word of the line behind others.
+/// Appends a word of the line after others.
 fn put_word(out: &mut Vec<u8>, gap: Gap, word: &[u8]) -> Result<(), NoMemory>
     ensures { IfOk result (λ _. out.new.items ≡ out.old.items ++ gap_text gap ++ word.now) }
 {

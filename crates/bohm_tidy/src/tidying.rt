@@ -1,4 +1,4 @@
-//! From a text that was written at ease to the exact one.
+//! Writes the exact text of a loosely written log.
 
 ghost use Rattle.std.specs.Prelude.{◌≡◌, [], IfOk, OnOk};
 ghost use Rattle.std.specs.List.{IsDistinct};
@@ -90,15 +90,15 @@ fn tidy_exactly(alloc: Global, doc: &Doc) -> Result<Vec<u8>, TidyFault>
     }
 }
 
-/// The exact text of a log that was written at ease: with comments, free spacing, keys in any
-/// order, and sets that are missing. Names are hashed from the seed. The time grows with the length
-/// of the text, and with the number n of the keys of a set or of the store as n log n; the memory
-/// grows with the text.
+/// The exact text of a loosely written log: with comments, free spacing, keys in any order, and
+/// sets that are missing. Names are hashed from the seed. The time grows with the length of the
+/// text, and with the number n of the keys of a set or of the store as n log n; the memory grows
+/// with the text.
 ///
 /// # Errors
 ///
-/// `Line` and `Short` say where the text stops being the beginning of a log, `Twice` which key the
-/// store names twice. `NoMemory` says that a growth was refused.
+/// `Line` and `Short` say where the text stops being a prefix of a log, `Twice` which key the store
+/// names twice. `NoMemory` says that an allocation failed.
 pub fn tidy(alloc: Global, seed: HashSeed, text: &[u8]) -> Result<Vec<u8>, TidyFault>
     ensures { IfOk result (λ exact. IsTidied text.now exact.items) }
 {

@@ -1,4 +1,4 @@
-//! The program: a log written at ease on standard input, its exact text on standard output.
+//! The program: a loosely written log on standard input, its exact text on standard output.
 #![tactic(auto)]
 
 mod tidying;

@@ -1,4 +1,4 @@
-//! A log that was written at ease, from bytes to bytes.
+//! Tidies a log from bytes to bytes.
 
 ghost use Rattle.std.specs.Prelude.{◌≡◌, ◌≤◌, ℕ, length, IfOk, IfErr, OnOk, Err};
 ghost use Rattle.bohm_run.specs.Headline.{IsBeforeWriting};
@@ -59,7 +59,7 @@ pub fn tidy_text<T: RandomSource, R: Read, W: Write>(
         → StopsTidying (R.remaining reader.old) (R.remaining reader.new) (W.contents writer.old)
         (W.contents writer.new) sent }
 
-    // Before all faults but those of the writing the writer isn't touched.
+    // Before all faults but a failed write the writer is untouched.
     ensures untouched { IfErr result (λ e. IsBeforeWriting e → writer.new ≡ writer.old) }
 {
     let text = read_all(alloc, reader)?;

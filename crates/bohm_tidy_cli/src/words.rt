@@ -1,4 +1,4 @@
-//! The words that the program is started with.
+//! The arguments, of which there are none.
 
 ghost use Rattle.std.specs.Prelude.{◌≡◌, [], map, string_bytes, IfOk, IfErr};
 ghost use Rattle.clap.specs.Words.{app_of};
@@ -78,8 +78,8 @@ fn command<'a>(alloc: Global) -> Command<'a>
         .after_help(AFTER_HELP)
 }
 
-/// Whether the words after the program's name ask for a text to be tidied. Words that clap doesn't take are
-/// refused with its text.
+/// Whether the arguments after the program's name ask for a text to be tidied. Arguments that clap
+/// doesn't accept are refused with its text.
 pub fn read_words(alloc: Global, words: &[String]) -> Result<(), WordFault>
     ensures faultless { IfOk result (λ _. faults_in tidy (map string_bytes words.now) ≡ []) }
     ensures taken { AreTaken tidy (map string_bytes words.now) → IfErr result IsNoMemory }

@@ -1,4 +1,4 @@
-use Rattle.std.proofs.Common.{◌≡◌, ◌+◌, ℕ, drop, count_by, sym, ◌∙◌, ap, arith}
+use Rattle.std.proofs.Common.{◌+◌, ℕ, drop, count_by, sym, ◌∙◌, ap, arith}
 use Rattle.bohm_txn.specs.Sure.{is_sure}
 use Rattle.bohm_check.proofs.Totals.{one_more, no_more, counted}
 use Rattle.bohm_check.proofs.summary.count_sure.Goals as goal
