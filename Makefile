@@ -19,6 +19,7 @@ deb:
 	packaging/deb "$(OUT)"
 
 wheel:
+	@command -v python3 >/dev/null || { echo "wheel: there is no python3, which makes it" >&2; exit 1; }
 	packaging/wheel "$(OUT)"
 
 crate:

@@ -1,4 +1,4 @@
-/* Loaded before the C library: lets the allocation of a number, or all from it on, find no memory,
+/* Loaded before the C library: makes the allocation with a number, or all from it on, fail,
    and the same for threads. The numbers count from 1 over the whole process.
        FAIL_ALLOCATION=N   allocation N is refused
        FAIL_ALLOCATIONS=N  so are all later ones

@@ -11,7 +11,7 @@ import ctypes
 import enum
 import os
 import threading
-from ctypes import POINTER, byref, c_char_p, c_int64, c_size_t, c_uint8, c_uint32, c_uint64, c_void_p
+from ctypes import POINTER, byref, c_char, c_char_p, c_int64, c_size_t, c_uint8, c_uint32, c_uint64, c_void_p
 from typing import NamedTuple, Optional
 
 
@@ -33,7 +33,7 @@ class Status(enum.IntEnum):
 
 class Refusal(Exception):
     """A call that ended otherwise than `DONE`. `line` says why a text was refused. `replies` are those of the
-    transactions that ran before memory was refused, where the status is `STOPPED`."""
+    transactions that ran before an allocation failed, where the status is `STOPPED`."""
 
     def __init__(self, status: int, out: bytes = b""):
         self.status = Status(status)
@@ -95,6 +95,11 @@ def load(path: Optional[str] = None) -> ctypes.CDLL:
         call.argtypes = words
         call.restype = None if name in ("bohm_counts", "bohm_close") else c_uint32
     return library
+
+
+def told(library: ctypes.CDLL, name: str) -> str:
+    """A text that a library has: `bohm_version`, or `bohm_sources`, the checksum of its sources."""
+    return ctypes.string_at(ctypes.addressof(c_char.in_dll(library, name))).decode()
 
 
 def timestamp(ts: int) -> int:

@@ -1,6 +1,6 @@
 //! The calls of `bohm.h`, as Rust wants them: a machine is closed when it is dropped, and bytes are freed.
 
-use std::{fmt, ptr, slice};
+use std::{ffi::CStr, fmt, ptr, slice};
 
 #[repr(C)]
 struct RawBytes {
@@ -26,12 +26,32 @@ extern "C" {
     fn bohm_answer(text: *const u8, len: usize, out: *mut RawBytes) -> u32;
     fn bohm_open(machine: *mut RawMachine, text: *const u8, len: usize, top: u32, out: *mut RawBytes) -> u32;
     fn bohm_apply(machine: *mut RawMachine, text: *const u8, len: usize, out: *mut RawBytes) -> u32;
+    fn bohm_replies(machine: *mut RawMachine, out: *mut RawBytes) -> u32;
     fn bohm_value_at(machine: *mut RawMachine, key: *const u8, len: usize, ts: u32, present: *mut u8, value: *mut i64) -> u32;
     fn bohm_store_at(machine: *mut RawMachine, ts: u32, out: *mut RawBytes) -> u32;
     fn bohm_trim(machine: *mut RawMachine, floor: u32) -> u32;
     fn bohm_counts(machine: *mut RawMachine, counts: *mut Counts);
     fn bohm_close(machine: *mut RawMachine);
     fn free(at: *mut u8);
+    static bohm_version: [u8; 16];
+    static bohm_sources: [u8; 65];
+}
+
+/// A text that ends with a zero.
+fn text_of(bytes: &'static [u8]) -> &'static str {
+    CStr::from_bytes_until_nul(bytes).ok().and_then(|text| text.to_str().ok()).unwrap_or_default()
+}
+
+/// The version of the library.
+pub fn version() -> &'static str {
+    // SAFETY: nothing writes there.
+    text_of(unsafe { &bohm_version })
+}
+
+/// The checksum of the sources that the library is built from.
+pub fn sources() -> &'static str {
+    // SAFETY: as above.
+    text_of(unsafe { &bohm_sources })
 }
 
 /// A status of the header's enum that isn't `BOHM_DONE`, and what came with it.
@@ -107,6 +127,14 @@ impl Machine {
         let mut out = Text::none();
         // SAFETY: the machine is open until it is dropped.
         let status = unsafe { bohm_apply(&mut self.0, segment.as_ptr(), segment.len(), &mut out.0) };
+        told(status, out)
+    }
+
+    /// The replies that wait after a refusal with the header's status `BOHM_KEPT`.
+    pub fn replies(&mut self) -> Result<Text, Refusal> {
+        let mut out = Text::none();
+        // SAFETY: as above.
+        let status = unsafe { bohm_replies(&mut self.0, &mut out.0) };
         told(status, out)
     }
 
