@@ -185,7 +185,7 @@ impl Columns {
         self.large.truncate(head.large as usize);
     }
 
-    /// What stands in the columns behind the last transaction is one more, with so many `show`s.
+    /// What stands in the columns after the last transaction is one more, with this many `show`s.
     #[inline(always)]
     pub fn close(&mut self, shows: u32) {
         self.shows += shows;

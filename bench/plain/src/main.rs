@@ -5,9 +5,9 @@
 //!     plain tree-parse  the reading of that tree alone
 //!     plain serial      flat columns and dense key numbers, one transaction after another
 //!     plain bohm [--cc 1] [--exec 1] [--parts 1] [--batch 4096]
-//!                       the same log by BOHM's steps, on so many planning and executing threads
+//!                       the same log by BOHM's steps, on the given planning and executing threads
 //!     plain flow [--threads 1] [--window 262144]
-//!                       the log in windows of so many bytes, read, checked and printed on so many threads and
+//!                       the log in windows of --window bytes, read, checked and printed on --threads threads and
 //!                       run in order
 //!
 //! With --times each says on standard error how many seconds its parts took, as JSON.

@@ -221,7 +221,7 @@ impl Names {
         number
     }
 
-    /// The table anew, with so many bits.
+    /// The table anew, with this many bits.
     fn rebuild(&mut self, bits: u32) {
         self.shift = 64 - bits;
         self.table = vec![FREE; 1 << bits];

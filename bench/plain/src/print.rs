@@ -122,7 +122,7 @@ pub fn print(log: &Log, answer: &Answer) -> Vec<u8> {
     out
 }
 
-/// The replies of transactions that stand behind so many others.
+/// The replies of transactions that stand after this many others.
 pub fn print_replies(out: &mut Vec<u8>, txns: &Columns, before: usize, replies: &[Reply], shows: &[i64]) {
     let mut counter = Counter::new(before);
     for (index, reply) in replies.iter().enumerate() {

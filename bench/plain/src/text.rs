@@ -80,7 +80,7 @@ pub struct Text {
 }
 
 impl Text {
-    /// Standard input, of which nothing is read yet, by windows of so many bytes.
+    /// Standard input, of which nothing is read yet, by windows of this many bytes.
     pub fn open(room: usize) -> Result<Text, Fault> {
         let input = file(std::io::stdin())?;
         Ok(Text { input, buffer: Buffer::new(room), came: 0, reading: Duration::ZERO })
