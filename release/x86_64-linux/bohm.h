@@ -6,7 +6,7 @@
  * Of every call:
  * - No pointer is null, also where its length is 0, and none points into what another one points to.
  * - It takes the memory that it needs from the C library's heap, and keeps none of the caller's.
- * - It starts no thread, waits for none, and reads and writes no file. Any thread may call, but no signal
+ * - It starts no thread, doesn't block, and reads and writes no file. Any thread may call, but no signal
  *   handler, and no forked child of a process with threads.
  * - A machine is in one call at a time, and goes to another thread by a lock, or by that thread's start or
  *   end; two machines share nothing.
@@ -16,7 +16,10 @@
 
 /* The version, and the checksum of the sources that the library is built from. */
 #define BOHM_VERSION "0.1.0"
-#define BOHM_SOURCES "e973bb27696fb53c7bd4abb697773f4ec10c3a407c866480302ba48e87b1083c"
+#define BOHM_SOURCES "7a1a8987673de4c29f7a41a1f2c8fb21cb0dc20a1ce8a1866c4762edbebc35a7"
+
+/* The same, of the library that the program is linked with. */
+extern const char bohm_version[16], bohm_sources[65];
 
 /* A program without the C library's headers declares these types, and `free`, itself. */
 #ifndef BOHM_TYPES_ARE_DECLARED
@@ -29,11 +32,11 @@
 extern "C" {
 #endif
 
-/* How a call ends. */
+/* How a call ends. The library's proof has the same numbers, and tests/embed compares them. */
 enum {
     BOHM_DONE = 0,        /* it did what it is for */
     BOHM_REFUSED = 1,     /* the text was refused: *out is the line that says why; nothing has changed */
-    BOHM_NO_MEMORY = 2,   /* memory was refused, and nothing has changed */
+    BOHM_NO_MEMORY = 2,   /* an allocation failed, and nothing has changed */
     BOHM_TRIMMED = 3,     /* the timestamp is below the floor */
     BOHM_FUTURE = 4,      /* the timestamp is above the top */
     BOHM_HAS_STORE = 5,   /* the segment has a store of its own; nothing has changed */
@@ -41,8 +44,9 @@ enum {
     BOHM_HAS_LOG = 7,     /* the snapshot has transactions; nothing has changed */
     BOHM_NO_KEY = 8,      /* the bytes are no key's */
     BOHM_WAITING = 9,     /* replies wait: call bohm_replies first; nothing has changed */
-    BOHM_STOPPED = 10,    /* memory was refused on the way: *out is the replies up to the end of a batch */
-    BOHM_KEPT = 11        /* transactions ran, but the text of their replies found no memory: they wait */
+    BOHM_STOPPED = 10,    /* an allocation failed on the way: *out is the replies up to the end of a batch */
+    BOHM_KEPT = 11,       /* transactions ran, but the text of their replies could not be allocated: they wait */
+    BOHM_UNFIT = 12       /* an edition, or a number of arguments or calls doesn't fit; nothing has changed */
 };
 
 /* Bytes that a call hands out. Before a call it is BOHM_NO_BYTES; a call that hands out none leaves it. The
@@ -69,7 +73,7 @@ typedef struct {
     void *at;
 } bohm_machine;
 
-/* Opens a closed machine on a snapshot: `log 1` and a line for each key of the store, rising, and no
+/* Opens a closed machine on a snapshot: `log 1` or `log 2`, a line for each key of the store, rising, and no
  * transaction. `top` is the timestamp of the last transaction behind which the store stands, 0 for a new one.
  * BOHM_DONE, BOHM_REFUSED, BOHM_NO_MEMORY or BOHM_HAS_LOG; but for the first it stays closed. */
 uint32_t bohm_open(bohm_machine *machine, const uint8_t *text, size_t len, uint32_t top, bohm_bytes *out);
@@ -84,7 +88,7 @@ uint32_t bohm_apply(bohm_machine *machine, const uint8_t *text, size_t len, bohm
 uint32_t bohm_replies(bohm_machine *machine, bohm_bytes *out);
 
 /* What a key of an open machine holds after the transaction with a timestamp: *present is 1 and *value its
- * value, or *present is 0. BOHM_DONE, BOHM_TRIMMED, BOHM_FUTURE or BOHM_NO_KEY. It takes no memory. Before the
+ * value, or *present is 0. BOHM_DONE, BOHM_TRIMMED, BOHM_FUTURE or BOHM_NO_KEY. It allocates nothing. Before the
  * call *present is 0 or 1. */
 uint32_t bohm_value_at(bohm_machine *machine, const uint8_t *key, size_t len, uint32_t ts,
                        uint8_t *present, int64_t *value);
@@ -93,8 +97,13 @@ uint32_t bohm_value_at(bohm_machine *machine, const uint8_t *key, size_t len, ui
  * BOHM_NO_MEMORY. */
 uint32_t bohm_store_at(bohm_machine *machine, uint32_t ts, bohm_bytes *out);
 
-/* Lets the past below a timestamp go, where it is above the floor: BOHM_DONE, or BOHM_FUTURE where it is above
- * the top. It takes no memory. */
+/* Writes the SHA-256 digest of what a machine holds at a timestamp: that of the text of bohm_store_at with a line
+ * `--` in the place of its first line. Machines that hold the same have the same digest. BOHM_DONE, BOHM_TRIMMED,
+ * BOHM_FUTURE or BOHM_NO_MEMORY; but for the first the digest stays as it was. */
+uint32_t bohm_digest(bohm_machine *machine, uint32_t ts, uint8_t digest[32]);
+
+/* Drops the past below a timestamp, where it is above the floor: BOHM_DONE, or BOHM_FUTURE where it is above
+ * the top. It allocates nothing. */
 uint32_t bohm_trim(bohm_machine *machine, uint32_t floor);
 
 typedef struct {
@@ -106,7 +115,52 @@ typedef struct {
 
 void bohm_counts(bohm_machine *machine, bohm_machine_counts *counts);
 
-/* Frees an open machine, which then is closed. */
+/* A procedure: a transaction with parameters, read and checked once. {0} is closed, and an open one is treated
+ * as an open machine is. */
+typedef struct {
+    void *at;
+} bohm_procedure;
+
+/* Opens a closed handle of the procedure of a text: BOHM_DONE, BOHM_REFUSED or BOHM_NO_MEMORY; but for the first
+ * it stays closed. In a refusal the statements of the values' `let`s count. */
+uint32_t bohm_prepare(bohm_procedure *procedure, const uint8_t *text, size_t len, bohm_bytes *out);
+
+/* Frees an open procedure, and leaves it closed. Calls of it stay. */
+void bohm_close_procedure(bohm_procedure *procedure);
+
+/* Calls of procedures, which a machine runs as a segment. {0} is closed, and an open one is treated as an open
+ * machine is. */
+typedef struct {
+    void *at;
+} bohm_calls;
+
+/* Opens a closed list of no calls, for procedures of edition 1 or 2: BOHM_DONE, BOHM_UNFIT for another number, or
+ * BOHM_NO_MEMORY; but for the first it stays closed. */
+uint32_t bohm_open_calls(bohm_calls *calls, uint32_t edition);
+
+/* An argument: the bytes of a key. */
+typedef struct {
+    const uint8_t *at;
+    size_t len;
+} bohm_key;
+
+/* Adds a call to an open list: an open procedure with its arguments, in the order of its parameters. BOHM_DONE;
+ * BOHM_NO_KEY if an argument's bytes are no key's; BOHM_UNFIT if the procedure has other numbers of parameters or
+ * another edition, or there are 1000000 calls; or BOHM_NO_MEMORY. But for the first the list is as it was. */
+uint32_t bohm_push(bohm_calls *calls, bohm_procedure *procedure, const bohm_key *keys, size_t key_count,
+                   const int64_t *values, size_t value_count);
+
+/* Runs an open list's calls on an open machine, as bohm_apply runs a segment: BOHM_DONE, BOHM_STOPPED, BOHM_KEPT,
+ * BOHM_TIMESTAMPS or BOHM_WAITING. The list keeps its calls. */
+uint32_t bohm_run_calls(bohm_machine *machine, bohm_calls *calls, bohm_bytes *out);
+
+/* Takes all calls out of an open list. */
+void bohm_clear_calls(bohm_calls *calls);
+
+/* Frees an open list, and leaves it closed. */
+void bohm_close_calls(bohm_calls *calls);
+
+/* Frees an open machine and the replies that wait, and leaves it closed. */
 void bohm_close(bohm_machine *machine);
 
 #ifdef __cplusplus
