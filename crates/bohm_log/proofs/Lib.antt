@@ -12,3 +12,7 @@ mod CallLaw
 mod Locals
 mod Arguments
 mod Appending
+mod SoundDrafts
+mod InstanceSound
+mod Documents
+pub mod ForCallers

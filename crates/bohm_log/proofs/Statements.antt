@@ -1,5 +1,7 @@
 -- The statements that sums make.
-use Rattle.std.proofs.Common.{◌≡◌, ℕ, ◌≤◌, Bool, List, [], ◌∷◌, Some, None, length, refl, ap, ◌∙◌, arith}
+use Rattle.std.proofs.Common.{◌≡◌, ℕ, ◌≤◌, Bool, List, [], ◌∷◌, Some, None, length, refl, ap, sym, subst, ◌∙◌, arith}
+use Rattle.std.specs.List.{AllByRecursion}
+use Rattle.bohm_tree.specs.Sound.{IsName, IsSum, IsStmt}
 use Rattle.bohm_tree.specs.Term.{Atom}
 use Rattle.bohm_tree.specs.declared.cmp.Cmp.{Cmp}
 use Rattle.bohm_tree.specs.Stmt as stmts
@@ -70,3 +72,32 @@ put_when_made d k c two = go d.done two
     go (x ∷ []) two = absurd (omega (arith, two))
     go (x ∷ y ∷ []) two = refl
     go (x ∷ y ∷ z ∷ xs) two = absurd (omega (arith, two))
+
+-- ---- whether they are statements
+
+pub bind_sound : (d : Drafted) (name : List ℕ) → d.done ≡ [] → IsName name → IsSum d.latest → IsStmt (made_of d actions.Bind name)
+bind_sound d name none is sum = subst IsStmt (sym (bind_made d name none)) (is, sum)
+
+pub show_sound : (d : Drafted) → d.done ≡ [] → IsSum d.latest → IsStmt (made_of d actions.Show [])
+show_sound d none sum = subst IsStmt (sym (show_made d none)) sum
+
+pub put_sound : (d : Drafted) (k : List ℕ) → d.done ≡ [] → IsName k → IsSum d.latest → IsStmt (made_of d actions.Put k)
+put_sound d k none is sum = subst IsStmt (sym (put_made d k none)) (is, sum, tt)
+
+pub need_sound : (d : Drafted) (c : Cmp) → length d.done ≡ 1 → AllByRecursion IsSum d.done → IsSum d.latest → IsStmt (made_of d (actions.Need c) [])
+need_sound d c one done sum = go d.done one done
+  where
+    go : (xs : List (List (Bool × Atom))) → length xs ≡ 1 → AllByRecursion IsSum xs → IsStmt (made_of (record d { done = xs }) (actions.Need c) [])
+    go [] one h = absurd (omega (arith, one))
+    go (x ∷ []) one h = (h.0, sum)
+    go (x ∷ y ∷ xs) one h = absurd (omega (arith, one))
+
+pub put_when_sound : (d : Drafted) (k : List ℕ) (c : Cmp) → length d.done ≡ 2 → IsName k → AllByRecursion IsSum d.done → IsSum d.latest
+    → IsStmt (made_of d (actions.PutWhen c) k)
+put_when_sound d k c two is done sum = go d.done two done
+  where
+    go : (xs : List (List (Bool × Atom))) → length xs ≡ 2 → AllByRecursion IsSum xs → IsStmt (made_of (record d { done = xs }) (actions.PutWhen c) k)
+    go [] two h = absurd (omega (arith, two))
+    go (x ∷ []) two h = absurd (omega (arith, two))
+    go (x ∷ y ∷ []) two h = (is, h.0, (h.1.0, sum))
+    go (x ∷ y ∷ z ∷ xs) two h = absurd (omega (arith, two))

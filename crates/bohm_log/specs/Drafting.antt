@@ -203,6 +203,12 @@ second_end second end Whole = end
 second_end second end Left = end
 second_end second end Right = second
 
+-- the statement whose sum that is read ends at `end`, and the next one begins there
+abbrev pub next_sum : ℕ → ℕ → ℕ → ℕ → Step → Pending
+next_sum end start first second Whole = record { start = start; first = end; second = end; step = Left }
+next_sum end start first second Left = record { start = start; first = first; second = end; step = Right }
+next_sum end start first second Right = record { start = start; first = first; second = second; step = Right }
+
 abbrev pub drafted_of : Edition → Parts → Pending → Drafted
 drafted_of e p o = record { txn = txn_of e p; done = done_in p o; latest = sum_between p (latest_from o) (length p.terms) }
 

@@ -9,3 +9,4 @@ pub mod Calling
 pub mod CallBuffers
 pub mod Slices
 pub mod Locals
+pub mod SoundLogs

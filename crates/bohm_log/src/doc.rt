@@ -5,12 +5,14 @@ ghost use Rattle.std.specs.List.{list_all};
 ghost use Rattle.bohm_tree.specs.Document.{in_edition};
 ghost use Rattle.bohm_tree.specs.Appending.{empty_document, with_txn};
 ghost use Rattle.bohm_tree.specs.Procedure.{instance};
+ghost use Rattle.bohm_tree.specs.Sound.{IsDocument};
 
 use crate::calling::CallBuffer;
 use crate::fault::LogFault;
 use crate::hash_seed::HashSeed;
 use crate::log::Log;
 use crate::part::LogPart;
+use crate::soundness::are_entries;
 use crate::template::Template;
 use bohm_tree::{Edition, Items, Key, Value};
 use std::alloc::Global;
@@ -27,13 +29,15 @@ pub struct Doc {
 impl Model for Doc {
     ghost use Rattle.bohm_tree.specs.Document.{Document, in_edition};
     ghost use Rattle.std.specs.Prelude.{IsTrue};
-    ghost use Rattle.std.specs.List.{list_all};
+    ghost use Rattle.std.specs.List.{list_all, AllByRecursion};
+    ghost use Rattle.bohm_tree.specs.Sound.{IsEntry};
 
     ghost Value = { Document };
 
     ghost view = { λ d. record { edition = d.edition; store = d.store; log = d.log } };
 
-    ghost invariant = { λ d. IsTrue (list_all (in_edition d.edition) d.log) };
+    ghost invariant = { λ d. IsTrue (list_all (in_edition d.edition) d.log)
+        × AllByRecursion IsEntry d.store };
 }
 
 fn are_in(edition: Edition, log: &LogPart<'_>) -> bool
@@ -55,6 +59,7 @@ impl Doc {
     pub fn new(edition: Edition, store: Vec<(Key, Value)>, log: Log<HashSeed>) -> Option<Doc>
         ensures { result ≡ document_of edition store.items log }
     {
+        are_entries(store.as_slice());
         if are_in(edition, &log.part()) {
             Some(Doc {
                 edition,
@@ -113,5 +118,12 @@ impl Doc {
         ensures { result ≡ self.now.log }
     {
         self.log.part()
+    }
+
+    /// A law: whatever it holds has a text. It takes no time.
+    pub fn has_text(&self)
+        ensures { IsDocument self.now }
+    {
+        let _ = self.log.part();
     }
 }

@@ -1,18 +1,22 @@
 //! The transaction being read.
 
 ghost use Rattle.std.specs.Prelude.{◌≡◌, ◌<◌, [], true, false, IfOk, OnOk, OnErr, length};
-ghost use Rattle.std.specs.Prelude.{Some, None, ◌||◌};
+ghost use Rattle.std.specs.Prelude.{Some, None, ◌||◌, IfErr};
+ghost use Rattle.std.specs.List.{AllByRecursion};
 ghost use Rattle.bohm_tree.specs.Keys.{is_among};
 ghost use Rattle.bohm_tree.specs.Name.{is_name};
 ghost use Rattle.bohm_tree.specs.Term.{Lit, Read, Local};
+ghost use Rattle.bohm_tree.specs.Sound.{IsTerm, IsSum, IsStmt, IsTxn};
 ghost use Rattle.bohm_tree.specs.Stmt as stmts;
+ghost use Rattle.bohm_log.specs.declared.fault.SumFault.TheVariants as faults;
 ghost use Rattle.bohm_log.specs.Drafting.{fresh, with_read, with_write, with_term, with_sum};
 ghost use Rattle.bohm_log.specs.Drafting.{with_stmt, made_of, put_of, need_of, parts_of, IsBare};
 ghost use Rattle.bohm_log.specs.Drafting.{IsBetween, IsNamed, IsNameless};
 ghost use Rattle.bohm_log.specs.Parts.{txn_of, IsWithin};
 ghost use Rattle.bohm_log.specs.Seeing.{atom_shown};
 
-use crate::fault::LogFault;
+use crate::fault::{LogFault, SumFault};
+use crate::literal::Literal;
 use crate::row::{Action, Pending, Step};
 use crate::sheet::Sheet;
 use crate::sum::AtomParts;
@@ -39,7 +43,10 @@ impl<S: BuildHasher> Model for Draft<S> {
 
     ghost view = { λ d. drafted_of d.edition (parts_of d.sheet) d.pending };
 
-    ghost invariant = { λ d. IsDrafted (parts_of d.sheet) d.pending };
+    ghost use Rattle.bohm_log.specs.SoundLogs.{IsSoundDraft};
+
+    ghost invariant = { λ d. IsDrafted (parts_of d.sheet) d.pending
+        × IsSoundDraft (drafted_of d.edition (parts_of d.sheet) d.pending) };
 }
 
 impl<S: BuildHasher> Draft<S> {
@@ -69,6 +76,7 @@ impl<S: BuildHasher> Draft<S> {
         ensures ok { OnOk result (self.new ≡ with_read self.old key) }
         ensures err { OnErr result (self.new ≡ self.old) }
     {
+        key.has_name();
         self.sheet.add_read(key)?;
         Ok(())
     }
@@ -79,28 +87,33 @@ impl<S: BuildHasher> Draft<S> {
         ensures ok { OnOk result (self.new ≡ with_write self.old key) }
         ensures err { OnErr result (self.new ≡ self.old) }
     {
+        key.has_name();
         self.sheet.add_write(key)?;
         Ok(())
     }
 
-    /// Ends a sum of a statement that has another.
-    pub fn next_sum(&mut self)
-        requires { length self.old.done < 2 }
-        ensures { self.new ≡ with_sum self.old }
+    /// Whether the sum that is read has a term.
+    fn has_terms(&self) -> bool
+        ensures sum { result ≡ true → IsSum self.now.latest }
+        ensures none { result ≡ false → self.now.latest ≡ [] }
+        ensures done { AllByRecursion IsSum self.now.done }
     {
-        let end = self.sheet.terms.len() as u32;
-        match self.pending.step {
-            Step::Whole => {
-                self.pending.first = end;
-                self.pending.second = end;
-                self.pending.step = Step::Left;
-            }
-            Step::Left => {
-                self.pending.second = end;
-                self.pending.step = Step::Right;
-            }
-            Step::Right => {}
+        (self.pending.latest() as usize) < self.sheet.terms.len()
+    }
+
+    /// Ends a sum of a statement that has another. One without terms is `Empty`.
+    pub fn next_sum(&mut self) -> Result<(), SumFault>
+        requires { length self.old.done < 2 }
+        ensures ok { OnOk result (self.new ≡ with_sum self.old) }
+        ensures terms { OnOk result (0 < length self.old.latest) }
+        ensures empty { IfErr result (λ e. self.old.latest ≡ []) }
+        ensures err { OnErr result (self.new ≡ self.old) }
+    {
+        if !self.has_terms() {
+            return Err(SumFault::Empty);
         }
+        self.pending = self.pending.next(self.sheet.terms.len() as u32);
+        Ok(())
     }
 
     /// Whether the transaction declares to read or to write a key. The time grows with how many
@@ -116,6 +129,7 @@ impl<S: BuildHasher> Draft<S> {
     pub(crate) fn parts(&self) -> (Edition, &Sheet<S>)
         ensures same { txn_of result.0 (parts_of result.1.now) ≡ self.now.txn }
         ensures within { IsWithin (parts_of result.1.now) }
+        ensures sound { IsTxn self.now.txn.edition self.now.txn }
     {
         (self.edition, &self.sheet)
     }
@@ -126,6 +140,7 @@ impl<S: BuildHasher> Draft<S> {
         S: Drop,
         ensures same { txn_of result.0 (parts_of result.1) ≡ self.txn }
         ensures within { IsWithin (parts_of result.1) }
+        ensures sound { IsTxn self.txn.edition self.txn }
     {
         let Draft { edition, sheet, .. } = self;
         (edition, sheet)
@@ -136,6 +151,7 @@ impl<S: BuildHasher> Draft<S> {
 impl<S: BuildHasher + Drop> Draft<S> {
     #[inline(always)]
     fn add_term(&mut self, minus: bool, atom: AtomParts) -> Result<(), LogFault>
+        requires { IsTerm (minus, atom_shown atom) }
         ensures ok { OnOk result (self.new ≡ with_term self.old minus (atom_shown atom)) }
         ensures err { OnErr result (self.new ≡ self.old) }
     {
@@ -167,10 +183,11 @@ impl<S: BuildHasher + Drop> Draft<S> {
     }
 
     /// Adds a literal.
-    pub fn literal(&mut self, minus: bool, number: u64) -> Result<(), LogFault>
-        ensures ok { OnOk result (self.new ≡ with_term self.old minus (Lit number)) }
+    pub fn literal(&mut self, literal: Literal) -> Result<(), LogFault>
+        ensures ok { OnOk result (self.new ≡ with_term self.old literal.0 literal.1) }
         ensures err { OnErr result (self.new ≡ self.old) }
     {
+        let (minus, number) = literal.parts();
         self.add_term(minus, AtomParts::Lit(number))
     }
 
@@ -179,6 +196,7 @@ impl<S: BuildHasher + Drop> Draft<S> {
         ensures ok { OnOk result (self.new ≡ with_term self.old minus (Read name)) }
         ensures err { OnErr result (self.new ≡ self.old) }
     {
+        name.has_name();
         self.add_term(minus, AtomParts::Read(name))
     }
 
@@ -187,15 +205,17 @@ impl<S: BuildHasher + Drop> Draft<S> {
         ensures ok { OnOk result (self.new ≡ with_term self.old minus (Local name)) }
         ensures err { OnErr result (self.new ≡ self.old) }
     {
+        name.has_name();
         self.add_term(minus, AtomParts::Local(name))
     }
 }
 
-/// Statements, each after its sums.
+/// Statements, each after its sums. A sum without terms is `Empty`.
 impl<S: BuildHasher + Drop> Draft<S> {
     /// Ends a statement with this name.
     fn end_named(&mut self, action: Action, name: Key) -> Result<(), LogFault>
-        requires { IsNamed action }
+        requires named { IsNamed action }
+        requires sound { IsStmt (made_of self.old action name) }
         ensures ok { OnOk result (self.new ≡ with_stmt self.old (made_of self.old action name)) }
         ensures err { OnErr result (self.new ≡ self.old) }
     {
@@ -209,7 +229,8 @@ impl<S: BuildHasher + Drop> Draft<S> {
 
     /// Ends a statement without a name.
     fn end_nameless(&mut self, action: Action) -> Result<(), LogFault>
-        requires { IsNameless action }
+        requires nameless { IsNameless action }
+        requires sound { IsStmt (made_of self.old action []) }
         ensures ok { OnOk result (self.new ≡ with_stmt self.old (made_of self.old action [])) }
         ensures err { OnErr result (self.new ≡ self.old) }
     {
@@ -222,24 +243,37 @@ impl<S: BuildHasher + Drop> Draft<S> {
     }
 
     /// `let $name = SUM`
-    #[tactic(auto, using(crate::proofs::Statements::bind_made))]
-    pub fn bind(&mut self, name: Key) -> Result<(), LogFault>
+    #[tactic(auto, using(crate::proofs::Statements::bind_made, crate::proofs::Statements::bind_sound))]
+    pub fn bind(&mut self, name: Key) -> Result<(), SumFault>
         requires { self.old.done ≡ [] }
         ensures ok { OnOk result
             (self.new ≡ with_stmt self.old (stmts.Bind name self.old.latest)) }
+        ensures terms { OnOk result (0 < length self.old.latest) }
+        ensures empty { IfErr result (λ e. e ≡ faults.Empty → self.old.latest ≡ []) }
         ensures err { OnErr result (self.new ≡ self.old) }
     {
-        self.end_named(Action::Bind, name)
+        name.has_name();
+        if !self.has_terms() {
+            return Err(SumFault::Empty);
+        }
+        self.end_named(Action::Bind, name)?;
+        Ok(())
     }
 
     /// `need SUM CMP SUM`
-    #[tactic(auto, using(crate::proofs::Statements::need_made))]
-    pub fn need(&mut self, cmp: Cmp) -> Result<(), LogFault>
+    #[tactic(auto, using(crate::proofs::Statements::need_made, crate::proofs::Statements::need_sound))]
+    pub fn need(&mut self, cmp: Cmp) -> Result<(), SumFault>
         requires { length self.old.done ≡ 1 }
         ensures ok { OnOk result (self.new ≡ with_stmt self.old (need_of self.old cmp)) }
+        ensures terms { OnOk result (0 < length self.old.latest) }
+        ensures empty { IfErr result (λ e. e ≡ faults.Empty → self.old.latest ≡ []) }
         ensures err { OnErr result (self.new ≡ self.old) }
     {
-        self.end_nameless(Action::Need(cmp))
+        if !self.has_terms() {
+            return Err(SumFault::Empty);
+        }
+        self.end_nameless(Action::Need(cmp))?;
+        Ok(())
     }
 
     /// `need has KEY`
@@ -248,6 +282,7 @@ impl<S: BuildHasher + Drop> Draft<S> {
         ensures ok { OnOk result (self.new ≡ with_stmt self.old (stmts.Has key)) }
         ensures err { OnErr result (self.new ≡ self.old) }
     {
+        key.has_name();
         self.end_named(Action::Has, key)
     }
 
@@ -257,28 +292,43 @@ impl<S: BuildHasher + Drop> Draft<S> {
         ensures ok { OnOk result (self.new ≡ with_stmt self.old (stmts.Lacks key)) }
         ensures err { OnErr result (self.new ≡ self.old) }
     {
+        key.has_name();
         self.end_named(Action::Lacks, key)
     }
 
     /// `set KEY = SUM`
-    #[tactic(auto, using(crate::proofs::Statements::put_made))]
-    pub fn put(&mut self, key: Key) -> Result<(), LogFault>
+    #[tactic(auto, using(crate::proofs::Statements::put_made, crate::proofs::Statements::put_sound))]
+    pub fn put(&mut self, key: Key) -> Result<(), SumFault>
         requires { self.old.done ≡ [] }
         ensures ok { OnOk result (self.new ≡ with_stmt self.old (put_of self.old key None)) }
+        ensures terms { OnOk result (0 < length self.old.latest) }
+        ensures empty { IfErr result (λ e. e ≡ faults.Empty → self.old.latest ≡ []) }
         ensures err { OnErr result (self.new ≡ self.old) }
     {
-        self.end_named(Action::Put, key)
+        key.has_name();
+        if !self.has_terms() {
+            return Err(SumFault::Empty);
+        }
+        self.end_named(Action::Put, key)?;
+        Ok(())
     }
 
     /// `set KEY = SUM when SUM CMP SUM`
-    #[tactic(auto, using(crate::proofs::Statements::put_when_made))]
-    pub fn put_when(&mut self, key: Key, cmp: Cmp) -> Result<(), LogFault>
+    #[tactic(auto, using(crate::proofs::Statements::put_when_made, crate::proofs::Statements::put_when_sound))]
+    pub fn put_when(&mut self, key: Key, cmp: Cmp) -> Result<(), SumFault>
         requires { length self.old.done ≡ 2 }
         ensures ok { OnOk result
             (self.new ≡ with_stmt self.old (put_of self.old key (Some cmp))) }
+        ensures terms { OnOk result (0 < length self.old.latest) }
+        ensures empty { IfErr result (λ e. e ≡ faults.Empty → self.old.latest ≡ []) }
         ensures err { OnErr result (self.new ≡ self.old) }
     {
-        self.end_named(Action::PutWhen(cmp), key)
+        key.has_name();
+        if !self.has_terms() {
+            return Err(SumFault::Empty);
+        }
+        self.end_named(Action::PutWhen(cmp), key)?;
+        Ok(())
     }
 
     /// `drop KEY`
@@ -287,17 +337,24 @@ impl<S: BuildHasher + Drop> Draft<S> {
         ensures ok { OnOk result (self.new ≡ with_stmt self.old (stmts.Remove key)) }
         ensures err { OnErr result (self.new ≡ self.old) }
     {
+        key.has_name();
         self.end_named(Action::Remove, key)
     }
 
     /// `show SUM`
-    #[tactic(auto, using(crate::proofs::Statements::show_made))]
-    pub fn show(&mut self) -> Result<(), LogFault>
+    #[tactic(auto, using(crate::proofs::Statements::show_made, crate::proofs::Statements::show_sound))]
+    pub fn show(&mut self) -> Result<(), SumFault>
         requires { self.old.done ≡ [] }
         ensures ok { OnOk result (self.new ≡ with_stmt self.old (stmts.Show self.old.latest)) }
+        ensures terms { OnOk result (0 < length self.old.latest) }
+        ensures empty { IfErr result (λ e. e ≡ faults.Empty → self.old.latest ≡ []) }
         ensures err { OnErr result (self.new ≡ self.old) }
     {
-        self.end_nameless(Action::Show)
+        if !self.has_terms() {
+            return Err(SumFault::Empty);
+        }
+        self.end_nameless(Action::Show)?;
+        Ok(())
     }
 
     /// `fail`

@@ -35,3 +35,25 @@ impl<T: Drop> From<AllocFailed<T>> for LogFault {
         LogFault::NoMemory
     }
 }
+
+/// Why a draft took no end of a sum, or no statement behind its sums. It is as it was.
+#[derive(Clone, Copy, Debug, PartialEq, Eq, Error)]
+pub enum SumFault {
+    /// The sum that is read has no terms, so it has no text.
+    #[error("a sum without terms")]
+    Empty,
+    /// No more was taken.
+    #[error("{0}")]
+    Log(LogFault),
+}
+
+impl From<LogFault> for SumFault {
+    ghost use Rattle.std.specs.Prelude.{◌≡◌};
+    ghost use Rattle.bohm_log.specs.declared.fault.SumFault.TheVariants as faults;
+
+    ghost from_gives = { λ fault e. e ≡ faults.Log fault };
+
+    fn from(fault: LogFault) -> SumFault {
+        SumFault::Log(fault)
+    }
+}

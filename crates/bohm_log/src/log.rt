@@ -2,12 +2,14 @@
 
 ghost use Rattle.std.specs.Prelude.{◌≡◌, ◌++◌, [], ◌∷◌, OnOk, OnErr, length};
 ghost use Rattle.bohm_tree.specs.Procedure.{instance};
+ghost use Rattle.bohm_log.specs.SoundLogs.{AreTxns};
 
 use crate::calling::CallBuffer;
 use crate::columns::Columns;
 use crate::draft::Draft;
 use crate::fault::LogFault;
 use crate::part::LogPart;
+use crate::soundness::{are_names, are_values};
 use crate::table::Head;
 use crate::template::Template;
 use bohm_tree::{Key, Value};
@@ -32,7 +34,10 @@ impl<S: BuildHasher> Model for Log<S> {
 
     ghost view = { λ l. map (txn_at (shared_of l.columns)) l.heads.items };
 
-    ghost invariant = { λ l. IsLogged (shared_of l.columns) l.heads.items };
+    ghost use Rattle.bohm_log.specs.SoundLogs.{AreTxns};
+
+    ghost invariant = { λ l. IsLogged (shared_of l.columns) l.heads.items
+        × AreTxns (map (txn_at (shared_of l.columns)) l.heads.items) };
 }
 
 impl<S: BuildHasher> Log<S> {
@@ -78,6 +83,8 @@ impl<S: BuildHasher> Log<S> {
             (self.new ≡ self.old ++ instance template.now keys.now values.now ∷ []) }
         ensures err { OnErr result (self.new ≡ self.old) }
     {
+        are_names(keys);
+        are_values(values);
         let body = &template.body;
         buffer.fill(body, template.values.as_slice(), keys, values)?;
         let head = self.columns.append_parts(
@@ -102,7 +109,8 @@ impl<S: BuildHasher> Log<S> {
 
     /// All of it.
     pub fn part(&self) -> LogPart<'_>
-        ensures { result ≡ self.now }
+        ensures same { result ≡ self.now }
+        ensures sound { AreTxns self.now }
     {
         LogPart {
             table: self.columns.table(),

@@ -1,7 +1,7 @@
 //! Terms and statements of a fixed size, which refer to names by index.
 
 ghost use Rattle.std.specs.Prelude.{◌≡◌};
-ghost use Rattle.bohm_log.specs.Drafting.{opened, first_end, second_end};
+ghost use Rattle.bohm_log.specs.Drafting.{opened, first_end, second_end, latest_from, next_sum};
 
 use bohm_tree::Cmp;
 
@@ -82,6 +82,38 @@ impl Pending {
             first: offset,
             second: offset,
             step: Step::Whole,
+        }
+    }
+
+    /// Where the sum that is read begins.
+    pub fn latest(&self) -> u32
+        ensures { result ≡ latest_from self.now }
+    {
+        match self.step {
+            Step::Whole => self.start,
+            Step::Left => self.first,
+            Step::Right => self.second,
+        }
+    }
+
+    /// The same statement, whose sum that is read ends at this offset, and the next one begins.
+    pub fn next(&self, end: u32) -> Pending
+        ensures { result ≡ next_sum end self.now.start self.now.first self.now.second self.now.step }
+    {
+        match self.step {
+            Step::Whole => Pending {
+                start: self.start,
+                first: end,
+                second: end,
+                step: Step::Left,
+            },
+            Step::Left => Pending {
+                start: self.start,
+                first: self.first,
+                second: end,
+                step: Step::Right,
+            },
+            Step::Right => *self,
         }
     }
 

@@ -14,6 +14,7 @@ use crate::fault::LogFault;
 use crate::names::Names;
 use crate::row::{StmtRow, TermRow};
 use crate::sheet::Sheet;
+use crate::soundness::are_names;
 use bohm_tree::{Edition, Key};
 use std::alloc::Global;
 use std::hash::BuildHasher;
@@ -56,7 +57,10 @@ impl Model for Template {
 
     ghost view = { λ t. procedure_of t.edition t.keys.items t.values.items (parts_in t.body) };
 
-    ghost invariant = { λ t. IsTemplate t.keys.items t.body t.values.items };
+    ghost use Rattle.bohm_log.specs.SoundLogs.{IsSoundProcedure};
+
+    ghost invariant = { λ t. IsTemplate t.keys.items t.body t.values.items × IsSoundProcedure
+        (procedure_of t.edition t.keys.items t.values.items (parts_in t.body)) };
 }
 
 /// The places of names among others, to which they are added where they are new.
@@ -146,6 +150,8 @@ impl Template {
         let names = Vec::from_slice(alloc, others.as_slice())?;
         let reads = declared_names(alloc, reads.as_slice(), keys.as_slice())?;
         let writes = declared_names(alloc, writes.as_slice(), keys.as_slice())?;
+        are_names(keys.as_slice());
+        are_names(values);
         Ok(Template {
             edition,
             keys,

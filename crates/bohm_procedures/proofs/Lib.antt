@@ -1,6 +1,5 @@
 pub mod KeySetLaws
 pub mod SubstitutionLaws
 pub mod InstanceLaw
-pub mod InstanceSound
 pub mod Calling
 pub mod OwnLaw

@@ -9,6 +9,7 @@ mod WordTakes
 mod Takes
 mod Needs
 mod Sounds
+mod Ended
 mod Again
 mod WordLaws
 mod StepTakes

@@ -5,10 +5,18 @@ use Rattle.bohm_tree.specs.Term.{Atom}
 use Rattle.bohm_tree.specs.declared.cmp.Cmp.{Cmp}
 use Rattle.bohm_tree.specs.Stmt.{Cond, Stmt}
 use Rattle.bohm_log.specs.Drafting.{Drafted, with_stmt, with_sum, with_term}
+use Rattle.bohm_log.specs.declared.fault.SumFault.{SumFault}
+use Rattle.bohm_log.specs.declared.fault.SumFault.TheVariants.{Empty, Log}
 use Rattle.bohm_text.specs.declared.fault.ReadFault.{ReadFault}
+use Rattle.bohm_text.specs.declared.fault.ReadFault.TheVariants.{Bad, NoMemory}
 use Rattle.bohm_text.specs.declared.stops.Stop.{Stop}
 use Rattle.bohm_text.specs.Print.{Words}
 use Rattle.bohm_text.specs.Reading.{Fails, Terms, Ending, ending}
+
+-- why a line isn't read whose statement isn't taken: no line has a sum without terms
+abbrev pub read_fault_of : SumFault → ReadFault
+read_fault_of Empty = Bad
+read_fault_of (Log fault) = NoMemory
 
 -- more terms of the sum that is read
 abbrev pub with_terms : Drafted → List (Bool × Atom) → Drafted

@@ -20,7 +20,7 @@ pub fn read_cond(draft: &mut Draft<HashSeed>, words: &mut Words) -> Result<Cmp, 
     let Stop::Compared(cmp) = read_sum(draft, words)? else {
         return Err(ReadFault::Bad);
     };
-    draft.next_sum();
+    draft.next_sum()?;
     read_last_sum(draft, words)?;
     Ok(cmp)
 }

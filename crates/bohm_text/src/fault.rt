@@ -1,6 +1,6 @@
 //! Why a text could not be read.
 
-use bohm_log::LogFault;
+use bohm_log::{LogFault, SumFault};
 use std::alloc::{AllocError, AllocFailed};
 
 /// Why a line could not be read.
@@ -53,6 +53,21 @@ impl From<LogFault> for ReadFault {
 
     fn from(_e: LogFault) -> ReadFault {
         ReadFault::NoMemory
+    }
+}
+
+/// A statement whose sum has no terms is spelled as no line.
+impl From<SumFault> for ReadFault {
+    ghost use Rattle.std.specs.Prelude.{◌≡◌};
+    ghost use Rattle.bohm_text.specs.Taking.{read_fault_of};
+
+    ghost from_gives = { λ fault e. e ≡ read_fault_of fault };
+
+    fn from(fault: SumFault) -> ReadFault {
+        match fault {
+            SumFault::Empty => ReadFault::Bad,
+            SumFault::Log(_) => ReadFault::NoMemory,
+        }
     }
 }
 

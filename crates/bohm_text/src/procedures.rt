@@ -22,7 +22,7 @@ use crate::parsing::split_line;
 use crate::reader::words_after;
 use crate::statements::{read_reads, read_stmt, read_writes};
 use crate::words::Words;
-use bohm_log::{Draft, HashSeed};
+use bohm_log::{Draft, HashSeed, Literal};
 use bohm_tree::{Edition, Key};
 use std::alloc::Global;
 
@@ -87,7 +87,7 @@ fn add_lets(draft: &mut Draft<HashSeed>, values: &[Key]) -> Result<(), ReadFault
     ensures err { IfErr result (λ e. e ≡ NoMemory) }
 {
     for value in values {
-        draft.literal(false, 0)?;
+        draft.literal(Literal::from(0u32))?;
         draft.bind(*value)?;
     }
     Ok(())

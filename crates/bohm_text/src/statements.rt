@@ -60,7 +60,7 @@ fn read_assigned(draft: &mut Draft<HashSeed>, key: Key, words: &mut Words) -> Re
     match read_sum(draft, words)? {
         Stop::End => draft.put(key)?,
         Stop::When => {
-            draft.next_sum();
+            draft.next_sum()?;
             let cmp = read_cond(draft, words)?;
             draft.put_when(key, cmp)?;
         }

@@ -1,26 +1,29 @@
 //! Sums, read term by term into the draft.
 
-ghost use Rattle.std.specs.Prelude.{◌≡◌, [], OnOk, IfErr, MatchOption, Some, None};
-ghost use Rattle.bohm_log.specs.Drafting.{with_term};
+ghost use Rattle.std.specs.Prelude.{◌≡◌, [], MatchOption, Some, None};
+ghost use Rattle.bohm_tree.specs.Shape.{term_of};
 ghost use Rattle.bohm_log.specs.Seeing.{atom_shown};
-ghost use Rattle.bohm_text.specs.declared.fault.ReadFault.TheVariants.{NoMemory};
 ghost use Rattle.bohm_text.specs.Reading.{ending, first_of, further_of, last_sum, sum_from, terms_of};
 ghost use Rattle.bohm_text.specs.Signs.{end_of};
 ghost use Rattle.bohm_text.specs.Taking.{Takes, TakesTerms, with_one, with_terms};
 
 use crate::fault::ReadFault;
 use crate::stops::{Stop, read_stop};
-use crate::terms::read_further;
+use crate::terms::read_atom;
 use crate::words::Words;
-use bohm_log::{AtomParts, Draft, HashSeed, TermParts};
+use bohm_log::{AtomParts, Draft, HashSeed, Literal};
 
-fn add_term(draft: &mut Draft<HashSeed>, term: TermParts) -> Result<(), ReadFault>
-    ensures ok { OnOk result (draft.new ≡ with_term draft.old term.minus (atom_shown term.atom)) }
-    ensures err { IfErr result (λ e. e ≡ NoMemory) }
+/// Adds the term of an atom, unless it is a literal that has no text.
+fn add_term(draft: &mut Draft<HashSeed>, minus: bool, atom: AtomParts) -> Result<(), ReadFault>
+    ensures { Takes result (term_of minus (atom_shown atom)) (with_one draft.old) draft.new }
 {
-    let TermParts { minus, atom } = term;
     match atom {
-        AtomParts::Lit(number) => draft.literal(minus, number)?,
+        AtomParts::Lit(number) => {
+            let Some(literal) = Literal::new(minus, number) else {
+                return Err(ReadFault::Bad);
+            };
+            draft.literal(literal)?;
+        }
         AtomParts::Read(key) => draft.key(minus, key)?,
         AtomParts::Local(name) => draft.local(minus, name)?,
     }
@@ -29,13 +32,14 @@ fn add_term(draft: &mut Draft<HashSeed>, term: TermParts) -> Result<(), ReadFaul
 
 /// Adds the term of a word whose sign was read.
 #[inline(never)]
+#[tactic(auto, unfolding(crate::specs::Reading::further_of))]
 fn take_other(draft: &mut Draft<HashSeed>, minus: bool, word: &[u8]) -> Result<(), ReadFault>
     ensures { Takes result (further_of minus word.now) (with_one draft.old) draft.new }
 {
-    let Some(term) = read_further(minus, word) else {
+    let Some(atom) = read_atom(word) else {
         return Err(ReadFault::Bad);
     };
-    add_term(draft, term)
+    add_term(draft, minus, atom)
 }
 
 /// The same. A declared read that stands where it was found last is compared in place.

@@ -4,7 +4,8 @@ ghost use Rattle.std.specs.Prelude.{OnOk};
 ghost use Rattle.bohm_log.specs.Drafting.{IsBetween};
 
 use bohm_log::{
-    DeclaredKeys, Draft, Log, LogFault, Names, PlacedTxn, StmtParts, StmtView, TxnView,
+    DeclaredKeys, Draft, Literal, Log, LogFault, Names, PlacedTxn, StmtParts, StmtView, SumFault,
+    TxnView,
 };
 use bohm_tree::{Cmp, Edition, Key};
 use std::alloc::Global;
@@ -26,24 +27,26 @@ fn declare(draft: &mut Draft, a: Key, b: Key) -> Result<(), LogFault>
 }
 
 /// `let $x = 7 - a`
-fn add_bind(draft: &mut Draft, a: Key, x: Key) -> Result<(), LogFault>
+fn add_bind(draft: &mut Draft, a: Key, x: Key) -> Result<(), SumFault>
     requires { IsBetween draft.old }
     ensures { OnOk result (IsBetween draft.new) }
 {
-    draft.literal(false, 7)?;
+    draft.literal(Literal::from(7))?;
     draft.key(true, a)?;
     draft.bind(x)
 }
 
 /// `set a = 4294967296 when $x > x`
-fn add_guarded(draft: &mut Draft, a: Key, x: Key) -> Result<(), LogFault>
+fn add_guarded(draft: &mut Draft, a: Key, x: Key) -> Result<(), SumFault>
     requires { IsBetween draft.old }
     ensures { OnOk result (IsBetween draft.new) }
 {
-    draft.literal(false, 4_294_967_296)?;
-    draft.next_sum();
+    if let Some(large) = Literal::new(false, 4_294_967_296) {
+        draft.literal(large)?;
+    }
+    draft.next_sum()?;
     draft.local(false, x)?;
-    draft.next_sum();
+    draft.next_sum()?;
     draft.key(false, x)?;
     draft.put_when(a, Cmp::Gt)
 }
@@ -58,52 +61,56 @@ fn add_tests(draft: &mut Draft, a: Key, b: Key) -> Result<(), LogFault>
 }
 
 /// `need 0 <= 1`
-fn add_need(draft: &mut Draft) -> Result<(), LogFault>
+fn add_need(draft: &mut Draft) -> Result<(), SumFault>
     requires { IsBetween draft.old }
     ensures { OnOk result (IsBetween draft.new) }
 {
-    draft.literal(false, 0)?;
-    draft.next_sum();
-    draft.literal(false, 1)?;
+    draft.literal(Literal::from(0))?;
+    draft.next_sum()?;
+    draft.literal(Literal::from(1))?;
     draft.need(Cmp::Le)
 }
 
 /// `set b = 2`, `drop b`
-fn add_writes(draft: &mut Draft, b: Key) -> Result<(), LogFault>
+fn add_writes(draft: &mut Draft, b: Key) -> Result<(), SumFault>
     requires { IsBetween draft.old }
     ensures { OnOk result (IsBetween draft.new) }
 {
-    draft.literal(false, 2)?;
+    draft.literal(Literal::from(2))?;
     draft.put(b)?;
-    draft.remove(b)
+    draft.remove(b)?;
+    Ok(())
 }
 
 /// `show 3`, `fail`
-fn add_end(draft: &mut Draft) -> Result<(), LogFault>
+fn add_end(draft: &mut Draft) -> Result<(), SumFault>
     requires { IsBetween draft.old }
     ensures { OnOk result (IsBetween draft.new) }
 {
-    draft.literal(false, 3)?;
+    draft.literal(Literal::from(3))?;
     draft.show()?;
-    draft.fail()
+    draft.fail()?;
+    Ok(())
 }
 
 /// A transaction with the statements that have several terms.
-fn close_sums(draft: &mut Draft, log: &mut Log, a: Key, b: Key, x: Key) -> Result<(), LogFault> {
+fn close_sums(draft: &mut Draft, log: &mut Log, a: Key, b: Key, x: Key) -> Result<(), SumFault> {
     declare(draft, a, b)?;
     add_bind(draft, a, x)?;
     add_guarded(draft, a, x)?;
-    log.close(draft)
+    log.close(draft)?;
+    Ok(())
 }
 
 /// A transaction with all other statements.
-fn close_others(draft: &mut Draft, log: &mut Log, a: Key, b: Key) -> Result<(), LogFault> {
+fn close_others(draft: &mut Draft, log: &mut Log, a: Key, b: Key) -> Result<(), SumFault> {
     declare(draft, a, b)?;
     add_tests(draft, a, b)?;
     add_need(draft)?;
     add_writes(draft, b)?;
     add_end(draft)?;
-    log.close(draft)
+    log.close(draft)?;
+    Ok(())
 }
 
 fn new_draft(alloc: Global) -> Draft {
@@ -183,6 +190,27 @@ fn other_statements_are_shown_again(rt: HostRuntime) {
     assert_one(&rt, &log, want.as_slice());
 }
 
+/// A number above 2^63 - 1 is no literal, nor is 0 after a minus.
+#[test]
+fn literals_have_a_text(rt: HostRuntime) {
+    for (minus, number) in [(false, 9_223_372_036_854_775_808), (true, 0)] {
+        assert!(rt; Literal::new(minus, number).is_none());
+    }
+    for (minus, number) in [(true, 9_223_372_036_854_775_807), (false, 0)] {
+        assert!(rt; Literal::new(minus, number).is_some());
+    }
+}
+
+/// A sum without terms ends neither itself nor a statement.
+#[test]
+fn sums_have_terms(rt: HostRuntime) {
+    let mut draft = new_draft(rt.alloc());
+    assert_eq!(rt; draft.show(), Err(SumFault::Empty));
+    assert_eq!(rt; draft.put(name(&rt, "a")), Err(SumFault::Empty));
+    assert_eq!(rt; draft.bind(name(&rt, "x")), Err(SumFault::Empty));
+    assert_eq!(rt; draft.next_sum(), Err(SumFault::Empty));
+}
+
 fn assert_places(rt: &impl Abort, placed: &PlacedTxn<'_>, others: &[Key]) {
     assert_eq!(rt; (placed.reads_len(), placed.writes_len()), (2, 1));
     assert_eq!(rt; placed.others(), others);
@@ -202,7 +230,7 @@ fn a_transaction_has_places(rt: HostRuntime) {
     assert_places(&rt, &part.txn(0).placed(), &[x, a]);
 }
 
-fn close_both(draft: &mut Draft, log: &mut Log, a: Key, b: Key) -> Result<(), LogFault> {
+fn close_both(draft: &mut Draft, log: &mut Log, a: Key, b: Key) -> Result<(), SumFault> {
     close_sums(draft, log, b, a, a)?;
     close_others(draft, log, a, b)
 }

@@ -127,6 +127,14 @@ impl Key {
         }
     }
 
+    /// A law: its bytes are those of a name. It takes no time.
+    #[inline(always)]
+    pub fn has_name(&self)
+        ensures { is_name self.now ≡ true }
+    {
+        let _ = &self.words;
+    }
+
     /// Whether a word, which was packed into these words, is its name. No key is made of it.
     #[inline(always)]
     pub(crate) fn is_packed(&self, word: &[u8], words: &[u64; 4]) -> bool

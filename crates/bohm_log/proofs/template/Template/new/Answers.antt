@@ -6,6 +6,9 @@ use Rattle.bohm_log.specs.Parts.{Parts, Begins}
 use Rattle.bohm_log.specs.Drafting.{parts_of}
 use Rattle.bohm_log.specs.Calling.{IsOwn, declared_name, parts_in, procedure_of}
 use Rattle.bohm_log.specs.Locals.{ArePlacesOf}
+use Rattle.bohm_tree.specs.Procedure.{procedure_with}
+use Rattle.bohm_log.specs.SoundLogs.{AreNames, IsSoundProcedure}
+use Rattle.bohm_log.proofs.InstanceSound.{procedure_sound}
 use Rattle.bohm_log.proofs.Standing.{with_others}
 use Rattle.bohm_log.proofs.Locals.{made, made_well}
 use Rattle.bohm_log.proofs.Arguments.{parts_made, template_made}
@@ -39,7 +42,14 @@ invariant_of-result g c =
     made_well c.into_parts-edition.result.0 p names c.args.draft.txn c.args.values.now places
     c.into_parts-edition.ensures.same c.into_parts-edition.ensures.within grow at apart c.requires.lets c.requires.few_reads
     c.requires.few_writes c.requires.reads c.requires.writes in
-    template_made keys body (with_others p names) places parts own r w
+    let is : procedure_of c.into_parts-edition.result.0 keys places (parts_in body) ≡ procedure_with c.args.draft.txn keys c.args.values.now =
+    ap (procedure_of c.into_parts-edition.result.0 keys places) parts
+    ∙ made c.into_parts-edition.result.0 p names c.args.draft.txn keys c.args.values.now places
+    c.into_parts-edition.ensures.same c.into_parts-edition.ensures.within grow at in
+    let named : AreNames keys = rw c.as_slice-6.ensures.value at c.are_names.ensures in (
+      template_made keys body (with_others p names) places parts own r w,
+      subst IsSoundProcedure (sym is) (procedure_sound c.args.draft.txn keys c.args.values.now c.into_parts-edition.ensures.sound named c.are_names-2.ensures),
+    )
 
 pub returns : goal.returns
 returns g c =

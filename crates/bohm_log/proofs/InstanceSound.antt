@@ -1,6 +1,6 @@
--- Every instance of names and values is a transaction of the tree.
+-- Every instance of names and values is a transaction of the tree, and a procedure of one is sound.
 use Rattle.std.proofs.Common.{◌≡◌, ℕ, zero, suc, ◌≤◌, ◌<◌, ◌+◌, ◌-◌, ◌^◌, Bool, true, false, List, [], ◌∷◌, ◌++◌}
-use Rattle.std.proofs.Common.{length, map, Option, Some, None, refl, sym, ap, ◌∙◌, subst, arith}
+use Rattle.std.proofs.Common.{length, map, drop, Option, Some, None, refl, sym, ap, ◌∙◌, subst, arith}
 use Rattle.std.specs.Prelude.{ℤ, pos, negsuc, ◌&&◌, ◌==◌, not, nat_lt, if◌then◌else◌}
 use Rattle.std.specs.List.{AllByRecursion}
 use Rattle.std.specs.Str.{bytes_eq}
@@ -13,11 +13,12 @@ use Rattle.bohm_tree.specs.Shape.{is_term}
 use Rattle.bohm_tree.specs.Sound.{IsName, IsAtom, IsTerm, IsSum, IsCond, IsGuard, IsStmt, IsNumber, IsTxn}
 use Rattle.bohm_tree.specs.Term.{Atom, Lit, Read, Local}
 use Rattle.bohm_tree.specs.Stmt.{Cond, Stmt, Bind, Need, Has, Lacks, Put, Remove, Show, Fail}
-use Rattle.bohm_txn.proofs.ForCallers.{each_append}
+use Rattle.bohm_log.specs.SoundLogs.{IsSoundProcedure}
+use Rattle.bohm_log.proofs.SoundDrafts.{each_append}
 use Rattle.bohm_tree.specs.Substitution.{atom_with, term_with, sum_with, guard_with, stmt_with}
 use Rattle.bohm_tree.specs.KeySets.{inserted_by, inserted, key_set}
-use Rattle.bohm_tree.specs.Procedure.{Procedure, argument_or, stands_for, is_minus, sum_by, sum_of, lets, instance}
-use Rattle.bohm_text.specs.ProcedureText.{IsProcedure}
+use Rattle.bohm_tree.specs.Procedure.{Procedure, argument_or, stands_for, is_minus, sum_by, sum_of, lets, instance, procedure_with}
+use Rattle.bohm_tree.specs.Txn.{Txn}
 use Rattle.std.specs.Int.RustNames.{unsigned_abs}
 use Rattle.bohm_tree.specs.Keys.{place}
 use Rattle.std.specs.Prelude.{slice_index_or}
@@ -119,7 +120,7 @@ stands_sound ps ks h name e =
       | Some i ↦ argument_sound name ks i e h
     ]
 
-pub instance_sound : (p : Procedure) (ks : List (List ℕ)) (vs : List ℤ) → IsProcedure p → AllByRecursion IsName ks → AllByRecursion IsNumber vs
+pub instance_sound : (p : Procedure) (ks : List (List ℕ)) (vs : List ℤ) → IsSoundProcedure p → AllByRecursion IsName ks → AllByRecursion IsNumber vs
     → IsTxn p.edition (instance p ks vs)
 unfolding KeepsNames
 instance_sound p ks vs sound names numbers =
@@ -132,3 +133,15 @@ instance_sound p ks vs sound names numbers =
       body = each_append IsStmt (lets p.values vs) (map (stmt_with f) p.body) (lets_sound p.values vs sound.values numbers)
           (each_map IsStmt IsStmt (stmt_with f) (stmt_sound f keeps) p.body sound.body);
     }
+
+-- ---- the procedure of an own instance
+
+dropped : {A : Type 0} (P : A → Type 0) (n : ℕ) (xs : List A) → AllByRecursion P xs → AllByRecursion P (drop n xs)
+dropped P zero xs h = h
+dropped P (suc n) [] h = tt
+dropped P (suc n) (x ∷ xs) h = dropped P n xs h.1
+
+pub procedure_sound : (t : Txn) (keys values : List (List ℕ)) → IsTxn t.edition t → AllByRecursion IsName keys → AllByRecursion IsName values
+    → IsSoundProcedure (procedure_with t keys values)
+procedure_sound t keys values h ks vs =
+    record { keys = ks; values = vs; reads = h.reads; writes = h.writes; body = dropped IsStmt (length values) t.body h.body }

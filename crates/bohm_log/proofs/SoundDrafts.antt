@@ -1,0 +1,58 @@
+-- Steps of a draft keep what has a text.
+use Rattle.std.proofs.Common.{◌≡◌, ℕ, ◌+◌, ◌<◌, Bool, List, [], ◌∷◌, ◌++◌, length, get_or, take, refl, ap, sym, ◌∙◌, subst}
+use Rattle.std.proofs.lemmas.List.{take_more}
+use Rattle.std.specs.List.{AllByRecursion}
+use Rattle.bohm_tree.specs.Term.{Atom}
+use Rattle.bohm_tree.specs.Stmt.{Stmt}
+use Rattle.bohm_tree.specs.Txn.{Txn}
+use Rattle.bohm_tree.specs.Sound.{IsName, IsTerm, IsSum, IsStmt, IsTxn}
+use Rattle.bohm_tree.specs.declared.edition.Edition.{Edition}
+use Rattle.bohm_log.specs.Drafting.{Drafted, fresh, with_read, with_write, with_term, with_sum, with_stmt}
+use Rattle.bohm_log.specs.SoundLogs.{IsSoundDraft, AreTxns}
+
+pub each_append : {A : Type 0} (P : A → Type 0) (xs ys : List A) → AllByRecursion P xs → AllByRecursion P ys → AllByRecursion P (xs ++ ys)
+each_append P [] ys h g = g
+each_append P (x ∷ xs) ys h g = (h.0, each_append P xs ys h.1 g)
+
+pub one_more : {A : Type 0} (P : A → Type 0) (xs : List A) (x : A) → AllByRecursion P xs → P x → AllByRecursion P (xs ++ x ∷ [])
+one_more P xs x h g = each_append P xs (x ∷ []) h (g, tt)
+
+-- a loop that has seen the elements before i sees the one at i
+pub taken_more : {A : Type 0} (P : A → Type 0) (xs : List A) (i : ℕ) (x : A) → i < length xs → x ≡ get_or xs i x → AllByRecursion P (take i xs) → P x
+    → AllByRecursion P (take (i + 1) xs)
+taken_more P xs i x inside is h one =
+    subst (AllByRecursion P) (ap (λ y. take i xs ++ y ∷ []) is ∙ sym (take_more xs i x inside)) (one_more P (take i xs) x h one)
+
+pub sound_fresh : (e : Edition) → IsSoundDraft (fresh e)
+sound_fresh e = record { txn = record { same = refl; reads = tt; writes = tt; body = tt }; done = tt; latest = tt }
+
+pub sound_read : (d : Drafted) (k : List ℕ) → IsSoundDraft d → IsName k → IsSoundDraft (with_read d k)
+sound_read d k h name = record {
+  txn = record { same = refl; reads = one_more IsName d.txn.reads k h.txn.reads name; writes = h.txn.writes; body = h.txn.body };
+  done = h.done;
+  latest = h.latest;
+}
+
+pub sound_write : (d : Drafted) (k : List ℕ) → IsSoundDraft d → IsName k → IsSoundDraft (with_write d k)
+sound_write d k h name = record {
+  txn = record { same = refl; reads = h.txn.reads; writes = one_more IsName d.txn.writes k h.txn.writes name; body = h.txn.body };
+  done = h.done;
+  latest = h.latest;
+}
+
+pub sound_term : (d : Drafted) (minus : Bool) (atom : Atom) → IsSoundDraft d → IsTerm (minus, atom) → IsSoundDraft (with_term d minus atom)
+sound_term d minus atom h term = record { txn = h.txn; done = h.done; latest = one_more IsTerm d.latest (minus, atom) h.latest term }
+
+pub sound_sum : (d : Drafted) → IsSoundDraft d → IsSum d.latest → IsSoundDraft (with_sum d)
+sound_sum d h sum = record { txn = h.txn; done = one_more IsSum d.done d.latest h.done sum; latest = tt }
+
+pub sound_stmt : (d : Drafted) (s : Stmt) → IsSoundDraft d → IsStmt s → IsSoundDraft (with_stmt d s)
+sound_stmt d s h stmt = record {
+  txn = record { same = refl; reads = h.txn.reads; writes = h.txn.writes; body = one_more IsStmt d.txn.body s h.txn.body stmt };
+  done = tt;
+  latest = tt;
+}
+
+-- one more transaction
+pub sound_log : (log : List Txn) (t : Txn) → AreTxns log → IsTxn t.edition t → AreTxns (log ++ t ∷ [])
+sound_log log t h one = one_more (λ (x : Txn). IsTxn x.edition x) log t h one

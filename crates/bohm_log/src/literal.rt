@@ -1,0 +1,66 @@
+//! Literals.
+
+ghost use Rattle.std.specs.Prelude.{◌≡◌, false};
+ghost use Rattle.bohm_tree.specs.Shape.{term_of};
+ghost use Rattle.bohm_tree.specs.Sound.{IsTerm};
+ghost use Rattle.bohm_tree.specs.Term.{Lit};
+
+use bohm_tree::GREATEST_LITERAL;
+use std::marker::Model;
+
+/// A number of at most 2^63 - 1, and whether it is taken away, which 0 isn't: each has one text.
+/// Contracts see it as a term.
+#[derive(Debug, Drop)]
+pub struct Literal {
+    minus: bool,
+    number: u64,
+}
+
+impl Model for Literal {
+    ghost use Rattle.std.specs.Prelude.{Bool};
+    ghost use Rattle.bohm_tree.specs.Sound.{IsTerm};
+    ghost use Rattle.bohm_tree.specs.Term.{Atom, Lit};
+
+    ghost Value = { Bool × Atom };
+
+    ghost view = { λ l. (l.minus, Lit l.number) };
+
+    ghost invariant = { λ l. IsTerm (l.minus, Lit l.number) };
+}
+
+impl Literal {
+    /// The literal of this number, if there is one: none above 2^63 - 1, and no 0 after a minus.
+    #[tactic(auto, unfolding(bohm_tree::specs::Shape::term_of))]
+    pub fn new(minus: bool, number: u64) -> Option<Literal>
+        ensures { result ≡ term_of minus (Lit number) }
+    {
+        if number > GREATEST_LITERAL || minus && number == 0 {
+            None
+        } else {
+            Some(Literal { minus, number })
+        }
+    }
+
+    /// Whether it is taken away, and its number.
+    pub(crate) fn parts(self) -> (bool, u64)
+        ensures same { self ≡ (result.0, Lit result.1) }
+        ensures sound { IsTerm (result.0, Lit result.1) }
+    {
+        (self.minus, self.number)
+    }
+}
+
+/// A number of 32 bits, which is added.
+impl From<u32> for Literal {
+    ghost use Rattle.std.specs.Prelude.{◌≡◌, false};
+    ghost use Rattle.bohm_tree.specs.Term.{Lit};
+
+    ghost from_gives = { λ number literal. literal ≡ (false, Lit number) };
+
+    fn from(number: u32) -> Literal {
+        Literal {
+            minus: false,
+            number: u64::from(number),
+        }
+    }
+}

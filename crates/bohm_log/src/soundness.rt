@@ -1,0 +1,41 @@
+//! Laws of slices of keys and values, for callers that keep them. Their loops do nothing.
+
+ghost use Rattle.std.specs.List.{AllByRecursion};
+ghost use Rattle.bohm_tree.specs.Sound.{IsNumber, IsEntry};
+ghost use Rattle.bohm_log.specs.SoundLogs.{AreNames};
+
+use bohm_tree::{Key, Value};
+
+/// Keys are names.
+pub fn are_names(keys: &[Key])
+    ensures { AreNames keys.now }
+{
+    for key in keys {
+        key.has_name();
+    }
+}
+
+/// Values are numbers of 64 bits.
+pub fn are_values(values: &[Value])
+    ensures { AllByRecursion IsNumber values.now }
+{
+    for value in values {
+        let _ = value.get();
+    }
+}
+
+fn is_entry(entry: &(Key, Value))
+    ensures { IsEntry entry.now }
+{
+    entry.0.has_name();
+    let _ = entry.1.get();
+}
+
+/// Entries have both.
+pub fn are_entries(entries: &[(Key, Value)])
+    ensures { AllByRecursion IsEntry entries.now }
+{
+    for entry in entries {
+        is_entry(entry);
+    }
+}
