@@ -10,6 +10,7 @@ mod Apart
 mod Places
 mod Placing
 mod Checking
+mod Noting
 mod Evaluating
 mod Tracking
 mod SureLaws

@@ -1,5 +1,6 @@
 -- What a statement's row does, and which of the transaction's terms it has.
-use Rattle.std.specs.Prelude.{ℕ, Bool, true, false, ◌==◌}
+use Rattle.std.specs.Prelude.{◌≡◌, ℕ, ◌<◌, List, Bool, true, false, ◌==◌, get_or}
+use Rattle.std.specs.List.{list_any}
 use Rattle.bohm_log.specs.declared.row.Action.{Action}
 use Rattle.bohm_log.specs.declared.row.Action.TheVariants.{Bind, Need, Has, Lacks, Put, PutWhen, Remove, Show, Fail}
 use Rattle.bohm_log.specs.declared.row.AtomKind.{AtomKind}
@@ -67,3 +68,7 @@ binds_by Fail name i = false
 -- it binds the name at this place
 abbrev pub binds_at : ℕ → StmtRow → Bool
 binds_at i r = binds_by r.action r.name i
+
+-- of each of the first 64 names, whether one of these statements binds it
+abbrev pub AreNoted : List Bool → List StmtRow → Type 0
+AreNoted noted rows = (i : ℕ) → i < 64 → get_or noted i false ≡ list_any (binds_at i) rows

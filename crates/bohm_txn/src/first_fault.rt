@@ -1,14 +1,17 @@
 //! The first fault of a document.
 
-ghost use Rattle.std.specs.Prelude.{◌≡◌, ◌≤◌, length, map, All};
+ghost use Rattle.std.specs.Prelude.{◌≡◌, ◌≤◌, length, map, All, not, nat_le};
 ghost use Rattle.std.specs.Option.{option_map};
 ghost use Rattle.bohm_tree.specs.Keys.{rising, names_of};
 ghost use Rattle.bohm_log.specs.Parts.{RowIn, stmt_of, txn_of};
 ghost use Rattle.bohm_txn.specs.declared.fault.CheckKind.TheVariants.{Limit};
 ghost use Rattle.bohm_txn.specs.Faulty.{sets_faulty, stmt_faulty};
+ghost use Rattle.bohm_txn.specs.Declares.{shows_in};
+ghost use Rattle.bohm_txn.specs.Rows.{AreNoted};
 ghost use Rattle.bohm_txn.specs.FirstFault.{least, first_in_body, first_in_txn, first_in_log};
 ghost use Rattle.bohm_txn.specs.FirstFault.{first_in_doc, fault_of};
 
+use crate::bound::Bound;
 use crate::fault::{CheckFault, CheckKind};
 use crate::rules::{is_long, is_misnamed, is_unread, is_unwritten};
 use crate::showing::shows;
@@ -34,6 +37,13 @@ pub fn is_store_rising(store: &[(Key, Value)]) -> bool
     store.is_sorted_by(|entry, next| entry.0 < next.0)
 }
 
+/// Whether it shows too many values. With few statements it doesn't: none are counted then.
+fn shows_many(txn: &TxnView<'_>) -> bool
+    ensures { result ≡ not (nat_le (shows_in txn.now.body) 16) }
+{
+    txn.body_len() > MOST_SHOWS && shows(txn) > MOST_SHOWS
+}
+
 /// Whether the transaction has too many statements, keys or shown values.
 pub fn is_large(txn: &TxnView<'_>) -> bool
     ensures { result ≡ sets_faulty txn.now Limit }
@@ -41,14 +51,20 @@ pub fn is_large(txn: &TxnView<'_>) -> bool
     txn.body_len() > MOST_STMTS
         || txn.reads().len() > MOST_KEYS
         || txn.writes().len() > MOST_KEYS
-        || shows(txn) > MOST_SHOWS
+        || shows_many(txn)
 }
 
 /// The least kind of fault of a statement that stands after these others.
-fn stmt_fault(txn: &PlacedTxn<'_>, before: &[StmtRow], row: &StmtRow) -> Option<CheckKind>
+fn stmt_fault(
+    txn: &PlacedTxn<'_>,
+    before: &[StmtRow],
+    noted: &Bound,
+    row: &StmtRow,
+) -> Option<CheckKind>
     requires reads { length txn.now.reads ≤ 16 }
     requires writes { length txn.now.writes ≤ 16 }
     requires before { All (RowIn txn.now) before.now }
+    requires noted { AreNoted noted.now.noted before.now }
     requires row { RowIn txn.now row.now }
     ensures { (e : _)
         → result ≡ least
@@ -59,7 +75,7 @@ fn stmt_fault(txn: &PlacedTxn<'_>, before: &[StmtRow], row: &StmtRow) -> Option<
         Some(CheckKind::Unread)
     } else if is_unwritten(txn, row) {
         Some(CheckKind::Unwritten)
-    } else if is_misnamed(txn, before, row) {
+    } else if is_misnamed(txn, before, noted, row) {
         Some(CheckKind::Local)
     } else if is_long(txn, row) {
         Some(CheckKind::Limit)
@@ -76,10 +92,12 @@ fn first_in_body(txn: &PlacedTxn<'_>) -> Option<(u32, CheckKind)>
     ensures { (e : _) → result ≡ first_in_body (txn_of e txn.now) }
 {
     let rows = txn.rows();
+    let mut bound = Bound::new();
     for (i, row) in rows.iter().enumerate() {
-        if let Some(kind) = stmt_fault(txn, &rows[..i], row) {
+        if let Some(kind) = stmt_fault(txn, &rows[..i], &bound, row) {
             return Some((i as u32 + 1, kind));
         }
+        bound.note(row);
     }
     None
 }

@@ -1,6 +1,7 @@
 //! Transactions: the check of a document, and the meaning of a body.
 #![tactic(auto)]
 
+mod bound;
 mod checked;
 mod environment;
 mod evaluation;
@@ -24,7 +25,7 @@ pub use first_fault::{are_rising, first_in_txn, is_large, is_store_rising};
 pub use incremental::{check_end, check_more, check_store};
 pub use outcome::{Outcome, Reason, Reply};
 pub use replies::{Replies, ReplyView};
-pub use rules::{is_long, is_misnamed};
+pub use rules::is_long;
 pub use scratch::Scratch;
 pub use showing::shows;
 pub use sureness::sure;

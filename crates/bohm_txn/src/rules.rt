@@ -1,14 +1,15 @@
 //! The check's rules for a statement's sums and names.
 
 ghost use Rattle.std.specs.Prelude.{◌≡◌, ◌<◌, ◌≤◌, length, map, All};
-ghost use Rattle.std.specs.List.{flat_map, list_all, list_any};
+ghost use Rattle.std.specs.List.{flat_map, list_all};
 ghost use Rattle.bohm_tree.specs.Parts.{bound, sums};
 ghost use Rattle.bohm_tree.specs.Keys.{some_passes};
 ghost use Rattle.bohm_log.specs.Parts.{RowIn, TermIn, name_at, stmt_of, term_of};
 ghost use Rattle.bohm_txn.specs.Faulty.{is_bound, locals_bound, is_unread, is_unwritten};
 ghost use Rattle.bohm_txn.specs.Faulty.{is_misnamed, is_long};
-ghost use Rattle.bohm_txn.specs.Rows.{end_of, is_declared, tests_key, writes_key, binds_at};
+ghost use Rattle.bohm_txn.specs.Rows.{AreNoted, end_of, is_declared, tests_key, writes_key};
 
+use crate::bound::Bound;
 use bohm_log::{Action, AtomKind, PlacedTxn, StmtRow, TermRow};
 use bohm_tree::MOST_TERMS;
 
@@ -83,54 +84,49 @@ pub fn is_unwritten(txn: &PlacedTxn<'_>, row: &StmtRow) -> bool
     writes_key(row) && !row.declared
 }
 
-/// The names are compared first: most rows have another one.
-fn binds(row: &StmtRow, place: u32) -> bool
-    ensures { result ≡ binds_at place row.now }
-{
-    row.name == place && matches!(row.action, Action::Bind)
-}
-
-fn are_binding(rows: &[StmtRow], place: u32) -> bool
-    ensures { result ≡ list_any (binds_at place) rows.now }
-{
-    rows.iter().any(|row| binds(row, place))
-}
-
 /// Whether one of these statements binds the name at a place. Equal names stand at one place.
 #[tactic(auto, using(crate::proofs::Placing::bound_at))]
-fn is_bound(txn: &PlacedTxn<'_>, before: &[StmtRow], place: u32) -> bool
+fn is_bound(txn: &PlacedTxn<'_>, before: &[StmtRow], noted: &Bound, place: u32) -> bool
     requires inside { place < length txn.now.others }
     requires before { All (RowIn txn.now) before.now }
+    requires noted { AreNoted noted.now.noted before.now }
     ensures { result
         ≡ is_bound (map (stmt_of txn.now) before.now) (name_at txn.now.others place) }
 {
     let _ = txn.others();
-    are_binding(before, place)
+    noted.binds(before, place)
 }
 
 /// Whether a term reads no local, or one that these statements bind.
-fn is_defined(txn: &PlacedTxn<'_>, before: &[StmtRow], term: &TermRow) -> bool
+fn is_defined(txn: &PlacedTxn<'_>, before: &[StmtRow], noted: &Bound, term: &TermRow) -> bool
     requires term { TermIn txn.now term.now }
     requires before { All (RowIn txn.now) before.now }
+    requires noted { AreNoted noted.now.noted before.now }
     ensures { result
         ≡ locals_bound (map (stmt_of txn.now) before.now) (term_of txn.now term.now).1 }
 {
     match term.kind {
-        AtomKind::Local => is_bound(txn, before, term.place),
+        AtomKind::Local => is_bound(txn, before, noted, term.place),
         _ => true,
     }
 }
 
 /// Whether these statements bind each local that the terms read.
-fn are_defined(txn: &PlacedTxn<'_>, before: &[StmtRow], terms: &[TermRow]) -> bool
+fn are_defined(
+    txn: &PlacedTxn<'_>,
+    before: &[StmtRow],
+    noted: &Bound,
+    terms: &[TermRow],
+) -> bool
     requires terms { All (TermIn txn.now) terms.now }
     requires before { All (RowIn txn.now) before.now }
+    requires noted { AreNoted noted.now.noted before.now }
     ensures { result
         ≡ list_all (λ term. locals_bound (map (stmt_of txn.now) before.now) term.1)
         (map (term_of txn.now) terms.now) }
 {
     for term in terms {
-        if !is_defined(txn, before, term) {
+        if !is_defined(txn, before, noted, term) {
             return false;
         }
     }
@@ -138,15 +134,16 @@ fn are_defined(txn: &PlacedTxn<'_>, before: &[StmtRow], terms: &[TermRow]) -> bo
 }
 
 /// Whether the statement binds a name that one of these binds.
-fn rebinds(txn: &PlacedTxn<'_>, before: &[StmtRow], row: &StmtRow) -> bool
+fn rebinds(txn: &PlacedTxn<'_>, before: &[StmtRow], noted: &Bound, row: &StmtRow) -> bool
     requires row { RowIn txn.now row.now }
     requires before { All (RowIn txn.now) before.now }
+    requires noted { AreNoted noted.now.noted before.now }
     ensures { result
         ≡ some_passes (is_bound (map (stmt_of txn.now) before.now))
         (bound (stmt_of txn.now row.now)) }
 {
     match row.action {
-        Action::Bind => is_bound(txn, before, row.name),
+        Action::Bind => is_bound(txn, before, noted, row.name),
         _ => false,
     }
 }
@@ -154,12 +151,18 @@ fn rebinds(txn: &PlacedTxn<'_>, before: &[StmtRow], row: &StmtRow) -> bool
 /// Whether the statement reads a local that none of the statements before it binds, or binds a name
 /// that one of them binds.
 #[tactic(auto, using(crate::proofs::Placing::all_flat))]
-pub fn is_misnamed(txn: &PlacedTxn<'_>, before: &[StmtRow], row: &StmtRow) -> bool
+pub fn is_misnamed(
+    txn: &PlacedTxn<'_>,
+    before: &[StmtRow],
+    noted: &Bound,
+    row: &StmtRow,
+) -> bool
     requires row { RowIn txn.now row.now }
     requires before { All (RowIn txn.now) before.now }
+    requires noted { AreNoted noted.now.noted before.now }
     ensures { result ≡ is_misnamed (map (stmt_of txn.now) before.now) (stmt_of txn.now row.now) }
 {
-    !are_defined(txn, before, terms_of(txn, row)) || rebinds(txn, before, row)
+    !are_defined(txn, before, noted, terms_of(txn, row)) || rebinds(txn, before, noted, row)
 }
 
 /// Whether a sum of the statement has too many terms.

@@ -1,0 +1,63 @@
+//! Which names the statements so far bind.
+
+ghost use Rattle.std.specs.Prelude.{◌≡◌, ◌∷◌, ◌++◌, [], List};
+ghost use Rattle.std.specs.List.{list_any};
+ghost use Rattle.bohm_log.specs.declared.row.StmtRow.{StmtRow};
+ghost use Rattle.bohm_txn.specs.Rows.{AreNoted, binds_at};
+
+use bohm_log::{Action, StmtRow};
+
+/// Of how many names it is noted whether they are bound. Others are sought.
+const NOTED: usize = 64;
+
+/// Whether each of the first names is bound.
+#[derive(Clone, Copy)]
+pub struct Bound {
+    noted: [bool; NOTED],
+}
+
+/// The names are compared first: most rows have another one.
+fn binds(row: &StmtRow, place: u32) -> bool
+    ensures { result ≡ binds_at place row.now }
+{
+    row.name == place && matches!(row.action, Action::Bind)
+}
+
+fn are_binding(rows: &[StmtRow], place: u32) -> bool
+    ensures { result ≡ list_any (binds_at place) rows.now }
+{
+    rows.iter().any(|row| binds(row, place))
+}
+
+impl Bound {
+    /// No statement binds a name yet.
+    pub fn new() -> Bound
+        ensures { AreNoted result.noted [] }
+    {
+        Bound {
+            noted: [false; NOTED],
+        }
+    }
+
+    /// Takes the next statement in.
+    pub fn note(&mut self, row: &StmtRow)
+        ensures { (rows : List StmtRow) → AreNoted self.old.noted rows
+            → AreNoted self.new.noted (rows ++ row.now ∷ []) }
+    {
+        if (row.name as usize) < NOTED && binds(row, row.name) {
+            self.noted[row.name as usize] = true;
+        }
+    }
+
+    /// Whether one of the statements so far binds the name at a place.
+    pub fn binds(&self, before: &[StmtRow], place: u32) -> bool
+        requires { AreNoted self.now.noted before.now }
+        ensures { result ≡ list_any (binds_at place) before.now }
+    {
+        if (place as usize) < NOTED {
+            self.noted[place as usize]
+        } else {
+            are_binding(before, place)
+        }
+    }
+}
