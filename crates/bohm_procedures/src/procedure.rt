@@ -139,8 +139,9 @@ fn accept(
     if log.close(&draft).is_err() {
         return Err(ProcedureFault::NoMemory);
     }
-    let Some(doc) = Doc::new(edition, Vec::new(alloc), log) else {
-        return Err(ProcedureFault::NoMemory);
+    let doc = match Doc::new(edition, Vec::new(alloc), log) {
+        Some(doc) => doc,
+        None => unreachable!(),
     };
     match check(doc) {
         Err(fault) => Err(ProcedureFault::Check(fault)),
