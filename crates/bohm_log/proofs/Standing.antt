@@ -8,7 +8,7 @@ use Rattle.bohm_log.specs.declared.row.Action.TheVariants as actions
 use Rattle.bohm_log.specs.declared.row.StmtRow.{StmtRow}
 use Rattle.bohm_log.specs.Parts.{IsApart, OtherIn, Parts, Begins}
 use Rattle.bohm_log.specs.declared.row.TermRow.{TermRow}
-use Rattle.bohm_log.specs.Drafting.{AddsTerm, NamesGrow, with_row, AddsRow, IsNamed, IsNameless, keys_of, NameStands, KeyStands, Stands}
+use Rattle.bohm_log.specs.Drafting.{AddsTerm, NamesGrow, with_row, AddsRow, IsNamed, IsNameless, keys_of, NameStands, KeyStands, Stands, IsWriting}
 use Rattle.bohm_log.proofs.Growth.{Begins-itself}
 use Rattle.bohm_log.proofs.Drafts.{itself}
 
@@ -106,6 +106,33 @@ other_in keys others i k e apart = record {
 
 pub key_other : (keys others : List (List ℕ)) (i : ℕ) (k : List ℕ) → slice_get others i ≡ Some k → IsApart keys k → KeyStands keys others false i k
 key_other keys others i k e apart = record { within = other_in keys others i k e apart; same = get_or_from_slice_get others i k [] e }
+
+-- a row came that writes the declared key at a place
+pub written_came : (p : Parts) (rows : List StmtRow) (action : Action) (name : List ℕ) (place s a b t : ℕ) → IsWriting action → slice_get p.writes place ≡ Some name
+    → rows ≡ p.rows ++ record { action = action; declared = true; name = place; start = s; first = a; second = b; third = t } ∷ []
+    → AddsRow p (record { reads = p.reads; writes = p.writes; others = p.others; large = p.large; terms = p.terms; rows = rows }) action name s a b t
+written_came p rows action name place s a b t writes at made = record {
+  mid = p;
+  grows = itself p;
+  declared = true;
+  place = place;
+  names = stands action writes;
+  made = λ i. record { reads = p.reads; writes = p.writes; others = p.others; large = p.large; terms = p.terms; rows = made i };
+}
+  where
+    there : KeyStands p.writes p.others true place name
+    there = key_declared p.writes p.others place name at
+
+    stands : (x : Action) → IsWriting x → NameStands p x true place name
+    stands actions.Bind n = absurd n
+    stands (actions.Need c) n = absurd n
+    stands actions.Has n = absurd n
+    stands actions.Lacks n = absurd n
+    stands actions.Put n = record { within = there.within; same = there.same }
+    stands (actions.PutWhen c) n = record { within = there.within; same = there.same }
+    stands actions.Remove n = record { within = there.within; same = there.same }
+    stands actions.Show n = absurd n
+    stands actions.Fail n = absurd n
 
 pub read_stands : (p : Parts) (i : ℕ) (k : List ℕ) (minus : Bool) → slice_get p.reads i ≡ Some k → Stands p (record { kind = Read; minus = minus; place = i }) minus (atoms.Read k)
 read_stands p i k minus e = record {

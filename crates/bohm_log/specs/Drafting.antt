@@ -95,6 +95,18 @@ IsNameless actions.Remove = ⊥
 IsNameless actions.Show = Unit {0}
 IsNameless actions.Fail = Unit {0}
 
+-- the statement writes a key
+abbrev pub IsWriting : Action → Type 0
+IsWriting actions.Bind = ⊥
+IsWriting (actions.Need c) = ⊥
+IsWriting actions.Has = ⊥
+IsWriting actions.Lacks = ⊥
+IsWriting actions.Put = Unit {0}
+IsWriting (actions.PutWhen c) = Unit {0}
+IsWriting actions.Remove = Unit {0}
+IsWriting actions.Show = ⊥
+IsWriting actions.Fail = ⊥
+
 -- the place stands for this name
 pub record NameStands (p : Parts) (action : Action) (declared : Bool) (i : ℕ) (name : List ℕ) : Type 0 where
   pub within : NameIn p action declared i

@@ -48,6 +48,9 @@ fn add_all<T: Copy>(column: &mut Vec<T>, part: &[T]) -> Result<(u32, u32), LogFa
     ensures ok { IfOk result (λ r. Lands column.new.items part.now r.0 r.1) }
 {
     let from = offset(column.len())?;
+    if part.is_empty() {
+        return Ok((from, from));
+    }
     column.extend_from_slice(part)?;
     let to = offset(column.len())?;
     Ok((from, to))

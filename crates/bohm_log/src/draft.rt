@@ -1,7 +1,7 @@
 //! The transaction being read.
 
 ghost use Rattle.std.specs.Prelude.{◌≡◌, ◌<◌, [], true, false, IfOk, OnOk, OnErr, length};
-ghost use Rattle.std.specs.Prelude.{Some, None, ◌||◌, IfErr};
+ghost use Rattle.std.specs.Prelude.{Some, None, ◌||◌, IfErr, IfSome, IsSome, slice_get};
 ghost use Rattle.std.specs.List.{AllByRecursion};
 ghost use Rattle.bohm_tree.specs.Keys.{is_among};
 ghost use Rattle.bohm_tree.specs.Name.{is_name};
@@ -11,7 +11,7 @@ ghost use Rattle.bohm_tree.specs.Stmt as stmts;
 ghost use Rattle.bohm_log.specs.declared.fault.SumFault.TheVariants as faults;
 ghost use Rattle.bohm_log.specs.Drafting.{fresh, with_read, with_write, with_term, with_sum};
 ghost use Rattle.bohm_log.specs.Drafting.{with_stmt, made_of, put_of, need_of, parts_of, IsBare};
-ghost use Rattle.bohm_log.specs.Drafting.{IsBetween, IsNamed, IsNameless};
+ghost use Rattle.bohm_log.specs.Drafting.{IsBetween, IsNamed, IsNameless, IsWriting};
 ghost use Rattle.bohm_log.specs.Parts.{txn_of, IsWithin};
 ghost use Rattle.bohm_log.specs.Seeing.{atom_shown};
 
@@ -182,6 +182,16 @@ impl<S: BuildHasher + Drop> Draft<S> {
         Ok(true)
     }
 
+    /// The place of the declared write that a word names, if it stands where such a one was found
+    /// last: it is compared in place, and no key is made of it.
+    #[inline(always)]
+    pub fn write_place(&self, word: &[u8]) -> Option<u32>
+        ensures place { IfSome result (λ i. slice_get self.now.txn.writes i ≡ Some word.now) }
+        ensures name { IsSome result → is_name word.now ≡ true }
+    {
+        self.sheet.write_place(word)
+    }
+
     /// Adds a literal.
     pub fn literal(&mut self, literal: Literal) -> Result<(), LogFault>
         ensures ok { OnOk result (self.new ≡ with_term self.old literal.0 literal.1) }
@@ -223,6 +233,23 @@ impl<S: BuildHasher + Drop> Draft<S> {
         let (first, second) = self.pending.ends(end);
         self.sheet
             .add_named(action, name, self.pending.start, (first, second, end))?;
+        self.pending = Pending::at(end);
+        Ok(())
+    }
+
+    /// Ends a statement that writes the declared key at a place.
+    fn end_written(&mut self, action: Action, place: u32, name: &[u8]) -> Result<(), LogFault>
+        requires writes { IsWriting action }
+        requires place { slice_get self.old.txn.writes place ≡ Some name.now }
+        requires sound { IsStmt (made_of self.old action name.now) }
+        ensures ok { OnOk result
+            (self.new ≡ with_stmt self.old (made_of self.old action name.now)) }
+        ensures err { OnErr result (self.new ≡ self.old) }
+    {
+        let end = self.sheet.terms.len() as u32;
+        let (first, second) = self.pending.ends(end);
+        self.sheet
+            .add_written(action, place, name, self.pending.start, (first, second, end))?;
         self.pending = Pending::at(end);
         Ok(())
     }
@@ -328,6 +355,48 @@ impl<S: BuildHasher + Drop> Draft<S> {
             return Err(SumFault::Empty);
         }
         self.end_named(Action::PutWhen(cmp), key)?;
+        Ok(())
+    }
+
+    /// `set KEY = SUM`, of the declared write at a place.
+    #[tactic(auto, using(crate::proofs::Statements::put_made, crate::proofs::Statements::put_sound))]
+    pub fn put_at(&mut self, place: u32, key: &[u8]) -> Result<(), SumFault>
+        requires done { self.old.done ≡ [] }
+        requires place { slice_get self.old.txn.writes place ≡ Some key.now }
+        requires name { is_name key.now ≡ true }
+        ensures ok { OnOk result (self.new ≡ with_stmt self.old (put_of self.old key.now None)) }
+        ensures terms { OnOk result (0 < length self.old.latest) }
+        ensures empty { IfErr result (λ e. e ≡ faults.Empty → self.old.latest ≡ []) }
+        ensures err { OnErr result (self.new ≡ self.old) }
+    {
+        if !self.has_terms() {
+            return Err(SumFault::Empty);
+        }
+        self.end_written(Action::Put, place, key)?;
+        Ok(())
+    }
+
+    /// `set KEY = SUM when SUM CMP SUM`, of the declared write at a place.
+    #[tactic(auto, using(crate::proofs::Statements::put_when_made, crate::proofs::Statements::put_when_sound))]
+    pub fn put_when_at(
+        &mut self,
+        place: u32,
+        key: &[u8],
+        cmp: Cmp,
+    ) -> Result<(), SumFault>
+        requires done { length self.old.done ≡ 2 }
+        requires place { slice_get self.old.txn.writes place ≡ Some key.now }
+        requires name { is_name key.now ≡ true }
+        ensures ok { OnOk result
+            (self.new ≡ with_stmt self.old (put_of self.old key.now (Some cmp))) }
+        ensures terms { OnOk result (0 < length self.old.latest) }
+        ensures empty { IfErr result (λ e. e ≡ faults.Empty → self.old.latest ≡ []) }
+        ensures err { OnErr result (self.new ≡ self.old) }
+    {
+        if !self.has_terms() {
+            return Err(SumFault::Empty);
+        }
+        self.end_written(Action::PutWhen(cmp), place, key)?;
         Ok(())
     }
 

@@ -30,6 +30,7 @@ impl Model for Literal {
 
 impl Literal {
     /// The literal of this number, if there is one: none above 2^63 - 1, and no 0 after a minus.
+    #[inline(always)]
     #[tactic(auto, unfolding(bohm_tree::specs::Shape::term_of))]
     pub fn new(minus: bool, number: u64) -> Option<Literal>
         ensures { result ≡ term_of minus (Lit number) }
@@ -42,6 +43,7 @@ impl Literal {
     }
 
     /// Whether it is taken away, and its number.
+    #[inline(always)]
     pub(crate) fn parts(self) -> (bool, u64)
         ensures same { self ≡ (result.0, Lit result.1) }
         ensures sound { IsTerm (result.0, Lit result.1) }

@@ -7,7 +7,7 @@ ghost use Rattle.std.specs.Prelude.{slice_get};
 ghost use Rattle.bohm_tree.specs.Term.{Lit, Read, Local};
 ghost use Rattle.bohm_log.specs.Parts.{Begins};
 ghost use Rattle.bohm_log.specs.Drafting.{parts_of, NamesGrow, Stands, AddsTerm};
-ghost use Rattle.bohm_log.specs.Drafting.{AddsRow, IsNamed, IsNameless, no_parts};
+ghost use Rattle.bohm_log.specs.Drafting.{AddsRow, IsNamed, IsNameless, IsWriting, no_parts};
 ghost use Rattle.bohm_log.specs.Drafting.{with_one_read, with_one_write};
 ghost use Rattle.bohm_log.specs.Seeing.{atom_shown};
 ghost use Rattle.bohm_tree.specs.Name.{is_name};
@@ -95,7 +95,11 @@ impl<S: BuildHasher> Sheet<S> {
         ensures ok { OnOk result (parts_of self.new ≡ with_one_write (parts_of self.old) key) }
         ensures err { OnErr result (parts_of self.new ≡ parts_of self.old) }
     {
+        let place = self.writes.len();
         self.writes.push(key)?;
+        if let Ok(place) = u32::try_from(place) {
+            self.named_places.note(&key, place);
+        }
         Ok(())
     }
 }
@@ -179,6 +183,16 @@ impl<S: BuildHasher + Drop> Sheet<S> {
         self.read_places.place_of_word(self.reads.as_slice(), word)
     }
 
+    /// The same of the declared writes.
+    #[inline(always)]
+    pub fn write_place(&self, word: &[u8]) -> Option<u32>
+        ensures place { IfSome result
+            (λ i. slice_get (parts_of self.now).writes i ≡ Some word.now) }
+        ensures name { IsSome result → is_name word.now ≡ true }
+    {
+        self.named_places.place_of_word(self.writes.as_slice(), word)
+    }
+
     /// Adds the declared read at a place.
     pub fn add_read_at(&mut self, minus: bool, place: u32, name: &[u8]) -> Result<(), LogFault>
         requires { slice_get (parts_of self.old).reads place ≡ Some name.now }
@@ -225,6 +239,34 @@ impl<S: BuildHasher + Drop> Sheet<S> {
             action,
             declared: false,
             name: 0,
+            start,
+            first: ends.0,
+            second: ends.1,
+            third: ends.2,
+        })?;
+        Ok(())
+    }
+
+    /// Adds a statement that writes the declared key at a place, whose sums end at these offsets.
+    pub fn add_written(
+        &mut self,
+        action: Action,
+        place: u32,
+        name: &[u8],
+        start: u32,
+        ends: (u32, u32, u32),
+    ) -> Result<(), LogFault>
+        requires writes { IsWriting action }
+        requires place { slice_get (parts_of self.old).writes place ≡ Some name.now }
+        ensures ok { OnOk result
+            (AddsRow (parts_of self.old) (parts_of self.new) action name.now start
+            ends.0 ends.1 ends.2) }
+        ensures err { OnErr result (NamesGrow (parts_of self.old) (parts_of self.new)) }
+    {
+        self.rows.push(StmtRow {
+            action,
+            declared: true,
+            name: place,
             start,
             first: ends.0,
             second: ends.1,

@@ -1,7 +1,7 @@
 -- The order of names as words.
 use Rattle.std.proofs.Common.{◌≡◌, ℕ, zero, suc, ◌+◌, ◌-◌, ◌*◌, ◌^◌, ◌<◌, ◌≤◌, List, [], ◌∷◌, ◌++◌, length, take, drop, refl, ap, sym, ◌∙◌, subst, arith}
 use Rattle.std.specs.List.{AllByRecursion}
-use Rattle.std.specs.Int.{w64, from_be_bytes}
+use Rattle.std.specs.Int.{w64, from_be_bytes, to_be_bytes}
 use Rattle.std.specs.Ordering.{nat_cmp, ordering_then, is_eq, MatchOrdering}
 use Rattle.std.specs.declared.cmp.Ordering.{Ordering}
 use Rattle.std.specs.declared.cmp.Ordering.TheVariants.{Less, Equal, Greater}
@@ -9,7 +9,7 @@ use Rattle.std.specs.Cmp.{nat_cmp_is, ranks}
 use Rattle.std.specs.Cmp.Lexicographic.{slice_cmp}
 use Rattle.std.specs.Str.{bytes_eq}
 use Rattle.std.proofs.lemmas.List.{take-append-drop, length-take, length-drop, drop_all}
-use Rattle.std.proofs.lemmas.Nat.{mul-add-lt}
+use Rattle.std.proofs.lemmas.Nat.{mul-add-lt, be_bytes_8}
 use Rattle.std.proofs.lemmas.Map.Text.{is_eq-slice_cmp}
 use Rattle.std.proofs.lemmas.Slice.Eq.{bytes_eq-Decides}
 use Rattle.std.proofs.lemmas.Bool.Decides.{same_from_decides}
@@ -17,7 +17,7 @@ use Rattle.std.proofs.Math.Seq.{take-append_seam}
 use Rattle.std.specs.Cmp.{unsigned_Decides}
 use Rattle.std.specs.Prelude.{nat_eq, Bool, false}
 use Rattle.std.proofs.Math.Nat.{mul_comm, pow-succ'}
-use Rattle.std.proofs.Common.{true, Some, replicate}
+use Rattle.std.proofs.Common.{true, Some, replicate, get_or, slice_index_or}
 use Rattle.bohm_tree.specs.Name.{is_name, key_of}
 use Rattle.bohm_tree.specs.KeyInside.{IsWorded, name_of}
 use Rattle.bohm_tree.specs.Shortness.{short}
@@ -248,3 +248,40 @@ other_words k h name same e apart = same_from_decides same (bytes_eq (name_of k)
 
     back : name_of k ≡ name → same ≡ true
     back q = e ∙ (bytes_eq-Decides k.words (words_of name)).1 (h.made ∙ ap words_of (named_by_it k h ∙ q))
+
+-- ---- a short word in one word
+
+word-injective : (xs ys : List ℕ) → length xs ≡ 8 → length ys ≡ 8 → AreBytes xs → AreBytes ys → from_be_bytes w64 xs ≡ from_be_bytes w64 ys → xs ≡ ys
+word-injective xs ys h k f g e =
+    sym (be_bytes_8 xs (from_be_bytes w64 xs) h f refl) ∙ ap (to_be_bytes w64) e ∙ be_bytes_8 ys (from_be_bytes w64 ys) k g refl
+
+-- names have no zeros, so one that is padded as a short word is short
+as_short : (n : ℕ) (xs ys : List ℕ) → AllByRecursion IsFilled xs → length ys ≤ n → padded (suc n) xs ≡ padded (suc n) ys → length xs ≤ n
+as_short n [] ys f h e = omega arith
+as_short n (x ∷ xs) [] f h e = absurd (omega (arith, f.0.some, ap (λ bs. get_or bs 0 0) e))
+as_short zero (x ∷ xs) (y ∷ ys) f h e = absurd (omega (arith, h))
+as_short (suc n) (x ∷ xs) (y ∷ ys) f h e = omega (arith, as_short n xs ys f.1 (omega (arith, h)) (ap (drop 1) e))
+
+-- a name's first word is that of a short word only if all of its words are
+pub short_words : (k : Inside) (h : IsWorded k) (name : List ℕ) → AreBytes name → length name ≤ 7
+    → nat_eq (slice_index_or k.words 0 0) (from_be_bytes w64 (padded 8 name)) ≡ bytes_eq k.words (words_of name)
+short_words k h name f few = same_from_decides
+    (nat_eq (slice_index_or k.words 0 0) (word_in name)) (bytes_eq k.words (words_of name)) (there, back) (bytes_eq-Decides k.words (words_of name))
+  where
+    first : slice_index_or k.words 0 0 ≡ word_in h.name
+    first = ap (λ ws. slice_index_or ws 0 0) (h.made ∙ first_of_words 3 24 h.name)
+
+    its : word_in name ≡ slice_index_or (words_of name) 0 0
+    its = sym (ap (λ ws. slice_index_or ws 0 0) (first_of_words 3 24 name))
+
+    there : nat_eq (slice_index_or k.words 0 0) (word_in name) ≡ true → k.words ≡ words_of name
+    there t =
+        let s = short h.name h.is in
+        let e : word_in h.name ≡ word_in name = sym first ∙ (unsigned_Decides (slice_index_or k.words 0 0) (word_in name)).0 t in
+        let p : padded 8 h.name ≡ padded 8 name = word-injective (padded 8 h.name) (padded 8 name) (padded-length 8 h.name) (padded-length 8 name)
+            (padded-bytes 8 h.name s.filled) (padded_any 8 name f) e in
+        let few_too : length h.name ≤ 7 = as_short 7 h.name name s.filled few p in
+        h.made ∙ sym (one_word h.name (word_in h.name) (omega (arith, few_too)) refl) ∙ ap (λ w. w ∷ 0 ∷ 0 ∷ 0 ∷ []) e ∙ one_word name (word_in name) (omega (arith, few)) refl
+
+    back : k.words ≡ words_of name → nat_eq (slice_index_or k.words 0 0) (word_in name) ≡ true
+    back q = (unsigned_Decides (slice_index_or k.words 0 0) (word_in name)).1 (ap (λ ws. slice_index_or ws 0 0) q ∙ sym its)

@@ -1,11 +1,12 @@
 //! A cache of where names were found.
 
-ghost use Rattle.std.specs.Prelude.{◌≡◌, IfSome, IsSome, Some, true, slice_get};
+ghost use Rattle.std.specs.Prelude.{◌≡◌, ◌≤◌, IfSome, IsSome, Some, true, length, slice_get};
+ghost use Rattle.std.specs.Int.{w64, from_be_bytes};
 ghost use Rattle.bohm_tree.specs.Name.{is_name};
-ghost use Rattle.bohm_tree.specs.Words.{words_of};
+ghost use Rattle.bohm_tree.specs.Words.{padded, words_of};
 
 use crate::key::Key;
-use crate::packing::{glance_at, words_of};
+use crate::packing::{first_word, glance_at, glance_of, words_of};
 
 /// For each glance, an 8-bit hash of a name, the place at which such a name was found last. A place
 /// is compared with the name before it is used: a wrong one costs the search that would be needed
@@ -35,6 +36,7 @@ impl Glances {
 
     /// The same of the name that a word is. The word is compared in place: no key is made of it. A
     /// word that begins with a digit is none.
+    #[inline(always)]
     pub fn place_of_word(&self, names: &[Key], word: &[u8]) -> Option<u32>
         ensures place { IfSome result (λ i. slice_get names.now i ≡ Some word.now) }
         ensures name { IsSome result → is_name word.now ≡ true }
@@ -42,10 +44,10 @@ impl Glances {
         if word.first()?.is_ascii_digit() {
             return None;
         }
-        if word.len() > 8 {
+        if word.len() > 7 {
             return self.place_of_long(names, word);
         }
-        self.place_of_packed(names, word, &words_of(word))
+        self.place_of_short(names, word, first_word(word))
     }
 
     /// The same of a word that doesn't begin with a digit. Few are long: they stand out of the way.
@@ -67,6 +69,23 @@ impl Glances {
         let place = self.places[glance_at(words)];
         let there = names.get(place as usize)?;
         if there.is_packed(word, words) {
+            Some(place as u32)
+        } else {
+            None
+        }
+    }
+
+    /// The same of a word of at most 7 bytes, which was packed into one word.
+    #[inline(always)]
+    fn place_of_short(&self, names: &[Key], word: &[u8], packed: u64) -> Option<u32>
+        requires short { length word.now ≤ 7 }
+        requires packed { packed ≡ from_be_bytes w64 (padded 8 word.now) }
+        ensures place { IfSome result (λ i. slice_get names.now i ≡ Some word.now) }
+        ensures name { IsSome result → is_name word.now ≡ true }
+    {
+        let place = self.places[glance_of(packed)];
+        let there = names.get(place as usize)?;
+        if there.is_short(word, packed) {
             Some(place as u32)
         } else {
             None

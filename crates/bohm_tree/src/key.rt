@@ -9,10 +9,11 @@ ghost use Rattle.std.proofs.Common.{refl};
 ghost use Rattle.std.specs.List.{list_all};
 ghost use Rattle.std.specs.Str.{bytes_eq};
 ghost use Rattle.bohm_tree.specs.Name.{key_of, is_name, is_name_byte};
-ghost use Rattle.bohm_tree.specs.Words.{words_of};
+ghost use Rattle.std.specs.Int.{w64, from_be_bytes};
+ghost use Rattle.bohm_tree.specs.Words.{padded, words_of};
 ghost use Rattle.bohm_tree.specs.Keys.{place};
 
-use crate::packing::{glance_at, size_of, spread, words_of};
+use crate::packing::{glance_at, size_of, spread, words_of, zeros_behind};
 use std::cmp::Ordering;
 use std::hash::{Hash, Hasher};
 use std::marker::Model;
@@ -143,6 +144,18 @@ impl Key {
         ensures name { result ≡ true → is_name word.now ≡ true }
     {
         self.words == *words && word.len() == size_of(&self.words)
+    }
+
+    /// The same of a word of at most 7 bytes, packed into one word. A longer name has no 0 at the end
+    /// of its first word, so the other words aren't compared.
+    #[inline(always)]
+    pub(crate) fn is_short(&self, word: &[u8], packed: u64) -> bool
+        requires short { length word.now ≤ 7 }
+        requires packed { packed ≡ from_be_bytes w64 (padded 8 word.now) }
+        ensures same { result ≡ bytes_eq self.now word.now }
+        ensures name { result ≡ true → is_name word.now ≡ true }
+    {
+        self.words[0] == packed && word.len() == 8 - zeros_behind(packed)
     }
 
     /// A number below 256 that equal keys share.

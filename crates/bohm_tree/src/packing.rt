@@ -8,7 +8,7 @@ ghost use Rattle.bohm_tree.specs.Words.{padded, words_of, spread};
 /// The word of the first 8 bytes, padded with zeros. No buffer is filled with them: most names are
 /// short.
 #[inline(always)]
-fn first_word(bytes: &[u8]) -> u64
+pub(crate) fn first_word(bytes: &[u8]) -> u64
     ensures { result ≡ from_be_bytes w64 (padded 8 bytes.now) }
 {
     match bytes {
@@ -82,7 +82,7 @@ pub(crate) fn spread(words: &[u64; 4]) -> [u8; 32]
 
 /// How many bytes of 0 a word ends with.
 #[inline(always)]
-fn zeros_behind(word: u64) -> usize
+pub(crate) fn zeros_behind(word: u64) -> usize
     ensures { result ≡ trailing_zeros w64 word / 8 }
 {
     (word.trailing_zeros() / 8) as usize
@@ -112,6 +112,13 @@ pub(crate) fn size_of(words: &[u64; 4]) -> usize
 pub(crate) fn glance_at(words: &[u64; 4]) -> usize
     ensures { result < 256 }
 {
-    let word = words[0] ^ words[1] ^ words[2] ^ words[3];
+    glance_of(words[0] ^ words[1] ^ words[2] ^ words[3])
+}
+
+/// The same for a word that is alone.
+#[inline(always)]
+pub(crate) fn glance_of(word: u64) -> usize
+    ensures { result < 256 }
+{
     (word.wrapping_mul(0x9e37_79b9_7f4a_7c15) >> 56) as usize
 }

@@ -1,0 +1,38 @@
+use Rattle.std.proofs.Common.{◌≡◌, Some, slice_get, ap, sym, subst, ◌∙◌, arith}
+use Rattle.std.proofs.lemmas.Result.{err_from_is_err_and}
+use Rattle.bohm_log.specs.Drafting.{Drafted, with_stmt, made_of}
+use Rattle.bohm_log.proofs.Drafts.{names_unseen, names_within}
+use Rattle.bohm_log.proofs.Statements.{stmt_added, stmt_within}
+use Rattle.bohm_log.specs.SoundLogs.{IsSoundDraft}
+use Rattle.bohm_log.proofs.SoundDrafts.{sound_stmt}
+use Rattle.bohm_log.proofs.draft.Draft.end_written.Goals as goal
+
+pub returns-in_err-add_written-clause-err : goal.returns-in_err-add_written-clause-err
+returns-in_err-add_written-clause-err g c =
+    let p = err_from_is_err_and c.from_residual.result c.from_residual.ensures.1 in
+    rw p.1 (names_unseen _ _ _ _ c.in_err-add_written.ensures.err c.self.invariant.0 ∙ c.self.view_is)
+
+pub invariant_of-self : goal.invariant_of-self
+invariant_of-self g c = (
+  names_within _ _ _ c.in_err-add_written.ensures.err c.self.invariant.0,
+  subst IsSoundDraft (sym (names_unseen _ _ _ _ c.in_err-add_written.ensures.err c.self.invariant.0)) c.self.invariant.1,
+)
+
+pub invariant_of-self-2 : goal.invariant_of-self-2
+invariant_of-self-2 g c =
+    let stmt = rw (← c.self.view_is) at c.requires.sound in
+    rw c.at-self-inside.ensures (
+      stmt_within _ _ _ _ _ _ _ _ c.in_ok-add_written.ensures.ok c.ends-first.ensures.first c.ends-first.ensures.second c.self.invariant.0 (omega arith),
+      subst IsSoundDraft
+          (sym (stmt_added _ _ _ _ _ _ _ _ c.in_ok-add_written.ensures.ok c.ends-first.ensures.first c.ends-first.ensures.second c.self.invariant.0 (omega arith) _))
+          (sound_stmt _ _ c.self.invariant.1 stmt),
+    )
+
+pub returns-clause-ok : goal.returns-clause-ok
+returns-clause-ok g c =
+    rw c.at-self-inside.ensures
+    (stmt_added _ _ _ _ _ _ _ _ c.in_ok-add_written.ensures.ok c.ends-first.ensures.first c.ends-first.ensures.second c.self.invariant.0 (omega arith) _
+    ∙ ap (λ (d : Drafted). with_stmt d (made_of d c.args.action c.args.name.now)) c.self.view_is)
+
+pub add_written-requires-clause-place : goal.add_written-requires-clause-place
+add_written-requires-clause-place g c = subst (λ (d : Drafted). slice_get d.txn.writes c.args.place ≡ Some c.args.name.now) (sym c.self.view_is) c.requires.place
