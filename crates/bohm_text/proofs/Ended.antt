@@ -33,6 +33,21 @@ sum_long d now words end e =
           subst (λ (x : Drafted). 0 < length x.latest) same (long d p.0 (sum_sound words p is).0)
     ] refl e
 
+-- what was read stands behind the same keys
+pub sum_behind : (d now : Drafted) (words : Words) (end : Ending) → taken d (sum_from words) ≡ Some (now, end) → d.txn.writes ≡ now.txn.writes
+sum_behind d now words end e = go (sum_from words) e
+  where
+    go : (read : Option Terms) → taken d read ≡ Some (now, end) → d.txn.writes ≡ now.txn.writes
+    go None h = absurd cc
+    go (Some p) h = ap (λ (x : Drafted × Ending). x.0.txn.writes) (same_Some (with_terms d p.0, p.1) (now, end) h)
+
+pub cond_behind : (d now : Drafted) (words : Words) (cmp : Cmp) → compared d (cond_of words) ≡ Some (now, cmp) → d.txn.writes ≡ now.txn.writes
+cond_behind d now words cmp e = go (cond_of words) e
+  where
+    go : (read : Option Cond) → compared d read ≡ Some (now, cmp) → d.txn.writes ≡ now.txn.writes
+    go None h = absurd cc
+    go (Some c) h = ap (λ (x : Drafted × Cmp). x.0.txn.writes) (same_Some (with_cond d c, c.cmp) (now, cmp) h)
+
 module _ (d now : Drafted) (words : Words) where
   pub last_long : option_map (with_terms d) (last_sum words) ≡ Some now → 0 < length now.latest
   last_long e =

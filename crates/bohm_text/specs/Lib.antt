@@ -4,6 +4,7 @@ pub mod Reading
 pub mod Signs
 pub mod WordsInside
 pub mod Taking
+pub mod Targets
 pub mod Step
 pub mod Front
 pub mod Faults

@@ -14,6 +14,7 @@ mod separators;
 mod statements;
 mod stops;
 mod sums;
+mod targets;
 mod terms;
 mod windows;
 mod words;

@@ -9,12 +9,14 @@ ghost use Rattle.bohm_text.specs.Reading.{Gives, keys_of, local_of, after, last_
 ghost use Rattle.bohm_text.specs.Reading.{assigned_of, bind_of, put_of, presence_of, need_of};
 ghost use Rattle.bohm_text.specs.Reading.{cond_of, remove_of, fail_of, stmt_of, entry_of};
 ghost use Rattle.bohm_text.specs.Taking.{Takes, TakesStmt, with_reads, with_terms, with_writes};
+ghost use Rattle.bohm_text.specs.Targets.{StandsIn, name_in};
 
 use crate::conditions::read_cond;
 use crate::fault::ReadFault;
 use crate::numbers::read_number;
 use crate::stops::Stop;
 use crate::sums::{read_last_sum, read_sum};
+use crate::targets::{Target, read_target};
 use crate::words::Words;
 use bohm_log::{Draft, HashSeed};
 use bohm_tree::{Key, Value};
@@ -53,16 +55,21 @@ fn read_bind(draft: &mut Draft<HashSeed>, words: &mut Words) -> Result<(), ReadF
 }
 
 /// What a key is set to, and when.
-fn read_assigned(draft: &mut Draft<HashSeed>, key: Key, words: &mut Words) -> Result<(), ReadFault>
-    requires { IsBetween draft.old }
-    ensures { TakesStmt result (assigned_of key words.old) draft.old draft.new }
+fn read_assigned(
+    draft: &mut Draft<HashSeed>,
+    target: &Target<'_>,
+    words: &mut Words,
+) -> Result<(), ReadFault>
+    requires between { IsBetween draft.old }
+    requires stands { StandsIn target.now draft.old.txn.writes }
+    ensures { TakesStmt result (assigned_of (name_in target.now) words.old) draft.old draft.new }
 {
     match read_sum(draft, words)? {
-        Stop::End => draft.put(key)?,
+        Stop::End => target.put(draft)?,
         Stop::When => {
             draft.next_sum()?;
             let cmp = read_cond(draft, words)?;
-            draft.put_when(key, cmp)?;
+            target.put_when(draft, cmp)?;
         }
         Stop::Compared(_) => return Err(ReadFault::Bad),
     }
@@ -77,9 +84,11 @@ fn read_put(draft: &mut Draft<HashSeed>, words: &mut Words) -> Result<(), ReadFa
     let Some(word) = words.next() else {
         return Err(ReadFault::Bad);
     };
-    let key = Key::new(word).ok_or(ReadFault::Bad)?;
+    let Some(target) = read_target(draft, word) else {
+        return Err(ReadFault::Bad);
+    };
     match words.next() {
-        Some(word) if word == b"=".as_slice() => read_assigned(draft, key, words),
+        Some(word) if word == b"=".as_slice() => read_assigned(draft, &target, words),
         _ => Err(ReadFault::Bad),
     }
 }
