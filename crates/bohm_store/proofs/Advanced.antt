@@ -1,5 +1,6 @@
 -- One transaction more: the numbers of its keys, what they hold, and the versions that it adds.
-use Rattle.std.proofs.Common.{◌≡◌, ◌∙◌, ℕ, ◌+◌, ◌<◌, List, [], ◌∷◌, ◌++◌, All, length, map, take, get_or, Some, refl, sym, ap, subst, arith, append-nil, length-append}
+use Rattle.std.proofs.Common.{◌≡◌, ◌∙◌, ℕ, ◌+◌, ◌<◌, List, [], ◌∷◌, ◌++◌, All, length, map, take, get_or, Some, refl, sym, ap, subst, arith}
+use Rattle.std.proofs.Common.{append-nil, length-append}
 use Rattle.std.specs.List.{IsDistinct, slice_get}
 use Rattle.std.specs.Str.{bytes_eq}
 use Rattle.std.proofs.lemmas.List.{get_or_append_left, map-append, take_more}
@@ -37,8 +38,8 @@ numbers_longer names names' ns keys (more, e) h =
     }
 
 -- one key more
-pub numbers_more : (names : List (List ℕ)) (ns : List ℕ) (keys : List (List ℕ)) (i n : ℕ) (k : List ℕ) → slice_get keys i ≡ Some k → n < length names
-    → name_at names n ≡ k → AreNumbersOf names ns (take i keys) → AreNumbersOf names (ns ++ n ∷ []) (take (i + 1) keys)
+pub numbers_more : (names : List (List ℕ)) (ns : List ℕ) (keys : List (List ℕ)) (i n : ℕ) (k : List ℕ) → slice_get keys i ≡ Some k
+    → n < length names → name_at names n ≡ k → AreNumbersOf names ns (take i keys) → AreNumbersOf names (ns ++ n ∷ []) (take (i + 1) keys)
 numbers_more names ns keys i n k here inside is h =
     let more : take (i + 1) keys ≡ take i keys ++ get_or keys i k ∷ [] = take_more keys i k (slice_get_within keys i k here) in
     let at : get_or keys i k ≡ k = get_or_from_slice_get keys i k k here in

@@ -105,7 +105,9 @@ returns-in-Ready-clause-runs g c =
     let known : AreReady c.args.chunk.count c.args.chunk.log = subst (IsPrepared c.args.chunk.count c.args.chunk.log) c.in-Ready.is c.requires.prepared in
     let few : c.args.state.now.count ≤ 1000000 = omega (arith, known.few, c.requires.next) in
     let was = c.args.state.now in
-    let part = subst (λ (log : List Txn). IsPartRun was.progress.history c.run.new.history log was.executor.keep (was.progress.history.top + 1) was.text.items c.run.new.text.items) c.part-in-Ready.ensures c.in_ok-run-in-Ready.ensures in
+    let part =
+    subst (λ (log : List Txn). IsPartRun was.progress.history c.run.new.history log was.executor.keep (was.progress.history.top + 1)
+    was.text.items c.run.new.text.items) c.part-in-Ready.ensures c.in_ok-run-in-Ready.ensures in
     chunk_ran c.args.chunk.log was _ refl refl count none none (omega (arith, known.few, c.requires.next))
     (subst (λ (n : ℕ). IsFaultBehind n c.args.chunk.log None) c.requires.next known.checked) (c.requires.level none few) part
 

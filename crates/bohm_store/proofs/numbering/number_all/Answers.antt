@@ -1,5 +1,4 @@
-use Rattle.std.proofs.Common.{take, sym}
-use Rattle.bohm_store.specs.Writes.{AreNumbersOf}
+use Rattle.std.proofs.Common.{take}
 use Rattle.bohm_store.proofs.Advanced.{no_numbers, numbers_longer, numbers_more}
 use Rattle.bohm_store.proofs.Names.{placed_at}
 use Rattle.bohm_store.proofs.NumberedWrites.{begins_self, begins_twice}

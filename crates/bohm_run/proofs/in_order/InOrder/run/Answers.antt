@@ -37,7 +37,8 @@ pub returns : goal.returns
 returns c =
     let at = c.loop-index in
     let was = c.args.history.now in
-    let whole : take at.index c.args.txns.now ≡ c.args.txns.now = take_all at.index c.args.txns.now (omega (arith, c.loop-index-test.false, c.len-index-end.ensures)) in
+    let whole : take at.index c.args.txns.now ≡ c.args.txns.now =
+    take_all at.index c.args.txns.now (omega (arith, c.loop-index-test.false, c.len-index-end.ensures)) in
     record {
       answered = at.replies;
       applied = rw whole at at.invariant;

@@ -1,9 +1,6 @@
-use Rattle.std.proofs.Common.{◌≡◌, ◌+◌, ◌∷◌, [], ℕ, length, arith, subst}
-use Rattle.bohm_txn.specs.Meaning.{Look}
-use Rattle.bohm_store.specs.Nexts.{IsSame, IsSettledKept}
+use Rattle.std.proofs.Common.{◌≡◌, ◌+◌, ◌∷◌, [], ℕ, arith, subst}
+use Rattle.bohm_store.specs.Nexts.{IsSettledKept}
 use Rattle.bohm_store.specs.Numbered.{timeline, versions_at}
-use Rattle.bohm_store.specs.Versions.{past}
-use Rattle.bohm_store.specs.Writes.{AreTxnWrites}
 use Rattle.bohm_store.proofs.Entries.{keys_named}
 use Rattle.bohm_store.proofs.Same.{covered_same, kept_same, txn_same}
 use Rattle.bohm_store.proofs.history.History.add_versions.Goals as goal

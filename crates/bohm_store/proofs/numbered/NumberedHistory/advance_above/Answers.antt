@@ -1,4 +1,4 @@
-use Rattle.std.proofs.Common.{◌≡◌, ◌+◌, ◌∷◌, [], length, arith}
+use Rattle.std.proofs.Common.{◌≡◌, ◌+◌, ◌∷◌, [], arith}
 use Rattle.bohm_store.specs.Numbered.{timeline}
 use Rattle.bohm_store.proofs.Kept.{trim_settled}
 use Rattle.bohm_store.proofs.numbered.NumberedHistory.advance_above.Goals as goal
