@@ -1,6 +1,7 @@
 mod Sending
 mod Refusals
 mod Going
+mod Ordered
 mod Walks
 mod Replying
 mod Swept

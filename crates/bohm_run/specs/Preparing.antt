@@ -7,10 +7,10 @@ use Rattle.bohm_txn.specs.declared.fault.CheckFault.{CheckFault}
 use Rattle.bohm_txn.specs.Chunked.{IsCheckedTo, IsCountOf}
 use Rattle.bohm_txn.specs.Faulty.{IsWellFormedTxn}
 use Rattle.bohm_text.specs.Windows.{with_log}
-use Rattle.bohm_place.specs.Plans.{Planned}
+use Rattle.bohm_place.specs.Plans as plans_are
 use Rattle.bohm_line.specs.Cuttings.{ArePlans}
 use Rattle.bohm_run.specs.declared.checked_chunk.Prepared.{Prepared}
-use Rattle.bohm_run.specs.declared.checked_chunk.Prepared.TheVariants.{Faulty, TooMany, Ready}
+use Rattle.bohm_run.specs.declared.checked_chunk.Prepared.TheVariants.{Faulty, TooMany, Ready, Planned}
 
 -- how many transactions there are with these more, exact up to the most that a log may have
 abbrev pub count_with : ℕ → ℕ → ℕ
@@ -20,11 +20,15 @@ count_with count more = min (count + more) 1000001
 abbrev pub IsFaultBehind : ℕ → List Txn → Option CheckFault → Type 0
 IsFaultBehind count txns found = (d : Document) → IsCountOf (length d.log) count → IsCheckedTo d None → IsCheckedTo (with_log d txns) found
 
--- behind so many transactions without a fault these have none, and the plans are those of their batches
-pub record AreReady (count : ℕ) (txns : List Txn) (sizes : List ℕ) (plans : List Planned) : Type 0 where
+-- behind so many transactions without a fault these have none
+pub record AreReady (count : ℕ) (txns : List Txn) : Type 0 where
   pub few : count + length txns ≤ 1000000
   pub checked : IsFaultBehind count txns None
   pub formed : All IsWellFormedTxn txns
+
+-- and the plans are those of their batches
+pub record ArePlanned (count : ℕ) (txns : List Txn) (sizes : List ℕ) (plans : List plans_are.Planned) : Type 0 where
+  pub ready : AreReady count txns
   pub total : sum sizes ≡ length txns
   pub planned : ArePlans (record { first = count + 1; log = txns; sizes = sizes }) plans
 
@@ -32,4 +36,5 @@ pub record AreReady (count : ℕ) (txns : List Txn) (sizes : List ℕ) (plans : 
 abbrev pub IsPrepared : ℕ → List Txn → Prepared → Type 0
 IsPrepared count txns (Faulty fault) = IsFaultBehind count txns (Some fault)
 IsPrepared count txns TooMany = 1000000 < count + length txns
-IsPrepared count txns (Ready cuts plans) = AreReady count txns cuts plans.items
+IsPrepared count txns Ready = AreReady count txns
+IsPrepared count txns (Planned cuts plans) = ArePlanned count txns cuts plans.items

@@ -1,7 +1,10 @@
 -- What batches and their transactions answer.
 use Rattle.std.specs.Prelude.{◌≡◌, ℕ, ℤ, List, [], ◌∷◌, ◌++◌, Some}
 use Rattle.bohm_tree.specs.Txn.{Txn}
+use Rattle.bohm_txn.specs.declared.outcome.Outcome.{Outcome}
+use Rattle.bohm_txn.specs.declared.outcome.Outcome.TheVariants.{Commit, Abort}
 use Rattle.bohm_txn.specs.declared.outcome.Reply.{Reply}
+use Rattle.bohm_txn.specs.declared.outcome.Reply.TheVariants as replies_are
 use Rattle.bohm_txn.specs.Meaning.{body}
 use Rattle.bohm_txn.specs.Serial.{replies, reply_of, shows_of}
 use Rattle.bohm_board.specs.declared.batch.Batch.{Batch}
@@ -10,6 +13,11 @@ use Rattle.bohm_exec.specs.declared.finished.Finished.{Finished}
 use Rattle.bohm_exec.specs.Answers.{batch_of_finished}
 use Rattle.bohm_exec.specs.Moments.{state_before}
 use Rattle.bohm_store.specs.Versions.{Timeline, past}
+
+-- the reply to a transaction that ended so, and shows these values where it commits
+abbrev pub reply_with : Outcome → List ℤ → Reply
+reply_with Commit shows = replies_are.Commit shows
+reply_with (Abort reason stmt) shows = replies_are.Abort reason stmt
 
 -- what a finished batch answers over its base
 abbrev pub replies_of : Finished → List Reply

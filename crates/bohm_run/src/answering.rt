@@ -96,9 +96,10 @@ fn answer(alloc: Global, state: RunState, ts: u32) -> Result<Vec<u8>, NoMemory>
 /// an interrupted call too.
 ///
 /// The log is read in windows, and runs as it is read: while `exec` workers execute the transactions
-/// of some windows, the next ones are read, checked and planned, `cc` of them side by side. Windows
-/// share out the planning, so the partitions of the keys aren't used. A log of one window is read and
-/// run on the caller's thread where one worker executes.
+/// of some windows, the next ones are read and checked, `cc` of them side by side. One executing
+/// worker runs the transactions in log order, without plans and batches; for several the next windows
+/// are planned too, and share out the planning, so the partitions of the keys aren't used. A log of
+/// one window is read and run on the caller's thread where one worker executes.
 ///
 /// The time grows with the text and its answer, with the terms of the transactions and the keys that
 /// they declare, and with the number of the store's keys k as k log k. Reading, checking and planning

@@ -19,8 +19,10 @@ pub(crate) enum Prepared {
     Faulty(CheckFault),
     /// With them there are more than a log may have.
     TooMany,
+    /// They have no fault, and run in log order.
+    Ready,
     /// They have no fault, and these are their batches' sizes and plans.
-    Ready { cuts: Cuts, plans: Vec<Plan> },
+    Planned { cuts: Cuts, plans: Vec<Plan> },
 }
 
 /// A chunk, how many transactions stand before it, and what is known of it.
@@ -40,7 +42,8 @@ pub(crate) fn counted(count: usize, more: usize) -> usize
     count.saturating_add(more).min(MOST_TXNS + 1)
 }
 
-/// Checks and plans transactions that stand behind so many others.
+/// Checks transactions that stand behind so many others, and plans them where several workers are to
+/// execute them.
 fn prepare(
     alloc: Global,
     part: &LogPart<'_>,
@@ -55,15 +58,18 @@ fn prepare(
     if counted(count, part.len()) > MOST_TXNS {
         return Ok(Prepared::TooMany);
     }
+    if settings.exec() == 1 {
+        return Ok(Prepared::Ready);
+    }
     let cuts = Cuts::even(alloc, part.len() as u32, settings.batch())?;
     let plans = plan_batches(alloc, CutLog::new(count as u32 + 1, part, &cuts))?;
-    Ok(Prepared::Ready { cuts, plans })
+    Ok(Prepared::Planned { cuts, plans })
 }
 
 impl CheckedChunk {
-    /// Checks and plans a chunk that stands behind so many transactions, in batches of the size
-    /// that the settings give. The time and memory grow with the number of the chunk's keys, terms
-    /// and statements.
+    /// Checks a chunk that stands behind so many transactions, and plans it in batches of the size
+    /// that the settings give where they have several executing workers. The time and memory grow
+    /// with the number of the chunk's keys, terms and statements.
     pub(crate) fn new(
         alloc: Global,
         chunk: Chunk,

@@ -13,6 +13,7 @@ ghost use Rattle.bohm_run.specs.Chunks.{AreNext, IsLevel, IsPartRun, IsStarted, 
 
 use crate::checked_chunk::{CheckedChunk, Prepared, counted};
 use crate::executing::{Executor, Progress};
+use crate::in_order::InOrder;
 use crate::settings::Settings;
 use crate::workers::Crew;
 use bohm_exec::OpenGate;
@@ -34,6 +35,7 @@ pub(crate) struct RunState {
     /// The text of the replies so far.
     pub(crate) text: Vec<u8>,
     pub(crate) executor: Executor,
+    pub(crate) in_order: InOrder,
     /// How many transactions came, exact up to the most that a log may have.
     pub(crate) count: usize,
     /// The fault of the starting store.
@@ -82,6 +84,7 @@ impl RunState {
                 seats: Seats::new(alloc),
                 keep: settings.keep(),
             },
+            in_order: InOrder::new(alloc)?,
             count: 0,
             in_store,
             fault: in_store,
@@ -150,7 +153,17 @@ fn run_chunk<T: Threads + Sync>(
             Ok(())
         }
         Prepared::TooMany => Ok(()),
-        Prepared::Ready { cuts, plans } => {
+        Prepared::Ready => {
+            state.in_order.run(
+                alloc,
+                &mut state.progress.history,
+                &mut state.text,
+                &log.part(),
+                state.executor.keep,
+            )?;
+            Ok(())
+        }
+        Prepared::Planned { cuts, plans } => {
             run_clean(
                 rt,
                 alloc,

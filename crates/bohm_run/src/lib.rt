@@ -13,6 +13,7 @@ mod chunks;
 mod executing;
 mod fault;
 mod fault_line;
+mod in_order;
 pub mod laws;
 mod log_reader;
 mod replies;

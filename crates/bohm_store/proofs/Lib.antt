@@ -21,4 +21,5 @@ mod Opened
 mod Entries
 mod Counted
 mod Same
+mod Advanced
 pub mod ForCallers

@@ -1,5 +1,6 @@
 -- The list of the writes of transactions that run one after another, by keys and by the numbers of keys.
 use Rattle.std.specs.Prelude.{◌≡◌, ℕ, ◌+◌, ◌<◌, ◌≤◌, ◌==◌, All, List, [], ◌∷◌, ◌++◌, length, map, Some, if◌then◌else◌}
+use Rattle.bohm_tree.specs.declared.cell.Cell.{Cell}
 use Rattle.bohm_tree.specs.Txn.{Txn}
 use Rattle.bohm_txn.specs.Meaning.{Look}
 use Rattle.bohm_txn.specs.Serial.{after}
@@ -43,6 +44,22 @@ ClimbTo n top (w ∷ ws) = (n ≤ w.version.begin) × ClimbTo w.version.begin to
 -- the number of each is that of one of these many keys
 abbrev pub AreBelow : ℕ → List NumberedWrite → Type 0
 AreBelow count ws = All (λ w. w.number < count) ws
+
+-- by these names the keys have these numbers
+pub record AreNumbersOf (names : List (List ℕ)) (numbers : List ℕ) (keys : List (List ℕ)) : Type 0 where
+  pub below : All (λ n. n < length names) numbers
+  pub named : map (name_at names) numbers ≡ keys
+
+-- a version of each number that begins at u, with its cell
+abbrev pub writes_by : ℕ → List ℕ → List Cell → List NumberedWrite
+writes_by u [] cells = []
+writes_by u (n ∷ ns) [] = []
+writes_by u (n ∷ ns) (c ∷ cs) = record { number = n; version = record { begin = u; cell = c } } ∷ writes_by u ns cs
+
+-- by these names they are the writes of the transaction at u, which sees this look
+pub record AreTxnWrites (names : List (List ℕ)) (u : ℕ) (look : Look) (t : Txn) (ws : List NumberedWrite) : Type 0 where
+  pub below : AreBelow (length names) ws
+  pub listed : map (named_write names) ws ≡ txn_writes u (after look t) t.writes
 
 -- by these names they are the writes of the batch, in log order
 pub record AreWritesOf (names : List (List ℕ)) (b : Batch) (ws : List NumberedWrite) : Type 0 where

@@ -1,13 +1,14 @@
 //! What keys hold at the top, and held before.
 
-ghost use Rattle.std.specs.Prelude.{◌≡◌, map, IfOk};
-ghost use Rattle.bohm_store.specs.Versions.{IsCellAt, past, versions};
-ghost use Rattle.bohm_store.specs.Numbered.{timeline};
+ghost use Rattle.std.specs.Prelude.{◌≡◌, map, IfOk, OnOk};
+ghost use Rattle.bohm_tree.specs.declared.cell.Cell.TheVariants.{Absent};
+ghost use Rattle.bohm_store.specs.Versions.{IsCellAt, cell_at, past, versions};
+ghost use Rattle.bohm_store.specs.Numbered.{timeline, versions_at};
 
 use crate::numbered::NumberedHistory;
 use crate::numbering::is_numbered;
 use crate::seats::Hints;
-use bohm_log::{HashSeed, Names};
+use bohm_log::{HashSeed, Keys, Names};
 use bohm_place::NumberedKey;
 use bohm_tree::{Cell, Key, NoMemory};
 use std::alloc::Global;
@@ -69,4 +70,38 @@ pub fn base_of(
         base.push((key, cell))?;
     }
     Ok(base)
+}
+
+/// What keys hold at the top, in place of what stood in the list.
+pub fn cells_by(
+    names: &Names<HashSeed>,
+    numbered: &NumberedHistory,
+    hints: &mut Hints,
+    keys: &Keys<'_>,
+    cells: &mut Vec<Cell>,
+) -> Result<(), NoMemory>
+    ensures { OnOk result (cells.new.items
+        ≡ map (past (timeline names.now numbered.now) numbered.now.top) keys.now) }
+{
+    cells.clear();
+    for i in 0..keys.len() {
+        cells.push(cell_by(names, numbered, hints, keys.number(i), keys.key(i)))?;
+    }
+    Ok(())
+}
+
+/// What the keys with these numbers hold at the top, in place of what stood in the list.
+pub fn cells_numbered(
+    numbered: &NumberedHistory,
+    numbers: &[u32],
+    cells: &mut Vec<Cell>,
+) -> Result<(), NoMemory>
+    ensures { OnOk result (cells.new.items
+        ≡ map (λ n. cell_at numbered.now.top (versions_at numbered.now n) Absent) numbers.now) }
+{
+    cells.clear();
+    for number in numbers {
+        cells.push(numbered.cell(*number))?;
+    }
+    Ok(())
 }

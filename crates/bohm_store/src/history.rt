@@ -9,6 +9,7 @@ ghost use Rattle.bohm_txn.specs.Stores.{cell_in, store_of};
 ghost use Rattle.bohm_store.specs.Versions.{past, total, versions};
 ghost use Rattle.bohm_store.specs.Chains.{starting_versions};
 
+mod advance;
 mod next_batch;
 mod reads;
 mod settle;

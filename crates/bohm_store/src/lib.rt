@@ -14,7 +14,9 @@ mod older;
 mod replacing;
 mod seats;
 mod version;
+mod workspace;
 
 pub use fault::{PastFault, StoreFault};
 pub use history::History;
 pub use seats::Seats;
+pub use workspace::Workspace;

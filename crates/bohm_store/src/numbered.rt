@@ -1,17 +1,18 @@
 //! The versions of all keys, by the numbers of the keys.
 
-ghost use Rattle.std.specs.Prelude.{◌≡◌, ◌+◌, ◌++◌, ◌<◌, ◌≤◌, ℕ, List, [], length, max, min, true, OnOk, OnErr, IfOk};
+ghost use Rattle.std.specs.Prelude.{◌≡◌, ◌+◌, ◌++◌, ◌<◌, ◌≤◌, ◌^◌, ◌∷◌, ℕ, List, [], length, max, min, true, OnOk, OnErr, IfOk};
 ghost use Rattle.std.specs.FinMap.{entries};
 ghost use Rattle.std.specs.List.{IsDistinct};
 ghost use Rattle.std.specs.Str.{bytes_eq};
 ghost use Rattle.bohm_tree.specs.Keys.{rising, names_of};
 ghost use Rattle.bohm_tree.specs.declared.cell.Cell.TheVariants as cells;
+ghost use Rattle.bohm_txn.specs.Faulty.{IsWellFormedTxn};
 ghost use Rattle.bohm_txn.specs.Stores.{cell_in, store_of};
 ghost use Rattle.bohm_board.specs.Batches.{txns_of};
 ghost use Rattle.bohm_store.specs.Versions.{IsCellAt, Rises, cell_at, kept_versions, past, total, versions};
 ghost use Rattle.bohm_store.specs.Chains.{starting_versions};
 ghost use Rattle.bohm_store.specs.Nexts.{IsNext, IsSettled, IsSettledKept};
-ghost use Rattle.bohm_store.specs.Writes.{AreWritesOf};
+ghost use Rattle.bohm_store.specs.Writes.{AreTxnWrites, AreWritesOf};
 ghost use Rattle.bohm_store.specs.Numbered.{timeline, versions_at};
 
 use crate::held::{Held, held_of};
@@ -20,6 +21,7 @@ use crate::numbered_write::NumberedWrite;
 use crate::older::{OlderVersions, add, cell_before, trim};
 use crate::replacing::replace_all;
 use bohm_board::Batch;
+use bohm_log::TxnView;
 use bohm_tree::{Cell, Key, NoMemory, Value};
 use std::alloc::Global;
 use std::marker::Model;
@@ -239,6 +241,82 @@ impl NumberedHistory {
             (timeline names.now self.old) (timeline names.now self.new) (txns_of batch.now) floor) }
     {
         match self.settle_writes(names, batch, writes) {
+            Ok(()) => {
+                self.trim(floor);
+                Ok(())
+            }
+            Err(error) => Err(error),
+        }
+    }
+
+    /// Adds the versions of the transaction that follows the top, by the list of its writes, and keeps
+    /// its end alone. It allocates nothing. Its time grows with the number of the writes.
+    pub fn advance_newest(&mut self, names: &[Key], txn: &TxnView<'_>, writes: &[NumberedWrite])
+        requires names { IsDistinct bytes_eq names.now }
+        requires long { length names.now ≤ length self.old.newest }
+        requires well { IsWellFormedTxn txn.now }
+        requires timestamp { self.old.top + 1 < 2 ^ 32 }
+        requires writes { AreTxnWrites names.now (self.old.top + 1)
+            (past (timeline names.now self.old) self.old.top) txn.now writes.now }
+        ensures long { length self.new.newest ≡ length self.old.newest }
+        ensures settled { IsSettledKept (timeline names.now self.old) (timeline names.now self.new)
+            (txn.now ∷ []) (self.old.top + 1) }
+    {
+        self.older.clear();
+        replace_all(self.newest.as_mut_slice(), writes);
+        self.top += 1;
+        self.floor = self.top;
+    }
+
+    /// Adds the versions of the transaction that follows the top, by the list of its writes. An error
+    /// changes nothing.
+    pub fn advance(
+        &mut self,
+        names: &[Key],
+        txn: &TxnView<'_>,
+        writes: &[NumberedWrite],
+    ) -> Result<(), NoMemory>
+        requires names { IsDistinct bytes_eq names.now }
+        requires long { length names.now ≤ length self.old.newest }
+        requires well { IsWellFormedTxn txn.now }
+        requires timestamp { self.old.top + 1 < 2 ^ 32 }
+        requires writes { AreTxnWrites names.now (self.old.top + 1)
+            (past (timeline names.now self.old) self.old.top) txn.now writes.now }
+        ensures err { OnErr result (self.new ≡ self.old) }
+        ensures long { OnOk result (length self.new.newest ≡ length self.old.newest) }
+        ensures ok { OnOk result (IsSettled
+            (timeline names.now self.old) (timeline names.now self.new) (txn.now ∷ [])) }
+    {
+        match add(self.newest.as_mut_slice(), &mut self.older, writes) {
+            Ok(()) => {
+                self.top += 1;
+                Ok(())
+            }
+            Err(error) => Err(error),
+        }
+    }
+
+    /// The same, and then trims. An error changes nothing.
+    pub fn advance_above(
+        &mut self,
+        names: &[Key],
+        txn: &TxnView<'_>,
+        writes: &[NumberedWrite],
+        floor: u32,
+    ) -> Result<(), NoMemory>
+        requires names { IsDistinct bytes_eq names.now }
+        requires long { length names.now ≤ length self.old.newest }
+        requires well { IsWellFormedTxn txn.now }
+        requires timestamp { self.old.top + 1 < 2 ^ 32 }
+        requires writes { AreTxnWrites names.now (self.old.top + 1)
+            (past (timeline names.now self.old) self.old.top) txn.now writes.now }
+        requires floor { floor ≤ self.old.top + 1 }
+        ensures err { OnErr result (self.new ≡ self.old) }
+        ensures long { OnOk result (length self.new.newest ≡ length self.old.newest) }
+        ensures ok { OnOk result (IsSettledKept
+            (timeline names.now self.old) (timeline names.now self.new) (txn.now ∷ []) floor) }
+    {
+        match self.advance(names, txn, writes) {
             Ok(()) => {
                 self.trim(floor);
                 Ok(())

@@ -1,10 +1,11 @@
 //! The numbers of keys in a history.
 
-ghost use Rattle.std.specs.Prelude.{◌≡◌, Some, slice_get, true, IfOk};
+ghost use Rattle.std.specs.Prelude.{◌≡◌, Some, slice_get, true, IfOk, OnOk};
 ghost use Rattle.bohm_log.specs.Parts.{Begins};
+ghost use Rattle.bohm_store.specs.Writes.{AreNumbersOf};
 
 use crate::seats::Hints;
-use bohm_log::{HashSeed, Names};
+use bohm_log::{HashSeed, Keys, Names};
 use bohm_tree::{Key, NoMemory};
 
 /// Whether this number is that of a key.
@@ -41,4 +42,23 @@ pub fn number_of(
         }
         Err(_) => Err(NoMemory),
     }
+}
+
+/// The numbers of keys, in place of what stood in the list. A key without a number gets one. An error
+/// leaves no key without its number.
+pub fn number_all(
+    names: &mut Names<HashSeed>,
+    hints: &mut Hints,
+    keys: &Keys<'_>,
+    numbers: &mut Vec<u32>,
+) -> Result<(), NoMemory>
+    ensures longer { Begins names.old names.new }
+    ensures numbers { OnOk result (AreNumbersOf names.new numbers.new.items keys.now) }
+{
+    numbers.clear();
+    for i in 0..keys.len() {
+        let number = number_of(names, hints, keys.number(i), keys.key(i))?;
+        numbers.push(number)?;
+    }
+    Ok(())
 }

@@ -52,4 +52,9 @@ impl Seats {
             },
         }
     }
+
+    /// Makes room for the keys with numbers below a count in the log.
+    pub fn cover(&mut self, count: usize) -> Result<(), NoMemory> {
+        self.hints.cover(count)
+    }
 }

@@ -7,7 +7,7 @@ use Rattle.bohm_txn.specs.Faulty.{IsWellFormedTxn}
 use Rattle.bohm_text.specs.Windows.{with_log}
 use Rattle.bohm_line.specs.Cuttings.{ArePlans}
 use Rattle.bohm_run.specs.Preparing.{count_with}
-use Rattle.bohm_run.specs.Preparing.{AreReady, IsFaultBehind, IsPrepared}
+use Rattle.bohm_run.specs.Preparing.{ArePlanned, AreReady, IsFaultBehind, IsPrepared}
 use Rattle.bohm_run.specs.Chunks.{IsPartRun}
 use Rattle.bohm_run.proofs.ChunkLaws.{chunk_ran, chunk_skipped, no_some, some_not, too_many}
 use Rattle.bohm_run.proofs.chunks.run_chunk.Goals as goal
@@ -48,40 +48,68 @@ returns-in-TooMany-clause-count g c = c.counted-state.ensures ∙ (λ i. count_w
 
 pub run_clean-requires-clause-total : goal.run_clean-requires-clause-total
 run_clean-requires-clause-total g c κs within =
-    let known : AreReady c.args.chunk.count c.args.chunk.log c.in-Ready.cuts c.in-Ready.plans.items = subst (IsPrepared c.args.chunk.count c.args.chunk.log) c.in-Ready.is c.requires.prepared in
-    rw c.part-in-Ready.ensures known.total
+    let known : ArePlanned c.args.chunk.count c.args.chunk.log c.in-Planned.cuts c.in-Planned.plans.items = subst (IsPrepared c.args.chunk.count c.args.chunk.log) c.in-Planned.is c.requires.prepared in
+    rw c.part-in-Planned.ensures known.total
 
 pub run_clean-requires-clause-few : goal.run_clean-requires-clause-few
 run_clean-requires-clause-few g c κs within =
     let none = no_some c.args.state.now.fault (sym c.is_some.ensures ∙ c.if-is_some.false) in
-    let known : AreReady c.args.chunk.count c.args.chunk.log c.in-Ready.cuts c.in-Ready.plans.items = subst (IsPrepared c.args.chunk.count c.args.chunk.log) c.in-Ready.is c.requires.prepared in
-    let few : c.args.state.now.count ≤ 1000000 = omega (arith, known.few, c.requires.next) in
-    omega (arith, known.few, c.requires.level none few, c.requires.next, ap length c.part-in-Ready.ensures)
+    let known : ArePlanned c.args.chunk.count c.args.chunk.log c.in-Planned.cuts c.in-Planned.plans.items = subst (IsPrepared c.args.chunk.count c.args.chunk.log) c.in-Planned.is c.requires.prepared in
+    let few : c.args.state.now.count ≤ 1000000 = omega (arith, known.ready.few, c.requires.next) in
+    omega (arith, known.ready.few, c.requires.level none few, c.requires.next, ap length c.part-in-Planned.ensures)
 
 pub run_clean-requires-clause-formed : goal.run_clean-requires-clause-formed
 run_clean-requires-clause-formed g c κs within =
-    let known : AreReady c.args.chunk.count c.args.chunk.log c.in-Ready.cuts c.in-Ready.plans.items = subst (IsPrepared c.args.chunk.count c.args.chunk.log) c.in-Ready.is c.requires.prepared in
-    subst (λ (log : List Txn). All IsWellFormedTxn log) (sym c.part-in-Ready.ensures) known.formed
+    let known : ArePlanned c.args.chunk.count c.args.chunk.log c.in-Planned.cuts c.in-Planned.plans.items = subst (IsPrepared c.args.chunk.count c.args.chunk.log) c.in-Planned.is c.requires.prepared in
+    subst (λ (log : List Txn). All IsWellFormedTxn log) (sym c.part-in-Planned.ensures) known.ready.formed
 
 pub run_clean-requires-clause-plans : goal.run_clean-requires-clause-plans
 run_clean-requires-clause-plans g c κs within =
     let none = no_some c.args.state.now.fault (sym c.is_some.ensures ∙ c.if-is_some.false) in
-    let known : AreReady c.args.chunk.count c.args.chunk.log c.in-Ready.cuts c.in-Ready.plans.items = subst (IsPrepared c.args.chunk.count c.args.chunk.log) c.in-Ready.is c.requires.prepared in
-    let few : c.args.state.now.count ≤ 1000000 = omega (arith, known.few, c.requires.next) in
+    let known : ArePlanned c.args.chunk.count c.args.chunk.log c.in-Planned.cuts c.in-Planned.plans.items = subst (IsPrepared c.args.chunk.count c.args.chunk.log) c.in-Planned.is c.requires.prepared in
+    let few : c.args.state.now.count ≤ 1000000 = omega (arith, known.ready.few, c.requires.next) in
     let first = c.requires.next ∙ sym (c.requires.level none few) in
-    subst (λ (log : List Txn). ArePlans (record { first = c.args.state.now.progress.history.top + 1; log = log; sizes = c.in-Ready.cuts }) c.in-Ready.plans.items) (sym c.part-in-Ready.ensures)
-    (subst (λ (n : ℕ). ArePlans (record { first = n + 1; log = c.args.chunk.log; sizes = c.in-Ready.cuts }) c.in-Ready.plans.items) first known.planned)
+    subst (λ (log : List Txn). ArePlans (record { first = c.args.state.now.progress.history.top + 1; log = log; sizes = c.in-Planned.cuts }) c.in-Planned.plans.items) (sym c.part-in-Planned.ensures)
+    (subst (λ (n : ℕ). ArePlans (record { first = n + 1; log = c.args.chunk.log; sizes = c.in-Planned.cuts }) c.in-Planned.plans.items) first known.planned)
 
 pub returns-clause-runs : goal.returns-clause-runs
 returns-clause-runs g c =
     let count = c.counted-state.ensures ∙ (λ i. count_with (c.requires.next i) (c.len.ensures i)) in
     let none = no_some c.args.state.now.fault (sym c.is_some.ensures ∙ c.if-is_some.false) in
-    let known : AreReady c.args.chunk.count c.args.chunk.log c.in-Ready.cuts c.in-Ready.plans.items = subst (IsPrepared c.args.chunk.count c.args.chunk.log) c.in-Ready.is c.requires.prepared in
-    let few : c.args.state.now.count ≤ 1000000 = omega (arith, known.few, c.requires.next) in
+    let known : ArePlanned c.args.chunk.count c.args.chunk.log c.in-Planned.cuts c.in-Planned.plans.items = subst (IsPrepared c.args.chunk.count c.args.chunk.log) c.in-Planned.is c.requires.prepared in
+    let few : c.args.state.now.count ≤ 1000000 = omega (arith, known.ready.few, c.requires.next) in
     let was = c.args.state.now in
-    let part = subst (λ (log : List Txn). IsPartRun was.progress.history c.run_clean.new.progress.history log was.executor.keep (was.progress.history.top + 1) was.text.items c.run_clean.new.text.items) c.part-in-Ready.ensures c.in_ok-run_clean-in-Ready.ensures.run in
-    chunk_ran c.args.chunk.log was _ refl c.run_clean.ensures.keep count none none (omega (arith, known.few, c.requires.next))
-    (subst (λ (n : ℕ). IsFaultBehind n c.args.chunk.log None) c.requires.next known.checked) (c.requires.level none few) part
+    let part = subst (λ (log : List Txn). IsPartRun was.progress.history c.run_clean.new.progress.history log was.executor.keep (was.progress.history.top + 1) was.text.items c.run_clean.new.text.items) c.part-in-Planned.ensures c.in_ok-run_clean-in-Planned.ensures.run in
+    chunk_ran c.args.chunk.log was _ refl c.run_clean.ensures.keep count none none (omega (arith, known.ready.few, c.requires.next))
+    (subst (λ (n : ℕ). IsFaultBehind n c.args.chunk.log None) c.requires.next known.ready.checked) (c.requires.level none few) part
 
 pub returns-clause-count : goal.returns-clause-count
 returns-clause-count g c = c.counted-state.ensures ∙ (λ i. count_with (c.requires.next i) (c.len.ensures i))
+
+pub run-requires-clause-few : goal.run-requires-clause-few
+run-requires-clause-few g c =
+    let none = no_some c.args.state.now.fault (sym c.is_some.ensures ∙ c.if-is_some.false) in
+    let known : AreReady c.args.chunk.count c.args.chunk.log = subst (IsPrepared c.args.chunk.count c.args.chunk.log) c.in-Ready.is c.requires.prepared in
+    let few : c.args.state.now.count ≤ 1000000 = omega (arith, known.few, c.requires.next) in
+    omega (arith, known.few, c.requires.level none few, c.requires.next, ap length c.part-in-Ready.ensures)
+
+pub run-requires-clause-formed : goal.run-requires-clause-formed
+run-requires-clause-formed g c =
+    let known : AreReady c.args.chunk.count c.args.chunk.log = subst (IsPrepared c.args.chunk.count c.args.chunk.log) c.in-Ready.is c.requires.prepared in
+    subst (λ (log : List Txn). All IsWellFormedTxn log) (sym c.part-in-Ready.ensures) known.formed
+
+pub returns-in-Ready-clause-runs : goal.returns-in-Ready-clause-runs
+returns-in-Ready-clause-runs g c =
+    let count = c.counted-state.ensures ∙ (λ i. count_with (c.requires.next i) (c.len.ensures i)) in
+    let none = no_some c.args.state.now.fault (sym c.is_some.ensures ∙ c.if-is_some.false) in
+    let known : AreReady c.args.chunk.count c.args.chunk.log = subst (IsPrepared c.args.chunk.count c.args.chunk.log) c.in-Ready.is c.requires.prepared in
+    let few : c.args.state.now.count ≤ 1000000 = omega (arith, known.few, c.requires.next) in
+    let was = c.args.state.now in
+    let part =
+    subst (λ (log : List Txn). IsPartRun was.progress.history c.run.new.history log was.executor.keep (was.progress.history.top + 1)
+    was.text.items c.run.new.text.items) c.part-in-Ready.ensures c.in_ok-run-in-Ready.ensures in
+    chunk_ran c.args.chunk.log was _ refl refl count none none (omega (arith, known.few, c.requires.next))
+    (subst (λ (n : ℕ). IsFaultBehind n c.args.chunk.log None) c.requires.next known.checked) (c.requires.level none few) part
+
+pub returns-in-Ready-clause-count : goal.returns-in-Ready-clause-count
+returns-in-Ready-clause-count g c = c.counted-state.ensures ∙ (λ i. count_with (c.requires.next i) (c.len.ensures i))

@@ -1,10 +1,10 @@
-use Rattle.std.proofs.Common.{◌≡◌, ◌++◌, ◌+◌, ◌∙◌, ℕ, length, ap, refl, arith}
+use Rattle.std.proofs.Common.{◌≡◌, ◌++◌, ◌+◌, ◌∙◌, ℕ, length, map, ap, refl, arith}
 use Rattle.std.proofs.lemmas.List.{with_items_is}
-use Rattle.bohm_board.specs.Batches.{txns_of}
+use Rattle.bohm_board.specs.Batches.{base_of, txns_of}
 use Rattle.bohm_store.specs.Numbered.{EndsRise, Numbered, versions_at}
-use Rattle.bohm_store.specs.Writes.{versions_by}
+use Rattle.bohm_store.specs.Writes.{named_write, versions_by}
 use Rattle.bohm_store.proofs.OlderVersions.{rise_higher}
-use Rattle.bohm_store.proofs.Grown.{climb, grown_low, grown_rises, grown_settled}
+use Rattle.bohm_store.proofs.Grown.{climb, grown_low, grown_rises, grown_settled, listed_next}
 use Rattle.bohm_store.proofs.numbered.NumberedHistory.settle_writes.Goals as goal
 
 pub add-requires : goal.add-requires
@@ -21,6 +21,7 @@ invariant_of-self c =
     let newest = c.add.new.newest in
     let was = c.self.invariant in
     let given = rw (← c.self.view_is) at c.requires.next in
+    let listed = listed_next b c.self.inside.top (map (named_write names) ws) given.first c.requires.writes.listed in
     let value = c.as_mut_slice.ensures.value in
     let old : Numbered = record { floor = c.self.inside.floor; top = c.self.inside.top; newest = items; older = c.self.inside.older.items } in
     let is = with_items_is c.self.inside.newest newest (omega (arith, c.add.auto.newest, ap length value, c.as_mut_slice.ensures.len)) in
@@ -29,13 +30,15 @@ invariant_of-self c =
     let versions = rw value at c.in-Ok.ensures.versions in
     let linked = rw value at c.in-Ok.ensures.linked in
     let grew : (n : ℕ) → versions_at new n ≡ versions_at old n ++ versions_by ws n = λ n. versions n (was.linked n) in
-    let climbs = climb names b old ws was c.requires.names given c.requires.writes.below c.requires.writes.listed in
+    let climbs = climb names (base_of b) (txns_of b) b.batched.formed b.batched.some old ws was c.requires.names given.base c.requires.writes.below listed in
     let rise : EndsRise (c.self.inside.top + 1) c.self.inside.older.items =
     rise_higher c.self.inside.top (c.self.inside.top + 1) c.self.inside.older.items was.climbs (omega arith) in
     rw is (record {
       ordered = omega (arith, was.ordered);
-      low = grown_low names b old ws was c.requires.names given c.requires.writes.below c.requires.writes.listed new refl end grew;
-      rising = grown_rises names b old ws was c.requires.names given c.requires.writes.below c.requires.writes.listed new refl end grew;
+      low = grown_low names (base_of b) (txns_of b) b.batched.formed b.batched.some old ws was
+        c.requires.names given.base c.requires.writes.below listed new refl end grew;
+      rising = grown_rises names (base_of b) (txns_of b) b.batched.formed b.batched.some old ws was
+        c.requires.names given.base c.requires.writes.below listed new refl end grew;
       linked = λ n. linked n (was.linked n);
       climbs = rw end (c.in-Ok.ensures.climbs (c.self.inside.top + 1) (c.self.inside.top + length (txns_of b)) rise climbs);
       due =
@@ -52,6 +55,7 @@ returns-in-Ok-clause-ok c =
     let newest = c.add.new.newest in
     let was = c.self.invariant in
     let given = rw (← c.self.view_is) at c.requires.next in
+    let listed = listed_next b c.self.inside.top (map (named_write names) ws) given.first c.requires.writes.listed in
     let value = c.as_mut_slice.ensures.value in
     let old : Numbered = record { floor = c.self.inside.floor; top = c.self.inside.top; newest = items; older = c.self.inside.older.items } in
     let is = with_items_is c.self.inside.newest newest (omega (arith, c.add.auto.newest, ap length value, c.as_mut_slice.ensures.len)) in
@@ -60,7 +64,8 @@ returns-in-Ok-clause-ok c =
     let versions = rw value at c.in-Ok.ensures.versions in
     let linked = rw value at c.in-Ok.ensures.linked in
     let grew : (n : ℕ) → versions_at new n ≡ versions_at old n ++ versions_by ws n = λ n. versions n (was.linked n) in
-    rw (← c.self.view_is) (rw is (grown_settled names b old ws was c.requires.names given c.requires.writes.below c.requires.writes.listed new refl end grew))
+    rw (← c.self.view_is) (rw is (grown_settled names (base_of b) (txns_of b) b.batched.formed b.batched.some old ws was
+        c.requires.names given.base c.requires.writes.below listed new refl end grew))
 
 pub invariant_of-self-in-Err : goal.invariant_of-self-in-Err
 invariant_of-self-in-Err c =

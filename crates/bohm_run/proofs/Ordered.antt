@@ -1,0 +1,38 @@
+-- Transactions that run one after another.
+use Rattle.std.proofs.Common.{◌≡◌, ◌∙◌, ℕ, ◌+◌, ◌-◌, ◌≤◌, List, [], ◌∷◌, ◌++◌, length, take, Some, Ok, Err, refl, sym, ap, arith}
+use Rattle.std.specs.Prelude.{ℤ}
+use Rattle.std.specs.List.{slice_get}
+use Rattle.std.proofs.lemmas.List.{take_more}
+use Rattle.std.proofs.lemmas.Option.{get_or_from_slice_get, slice_get_within}
+use Rattle.bohm_tree.specs.Txn.{Txn}
+use Rattle.bohm_txn.specs.declared.outcome.Outcome.{Outcome}
+use Rattle.bohm_txn.specs.declared.outcome.Reply.{Reply}
+use Rattle.bohm_txn.specs.Meaning.{Ended, body}
+use Rattle.bohm_txn.specs.Serial.{outcome_of, reply_of, shows_of}
+use Rattle.bohm_store.specs.Nexts.{IsSettledKept}
+use Rattle.bohm_store.specs.Versions.{Timeline, past}
+use Rattle.bohm_run.specs.Replies.{reply_with}
+use Rattle.bohm_run.specs.Runs.{IsApplied}
+use Rattle.bohm_run.proofs.Going.{settled_on, went_on}
+
+by_parts : (e : Ended) → reply_of e ≡ reply_with (outcome_of e) (shows_of e)
+by_parts (Ok run) = refl
+by_parts (Err fault) = refl
+
+-- the reply to a transaction is that of its outcome and its shows
+pub replied : (e : Ended) (o : Outcome) (zs : List ℤ) → outcome_of e ≡ o → shows_of e ≡ zs → reply_with o zs ≡ reply_of e
+replied e o zs outcome shows = sym (by_parts e ∙ (λ i. reply_with (outcome i) (shows i)))
+
+-- of a list the first ones, and then the next one
+next_taken : (txns : List Txn) (i : ℕ) (t : Txn) → slice_get txns i ≡ Some t → take (i + 1) txns ≡ take i txns ++ t ∷ []
+next_taken txns i t here =
+    take_more txns i t (slice_get_within txns i t here) ∙ ap (λ (x : Txn). take i txns ++ x ∷ []) (get_or_from_slice_get txns i t t here)
+
+-- a history went on by the first transactions, and then by the next one
+pub one_more : (was mid now : Timeline) (txns : List Txn) (i keep : ℕ) (t : Txn) (a : List Reply) → was.floor ≤ was.top → slice_get txns i ≡ Some t
+    → IsApplied was mid (take i txns) keep a → IsSettledKept mid now (t ∷ []) ((mid.top + 1) - keep)
+    → IsApplied was now (take (i + 1) txns) keep (a ++ reply_of (body (past mid mid.top) t) ∷ [])
+one_more was mid now txns i keep t a ordered here h settled =
+    rw (next_taken txns i t here)
+    (went_on was mid now (take i txns) (t ∷ []) keep a (reply_of (body (past mid mid.top) t) ∷ []) ordered h
+    (settled_on mid now (t ∷ []) keep (omega arith) settled))

@@ -1,0 +1,18 @@
+use Rattle.std.proofs.Common.{List, ℕ, subst, sym}
+use Rattle.std.specs.Prelude.{OnOk}
+use Rattle.bohm_store.specs.Numbered.{versions_at}
+use Rattle.bohm_store.specs.Writes.{AreNumbersOf}
+use Rattle.bohm_store.proofs.Entries.{keys_named}
+use Rattle.bohm_store.proofs.Same.{named_more}
+use Rattle.bohm_store.proofs.history.History.number_writes.Goals as goal
+
+pub returns-clause-same : goal.returns-clause-same
+returns-clause-same c =
+    let h = c.self.inside.numbered in
+    let more = c.number_all.new.names in
+    rw (← c.self.view_is) (named_more h c.self.inside.names more c.self.invariant c.len.ensures.behind c.number_all.ensures.longer)
+
+pub returns-clause-numbers : goal.returns-clause-numbers
+returns-clause-numbers c =
+    subst (λ (names : List (List ℕ)). OnOk c.number_all.result (AreNumbersOf names c.number_all.new.numbers.items c.args.keys.now))
+    (sym (keys_named (versions_at c.self.inside.numbered) 0 c.number_all.new.names)) c.number_all.ensures.numbers
