@@ -80,7 +80,7 @@ impl RunState {
             executor: Executor {
                 crew: Crew::new(alloc, settings.exec())?,
                 seats: Seats::new(alloc),
-                keep: settings.keep(),
+                keep: settings.keep().timestamps(),
             },
             count: 0,
             in_store,
