@@ -23,11 +23,11 @@ pub fn read_words(alloc: Global, words: &[String]) -> Result<Settings, WordFault
     let matches = parse_line(alloc, command(alloc)?, line.as_slice())?;
     let defaults = Settings::default();
     let settings = Settings::new(
-        matches.get_one("cc").unwrap_or(defaults.cc()),
-        matches.get_one("exec").unwrap_or(defaults.exec()),
+        matches.get_one("cc").unwrap_or(defaults.cc().count()),
+        matches.get_one("exec").unwrap_or(defaults.exec().count()),
         matches.get_one("parts").unwrap_or(defaults.parts()),
         matches.get_one("batch").unwrap_or(defaults.batch()),
-        matches.get_one("keep").unwrap_or(defaults.keep()),
+        matches.get_one("keep").unwrap_or(defaults.keep().timestamps()),
         matches.get_one("at"),
     );
     Ok(settings.unwrap())

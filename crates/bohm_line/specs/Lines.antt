@@ -1,8 +1,9 @@
 -- The line of plans, and the rule of the queue that carries it.
-use Rattle.std.specs.Prelude.{◌≡◌, ℕ, ◌+◌, ◌<◌, Bool, true, List, [], ◌∷◌, ◌++◌, length, IsNone}
+use Rattle.std.specs.Prelude.{◌≡◌, ℕ, ◌+◌, ◌<◌, Bool, true, List, [], ◌∷◌, ◌++◌, length, All, IsNone, IsSome}
 use Rattle.std.specs.Option.{ForSome}
 use mathlib.Core.Option.{some}
 use lib.ListN.{get_elem?}
+use Rattle.atomic_table.specs.Seated.{TableId}
 use Rattle.bohm_line.specs.Cuttings.{Cutting, IsPlanAt}
 use Rattle.bohm_line.specs.declared.line.note.PlanNote.{PlanNote}
 use Rattle.bohm_line.specs.declared.line.rule.End.{End}
@@ -17,6 +18,15 @@ pub record IsNoteAt (c : Cutting) (i : ℕ) (x : PlanNote) : Type 0 where
 abbrev pub IsLine : Cutting → ℕ → List PlanNote → Type 0
 IsLine c i [] = Unit {0}
 IsLine c i (x ∷ xs) = IsNoteAt c i x × (IsNone x.plan → xs ≡ []) × IsLine c (i + 1) xs
+
+-- these are the notes of all batches, or the last of them says that planning was refused
+abbrev pub IsWholeLine : Cutting → List PlanNote → Type 0
+IsWholeLine c notes = All (λ x. IsSome x.plan) notes → length notes ≡ length c.sizes
+
+-- an end of a line: which queue it is of, and the notes that it sent or took
+pub record LineEnd : Type 0 where
+  pub queue : TableId
+  pub notes : List PlanNote
 
 -- ---- the rule
 

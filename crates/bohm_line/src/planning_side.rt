@@ -1,9 +1,10 @@
 //! The planning side of a run.
 
-ghost use Rattle.std.specs.Prelude.{◌≡◌, ◌+◌, ◌<◌, ◌≤◌, length, All, IfOk, IsSome};
+ghost use Rattle.std.specs.Prelude.{◌≡◌, ◌+◌, ◌<◌, ◌≤◌, length, All, IfOk};
 ghost use Rattle.bohm_place.specs.Noting.{HasKeysOf};
 ghost use Rattle.bohm_place.specs.Plans.{IsPlannable, IsRightPlan};
 ghost use Rattle.bohm_line.specs.CutLogs.{cutting_of};
+ghost use Rattle.bohm_line.specs.Lines.{IsWholeLine};
 ghost use Rattle.bohm_line.specs.Planning.{CanPlan};
 
 use crate::cut_log::CutLog;
@@ -58,8 +59,9 @@ pub fn plan_ahead<L: Line, P: Partition, F: Fn(u32), R: Threads + Wait + Sync>(
     planned: &F,
 ) -> PlanSender<L>
     requires told { F.IsAlwaysCallable planned.now }
-    requires plans { CanPlan L.cutting (cutting_of log) sender newest.items }
-    ensures whole { All (λ note. IsSome note.plan) result → length result ≡ length L.cutting.sizes }
+    requires plans { CanPlan L.cutting (cutting_of log) sender.notes newest.items }
+    ensures whole { IsWholeLine L.cutting result.notes }
+    ensures queue { result.queue ≡ sender.queue }
 {
     let mut start = 0usize;
     let mut gathered = BatchKeys::new(alloc);

@@ -13,7 +13,7 @@ ghost use Rattle.bohm_machine.specs.Segments.{AreWholeBatches, IsRefused, IsTake
 
 use crate::fault::SegmentFault;
 use bohm_exec::OpenGate;
-use bohm_run::{Applied, ByteSum, Cuts, LARGEST_BATCH, Settings, apply, apply_alone};
+use bohm_run::{Applied, ByteSum, Cuts, Kept, LARGEST_BATCH, Settings, apply, apply_alone};
 use bohm_store::{History, PastFault, StoreFault};
 use bohm_tree::{Cell, Key, NoMemory, Value};
 use bohm_txn::{Checked, Replies, Scratch};
@@ -159,8 +159,8 @@ impl Machine {
     /// Where an allocation fails it stands at the end of a batch and returns the replies up to
     /// there: nothing is lost, and the rest can be applied again.
     ///
-    /// Its time grows with the number of the transactions' terms, and with the number of keys that
-    /// a batch declares.
+    /// Its time grows with the numbers of the transactions' terms, of the keys that each batch
+    /// declares and of the segment's keys.
     pub fn apply(&mut self, alloc: Global, segment: &Checked) -> Result<Applied, SegmentFault>
         ensures taken { OnOk result (IsTaken self.old segment.now) }
         ensures refused { IfErr result (IsRefused self.old segment.now) }
@@ -228,7 +228,7 @@ impl Machine {
             &cuts,
             settings.cc(),
             settings.exec(),
-            u32::MAX,
+            Kept::new(u32::MAX),
             &partition,
             &OpenGate,
         ))

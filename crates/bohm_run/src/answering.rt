@@ -53,7 +53,7 @@ fn readable_time(count: usize, settings: Settings) -> Result<u32, RunFault>
     if end < ts {
         return Err(RunFault::Future);
     }
-    if ts < end.saturating_sub(settings.keep()) {
+    if ts < end.saturating_sub(settings.keep().timestamps()) {
         return Err(RunFault::Trimmed);
     }
     Ok(ts)

@@ -1,6 +1,6 @@
 //! Applies a log to a history: planning in a thread of its own, ahead of execution.
 
-ghost use Rattle.std.specs.Prelude.{◌≡◌, ℕ, ◌+◌, ◌<◌, ◌^◌, [], All, length, take, true, is_ok};
+ghost use Rattle.std.specs.Prelude.{◌≡◌, ℕ, ◌+◌, ◌<◌, ◌^◌, [], All, length, min, take, true, is_ok};
 ghost use Rattle.std.specs.Prelude.{IfOk};
 ghost use Rattle.std.specs.List.{sum};
 ghost use denote.Param.Send.{IsSend, IsSync};
@@ -10,11 +10,14 @@ ghost use Rattle.bohm_line.specs.Planning.{CanPlan};
 ghost use Rattle.bohm_run.specs.Progresses.{IsWalkOf};
 ghost use Rattle.bohm_run.specs.Runs.{cutting_behind, IsApplied, IsEndOfBatch};
 ghost use Rattle.bohm_run.specs.Sides.{CanExecute};
+ghost use Rattle.bohm_run.specs.Sweeps.{workers_of};
 
 use crate::executing::{Executor, Progress};
 use crate::workers::Crew;
 use bohm_exec::{Gate, Point};
-use bohm_line::{CutLog, Cuts, Line, PlanReceiver, PlanSender, plan_ahead, plan_line};
+use bohm_line::{
+    CutLog, Cuts, Executors, Kept, Line, PlanReceiver, PlanSender, Planners, plan_ahead, plan_line,
+};
 use bohm_log::LogPart;
 use bohm_place::{Newest, Partition};
 use bohm_store::{History, Seats};
@@ -44,28 +47,33 @@ struct Sides<L: Line> {
     receiver: PlanReceiver<L>,
 }
 
-fn set_up<L: Line>(
+/// No more workers plan than the keys have parts.
+fn set_up<L: Line, P: Partition>(
     alloc: Global,
-    planners: u32,
-    executors: u32,
-    keep: u32,
+    planners: Planners,
+    executors: Executors,
+    keep: Kept,
+    partition: &P,
 ) -> Result<Sides<L>, NoMemory>
-    requires executors { 0 < executors }
     ensures keep { IfOk result (λ s. s.executor.keep ≡ keep) }
-    ensures planners { IfOk result (λ s. length s.newest.items ≡ planners) }
+    ensures executors { IfOk result (λ s. workers_of s.executor.crew ≡ executors) }
+    ensures planners { IfOk result
+        (λ s. length s.newest.items ≡ min planners (P.count partition.now)) }
+    ensures some { IfOk result (λ s. 0 < length s.newest.items) }
     ensures unplanned { IfOk result
         (λ s. (t : ℕ) → All (λ a. All (λ v. v.begin < t) a) s.newest.items) }
-    ensures unsent { IfOk result (λ s. s.sender ≡ []) }
-    ensures untaken { IfOk result (λ s. s.receiver ≡ []) }
+    ensures queue { IfOk result (λ s. s.receiver.queue ≡ s.sender.queue) }
+    ensures unsent { IfOk result (λ s. s.sender.notes ≡ []) }
+    ensures untaken { IfOk result (λ s. s.receiver.notes ≡ []) }
 {
     let crew = Crew::new(alloc, executors)?;
-    let newest = Newest::several(alloc, planners)?;
+    let newest = Newest::several(alloc, planners.count().min(partition.parts()))?;
     let (sender, receiver) = plan_line::<L>(alloc)?;
     Ok(Sides {
         executor: Executor {
             crew,
             seats: Seats::new(alloc),
-            keep,
+            keep: keep.timestamps(),
         },
         newest,
         sender,
@@ -83,29 +91,30 @@ fn walk<L: Line + Send + Sync, P: Partition, G: Gate, R: Threads + Wait + Sync>(
     partition: &P,
     gate: &G,
 ) -> (Progress, Result<(), NoMemory>)
-    requires plans { CanPlan L.cutting (cutting_of log) sides.sender sides.newest.items }
-    requires executes { CanExecute L.cutting (cutting_of log) sides.receiver progress }
+    requires queue { sides.receiver.queue ≡ sides.sender.queue }
+    requires plans { CanPlan L.cutting (cutting_of log) sides.sender.notes sides.newest.items }
+    requires executes { CanExecute L.cutting (cutting_of log) sides.receiver.notes progress }
     ensures { IsWalkOf progress.history (cutting_of log.entry) sides.executor.keep result }
 {
     let Sides {
         executor,
         newest,
         sender,
-        receiver,
+        mut receiver,
     } = sides;
     thread::scope(
         thread::scope_env(),
         rt,
         move |scope| -> (Progress, Result<(), NoMemory>)
             requires { IsSync R.row × IsSync P.row × IsSync G.row × IsSend L.row
-                × CanPlan L.cutting (cutting_of log) sender newest.items
-                × CanExecute L.cutting (cutting_of log) receiver progress }
+                × CanPlan L.cutting (cutting_of log) sender.notes newest.items
+                × CanExecute L.cutting (cutting_of log) receiver.notes progress }
             ensures { IsWalkOf progress.history (cutting_of log.entry) executor.keep result }
         {
             let planning = scope.spawn(
                 move ||
                     requires { IsSync R.row × IsSync P.row × IsSync G.row × IsSend L.row
-                        × CanPlan L.cutting (cutting_of log) sender newest.items }
+                        × CanPlan L.cutting (cutting_of log) sender.notes newest.items }
                 {
                     let planned = |batch: u32| gate.at(Point::Planned(batch));
                     plan_ahead(rt, alloc, sender, newest, log, partition, &planned);
@@ -114,7 +123,7 @@ fn walk<L: Line + Send + Sync, P: Partition, G: Gate, R: Threads + Wait + Sync>(
             if planning.is_err() {
                 return (progress, Err(NoMemory));
             }
-            executor.run_batches(rt, alloc, receiver, progress, log, gate)
+            executor.run_batches(rt, alloc, &mut receiver, progress, log, gate)
         },
     )
 }
@@ -126,15 +135,13 @@ fn apply_on<L: Line + Send + Sync, P: Partition, G: Gate, R: Threads + Wait + Sy
     history: History,
     txns: &LogPart<'_>,
     cuts: &Cuts,
-    planners: u32,
-    executors: u32,
-    keep: u32,
+    planners: Planners,
+    executors: Executors,
+    keep: Kept,
     partition: &P,
     gate: &G,
 ) -> (Progress, Result<(), NoMemory>)
     requires cutting { L.cutting ≡ cutting_behind history txns.now cuts.now }
-    requires planners { 0 < planners }
-    requires executors { 0 < executors }
     requires some { 0 < length txns.now }
     requires total { sum cuts.now ≡ length txns.now }
     requires timestamps { history.top + length txns.now < 2 ^ 32 }
@@ -148,7 +155,7 @@ fn apply_on<L: Line + Send + Sync, P: Partition, G: Gate, R: Threads + Wait + Sy
     if reserved.is_err() {
         return (progress, Err(NoMemory));
     }
-    match set_up(alloc, planners.min(partition.parts()), executors, keep) {
+    match set_up(alloc, planners, executors, keep, partition) {
         Ok(sides) => walk::<L, P, G, R>(rt, alloc, sides, progress, log, partition, gate),
         Err(refusal) => (progress, Err(refusal)),
     }
@@ -179,14 +186,12 @@ pub fn apply<P: Partition, G: Gate, R: Threads + Wait + Sync>(
     history: &mut History,
     txns: &LogPart<'_>,
     cuts: &Cuts,
-    cc: u32,
-    exec: u32,
-    keep: u32,
+    cc: Planners,
+    exec: Executors,
+    keep: Kept,
     partition: &P,
     gate: &G,
 ) -> Applied
-    requires planners { 0 < cc }
-    requires executors { 0 < exec }
     requires total { sum cuts.now ≡ length txns.now }
     requires timestamps { history.old.top + length txns.now < 2 ^ 32 }
     requires formed { All IsWellFormedTxn txns.now }

@@ -82,7 +82,7 @@ impl RunState {
             executor: Executor {
                 crew: Crew::new(alloc, settings.exec())?,
                 seats: Seats::new(alloc),
-                keep: settings.keep(),
+                keep: settings.keep().timestamps(),
             },
             in_order: InOrder::new(alloc)?,
             count: 0,

@@ -6,6 +6,7 @@ ghost use Rattle.bohm_place.specs.Noting.{MayHaveKeysOf};
 ghost use Rattle.bohm_place.specs.Plans.{IsRightPlan};
 ghost use Rattle.bohm_line.specs.CutLogs.{cutting_of};
 ghost use Rattle.bohm_line.specs.Cuttings.{ArePlans};
+ghost use Rattle.bohm_line.specs.Lines.{IsWholeLine};
 ghost use Rattle.bohm_run.specs.Progresses.{GoesOn, IsWalkOf, StaysPut};
 ghost use Rattle.bohm_run.specs.Sides.{CanExecute};
 
@@ -111,13 +112,14 @@ impl Executor {
         mut self,
         rt: &R,
         alloc: Global,
-        mut receiver: PlanReceiver<L>,
+        receiver: &mut PlanReceiver<L>,
         mut progress: Progress,
         log: CutLog<'_>,
         gate: &G,
     ) -> (Progress, Result<(), NoMemory>)
-        requires { CanExecute L.cutting (cutting_of log) receiver progress }
-        ensures { IsWalkOf progress.history (cutting_of log.entry) self.keep result }
+        requires { CanExecute L.cutting (cutting_of log) receiver.old.notes progress }
+        ensures walk { IsWalkOf progress.history (cutting_of log.entry) self.keep result }
+        ensures drained { IsWholeLine L.cutting receiver.new.notes }
     {
         let mut start = 0usize;
         for place in 0..log.batches() {
@@ -136,10 +138,11 @@ impl Executor {
     }
 }
 
-/// Takes what is left, up to this many notes.
-fn drain<L: Line, R: Wait>(rt: &R, mut receiver: PlanReceiver<L>, left: u32)
-    requires batches { length receiver + left ≤ length L.cutting.sizes }
-    requires open { All (λ taken. IsSome taken.plan) receiver }
+/// Takes what is left: this many notes, or up to one that says that planning was refused.
+fn drain<L: Line, R: Wait>(rt: &R, receiver: &mut PlanReceiver<L>, left: u32)
+    requires batches { length receiver.old.notes + left ≡ length L.cutting.sizes }
+    requires open { All (λ taken. IsSome taken.plan) receiver.old.notes }
+    ensures { IsWholeLine L.cutting receiver.new.notes }
 {
     for _ in 0..left {
         if receiver.take(rt).plan.is_none() {

@@ -25,7 +25,9 @@ mod workers;
 pub use alone::apply_alone;
 pub use answering::{read_log, run_text, run_text_in_windows};
 pub use applying::{Applied, apply};
-pub use bohm_line::{ByteSum, Cuts, Line, PlanNote, PlanReceiver, PlanSender, plan_line};
+pub use bohm_line::{
+    ByteSum, Cuts, Executors, Kept, Line, PlanNote, PlanReceiver, PlanSender, Planners, plan_line,
+};
 pub use bohm_reading::LONGEST_TEXT;
 pub use bytes::{read_all, write_all};
 pub use fault::RunFault;

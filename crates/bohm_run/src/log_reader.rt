@@ -71,7 +71,7 @@ impl LogReader {
             self.edition,
             &mut self.source,
             self.size,
-            self.settings.cc() as usize,
+            self.settings.cc().count() as usize,
         )?;
         Ok(self.prepare(rt, alloc, chunks)?)
     }

@@ -1,6 +1,6 @@
 //! A whole run of a checked log.
 
-ghost use Rattle.std.specs.Prelude.{◌≡◌, ◌<◌, length, IfOk};
+ghost use Rattle.std.specs.Prelude.{◌≡◌, length, IfOk};
 ghost use Rattle.std.specs.List.{sum};
 ghost use Rattle.bohm_txn.specs.Serial.{replies};
 ghost use Rattle.bohm_txn.specs.Stores.{cell_in, store_of};
@@ -8,7 +8,7 @@ ghost use Rattle.bohm_run.specs.Runs.{IsHistoryOf};
 
 use crate::applying::{Applied, apply};
 use bohm_exec::Gate;
-use bohm_line::Cuts;
+use bohm_line::{Cuts, Executors, Kept, Planners};
 use bohm_log::HashSeed;
 use bohm_place::Partition;
 use bohm_store::History;
@@ -43,15 +43,13 @@ pub fn run<P: Partition, G: Gate, R: Threads + Wait + Sync + RandomSource>(
     alloc: Global,
     checked: &Checked,
     cuts: &Cuts,
-    cc: u32,
-    exec: u32,
-    keep: u32,
+    cc: Planners,
+    exec: Executors,
+    keep: Kept,
     partition: &P,
     gate: &G,
 ) -> Result<Answer, NoMemory>
-    requires planners { 0 < cc }
-    requires executors { 0 < exec }
-    requires total { sum cuts.now ≡ length checked.now.log }
+    requires { sum cuts.now ≡ length checked.now.log }
     ensures replies { let start = cell_in (store_of checked.now.store) in
         IfOk result (λ a. a.replies ≡ replies start checked.now.log) }
     ensures history { let start = cell_in (store_of checked.now.store) in

@@ -4,6 +4,7 @@ ghost use Rattle.std.specs.Prelude.{◌≡◌, ◌≤◌};
 ghost use Rattle.std.specs.Option.{SomeIff};
 ghost use Rattle.bohm_run.specs.Given.{Given, AreInRange, IsBetween, defaults};
 
+use bohm_line::{Executors, Kept, Planners};
 use std::marker::Model;
 
 /// The most planning workers, and the most executing workers.
@@ -23,11 +24,11 @@ pub const MOST_KEPT: u32 = 4096;
 /// store is printed (`None`: the log's length).
 #[derive(Clone, Copy, Debug, PartialEq, Eq)]
 pub struct Settings {
-    cc: u32,
-    exec: u32,
+    cc: Planners,
+    exec: Executors,
     parts: u32,
     batch: u32,
-    keep: u32,
+    keep: Kept,
     at: Option<u32>,
 }
 
@@ -66,17 +67,17 @@ impl Settings {
             return None;
         }
         Some(Settings {
-            cc,
-            exec,
+            cc: Planners::new(cc)?,
+            exec: Executors::new(exec)?,
             parts,
             batch,
-            keep,
+            keep: Kept::new(keep),
             at,
         })
     }
 
     /// Planning workers.
-    pub fn cc(&self) -> u32
+    pub fn cc(&self) -> Planners
         ensures value { result ≡ self.now.cc }
         ensures in_range { IsBetween 1 16 result }
     {
@@ -84,7 +85,7 @@ impl Settings {
     }
 
     /// Executing workers.
-    pub fn exec(&self) -> u32
+    pub fn exec(&self) -> Executors
         ensures value { result ≡ self.now.exec }
         ensures in_range { IsBetween 1 16 result }
     {
@@ -108,7 +109,7 @@ impl Settings {
     }
 
     /// How many timestamps below the last batch's end stay readable.
-    pub fn keep(&self) -> u32
+    pub fn keep(&self) -> Kept
         ensures value { result ≡ self.now.keep }
         ensures in_range { result ≤ 4096 }
     {
@@ -130,11 +131,11 @@ impl Default for Settings {
 
     fn default() -> Settings {
         Settings {
-            cc: 1,
-            exec: 1,
+            cc: Planners::one(),
+            exec: Executors::one(),
             parts: 1,
             batch: LARGEST_BATCH,
-            keep: 0,
+            keep: Kept::new(0),
             at: None,
         }
     }

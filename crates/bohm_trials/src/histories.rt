@@ -2,7 +2,7 @@
 
 use crate::runs::{checked, counters, cuts, ran, settings, told_with_versions};
 use bohm_exec::OpenGate;
-use bohm_run::{Applied, ByteSum, Cuts, apply};
+use bohm_run::{Applied, ByteSum, Cuts, Executors, Kept, Planners, apply};
 use bohm_store::History;
 use bohm_txn::Checked;
 use std::alloc::Global;
@@ -158,7 +158,7 @@ fn count_on<R: Abort + Threads + Wait + Sync + RandomSource>(
     alloc: Global,
     history: &mut History,
     count: u32,
-    keep: u32,
+    keep: Kept,
 ) -> Applied {
     let log = counters(rt, alloc, count);
     let txns = log.log();
@@ -166,19 +166,21 @@ fn count_on<R: Abort + Threads + Wait + Sync + RandomSource>(
     let partition = ByteSum::new(2).expect(rt, "parts");
     let fits = txns.len() == count as usize && history.top() < 1000 && count < 1000;
     assert!(rt; fits);
+    let planners = Planners::new(2).expect(rt, "planners");
+    let executors = Executors::new(2).expect(rt, "executors");
     let applied = apply(
-        rt, alloc, history, &txns, &cuts, 2, 2, keep, &partition, &OpenGate,
+        rt, alloc, history, &txns, &cuts, planners, executors, keep, &partition, &OpenGate,
     );
     assert!(rt; applied.end.is_ok());
     applied
 }
 
 /// How many counters are applied and how many timestamps are kept.
-fn counts(rt: &impl Abort, log: &str) -> (u32, u32) {
+fn counts(rt: &impl Abort, log: &str) -> (u32, Kept) {
     let (count, keep) = log.split_once(" keep ").expect(rt, "a log");
     let count = count.parse::<u32>().ok().expect(rt, "a count");
     let keep = keep.parse::<u32>().ok().expect(rt, "what is kept");
-    (count, keep)
+    (count, Kept::new(keep))
 }
 
 /// What a row's logs leave one after another, each as how many counters are applied and how many

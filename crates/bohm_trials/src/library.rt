@@ -1,7 +1,7 @@
 //! The library as the README shows it.
 
 use bohm_exec::OpenGate;
-use bohm_run::{Answer, ByteSum, Cuts};
+use bohm_run::{Answer, ByteSum, Cuts, Executors, Kept, Planners};
 use bohm_store::PastFault;
 use bohm_text::TextFault;
 use bohm_tree::{Cell, Key, NoMemory, Value};
@@ -54,7 +54,7 @@ fn held<R: Abort + Threads + Wait + Sync + RandomSource>(
     key: Key,
     ts: u32,
 ) -> Result<(usize, Cell), Fault> {
-    let (cc, exec, keep) = (1, 1, 1);
+    let (cc, exec, keep) = (Planners::one(), Executors::one(), Kept::new(1));
     let (partition, gate) = (ByteSum::new(1).expect(rt, "parts"), OpenGate);
     let doc = bohm_text::parse(alloc, text)?;
     let checked = bohm_txn::check(doc)?;

@@ -51,16 +51,16 @@ fn send_plan<L: Line, R: Abort + Threads + Wait + Sync>(
     first: u32,
     txns: &LogPart<'_>,
 ) -> Result<(), NoMemory>
-    requires batch { length sender.old < length L.cutting.sizes }
+    requires batch { length sender.old.notes < length L.cutting.sizes }
     requires sizes { length L.cutting.sizes ≡ 2 }
-    requires open { All (λ sent. IsSome sent.plan) sender.old }
-    requires first { first ≡ first_at L.cutting (length sender.old) }
-    requires txns { txns.now ≡ txns_at L.cutting (length sender.old) }
+    requires open { All (λ sent. IsSome sent.plan) sender.old.notes }
+    requires first { first ≡ first_at L.cutting (length sender.old.notes) }
+    requires txns { txns.now ≡ txns_at L.cutting (length sender.old.notes) }
     requires position { 0 < first }
     requires room { first + length txns.now ≤ 1000 }
     requires formed { All IsWellFormedTxn txns.now }
-    ensures count { OnOk result (length sender.new ≡ length sender.old + 1) }
-    ensures open { OnOk result (All (λ sent. IsSome sent.plan) sender.new) }
+    ensures count { OnOk result (length sender.new.notes ≡ length sender.old.notes + 1) }
+    ensures open { OnOk result (All (λ sent. IsSome sent.plan) sender.new.notes) }
 {
     let parts = ByteSum::new(1).expect(rt, "a part");
     let shards = Shards::new(alloc, 1)?;
@@ -80,11 +80,11 @@ fn take_plan<L: Line, R: Abort + Wait>(
     txns: &LogPart<'_>,
     number: u32,
 ) -> Plan
-    requires batch { length receiver.old < length L.cutting.sizes }
-    requires open { All (λ taken. IsSome taken.plan) receiver.old }
-    requires txns { txns.now ≡ txns_at L.cutting (length receiver.old) }
-    ensures count { length receiver.new ≡ length receiver.old + 1 }
-    ensures open { All (λ taken. IsSome taken.plan) receiver.new }
+    requires batch { length receiver.old.notes < length L.cutting.sizes }
+    requires open { All (λ taken. IsSome taken.plan) receiver.old.notes }
+    requires txns { txns.now ≡ txns_at L.cutting (length receiver.old.notes) }
+    ensures count { length receiver.new.notes ≡ length receiver.old.notes + 1 }
+    ensures open { All (λ taken. IsSome taken.plan) receiver.new.notes }
     ensures right { ∥ IsRightPlan txns.entry.now result ∥₁ }
 {
     let note = receiver.take(rt);
@@ -99,7 +99,7 @@ fn take_plans<L: Line, R: Abort + Wait>(
     one: &LogPart<'_>,
     two: &LogPart<'_>,
 )
-    requires untaken { receiver ≡ [] }
+    requires untaken { receiver.notes ≡ [] }
     requires sizes { length L.cutting.sizes ≡ 2 }
     requires one { one.now ≡ txns_at L.cutting 0 }
     requires two { two.now ≡ txns_at L.cutting 1 }

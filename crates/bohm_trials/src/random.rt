@@ -48,7 +48,7 @@ fn assert_left(
     found: &Answer,
     settings: Settings,
 ) {
-    let floor = len.saturating_sub(settings.keep());
+    let floor = len.saturating_sub(settings.keep().timestamps());
     assert_eq!(rt; found.history.floor(), floor, "{seed}: {settings:?}");
     let text = told(rt, alloc, &found.replies, &found.history);
     let want = serially(rt, alloc, seed, len, floor);

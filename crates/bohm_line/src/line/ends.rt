@@ -1,12 +1,11 @@
 //! The two ends of the plan queue.
 
-ghost use Rattle.std.specs.Prelude.{◌≡◌, ◌+◌, ◌<◌, ◌≤◌, ◌++◌, [], ◌∷◌, length, true, false, List, All, IsSome, IfOk};
+ghost use Rattle.std.specs.Prelude.{◌≡◌, ◌+◌, ◌<◌, ◌≤◌, ◌++◌, [], ◌∷◌, length, true, false, All, IsSome, IfOk};
 ghost use Rattle.std.specs.Option.{ForSome};
 ghost use Rattle.crossbeam_channel.specs.Claims.{view as pass_view, IsSeatAt};
 ghost use Rattle.crossbeam_channel.specs.Ends.{sends_on, receives_on};
 ghost use Rattle.bohm_line.specs.Cuttings.{IsPlanAt};
-ghost use Rattle.bohm_line.specs.Lines.{end_of, IsLine, IsNoteAt};
-ghost use Rattle.bohm_line.specs.declared.line.note.PlanNote.{PlanNote};
+ghost use Rattle.bohm_line.specs.Lines.{end_of, IsLine, IsNoteAt, LineEnd};
 
 use crate::line::note::{Line, PlanNote};
 use crate::line::rule::{End, InOrder, Roles, Sends, Takes};
@@ -25,7 +24,7 @@ type Pushes<L> = RuledSender<PlanNote, End, InOrder<L>>;
 /// Where a taking end pops.
 type Pops<L> = RuledReceiver<PlanNote, End, InOrder<L>>;
 
-/// The sending end. Contracts see it as the list of the notes that were sent.
+/// The sending end. Contracts see it as its queue and the notes that were sent.
 #[derive(Drop)]
 pub struct PlanSender<L: Line> {
     to: Pushes<L>,
@@ -34,9 +33,12 @@ pub struct PlanSender<L: Line> {
 }
 
 impl<L: Line> Model for PlanSender<L> {
-    ghost Value = { List PlanNote };
+    ghost Value = { LineEnd };
 
-    ghost view = { λ s. (pass_view s.pass).sent };
+    ghost view = { λ s. record {
+      queue = (sends_on s.to).stamps.shared.table_id;
+      notes = (pass_view s.pass).sent;
+    } };
 
     ghost invariant = { λ s. IsSeatAt (sends_on s.to) s.pass
         × (pass_view s.pass ≡ end_of true false (pass_view s.pass).sent [])
@@ -44,7 +46,7 @@ impl<L: Line> Model for PlanSender<L> {
         × IsLine L.cutting 0 (pass_view s.pass).sent };
 }
 
-/// The taking end. Contracts see it as the list of the notes that were taken.
+/// The taking end. Contracts see it as its queue and the notes that were taken.
 #[derive(Drop)]
 pub struct PlanReceiver<L: Line> {
     from: Pops<L>,
@@ -53,9 +55,12 @@ pub struct PlanReceiver<L: Line> {
 }
 
 impl<L: Line> Model for PlanReceiver<L> {
-    ghost Value = { List PlanNote };
+    ghost Value = { LineEnd };
 
-    ghost view = { λ r. (pass_view r.pass).taken };
+    ghost view = { λ r. record {
+      queue = (receives_on r.from).stamps.shared.table_id;
+      notes = (pass_view r.pass).taken;
+    } };
 
     ghost invariant = { λ r. IsSeatAt (receives_on r.from) r.pass
         × (pass_view r.pass ≡ end_of false true [] (pass_view r.pass).taken)
@@ -64,8 +69,9 @@ impl<L: Line> Model for PlanReceiver<L> {
 
 /// The two ends of a plan queue with room for two notes.
 pub fn plan_line<L: Line>(alloc: Global) -> Result<(PlanSender<L>, PlanReceiver<L>), NoMemory>
-    ensures sent { IfOk result (λ r. r.0 ≡ []) }
-    ensures taken { IfOk result (λ r. r.1 ≡ []) }
+    ensures queue { IfOk result (λ r. r.1.queue ≡ r.0.queue) }
+    ensures sent { IfOk result (λ r. r.0.notes ≡ []) }
+    ensures taken { IfOk result (λ r. r.1.notes ≡ []) }
 {
     let (to, from, mut pass) = bounded_with::<PlanNote, End, InOrder<L>, Global>(alloc, CAPACITY)?;
     let other = to.another::<Roles>(&mut pass);
@@ -81,18 +87,19 @@ pub fn plan_line<L: Line>(alloc: Global) -> Result<(PlanSender<L>, PlanReceiver<
 impl<L: Line> PlanSender<L> {
     /// How many notes were sent.
     pub fn sent(&self) -> u32
-        ensures { result ≡ length self.now }
+        ensures { result ≡ length self.now.notes }
     {
         self.sent
     }
 
     /// Sends the next note. It blocks while the queue is full, forever if nobody takes.
     pub fn send<R: Wait>(&mut self, rt: &R, note: PlanNote)
-        requires number { note.number ≡ length self.old + 1 }
+        requires number { note.number ≡ length self.old.notes + 1 }
         requires batch { note.number ≤ length L.cutting.sizes }
-        requires open { All (λ sent. IsSome sent.plan) self.old }
-        requires plan { ForSome note.plan (IsPlanAt L.cutting (length self.old)) }
-        ensures { self.new ≡ self.old ++ note ∷ [] }
+        requires open { All (λ sent. IsSome sent.plan) self.old.notes }
+        requires plan { ForSome note.plan (IsPlanAt L.cutting (length self.old.notes)) }
+        ensures queue { self.new.queue ≡ self.old.queue }
+        ensures sent { self.new.notes ≡ self.old.notes ++ note ∷ [] }
     {
         self.sent = note.number;
         send_note(rt, &self.to, &mut self.pass, note);
@@ -102,18 +109,19 @@ impl<L: Line> PlanSender<L> {
 impl<L: Line> PlanReceiver<L> {
     /// How many notes were taken.
     pub fn taken(&self) -> u32
-        ensures { result ≡ length self.now }
+        ensures { result ≡ length self.now.notes }
     {
         self.taken
     }
 
     /// Takes the next note. It blocks until there is one, forever if none comes.
     pub fn take<R: Wait>(&mut self, rt: &R) -> PlanNote
-        requires batch { length self.old < length L.cutting.sizes }
-        requires open { All (λ taken. IsSome taken.plan) self.old }
-        ensures taken { self.new ≡ self.old ++ result ∷ [] }
-        ensures line { IsLine L.cutting 0 self.new }
-        ensures note { IsNoteAt L.cutting (length self.old) result }
+        requires batch { length self.old.notes < length L.cutting.sizes }
+        requires open { All (λ taken. IsSome taken.plan) self.old.notes }
+        ensures queue { self.new.queue ≡ self.old.queue }
+        ensures taken { self.new.notes ≡ self.old.notes ++ result ∷ [] }
+        ensures line { IsLine L.cutting 0 self.new.notes }
+        ensures note { IsNoteAt L.cutting (length self.old.notes) result }
     {
         let note = take_note(rt, &self.from, &mut self.pass);
         self.taken = note.number;

@@ -2,6 +2,7 @@
 
 ghost use Rattle.std.specs.Prelude.{◌≡◌, ◌+◌, ◌<◌, ◌≤◌, IfOk, OnOk, vec_len};
 
+use bohm_line::Executors;
 use bohm_tree::NoMemory;
 use bohm_txn::Scratch;
 use std::alloc::Global;
@@ -22,12 +23,11 @@ impl Crew {
     ghost use Rattle.bohm_run.specs.Sweeps.{workers_of};
 
     /// For this many workers.
-    pub fn new(alloc: Global, count: u32) -> Result<Crew, NoMemory>
-        requires { 0 < count }
-        ensures { IfOk result (λ crew. workers_of crew ≡ count) }
+    pub fn new(alloc: Global, executors: Executors) -> Result<Crew, NoMemory>
+        ensures { IfOk result (λ crew. workers_of crew ≡ executors) }
     {
         Ok(Crew {
-            count,
+            count: executors.count(),
             scratches: Vec::new(alloc),
             last: Scratch::new(alloc)?,
         })

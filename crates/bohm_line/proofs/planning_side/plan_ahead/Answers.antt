@@ -14,8 +14,9 @@ loop-place-preserved g c =
     let bound : (c.first.result + c.loop-place.start) + length txns ≡ first + (c.loop-place.start + c.len-start.result) = omega (arith, c.first.ensures, c.len-start.ensures) in
     record {
       start = ap (λ n. c.loop-place.start + n) c.len-start.ensures ∙ sym c.batch-txns.ensures.ahead;
-      sent = omega (arith, inv.sent, ap length c.send-in-loop-place.ensures, length-append c.loop-place.sender (note ∷ []));
-      open_ = rw c.send-in-loop-place.ensures (All-append (λ (x : PlanNote). IsSome x.plan) c.loop-place.sender (note ∷ []) inv.open_ is_there);
+      queue = c.send-in-loop-place.ensures.queue ∙ inv.queue;
+      sent = omega (arith, inv.sent, ap length c.send-in-loop-place.ensures.sent, length-append c.loop-place.sender.notes (note ∷ []));
+      open_ = rw c.send-in-loop-place.ensures.sent (All-append (λ (x : PlanNote). IsSome x.plan) c.loop-place.sender.notes (note ∷ []) inv.open_ is_there);
       workers = omega (arith, c.in-Ok.ensures.arrays, inv.workers);
       earlier = let below = c.in-Ok.ensures.below in rw bound at below;
     }

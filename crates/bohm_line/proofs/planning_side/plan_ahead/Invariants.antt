@@ -6,8 +6,9 @@ use Rattle.bohm_line.proofs.planning_side.plan_ahead.Given as goal
 abbrev pub invariant-loop-place : goal.invariant-loop-place
 invariant-loop-place g l = record {
   start : l.start ≡ ahead (cutting_of l.log).sizes l.place;
-  sent : length l.sender ≡ l.place;
-  open_ : All (λ x. IsSome x.plan) l.sender;
+  queue : l.sender.queue ≡ l.initial.sender.queue;
+  sent : length l.sender.notes ≡ l.place;
+  open_ : All (λ x. IsSome x.plan) l.sender.notes;
   workers : 0 < length l.newest.items;
   earlier : All (All (λ v. v.begin < (cutting_of l.log).first + l.start)) l.newest.items;
 }

@@ -7,7 +7,7 @@ pub walk-requires-clause-plans : goal.walk-requires-clause-plans
 walk-requires-clause-plans g c κs within = record {
   cutting = search rules;
   position = search rules;
-  workers = omega (arith, c.in-Ok.ensures.planners, c.min.ensures, c.parts.ensures.some, c.requires.planners);
+  workers = c.in-Ok.ensures.some;
   earlier = c.in-Ok.ensures.unplanned _;
   unsent = c.in-Ok.ensures.unsent;
 }

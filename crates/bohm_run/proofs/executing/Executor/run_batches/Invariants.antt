@@ -6,5 +6,5 @@ use Rattle.bohm_run.proofs.executing.Executor.run_batches.Given as goal
 
 abbrev pub invariant-loop-place : goal.invariant-loop-place
 invariant-loop-place g l =
-    (length l.receiver ≡ l.place) × All (λ taken. IsSome taken.plan) l.receiver × (l.start ≡ ahead (cutting_of l.log).sizes l.place) × (l.self.keep ≡ l.initial.self.keep)
+    (length l.receiver.notes ≡ l.place) × All (λ taken. IsSome taken.plan) l.receiver.notes × (l.start ≡ ahead (cutting_of l.log).sizes l.place) × (l.self.keep ≡ l.initial.self.keep)
     × IsApplied l.initial.progress.history l.progress.history (take l.start (cutting_of l.log).log) l.self.keep l.progress.replies

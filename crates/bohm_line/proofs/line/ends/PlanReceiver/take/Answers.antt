@@ -1,6 +1,6 @@
 use Rattle.std.proofs.Common.{arith, ◌≡◌, ◌++◌, [], ◌∷◌, length, length-append, ap, subst, List}
 use Rattle.crossbeam_channel.specs.Claims.{view}
-use Rattle.bohm_line.specs.Lines.{IsLine, IsNoteAt}
+use Rattle.bohm_line.specs.Lines.{IsLine, IsNoteAt, LineEnd}
 use Rattle.bohm_line.specs.declared.line.note.PlanNote.{PlanNote}
 use Rattle.bohm_line.specs.declared.line.rule.End.{End}
 use Rattle.bohm_line.proofs.Moves.{line_end, receiver_after}
@@ -25,4 +25,5 @@ returns-clause-note g c =
     let taken : (view c.take_note-note.new.pass).taken ≡ old ++ note ∷ [] = ap (λ (v : End). v.taken) c.take_note-note.ensures.taken in
     let line : IsLine g.L.Line.cutting 0 (old ++ note ∷ []) = subst (λ (l : List PlanNote). IsLine g.L.Line.cutting 0 l) taken c.take_note-note.ensures.line in
     let at : IsNoteAt g.L.Line.cutting (length old) note = line_end g.L.Line.cutting old note line in
-    rw (← c.self.view_is) at
+    let same : old ≡ c.args.self.now.notes = ap (λ (e : LineEnd). e.notes) c.self.view_is in
+    subst (λ (l : List PlanNote). IsNoteAt g.L.Line.cutting (length l) note) same at
