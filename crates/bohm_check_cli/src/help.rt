@@ -1,21 +1,13 @@
-//! The command and its help.
+//! The program's name and its help.
 
-ghost use Rattle.std.specs.Prelude.{◌≡◌};
-ghost use Rattle.clap.specs.Words.{app_of};
-ghost use Rattle.bohm_check_cli.specs.Options.{check};
-
-use clap::Command;
-use std::alloc::Global;
-
-/// The program's name.
-pub const NAME: &str = "check";
+use bohm_command::Program;
 
 /// What help says above the options.
 const ABOUT: &str = "\
 Says whether the text on standard input is a log that bohm runs, and where it is
 none, what to mend. Nothing is run.";
 
-/// What help says below the options.
+/// What help says below them.
 const AFTER_HELP: &str = "\
 A log is told by one line: its edition, the keys of its store, its transactions,
 the different keys of the store and of all sets, and how many transactions are
@@ -48,11 +40,9 @@ Exit status:
   1  it is none, or couldn't be read: standard error says why
   2  the words were refused: standard error says why";
 
-/// The command.
-pub fn command<'a>(alloc: Global) -> Command<'a>
-    ensures { app_of result ≡ check }
-{
-    Command::new(alloc, NAME)
-        .about(ABOUT)
-        .after_help(AFTER_HELP)
-}
+/// The program.
+pub const CHECK: Program<'static> = Program {
+    name: "check",
+    about: ABOUT,
+    after_help: AFTER_HELP,
+};

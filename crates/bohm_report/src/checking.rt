@@ -4,13 +4,10 @@ ghost use Rattle.std.specs.Prelude.{◌≡◌, OnOk, IfOk, IfErr};
 ghost use Rattle.bohm_tree.specs.Sound.{IsDocument};
 ghost use Rattle.bohm_text.specs.Print.{print_doc};
 ghost use Rattle.bohm_txn.specs.Faulty.{WellFormed};
-ghost use Rattle.bohm_check.specs.Refusals.{IsChecked, RefusesDocument, RefusesText, Refuses};
+ghost use Rattle.bohm_report.specs.Refusals.{RefusesDocument, RefusesText, Refuses};
 
-use crate::finding::faults;
 use crate::refusal::Refusal;
-use crate::report::put_faults;
-use crate::summary::Summary;
-use crate::text_faults::put_text_fault;
+use bohm_check::{faults, put_faults, put_text_fault};
 use bohm_log::{Doc, HashSeed};
 use bohm_text::{TextFault, parse_with_seed};
 use bohm_txn::{Checked, check};
@@ -65,7 +62,7 @@ fn check_document(
     }
 }
 
-/// A summary of a text's log, or the fault for which a run refuses it. Messages for people are
+/// The document of a text, checked, or the fault for which a run refuses it. Messages for people are
 /// added to the report, as far as allocations succeed: for a text that isn't a document's, on its
 /// first bad line; for a document, on its faults, up to 20.
 ///
@@ -76,12 +73,14 @@ pub fn check_text(
     seed: HashSeed,
     text: &[u8],
     report: &mut Vec<u8>,
-) -> Result<Summary, Refusal>
-    ensures ok { IfOk result (IsChecked text.now) }
+) -> Result<Checked, Refusal>
+    ensures found { IfOk result (λ checked. print_doc checked ≡ text.now) }
+    ensures sound { IfOk result IsDocument }
+    ensures well_formed { IfOk result WellFormed }
     ensures silent { OnOk result (report.new ≡ report.old) }
     ensures err { IfErr result (Refuses text.now) }
 {
     let doc = read_document(alloc, seed, text, report)?;
     let checked = check_document(alloc, doc, text, report)?;
-    Ok(Summary::of(alloc, &checked)?)
+    Ok(checked)
 }

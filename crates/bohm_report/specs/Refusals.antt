@@ -1,5 +1,5 @@
--- What is said of a text: that it is a log, or why it is none.
-use Rattle.std.specs.Prelude.{◌≡◌, ℕ, List, length, count_by}
+-- Why a text is refused.
+use Rattle.std.specs.Prelude.{◌≡◌, ℕ, List}
 use Rattle.bohm_tree.specs.Document.{Document}
 use Rattle.bohm_tree.specs.Sound.{IsDocument}
 use Rattle.bohm_text.specs.Cut.{whole_lines}
@@ -7,22 +7,9 @@ use Rattle.bohm_text.specs.Faults.{IsFirstBadLine, IsShort}
 use Rattle.bohm_text.specs.Print.{print_doc}
 use Rattle.bohm_text.specs.declared.fault.TextFault.TheVariants as texts
 use Rattle.bohm_txn.specs.declared.fault.CheckFault.{CheckFault}
-use Rattle.bohm_txn.specs.Faulty.{WellFormed, IsFirstFault}
-use Rattle.bohm_txn.specs.Sure.{is_sure}
-use Rattle.bohm_check.specs.declared.refusal.Refusal.{Refusal}
-use Rattle.bohm_check.specs.declared.refusal.Refusal.TheVariants.{Text, Check, NoMemory}
-use Rattle.bohm_check.specs.declared.summary.Summary.{Summary}
-
--- the text is that of a well-formed document, which holds so much
-pub record IsChecked (text : List ℕ) (summary : Summary) : Type 0 where
-  pub document : Document
-  pub sound : IsDocument document
-  pub print : print_doc document ≡ text
-  pub well_formed : WellFormed document
-  pub edition : summary.edition ≡ document.edition
-  pub keys : summary.keys ≡ length document.store
-  pub transactions : summary.transactions ≡ length document.log
-  pub sure : summary.sure ≡ count_by is_sure document.log
+use Rattle.bohm_txn.specs.Faulty.{IsFirstFault}
+use Rattle.bohm_report.specs.declared.refusal.Refusal.{Refusal}
+use Rattle.bohm_report.specs.declared.refusal.Refusal.TheVariants.{Text, Check, NoMemory}
 
 -- a refusal of a text that is no document's: the one that reading it answers
 abbrev pub RefusesText : List ℕ → Refusal → Type 0

@@ -1,17 +1,6 @@
-//! The arguments, of which there are none.
+//! The program's name and its help.
 
-ghost use Rattle.std.specs.Prelude.{◌≡◌, [], map, string_bytes, IfOk, IfErr};
-ghost use Rattle.clap.specs.Words.{app_of};
-ghost use Rattle.bohm_command.specs.Taken.{AreTaken, faults_in};
-ghost use Rattle.bohm_command.specs.Faults.{IsNoMemory, IsFoundAmong};
-ghost use Rattle.bohm_tidy_cli.specs.Command.{tidy};
-
-use bohm_command::{WordFault, command_line, parse_line};
-use clap::Command;
-use std::alloc::Global;
-
-/// The program's name.
-pub const NAME: &str = "tidy";
+use bohm_command::Program;
 
 /// What help says above the options.
 const ABOUT: &str = "\
@@ -69,25 +58,9 @@ Exit status:
   1  the text was refused: standard error says why, and nothing was printed
   2  the words were refused: standard error says why";
 
-/// The command, which has no options of its own.
-fn command<'a>(alloc: Global) -> Command<'a>
-    ensures { app_of result ≡ tidy }
-{
-    Command::new(alloc, NAME)
-        .about(ABOUT)
-        .after_help(AFTER_HELP)
-}
-
-/// Whether the arguments after the program's name ask for a text to be tidied. Arguments that clap
-/// doesn't accept are refused with its text.
-pub fn read_words(alloc: Global, words: &[String]) -> Result<(), WordFault>
-    ensures faultless { IfOk result (λ _. faults_in tidy (map string_bytes words.now) ≡ []) }
-    ensures taken { AreTaken tidy (map string_bytes words.now) → IfErr result IsNoMemory }
-    ensures found { IfErr result (IsFoundAmong (faults_in tidy (map string_bytes words.now))) }
-{
-    let line = command_line(alloc, NAME, words)?;
-    match parse_line(alloc, command(alloc), line.as_slice()) {
-        Ok(_) => Ok(()),
-        Err(fault) => Err(fault),
-    }
-}
+/// The program.
+pub const TIDY: Program<'static> = Program {
+    name: "tidy",
+    about: ABOUT,
+    after_help: AFTER_HELP,
+};

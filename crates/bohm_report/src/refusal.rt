@@ -17,7 +17,7 @@ pub enum Refusal {
 
 impl From<NoMemory> for Refusal {
     ghost use Rattle.std.specs.Prelude.{◌≡◌};
-    ghost use Rattle.bohm_check.specs.declared.refusal.Refusal.TheVariants.{NoMemory};
+    ghost use Rattle.bohm_report.specs.declared.refusal.Refusal.TheVariants.{NoMemory};
 
     ghost from_gives = { λ _ e. e ≡ NoMemory };
 
