@@ -31,12 +31,7 @@ fn put_field<I: Integer>(out: &mut Vec<u8>, name: &[u8], number: I) -> Result<()
 }
 
 /// A further field with a quotient.
-fn put_width(
-    out: &mut Vec<u8>,
-    name: &[u8],
-    number: u64,
-    divisor: u64,
-) -> Result<(), NoMemory>
+fn put_width(out: &mut Vec<u8>, name: &[u8], number: u64, divisor: u64) -> Result<(), NoMemory>
     ensures { IfOk result (λ _. out.new.items
         ≡ out.old.items ++ hundredths_field name.now (hundredths number divisor)) }
 {
