@@ -1,7 +1,6 @@
 pub mod Lines
 pub mod Faults
 pub mod All
-pub mod Refusals
 pub mod Names
 pub mod Scopes
 pub mod SummaryLine

@@ -2,7 +2,6 @@
 //! what to write instead.
 #![tactic(auto)]
 
-mod checking;
 mod cursor;
 mod finding;
 mod grammar;
@@ -13,7 +12,6 @@ mod marking;
 mod mending;
 mod mistakes;
 mod names;
-mod refusal;
 mod report;
 mod scope;
 mod sets;
@@ -25,10 +23,8 @@ mod terms;
 mod text_faults;
 mod told;
 
-pub use checking::check_text;
 pub use finding::faults;
 pub use lines::line_at;
-pub use refusal::Refusal;
 pub use report::put_faults;
 pub use shown::{put_bad_line, put_line};
 pub use summary::Summary;

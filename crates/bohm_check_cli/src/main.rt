@@ -3,26 +3,18 @@
 #![tactic(auto)]
 
 mod checking;
-mod options;
-mod words;
+mod help;
 
-use bohm_command::{NoAnswer, WordFault, exit_code, tell, without_request, words_given};
+use bohm_command::{NoAnswer, exit_code, no_options_given, tell, without_request};
 use checking::check_log;
-use options::NAME;
+use help::CHECK;
 use std::io::{self, Write};
 use std::process::ExitCode;
-use words::read_words;
-
-/// Fails where the program was started with arguments.
-fn no_words_given(rt: &HostRuntime) -> Result<(), WordFault> {
-    let words = words_given(rt, NAME)?;
-    read_words(rt.alloc(), words.as_slice())
-}
 
 fn main(rt: HostRuntime) -> ExitCode {
     let mut out = io::writer(&rt);
     let mut report = Vec::new(rt.alloc());
-    let answered = match no_words_given(&rt) {
+    let answered = match no_options_given(&rt, CHECK) {
         Ok(()) => check_log(&rt, rt.alloc(), &mut rt.reader(), &mut out, &mut report).map_err(
             NoAnswer::from,
         ),

@@ -15,19 +15,22 @@ pub const NAME: &str = "bohm";
 /// What help says above the options.
 const ABOUT: &str = "\
 Runs the log of transactions on standard input, and prints the replies and the
-store. Workers, partitions and batches change the speed, never the answer.";
+store: bohm [OPTIONS] < LOG. Workers, partitions and batches change the speed,
+never the answer.";
 
 const CC: &str = "\
-Planning workers, 1 to 16 [default: 1]. More pay where
-transactions declare many keys over many partitions";
+Workers that read, check and plan the log in windows of
+256 KiB, 1 to 16 [default: 1]. As measured, three took 0.7
+to 0.95 times as long as one on logs of 5 MB and more";
 
 const EXEC: &str = "\
-Executing workers, 1 to 16 [default: 1]. More pay where
-bodies are long and touch different keys";
+Executing workers, 1 to 16 [default: 1]. For long bodies
+that touch different keys; as measured, two or three gained
+nothing beyond chance";
 
 const PARTS: &str = "\
-Partitions of the keys, 1 to 64 [default: 1]. A planning
-worker without a partition is idle";
+The library's partitions of the keys, 1 to 64 [default: 1].
+It has no effect here: bohm shares out windows of the log";
 
 const BATCH: &str = "\
 Transactions in a batch, 1 to 4096 [default: 4096]. Smaller
@@ -45,8 +48,13 @@ timestamp below the log's length needs --keep";
 
 /// What help says below the options.
 const AFTER_HELP: &str = "\
-Example:
-  bohm --cc 2 --exec 4 --parts 8 --keep 10 --at 95 < bank.log
+Examples:
+  bohm < bank.log
+  bohm --cc 3 --keep 10 --at 95 < bank.log
+
+docs/log.md describes logs, with examples. If a log is refused, check says what is
+wrong; tidy writes the exact text of a loosely written one. bench/README.md has the
+measurements, and docs/options.md says how to choose the numbers of workers.
 
 Exit status:
   0  the answer was printed, or this help

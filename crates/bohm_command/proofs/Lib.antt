@@ -1,3 +1,4 @@
 mod Takings
 mod Numbers
+mod Flags
 pub mod ForCallers

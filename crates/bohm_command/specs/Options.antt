@@ -1,7 +1,10 @@
--- Options that take a number, as clap knows them.
-use Rattle.std.specs.Prelude.{ℕ, List, Option, Some, pos, option_map}
+-- Options that take a number, and flags, as clap knows them.
+use Rattle.std.specs.Prelude.{ℕ, Bool, false, List, Option, Some, pos, option_map, codes}
+use Rattle.std.specs.Option.{option_map_or}
+use Rattle.std.specs.Str.{bytes_eq}
 use Rattle.std.specs.Str.Parse.{digits_value, without_leading_plus}
 use Rattle.clap.specs.Words.{Row, Rule, Text, new_rule, one_of}
+use Rattle.clap.specs.declared.builder.action.ArgAction.TheVariants.{SetTrue}
 use Rattle.clap.specs.declared.builder.value_parser.ValueParser.TheVariants as parser
 
 -- the option of this name takes one number from `least` to `most`
@@ -15,3 +18,11 @@ number_rule name least most = record (new_rule name) {
 -- the number that the option of this name has among what was matched, if it was
 abbrev pub number_in : List Row → Text → Option ℕ
 number_in rows name = option_map (λ text. digits_value 10 (without_leading_plus text)) (one_of name rows)
+
+-- the flag of this name
+abbrev pub flag_rule : Text → Rule
+flag_rule name = record (new_rule name) { long = Some name; action = Some SetTrue }
+
+-- whether it is among what was matched
+abbrev pub flag_in : List Row → Text → Bool
+flag_in rows name = option_map_or (λ text. bytes_eq text (codes "true")) (one_of name rows) false

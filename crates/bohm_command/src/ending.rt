@@ -25,6 +25,8 @@ pub enum NoAnswer {
     BadWords(String),
     /// The run was refused, or the help that was asked for couldn't be written.
     Run(RunFault),
+    /// It was refused for a reason that no run has, with the line that says so.
+    Refused(&'static str),
 }
 
 impl From<RunFault> for NoAnswer {
@@ -57,7 +59,7 @@ pub fn exit_code(answered: &Result<(), NoAnswer>) -> ExitCode
     match answered {
         Ok(()) => ExitCode::SUCCESS,
         Err(NoAnswer::BadWords(_)) => ExitCode::from(BAD_WORDS),
-        Err(NoAnswer::Run(_)) => ExitCode::from(REFUSED),
+        Err(NoAnswer::Run(_) | NoAnswer::Refused(_)) => ExitCode::from(REFUSED),
     }
 }
 
@@ -72,5 +74,6 @@ pub fn tell<E: Write>(err: &mut E, reason: &NoAnswer) -> io::Result<()>
     match reason {
         NoAnswer::BadWords(text) => write_bytes(err, text.as_bytes()),
         NoAnswer::Run(fault) => write_fault(err, fault),
+        NoAnswer::Refused(line) => write_bytes(err, line.as_bytes()),
     }
 }

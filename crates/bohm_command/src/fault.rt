@@ -5,6 +5,7 @@ ghost use Rattle.bohm_command.specs.Faults.{IsOfKind};
 ghost use Rattle.bohm_command.specs.declared.fault.WordFault.TheVariants.{NoMemory};
 ghost use Rattle.clap.specs.Words.{kind_of};
 
+use crate::version::VERSION;
 use clap::Error;
 use clap::error::ErrorKind;
 use std::alloc::{AllocError, AllocFailed, Global};
@@ -36,13 +37,21 @@ impl<T: Drop> From<AllocFailed<T>> for WordFault {
     }
 }
 
+/// clap's text; help ends with the program's version.
+fn text_of(alloc: Global, error: &Error) -> Result<String, AllocError> {
+    match error.kind() {
+        ErrorKind::DisplayHelp => format!(in alloc; "{error}\nVersion {VERSION}\n"),
+        _ => format!(in alloc; "{error}"),
+    }
+}
+
 impl WordFault {
     /// What clap says of the arguments, with its text.
     pub(crate) fn of(alloc: Global, error: Error) -> WordFault
         ensures { IsOfKind (kind_of error) result }
     {
         let kind = error.kind();
-        let Ok(text) = format!(in alloc; "{error}") else {
+        let Ok(text) = text_of(alloc, &error) else {
             return WordFault::NoMemory;
         };
         match kind {

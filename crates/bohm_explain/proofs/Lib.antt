@@ -15,6 +15,7 @@ mod Raising
 mod Noting
 mod Cutting
 mod Parts
+mod Items
 mod Ranks
 mod Leads
 mod HeatLines

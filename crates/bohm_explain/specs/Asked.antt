@@ -1,10 +1,12 @@
 -- What is asked of an explanation, the ranges and the defaults.
-use Rattle.std.specs.Prelude.{ℕ, ◌≤◌, Option, None, IfSome}
+use Rattle.std.specs.Prelude.{ℕ, ◌≤◌, false, Option, None, IfSome}
+use Rattle.bohm_explain.specs.declared.layout.Layout.{Layout}
 
 pub record Asked : Type 0 where
   pub batch : ℕ
   pub top : ℕ
   pub picture : Option ℕ
+  pub layout : Layout
 
 abbrev pub IsBetween : ℕ → ℕ → ℕ → Type 0
 IsBetween least most n = (least ≤ n) × (n ≤ most)
@@ -16,4 +18,4 @@ pub record AreInRange (asked : Asked) : Type 0 where
   pub picture : IfSome asked.picture (IsBetween 1 1000000)
 
 abbrev pub defaults : Asked
-defaults = record { batch = 4096; top = 10; picture = None }
+defaults = record { batch = 4096; top = 10; picture = None; layout = record { summary = false; json = false } }

@@ -10,6 +10,7 @@ pub mod Tallies
 pub mod Ranking
 pub mod Hottest
 pub mod Verdict
+pub mod Json
 pub mod Printed
 pub mod Picture
 pub mod Waiting

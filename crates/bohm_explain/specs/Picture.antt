@@ -1,4 +1,5 @@
--- The picture of a batch, as text in Graphviz's language. Positions count from 0, what is drawn from 1.
+-- The picture of a batch, as text in Graphviz's language. Positions count from 0; transactions are drawn under their places in the log, of which
+-- `first` is that of the batch's first one.
 use Rattle.std.specs.Prelude.{ℕ, zero, suc, ◌+◌, ◌*◌, min, ◌==◌, nat_le, List, [], ◌++◌, length, flat_map, count_by, slice_index, slice_index_or, Bool, false, not, ◌&&◌, codes, decimal, if◌then◌else◌}
 use Rattle.std.specs.Int.{div_ceil}
 use Rattle.bohm_place.specs.Chains.{greatest}
@@ -46,19 +47,19 @@ node_line n =
     ++ codes "; }\n"
 
 -- a transaction as it is drawn
-abbrev pub node_at : List Bool → List ℕ → List Bool → ℕ → Node
-node_at sure depths longest p = record {
-  number = p + 1;
+abbrev pub node_at : ℕ → List Bool → List ℕ → List Bool → ℕ → Node
+node_at first sure depths longest p = record {
+  number = first + p;
   depth = slice_index depths p;
   sure = slice_index_or sure p false;
   longest = slice_index_or longest p false;
 }
 
 -- of the positions below p
-abbrev pub node_lines : List Bool → List ℕ → List Bool → ℕ → List ℕ
-node_lines sure depths longest zero = []
-node_lines sure depths longest (suc p) =
-    node_lines sure depths longest p ++ node_line (node_at sure depths longest p)
+abbrev pub node_lines : ℕ → List Bool → List ℕ → List Bool → ℕ → List ℕ
+node_lines first sure depths longest zero = []
+node_lines first sure depths longest (suc p) =
+    node_lines first sure depths longest p ++ node_line (node_at first sure depths longest p)
 
 -- the arrow is part of a longest chain: both ends are on one, at neighbouring depths
 abbrev pub is_bold : List ℕ → List Bool → Arrow → Bool
@@ -67,15 +68,15 @@ is_bold depths longest a =
     && (slice_index depths a.to == slice_index depths a.from + 1))
 
 -- a version that one transaction wants twice is drawn once: these arrows have one key for Graphviz too
-abbrev pub arrow_line : Bool → Arrow → List ℕ
-arrow_line bold a =
-    codes "  " ++ decimal (a.from + 1) ++ codes " -> " ++ decimal (a.to + 1)
+abbrev pub arrow_line : ℕ → Bool → Arrow → List ℕ
+arrow_line first bold a =
+    codes "  " ++ decimal (first + a.from) ++ codes " -> " ++ decimal (first + a.to)
     ++ codes " [key=\"" ++ a.key ++ codes "\", label=\"" ++ a.key ++ codes "\"]"
     ++ shown bold (codes " [style=bold]") ++ codes ";\n"
 
-abbrev pub arrow_lines : List ℕ → List Bool → List Arrow → List ℕ
-arrow_lines depths longest arrows =
-    flat_map (λ a. arrow_line (is_bold depths longest a) a) arrows
+abbrev pub arrow_lines : ℕ → List ℕ → List Bool → List Arrow → List ℕ
+arrow_lines first depths longest arrows =
+    flat_map (λ a. arrow_line first (is_bold depths longest a) a) arrows
 
 -- what the marks mean, which ends the text of the title
 abbrev pub legend : List ℕ
@@ -96,11 +97,11 @@ node_style = codes "  node [shape=ellipse, fillcolor=lightblue];\n"
 abbrev pub arrow_style : List ℕ
 arrow_style = codes "  edge [fontname=Helvetica, style=solid];\n"
 
-abbrev pub by_transaction : ℕ → List Bool → List Arrow → List ℕ → List Bool → List ℕ
-by_transaction batch sure arrows depths longest =
+abbrev pub by_transaction : ℕ → ℕ → List Bool → List Arrow → List ℕ → List Bool → List ℕ
+by_transaction batch first sure arrows depths longest =
     opening batch ++ legend ++ layout ++ head_style ++ column_lines (greatest depths)
-    ++ node_style ++ node_lines sure depths longest (length depths)
-    ++ arrow_style ++ arrow_lines depths longest arrows ++ closing
+    ++ node_style ++ node_lines first sure depths longest (length depths)
+    ++ arrow_style ++ arrow_lines first depths longest arrows ++ closing
 
 -- ---- how many transactions each depth has
 
@@ -156,7 +157,7 @@ abbrev pub by_depth : ℕ → List ℕ → List ℕ
 by_depth batch depths =
     opening batch ++ depth_layout ++ band_style ++ band_lines depths ++ closing
 
-abbrev pub picture_text : ℕ → List Bool → List Arrow → List ℕ → List Bool → List ℕ
-picture_text batch sure arrows depths longest =
-    if nat_le (length depths) MOST_NODES then by_transaction batch sure arrows depths longest
+abbrev pub picture_text : ℕ → ℕ → List Bool → List Arrow → List ℕ → List Bool → List ℕ
+picture_text batch first sure arrows depths longest =
+    if nat_le (length depths) MOST_NODES then by_transaction batch first sure arrows depths longest
     else by_depth batch depths

@@ -1,5 +1,5 @@
 -- The text of the table.
-use Rattle.std.specs.Prelude.{ℕ, ◌+◌, ◌-◌, ◌*◌, ◌/◌, ◌%◌, ◌==◌, List, [], ◌∷◌, ◌++◌, length, replicate, codes, decimal, if◌then◌else◌}
+use Rattle.std.specs.Prelude.{ℕ, ◌+◌, ◌-◌, ◌*◌, ◌/◌, ◌%◌, ◌==◌, Bool, List, [], ◌∷◌, ◌++◌, length, replicate, codes, decimal, if◌then◌else◌}
 use Rattle.bohm_explain.specs.declared.figures.Figures.{Figures}
 use Rattle.bohm_explain.specs.declared.figures.Totals.{Totals}
 use Rattle.bohm_explain.specs.Figures.{alone, totals_of}
@@ -29,5 +29,9 @@ abbrev pub rows_from : ℕ → List Figures → List ℕ
 rows_from n [] = []
 rows_from n (f ∷ fs) = row_line (decimal n) (alone f) ++ rows_from (n + 1) fs
 
-abbrev pub table_text : List Figures → List ℕ
-table_text fs = head_line ++ rows_from 1 fs ++ row_line (codes "all") (totals_of fs)
+-- a summary leaves them out
+abbrev pub batch_rows : Bool → List Figures → List ℕ
+batch_rows summary fs = if summary then [] else rows_from 1 fs
+
+abbrev pub table_text : Bool → List Figures → List ℕ
+table_text summary fs = head_line ++ batch_rows summary fs ++ row_line (codes "all") (totals_of fs)

@@ -1,10 +1,11 @@
--- The last line: what keeps the log from being faster, in words.
-use Rattle.std.specs.Prelude.{ℕ, List, [], ◌∷◌, ◌++◌, map, nat_le, ◌==◌, codes, decimal, Option, Some, None, if◌then◌else◌}
+-- The last line: what keeps the log from being faster, in words. bench/README.md has the measured share of execution.
+use Rattle.std.specs.Prelude.{ℕ, ◌+◌, ◌*◌, List, [], ◌∷◌, ◌++◌, map, nat_le, ◌==◌, codes, decimal, Option, Some, None, if◌then◌else◌}
 use Rattle.std.specs.Int.{div_ceil}
 use Rattle.std.specs.List.{find}
 use Rattle.bohm_place.specs.Chains.{greatest}
 use Rattle.bohm_explain.specs.declared.figures.Totals.{Totals}
 use Rattle.bohm_explain.specs.declared.heat.Heat.{Heat}
+use Rattle.bohm_explain.specs.Table.{hundredths_cell}
 
 -- the transactions on the longest chain of a batch, 0 where nobody wants anything
 abbrev pub longest : List Heat → ℕ
@@ -14,26 +15,39 @@ longest heats = greatest (map (λ h. h.chain) heats)
 abbrev pub leading : List Heat → Option Heat
 leading ranked = if longest ranked == 0 then None else find (λ h. h.chain == longest ranked) ranked
 
--- how many times as fast as one all executing workers can be at most: the terms over the heaviest
--- chain, rounded up; 0 where nothing is divided by
-abbrev pub speedup_limit : Totals → ℕ
-speedup_limit t = if t.heaviest == 0 then 0 else div_ceil t.terms t.heaviest
+-- a quotient in hundredths, rounded up; 0 where nothing is divided by
+abbrev pub hundredths_up : ℕ → ℕ → ℕ
+hundredths_up n d = if d == 0 then 0 else div_ceil (n * 100) d
 
-abbrev pub limit_words : ℕ → List ℕ
-limit_words n =
-    if nat_le n 1
+-- how many times as fast as one all executing workers can be at most, in hundredths: the terms over the
+-- heaviest chain
+abbrev pub execution_limit : Totals → ℕ
+execution_limit t = hundredths_up t.terms t.heaviest
+
+-- the same of a whole run, of which the execution by one worker takes an eighth: what is left of it is as it was
+abbrev pub run_limit : Totals → ℕ
+run_limit t = hundredths_up (8 * t.terms) (7 * t.terms + t.heaviest)
+
+abbrev pub limit_words : Totals → List ℕ
+limit_words t =
+    if nat_le (execution_limit t) 100
     then codes "more executing workers can't help"
-    else (codes "more executing workers are at most " ++ decimal n ++ codes " times as fast")
+    else (codes "more executing workers can make the execution at most " ++ hundredths_cell 0 (execution_limit t)
+    ++ codes " times as fast, and the whole run, of which it was an eighth as measured, at most "
+    ++ hundredths_cell 0 (run_limit t) ++ codes " times")
 
 abbrev pub key_words : Totals → Heat → List ℕ
 key_words t h =
     codes "key " ++ h.key ++ codes ", written by " ++ decimal h.writers ++ codes " of " ++ decimal t.transactions
     ++ codes " transactions, is on the longest chain, of " ++ decimal h.chain ++ codes ": "
-    ++ limit_words (speedup_limit t)
+    ++ limit_words t
+
+abbrev pub free_words : Totals → List ℕ
+free_words t = codes "no transaction waits for another of its batch: " ++ limit_words t
 
 -- where no key is on a chain, no transaction wants a version of its batch
 abbrev pub waiting_words : Totals → Option Heat → List ℕ
-waiting_words t None = codes "no transaction waits for another of its batch: all of a batch can be executed at once"
+waiting_words t None = free_words t
 waiting_words t (Some h) = key_words t h
 
 abbrev pub verdict_words : Totals → List Heat → List ℕ

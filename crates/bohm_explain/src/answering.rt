@@ -1,18 +1,18 @@
-//! The output: a table or a picture.
+//! The output: figures or a picture.
 
 ghost use Rattle.std.specs.Prelude.{◌≤◌, length, IfNone, IfOk, IfSome};
 ghost use Rattle.bohm_place.specs.Shares.{AreWellFormed};
 ghost use Rattle.bohm_explain.specs.Printed.{IsAnswerTo, LacksBatch};
 
 use crate::drawing::print_picture;
-use crate::explanation::print_table;
+use crate::explanation::print_log;
 use crate::request::Request;
 use bohm_log::{HashSeed, LogPart};
 use bohm_tree::NoMemory;
 use std::alloc::Global;
 
 /// The text of what is asked of a log, or `None` where that is the picture of a batch that the log
-/// doesn't have. The time grows with the number of declared keys, and for the table with the number
+/// doesn't have. The time grows with the number of declared keys, and for figures with the number
 /// n of different ones as n log n.
 pub fn answer(
     alloc: Global,
@@ -27,7 +27,14 @@ pub fn answer(
 {
     match request.picture() {
         None => {
-            let text = print_table(alloc, seed, log, request.batch(), request.top())?;
+            let text = print_log(
+                alloc,
+                seed,
+                log,
+                request.batch(),
+                request.top(),
+                request.layout(),
+            )?;
             Ok(Some(text))
         }
         Some(number) => print_picture(alloc, log, request.batch(), number),

@@ -30,11 +30,17 @@ fn sure_marks(alloc: Global, txns: &LogPart<'_>) -> Result<Vec<bool>, NoMemory>
     Ok(marks)
 }
 
-/// The picture of a batch of this number.
-fn draw_batch(alloc: Global, number: u32, txns: &LogPart<'_>) -> Result<Vec<u8>, NoMemory>
+/// The picture of a batch of this number, whose first transaction has this place in the log.
+fn draw_batch(
+    alloc: Global,
+    number: u32,
+    first: u32,
+    txns: &LogPart<'_>,
+) -> Result<Vec<u8>, NoMemory>
+    requires first { first ≤ 1000000 }
     requires few { length txns.now ≤ 4096 }
     requires formed { AreWellFormed txns.now }
-    ensures { IfOk result (λ text. text.items ≡ picture_of number txns.now) }
+    ensures { IfOk result (λ text. text.items ≡ picture_of number first txns.now) }
 {
     let (_, plan) = plan_alone(alloc, Newest::new(alloc), 1, txns)?;
     let waits = waits_in(alloc, &plan, txns)?;
@@ -45,6 +51,7 @@ fn draw_batch(alloc: Global, number: u32, txns: &LogPart<'_>) -> Result<Vec<u8>,
     put_picture(
         &mut out,
         number,
+        first,
         sure.as_slice(),
         waits.arrows.as_slice(),
         depths,
@@ -72,6 +79,7 @@ pub fn print_picture(
     if batch_count(log, size) < number {
         return Ok(None);
     }
-    let txns = batch_at(log, size, number - 1);
-    Ok(Some(draw_batch(alloc, number, &txns)?))
+    let before = number - 1;
+    let txns = batch_at(log, size, before);
+    Ok(Some(draw_batch(alloc, number, before * size + 1, &txns)?))
 }

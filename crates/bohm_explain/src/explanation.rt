@@ -1,4 +1,4 @@
-//! The explanation of a log: table, hottest keys, last line.
+//! The explanation of a log: its figures and its hottest keys.
 
 ghost use Rattle.std.specs.Prelude.{◌≡◌, ◌++◌, ◌∷◌, [], ◌≤◌, List, length, IfOk, OnOk};
 ghost use Rattle.bohm_tree.specs.Txn.{Txn};
@@ -7,14 +7,17 @@ ghost use Rattle.bohm_place.specs.Shares.{AreWellFormed};
 ghost use Rattle.bohm_explain.specs.Asked.{IsBetween};
 ghost use Rattle.bohm_explain.specs.Figures.{figures_in, figures_of};
 ghost use Rattle.bohm_explain.specs.Heats.{Chained};
-ghost use Rattle.bohm_explain.specs.Printed.{IsTableOf, chained, chained_in};
+ghost use Rattle.bohm_explain.specs.Printed.{IsTextOf, chained, chained_in, figures_text};
 ghost use Rattle.bohm_explain.specs.Tallies.{CanTake, IsGathered};
 
 use crate::batches::{batch_at, batch_count};
 use crate::chains::chains_through;
 use crate::figures::{Figures, Totals, counted};
 use crate::gathering::Gathering;
+use crate::heat::Heat;
 use crate::hottest::put_hottest;
+use crate::json::put_json;
+use crate::layout::Layout;
 use crate::ranking::rank;
 use crate::table::put_table;
 use crate::verdict::put_verdict;
@@ -82,26 +85,52 @@ fn survey_log(
     Ok(Survey { figures, keys })
 }
 
-/// The table of a log, its `top` hottest keys, and a line of words. The time grows with the number
-/// of declared keys, and with the number n of different ones as n log n.
-pub fn print_table(
+/// The text of these figures and keys, the hottest first.
+fn print_figures(
+    alloc: Global,
+    figures: &[Figures],
+    ranked: &[Heat],
+    top: u32,
+    layout: Layout,
+) -> Result<Vec<u8>, NoMemory>
+    requires { length figures.now ≤ 1000000 }
+    ensures { IfOk result (λ text. text.items ≡ figures_text layout top figures.now ranked.now) }
+{
+    let mut out = Vec::new(alloc);
+    if layout.json {
+        put_json(&mut out, layout.summary, top, figures, ranked)?;
+        return Ok(out);
+    }
+    put_table(&mut out, layout.summary, figures)?;
+    put_hottest(&mut out, ranked, top)?;
+    put_verdict(&mut out, Totals::of(figures), ranked)?;
+    Ok(out)
+}
+
+/// The figures of a log, its `top` hottest keys, and what limits its speed-up. The time grows with
+/// the number of declared keys, and with the number n of different ones as n log n.
+pub fn print_log(
     alloc: Global,
     seed: HashSeed,
     log: &LogPart<'_>,
     size: u32,
     top: u32,
+    layout: Layout,
 ) -> Result<Vec<u8>, NoMemory>
     requires size { IsBetween 1 4096 size }
     requires few { length log.now ≤ 1000000 }
     requires formed { AreWellFormed log.now }
-    ensures { IfOk result (λ text. IsTableOf size top log.now text.items) }
+    ensures { IfOk result (λ text. IsTextOf size top layout log.now text.items) }
 {
     let survey = survey_log(alloc, seed, log, size)?;
-    let figures = survey.figures.as_slice();
-    let ranked = rank(survey.keys.heats(alloc)?);
-    let mut out = Vec::new(alloc);
-    put_table(&mut out, figures)?;
-    put_hottest(&mut out, ranked.as_slice(), top)?;
-    put_verdict(&mut out, Totals::of(figures), ranked.as_slice())?;
-    Ok(out)
+    let heats = survey.keys.heats(alloc)?;
+    let ranked = rank(heats);
+    let text = print_figures(
+        alloc,
+        survey.figures.as_slice(),
+        ranked.as_slice(),
+        top,
+        layout,
+    )?;
+    Ok(text)
 }

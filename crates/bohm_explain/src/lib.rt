@@ -14,7 +14,9 @@ mod figures;
 mod gathering;
 mod heat;
 mod hottest;
+mod json;
 pub mod laws;
+mod layout;
 mod nodes;
 mod picture;
 mod pieces;
@@ -27,4 +29,5 @@ mod waits;
 mod weights;
 
 pub use answering::answer;
+pub use layout::Layout;
 pub use request::{LARGEST_BATCH, LAST_BATCH, MOST_LISTED, Request};

@@ -14,7 +14,7 @@ use bohm_tree::{Key, NoMemory};
 /// A transaction as it is drawn.
 #[derive(Clone, Copy, Debug, PartialEq, Eq)]
 struct Node {
-    /// Its number in the batch, from 1.
+    /// Its place in the log, from 1.
     number: u32,
     depth: u32,
     sure: bool,
@@ -37,19 +37,21 @@ fn put_node(out: &mut Vec<u8>, node: Node) -> Result<(), NoMemory>
 
 fn put_nodes(
     out: &mut Vec<u8>,
+    first: u32,
     sure: &[bool],
     depths: &[u32],
     longest: &[bool],
 ) -> Result<(), NoMemory>
+    requires first { first ≤ 1000000 }
     requires few { length depths.now ≤ 4096 }
     requires sure { length sure.now ≡ length depths.now }
     requires longest { length longest.now ≡ length depths.now }
     ensures { IfOk result (λ _. out.new.items
-        ≡ out.old.items ++ node_lines sure.now depths.now longest.now (length depths.now)) }
+        ≡ out.old.items ++ node_lines first sure.now depths.now longest.now (length depths.now)) }
 {
     for position in 0..depths.len() {
         let node = Node {
-            number: position as u32 + 1,
+            number: first + position as u32,
             depth: depths[position],
             sure: sure[position],
             longest: longest[position],
@@ -79,14 +81,15 @@ fn put_key(out: &mut Vec<u8>, key: Key) -> Result<(), NoMemory>
     Ok(())
 }
 
-fn put_arrow(out: &mut Vec<u8>, arrow: Arrow, bold: bool) -> Result<(), NoMemory>
-    requires { IsInside 4096 arrow }
-    ensures { IfOk result (λ _. out.new.items ≡ out.old.items ++ arrow_line bold arrow) }
+fn put_arrow(out: &mut Vec<u8>, first: u32, arrow: Arrow, bold: bool) -> Result<(), NoMemory>
+    requires first { first ≤ 1000000 }
+    requires inside { IsInside 4096 arrow }
+    ensures { IfOk result (λ _. out.new.items ≡ out.old.items ++ arrow_line first bold arrow) }
 {
     out.extend_from_slice(b"  ")?;
-    put_decimal(out, arrow.from + 1)?;
+    put_decimal(out, first + arrow.from)?;
     out.extend_from_slice(b" -> ")?;
-    put_decimal(out, arrow.to + 1)?;
+    put_decimal(out, first + arrow.to)?;
     out.extend_from_slice(b" [key=\"")?;
     put_key(out, arrow.key)?;
     out.extend_from_slice(b"\", label=\"")?;
@@ -99,39 +102,44 @@ fn put_arrow(out: &mut Vec<u8>, arrow: Arrow, bold: bool) -> Result<(), NoMemory
 
 fn put_arrows(
     out: &mut Vec<u8>,
+    first: u32,
     arrows: &[Arrow],
     depths: &[u32],
     longest: &[bool],
 ) -> Result<(), NoMemory>
+    requires first { first ≤ 1000000 }
     requires few { length depths.now ≤ 4096 }
     requires depths { All (IsBetween 1 4096) depths.now }
     requires longest { length longest.now ≡ length depths.now }
     requires inside { All (IsInside (length depths.now)) arrows.now }
     ensures { IfOk result (λ _. out.new.items
-        ≡ out.old.items ++ arrow_lines depths.now longest.now arrows.now) }
+        ≡ out.old.items ++ arrow_lines first depths.now longest.now arrows.now) }
 {
     for arrow in arrows {
-        put_arrow(out, *arrow, is_bold(*arrow, depths, longest))?;
+        put_arrow(out, first, *arrow, is_bold(*arrow, depths, longest))?;
     }
     Ok(())
 }
 
-/// Each transaction in the column of its depth.
+/// Each transaction in the column of its depth, under its place in the log, of which the first one's
+/// is given.
 pub fn put_by_transaction(
     out: &mut Vec<u8>,
     batch: u32,
+    first: u32,
     sure: &[bool],
     arrows: &[Arrow],
     depths: &[u32],
     longest: &[bool],
 ) -> Result<(), NoMemory>
+    requires first { first ≤ 1000000 }
     requires few { length depths.now ≤ 4096 }
     requires depths { All (IsBetween 1 4096) depths.now }
     requires sure { length sure.now ≡ length depths.now }
     requires longest { length longest.now ≡ length depths.now }
     requires inside { All (IsInside (length depths.now)) arrows.now }
     ensures { IfOk result (λ _. out.new.items
-        ≡ out.old.items ++ by_transaction batch sure.now arrows.now depths.now longest.now) }
+        ≡ out.old.items ++ by_transaction batch first sure.now arrows.now depths.now longest.now) }
 {
     put_opening(out, batch)?;
     put_legend(out)?;
@@ -139,9 +147,9 @@ pub fn put_by_transaction(
     out.extend_from_slice(b"  node [fontname=Helvetica, shape=plaintext];\n")?;
     put_columns(out, greatest(depths))?;
     out.extend_from_slice(b"  node [shape=ellipse, fillcolor=lightblue];\n")?;
-    put_nodes(out, sure, depths, longest)?;
+    put_nodes(out, first, sure, depths, longest)?;
     out.extend_from_slice(b"  edge [fontname=Helvetica, style=solid];\n")?;
-    put_arrows(out, arrows, depths, longest)?;
+    put_arrows(out, first, arrows, depths, longest)?;
     out.extend_from_slice(b"}\n")?;
     Ok(())
 }

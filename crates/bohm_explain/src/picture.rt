@@ -10,27 +10,30 @@ use crate::bands::{MOST_NODES, put_by_depth};
 use crate::nodes::put_by_transaction;
 use bohm_tree::NoMemory;
 
-/// Draws the batch of this number, from what holds at each position: whether the transaction there
+/// Draws the batch of this number, whose first transaction has this place in the log, from what
+/// holds at each position: whether the transaction there
 /// is sure, its depth, and whether it is on a longest chain. A batch of more than 200 transactions
 /// is drawn by depth alone. The time grows with the numbers of transactions and of arrows.
 pub fn put_picture(
     out: &mut Vec<u8>,
     batch: u32,
+    first: u32,
     sure: &[bool],
     arrows: &[Arrow],
     depths: &[u32],
     longest: &[bool],
 ) -> Result<(), NoMemory>
+    requires first { first ≤ 1000000 }
     requires few { length depths.now ≤ 4096 }
     requires depths { All (IsBetween 1 4096) depths.now }
     requires sure { length sure.now ≡ length depths.now }
     requires longest { length longest.now ≡ length depths.now }
     requires inside { All (IsInside (length depths.now)) arrows.now }
     ensures { IfOk result (λ _. out.new.items
-        ≡ out.old.items ++ picture_text batch sure.now arrows.now depths.now longest.now) }
+        ≡ out.old.items ++ picture_text batch first sure.now arrows.now depths.now longest.now) }
 {
     if depths.len() <= MOST_NODES as usize {
-        put_by_transaction(out, batch, sure, arrows, depths, longest)
+        put_by_transaction(out, batch, first, sure, arrows, depths, longest)
     } else {
         put_by_depth(out, batch, depths)
     }

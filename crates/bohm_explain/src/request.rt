@@ -4,6 +4,7 @@ ghost use Rattle.std.specs.Prelude.{◌≡◌, ◌≤◌, IfSome};
 ghost use Rattle.std.specs.Option.{SomeIff};
 ghost use Rattle.bohm_explain.specs.Asked.{Asked, AreInRange, IsBetween, defaults};
 
+use crate::layout::Layout;
 use std::marker::Model;
 
 /// The most transactions of a batch.
@@ -17,12 +18,13 @@ pub const MOST_LISTED: u32 = 1000;
 pub const LAST_BATCH: u32 = bohm_tree::MOST_TXNS as u32;
 
 /// The transactions of a batch, how many keys are listed, the hottest first, and the number of the
-/// batch whose picture is printed instead of the table, from 1 on (`None`: the table).
+/// batch whose picture is printed instead of the figures, from 1 on (`None`: the figures, so laid out).
 #[derive(Clone, Copy, Debug, PartialEq, Eq)]
 pub struct Request {
     batch: u32,
     top: u32,
     picture: Option<u32>,
+    layout: Layout,
 }
 
 impl Model for Request {
@@ -30,18 +32,18 @@ impl Model for Request {
 
     ghost Value = { Asked };
 
-    ghost view = { λ r. record { batch = r.batch; top = r.top; picture = r.picture } };
+    ghost view = { λ r. record { batch = r.batch; top = r.top; picture = r.picture; layout = r.layout } };
 
     ghost invariant = { λ r. AreInRange
-        (record { batch = r.batch; top = r.top; picture = r.picture }) };
+        (record { batch = r.batch; top = r.top; picture = r.picture; layout = r.layout }) };
 
-    ghost inverse = { λ a. record { batch = a.batch; top = a.top; picture = a.picture } };
+    ghost inverse = { λ a. record { batch = a.batch; top = a.top; picture = a.picture; layout = a.layout } };
 }
 
 impl Request {
     /// This request, if each number lies in its range.
-    pub fn new(batch: u32, top: u32, picture: Option<u32>) -> Option<Request>
-        ensures { let asked : Asked = record { batch = batch; top = top; picture = picture }
+    pub fn new(batch: u32, top: u32, picture: Option<u32>, layout: Layout) -> Option<Request>
+        ensures { let asked : Asked = record { batch = batch; top = top; picture = picture; layout = layout }
             in SomeIff result (AreInRange asked) asked }
     {
         let in_range = (1..=LARGEST_BATCH).contains(&batch)
@@ -54,6 +56,7 @@ impl Request {
             batch,
             top,
             picture,
+            layout,
         })
     }
 
@@ -73,16 +76,23 @@ impl Request {
         self.top
     }
 
-    /// The number of the batch whose picture is printed, from 1 on; `None` is the table.
+    /// The number of the batch whose picture is printed, from 1 on; `None` are the figures.
     pub fn picture(&self) -> Option<u32>
         ensures value { result ≡ self.now.picture }
         ensures in_range { IfSome result (IsBetween 1 1000000) }
     {
         self.picture
     }
+
+    /// How the figures are laid out.
+    pub fn layout(&self) -> Layout
+        ensures { result ≡ self.now.layout }
+    {
+        self.layout
+    }
 }
 
-/// The largest batches, the ten hottest keys, and the table.
+/// The largest batches, the ten hottest keys, and the table of all batches.
 impl Default for Request {
     ghost is_default = { λ request. request ≡ defaults };
 
@@ -91,6 +101,10 @@ impl Default for Request {
             batch: LARGEST_BATCH,
             top: 10,
             picture: None,
+            layout: Layout {
+                summary: false,
+                json: false,
+            },
         }
     }
 }

@@ -1,7 +1,7 @@
 //! The table, as text.
 
 ghost use Rattle.std.specs.Prelude.{◌≡◌, ◌-◌, ◌≤◌, ◌++◌, length, replicate, IfOk};
-ghost use Rattle.bohm_explain.specs.Table.{cell, hundredths, hundredths_cell, row_line, table_text};
+ghost use Rattle.bohm_explain.specs.Table.{batch_rows, cell, hundredths, hundredths_cell, row_line, rows_from, table_text};
 
 use crate::figures::{Figures, Totals};
 use bohm_tree::NoMemory;
@@ -38,6 +38,28 @@ pub fn put_number<I: Integer>(out: &mut Vec<u8>, width: usize, number: I) -> Res
     put_cell(out, width, Buffer::new().format(number).as_bytes())
 }
 
+/// A number of hundredths at the right end of a column, with its point.
+pub fn put_hundredths(out: &mut Vec<u8>, width: usize, hundredths: u128) -> Result<(), NoMemory>
+    ensures { IfOk result (λ _. out.new.items
+        ≡ out.old.items ++ hundredths_cell width hundredths) }
+{
+    put_number(out, width.saturating_sub(3), hundredths / 100)?;
+    out.push(b'.')?;
+    out.push(b'0' + (hundredths / 10 % 10) as u8)?;
+    out.push(b'0' + (hundredths % 10) as u8)?;
+    Ok(())
+}
+
+/// A quotient in hundredths, cut off, and 0 where nothing is divided by.
+fn hundredths(number: u64, divisor: u64) -> u128
+    ensures { result ≡ hundredths number divisor }
+{
+    if divisor == 0 {
+        return 0;
+    }
+    u128::from(number) * 100 / u128::from(divisor)
+}
+
 /// A quotient with two decimals, cut off, and 0.00 where nothing is divided by.
 pub fn put_quotient(
     out: &mut Vec<u8>,
@@ -48,16 +70,7 @@ pub fn put_quotient(
     ensures { IfOk result (λ _. out.new.items
         ≡ out.old.items ++ hundredths_cell width (hundredths number divisor)) }
 {
-    let hundredths = if divisor == 0 {
-        0
-    } else {
-        u128::from(number) * 100 / u128::from(divisor)
-    };
-    put_number(out, width.saturating_sub(3), hundredths / 100)?;
-    out.push(b'.')?;
-    out.push(b'0' + (hundredths / 10 % 10) as u8)?;
-    out.push(b'0' + (hundredths % 10) as u8)?;
-    Ok(())
+    put_hundredths(out, width, hundredths(number, divisor))
 }
 
 /// The line of a batch or of the log.
@@ -78,12 +91,11 @@ fn put_row(out: &mut Vec<u8>, name: &[u8], totals: Totals) -> Result<(), NoMemor
     Ok(())
 }
 
-/// A line for each batch, numbered from 1, below a head, and one for the log.
-pub fn put_table(out: &mut Vec<u8>, figures: &[Figures]) -> Result<(), NoMemory>
+/// A line for each batch, numbered from 1.
+fn put_rows(out: &mut Vec<u8>, figures: &[Figures]) -> Result<(), NoMemory>
     requires { length figures.now ≤ 1000000 }
-    ensures { IfOk result (λ _. out.new.items ≡ out.old.items ++ table_text figures.now) }
+    ensures { IfOk result (λ _. out.new.items ≡ out.old.items ++ rows_from 1 figures.now) }
 {
-    out.extend_from_slice(HEAD)?;
     for (index, batch) in figures.iter().enumerate() {
         let number = index as u64 + 1;
         put_row(
@@ -92,5 +104,26 @@ pub fn put_table(out: &mut Vec<u8>, figures: &[Figures]) -> Result<(), NoMemory>
             Totals::from(*batch),
         )?;
     }
+    Ok(())
+}
+
+/// The same, which a summary leaves out.
+fn put_batches(out: &mut Vec<u8>, summary: bool, figures: &[Figures]) -> Result<(), NoMemory>
+    requires { length figures.now ≤ 1000000 }
+    ensures { IfOk result (λ _. out.new.items ≡ out.old.items ++ batch_rows summary figures.now) }
+{
+    if summary {
+        return Ok(());
+    }
+    put_rows(out, figures)
+}
+
+/// A line for each batch below a head, unless a summary is asked for, and one for the log.
+pub fn put_table(out: &mut Vec<u8>, summary: bool, figures: &[Figures]) -> Result<(), NoMemory>
+    requires { length figures.now ≤ 1000000 }
+    ensures { IfOk result (λ _. out.new.items ≡ out.old.items ++ table_text summary figures.now) }
+{
+    out.extend_from_slice(HEAD)?;
+    put_batches(out, summary, figures)?;
     put_row(out, b"all", Totals::of(figures))
 }

@@ -4,11 +4,12 @@ use Rattle.std.specs.Io.KnownBytes.{Appends}
 use Rattle.bohm_tree.specs.Document.{Document}
 use Rattle.bohm_run.specs.Bytes.{Sends}
 use Rattle.bohm_run.specs.Given.{Given}
-use Rattle.bohm_run.specs.Headline.{ReadsDocument, ReadsLog, Refuses}
-use Rattle.bohm_run.specs.declared.fault.RunFault.{RunFault}
-use Rattle.bohm_run.specs.declared.fault.RunFault.TheVariants.{Future, Write}
+use Rattle.bohm_run.specs.Headline.{IsBeforeWriting, ReadsDocument, ReadsLog, Refuses}
+use Rattle.bohm_run.specs.declared.fault.RunFault.TheVariants.{Write}
 use Rattle.bohm_explain.specs.Asked.{Asked}
 use Rattle.bohm_explain.specs.Printed.{IsAnswerTo, LacksBatch}
+use Rattle.bohm_explain_cli.specs.declared.fault.ExplainFault.{ExplainFault}
+use Rattle.bohm_explain_cli.specs.declared.fault.ExplainFault.TheVariants.{Run, NoBatch}
 
 -- a well-formed document was read to the reader's end, and the text of what is asked of it was written
 -- and nothing else
@@ -29,7 +30,12 @@ pub record StopsExplaining (asked : Asked) (unread unread' written written' : Op
 
 -- what each refusal says: that the log lacks the batch whose picture is asked for, and else, before the writing,
 -- what a run with any settings says of it
-abbrev pub RefusesLog : Asked → Option (List ℕ) → Option (List ℕ) → Option (List ℕ) → Option (List ℕ) → RunFault → Type 0
-RefusesLog asked unread unread' written written' (Write sent) = StopsExplaining asked unread unread' written written' sent
-RefusesLog asked unread unread' written written' Future = ReadsLog unread unread' (λ document. LacksBatch asked document.log)
-RefusesLog asked unread unread' written written' fault = (given : Given) → Refuses given unread unread' None None fault
+abbrev pub RefusesLog : Asked → Option (List ℕ) → Option (List ℕ) → Option (List ℕ) → Option (List ℕ) → ExplainFault → Type 0
+RefusesLog asked unread unread' written written' NoBatch = ReadsLog unread unread' (λ document. LacksBatch asked document.log)
+RefusesLog asked unread unread' written written' (Run (Write sent)) = StopsExplaining asked unread unread' written written' sent
+RefusesLog asked unread unread' written written' (Run fault) = (given : Given) → Refuses given unread unread' None None fault
+
+-- a refusal before the writing
+abbrev pub IsEarly : ExplainFault → Type 0
+IsEarly NoBatch = Unit {0}
+IsEarly (Run fault) = IsBeforeWriting fault

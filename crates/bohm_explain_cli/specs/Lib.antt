@@ -1,3 +1,4 @@
 pub mod Options
 pub mod Taken
 pub mod Explaining
+pub mod Told

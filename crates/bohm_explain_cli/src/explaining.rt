@@ -1,39 +1,44 @@
 //! A log's explanation from bytes to bytes.
 
 ghost use Rattle.std.specs.Prelude.{◌≡◌, IfErr, OnOk};
-ghost use Rattle.bohm_run.specs.Headline.{IsBeforeWriting};
-ghost use Rattle.bohm_explain_cli.specs.Explaining.{Explains, RefusesLog};
+ghost use Rattle.bohm_explain_cli.specs.Explaining.{Explains, IsEarly, RefusesLog};
 
+use crate::fault::ExplainFault;
 use bohm_explain::{Request, answer};
 use bohm_log::HashSeed;
-use bohm_run::{RunFault, read_log, write_all};
+use bohm_report::read_reported;
+use bohm_run::write_all;
 use std::alloc::Global;
 use std::io::{Read, Write};
 use std::random::RandomSource;
 
 /// Reads a log to the reader's end, and writes the text of what is asked of it and nothing else. It
-/// refuses what a run refuses, and a failed write, as a run does, and as `Future` the picture of a
-/// batch that the log doesn't have. The whole text is made before the first byte is written.
+/// refuses what a run refuses, and a failed write, as a run does, and the picture of a batch that the
+/// log doesn't have. Messages for people on why a text isn't a valid log are added to the report, as
+/// far as allocations succeed. The whole text is made before the first byte is written.
 pub fn explain_text<T: RandomSource, R: Read, W: Write>(
     rt: &T,
     alloc: Global,
     reader: &mut R,
     writer: &mut W,
     request: Request,
-) -> Result<(), RunFault>
+    report: &mut Vec<u8>,
+) -> Result<(), ExplainFault>
     ensures ok { OnOk result
         (Explains request (R.remaining reader.old) (R.remaining reader.new) (W.contents writer.old)
         (W.contents writer.new)) }
+    ensures silent { OnOk result (report.new ≡ report.old) }
     ensures err { IfErr result
         (RefusesLog request (R.remaining reader.old) (R.remaining reader.new)
         (W.contents writer.old) (W.contents writer.new)) }
 
     // Before all faults but a failed write the writer is untouched.
-    ensures untouched { IfErr result (λ e. IsBeforeWriting e → writer.new ≡ writer.old) }
+    ensures untouched { IfErr result (λ e. IsEarly e → writer.new ≡ writer.old) }
 {
-    let checked = read_log(alloc, HashSeed::drawn(rt), reader)?;
+    let checked = read_reported(rt, alloc, reader, report)?;
     let Some(text) = answer(alloc, HashSeed::drawn(rt), &checked.log(), request)? else {
-        return Err(RunFault::Future);
+        return Err(ExplainFault::NoBatch);
     };
-    write_all(writer, text.as_slice())
+    write_all(writer, text.as_slice())?;
+    Ok(())
 }

@@ -7,8 +7,8 @@ ghost use Rattle.bohm_explain_cli.specs.Options.{explain};
 ghost use Rattle.bohm_explain_cli.specs.Taken.{request_in};
 
 use crate::options::{NAME, command};
-use bohm_command::{WordFault, command_line, parse_line};
-use bohm_explain::Request;
+use bohm_command::{WordFault, command_line, is_given, parse_line};
+use bohm_explain::{Layout, Request};
 use std::alloc::Global;
 
 /// The request that the arguments after the program's name make, with the defaults of absent
@@ -21,11 +21,16 @@ pub fn read_words(alloc: Global, words: &[String]) -> Result<Request, WordFault>
 {
     let line = command_line(alloc, NAME, words)?;
     let matches = parse_line(alloc, command(alloc)?, line.as_slice())?;
+    let layout = Layout {
+        summary: is_given(&matches, "summary"),
+        json: is_given(&matches, "json"),
+    };
     let defaults = Request::default();
     let request = Request::new(
         matches.get_one("batch").unwrap_or(defaults.batch()),
         matches.get_one("top").unwrap_or(defaults.top()),
         matches.get_one("dot"),
+        layout,
     );
     Ok(request.unwrap())
 }

@@ -2,24 +2,18 @@
 //! standard output. The run by batches is measured against it.
 #![tactic(auto)]
 
+mod help;
 mod serial;
-mod words;
 
-use bohm_command::{NoAnswer, WordFault, exit_code, tell, without_request, words_given};
+use bohm_command::{NoAnswer, exit_code, no_options_given, tell, without_request};
+use help::SERIAL;
 use serial::serial_text;
 use std::io;
 use std::process::ExitCode;
-use words::{NAME, read_words};
-
-/// Whether the program was started to run a log.
-fn run_asked(rt: &HostRuntime) -> Result<(), WordFault> {
-    let words = words_given(rt, NAME)?;
-    read_words(rt.alloc(), words.as_slice())
-}
 
 fn main(rt: HostRuntime) -> ExitCode {
     let mut out = io::writer(&rt);
-    let answered = match run_asked(&rt) {
+    let answered = match no_options_given(&rt, SERIAL) {
         Ok(()) => serial_text(&rt, rt.alloc(), &mut rt.reader(), &mut out).map_err(NoAnswer::from),
         Err(fault) => without_request(&mut out, fault),
     };

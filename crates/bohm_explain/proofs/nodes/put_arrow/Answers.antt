@@ -7,8 +7,8 @@ use Rattle.bohm_explain.proofs.nodes.put_arrow.Goals as goal
 pub returns : goal.returns
 returns c =
     let start = c.args.out.now.items in
-    let from = decimal (c.args.arrow.from + 1) in
-    let to = decimal (c.args.arrow.to + 1) in
+    let from = decimal (c.args.first + c.args.arrow.from) in
+    let to = decimal (c.args.first + c.args.arrow.to) in
     let key = c.args.arrow.key in
     let bold = shown c.args.bold (codes " [style=bold]") in
     let before = ten start (codes "  ") from (codes " -> ") to (codes " [key=\"") key (codes "\", label=\"") key (codes "\"]") bold _ _ _ _ _ _ _ _ _ _

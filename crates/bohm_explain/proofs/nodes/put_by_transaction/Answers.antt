@@ -14,8 +14,8 @@ pub returns : goal.returns
 returns c =
     let depths = c.args.depths.now in
     let columns = column_lines (greatest depths) in
-    let nodes = node_lines c.args.sure.now depths c.args.longest.now (length depths) in
-    let arrows = arrow_lines depths c.args.longest.now c.args.arrows.now in
+    let nodes = node_lines c.args.first c.args.sure.now depths c.args.longest.now (length depths) in
+    let arrows = arrow_lines c.args.first depths c.args.longest.now c.args.arrows.now in
     let start = c.args.out.now.items in
     let opened = c.put_opening.new.out.items in
     let told = c.put_legend.new.out.items in

@@ -1,5 +1,6 @@
 use Rattle.std.proofs.Common.{◌∙◌, ℕ, List, ◌++◌, ap, codes, decimal}
-use Rattle.bohm_explain.specs.Verdict.{limit_words, speedup_limit}
+use Rattle.std.proofs.lemmas.Result.{IfOk-weaker}
+use Rattle.bohm_explain.specs.Verdict.{limit_words}
 use Rattle.bohm_explain.proofs.Parts.{ten}
 use Rattle.bohm_explain.proofs.verdict.put_key_words.Goals as goal
 
@@ -8,7 +9,7 @@ returns c =
     let t = c.args.totals in
     let h = c.args.heat.now in
     let named = c.in_ok-extend_from_slice-2.ensures.items ∙ ap (λ (name : List ℕ). c.extend_from_slice.new.self.items ++ name) (c.as_slice.ensures.name ∙ c.text.ensures.same) in
-    ten c.args.out.now.items (codes "key ") h.key (codes ", written by ") (decimal h.writers) (codes " of ") (decimal t.transactions) (codes " transactions, is on the longest chain, of ") (decimal h.chain) (codes ": ") (limit_words (speedup_limit t)) _ _ _ _ _ _ _ _ _ _
+    IfOk-weaker c.put_limit.result _ _ (λ x is. ten c.args.out.now.items (codes "key ") h.key (codes ", written by ") (decimal h.writers) (codes " of ") (decimal t.transactions) (codes " transactions, is on the longest chain, of ") (decimal h.chain) (codes ": ") (limit_words t) _ _ _ _ _ _ _ _ _ _
     c.in_ok-extend_from_slice.ensures.items
     named
     c.in_ok-extend_from_slice-3.ensures.items
@@ -18,4 +19,4 @@ returns c =
     c.in_ok-extend_from_slice-5.ensures.items
     c.in_ok-put_decimal-3.ensures
     c.in_ok-extend_from_slice-6.ensures.items
-    (c.in_ok-put_limit.ensures ∙ ap (λ (n : ℕ). c.extend_from_slice-6.new.self.items ++ limit_words n) c.speedup_limit.ensures)
+    is) c.put_limit.ensures

@@ -5,6 +5,7 @@ use Rattle.clap.specs.Walk.{rows_of, texts}
 use Rattle.clap.specs.Words.{Kinds, found_of}
 use Rattle.bohm_explain.specs.Asked.{Asked}
 use Rattle.bohm_explain.specs.declared.request.TheConstants.{LARGEST_BATCH, MOST_LISTED, LAST_BATCH}
+use Rattle.bohm_command.specs.Options.{flag_in}
 use Rattle.bohm_command.specs.Faults.{IsFoundAmong}
 use Rattle.bohm_command.proofs.ForCallers.{takes_line, same_faults, same_rows, number, number_or}
 use Rattle.bohm_explain_cli.specs.Taken.{request_in}
@@ -29,7 +30,9 @@ made c =
     (omega arith, c.top.ensures.in_range) c.unwrap_or-2.ensures c.get_one-2.ensures.none c.get_one-2.ensures.value in
     let picture = number _ _ _ c.in_ok-matches.ensures.parsed is refl refl (codes "dot") 1 LAST_BATCH (omega arith) refl refl _ c.get_one-3.ensures.none c.get_one-3.ensures.value in
     let same = same_request _ _ (c.in_ok-matches.ensures.rows ∙ same_rows _ _ _ _ is line) in
-    request_read (rows_of (found_of c.in_ok-matches.matches)) _ batch top picture _ c.new-request.ensures ∙ ap Some same
+    let layout : record { summary = c.is_given.result; json = c.is_given-2.result } ≡ record { summary = flag_in (rows_of (found_of c.in_ok-matches.matches)) (codes "summary"); json = flag_in (rows_of (found_of c.in_ok-matches.matches)) (codes "json") } =
+    λ i. record { summary = c.is_given.ensures i; json = c.is_given-2.ensures i } in
+    request_read (rows_of (found_of c.in_ok-matches.matches)) _ batch top picture layout _ c.new-request.ensures ∙ ap Some same
 
 pub unwrap-requires : goal.unwrap-requires
 unwrap-requires c = rw (made c) refl

@@ -1,0 +1,41 @@
+-- What the program reads, writes and refuses.
+use Rattle.std.specs.Prelude.{◌≡◌, ℕ, List, length, count_by, Option, None}
+use Rattle.std.specs.Io.KnownBytes.{Appends}
+use Rattle.bohm_tree.specs.Document.{Document}
+use Rattle.bohm_txn.specs.Sure.{is_sure}
+use Rattle.bohm_run.specs.Bytes.{Sends}
+use Rattle.bohm_run.specs.Given.{Given}
+use Rattle.bohm_run.specs.Headline.{ReadsDocument, Refuses}
+use Rattle.bohm_run.specs.declared.fault.RunFault.{RunFault}
+use Rattle.bohm_run.specs.declared.fault.RunFault.TheVariants.{Write}
+use Rattle.bohm_check.specs.SummaryLine.{summary_line}
+use Rattle.bohm_check.specs.declared.summary.Summary.{Summary}
+
+-- a document holds so much
+pub record Holds (document : Document) (summary : Summary) : Type 0 where
+  pub edition : summary.edition ≡ document.edition
+  pub keys : summary.keys ≡ length document.store
+  pub transactions : summary.transactions ≡ length document.log
+  pub sure : summary.sure ≡ count_by is_sure document.log
+
+-- a well-formed document was read to the reader's end, and the line that says how much it holds was written
+-- and nothing else
+pub record Tells (unread unread' written written' : Option (List ℕ)) : Type 0 where
+  pub document : Document
+  pub read : ReadsDocument unread unread' document
+  pub summary : Summary
+  pub holds : Holds document summary
+  pub wrote : Appends written written' (summary_line summary)
+
+-- a well-formed document was read to the reader's end, and the first bytes of that line were written
+pub record StopsTelling (unread unread' written written' : Option (List ℕ)) (sent : ℕ) : Type 0 where
+  pub document : Document
+  pub read : ReadsDocument unread unread' document
+  pub summary : Summary
+  pub holds : Holds document summary
+  pub wrote : Sends written written' (summary_line summary) sent
+
+-- what each refusal says: before the writing, what a run with any settings says of the log
+abbrev pub RefusesLog : Option (List ℕ) → Option (List ℕ) → Option (List ℕ) → Option (List ℕ) → RunFault → Type 0
+RefusesLog unread unread' written written' (Write sent) = StopsTelling unread unread' written written' sent
+RefusesLog unread unread' written written' fault = (given : Given) → Refuses given unread unread' None None fault

@@ -1,0 +1,185 @@
+//! Figures in JSON.
+
+ghost use Rattle.std.specs.Prelude.{◌≡◌, ◌≤◌, ◌++◌, [], length, take, IfOk};
+ghost use Rattle.bohm_explain.specs.Json.{batches_json, field, figures_from, figures_item, figures_json, heat_item, heat_json, heats_from, hottest_json, hundredths_field, json_text, limits_json, separator};
+ghost use Rattle.bohm_explain.specs.Table.{hundredths};
+
+use crate::decimal::put_decimal;
+use crate::figures::{Figures, Totals};
+use crate::heat::Heat;
+use crate::table::{put_hundredths, put_quotient};
+use crate::verdict::{execution_limit, run_limit};
+use bohm_tree::NoMemory;
+use itoa::Integer;
+
+/// The name of a further field.
+fn put_name(out: &mut Vec<u8>, name: &[u8]) -> Result<(), NoMemory>
+    ensures { IfOk result (λ _. out.new.items ≡ out.old.items ++ field name.now []) }
+{
+    out.extend_from_slice(b",\"")?;
+    out.extend_from_slice(name)?;
+    out.extend_from_slice(b"\":")?;
+    Ok(())
+}
+
+/// A further field with a number.
+fn put_field<I: Integer>(out: &mut Vec<u8>, name: &[u8], number: I) -> Result<(), NoMemory>
+    ensures { IfOk result (λ _. out.new.items ≡ out.old.items ++ field name.now (I.text number)) }
+{
+    put_name(out, name)?;
+    put_decimal(out, number)
+}
+
+/// A further field with a quotient.
+fn put_width(out: &mut Vec<u8>, name: &[u8], number: u64, divisor: u64) -> Result<(), NoMemory>
+    ensures { IfOk result (λ _. out.new.items
+        ≡ out.old.items ++ hundredths_field name.now (hundredths number divisor)) }
+{
+    put_name(out, name)?;
+    put_quotient(out, 0, number, divisor)
+}
+
+/// The figures of a batch or of the log.
+fn put_figures(out: &mut Vec<u8>, totals: Totals) -> Result<(), NoMemory>
+    ensures { IfOk result (λ _. out.new.items ≡ out.old.items ++ figures_json totals) }
+{
+    out.extend_from_slice(b"{\"transactions\":")?;
+    put_decimal(out, totals.transactions)?;
+    put_field(out, b"keys", totals.keys)?;
+    put_field(out, b"sure", totals.sure)?;
+    put_field(out, b"taken", totals.taken)?;
+    put_field(out, b"depth", totals.depth)?;
+    put_width(out, b"width", totals.transactions, totals.depth)?;
+    put_field(out, b"terms", totals.terms)?;
+    put_field(out, b"heaviest", totals.heaviest)?;
+    put_width(out, b"width_by_terms", totals.terms, totals.heaviest)?;
+    out.extend_from_slice(b"}")?;
+    Ok(())
+}
+
+/// A key with what is counted of it.
+fn put_heat(out: &mut Vec<u8>, heat: &Heat) -> Result<(), NoMemory>
+    ensures { IfOk result (λ _. out.new.items ≡ out.old.items ++ heat_json heat.now) }
+{
+    out.extend_from_slice(b"{\"key\":\"")?;
+    out.extend_from_slice(heat.key.text().as_slice())?;
+    out.extend_from_slice(b"\"")?;
+    put_field(out, b"writers", heat.writers)?;
+    put_field(out, b"readers", heat.readers)?;
+    put_field(out, b"chain", heat.chain)?;
+    out.extend_from_slice(b"}")?;
+    Ok(())
+}
+
+/// What stands before an item of a list, after this many others.
+fn put_separator(out: &mut Vec<u8>, before: usize) -> Result<(), NoMemory>
+    ensures { IfOk result (λ _. out.new.items ≡ out.old.items ++ separator before) }
+{
+    if before == 0 {
+        out.extend_from_slice(b"\n")?;
+    } else {
+        out.extend_from_slice(b",\n")?;
+    }
+    Ok(())
+}
+
+/// An item with figures, after this many others.
+fn put_figures_item(out: &mut Vec<u8>, before: usize, totals: Totals) -> Result<(), NoMemory>
+    ensures { IfOk result (λ _. out.new.items ≡ out.old.items ++ figures_item before totals) }
+{
+    put_separator(out, before)?;
+    put_figures(out, totals)
+}
+
+/// An item with a key, after this many others.
+fn put_heat_item(out: &mut Vec<u8>, before: usize, heat: &Heat) -> Result<(), NoMemory>
+    ensures { IfOk result (λ _. out.new.items ≡ out.old.items ++ heat_item before heat.now) }
+{
+    put_separator(out, before)?;
+    put_heat(out, heat)
+}
+
+/// The figures of each batch, as the items of a list.
+fn put_items(out: &mut Vec<u8>, figures: &[Figures]) -> Result<(), NoMemory>
+    ensures { IfOk result (λ _. out.new.items ≡ out.old.items ++ figures_from 0 figures.now) }
+{
+    for (index, batch) in figures.iter().enumerate() {
+        put_figures_item(out, index, Totals::from(*batch))?;
+    }
+    Ok(())
+}
+
+/// The same as a list under its name, which a summary leaves out.
+fn put_batches(out: &mut Vec<u8>, summary: bool, figures: &[Figures]) -> Result<(), NoMemory>
+    ensures { IfOk result (λ _. out.new.items
+        ≡ out.old.items ++ batches_json summary figures.now) }
+{
+    if summary {
+        return Ok(());
+    }
+    out.extend_from_slice(b"\"batches\":[")?;
+    put_items(out, figures)?;
+    out.extend_from_slice(b"],\n")?;
+    Ok(())
+}
+
+/// These keys, as the items of a list.
+fn put_heats(out: &mut Vec<u8>, heats: &[Heat]) -> Result<(), NoMemory>
+    ensures { IfOk result (λ _. out.new.items ≡ out.old.items ++ heats_from 0 heats.now) }
+{
+    for (index, heat) in heats.iter().enumerate() {
+        put_heat_item(out, index, heat)?;
+    }
+    Ok(())
+}
+
+/// The first `top` of these keys, as the items of a list.
+fn put_first(out: &mut Vec<u8>, top: u32, ranked: &[Heat]) -> Result<(), NoMemory>
+    ensures { IfOk result (λ _. out.new.items ≡ out.old.items ++ heats_from 0 (take top ranked.now)) }
+{
+    put_heats(out, &ranked[..ranked.len().min(top as usize)])
+}
+
+/// The same as a list under its name.
+fn put_hottest(out: &mut Vec<u8>, top: u32, ranked: &[Heat]) -> Result<(), NoMemory>
+    ensures { IfOk result (λ _. out.new.items ≡ out.old.items ++ hottest_json top ranked.now) }
+{
+    out.extend_from_slice(b",\n\"hottest\":[")?;
+    put_first(out, top, ranked)?;
+    out.extend_from_slice(b"]")?;
+    Ok(())
+}
+
+/// How many times as fast all workers can at most make the execution, and a run.
+fn put_limits(out: &mut Vec<u8>, totals: Totals) -> Result<(), NoMemory>
+    ensures { IfOk result (λ _. out.new.items ≡ out.old.items ++ limits_json totals) }
+{
+    out.extend_from_slice(b",\n\"execution_at_most\":")?;
+    put_hundredths(out, 0, execution_limit(totals))?;
+    out.extend_from_slice(b",\"run_at_most\":")?;
+    put_hundredths(out, 0, run_limit(totals))
+}
+
+/// The figures of each batch, unless a summary is asked for, and of the log; the first `top` keys;
+/// and what workers can at most gain.
+pub fn put_json(
+    out: &mut Vec<u8>,
+    summary: bool,
+    top: u32,
+    figures: &[Figures],
+    ranked: &[Heat],
+) -> Result<(), NoMemory>
+    requires { length figures.now ≤ 1000000 }
+    ensures { IfOk result (λ _. out.new.items
+        ≡ out.old.items ++ json_text summary top figures.now ranked.now) }
+{
+    let totals = Totals::of(figures);
+    out.extend_from_slice(b"{")?;
+    put_batches(out, summary, figures)?;
+    out.extend_from_slice(b"\"all\":")?;
+    put_figures(out, totals)?;
+    put_hottest(out, top, ranked)?;
+    put_limits(out, totals)?;
+    out.extend_from_slice(b"}\n")?;
+    Ok(())
+}

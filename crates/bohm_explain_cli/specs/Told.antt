@@ -1,0 +1,14 @@
+-- How the program ends after a fault.
+use Rattle.std.specs.Prelude.{◌≡◌, codes}
+use Rattle.bohm_command.specs.declared.ending.NoAnswer.{NoAnswer}
+use Rattle.bohm_command.specs.declared.ending.NoAnswer.TheVariants as ending
+use Rattle.bohm_command.specs.Endings.{text_of}
+use Rattle.bohm_explain_cli.specs.declared.fault.ExplainFault.{ExplainFault}
+use Rattle.bohm_explain_cli.specs.declared.fault.ExplainFault.TheVariants.{Run, NoBatch}
+
+-- as a run that is refused so; a batch that the log lacks has a line of its own, with the same status
+abbrev pub IsToldAs : ExplainFault → NoAnswer → Type 0
+IsToldAs (Run fault) reason = reason ≡ ending.Run fault
+IsToldAs NoBatch (ending.Refused line) = line.now ≡ codes "refused: no such batch\n"
+IsToldAs NoBatch (ending.Run fault) = ⊥
+IsToldAs NoBatch (ending.BadWords text) = ⊥

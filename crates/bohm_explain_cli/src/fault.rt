@@ -1,0 +1,49 @@
+//! Why a log isn't explained.
+
+ghost use Rattle.std.specs.Prelude.{◌≡◌};
+ghost use Rattle.bohm_explain_cli.specs.declared.fault.ExplainFault.TheVariants.{Run};
+ghost use Rattle.bohm_explain_cli.specs.Told.{IsToldAs};
+
+use bohm_command::NoAnswer;
+use bohm_run::RunFault;
+use bohm_tree::NoMemory;
+
+/// What standard error has where the log lacks the batch.
+const NO_BATCH: &str = "refused: no such batch\n";
+
+/// Why a log isn't explained.
+#[derive(Clone, Copy, Debug, PartialEq, Eq)]
+pub enum ExplainFault {
+    /// A run refuses the log so, or the explanation couldn't be written.
+    Run(RunFault),
+    /// The log lacks the batch whose picture is asked for.
+    NoBatch,
+}
+
+impl From<RunFault> for ExplainFault {
+    ghost from_gives = { λ fault e. e ≡ Run fault };
+
+    fn from(fault: RunFault) -> ExplainFault {
+        ExplainFault::Run(fault)
+    }
+}
+
+impl From<NoMemory> for ExplainFault {
+    ghost use Rattle.bohm_run.specs.declared.fault.RunFault.TheVariants as run;
+
+    ghost from_gives = { λ _ e. e ≡ Run run.NoMemory };
+
+    fn from(_e: NoMemory) -> ExplainFault {
+        ExplainFault::Run(RunFault::NoMemory)
+    }
+}
+
+/// What the program ends with.
+pub fn no_answer(fault: ExplainFault) -> NoAnswer
+    ensures { IsToldAs fault result }
+{
+    match fault {
+        ExplainFault::Run(fault) => NoAnswer::Run(fault),
+        ExplainFault::NoBatch => NoAnswer::Refused(NO_BATCH),
+    }
+}

@@ -1,0 +1,8 @@
+//! Reads a log and reports its faults to people.
+#![tactic(auto)]
+
+mod checking;
+mod reading;
+mod refusal;
+
+pub use reading::read_reported;

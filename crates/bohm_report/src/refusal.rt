@@ -1,0 +1,27 @@
+//! Why a log is refused.
+
+use bohm_text::TextFault;
+use bohm_tree::NoMemory;
+use bohm_txn::CheckFault;
+
+/// Why a text is no log that is run.
+#[derive(Clone, Copy, Debug, PartialEq, Eq)]
+pub enum Refusal {
+    /// It isn't a document's. An allocation failure is never reported so.
+    Text(TextFault),
+    /// The document that it is has faults, and this is the first.
+    Check(CheckFault),
+    /// An allocation failed.
+    NoMemory,
+}
+
+impl From<NoMemory> for Refusal {
+    ghost use Rattle.std.specs.Prelude.{◌≡◌};
+    ghost use Rattle.bohm_report.specs.declared.refusal.Refusal.TheVariants.{NoMemory};
+
+    ghost from_gives = { λ _ e. e ≡ NoMemory };
+
+    fn from(_e: NoMemory) -> Refusal {
+        Refusal::NoMemory
+    }
+}
