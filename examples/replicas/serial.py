@@ -36,13 +36,12 @@ def literal(value: bytes) -> bytes:
 
 @dataclass
 class Serial:
-    """For each put of the log its line of reply, and the timestamp of the last transaction up to it; what was put to
-    keys that were there is told apart. The store is that behind them all, and the accounts' values lie by their
-    timestamps."""
+    """For each put of the log its line of reply, the timestamp of the last transaction up to it, and the transaction
+    that it stands for, or nothing. The store is that behind them all; the accounts' values lie by timestamps."""
     puts: list[Change]
     lines: list[bytes] = field(default_factory=list)
     tops: list[int] = field(default_factory=list)
-    log: bytes = b""
+    texts: list[bytes] = field(default_factory=list)
     store: bytes = b""
     skipped: int = 0
     values: dict[bytes, list[tuple[int, int]]] = field(default_factory=dict)
@@ -71,15 +70,14 @@ def texts_of(puts: list[Change]) -> list[bytes]:
 def run(puts: list[Change], program: Path) -> Serial:
     found = Serial(puts)
     texts = texts_of(puts)
-    found.log = HEAD + b"".join(text for text in texts if text.startswith(b"txn\n"))
-    answer = subprocess.run([program], input=found.log, stdout=subprocess.PIPE, check=True).stdout
-    replies, _, found.store = answer.partition(b"--\n")
+    found.texts = [text if text.startswith(b"txn\n") else b"" for text in texts]
+    replies, found.store = answer_of(found.texts, program)
     rest = iter(replies.splitlines())
     top = 0
     for put, text in zip(puts, texts):
-        reply = next(rest) if text.startswith(b"txn\n") else text
-        if reply is not text:
-            top += 1
+        reply = text
+        if text.startswith(b"txn\n"):
+            reply, top = next(rest), top + 1
             move(found.values, put.value or b"", reply, top)
         found.skipped += reply.startswith(b"skipped")
         found.lines.append(b"%d %s %s\n" % (put.revision, quote_from_bytes(put.key).encode(), reply))
@@ -101,9 +99,13 @@ def move(values: dict[bytes, list[tuple[int, int]]], text: bytes, reply: bytes, 
             values.setdefault(key, []).append((ts, int(value)))
 
 
-def digest_at(serial: Serial, ts: int, program: Path) -> str:
-    """The SHA-256 of the serial run's store at a timestamp, behind a line `--`, by the program."""
-    top = serial.tops[-1]
-    answer = subprocess.run([program, "--at", str(ts), "--keep", str(top)], input=serial.log, stdout=subprocess.PIPE,
-                            check=True).stdout
-    return hashlib.sha256(answer[answer.index(b"--\n"):]).hexdigest()
+def answer_of(texts: list[bytes], program: Path) -> tuple[bytes, bytes]:
+    """The replies of transactions, and the store behind them."""
+    answer = subprocess.run([program], input=HEAD + b"".join(texts), stdout=subprocess.PIPE, check=True).stdout
+    replies, _, store = answer.partition(b"--\n")
+    return replies, store
+
+
+def digest_at(serial: Serial, place: int, program: Path) -> str:
+    """The SHA-256 of the serial run's store behind so many entries, with a line `--` before it."""
+    return hashlib.sha256(b"--\n" + answer_of(serial.texts[:place], program)[1]).hexdigest()

@@ -69,7 +69,7 @@ def check_digests(scene: Scene, program: Path, found: Outcome) -> None:
             told[int(change.key.split(b"/")[2])].add(change.value.decode())
     found.places = len(told)
     for place, digests in told.items():
-        wanted = serial.digest_at(found.serial, found.serial.tops[place - 1], program)
+        wanted = serial.digest_at(found.serial, place, program)
         if digests != {wanted}:
             found.differing += 1
             found.faults.append(f"digests behind entry {place}: {sorted(digests)}, the serial run's is {wanted}")
