@@ -10,7 +10,6 @@ SIGTERM ends it behind a last snapshot, with status 0.
 from __future__ import annotations
 
 import argparse
-import ctypes
 import fcntl
 import queue
 import signal
@@ -24,7 +23,7 @@ from urllib.parse import quote_from_bytes
 import serving
 import snapshot
 from etcd import Compacted, Etcd, Put, Refused, Unreachable
-from ledger import HEAD, Ledger, Refusal, Unread, bohm
+from ledger import HEAD, BohmError, Ledger, Unread, bohm
 from replies import Replies
 from snapshot import Snapshot
 
@@ -85,7 +84,7 @@ class Inbox:
 class Replica:
     """A ledger behind a revision of a log, with the replies and the snapshots up to there."""
 
-    def __init__(self, words: argparse.Namespace, library: ctypes.CDLL) -> None:
+    def __init__(self, words: argparse.Namespace, library: bohm.Library) -> None:
         self.words, self.library = words, library
         self.prefix = words.prefix.encode()
         self.path = words.folder / "snapshot"
@@ -191,7 +190,7 @@ def main() -> None:
         serving.start(replica, words.port)
         replica.run()
         lock.close()
-    except (OSError, InUse, Compacted, Refused, Unreachable, Refusal) as fault:
+    except (OSError, InUse, Compacted, Refused, Unreachable, BohmError) as fault:
         sys.exit(f"ended: {type(fault).__name__}: {fault}")
 
 
