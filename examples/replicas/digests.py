@@ -8,6 +8,7 @@ from __future__ import annotations
 import collections
 import queue
 import threading
+from collections.abc import Iterator
 
 from etcd import Change, Etcd, Refused, Unreachable
 
@@ -32,17 +33,27 @@ def folder_of(prefix: bytes, place: int) -> bytes:
 class Digests:
     """A replica's own digests, and those of others that differ from them."""
 
-    def __init__(self, log: Etcd, prefix: bytes, name: str, address: str) -> None:
-        """Makes the name known. `log` is used by one thread of this."""
+    def __init__(self, log: Etcd, prefix: bytes, name: str, address: str, entries: int) -> None:
+        """Makes the name known, and goes on behind so many entries with what was published under the name. `log` is
+        used by one thread of this."""
         self.log, self.prefix, self.name = log, prefix, name
         log.overwrite(names_of(prefix) + name.encode(), address.encode())
-        self.own: dict[int, str] = {}
-        self.last: tuple[int, str | None] = (0, None)
+        self.own = {place: digest for place, whose, digest in self.published() if whose == name and place <= entries}
         self.told: dict[int, dict[str, str]] = collections.defaultdict(dict)
         self.differing: set[int] = set()
         self.fault: str | None = None
         self.waiting: queue.SimpleQueue[tuple[int, str | None]] = queue.SimpleQueue()
         threading.Thread(target=self.work, daemon=True).start()
+
+    def published(self) -> Iterator[tuple[int, str, str]]:
+        """Places with whose digest it is, by rising places."""
+        for key, digest in sorted(self.log.held(b"digests/" + self.prefix).items()):
+            place, _, whose = key.removeprefix(b"digests/" + self.prefix).partition(b"/")
+            yield int(place), whose.decode(), digest.decode()
+
+    def last(self) -> tuple[int, str | None]:
+        """The last place, and the digest there."""
+        return max(self.own.items(), default=(0, None))
 
     def note(self, change: Change) -> None:
         """Takes another replica's digest from a change of a key, where it tells one."""
@@ -56,7 +67,6 @@ class Digests:
     def add(self, place: int, digest: str) -> None:
         """Takes this replica's digest of the next place, and lets the oldest one go."""
         self.own[place] = digest
-        self.last = (place, digest)
         for old in [old for old in (*self.own, *self.told) if old <= place - KEPT * EVERY]:
             self.own.pop(old, None)
             self.told.pop(old, None)
@@ -76,8 +86,9 @@ class Digests:
             place, digest = self.waiting.get()
             try:
                 if digest:
+                    old = max(0, place - KEPT * EVERY)
                     self.log.publish(folder_of(self.prefix, place) + self.name.encode(), digest.encode(),
-                                     folder_of(self.prefix, 0), folder_of(self.prefix, max(0, place - KEPT * EVERY) + 1))
+                                     folder_of(self.prefix, 0), folder_of(self.prefix, old + 1))
                 else:
                     self.judge(place)
             except (Unreachable, Refused):

@@ -5,6 +5,7 @@ import re
 from dataclasses import dataclass
 
 NAME = rb"[a-z][a-z0-9_]{0,31}"
+KEY = re.compile(NAME)
 CALL = re.compile(rb"call (" + NAME + rb")((?: [^ \n]+)*)\n")
 DEFINITION = re.compile(rb"define (" + NAME + rb")\n(procedure 1\n.*)", re.DOTALL)
 NUMBER = re.compile(rb"0|-?[1-9][0-9]{0,18}")

@@ -162,8 +162,9 @@ class ReplicaFaults(Faults):
             if status := replica.end():
                 raise Failed(f"{replica.name} ended with status {status}")
             replica.command[1] = str(self.newer / "replica.py")
+            said = replica.said.stat().st_size
             began = self.scene.start(replica)["began"]
-            if not began:
+            if b"from its beginning" in replica.said.read_bytes()[said:]:
                 raise Failed(f"{replica.name} didn't go on from its snapshot")
             self.scene.caught_up(replica)
             self.scene.tell(f"{replica.name} upgraded, from revision {began}")

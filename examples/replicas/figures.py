@@ -7,7 +7,7 @@ import itertools
 import resource
 import threading
 import time
-from collections.abc import Iterable, Iterator
+from collections.abc import Iterable, Iterator, Sequence
 from pathlib import Path
 
 # The upper bounds of a segment's entries, and of seconds.
@@ -18,7 +18,7 @@ SECONDS = [0.0001, 0.001, 0.01, 0.1, 1.0, 10.0]
 class Histogram:
     """How many of the values are at most each bound, and their sum."""
 
-    def __init__(self, bounds: list[float]) -> None:
+    def __init__(self, bounds: Sequence[float]) -> None:
         self.bounds, self.counts, self.sum = bounds, [0] * (len(bounds) + 1), 0.0
 
     def add(self, value: float) -> None:

@@ -93,8 +93,8 @@ def check_order(spans: Iterable[Span], faults: list[str], name: Callable[[int], 
         if span.place != place:
             latest, place = max(latest, pending), span.place
         if span.end is not None and span.end < latest:
-            faults.append(f"{name(int(span.place))} was acknowledged at {span.end:.6f}, and is behind what was begun at "
-                          f"{latest:.6f}")
+            faults.append(f"{name(int(span.place))} was acknowledged at {span.end:.6f}, and is behind what was begun "
+                          f"at {latest:.6f}")
         pending = max(pending, span.begin)
 
 

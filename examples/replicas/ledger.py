@@ -1,13 +1,20 @@
 """A machine with its procedures that takes a log's values, and the rule which of them are transactions."""
 from __future__ import annotations
 
-import ctypes
 import itertools
+import sys
 from collections.abc import Iterable, Iterator
+from pathlib import Path
 
 import entries
-from entries import Call, Definition, Entry, Shapeless, Transaction
-from library import Calls, Machine, Procedure, Refusal, Status, answer, digest
+from entries import Call, Definition, Entry, Transaction
+
+HERE = Path(__file__).resolve().parent
+sys.path.insert(0, str(HERE.parents[1] / "packaging" / "python"))
+import bohm  # noqa: E402
+from bohm import BohmError, HasLogError, Library, Machine, NoKeyError, RefusedError, TrimmedError  # noqa: E402
+
+__all__ = ["BohmError", "Ledger", "Library", "NoKeyError", "TrimmedError", "Unread"]
 
 HEAD = b"log 1\n"
 # Calls that are run at once. A list takes 1,000,000.
@@ -18,11 +25,9 @@ class Unread(Exception):
     """A text that is no store's, or a procedure's that isn't accepted."""
 
 
-def skipped_by(refusal: Refusal) -> bytes:
-    """The reply to a value whose text is refused. Other refusals tell of the machine, and are raised."""
-    if refusal.status != Status.REFUSED:
-        raise refusal
-    return refusal.line.strip().replace(b"refused", b"skipped", 1)
+def skipped_by(refusal: RefusedError) -> bytes:
+    """The reply to a value whose text is refused."""
+    return refusal.line.encode().replace(b"refused", b"skipped", 1)
 
 
 def merged(skipped: dict[int, bytes], replies: Iterable[bytes], count: int) -> list[bytes]:
@@ -34,87 +39,81 @@ def merged(skipped: dict[int, bytes], replies: Iterable[bytes], count: int) -> l
 class Ledger:
     """Replies to values in their order, the same however they are cut into calls."""
 
-    def __init__(self, library: ctypes.CDLL, store: bytes, top: int, texts: dict[bytes, bytes]) -> None:
+    def __init__(self, library: Library, store: bytes, top: int, texts: dict[bytes, bytes]) -> None:
         """Goes on from a store behind the transaction with a timestamp, with procedures by their names. Raises Unread,
-        or Refusal."""
+        or BohmError."""
         self.library = library
         try:
-            self.machine = Machine(library, store, top)
-            self.procedures = {name: Procedure(library, text) for name, text in texts.items()}
-        except Refusal as refusal:
-            if refusal.status not in (Status.REFUSED, Status.HAS_LOG):
-                raise
+            self.machine = Machine(store, top, library=library)
+            self.procedures = {name: self.machine.prepare(text) for name, text in texts.items()}
+        except (RefusedError, HasLogError) as refusal:
             raise Unread(str(refusal)) from refusal
-        self.calls = Calls(library)
 
     def apply(self, values: list[bytes]) -> list[bytes]:
-        """The reply to each value: the machine's, or why it is skipped. After a Refusal, for lack of memory or of
+        """The reply to each value: the machine's, or why it is skipped. After a BohmError, for lack of memory or of
         timestamps, the machine may have gone a part of the way, and the ledger isn't to be used any more."""
         replies: list[bytes] = []
         for group in alike(map(entries.read, values)):
-            if isinstance(group[0], Call):
-                replies += self.run_calls(group)
-            elif isinstance(group[0], Transaction):
-                replies += self.run_texts([entry.text for entry in group])
-            elif isinstance(group[0], Definition):
-                replies += [self.define(entry) for entry in group]
+            if calls := [entry for entry in group if isinstance(entry, Call)]:
+                replies += self.run_calls(calls)
+            elif texts := [entry.text for entry in group if isinstance(entry, Transaction)]:
+                replies += self.run_texts(texts)
+            elif definitions := [entry for entry in group if isinstance(entry, Definition)]:
+                replies += [self.define(definition) for definition in definitions]
             else:
                 replies += [entries.SHAPELESS] * len(group)
         return replies
 
     def define(self, definition: Definition) -> bytes:
         try:
-            self.procedures[definition.name] = Procedure(self.library, definition.text)
-        except Refusal as refusal:
+            self.procedures[definition.name] = self.machine.prepare(definition.text)
+        except RefusedError as refusal:
             return skipped_by(refusal)
         return b"defined " + definition.name
 
     def run_calls(self, calls: list[Call]) -> list[bytes]:
-        skipped = {at: why for at, call in enumerate(calls) if (why := self.push(call))}
-        replies = self.calls.run(self.machine).splitlines() if len(skipped) < len(calls) else []
-        return merged(skipped, replies, len(calls))
+        found = [self.prepared(call) for call in calls]
+        skipped = {at: call for at, call in enumerate(found) if isinstance(call, bytes)}
+        replies = self.machine.run(call for call in found if isinstance(call, bohm.Call))
+        return merged(skipped, (str(reply).encode() for reply in replies), len(calls))
 
-    def push(self, call: Call) -> bytes | None:
-        """Adds a call to those that are run next; or says why it is skipped."""
+    def prepared(self, call: Call) -> bohm.Call | bytes:
+        """What the machine runs; or why the call is skipped."""
         procedure = self.procedures.get(call.name)
         if not procedure:
             return b"skipped: procedure"
-        if len(call.arguments) != procedure.keys + procedure.values:
+        if len(call.arguments) != len(procedure.parameters):
             return b"skipped: arguments"
-        values = [entries.number(word) for word in call.arguments[procedure.keys:]]
-        if None in values:
+        keys = call.arguments[:len(procedure.keys)]
+        words = call.arguments[len(keys):]
+        values = tuple(value for word in words if (value := entries.number(word)) is not None)
+        if len(values) < len(words):
             return b"skipped: value"
-        if not self.calls.push(procedure, call.arguments[:procedure.keys], values):
+        if not all(map(entries.KEY.fullmatch, keys)):
             return b"skipped: key"
-        return None
+        return bohm.Call(procedure, tuple(keys), values)
 
     def run_texts(self, texts: list[bytes]) -> list[bytes]:
+        skipped: dict[int, bytes] = {}
         try:
-            return self.machine.apply(HEAD + b"".join(texts)).splitlines()
-        except Refusal as refusal:
-            skipped_by(refusal)
-        skipped = {at: why for at, text in enumerate(texts) if (why := self.fault(text))}
-        good = b"".join(text for at, text in enumerate(texts) if at not in skipped)
-        replies = self.machine.apply(HEAD + good).splitlines() if good else []
-        return merged(skipped, replies, len(texts))
+            replies = self.machine.apply(HEAD + b"".join(texts))
+        except RefusedError:
+            skipped = {at: why for at, text in enumerate(texts) if (why := self.fault(text))}
+            good = b"".join(text for at, text in enumerate(texts) if at not in skipped)
+            replies = self.machine.apply(HEAD + good)
+        return merged(skipped, (str(reply).encode() for reply in replies), len(texts))
 
     def fault(self, text: bytes) -> bytes | None:
         """Why a text is skipped: the line by which the log that has it alone is refused."""
         try:
-            answer(self.library, HEAD + text)
-        except Refusal as refusal:
+            bohm.answer(HEAD + text, library=self.library)
+        except RefusedError as refusal:
             return skipped_by(refusal)
         return None
 
     def texts(self) -> dict[bytes, bytes]:
         """The procedures' texts, by their names."""
-        return {name: procedure.text for name, procedure in sorted(self.procedures.items())}
-
-    def top(self) -> int:
-        return self.machine.counts().top
-
-    def digest(self, ts: int) -> str:
-        return digest(self.machine, ts).hex()
+        return {name: procedure.text.encode() for name, procedure in sorted(self.procedures.items())}
 
 
 def alike(given: Iterable[Entry]) -> Iterator[list[Entry]]:

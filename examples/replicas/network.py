@@ -32,8 +32,8 @@ def missing() -> str | None:
     for command in ("unshare", "nsenter", "ip", "mount"):
         if not shutil.which(command):
             return f"there is no {command}"
-    made = subprocess.run([*unshare(), "sh", "-c", "mount -t tmpfs none /mnt && ip link add name one type veth peer name two"],
-                          capture_output=True, text=True)
+    trial = "mount -t tmpfs none /mnt && ip link add name one type veth peer name two"
+    made = subprocess.run([*unshare(), "sh", "-c", trial], capture_output=True, text=True)
     return made.stderr.strip() or "unshare is refused" if made.returncode else None
 
 

@@ -2,15 +2,12 @@
 from __future__ import annotations
 
 import threading
-import time
 from collections.abc import Callable
 from typing import TYPE_CHECKING, Any
 
-import library
 from etcd import Etcd, Refused, Unreachable
-from figures import memory, one
-from ledger import HEAD, Refusal
-from library import Status
+from figures import headed, memory, one
+from ledger import HERE, TrimmedError
 
 if TYPE_CHECKING:
     from replica import Replica
@@ -25,10 +22,6 @@ class NotYet(Exception):
 
 class Gone(Exception):
     """The timestamp is below the floor."""
-
-
-class NoKey(Exception):
-    """The word is no key."""
 
 
 class Reader:
@@ -56,7 +49,8 @@ class Reader:
     def timestamp(self, at: int | None, fresh: bool) -> int:
         """The timestamp to read at: a given one; or else the last, `fresh`: behind all that was acknowledged before."""
         if at is not None:
-            self.wait(lambda: self.replica.top >= at, f"timestamp {at}")
+            wanted = at
+            self.wait(lambda: self.replica.top >= wanted, f"timestamp {at}")
             return at
         if fresh:
             revision = self.current()
@@ -79,9 +73,8 @@ class Reader:
         return {"timestamp": ts, "key": key.decode(), "value": value}
 
     def store(self, at: int | None, fresh: bool) -> dict[str, Any]:
-        ts, text = self.kept(at, fresh, self.replica.ledger.machine.store_at)
-        pairs = [line.split(b" ") for line in text.removeprefix(HEAD).splitlines()]
-        return {"timestamp": ts, "store": {key.decode(): int(value) for key, value in pairs}}
+        ts, store = self.kept(at, fresh, self.replica.ledger.machine.store_at)
+        return {"timestamp": ts, "store": store}
 
     def kept(self, at: int | None, fresh: bool, look: Callable[[int], Any]) -> tuple[int, Any]:
         """What is found at a timestamp, and the timestamp. The last one is taken anew where it is let go meanwhile."""
@@ -89,13 +82,9 @@ class Reader:
             ts = self.timestamp(at, fresh)
             try:
                 return ts, look(ts)
-            except Refusal as refusal:
-                if refusal.status == Status.NO_KEY:
-                    raise NoKey("the key is no key of a log") from refusal
-                if refusal.status != Status.TRIMMED:
-                    raise
+            except TrimmedError as refusal:
                 if at is not None:
-                    raise Gone(f"the floor is {self.replica.ledger.machine.counts().floor}") from refusal
+                    raise Gone(f"the floor is {self.replica.ledger.machine.floor}") from refusal
 
     def snapshot(self) -> bytes:
         return self.replica.snapshot().text()
@@ -108,13 +97,13 @@ class Reader:
         replica = self.replica
         counts = replica.ledger.machine.counts()
         with replica.changed:
-            found = {"name": replica.words.name, "program": str(library.HERE), "began": replica.began,
+            found = {"name": replica.words.name, "program": str(HERE), "began": replica.began,
                      "revision": replica.revision, "entries": replica.entries, "top": replica.top,
                      "floor": counts.floor, "behind": replica.lag.behind(replica.revision),
                      "snapshot_revision": replica.saved, **replica.figures.status()}
         found |= {"versions": counts.versions, "memory_bytes": memory(), "procedures": sorted(
             name.decode() for name in replica.procedures), "differing_places": sorted(replica.digests.differing)}
-        place, digest = replica.digests.last
+        place, digest = replica.digests.last()
         return found | {"digest": {"entry": place, "sha256": digest}}
 
     def metrics(self) -> str:
@@ -136,6 +125,6 @@ class Reader:
         with self.replica.changed:
             lines += self.replica.figures.metrics()
         digest = found["digest"]
-        lines += ["# HELP bohm_digest_info digest of the store at the last fixed place", "# TYPE bohm_digest_info gauge",
+        lines += [*headed("digest_info", "gauge", "digest of the store at the last fixed place"),
                   f'bohm_digest_info{{entry="{digest["entry"]}",sha256="{digest["sha256"]}"}} 1']
         return "\n".join(lines) + "\n"

@@ -9,7 +9,6 @@ It answers HTTP; docs/replicas.md lists what. SIGTERM ends it behind a last snap
 from __future__ import annotations
 
 import argparse
-import ctypes
 import fcntl
 import signal
 import sys
@@ -19,14 +18,13 @@ from pathlib import Path
 from typing import TextIO
 from urllib.parse import quote_from_bytes
 
-import library
 import serving
 import snapshot
 from digests import EVERY, Digests, Diverged
 from etcd import Change, Compacted, Etcd, Refused, Unreachable
 from figures import Figures, Lag
 from inbox import Inbox
-from ledger import HEAD, Ledger, Refusal, Unread
+from ledger import HEAD, BohmError, Ledger, Library, Unread
 from reading import Reader
 from replies import Replies
 from snapshot import Snapshot
@@ -47,8 +45,8 @@ def line_of(put: Change, reply: bytes) -> bytes:
 class Replica:
     """A ledger behind a revision of a log, with the replies and the snapshots up to there."""
 
-    def __init__(self, words: argparse.Namespace, loaded: ctypes.CDLL) -> None:
-        self.words, self.library = words, loaded
+    def __init__(self, words: argparse.Namespace, library: Library) -> None:
+        self.words, self.library = words, library
         self.prefix = words.prefix.encode()
         self.path = words.folder / "snapshot"
         log = Etcd(words.members)
@@ -61,7 +59,8 @@ class Replica:
         self.figures, self.lag = Figures(), Lag()
         self.changed = threading.Condition()
         self.ended = threading.Event()
-        self.digests = Digests(Etcd(words.members), self.prefix, words.name, f"{words.host}:{words.port}")
+        address = f"{words.host}:{words.port}"
+        self.digests = Digests(Etcd(words.members), self.prefix, words.name, address, begin.entries)
         self.inbox = Inbox(log, begin.revision + 1)
         self.reader = Reader(self)
         threading.Thread(target=self.look, daemon=True).start()
@@ -90,7 +89,7 @@ class Replica:
     def apply(self, changes: list[Change]) -> None:
         puts = [change for change in changes if change.key.startswith(self.prefix) and change.value is not None]
         begun = time.monotonic()
-        replies = iter(self.ledger.apply([put.value for put in puts if put.makes]))
+        replies = iter(self.ledger.apply([put.value or b"" for put in puts if put.makes]))
         given = [next(replies) if put.makes else OVERWRITES for put in puts]
         took = time.monotonic() - begun
         self.note_digests(changes, given)
@@ -98,7 +97,7 @@ class Replica:
             self.replies.append([line_of(put, reply) for put, reply in zip(puts, given)])
             self.revision = changes[-1].revision
             self.entries += len(puts)
-            self.top, self.procedures = self.ledger.top(), self.ledger.texts()
+            self.top, self.procedures = self.ledger.machine.top, self.ledger.texts()
             self.since += len(puts)
             self.figures.note(given)
             if puts:
@@ -113,15 +112,15 @@ class Replica:
             entries += 1
             top += reply[:1].isdigit()
             if entries % EVERY == 0:
-                self.digests.add(entries, self.ledger.digest(top))
+                self.digests.add(entries, self.ledger.machine.digest(top).hex())
         for change in changes:
             self.digests.note(change)
 
     def snapshot(self) -> Snapshot:
-        """What stands behind the last segment. Raises Refusal where the past was let go meanwhile."""
+        """What stands behind the last segment. Raises TrimmedError where the past was let go meanwhile."""
         with self.changed:
             revision, entries, top, texts = self.revision, self.entries, self.top, self.procedures
-        store = self.ledger.machine.store_at(top)
+        store = self.ledger.machine.snapshot(top)
         return Snapshot(self.cluster, self.prefix, revision, entries, top, texts, store)
 
     def save(self) -> None:
@@ -198,7 +197,7 @@ def main() -> None:
     try:
         lock = alone(words.folder)
         refuse_diverged(words.folder)
-        replica = Replica(words, library.load(words.library))
+        replica = Replica(words, Library(words.library))
         signal.signal(signal.SIGTERM, lambda *_: replica.ended.set())
         serving.start(replica.reader, words.host, words.port)
         try:
@@ -207,7 +206,7 @@ def main() -> None:
             stop_diverged(replica, fault)
             raise
         lock.close()
-    except (OSError, InUse, Compacted, Diverged, Refused, Unreachable, Refusal) as fault:
+    except (OSError, InUse, Compacted, Diverged, Refused, Unreachable, BohmError) as fault:
         sys.exit(f"ended: {type(fault).__name__}: {fault}")
 
 

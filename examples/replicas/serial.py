@@ -11,7 +11,7 @@ from urllib.parse import quote_from_bytes
 from etcd import Change
 from load import OVERWRITTEN, bad_values
 
-HEAD = b"log 1\n"
+HEAD, PREFIX = b"log 1\n", b"log/"
 TRANSFER = re.compile(rb"call transfer (\w+) (\w+) (\d+)\n|txn\n.*\nneed (\w+) >= (\d+)\n.*\nset (\w+) = .*\nshow .*\n",
                       re.DOTALL)
 OPENING = re.compile(rb"set (\w+) = (\d+)\n")
@@ -45,6 +45,11 @@ class Serial:
     store: bytes = b""
     skipped: int = 0
     values: dict[bytes, list[tuple[int, int]]] = field(default_factory=dict)
+
+
+def puts_of(changes: list[Change]) -> list[Change]:
+    """The log's puts among all changes."""
+    return [change for change in changes if change.key.startswith(PREFIX) and change.value is not None]
 
 
 def texts_of(puts: list[Change]) -> list[bytes]:

@@ -7,8 +7,8 @@ from http.server import BaseHTTPRequestHandler, ThreadingHTTPServer
 from typing import Any
 from urllib.parse import parse_qs, unquote_to_bytes, urlsplit
 
-from ledger import Refusal
-from reading import Gone, NoKey, NotYet, Reader
+from ledger import BohmError, NoKeyError
+from reading import Gone, NotYet, Reader
 
 PATHS = b"/value/KEY, /store (?at=T, ?fresh=1), /replies/REVISION, /status, /metrics, /digests or /snapshot\n"
 TEXT, JSON, BYTES = "text/plain; charset=utf-8", "application/json", "application/octet-stream"
@@ -21,13 +21,13 @@ class BadWords(Exception):
 def read_query(query: str) -> tuple[int | None, bool]:
     """The timestamp of `at=T`, and whether `fresh=1` is there."""
     words = parse_qs(query, keep_blank_values=True)
-    at = words.pop("at", [None])[0]
+    at = words.pop("at", [])
     fresh = words.pop("fresh", ["0"])[0]
-    if words or fresh not in ("0", "1") or (at is not None and not (at.isdecimal() and int(at) < 2**32)):
+    if words or fresh not in ("0", "1") or any(not (each.isdecimal() and int(each) < 2**32) for each in at):
         raise BadWords("at=T has a timestamp, fresh is 0 or 1, and there is nothing else")
-    if at is not None and fresh == "1":
+    if len(at) + (fresh == "1") > 1:
         raise BadWords("at=T and fresh=1 exclude each other")
-    return None if at is None else int(at), fresh == "1"
+    return int(at[0]) if at else None, fresh == "1"
 
 
 class Handler(BaseHTTPRequestHandler):
@@ -42,11 +42,11 @@ class Handler(BaseHTTPRequestHandler):
                 self.answer(503, b"diverged\n")
             else:
                 self.route(self.server.reader)
-        except (BadWords, NoKey) as fault:
+        except (BadWords, NoKeyError) as fault:
             self.answer(400, f"{fault}\n".encode())
         except Gone as fault:
             self.answer(410, f"{fault}\n".encode())
-        except (NotYet, Refusal) as fault:
+        except (NotYet, BohmError) as fault:
             self.answer(503, f"{fault}\n".encode())
 
     def route(self, reader: Reader) -> None:

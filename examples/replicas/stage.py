@@ -106,7 +106,7 @@ def members_of(folder: Path, seats: list[Seat]) -> list[Child]:
 
 @dataclass
 class ReplicaChild(Child):
-    """A replica with its folder, its port and how it cuts segments; and the revision that its first run began behind."""
+    """A replica with its folder, port and way to cut segments, and the revision that its first run began behind."""
     folder: Path = field(default=Path())
     port: int = 0
     cut: str = ""

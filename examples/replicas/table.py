@@ -23,5 +23,5 @@ def milliseconds(took: list[float]) -> list[str]:
     """The median, the 99th percentile and the longest."""
     if len(took) < 2:
         return ["-"] * 3
-    times = (statistics.median(took), statistics.quantiles(took, n=100)[98], max(took))
+    times = (statistics.median(took), statistics.quantiles(took, n=100, method="inclusive")[98], max(took))
     return [f"{each * 1e3:,.1f}" for each in times]

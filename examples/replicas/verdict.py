@@ -14,10 +14,8 @@ import serial
 import snapshot
 from etcd import Change
 from scene import Scene
-from serial import Serial
+from serial import PREFIX, Serial
 from stage import ReplicaChild
-
-PREFIX = b"log/"
 
 
 @dataclass
@@ -32,8 +30,7 @@ class Outcome:
 
 def judge(scene: Scene, program: Path) -> Outcome:
     """Reads what was left by the replicas, which have ended."""
-    puts = [change for change in scene.witness.changes
-            if change.key.startswith(PREFIX) and change.value is not None]
+    puts = serial.puts_of(scene.witness.changes)
     run = serial.run(puts, program)
     verdict = history.check([each for client in scene.clients for each in client.asked], run)
     found = Outcome(run, verdict, faults=list(verdict.faults()))
@@ -49,7 +46,9 @@ def check_witness(scene: Scene, puts: list[Change], found: Outcome) -> None:
     said = subprocess.run(["etcdctl", "--endpoints", ",".join(scene.addresses), "get", PREFIX.decode(), "--prefix",
                            "--write-out", "json"], env=os.environ | {"ETCDCTL_API": "3"}, capture_output=True,
                           check=True, timeout=60)
-    first, last, count = {}, {}, Counter(put.key for put in puts)
+    first: dict[bytes, int] = {}
+    last: dict[bytes, Change] = {}
+    count = Counter(put.key for put in puts)
     for put in puts:
         first.setdefault(put.key, put.revision)
         last[put.key] = put
