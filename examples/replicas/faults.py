@@ -205,6 +205,13 @@ def find_faketime() -> Path | None:
     return next(Path("/usr/lib").glob("*/faketime/libfaketimeMT.so.1"), None)
 
 
+def left_out() -> list[str]:
+    """What can't be done here, and why."""
+    why = network.missing()
+    found = [f"left out: partitions and full disks: {why}"] if why else []
+    return found + ([] if find_faketime() else ["left out: clocks that jump: there is no libfaketime"])
+
+
 def operate(*words: str) -> str:
     done = subprocess.run([sys.executable, OPERATE, *words], capture_output=True, text=True, timeout=60)
     if done.returncode:

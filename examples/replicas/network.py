@@ -29,6 +29,8 @@ def unshare() -> list[str]:
 
 def missing() -> str | None:
     """Why there can't be namespaces here, if so."""
+    if inside():
+        return None
     for command in ("unshare", "nsenter", "ip", "mount"):
         if not shutil.which(command):
             return f"there is no {command}"
@@ -39,7 +41,7 @@ def missing() -> str | None:
 
 def enter() -> None:
     """Goes on as the same program in namespaces of its own, unless it is there."""
-    if not os.environ.get(INSIDE):
+    if not inside():
         os.execvpe("unshare", [*unshare(), sys.executable, *sys.argv], os.environ | {INSIDE: "1"})
 
 
