@@ -11,8 +11,9 @@ from collections.abc import Iterator
 from dataclasses import dataclass
 from typing import Any
 
-# Seconds: for one answer, until a watch without news is opened at the next member, and between two tries.
-ANSWER, SILENCE, PAUSE = 2.0, 2.0, 0.05
+# Seconds: for one answer, between two tries, and until a silent watch is opened at the next member: at least, and at
+# most, where there is something to tell that takes its time.
+ANSWER, PAUSE, SILENCE, LONGEST = 2.0, 0.05, 2.0, 60.0
 # gRPC's codes of requests that no other try can help: bad ones, and those that are too large or find no room.
 FINAL = {3, 8}
 # gRPC's code of a compaction that was done before.
@@ -110,9 +111,9 @@ class Etcd:
             raise Refused(fault.get("message"))
         raise Unavailable(fault.get("message"), fault.get("code", 0))
 
-    def ask(self, path: str, words: dict[str, Any]) -> dict[str, Any]:
+    def ask(self, path: str, words: dict[str, Any], patience: float | None = None) -> dict[str, Any]:
         """The answer of the first member that has one. The request may have had its effect more than once."""
-        end = time.monotonic() + self.patience
+        end = time.monotonic() + (self.patience if patience is None else patience)
         while True:
             try:
                 return json.loads(self.post(path, words, ANSWER).read())
@@ -128,9 +129,9 @@ class Etcd:
         """The cluster's number, by which its revisions are told from another one's."""
         return self.ask("/v3/maintenance/status", {})["header"]["cluster_id"]
 
-    def revision(self) -> int:
+    def revision(self, patience: float | None = None) -> int:
         """The revision of the last change that was acknowledged before this call, or of a later one."""
-        return int(self.ask("/v3/kv/range", {"key": coded(ALL), "count_only": True})["header"]["revision"])
+        return int(self.ask("/v3/kv/range", {"key": coded(ALL), "count_only": True}, patience)["header"]["revision"])
 
     def held(self, prefix: bytes) -> dict[bytes, bytes]:
         """The keys with a prefix, and their values."""
@@ -168,11 +169,12 @@ class Etcd:
         except Unavailable:
             """It was compacted up to there, or further, before."""
 
-    def watch(self, first: int) -> Iterator[list[Change]]:
+    def watch(self, first: int, silence: float) -> Iterator[list[Change]]:
         """All changes from revision `first` on, as one member tells them: each list holds whole revisions. Ends by
-        one of FAULTS where the member is gone or silent."""
+        one of FAULTS where the member is gone, or silent for so many seconds. It isn't asked for fragments of
+        large answers, as it takes a time for each that grows with the square of its size."""
         said = self.post("/v3/watch", {"create_request": {
-            "key": coded(ALL), "range_end": coded(ALL), "start_revision": str(first)}}, SILENCE)
+            "key": coded(ALL), "range_end": coded(ALL), "start_revision": str(first)}}, silence)
         while line := said.readline():
             told = json.loads(line)
             if "result" not in told:
@@ -187,9 +189,11 @@ class Etcd:
         """The same without end, a revision at a time, its changes by their keys: by rising revisions, each once, and
         by another member where one fails."""
         self.close()
+        silence = SILENCE
         while True:
+            begin = first
             try:
-                for changes in self.watch(first):
+                for changes in self.watch(first, silence):
                     changes.sort(key=lambda change: (change.revision, change.key))
                     for revision, group in itertools.groupby(changes, lambda change: change.revision):
                         # A member that is behind may tell revisions from before the one that was asked for.
@@ -200,3 +204,11 @@ class Etcd:
                 pass
             self.turn()
             pause()
+            silence = min(2 * silence, LONGEST) if first == begin and self.has(first) else SILENCE
+
+    def has(self, revision: int) -> bool:
+        """Whether a member says at once that there is a revision."""
+        try:
+            return self.revision(patience=0.0) >= revision
+        except Unreachable:
+            return False

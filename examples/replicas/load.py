@@ -17,7 +17,7 @@ PATIENCE, ANSWER = 300.0, 2.0
 # Of this many values one is no transaction, one is put to a key that was there, and one is read.
 BAD, RUDE, READ = 50, 200, 12
 # How many keys one revision has, drawn from these. The share of transfers that are text.
-BATCHES = [1, 1, 1, 1, 3, 16]
+BATCHES = [1, 1, 1, 3, 16, 64]
 TEXT = 0.25
 OVERWRITTEN = b"skipped: overwrites"
 PROCEDURE = b"""procedure 1

@@ -99,13 +99,17 @@ class Scene:
         """Starts a process. Of a replica it waits for the first status, and answers it."""
         child.start()
         child.disturbed = False
+        return self.status(child) if isinstance(child, ReplicaChild) else {}
+
+    def status(self, replica: ReplicaChild) -> dict[str, Any]:
+        """What a replica says of itself, as soon as it does."""
         found: dict[str, Any] = {}
 
         def answers() -> bool:
-            found.update((child.status() or {}) if isinstance(child, ReplicaChild) else {"started": True})
+            found.update(replica.status() or {})
             return bool(found)
 
-        self.wait(f"{child.name} answers", answers)
+        self.wait(f"{replica.name} answers", answers)
         return found
 
     def caught_up(self, replica: ReplicaChild) -> None:
