@@ -151,7 +151,8 @@ class Etcd:
         return int(answer["responses"][0]["response_range"]["kvs"][0]["create_revision"])
 
     def overwrite(self, key: bytes, value: bytes) -> int:
-        """Puts a key whether it is there or not, perhaps more than once, and answers the last put's revision."""
+        """Puts a key whether it is there or not, perhaps more than once, and answers the revision
+        of one of these puts."""
         return int(self.ask("/v3/kv/put", {"key": coded(key), "value": coded(value)})["header"]["revision"])
 
     def publish(self, key: bytes, value: bytes, first: bytes, end: bytes) -> None:

@@ -54,15 +54,13 @@ def check_puts(puts: list[Asked], serial: Serial, found: Verdict) -> dict[int, A
     who = {}
     for each in puts:
         there = places.get((each.key, not each.over), [])
-        # A put over a key may have been tried, and done, more than once; its client was told of the last one.
-        if not there or (len(there) > 1 and not each.over):
-            found.lost.append(f"{each.key!r} is in the log {len(there)} times")
+        # A put over a key may have been tried, and done, more than once; its client was told of one of them.
+        if len(there) > 1 and not each.over:
+            found.wrong.append(f"{each.key!r} is in the log {len(there)} times")
+        at = next((at for at in there if serial.puts[at].revision == each.revision), None)
+        if at is None or serial.puts[at].value != each.value:
+            found.lost.append(f"{each.key!r} isn't in the log at revision {each.revision} as {each.value!r}")
             continue
-        at = there[-1]
-        put = serial.puts[at]
-        if (put.value, put.revision) != (each.value, each.revision):
-            found.lost.append(f"{each.key!r} is in the log at revision {put.revision} as {put.value!r}, "
-                              f"not at {each.revision} as {each.value!r}")
         if each.told != serial.lines[at]:
             found.wrong.append(f"{each.key!r}: told {each.told!r}, the serial run's is {serial.lines[at]!r}")
         who[at] = each
