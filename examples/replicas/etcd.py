@@ -11,9 +11,9 @@ from collections.abc import Iterator
 from dataclasses import dataclass
 from typing import Any
 
-# Seconds: for one answer, between two tries, and until a silent watch is opened at the next member: at least, and at
-# most, where there is something to tell that takes its time.
-ANSWER, PAUSE, SILENCE, LONGEST = 2.0, 0.05, 2.0, 60.0
+# Seconds: for one answer, between two tries, and until a silent watch is opened at the next member: at least, more for
+# each revision that there is to tell, and at most. A member tells 1,000 revisions at once, which takes its time.
+ANSWER, PAUSE, SILENCE, EACH, LONGEST = 2.0, 0.05, 2.0, 0.02, 120.0
 # gRPC's codes of requests that no other try can help: bad ones, and those that are too large or find no room.
 FINAL = {3, 8}
 # gRPC's code of a compaction that was done before.
@@ -170,12 +170,12 @@ class Etcd:
         except Unavailable:
             """It was compacted up to there, or further, before."""
 
-    def watch(self, first: int, silence: float) -> Iterator[list[Change]]:
+    def watch(self, first: int, patience: float) -> Iterator[list[Change]]:
         """All changes from revision `first` on, as one member tells them: each list holds whole revisions. Ends by
-        one of FAULTS where the member is gone, or silent for so many seconds. It isn't asked for fragments of
-        large answers, as it takes a time for each that grows with the square of its size."""
+        one of FAULTS where the member is gone, or silent for too long: `patience` seconds before the first news. It
+        isn't asked for fragments of large answers: it takes a time for each that grows with the square of its size."""
         said = self.post("/v3/watch", {"create_request": {
-            "key": coded(ALL), "range_end": coded(ALL), "start_revision": str(first)}}, silence)
+            "key": coded(ALL), "range_end": coded(ALL), "start_revision": str(first)}}, patience)
         while line := said.readline():
             told = json.loads(line)
             if "result" not in told:
@@ -184,17 +184,25 @@ class Etcd:
                 if "compact_revision" in told["result"]:
                     raise Compacted(f"the log is compacted up to revision {told['result']['compact_revision']}")
                 raise Unavailable(told["result"].get("cancel_reason"))
-            yield [change_of(event) for event in told["result"].get("events", [])]
+            if changes := [change_of(event) for event in told["result"].get("events", [])]:
+                self.be_patient(silence(int(told["result"]["header"]["revision"]) - changes[-1].revision))
+                yield changes
+
+    def be_patient(self, seconds: float) -> None:
+        """How long the next news of a watch may take."""
+        if self.line and self.line.sock:
+            self.line.sock.settimeout(seconds)
 
     def follow(self, first: int) -> Iterator[list[Change]]:
         """The same without end, a revision at a time, its changes by their keys: by rising revisions, each once, and
         by another member where one fails."""
-        self.close()
-        silence = SILENCE
+        tries = 0
         while True:
             begin = first
             try:
-                for changes in self.watch(first, silence):
+                patience = silence(self.missing(first), tries)
+                self.close()
+                for changes in self.watch(first, patience):
                     changes.sort(key=lambda change: (change.revision, change.key))
                     for revision, group in itertools.groupby(changes, lambda change: change.revision):
                         # A member that is behind may tell revisions from before the one that was asked for.
@@ -203,13 +211,18 @@ class Etcd:
                             yield list(group)
             except FAULTS:
                 pass
+            tries = tries + 1 if first == begin else 0
             self.turn()
             pause()
-            silence = min(2 * silence, LONGEST) if first == begin and self.has(first) else SILENCE
 
-    def has(self, revision: int) -> bool:
-        """Whether a member says at once that there is a revision."""
+    def missing(self, first: int) -> int:
+        """How many revisions there are from one on, if a member says so at once."""
         try:
-            return self.revision(patience=0.0) >= revision
+            return self.revision(patience=0.0) - first + 1
         except Unreachable:
-            return False
+            return 0
+
+
+def silence(revisions: int, tries: int = 0) -> float:
+    """Seconds that a member may take to tell revisions, after so many tries in which that was too short."""
+    return min(LONGEST, SILENCE + max(0, revisions) * EACH * 2**min(tries, 10))
