@@ -57,8 +57,8 @@ def check_puts(puts: list[Asked], serial: Serial, found: Verdict) -> dict[int, A
         # A put over a key may have been tried, and done, more than once; its client was told of one of them.
         if len(there) > 1 and not each.over:
             found.wrong.append(f"{each.key!r} is in the log {len(there)} times")
-        at = next((at for at in there if serial.puts[at].revision == each.revision), None)
-        if at is None or serial.puts[at].value != each.value:
+        at = next((at for at in there if serial.puts[at].revision == each.revision), -1)
+        if at < 0 or serial.puts[at].value != each.value:
             found.lost.append(f"{each.key!r} isn't in the log at revision {each.revision} as {each.value!r}")
             continue
         if each.told != serial.lines[at]:
