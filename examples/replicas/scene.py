@@ -120,6 +120,8 @@ class Scene:
 
     def stop(self) -> None:
         self.over = True
+        with Child.lock:
+            Child.over = True
         for child in (*self.replicas, *self.members):
             child.go_on()
             child.kill()

@@ -9,10 +9,11 @@ import signal
 import socket
 import subprocess
 import sys
+import threading
 from contextlib import ExitStack
 from dataclasses import dataclass, field
 from pathlib import Path
-from typing import Any
+from typing import Any, ClassVar
 
 from network import Seat
 
@@ -54,8 +55,16 @@ class Child:
     process: subprocess.Popen[bytes] | None = None
     # Something is done to it on purpose, so that it may end.
     disturbed: bool = False
+    # When all is over, no thread starts a process again.
+    over: ClassVar[bool] = False
+    lock: ClassVar[threading.Lock] = threading.Lock()
 
     def start(self) -> None:
+        with Child.lock:
+            if not Child.over:
+                self.launch()
+
+    def launch(self) -> None:
         plain = {name: value for name, value in os.environ.items() if not name.startswith("ETCD")}
         with self.said.open("ab") as said:
             # In a session of its own, so that Ctrl-C reaches the demo alone, which ends its processes.
@@ -76,11 +85,18 @@ class Child:
         if self.process:
             self.process.send_signal(signal.SIGCONT)
 
+    def tell_to_end(self) -> None:
+        if self.process:
+            self.process.send_signal(signal.SIGTERM)
+
     def end(self) -> int:
-        """The status with which it ends when it is told to."""
+        """Tells it to end, and answers the status with which it does."""
+        self.tell_to_end()
+        return self.await_end()
+
+    def await_end(self) -> int:
         if not self.process:
             return 0
-        self.process.send_signal(signal.SIGTERM)
         status = self.process.wait(END)
         self.process = None
         return status
