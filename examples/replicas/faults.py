@@ -182,8 +182,11 @@ class ReplicaFaults(Faults):
         revision = Etcd(self.scene.addresses).revision()
         self.scene.wait("the witness", lambda: self.scene.witness.revision >= revision)
         for replica in self.scene.replicas:
-            self.scene.wait(f"a snapshot of {replica.name}",
-                            lambda: (replica.status() or {"snapshot_revision": 0})["snapshot_revision"] > 0)
+            if not self.scene.status(replica)["snapshot_revision"]:
+                replica.disturbed = True
+                replica.end()
+                self.scene.start(replica)
+                self.scene.tell(f"{replica.name} had no snapshot, and was ended and started")
         self.scene.tell(operate("compact", "--members", ",".join(self.scene.addresses)))
 
 
