@@ -216,7 +216,7 @@ def left_out() -> list[str]:
 
 
 def operate(*words: str) -> str:
-    done = subprocess.run([sys.executable, OPERATE, *words], capture_output=True, text=True, timeout=60)
+    done = subprocess.run([sys.executable, OPERATE, *words], capture_output=True, text=True, timeout=300)
     if done.returncode:
         raise Failed(done.stderr.strip())
     return done.stdout.strip()

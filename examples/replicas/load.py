@@ -13,7 +13,7 @@ import etcd
 ACCOUNTS = [f"a{number:03d}" for number in range(160)]
 OPENING = 1000
 # Seconds that a client asks for a reply; and one answer may take.
-PATIENCE, ANSWER = 300.0, 2.0
+PATIENCE, ANSWER = 300.0, 10.0
 # Of this many values one is no transaction, one is put to a key that was there, and one is read.
 BAD, RUDE, READ = 50, 200, 12
 # How many keys one revision has, drawn from these. The share of transfers that are text.

@@ -20,7 +20,7 @@ from network import Seat
 # Ports below those that the system gives to outgoing connections, so that a port stays free while its owner is down.
 PORTS = range(10_000, 32_000)
 # Seconds that an answer, and a process that was told to end, may take.
-ANSWER, END = 1.0, 120.0
+ANSWER, END = 3.0, 120.0
 # Milliseconds after which etcd's members miss one another, for machines that have other work.
 PATIENT = ["--heartbeat-interval", "200", "--election-timeout", "2000"]
 

@@ -45,7 +45,7 @@ def check_witness(scene: Scene, puts: list[Change], found: Outcome) -> None:
     """The witness saw what etcd holds by its own client: each key's first and last revision, value and count."""
     said = subprocess.run(["etcdctl", "--endpoints", ",".join(scene.addresses), "get", PREFIX.decode(), "--prefix",
                            "--write-out", "json"], env=os.environ | {"ETCDCTL_API": "3"}, capture_output=True,
-                          check=True, timeout=60)
+                          check=True, timeout=300)
     first: dict[bytes, int] = {}
     last: dict[bytes, Change] = {}
     count = Counter(put.key for put in puts)
