@@ -1,19 +1,25 @@
-"""etcd's log by its JSON gateway: keys that are made once, and what was put under a prefix, by revisions."""
+"""etcd's log by its JSON gateway: keys that are made once, and every change of a key, by revisions."""
 from __future__ import annotations
 
 import base64
 import http.client
 import itertools
 import json
+import threading
 import time
 from collections.abc import Iterator
 from dataclasses import dataclass
 from typing import Any
 
-# Seconds: for one answer, until a watch without news is opened at the next member, and between two tries.
-ANSWER, SILENCE, PAUSE = 2.0, 5.0, 0.05
+# Seconds: for one answer, between two tries, and until a silent watch is opened at the next member: at least, more for
+# each revision that there is to tell, and at most. A member tells 1,000 revisions at once, which takes its time.
+ANSWER, PAUSE, SILENCE, EACH, LONGEST = 2.0, 0.05, 2.0, 0.02, 120.0
 # gRPC's codes of requests that no other try can help: bad ones, and those that are too large or find no room.
 FINAL = {3, 8}
+# gRPC's code of a compaction that was done before.
+PAST = 11
+# A range from this key to this key is all keys.
+ALL = b"\0"
 
 
 class Unreachable(Exception):
@@ -31,32 +37,47 @@ class Compacted(Exception):
 class Unavailable(Exception):
     """This member can't answer now; another one, or a later try, may."""
 
+    def __init__(self, words: str | None, code: int = 0) -> None:
+        super().__init__(words)
+        self.code = code
+
 
 FAULTS = (OSError, http.client.HTTPException, ValueError, Unavailable)
 
 
 @dataclass(frozen=True)
-class Put:
-    """What one put left: `makes` says that the key wasn't there before."""
+class Change:
+    """What a revision did to a key: its value, or None where it was deleted; `makes` says that it wasn't there."""
     revision: int
     key: bytes
-    value: bytes
+    value: bytes | None
     makes: bool
+
+
+def pause() -> None:
+    """Waits by a lock, as libfaketime, with which the demo lets clocks jump, refuses to sleep."""
+    threading.Event().wait(PAUSE)
 
 
 def coded(given: bytes) -> str:
     return base64.b64encode(given).decode()
 
 
-def put_of(event: dict[str, Any]) -> Put:
+def change_of(event: dict[str, Any]) -> Change:
     kv = event["kv"]
-    return Put(int(kv["mod_revision"]), base64.b64decode(kv["key"]), base64.b64decode(kv.get("value", "")),
-               kv["create_revision"] == kv["mod_revision"])
+    revision, key = int(kv["mod_revision"]), base64.b64decode(kv["key"])
+    if event.get("type") == "DELETE":
+        return Change(revision, key, None, False)
+    return Change(revision, key, base64.b64decode(kv.get("value", "")), kv["create_revision"] == kv["mod_revision"])
 
 
 def end_of(prefix: bytes) -> bytes:
     """The first key behind all those with the prefix, whose last byte isn't 255."""
     return prefix[:-1] + bytes([prefix[-1] + 1])
+
+
+def put_of(key: bytes, value: bytes) -> dict[str, Any]:
+    return {"request_put": {"key": coded(key), "value": coded(value)}}
 
 
 class Etcd:
@@ -86,23 +107,36 @@ class Etcd:
         if said.status == 200:
             return said
         fault = json.loads(said.read())
-        raise (Refused if fault.get("code") in FINAL else Unavailable)(fault.get("message"))
+        if fault.get("code") in FINAL:
+            raise Refused(fault.get("message"))
+        raise Unavailable(fault.get("message"), fault.get("code", 0))
 
-    def ask(self, path: str, words: dict[str, Any]) -> dict[str, Any]:
+    def ask(self, path: str, words: dict[str, Any], patience: float | None = None) -> dict[str, Any]:
         """The answer of the first member that has one. The request may have had its effect more than once."""
-        end = time.monotonic() + self.patience
+        end = time.monotonic() + (self.patience if patience is None else patience)
         while True:
             try:
                 return json.loads(self.post(path, words, ANSWER).read())
             except FAULTS as fault:
                 self.turn()
+                if isinstance(fault, Unavailable) and fault.code == PAST:
+                    raise
                 if time.monotonic() > end:
                     raise Unreachable(str(fault)) from fault
-                time.sleep(PAUSE)
+                pause()
 
     def cluster(self) -> str:
         """The cluster's number, by which its revisions are told from another one's."""
         return self.ask("/v3/maintenance/status", {})["header"]["cluster_id"]
+
+    def revision(self, patience: float | None = None) -> int:
+        """The revision of the last change that was acknowledged before this call, or of a later one."""
+        return int(self.ask("/v3/kv/range", {"key": coded(ALL), "count_only": True}, patience)["header"]["revision"])
+
+    def held(self, prefix: bytes) -> dict[bytes, bytes]:
+        """The keys with a prefix, and their values."""
+        found = self.ask("/v3/kv/range", {"key": coded(prefix), "range_end": coded(end_of(prefix))})
+        return {base64.b64decode(kv["key"]): base64.b64decode(kv.get("value", "")) for kv in found.get("kvs", [])}
 
     def make(self, puts: dict[bytes, bytes]) -> int:
         """Puts keys that aren't there, all in one revision, and answers it: also where an earlier try put them and its
@@ -110,21 +144,38 @@ class Etcd:
         first = min(puts)
         answer = self.ask("/v3/kv/txn", {
             "compare": [{"key": coded(first), "target": "CREATE", "create_revision": "0", "result": "EQUAL"}],
-            "success": [{"request_put": {"key": coded(key), "value": coded(value)}} for key, value in puts.items()],
+            "success": [put_of(key, value) for key, value in puts.items()],
             "failure": [{"request_range": {"key": coded(first), "keys_only": True}}]})
         if answer.get("succeeded"):
             return int(answer["header"]["revision"])
         return int(answer["responses"][0]["response_range"]["kvs"][0]["create_revision"])
 
     def overwrite(self, key: bytes, value: bytes) -> int:
-        """Puts a key whether it is there or not, perhaps more than once, and answers the last put's revision."""
+        """Puts a key whether it is there or not, perhaps more than once, and answers the revision
+        of one of these puts."""
         return int(self.ask("/v3/kv/put", {"key": coded(key), "value": coded(value)})["header"]["revision"])
 
-    def watch(self, prefix: bytes, first: int) -> Iterator[list[Put]]:
-        """What was put under a prefix, from revision `first` on, as one member tells it: each list holds whole
-        revisions. Ends by one of FAULTS where the member is gone or silent."""
+    def publish(self, key: bytes, value: bytes, first: bytes, end: bytes) -> None:
+        """Puts a key, and deletes those from `first` up to `end`, which isn't deleted."""
+        self.ask("/v3/kv/txn", {"success": [put_of(key, value), {"request_delete_range": {
+            "key": coded(first), "range_end": coded(end)}}]})
+
+    def delete(self, key: bytes) -> None:
+        self.ask("/v3/kv/deleterange", {"key": coded(key)})
+
+    def compact(self, revision: int) -> None:
+        """Lets go what keys held before a revision. What is held now stays."""
+        try:
+            self.ask("/v3/kv/compaction", {"revision": str(revision)})
+        except Unavailable:
+            """It was compacted up to there, or further, before."""
+
+    def watch(self, first: int, patience: float) -> Iterator[list[Change]]:
+        """All changes from revision `first` on, as one member tells them: each list holds whole revisions. Ends by
+        one of FAULTS where the member is gone, or silent for too long: `patience` seconds before the first news. It
+        isn't asked for fragments of large answers: it takes a time for each that grows with the square of its size."""
         said = self.post("/v3/watch", {"create_request": {
-            "key": coded(prefix), "range_end": coded(end_of(prefix)), "start_revision": str(first)}}, SILENCE)
+            "key": coded(ALL), "range_end": coded(ALL), "start_revision": str(first)}}, patience)
         while line := said.readline():
             told = json.loads(line)
             if "result" not in told:
@@ -133,22 +184,45 @@ class Etcd:
                 if "compact_revision" in told["result"]:
                     raise Compacted(f"the log is compacted up to revision {told['result']['compact_revision']}")
                 raise Unavailable(told["result"].get("cancel_reason"))
-            yield [put_of(event) for event in told["result"].get("events", []) if event.get("type") != "DELETE"]
+            if changes := [change_of(event) for event in told["result"].get("events", [])]:
+                self.be_patient(silence(int(told["result"]["header"]["revision"]) - changes[-1].revision))
+                yield changes
 
-    def follow(self, prefix: bytes, first: int) -> Iterator[list[Put]]:
-        """The same without end, a revision at a time, its puts by their keys: by rising revisions, each once, and
+    def be_patient(self, seconds: float) -> None:
+        """How long the next news of a watch may take."""
+        if self.line and self.line.sock:
+            self.line.sock.settimeout(seconds)
+
+    def follow(self, first: int) -> Iterator[list[Change]]:
+        """The same without end, a revision at a time, its changes by their keys: by rising revisions, each once, and
         by another member where one fails."""
-        self.close()
+        tries = 0
         while True:
+            begin = first
             try:
-                for puts in self.watch(prefix, first):
-                    puts.sort(key=lambda put: (put.revision, put.key))
-                    for revision, group in itertools.groupby(puts, lambda put: put.revision):
+                patience = silence(self.missing(first), tries)
+                self.close()
+                for changes in self.watch(first, patience):
+                    changes.sort(key=lambda change: (change.revision, change.key))
+                    for revision, group in itertools.groupby(changes, lambda change: change.revision):
                         # A member that is behind may tell revisions from before the one that was asked for.
                         if revision >= first:
                             first = revision + 1
                             yield list(group)
             except FAULTS:
                 pass
+            tries = tries + 1 if first == begin else 0
             self.turn()
-            time.sleep(PAUSE)
+            pause()
+
+    def missing(self, first: int) -> int:
+        """How many revisions there are from one on, if a member says so at once."""
+        try:
+            return self.revision(patience=0.0) - first + 1
+        except Unreachable:
+            return 0
+
+
+def silence(revisions: int, tries: int = 0) -> float:
+    """Seconds that a member may take to tell revisions, after so many tries in which that was too short."""
+    return min(LONGEST, SILENCE + max(0, revisions) * EACH * 2**min(tries, 10))

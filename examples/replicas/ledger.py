@@ -1,76 +1,123 @@
-"""A machine that takes a log's values, and the rule which of them are transactions."""
+"""A machine with its procedures that takes a log's values, and the rule which of them are transactions."""
 from __future__ import annotations
 
-import ctypes
+import itertools
 import sys
-from collections.abc import Iterable
+from collections.abc import Iterable, Iterator
 from pathlib import Path
 
-sys.path.insert(0, str(Path(__file__).resolve().parents[2] / "packaging" / "python"))
+import entries
+from entries import Call, Definition, Entry, Transaction
+
+HERE = Path(__file__).resolve().parent
+sys.path.insert(0, str(HERE.parents[1] / "packaging" / "python"))
 import bohm  # noqa: E402
-from bohm import Refusal, Status  # noqa: E402
+from bohm import BohmError, HasLogError, Library, Machine, NoKeyError, RefusedError, TrimmedError  # noqa: E402
+
+__all__ = ["BohmError", "Ledger", "Library", "NoKeyError", "TrimmedError", "Unread"]
 
 HEAD = b"log 1\n"
-SHAPELESS = b"skipped: shape"
+# Calls that are run at once. A list takes 1,000,000.
+MOST = 65_536
 
 
 class Unread(Exception):
-    """A text that is no store's."""
+    """A text that is no store's, or a procedure's that isn't accepted."""
 
 
-def has_shape(value: bytes) -> bool:
-    """Lines, of which the first alone is `txn`, and the last alone is `end`."""
-    end = value.find(b"\nend\n")
-    return value.startswith(b"txn\n") and b"\ntxn\n" not in value and 0 < end == len(value) - len(b"\nend\n")
+def skipped_by(refusal: RefusedError) -> bytes:
+    """The reply to a value whose text is refused."""
+    return refusal.line.encode().replace(b"refused", b"skipped", 1)
+
+
+def merged(skipped: dict[int, bytes], replies: Iterable[bytes], count: int) -> list[bytes]:
+    """The replies to `count` values, of which some, by their places, were skipped."""
+    rest = iter(replies)
+    return [skipped[at] if at in skipped else next(rest) for at in range(count)]
 
 
 class Ledger:
     """Replies to values in their order, the same however they are cut into calls."""
 
-    def __init__(self, library: ctypes.CDLL, store: bytes, top: int) -> None:
-        """Goes on from a store behind the transaction with a timestamp. Raises Unread, or Refusal."""
+    def __init__(self, library: Library, store: bytes, top: int, texts: dict[bytes, bytes]) -> None:
+        """Goes on from a store behind the transaction with a timestamp, with procedures by their names. Raises Unread,
+        or BohmError."""
         self.library = library
         try:
-            self.machine = bohm.Machine(library, store, top)
-        except Refusal as refusal:
-            if refusal.status not in (Status.REFUSED, Status.HAS_LOG):
-                raise
+            self.machine = Machine(store, top, library=library)
+            self.procedures = {name: self.machine.prepare(text) for name, text in texts.items()}
+        except (RefusedError, HasLogError) as refusal:
             raise Unread(str(refusal)) from refusal
 
     def apply(self, values: list[bytes]) -> list[bytes]:
-        """The reply to each value: the machine's, or why it is skipped. After a Refusal, for lack of memory or of
+        """The reply to each value: the machine's, or why it is skipped. After a BohmError, for lack of memory or of
         timestamps, the machine may have gone a part of the way, and the ledger isn't to be used any more."""
-        skipped = {at: SHAPELESS for at, value in enumerate(values) if not has_shape(value)}
-        try:
-            replies = self.run(value for at, value in enumerate(values) if at not in skipped)
-        except Refusal as refusal:
-            if refusal.status != Status.REFUSED:
-                raise
-            skipped |= {at: line for at, value in enumerate(values)
-                        if at not in skipped and (line := self.fault(value))}
-            replies = self.run(value for at, value in enumerate(values) if at not in skipped)
-        rest = iter(replies)
-        return [skipped[at] if at in skipped else next(rest) for at in range(len(values))]
+        replies: list[bytes] = []
+        for group in alike(map(entries.read, values)):
+            if calls := [entry for entry in group if isinstance(entry, Call)]:
+                replies += self.run_calls(calls)
+            elif texts := [entry.text for entry in group if isinstance(entry, Transaction)]:
+                replies += self.run_texts(texts)
+            elif definitions := [entry for entry in group if isinstance(entry, Definition)]:
+                replies += [self.define(definition) for definition in definitions]
+            else:
+                replies += [entries.SHAPELESS] * len(group)
+        return replies
 
-    def run(self, values: Iterable[bytes]) -> list[bytes]:
-        text = b"".join(values)
-        return self.machine.apply(HEAD + text).splitlines() if text else []
-
-    def fault(self, value: bytes) -> bytes | None:
-        """Why a value is skipped: the line by which the log that has it alone is refused."""
+    def define(self, definition: Definition) -> bytes:
         try:
-            bohm.answer(self.library, HEAD + value)
-        except Refusal as refusal:
-            if refusal.status != Status.REFUSED:
-                raise
-            return refusal.line.strip().replace(b"refused", b"skipped", 1)
+            self.procedures[definition.name] = self.machine.prepare(definition.text)
+        except RefusedError as refusal:
+            return skipped_by(refusal)
+        return b"defined " + definition.name
+
+    def run_calls(self, calls: list[Call]) -> list[bytes]:
+        found = [self.prepared(call) for call in calls]
+        skipped = {at: call for at, call in enumerate(found) if isinstance(call, bytes)}
+        replies = self.machine.run(call for call in found if isinstance(call, bohm.Call))
+        return merged(skipped, (str(reply).encode() for reply in replies), len(calls))
+
+    def prepared(self, call: Call) -> bohm.Call | bytes:
+        """What the machine runs; or why the call is skipped."""
+        procedure = self.procedures.get(call.name)
+        if not procedure:
+            return b"skipped: procedure"
+        if len(call.arguments) != len(procedure.parameters):
+            return b"skipped: arguments"
+        keys = call.arguments[:len(procedure.keys)]
+        words = call.arguments[len(keys):]
+        values = tuple(value for word in words if (value := entries.number(word)) is not None)
+        if len(values) < len(words):
+            return b"skipped: value"
+        if not all(map(entries.KEY.fullmatch, keys)):
+            return b"skipped: key"
+        return bohm.Call(procedure, tuple(keys), values)
+
+    def run_texts(self, texts: list[bytes]) -> list[bytes]:
+        skipped: dict[int, bytes] = {}
+        try:
+            replies = self.machine.apply(HEAD + b"".join(texts))
+        except RefusedError:
+            skipped = {at: why for at, text in enumerate(texts) if (why := self.fault(text))}
+            good = b"".join(text for at, text in enumerate(texts) if at not in skipped)
+            replies = self.machine.apply(HEAD + good)
+        return merged(skipped, (str(reply).encode() for reply in replies), len(texts))
+
+    def fault(self, text: bytes) -> bytes | None:
+        """Why a text is skipped: the line by which the log that has it alone is refused."""
+        try:
+            bohm.answer(HEAD + text, library=self.library)
+        except RefusedError as refusal:
+            return skipped_by(refusal)
         return None
 
-    def top(self) -> int:
-        return self.machine.counts().top
+    def texts(self) -> dict[bytes, bytes]:
+        """The procedures' texts, by their names."""
+        return {name: procedure.text.encode() for name, procedure in sorted(self.procedures.items())}
 
-    def store(self) -> bytes:
-        """The store at the top; the past below it is let go."""
-        top = self.top()
-        self.machine.trim(top)
-        return self.machine.store_at(top)
+
+def alike(given: Iterable[Entry]) -> Iterator[list[Entry]]:
+    """Neighbours of one kind, in groups."""
+    for _, group in itertools.groupby(given, type):
+        while part := list(itertools.islice(group, MOST)):
+            yield part

@@ -1,7 +1,8 @@
-"""The clients of the demo: transfers between accounts, and what no replica may stumble over."""
+"""The clients: transfers between accounts, reads, and what no replica may stumble over; and their own record of it."""
 from __future__ import annotations
 
 import http.client
+import json
 import random
 import threading
 import time
@@ -12,26 +13,47 @@ import etcd
 ACCOUNTS = [f"a{number:03d}" for number in range(160)]
 OPENING = 1000
 # Seconds that a client asks for a reply; and one answer may take.
-PATIENCE, ANSWER = 60.0, 10.0
-# Of this many values one is no transaction, and one is put to a key that was there.
-BAD, RUDE = 50, 200
+PATIENCE, ANSWER = 300.0, 10.0
+# Of this many values one is no transaction, one is put to a key that was there, and one is read.
+BAD, RUDE, READ = 50, 200, 12
+# How many keys one revision has, drawn from these. The share of transfers that are text.
+BATCHES = [1, 1, 1, 3, 16, 64]
+TEXT = 0.25
 OVERWRITTEN = b"skipped: overwrites"
+PROCEDURE = b"""procedure 1
+key from
+key to
+value amount
+reads from to
+writes from to
+need from >= $amount
+set from = from - $amount
+set to = to + $amount
+show from
+end
+"""
 
 
 def openings() -> dict[bytes, bytes]:
-    """Transactions that open all accounts, 16 in each: the keys of one revision, the last one first."""
+    """The procedure, and transactions that open all accounts, 16 in each: the keys of one revision, the last one
+    first."""
     groups = [ACCOUNTS[at:at + 16] for at in range(0, len(ACCOUNTS), 16)]
     texts = [f"txn\nreads\nwrites {' '.join(group)}\n" + "".join(f"set {key} = {OPENING}\n" for key in group) + "end\n"
              for group in groups]
-    return {b"log/open/%03d" % number: text.encode() for number, text in reversed(list(enumerate(texts)))}
+    made = {b"log/open/%03d" % number: text.encode() for number, text in reversed(list(enumerate(texts)))}
+    return made | {b"log/define": b"define transfer\n" + PROCEDURE}
 
 
-def transfer(rng: random.Random) -> bytes:
-    """An amount from one account to another one, if there is so much. Some name an account that isn't there."""
+def transfer(rng: random.Random, text: float = TEXT) -> bytes:
+    """An amount from one account to another one, if there is so much, as text or as a call. Some name an account that
+    isn't there."""
     payer, payee = rng.sample(ACCOUNTS, 2)
     if rng.randrange(40) == 0:
         payee = "nobody"
-    both, amount = " ".join(sorted((payer, payee))), rng.randrange(1, 600)
+    amount = rng.randrange(1, 600)
+    if rng.random() >= text:
+        return f"call transfer {payer} {payee} {amount}\n".encode()
+    both = " ".join(sorted((payer, payee)))
     return (f"txn\nreads {both}\nwrites {both}\nneed {payer} >= {amount}\nset {payer} = {payer} - {amount}\n"
             f"set {payee} = {payee} + {amount}\nshow {payer}\nend\n").encode()
 
@@ -40,7 +62,10 @@ def bad_values() -> list[tuple[bytes, bytes]]:
     """Values that are no transaction, each with the reply by which it is skipped. Lines count from `log 1` on."""
     one = b"txn\nreads\nwrites a\nset a = 1\nend\n"
     shapeless = [b"", b"\n", b"\0\xff\n", b"hello", one + one, b"a 5\n" + one, b"log 1\n" + one, one[:-1], one + b"\n",
-                 b"txn\nend\nend\n", b"txn\ntxn\nend\n", b"end\ntxn\n", b"txn\r\nreads\r\nwrites\r\nend\r\n"]
+                 b"txn\nend\nend\n", b"txn\ntxn\nend\n", b"end\ntxn\n", b"txn\r\nreads\r\nwrites\r\nend\r\n",
+                 b"call\n", b"call transfer a b 1", b"call transfer  a b 1\n", b"call transfer a b 1\n\n",
+                 b"call Transfer a b 1\n", b"call transfer a b 1\ncall transfer a b 1\n", PROCEDURE,
+                 b"define transfer\nprocedure 2\nreads\nwrites\nend\n", b"define 1\nprocedure 1\nreads\nwrites\nend\n"]
     faulty = [(b"txn\nend\n", b"line 3"),
               (b"txn\nreads\nwrites\nset a = 9223372036854775808\nend\n", b"line 5"),
               (b"txn\nreads\nwrites a\nset a  = 1\nend\n", b"line 5"),
@@ -48,64 +73,110 @@ def bad_values() -> list[tuple[bytes, bytes]]:
               (b"txn\nreads\nwrites\nshow a\nend\n", b"check unread 1 1"),
               (b"txn\nreads a\nwrites\nshow a\nset a = 1\nend\n", b"check unwritten 1 2"),
               (b"txn\nreads\nwrites\nlet $x = 1\nlet $x = 2\nend\n", b"check local 1 2"),
-              (b"txn\nreads\nwrites\n" + b"fail\n" * 65 + b"end\n", b"check limit 1 0")]
+              (b"txn\nreads\nwrites\n" + b"fail\n" * 65 + b"end\n", b"check limit 1 0"),
+              (b"call nothing a\n", b"procedure"), (b"call transfer a001 a002\n", b"arguments"),
+              (b"call transfer a001 a002 3 4\n", b"arguments"), (b"call transfer a001 a002 03\n", b"value"),
+              (b"call transfer a001 a002 9223372036854775808\n", b"value"), (b"call transfer a001 A 3\n", b"key"),
+              (b"define other\nprocedure 1\nkey x\nkey x\nreads x\nwrites\nend\n", b"line 3"),
+              (b"define other\nprocedure 1\nreads b a\nwrites\nend\n", b"check order 1 0")]
     return [(value, b"skipped: shape") for value in shapeless] + [(value, b"skipped: " + why) for value, why in faulty]
 
 
-@dataclass(frozen=True)
-class Sent:
-    """What was put, what the client was told of it, and, of what is to be skipped, the reply by which."""
-    revision: int
-    value: bytes
-    told: bytes
-    skipped: bytes | None
+@dataclass
+class Asked:
+    """What a client asked, and, once it knows, what it was told: a put's revision and line of reply, or what a fresh
+    read of an account answered. Times are seconds of one clock. `port` is the replica's."""
+    key: bytes
+    value: bytes | None
+    begin: float
+    over: bool = False
+    revision: int = 0
+    told: bytes = b""
+    end: float = 0.0
+    port: int = 0
+
+    def json(self) -> str:
+        return json.dumps({name: each.decode("latin-1") if isinstance(each, bytes) else each
+                           for name, each in vars(self).items()})
 
 
 class Client(threading.Thread):
-    """Puts one value after another, each when it has the reply to the one before."""
+    """Puts one value after another, each when it has the reply to the one before; at most `rate` a second."""
 
-    def __init__(self, number: int, count: int, seed: int, members: list[str], ports: list[int]) -> None:
+    def __init__(self, number: int, seed: int, members: list[str], ports: list[int], seconds: float, rate: float = 0.0,
+                 text: float = TEXT, mixed: bool = True, batch: int = 1) -> None:
         super().__init__(daemon=True)
-        self.number, self.count = number, count
+        self.number, self.seconds, self.rate = number, seconds, rate
+        self.text, self.mixed, self.batch = text, mixed, batch
         self.rng = random.Random(f"{seed} {number}")
         self.bad = bad_values()
         self.log = etcd.Etcd(members, number % len(members), PATIENCE)
         self.ports = ports[number % len(ports):] + ports[:number % len(ports)]
         self.lines: dict[int, http.client.HTTPConnection] = {}
-        self.sent: dict[bytes, Sent] = {}
-        self.overwritten: dict[bytes, bytes] = {}
-        self.took: dict[int, list[float]] = {port: [] for port in ports}
-        self.last = 0
+        self.asked: list[Asked] = []
+        self.made = 0
         self.fault: Exception | None = None
 
     def run(self) -> None:
         try:
-            for number in range(self.count):
-                self.send(b"log/c%d/%06d" % (self.number, number))
+            begin = time.monotonic()
+            while time.monotonic() < begin + self.seconds:
+                self.step()
+                if self.rate:
+                    time.sleep(max(0.0, begin + len(self.asked) / self.rate - time.monotonic()))
         except Exception as fault:
             self.fault = fault
 
-    def send(self, key: bytes) -> None:
-        value, skipped = self.rng.choice(self.bad) if self.rng.randrange(BAD) == 0 else (transfer(self.rng), None)
-        begin = time.monotonic()
-        revision = self.log.make({key: value})
-        port, told = self.ask(revision)
-        self.took[port].append(time.monotonic() - begin)
-        self.sent[key] = Sent(revision, value, told, skipped)
-        self.last = revision
-        if self.rng.randrange(RUDE) == 0:
-            self.last = self.log.overwrite(key, transfer(self.rng))
-            self.overwritten[key] = self.ask(self.last)[1]
+    def step(self) -> None:
+        draw = self.rng.random() if self.mixed else 1.0
+        key, value = self.key(), transfer(self.rng, self.text)
+        if draw < 1 / READ:
+            self.read(self.rng.choice(ACCOUNTS))
+        elif draw < 1 / READ + 1 / BAD:
+            self.put({key: self.rng.choice(self.bad)[0]})
+        elif draw < 1 / READ + 1 / BAD + 1 / RUDE:
+            self.put({key: value})
+            self.overwrite(key, transfer(self.rng, self.text))
+        else:
+            count = self.rng.choice(BATCHES) if self.mixed else self.batch
+            self.put({key: value} | {self.key(): transfer(self.rng, self.text) for _ in range(count - 1)})
 
-    def ask(self, revision: int) -> tuple[int, bytes]:
-        """The replica that answers first, from the client's own one on, and its line of a revision."""
+    def key(self) -> bytes:
+        self.made += 1
+        return b"log/c%d/%06d" % (self.number, self.made)
+
+    def put(self, values: dict[bytes, bytes]) -> None:
+        asked = [Asked(key, value, time.monotonic()) for key, value in values.items()]
+        self.asked += asked
+        revision = self.log.make(values)
+        self.take(asked, revision)
+
+    def overwrite(self, key: bytes, value: bytes) -> None:
+        asked = Asked(key, value, time.monotonic(), over=True)
+        self.asked.append(asked)
+        self.take([asked], self.log.overwrite(key, value))
+
+    def take(self, asked: list[Asked], revision: int) -> None:
+        port, text = self.ask(f"/replies/{revision}")
+        told = {line.split(b" ", 2)[1]: line for line in text.splitlines(keepends=True)}
+        for each in asked:
+            each.revision, each.told, each.port, each.end = revision, told[each.key], port, time.monotonic()
+
+    def read(self, account: str) -> None:
+        asked = Asked(account.encode(), None, time.monotonic())
+        self.asked.append(asked)
+        asked.port, asked.told = self.ask(f"/value/{account}?fresh=1")
+        asked.end = time.monotonic()
+
+    def ask(self, path: str) -> tuple[int, bytes]:
+        """The replica that answers first, from the client's own one on, and its answer."""
         end = time.monotonic() + PATIENCE
         while time.monotonic() < end:
             for port in self.ports:
-                if told := self.get(port, f"/replies/{revision}"):
+                if told := self.get(port, path):
                     return port, told
             time.sleep(etcd.PAUSE)
-        raise TimeoutError(f"no replica answers revision {revision}")
+        raise TimeoutError(f"no replica answers {path}")
 
     def get(self, port: int, path: str) -> bytes:
         """What a replica answers; nothing where it doesn't."""
@@ -118,6 +189,3 @@ class Client(threading.Thread):
         except (OSError, http.client.HTTPException):
             line.close()
             return b""
-
-    def answered(self) -> int:
-        return len(self.sent)

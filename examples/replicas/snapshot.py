@@ -1,4 +1,4 @@
-"""A snapshot: the store behind a revision of a log, in a file that is whole or refused."""
+"""A snapshot: what a replica holds behind a revision of a log, in a text that is whole or refused."""
 from __future__ import annotations
 
 import hashlib
@@ -8,37 +8,43 @@ from dataclasses import dataclass
 from pathlib import Path
 from urllib.parse import quote_from_bytes, unquote_to_bytes
 
-HEAD = re.compile(rb"snapshot 1\ncluster (\d+)\nprefix (\S+)\nrevision (\d+)\ntop (\d+)\n(?=log 1\n)")
+HEAD = re.compile(rb"snapshot 2\ncluster (\d+)\nprefix (\S+)\nrevision (\d+)\nentries (\d+)\ntop (\d+)\n")
+PROCEDURE = re.compile(rb"procedure (\S+) (\d+)\n")
 
 
 class Refused(Exception):
-    """A file that is no whole snapshot, or one of another log."""
+    """A text that is no whole snapshot, or one of another log."""
 
 
 @dataclass(frozen=True)
 class Snapshot:
-    """The store as text behind all puts up to a revision, and the timestamp of the last transaction among them."""
+    """Behind all changes up to a revision: how many entries the log had, the timestamp of the last transaction among
+    them, the procedures' texts by their names, and the store as text."""
     cluster: str
     prefix: bytes
     revision: int
+    entries: int
     top: int
+    procedures: dict[bytes, bytes]
     store: bytes
 
     def text(self) -> bytes:
-        head = (f"snapshot 1\ncluster {self.cluster}\nprefix {quote_from_bytes(self.prefix)}\n"
-                f"revision {self.revision}\ntop {self.top}\n")
-        body = head.encode() + self.store
+        head = (f"snapshot 2\ncluster {self.cluster}\nprefix {quote_from_bytes(self.prefix)}\n"
+                f"revision {self.revision}\nentries {self.entries}\ntop {self.top}\n").encode()
+        texts = [b"procedure %s %d\n%s" % (name, len(text), text) for name, text in sorted(self.procedures.items())]
+        body = head + b"".join(texts) + self.store
         return body + hash_line(body)
 
-    def write(self, path: Path) -> None:
-        """After a crash at any moment the file is the old snapshot or this one, whole."""
-        new = path.with_name(path.name + ".new")
-        with new.open("wb") as file:
-            file.write(self.text())
-            file.flush()
-            os.fsync(file.fileno())
-        new.rename(path)
-        sync_folder(path.parent)
+
+def write(text: bytes, path: Path) -> None:
+    """After a crash at any moment the file is the old one or this one, whole."""
+    new = path.with_name(path.name + ".new")
+    with new.open("wb") as file:
+        file.write(text)
+        file.flush()
+        os.fsync(file.fileno())
+    new.rename(path)
+    sync_folder(path.parent)
 
 
 def sync_folder(folder: Path) -> None:
@@ -54,16 +60,25 @@ def hash_line(body: bytes) -> bytes:
     return f"sha256 {hashlib.sha256(body).hexdigest()}\n".encode()
 
 
-def read(path: Path, cluster: str, prefix: bytes) -> Snapshot:
-    """The snapshot of a log that a file holds. Raises Refused, or FileNotFoundError."""
-    text = path.read_bytes()
+def parse(text: bytes) -> Snapshot:
+    """The snapshot that a text is. Raises Refused."""
     body = text[:-len(hash_line(b""))]
     if text != body + hash_line(body):
         raise Refused("its last line isn't the SHA-256 of the others")
     head = HEAD.match(body)
     if not head:
         raise Refused("its first lines aren't a snapshot's")
-    found = Snapshot(head[1].decode(), unquote_to_bytes(head[2]), int(head[3]), int(head[4]), body[head.end():])
+    at, procedures = head.end(), {}
+    while found := PROCEDURE.match(body, at):
+        at = found.end() + int(found[2])
+        procedures[found[1]] = body[found.end():at]
+    return Snapshot(head[1].decode(), unquote_to_bytes(head[2]), int(head[3]), int(head[4]), int(head[5]), procedures,
+                    body[at:])
+
+
+def read(path: Path, cluster: str, prefix: bytes) -> Snapshot:
+    """The snapshot of a log that a file holds. Raises Refused, or FileNotFoundError."""
+    found = parse(path.read_bytes())
     if (found.cluster, found.prefix) != (cluster, prefix):
         raise Refused("it is of another log")
     return found

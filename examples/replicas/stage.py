@@ -9,14 +9,20 @@ import signal
 import socket
 import subprocess
 import sys
+import threading
 from contextlib import ExitStack
 from dataclasses import dataclass, field
 from pathlib import Path
+from typing import Any, ClassVar
+
+from network import Seat
 
 # Ports below those that the system gives to outgoing connections, so that a port stays free while its owner is down.
 PORTS = range(10_000, 32_000)
 # Seconds that an answer, and a process that was told to end, may take.
-ANSWER, END = 10.0, 30.0
+ANSWER, END = 3.0, 120.0
+# Milliseconds after which etcd's members miss one another, for machines that have other work.
+PATIENT = ["--heartbeat-interval", "200", "--election-timeout", "2000"]
 
 
 def free_ports(count: int) -> list[int]:
@@ -33,19 +39,37 @@ def free_ports(count: int) -> list[int]:
     return found
 
 
+def on_loopback(count: int) -> list[Seat]:
+    """Where members run that can't be parted."""
+    ports = free_ports(2 * count)
+    return [Seat("127.0.0.1", client, peer, []) for client, peer in zip(ports[::2], ports[1::2])]
+
+
 @dataclass
 class Child:
     """A process, which may be started again. What it says on standard error is added to a file."""
+    name: str
     command: list[str]
     said: Path
+    variables: dict[str, str] = field(default_factory=dict)
     process: subprocess.Popen[bytes] | None = None
+    # Something is done to it on purpose, so that it may end.
+    disturbed: bool = False
+    # When all is over, no thread starts a process again.
+    over: ClassVar[bool] = False
+    lock: ClassVar[threading.Lock] = threading.Lock()
 
     def start(self) -> None:
+        with Child.lock:
+            if not Child.over:
+                self.launch()
+
+    def launch(self) -> None:
         plain = {name: value for name, value in os.environ.items() if not name.startswith("ETCD")}
         with self.said.open("ab") as said:
             # In a session of its own, so that Ctrl-C reaches the demo alone, which ends its processes.
             self.process = subprocess.Popen(self.command, stdin=subprocess.DEVNULL, stdout=said, stderr=said,
-                                            env=plain, start_new_session=True)
+                                            env=plain | self.variables, start_new_session=True)
 
     def kill(self) -> None:
         if self.process:
@@ -53,11 +77,26 @@ class Child:
             self.process.wait()
         self.process = None
 
+    def pause(self) -> None:
+        if self.process:
+            self.process.send_signal(signal.SIGSTOP)
+
+    def go_on(self) -> None:
+        if self.process:
+            self.process.send_signal(signal.SIGCONT)
+
+    def tell_to_end(self) -> None:
+        if self.process:
+            self.process.send_signal(signal.SIGTERM)
+
     def end(self) -> int:
-        """The status with which it ends when it is told to."""
+        """Tells it to end, and answers the status with which it does."""
+        self.tell_to_end()
+        return self.await_end()
+
+    def await_end(self) -> int:
         if not self.process:
             return 0
-        self.process.send_signal(signal.SIGTERM)
         status = self.process.wait(END)
         self.process = None
         return status
@@ -66,40 +105,48 @@ class Child:
         return self.process is not None and self.process.poll() is not None
 
 
-def member_commands(folder: Path, clients: list[int], peers: list[int]) -> list[list[str]]:
-    """The command of each member of a cluster, by the ports that it answers clients and the other members on."""
-    cluster = ",".join(f"m{number}=http://127.0.0.1:{port}" for number, port in enumerate(peers, 1))
-    return [["etcd", "--name", f"m{number}", "--data-dir", str(folder / f"member{number}"),
-             "--listen-client-urls", f"http://127.0.0.1:{client}",
-             "--advertise-client-urls", f"http://127.0.0.1:{client}",
-             "--listen-peer-urls", f"http://127.0.0.1:{peer}",
-             "--initial-advertise-peer-urls", f"http://127.0.0.1:{peer}",
-             "--initial-cluster", cluster, "--initial-cluster-state", "new"]
-            for number, (client, peer) in enumerate(zip(clients, peers), 1)]
+def members_of(folder: Path, seats: list[Seat]) -> list[Child]:
+    """The members of a cluster, by where they run."""
+    cluster = ",".join(f"m{number}=http://{seat.host}:{seat.peer}" for number, seat in enumerate(seats, 1))
+    found = []
+    for number, seat in enumerate(seats, 1):
+        client, peer = f"http://{seat.host}:{seat.client}", f"http://{seat.host}:{seat.peer}"
+        found.append(Child(f"member{number}", [
+            *seat.words, "etcd", "--name", f"m{number}", "--data-dir", str(folder / f"member{number}"),
+            "--listen-client-urls", client, "--advertise-client-urls", client, "--listen-peer-urls", peer,
+            "--initial-advertise-peer-urls", peer, "--initial-cluster", cluster, "--initial-cluster-state", "new",
+            *PATIENT],
+            folder / f"member{number}.said"))
+    return found
 
 
 @dataclass
 class ReplicaChild(Child):
-    """A replica with its folder, its port and how it cuts segments."""
+    """A replica with its folder, port and way to cut segments, and the revision that its first run began behind."""
     folder: Path = field(default=Path())
     port: int = 0
     cut: str = ""
+    base: int = 0
 
-    def status(self) -> dict[str, int] | None:
+    def ask(self, path: str) -> Any:
         """What it says of itself, if it answers."""
         line = http.client.HTTPConnection("127.0.0.1", self.port, timeout=ANSWER)
         try:
-            line.request("GET", "/status")
-            return json.loads(line.getresponse().read())
+            line.request("GET", path)
+            said = line.getresponse()
+            return json.loads(said.read()) if said.status == 200 else None
         except (OSError, http.client.HTTPException, ValueError):
             return None
         finally:
             line.close()
 
+    def status(self) -> dict[str, Any] | None:
+        found: dict[str, Any] | None = self.ask("/status")
+        return found
+
 
 def replica_child(folder: Path, port: int, library: Path, members: list[str], every: int,
-                  cut: tuple[str, list[str]]) -> ReplicaChild:
-    program = Path(__file__).with_name("replica.py")
-    command = [sys.executable, str(program), "--library", str(library), "--folder", str(folder),
+                  cut: tuple[str, list[str]], program: Path) -> ReplicaChild:
+    command = [sys.executable, str(program / "replica.py"), "--library", str(library), "--folder", str(folder),
                "--members", ",".join(members), "--port", str(port), "--every", str(every), *cut[1]]
-    return ReplicaChild(command, folder.with_suffix(".said"), folder=folder, port=port, cut=cut[0])
+    return ReplicaChild(folder.name, command, folder.with_suffix(".said"), folder=folder, port=port, cut=cut[0])

@@ -5,38 +5,36 @@ import bohm
 
 
 def check_balances(ledger, ts):
-    """Each balance of a past timestamp is the one in that timestamp's snapshot."""
-    for line in ledger.store_at(ts).splitlines()[1:]:
-        key, value = line.split(b" ")
-        assert ledger.value_at(key, ts) == int(value)
+    """Each balance of a past timestamp is the one in that timestamp's store."""
+    for key, value in ledger.store_at(ts).items():
+        assert ledger.value_at(key, ts) == value
 
 
 def main(library, log, size):
     library = bohm.load(library)
-    with open(log, "rb") as file:
+    with open(log) as file:
         text = file.read()
-    store, found, txns = text.partition(b"\ntxn\n")
-    store += b"\n" if found else b""
-    txns = [txn + b"\nend\n" for txn in (b"txn\n" + txns).split(b"\nend\n")[:-1]] if found else []
-    segments = [text[:6] + b"".join(txns[at:at + size]) for at in range(0, len(txns), size)]
-    with bohm.Machine(library, store) as ledger:
+    store, found, txns = text.partition("\ntxn\n")
+    store += "\n" if found else ""
+    txns = [txn + "\nend\n" for txn in ("txn\n" + txns).split("\nend\n")[:-1]] if found else []
+    segments = [text[:6] + "".join(txns[at:at + size]) for at in range(0, len(txns), size)]
+    with bohm.Machine(store, library=library) as ledger:
         second = None
         for number, segment in enumerate(segments):
             replies = ledger.apply(segment)
-            sys.stdout.buffer.write(replies)
+            sys.stdout.writelines(f"{reply}\n" for reply in replies)
             if second:
                 assert second.apply(segment) == replies
             elif number == len(segments) // 2:
-                top = ledger.counts().top
-                second = bohm.Machine(library, ledger.store_at(top), top)
+                second = bohm.Machine(ledger.snapshot(), ledger.top, library=library)
         if second:
+            assert second.digest() == ledger.digest()
             second.close()
-        top = ledger.counts().top
-        for ts in (0, top // 2, top):
+        for ts in (0, ledger.top // 2, ledger.top):
             check_balances(ledger, ts)
-        ledger.trim(top)
-        assert ledger.counts().floor == top
-        sys.stdout.buffer.write(b"--\n" + ledger.store_at(top)[6:])
+        ledger.trim()
+        assert ledger.floor == ledger.top
+        print("--", *(f"{key} {value}" for key, value in ledger.store_at().items()), sep="\n")
 
 
 main(sys.argv[1], sys.argv[2], int(sys.argv[3]))

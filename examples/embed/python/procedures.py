@@ -1,0 +1,45 @@
+"""Transfers between accounts by procedures, as procedures.c: `procedures.py LIBRARY`."""
+import sys
+
+import bohm
+
+ACCOUNTS = """\
+log 1
+alice 100
+bob 20
+carol 0
+"""
+
+TRANSFER = """\
+procedure 1
+key from
+key to
+value amount
+reads from to
+writes from to
+need from >= $amount
+set from = from - $amount
+set to = to + $amount
+end
+"""
+
+AUDIT = """\
+procedure 1
+reads alice bob carol
+writes
+show alice + bob + carol
+show carol
+end
+"""
+
+
+def main(library):
+    with bohm.Machine(ACCOUNTS, library=bohm.load(library)) as machine:
+        transfer, audit = machine.prepare(TRANSFER), machine.prepare(AUDIT)
+        print(transfer(from_="alice", to="bob", amount=30))
+        calls = [transfer.call("bob", "carol", 80), transfer.call("alice", "carol", amount=70), transfer.call("alice", "bob", 1)]
+        print(*machine.run(calls), audit(), sep="\n")
+        print("--", *(f"{key} {value}" for key, value in machine.store_at().items()), sep="\n")
+
+
+main(sys.argv[1])

@@ -1,0 +1,64 @@
+"""What the values of a log say: a procedure's definition, a call of one, or a transaction as text."""
+from __future__ import annotations
+
+import re
+from dataclasses import dataclass
+
+NAME = rb"[a-z][a-z0-9_]{0,31}"
+KEY = re.compile(NAME)
+CALL = re.compile(rb"call (" + NAME + rb")((?: [^ \n]+)*)\n")
+DEFINITION = re.compile(rb"define (" + NAME + rb")\n(procedure 1\n.*)", re.DOTALL)
+NUMBER = re.compile(rb"0|-?[1-9][0-9]{0,18}")
+LEAST, GREATEST = -2**63, 2**63 - 1
+SHAPELESS = b"skipped: shape"
+
+
+@dataclass(frozen=True)
+class Definition:
+    """From here on the name stands for the procedure of a text."""
+    name: bytes
+    text: bytes
+
+
+@dataclass(frozen=True)
+class Call:
+    """One line: `call`, a procedure's name, and an argument for each of its parameters."""
+    name: bytes
+    arguments: list[bytes]
+
+
+@dataclass(frozen=True)
+class Transaction:
+    """Lines, of which the first alone is `txn`, and the last alone is `end`."""
+    text: bytes
+
+
+@dataclass(frozen=True)
+class Shapeless:
+    """A value that says none of these."""
+
+
+Entry = Definition | Call | Transaction | Shapeless
+
+
+def read(value: bytes) -> Entry:
+    if found := CALL.fullmatch(value):
+        return Call(found[1], found[2].split())
+    if is_transaction(value):
+        return Transaction(value)
+    if found := DEFINITION.fullmatch(value):
+        return Definition(found[1], found[2])
+    return Shapeless()
+
+
+def is_transaction(value: bytes) -> bool:
+    end = value.find(b"\nend\n")
+    return value.startswith(b"txn\n") and b"\ntxn\n" not in value and 0 < end == len(value) - len(b"\nend\n")
+
+
+def number(word: bytes) -> int | None:
+    """The value that a word says, if it says one as a log writes it."""
+    if not NUMBER.fullmatch(word):
+        return None
+    found = int(word)
+    return found if LEAST <= found <= GREATEST else None

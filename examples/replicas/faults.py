@@ -1,0 +1,222 @@
+"""What is done to the members and the replicas on the way, drawn from a seed."""
+from __future__ import annotations
+
+import itertools
+import random
+import subprocess
+import sys
+import threading
+import time
+from collections import Counter
+from collections.abc import Callable, Iterator
+from pathlib import Path
+
+import network
+from etcd import Etcd
+from scene import Failed, Scene
+from stage import Child, ReplicaChild
+
+OPERATE = Path(__file__).with_name("operate")
+# Seconds that a fault lasts, and from its end to the next one.
+LASTS, BETWEEN = (0.5, 4.5), (0.3, 2.0)
+# Seconds that a clock jumps forth or back.
+JUMPS = (1, 60, 86_400, 10_000_000)
+
+
+class Faults(threading.Thread):
+    """Disturbs one process of some at a time, for some seconds."""
+
+    def __init__(self, scene: Scene, rng: random.Random, seconds: float) -> None:
+        super().__init__(daemon=True)
+        self.scene, self.rng, self.seconds = scene, rng, seconds
+        self.done: Counter[str] = Counter()
+
+    def run(self) -> None:
+        try:
+            self.play()
+        except Exception as fault:
+            self.scene.fault = self.scene.fault or fault
+
+    def play(self) -> None:
+        raise NotImplementedError
+
+    def do(self, name: str, act: Callable[[], None]) -> None:
+        act()
+        self.done[name] += 1
+
+    def shuffled(self, names: list[str], until: float) -> Iterator[str]:
+        """All names in a drawn order, over and over, with pauses, until a part of the time is over."""
+        self.rng.shuffle(names)
+        for name in itertools.cycle(names):
+            time.sleep(self.rng.uniform(*BETWEEN))
+            if self.scene.elapsed() > until * self.seconds:
+                return
+            yield name
+
+    def last(self) -> None:
+        time.sleep(self.rng.uniform(*LASTS))
+
+    def kill(self, child: Child) -> None:
+        child.disturbed = True
+        child.kill()
+        self.scene.tell(f"{child.name} killed")
+        self.last()
+        self.scene.start(child)
+        self.scene.tell(f"{child.name} started again")
+
+    def pause(self, child: Child) -> None:
+        child.pause()
+        self.scene.tell(f"{child.name} paused")
+        self.last()
+        child.go_on()
+        self.scene.tell(f"{child.name} goes on")
+
+
+class MemberFaults(Faults):
+    """Kills, pauses and, where there are namespaces, parts etcd's members."""
+
+    def play(self) -> None:
+        acts = {"member killed": self.kill, "member paused": self.pause}
+        if network.inside():
+            acts["members parted"] = self.part
+        for name in self.shuffled(list(acts), 0.9):
+            self.do(name, lambda: acts[name](self.rng.choice(self.scene.members)))
+
+    def part(self, child: Child) -> None:
+        """Cuts one member off from both others, or from one of them."""
+        one = self.scene.members.index(child) + 1
+        others = [number for number in (1, 2, 3) if number != one][:self.rng.randrange(1, 3)]
+        for other in others:
+            network.part(one, other)
+        self.scene.tell(f"{child.name} parted from {' and '.join(f'member{other}' for other in others)}")
+        self.last()
+        for other in others:
+            network.join(one, other)
+        self.scene.tell(f"{child.name} joined again")
+
+
+class ReplicaFaults(Faults):
+    """Disturbs the replicas in turn and upgrades them; starts the late one; at last compacts the log, and kills one
+    more. `newer` is the folder of the program that an upgrade starts."""
+
+    def __init__(self, scene: Scene, rng: random.Random, seconds: float, late: ReplicaChild, newer: Path) -> None:
+        super().__init__(scene, rng, seconds)
+        self.late, self.newer = late, newer
+
+    def play(self) -> None:
+        acts = {"replica killed": self.kill, "replica paused": self.pause, "snapshot changed": self.spoil,
+                "upgraded": self.upgrade}
+        acts |= {"disk full": self.fill} if network.inside() else {}
+        acts |= {"clock jumped": self.jump} if find_faketime() else {}
+        for name in self.shuffled(list(acts), 0.85):
+            if self.late not in self.scene.replicas and self.scene.elapsed() > 0.4 * self.seconds:
+                self.do("joined", lambda: self.join_late(self.rng.choice(self.scene.replicas)))
+            self.do(name, lambda: acts[name](self.rng.choice(self.scene.replicas)))
+        self.do("compacted", self.compact)
+        self.do("replica killed", lambda: self.kill(self.rng.choice(self.scene.replicas)))
+
+    def fill(self, replica: ReplicaChild) -> None:
+        """A replica ends by name where its disk is full, and goes on when there is room."""
+        replica.disturbed = True
+        network.fill(replica.folder)
+        self.scene.tell(f"{replica.name}'s disk is full")
+        self.scene.wait(f"{replica.name} ends", replica.ended_alone)
+        if b"ended: OSError: [Errno 28]" not in replica.said.read_bytes()[-300:]:
+            raise Failed(f"{replica.name} doesn't say that its disk is full")
+        network.empty(replica.folder)
+        self.scene.start(replica)
+        self.scene.tell(f"{replica.name} ended by itself; started again with room")
+
+    def jump(self, replica: ReplicaChild) -> None:
+        """A replica's clock jumps. Those of etcd's members can't be changed: a program in Go asks the kernel itself."""
+        by = self.rng.choice(JUMPS) * self.rng.choice((1, -1))
+        set_clock(replica, by)
+        self.scene.tell(f"{replica.name}'s clock jumps by {by:+,} s")
+        self.last()
+        set_clock(replica, 0)
+        self.scene.tell(f"{replica.name}'s clock jumps back")
+
+    def spoil(self, replica: ReplicaChild) -> None:
+        """A snapshot of which a byte was changed is refused, and the log run from its beginning."""
+        replica.disturbed = True
+        path = replica.folder / "snapshot"
+        if path.exists():
+            replica.kill()
+        else:
+            replica.end()
+        text = bytearray(path.read_bytes())
+        text[self.rng.randrange(len(text))] ^= self.rng.randrange(1, 256)
+        path.write_bytes(text)
+        self.scene.tell(f"{replica.name} killed, its snapshot changed")
+        said = replica.said.stat().st_size
+        began = self.scene.start(replica)["began"]
+        if began or b"refused: snapshot " not in replica.said.read_bytes()[said:]:
+            raise Failed(f"{replica.name} took a snapshot that was changed")
+        replica.base = 0
+        self.scene.tell(f"{replica.name} started again, refused it")
+
+    def upgrade(self, _: ReplicaChild) -> None:
+        """Each replica is ended, started as another program and waited for, one at a time."""
+        for replica in self.scene.replicas:
+            replica.disturbed = True
+            if status := replica.end():
+                raise Failed(f"{replica.name} ended with status {status}")
+            replica.command[1] = str(self.newer / "replica.py")
+            said = replica.said.stat().st_size
+            began = self.scene.start(replica)["began"]
+            if b"from its beginning" in replica.said.read_bytes()[said:]:
+                raise Failed(f"{replica.name} didn't go on from its snapshot")
+            self.scene.caught_up(replica)
+            self.scene.tell(f"{replica.name} upgraded, from revision {began}")
+
+    def join_late(self, source: ReplicaChild) -> None:
+        """One more replica from the snapshot of another one that goes on meanwhile."""
+        file = self.late.folder.with_suffix(".backup")
+        operate("backup", f"127.0.0.1:{source.port}", str(file))
+        operate("restore", str(file), str(self.late.folder))
+        self.scene.replicas.append(self.late)
+        self.late.base = int(str(self.scene.start(self.late)["began"]))
+        self.scene.tell(f"{self.late.name} started from a backup of {source.name}, revision {self.late.base}")
+
+    def compact(self) -> None:
+        revision = Etcd(self.scene.addresses).revision()
+        self.scene.wait("the witness", lambda: self.scene.witness.revision >= revision)
+        for replica in self.scene.replicas:
+            if not self.scene.status(replica)["snapshot_revision"]:
+                replica.disturbed = True
+                replica.end()
+                self.scene.start(replica)
+                self.scene.tell(f"{replica.name} had no snapshot, and was ended and started")
+        self.scene.tell(operate("compact", "--members", ",".join(self.scene.addresses)))
+
+
+def set_clock(replica: ReplicaChild, by: int) -> None:
+    new = replica.folder.with_suffix(".clock.new")
+    new.write_text(f"{by:+d}\n")
+    new.rename(replica.folder.with_suffix(".clock"))
+
+
+def faked_clock(replica: ReplicaChild, faketime: Path) -> None:
+    """Gives a replica a clock of its own, that of days; the one that only counts seconds stays the system's."""
+    set_clock(replica, 0)
+    replica.variables |= {"LD_PRELOAD": str(faketime), "FAKETIME_CACHE_DURATION": "1",
+                          "FAKETIME_TIMESTAMP_FILE": str(replica.folder.with_suffix(".clock")),
+                          "FAKETIME_DONT_FAKE_MONOTONIC": "1"}
+
+
+def find_faketime() -> Path | None:
+    return next(Path("/usr/lib").glob("*/faketime/libfaketimeMT.so.1"), None)
+
+
+def left_out() -> list[str]:
+    """What can't be done here, and why."""
+    why = network.missing()
+    found = [f"left out: partitions and full disks: {why}"] if why else []
+    return found + ([] if find_faketime() else ["left out: clocks that jump: there is no libfaketime"])
+
+
+def operate(*words: str) -> str:
+    done = subprocess.run([sys.executable, OPERATE, *words], capture_output=True, text=True, timeout=300)
+    if done.returncode:
+        raise Failed(done.stderr.strip())
+    return done.stdout.strip()

@@ -1,0 +1,131 @@
+"""What runs in a demo, and the story of it as it happens."""
+from __future__ import annotations
+
+import sys
+import threading
+import time
+from collections.abc import Callable
+from dataclasses import dataclass, field
+from typing import Any
+
+from etcd import Change, Etcd
+from load import Client
+from stage import Child, ReplicaChild
+
+# Seconds: for what was just started to answer on a machine that has other work, and between two looks.
+STARTED, LOOK = 300.0, 0.02
+
+
+class Failed(Exception):
+    """The demo can't go on, or has seen what shouldn't be."""
+
+
+class Witness(threading.Thread):
+    """Keeps every change from the first revision on, as the log is compacted later."""
+
+    def __init__(self, members: list[str]) -> None:
+        super().__init__(daemon=True)
+        self.log = Etcd(members)
+        self.changes: list[Change] = []
+        self.revision = 0
+
+    def run(self) -> None:
+        for changes in self.log.follow(1):
+            self.changes += changes
+            self.revision = changes[-1].revision
+
+
+@dataclass
+class Scene:
+    """The processes and the clients, and when all has to be over. `addresses` are the members'."""
+    addresses: list[str]
+    members: list[Child]
+    replicas: list[ReplicaChild]
+    clients: list[Client]
+    limit: float
+    quiet: bool = False
+    began: float = field(default_factory=time.monotonic)
+    story: list[str] = field(default_factory=list)
+    fault: Exception | None = None
+    known: dict[str, int] = field(default_factory=dict)
+    over: bool = False
+
+    def __post_init__(self) -> None:
+        self.witness = Witness(self.addresses)
+        threading.Thread(target=self.look, daemon=True).start()
+
+    def elapsed(self) -> float:
+        return time.monotonic() - self.began
+
+    def look(self) -> None:
+        """Keeps in mind how far each replica is."""
+        while not self.over:
+            for replica in list(self.replicas):
+                status = replica.status() if replica.process else None
+                if status:
+                    self.known[replica.name] = status["entries"]
+                else:
+                    self.known.pop(replica.name, None)
+            time.sleep(0.2)
+
+    def tell(self, words: str) -> None:
+        far = "  ".join(f"{self.known[replica.name]:>7,}" if replica.name in self.known else "      -"
+                        for replica in self.replicas)
+        line = f"{self.elapsed():6.1f} s  {words:<56}  {far}"
+        self.story.append(line)
+        if not self.quiet:
+            print(line, flush=True)
+
+    def check(self) -> None:
+        """Raises Failed where a client or a process went wrong by itself."""
+        if self.fault:
+            raise Failed(f"{type(self.fault).__name__}: {self.fault}")
+        for client in self.clients:
+            if client.fault:
+                raise Failed(f"client {client.number}: {client.fault!r}")
+        for child in (*self.members, *self.replicas):
+            if child.ended_alone() and not child.disturbed:
+                raise Failed(f"{child.name} ended by itself: {child.said.read_text()[-500:]}")
+
+    def wait(self, what: str, ready: Callable[[], bool], wait: float = STARTED) -> None:
+        end = time.monotonic() + wait
+        while not ready():
+            if time.monotonic() > end or self.elapsed() > self.limit:
+                raise Failed(f"too long a wait: {what}")
+            self.check()
+            time.sleep(LOOK)
+
+    def start(self, child: Child) -> dict[str, Any]:
+        """Starts a process. Of a replica it waits for the first status, and answers it."""
+        child.start()
+        child.disturbed = False
+        return self.status(child) if isinstance(child, ReplicaChild) else {}
+
+    def status(self, replica: ReplicaChild) -> dict[str, Any]:
+        """What a replica says of itself, as soon as it does."""
+        found: dict[str, Any] = {}
+
+        def answers() -> bool:
+            found.update(replica.status() or {})
+            return bool(found)
+
+        self.wait(f"{replica.name} answers", answers)
+        return found
+
+    def caught_up(self, replica: ReplicaChild) -> None:
+        """Waits until a replica has all that etcd has now."""
+        revision = Etcd(self.addresses).revision()
+        self.wait(f"{replica.name} at revision {revision}",
+                  lambda: (replica.status() or {"revision": 0})["revision"] >= revision)
+
+    def stop(self) -> None:
+        self.over = True
+        with Child.lock:
+            Child.over = True
+        for child in (*self.replicas, *self.members):
+            child.go_on()
+            child.kill()
+
+
+def complain(words: str) -> None:
+    print(words, file=sys.stderr, flush=True)

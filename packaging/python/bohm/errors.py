@@ -1,0 +1,147 @@
+"""What a call can end with, and the exception of each end."""
+import enum
+from typing import TYPE_CHECKING, ClassVar, Dict, List, Sequence, Type
+
+if TYPE_CHECKING:
+    from .replies import Reply
+
+
+class Status(enum.IntEnum):
+    """How a call ends: the header's enum."""
+
+    DONE = 0
+    REFUSED = 1
+    NO_MEMORY = 2
+    TRIMMED = 3
+    FUTURE = 4
+    HAS_STORE = 5
+    TIMESTAMPS = 6
+    HAS_LOG = 7
+    NO_KEY = 8
+    WAITING = 9
+    STOPPED = 10
+    KEPT = 11
+    UNFIT = 12
+
+
+class BohmError(Exception):
+    """A call that ended otherwise than `Status.DONE`."""
+
+    status: ClassVar[Status]
+    why: ClassVar[str]
+
+    def __init__(self, why: str = "") -> None:
+        super().__init__(why or self.why)
+
+
+class RefusedError(BohmError, ValueError):
+    """A text was refused. `line` says why, as `refused: line 3`."""
+
+    status = Status.REFUSED
+    why = "the text was refused"
+
+    def __init__(self, line: str = "") -> None:
+        self.line = line
+        super().__init__(line)
+
+
+class OutOfMemoryError(BohmError, MemoryError):
+    """An allocation failed, and nothing has changed."""
+
+    status = Status.NO_MEMORY
+    why = "an allocation failed"
+
+
+class TrimmedError(BohmError, LookupError):
+    """The timestamp is below the machine's floor."""
+
+    status = Status.TRIMMED
+    why = "the timestamp is below the floor"
+
+
+class FutureError(BohmError, LookupError):
+    """The timestamp is above the machine's top."""
+
+    status = Status.FUTURE
+    why = "the timestamp is above the top"
+
+
+class HasStoreError(BohmError, ValueError):
+    """The segment has a store of its own."""
+
+    status = Status.HAS_STORE
+    why = "the segment has a store of its own"
+
+
+class TimestampsError(BohmError, OverflowError):
+    """The segment's timestamps would pass 4294967295."""
+
+    status = Status.TIMESTAMPS
+    why = "the segment's timestamps would pass 4294967295"
+
+
+class HasLogError(BohmError, ValueError):
+    """The snapshot has transactions."""
+
+    status = Status.HAS_LOG
+    why = "the snapshot has transactions"
+
+
+class NoKeyError(BohmError, ValueError):
+    """A key's text is no key's."""
+
+    status = Status.NO_KEY
+    why = "a key is 1 to 32 lower-case letters, digits and underscores, the first of them a letter"
+
+
+class WaitingError(BohmError):
+    """Replies of an earlier segment wait: call `Machine.replies` first."""
+
+    status = Status.WAITING
+    why = "replies of an earlier segment wait"
+
+
+class StoppedError(BohmError, MemoryError):
+    """An allocation failed on the way. `replies` are those of the transactions that ran: whole batches of 4096."""
+
+    status = Status.STOPPED
+    why = "an allocation failed on the way"
+
+    def __init__(self, replies: Sequence["Reply"] = ()) -> None:
+        self.replies: List["Reply"] = list(replies)
+        super().__init__()
+
+
+class KeptError(BohmError, MemoryError):
+    """Transactions ran, but their replies could not be allocated: `Machine.replies` hands them out later."""
+
+    status = Status.KEPT
+    why = "the replies could not be allocated, and wait"
+
+
+class UnfitError(BohmError, ValueError):
+    """An edition, a number of arguments or the number of calls doesn't fit."""
+
+    status = Status.UNFIT
+    why = "an edition, a number of arguments or the number of calls doesn't fit"
+
+
+class ClosedError(BohmError, ValueError):
+    """The machine or the procedure is closed."""
+
+    why = "it is closed"
+
+
+BY_STATUS: Dict[Status, Type[BohmError]] = {
+    kind.status: kind
+    for kind in (
+        RefusedError, OutOfMemoryError, TrimmedError, FutureError, HasStoreError, TimestampsError, HasLogError,
+        NoKeyError, WaitingError, StoppedError, KeptError, UnfitError,
+    )
+}
+
+
+def raise_for(status: int) -> None:
+    """Raises the exception of a status, if it isn't `Status.DONE`."""
+    if status:
+        raise BY_STATUS[Status(status)]()

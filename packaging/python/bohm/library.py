@@ -1,0 +1,101 @@
+"""The shared object, with the calls that bohm.h declares."""
+import ctypes
+import functools
+import os
+from ctypes import POINTER, byref, c_char_p, c_int64, c_size_t, c_uint8, c_uint32, c_uint64, c_void_p
+from typing import Any, Optional, Tuple, Union
+
+Text = Union[str, bytes, bytearray, memoryview]
+
+# The shared object's name, which changes with what programs may rely on.
+SHARED = "libbohm.so.0"
+
+# Where the pointer to no bytes lies.
+NOWHERE = 16
+
+
+class RawBytes(ctypes.Structure):
+    _fields_ = [("at", c_void_p), ("len", c_size_t)]
+
+
+class RawCounts(ctypes.Structure):
+    _fields_ = [("floor", c_uint32), ("top", c_uint32), ("versions", c_uint64), ("waiting", c_uint64)]
+
+
+class RawHandle(ctypes.Structure):
+    """A machine, a procedure or a list of calls: null where it is closed."""
+
+    _fields_ = [("at", c_void_p)]
+
+
+class RawKey(ctypes.Structure):
+    _fields_ = [("at", c_char_p), ("len", c_size_t)]
+
+
+def octets(text: Text) -> bytes:
+    """The bytes of a text, of bytes or of what has bytes."""
+    return text.encode() if isinstance(text, str) else bytes(memoryview(text))
+
+
+class Library:
+    """A shared object that is loaded: the one that is named, or else the one beside this file or the system's."""
+
+    def __init__(self, path: "Optional[str | os.PathLike[str]]" = None) -> None:
+        beside = os.path.join(os.path.dirname(os.path.abspath(__file__)), SHARED)
+        self.path = os.path.abspath(path) if path else beside if os.path.exists(beside) else SHARED
+        self.calls = ctypes.CDLL(self.path)
+        self.heap = ctypes.CDLL(None)
+        self.heap.free.argtypes, self.heap.free.restype = [c_void_p], None
+        handle, text, out = POINTER(RawHandle), [c_char_p, c_size_t], POINTER(RawBytes)
+        declared = {
+            "bohm_answer": [*text, out],
+            "bohm_open": [handle, *text, c_uint32, out],
+            "bohm_apply": [handle, *text, out],
+            "bohm_replies": [handle, out],
+            "bohm_value_at": [handle, *text, c_uint32, POINTER(c_uint8), POINTER(c_int64)],
+            "bohm_store_at": [handle, c_uint32, out],
+            "bohm_digest": [handle, c_uint32, ctypes.c_char * 32],
+            "bohm_trim": [handle, c_uint32],
+            "bohm_counts": [handle, POINTER(RawCounts)],
+            "bohm_close": [handle],
+            "bohm_prepare": [handle, *text, out],
+            "bohm_close_procedure": [handle],
+            "bohm_open_calls": [handle, c_uint32],
+            "bohm_push": [handle, handle, POINTER(RawKey), c_size_t, POINTER(c_int64), c_size_t],
+            "bohm_run_calls": [handle, handle, out],
+            "bohm_clear_calls": [handle],
+            "bohm_close_calls": [handle],
+        }
+        nothing = ("bohm_counts", "bohm_close", "bohm_close_procedure", "bohm_clear_calls", "bohm_close_calls")
+        for name, words in declared.items():
+            call = getattr(self.calls, name)
+            call.argtypes, call.restype = words, None if name in nothing else c_uint32
+
+    def told(self, name: str) -> str:
+        return ctypes.string_at(ctypes.addressof(ctypes.c_char.in_dll(self.calls, name))).decode()
+
+    @property
+    def version(self) -> str:
+        """The library's version."""
+        return self.told("bohm_version")
+
+    @property
+    def sources(self) -> str:
+        """The checksum of the sources that the library is built from."""
+        return self.told("bohm_sources")
+
+    def handed(self, call: Any, *words: Any) -> Tuple[int, bytes]:
+        """The status of a call, and the bytes that it hands out."""
+        out = RawBytes(NOWHERE, 0)
+        status = call(*words, byref(out))
+        try:
+            return status, ctypes.string_at(out.at, out.len)
+        finally:
+            if out.len:
+                self.heap.free(out.at)
+
+
+@functools.lru_cache(maxsize=None)
+def load(path: "Optional[str | os.PathLike[str]]" = None) -> Library:
+    """The library of a shared object, which is loaded once."""
+    return Library(path)

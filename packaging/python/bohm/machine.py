@@ -1,0 +1,199 @@
+"""Machines: stores with their past, which segments and calls take on."""
+import ctypes
+import threading
+from ctypes import byref, c_int64, c_uint8
+from typing import Any, Dict, Iterable, List, NamedTuple, Optional
+
+from .errors import ClosedError, RefusedError, Status, StoppedError, UnfitError, raise_for
+from .library import Library, RawCounts, RawHandle, RawKey, Text, load, octets
+from .procedures import Call, Procedure
+from .replies import Answer, Reply, answer_of, replies_of, store_of
+
+
+class Counts(NamedTuple):
+    """The least and the greatest timestamp that can be read, how many versions are kept, and how many replies wait."""
+
+    floor: int
+    top: int
+    versions: int
+    waiting: int
+
+
+def timestamp(ts: int) -> int:
+    if not 0 <= ts < 1 << 32:
+        raise ValueError(f"{ts} is no timestamp")
+    return ts
+
+
+def answer(log: Text, *, library: Optional[Library] = None) -> Answer:
+    """Runs a whole log."""
+    library = library or load()
+    text = octets(log)
+    status, given = library.handed(library.calls.bohm_answer, text, len(text))
+    if status == Status.REFUSED:
+        raise RefusedError(given.decode().strip())
+    raise_for(status)
+    return answer_of(given)
+
+
+class Machine:
+    """A store with its past, from a floor up to a top, which are timestamps.
+
+        with bohm.Machine("log 1\\nalice 100\\nbob 20\\n") as machine:
+            transfer = machine.prepare(text)
+            reply = transfer(from_="alice", to="bob", amount=30)
+
+    Texts are `str` or bytes of any kind. A machine takes one call at a time, from any thread, and others wait."""
+
+    def __init__(self, snapshot: Text = b"log 1\n", top: int = 0, *, library: Optional[Library] = None) -> None:
+        """Opens the store of a snapshot, as it stands after the transaction with the timestamp `top`."""
+        self.library = library or load()
+        self.lock = threading.RLock()
+        self.lists: Dict[int, RawHandle] = {}
+        self.raw = RawHandle(None)
+        text = octets(snapshot)
+        status, line = self.library.handed(self.library.calls.bohm_open, byref(self.raw), text, len(text), timestamp(top))
+        if status == Status.REFUSED:
+            raise RefusedError(line.decode().strip())
+        raise_for(status)
+
+    def opened(self) -> Any:
+        if not self.raw.at:
+            raise ClosedError("the machine is closed")
+        return byref(self.raw)
+
+    def told(self, status: int, given: bytes) -> List[Reply]:
+        """The replies that a run handed out."""
+        if status == Status.REFUSED:
+            raise RefusedError(given.decode().strip())
+        if status == Status.STOPPED:
+            raise StoppedError(replies_of(given))
+        raise_for(status)
+        return replies_of(given)
+
+    def apply(self, segment: Text) -> List[Reply]:
+        """Runs a segment: the text of a log without a store. The first reply is that of the timestamp `top + 1`."""
+        text = octets(segment)
+        with self.lock:
+            return self.told(*self.library.handed(self.library.calls.bohm_apply, self.opened(), text, len(text)))
+
+    def prepare(self, text: Text) -> Procedure:
+        """The procedure of a text, to be called on this machine."""
+        with self.lock:
+            self.opened()
+            return Procedure(self, text)
+
+    def list_of(self, edition: int) -> Any:
+        """An open list of calls for procedures of an edition."""
+        if edition not in self.lists:
+            raw = RawHandle(None)
+            raise_for(self.library.calls.bohm_open_calls(byref(raw), edition))
+            self.lists[edition] = raw
+        return byref(self.lists[edition])
+
+    def push(self, calls: Any, call: Call) -> None:
+        keys = (RawKey * max(len(call.keys), 1))(*[RawKey(key, len(key)) for key in call.keys])
+        values = (c_int64 * max(len(call.values), 1))(*call.values)
+        raise_for(self.library.calls.bohm_push(
+            calls, call.procedure.opened(), keys, len(call.keys), values, len(call.values)))
+
+    def run(self, calls: Iterable[Call]) -> List[Reply]:
+        """Runs calls of this machine's procedures, as `apply` runs the segment of their instances. All are of one
+        edition."""
+        wanted = list(calls)
+        if any(call.procedure.machine is not self for call in wanted):
+            raise ValueError("a procedure is another machine's")
+        edition = wanted[0].procedure.edition if wanted else 1
+        if any(call.procedure.edition != edition for call in wanted):
+            raise UnfitError("the procedures have two editions")
+        with self.lock:
+            machine = self.opened()
+            pushed = self.list_of(edition)
+            try:
+                for call in wanted:
+                    self.push(pushed, call)
+                return self.told(*self.library.handed(self.library.calls.bohm_run_calls, machine, pushed))
+            finally:
+                self.library.calls.bohm_clear_calls(pushed)
+
+    def replies(self) -> List[Reply]:
+        """The replies that wait after a `KeptError`."""
+        with self.lock:
+            status, given = self.library.handed(self.library.calls.bohm_replies, self.opened())
+        raise_for(status)
+        return replies_of(given)
+
+    def value_at(self, key: Text, ts: Optional[int] = None) -> Optional[int]:
+        """What a key holds after the transaction with a timestamp, or at the top: `None` if it holds nothing."""
+        name, present, value = octets(key), c_uint8(0), c_int64(0)
+        with self.lock:
+            raw = self.opened()
+            at = self.top if ts is None else timestamp(ts)
+            status = self.library.calls.bohm_value_at(raw, name, len(name), at, byref(present), byref(value))
+        raise_for(status)
+        return value.value if present.value else None
+
+    def snapshot(self, ts: Optional[int] = None) -> bytes:
+        """The snapshot of a timestamp, or of the top, on which another machine can be opened."""
+        with self.lock:
+            raw = self.opened()
+            at = self.top if ts is None else timestamp(ts)
+            status, given = self.library.handed(self.library.calls.bohm_store_at, raw, at)
+        raise_for(status)
+        return given
+
+    def store_at(self, ts: Optional[int] = None) -> Dict[str, int]:
+        """What each key holds after the transaction with a timestamp, or at the top, by rising keys."""
+        return store_of(self.snapshot(ts).decode().splitlines()[1:])
+
+    def digest(self, ts: Optional[int] = None) -> bytes:
+        """The 32 bytes of the digest of what keys hold at a timestamp, or at the top: machines that hold the same have
+        the same digest."""
+        digest = (ctypes.c_char * 32)()
+        with self.lock:
+            raw = self.opened()
+            status = self.library.calls.bohm_digest(raw, self.top if ts is None else timestamp(ts), digest)
+        raise_for(status)
+        return digest.raw
+
+    def trim(self, floor: Optional[int] = None) -> None:
+        """Lets the past below a timestamp go, or all of it."""
+        with self.lock:
+            raw = self.opened()
+            status = self.library.calls.bohm_trim(raw, self.top if floor is None else timestamp(floor))
+        raise_for(status)
+
+    def counts(self) -> Counts:
+        raw = RawCounts()
+        with self.lock:
+            self.library.calls.bohm_counts(self.opened(), byref(raw))
+        return Counts(raw.floor, raw.top, raw.versions, raw.waiting)
+
+    @property
+    def floor(self) -> int:
+        """The least timestamp that can be read."""
+        return self.counts().floor
+
+    @property
+    def top(self) -> int:
+        """The timestamp of the last transaction."""
+        return self.counts().top
+
+    def close(self) -> None:
+        """Frees the machine. A second time it does nothing."""
+        with self.lock:
+            for calls in self.lists.values():
+                self.library.calls.bohm_close_calls(byref(calls))
+            self.lists.clear()
+            if self.raw.at:
+                self.library.calls.bohm_close(byref(self.raw))
+
+    def __enter__(self) -> "Machine":
+        return self
+
+    def __exit__(self, *what: object) -> None:
+        self.close()
+
+    def __del__(self) -> None:
+        if getattr(self, "raw", None):
+            self.close()

@@ -1,0 +1,120 @@
+"""Procedures: transactions with parameters, which are called as Python's functions are."""
+import keyword
+from ctypes import byref
+from typing import TYPE_CHECKING, Any, Dict, List, NamedTuple, Tuple
+
+from .errors import ClosedError, RefusedError, Status, raise_for
+from .library import RawHandle, Text, octets
+from .replies import Reply
+
+if TYPE_CHECKING:
+    from .machine import Machine
+
+
+class Call(NamedTuple):
+    """A procedure with its arguments, in the order of its parameters."""
+
+    procedure: "Procedure"
+    keys: Tuple[bytes, ...]
+    values: Tuple[int, ...]
+
+
+def word_of(name: str) -> str:
+    """The word by which Python names a parameter: with an underscore behind a word of its own."""
+    return name + "_" if keyword.iskeyword(name) else name
+
+
+def value_of(name: str, value: Any) -> int:
+    if not isinstance(value, int):
+        raise TypeError(f"{name} is a number, and not {type(value).__name__}")
+    if not -(1 << 63) <= value < 1 << 63:
+        raise OverflowError(f"{name}: {value} has more than 64 bits")
+    return value
+
+
+class Procedure:
+    """A transaction with parameters, which was read and checked once. `Machine.prepare` makes it.
+
+        transfer = machine.prepare(text)
+        reply = transfer(from_="alice", to="bob", amount=30)
+
+    Arguments stand in the order of the parameters, keys before values, or are named. A parameter whose name is a word of
+    Python is named with an underscore behind it. `call` gives a call that `Machine.run` runs among others."""
+
+    def __init__(self, machine: "Machine", text: Text) -> None:
+        self.machine = machine
+        self.raw = RawHandle(None)
+        given = octets(text)
+        status, line = machine.library.handed(machine.library.calls.bohm_prepare, byref(self.raw), given, len(given))
+        if status == Status.REFUSED:
+            raise RefusedError(line.decode().strip())
+        raise_for(status)
+        self.text = given.decode()
+        lines = [line.split(" ") for line in self.text.splitlines()]
+        self.edition = int(lines[0][1])
+        self.keys = self.named(lines, "key")
+        self.values = self.named(lines, "value")
+        self.parameters = self.keys + self.values
+        self.places: Dict[str, int] = {word_of(name): place for place, name in enumerate(self.parameters)}
+        self.places.update({name: place for place, name in enumerate(self.parameters)})
+
+    @staticmethod
+    def named(lines: List[List[str]], kind: str) -> Tuple[str, ...]:
+        """The parameters of a kind: the lines between the head and `reads`."""
+        head = next(number for number, words in enumerate(lines) if words[0] == "reads")
+        return tuple(words[1] for words in lines[1:head] if words[0] == kind)
+
+    def arguments(self, given: Tuple[Any, ...], named: Dict[str, Any]) -> List[Any]:
+        """An argument for each parameter, in their order."""
+        wanted = len(self.parameters)
+        if len(given) > wanted:
+            raise TypeError(f"it takes {wanted} arguments, and {len(given)} are given")
+        missing = object()
+        filled = [*given, *[missing] * (wanted - len(given))]
+        for word, value in named.items():
+            place = self.places.get(word)
+            if place is None:
+                raise TypeError(f"it has no parameter '{word}'")
+            if filled[place] is not missing:
+                raise TypeError(f"'{word}' is given twice")
+            filled[place] = value
+        absent = [word_of(name) for name, value in zip(self.parameters, filled) if value is missing]
+        if absent:
+            raise TypeError(f"without an argument: {', '.join(absent)}")
+        return filled
+
+    def call(self, *given: Any, **named: Any) -> Call:
+        """A call with these arguments: keys are texts, values are numbers of 64 bits."""
+        filled = self.arguments(given, named)
+        count = len(self.keys)
+        keys = tuple(octets(key) for key in filled[:count])
+        values = tuple(value_of(name, value) for name, value in zip(self.values, filled[count:]))
+        return Call(self, keys, values)
+
+    def __call__(self, *given: Any, **named: Any) -> Reply:
+        """Runs the call alone, and gives its reply."""
+        return self.machine.run([self.call(*given, **named)])[0]
+
+    def opened(self) -> Any:
+        if not self.raw.at:
+            raise ClosedError("the procedure is closed")
+        return byref(self.raw)
+
+    def close(self) -> None:
+        """Frees the procedure. A second time it does nothing."""
+        with self.machine.lock:
+            if self.raw.at:
+                self.machine.library.calls.bohm_close_procedure(byref(self.raw))
+
+    def __repr__(self) -> str:
+        return f"<procedure ({', '.join(map(word_of, self.parameters))})>"
+
+    def __enter__(self) -> "Procedure":
+        return self
+
+    def __exit__(self, *what: object) -> None:
+        self.close()
+
+    def __del__(self) -> None:
+        if getattr(self, "raw", None):
+            self.close()

@@ -1,0 +1,67 @@
+"""Replies, and answers of whole logs."""
+import enum
+from typing import Dict, List, NamedTuple, Optional, Tuple
+
+
+class Reason(enum.Enum):
+    """Why a transaction aborted."""
+
+    NEED = "need"
+    FAIL = "fail"
+    ABSENT = "absent"
+    RANGE = "range"
+
+
+class Reply(NamedTuple):
+    """The reply to the transaction with a timestamp. `str` gives its line in the text of an answer.
+
+    A commit has the shown values. An abort has its reason and the statement that aborted, counted from 1, and in a
+    call from the first `let` of the procedure's values."""
+
+    timestamp: int
+    shows: Tuple[int, ...] = ()
+    reason: Optional[Reason] = None
+    statement: int = 0
+
+    @property
+    def committed(self) -> bool:
+        return self.reason is None
+
+    def __str__(self) -> str:
+        if self.reason is None:
+            return " ".join([f"{self.timestamp} commit", *map(str, self.shows)])
+        return f"{self.timestamp} abort {self.reason.value} {self.statement}"
+
+
+class Answer(NamedTuple):
+    """The replies of a log, and the store that it leaves. `str` gives the text."""
+
+    replies: List[Reply]
+    store: Dict[str, int]
+
+    def __str__(self) -> str:
+        lines = [*map(str, self.replies), "--", *(f"{key} {value}" for key, value in self.store.items())]
+        return "".join(f"{line}\n" for line in lines)
+
+
+def reply_of(line: str) -> Reply:
+    timestamp, outcome, *rest = line.split(" ")
+    if outcome == "commit":
+        return Reply(int(timestamp), tuple(map(int, rest)))
+    return Reply(int(timestamp), (), Reason(rest[0]), int(rest[1]))
+
+
+def replies_of(text: bytes) -> List[Reply]:
+    """The replies of the lines of a text."""
+    return [reply_of(line) for line in text.decode().splitlines()]
+
+
+def store_of(lines: List[str]) -> Dict[str, int]:
+    """The store of lines of a key and its value."""
+    return {key: int(value) for key, value in (line.split(" ") for line in lines)}
+
+
+def answer_of(text: bytes) -> Answer:
+    lines = text.decode().splitlines()
+    end = lines.index("--")
+    return Answer([reply_of(line) for line in lines[:end]], store_of(lines[end + 1:]))
