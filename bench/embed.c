@@ -4,6 +4,7 @@
 #include "../crates/bohm_c/include/bohm.h"
 
 #include <stdio.h>
+#include <stdlib.h>
 #include <string.h>
 #include <time.h>
 
@@ -41,18 +42,17 @@ int main(int argc, char **argv) {
         memcpy(segment + 6, at, (size_t)(end - at));
         double start = seconds();
         uint32_t status = bohm_apply(&machine, (uint8_t *)segment, 6 + (size_t)(end - at), &out);
-        bohm_machine_counts counts;
-        bohm_counts(&machine, &counts);
-        uint32_t trimmed = bohm_trim(&machine, counts.top);
+        uint32_t floor, top;
+        bohm_timestamps(&machine, &floor, &top);
+        uint32_t trimmed = bohm_trim(&machine, top);
         spent += seconds() - start;
         if (status || trimmed) return 1;
         bohm_free_bytes(&out);
         at = end;
     }
     fprintf(stderr, "%.9f\n", spent);
-    bohm_machine_counts counts;
-    bohm_counts(&machine, &counts);
-    if (bohm_store_at(&machine, counts.top, &out)) return 1;
+    uint32_t floor, top;
+    if (bohm_timestamps(&machine, &floor, &top) || bohm_store_at(&machine, top, &out)) return 1;
     fwrite(out.at + 6, 1, out.len - 6, stdout);
     bohm_free_bytes(&out);
     bohm_close(&machine);

@@ -55,9 +55,9 @@ static void hold(int is_so, const char *why) {
     if (!is_so) fault(now, why);
 }
 
-static int is_none(bohm_bytes out) { return out.at == (uint8_t *)16 && out.len == 0; }
+static int is_none(bohm_bytes out) { return !out.at && !out.len; }
 
-static bohm_machine_counts counts_of(bohm_machine *machine) {
+static bohm_machine_counts counts_of(const bohm_machine *machine) {
     bohm_machine_counts counts;
     bohm_counts(machine, &counts);
     return counts;
@@ -74,6 +74,8 @@ static void check_value(bohm_machine *machine, const char *key, uint32_t ts, int
 static void check_machine(bohm_machine *machine, uint32_t top) {
     bohm_machine_counts counts = counts_of(machine);
     hold(counts.top == top && counts.waiting == 0, "another top, or replies that wait");
+    uint32_t floor = 1, last = 0;
+    hold(bohm_timestamps(machine, &floor, &last) == BOHM_DONE && floor == counts.floor && last == top, "other timestamps");
     uint32_t read[] = {counts.floor, counts.floor + (top - counts.floor) / 2, top};
     for (size_t i = 0; i < 3; i++) {
         check_value(machine, "a", read[i], 1, counted_a(read[i]));
@@ -161,7 +163,7 @@ static void take_waiting(bohm_machine *machine, uint32_t top, uint32_t ran) {
     take(now, &out, replies_behind(top, ran));
 }
 
-static long ended[13];
+static long ended[BOHM_MISUSE + 1];
 
 static long apply_refused(long from, long to) {
     uint32_t top = 6, count = least_count;
@@ -346,6 +348,114 @@ static long run_calls_refused(long from, long to) {
     bohm_close_calls(&calls);
     close_all(&of);
     return asked_for;
+}
+
+/* The rows of the transactions behind `top`, as the log's rules have them. */
+static void check_rows(bohm_reply_rows *rows, bohm_values *values, uint32_t top, uint32_t count) {
+    uint64_t shown = 0;
+    hold(rows->len == count, "another number of rows");
+    for (uint32_t i = 0; i < count; i++) {
+        uint32_t k = top + i + 1;
+        bohm_reply row = rows->at[i];
+        hold(row.first == shown, "another first value");
+        if (k % 4 == 0) {
+            hold(row.outcome == BOHM_ABORT_NEED && row.statement == 2 && row.shown == 0, "another abort");
+        } else {
+            int64_t right = k % 2 ? counted_a(k - 1) : 7 + counted_b(k - 1);
+            hold(row.outcome == BOHM_COMMIT && row.statement == 0 && row.shown == 1, "another commit");
+            hold(shown < values->len && values->at[shown] == right, "another shown value");
+            shown++;
+        }
+    }
+    hold(values->len == shown, "another number of values");
+    bohm_free_rows(rows, values);
+}
+
+static int are_none(bohm_reply_rows rows, bohm_values values) {
+    return !rows.at && !rows.len && !values.at && !values.len;
+}
+
+/* A segment of a text, and then calls, whose replies are handed out as rows. */
+static long rows_refused(long from, long to) {
+    uint32_t top = 6, count = least_count;
+    procedures of = prepare_all(now);
+    bohm_machine machine = {0};
+    open_behind(&machine, 0);
+    go_on(&machine, top);
+    text segment = segment_behind(top, count);
+    bohm_bytes out = BOHM_NO_BYTES;
+    bohm_reply_rows rows = BOHM_NO_ROWS;
+    bohm_values values = BOHM_NO_VALUES;
+    refuse(from, to);
+    uint32_t status = bohm_apply_held(&machine, bytes_of(segment), segment.len, &out);
+    uint32_t told = status == BOHM_DONE || status == BOHM_STOPPED ? bohm_rows(&machine, &rows, &values) : BOHM_DONE;
+    long asked_for = relent();
+    uint32_t ran = counts_of(&machine).top - top;
+    hold(is_none(out), "something is handed out");
+    hold((status == BOHM_DONE && told == BOHM_DONE) || asked_for >= from, "an end without cause");
+    hold(status == BOHM_DONE ? ran == count : ran % 4096 == 0, "no whole batches");
+    hold(status == BOHM_DONE || status == BOHM_STOPPED || (status == BOHM_NO_MEMORY && !ran), "another end");
+    if (told) {
+        hold(told == BOHM_NO_MEMORY && are_none(rows, values) && counts_of(&machine).waiting == ran, "another end of rows");
+        hold(bohm_rows(&machine, &rows, &values) == BOHM_DONE, "no rows");
+    }
+    if (status == BOHM_NO_MEMORY) hold(are_none(rows, values), "rows of nothing");
+    check_rows(&rows, &values, top, ran);
+    check_machine(&machine, top + ran);
+    bohm_calls calls = calls_behind(now, &of, top + ran, 5);
+    hold(bohm_run_calls_held(&machine, &calls) == BOHM_DONE, "the calls aren't run");
+    hold(bohm_run_calls_held(&machine, &calls) == BOHM_WAITING, "it doesn't wait");
+    hold(bohm_apply_held(&machine, bytes_of(segment), segment.len, &out) == BOHM_WAITING && is_none(out), "it doesn't wait");
+    hold(counts_of(&machine).waiting == 5, "no reply waits");
+    hold(bohm_rows(&machine, &rows, &values) == BOHM_DONE, "no rows");
+    check_rows(&rows, &values, top + ran, 5);
+    hold(bohm_rows(&machine, &rows, &values) == BOHM_DONE, "no rows");
+    check_rows(&rows, &values, top + ran + 5, 0);
+    bohm_clear_calls(&calls);
+    for (uint32_t k = 1; k <= 3; k++) hold(push(&calls, &of, top + ran + 5 + k) == BOHM_DONE, "a call isn't taken");
+    hold(bohm_run_calls_held(&machine, &calls) == BOHM_DONE, "the calls aren't run");
+    hold(bohm_replies(&machine, &out) == BOHM_DONE, "no text of the replies");
+    take(now, &out, replies_behind(top + ran + 5, 3));
+    go_on(&machine, 4);
+    bohm_close(&machine);
+    bohm_close_calls(&calls);
+    close_all(&of);
+    free(segment.at);
+    return asked_for;
+}
+
+/* Each outcome, and statuses of held segments. */
+static void outcomes(void) {
+    now = "outcomes";
+    bohm_machine machine = {0};
+    bohm_bytes out = BOHM_NO_BYTES;
+    bohm_reply_rows rows = BOHM_NO_ROWS;
+    bohm_values values = BOHM_NO_VALUES;
+    const char *segment = "log 1\n"
+                          "txn\nreads a b\nwrites\nshow b\nshow a\nshow a - b\nend\n"
+                          "txn\nreads a\nwrites\nshow a\nneed a > 0\nend\n"
+                          "txn\nreads\nwrites\nfail\nend\n"
+                          "txn\nreads d\nwrites\nshow 1\nshow d\nend\n"
+                          "txn\nreads b\nwrites\nshow b\nshow b\nshow 9223372036854775807 + b\nend\n"
+                          "txn\nreads\nwrites\nend\n"
+                          "txn\nreads\nwrites\nshow 5\nend\n";
+    const bohm_reply right[] = {{BOHM_COMMIT, 0, 0, 3},       {BOHM_ABORT_NEED, 2, 3, 0},  {BOHM_ABORT_FAIL, 1, 3, 0},
+                                {BOHM_ABORT_ABSENT, 2, 3, 0}, {BOHM_ABORT_RANGE, 3, 3, 0}, {BOHM_COMMIT, 0, 3, 0},
+                                {BOHM_COMMIT, 0, 3, 1}};
+    const int64_t shown[] = {7, 0, -7, 5};
+    const char *store = "log 1\na 1\n", *bad = "log 1\ntxn\nend\n";
+    open_behind(&machine, 0);
+    hold(bohm_apply_held(&machine, (const uint8_t *)segment, strlen(segment), &out) == BOHM_DONE, "it isn't run");
+    hold(bohm_rows(&machine, &rows, &values) == BOHM_DONE && rows.len == 7 && values.len == 4, "other rows");
+    hold(!memcmp(rows.at, right, sizeof right) && !memcmp(values.at, shown, sizeof shown), "other rows");
+    bohm_free_rows(&rows, &values);
+    hold(are_none(rows, values), "rows stay");
+    hold(bohm_apply_held(&machine, (const uint8_t *)store, strlen(store), &out) == BOHM_HAS_STORE && is_none(out), "a store");
+    hold(bohm_apply_held(&machine, (const uint8_t *)bad, strlen(bad), &out) == BOHM_REFUSED, "a bad line");
+    text line = {0};
+    put(&line, "refused: line 3\n", 0, "");
+    take(now, &out, line);
+    bohm_close(&machine);
 }
 
 /* What a procedure's text is refused with, or "" where it is taken. */
@@ -535,10 +645,147 @@ static void without_memory(void) {
     hold(relent() == 0, "memory is asked for");
 }
 
+/* ---- misuse, which is answered, and touches nothing */
+
+/* Each call on a closed machine and on none, and with a null where one may not be. */
+static void misused_machine(bohm_machine *machine) {
+    bohm_calls calls = {0};
+    bohm_bytes out = BOHM_NO_BYTES;
+    bohm_reply_rows rows = BOHM_NO_ROWS;
+    bohm_values values = BOHM_NO_VALUES;
+    bohm_machine_counts counts = {1, 2, 3, 4};
+    uint8_t present = 7, digest[32];
+    int64_t value = 8;
+    const uint8_t *some = (const uint8_t *)"log 1\n";
+    memset(digest, 0xa5, sizeof digest);
+    hold(bohm_open_calls(&calls, 1) == BOHM_DONE, "no list of calls");
+    hold(bohm_apply(machine, some, 6, &out) == BOHM_MISUSE, "apply");
+    hold(bohm_apply_held(machine, some, 6, &out) == BOHM_MISUSE, "apply_held");
+    hold(bohm_replies(machine, &out) == BOHM_MISUSE, "replies");
+    hold(bohm_rows(machine, &rows, &values) == BOHM_MISUSE, "rows");
+    hold(bohm_value_at(machine, some, 1, 0, &present, &value) == BOHM_MISUSE && present == 7 && value == 8, "value_at");
+    hold(bohm_value_at(machine, some, 0, 0, &present, &value) == BOHM_MISUSE && present == 7 && value == 8, "value_at");
+    hold(bohm_store_at(machine, 0, &out) == BOHM_MISUSE, "store_at");
+    hold(bohm_digest(machine, 0, digest) == BOHM_MISUSE && is_as_before(digest), "digest");
+    hold(bohm_trim(machine, 0) == BOHM_MISUSE, "trim");
+    hold(bohm_counts(machine, &counts) == BOHM_MISUSE && counts.floor == 1 && counts.waiting == 4, "counts");
+    hold(bohm_timestamps(machine, &counts.floor, &counts.top) == BOHM_MISUSE && counts.floor == 1 && counts.top == 2, "timestamps");
+    hold(bohm_run_calls(machine, &calls, &out) == BOHM_MISUSE, "run_calls");
+    hold(bohm_run_calls_held(machine, &calls) == BOHM_MISUSE, "run_calls_held");
+    hold(is_none(out) && are_none(rows, values), "something is handed out");
+    bohm_close(machine);
+    bohm_close_calls(&calls);
+}
+
+/* An open machine, and nulls. */
+static void misused_pointers(void) {
+    bohm_machine machine = {0}, same;
+    bohm_bytes out = BOHM_NO_BYTES;
+    bohm_reply_rows rows = BOHM_NO_ROWS;
+    bohm_values values = BOHM_NO_VALUES;
+    bohm_calls closed = {0};
+    uint8_t present = 7;
+    int64_t value = 8;
+    open_behind(&machine, 0);
+    go_on(&machine, 5);
+    same = machine;
+    text snapshot = snapshot_behind(0), segment = segment_behind(5, 3);
+    hold(bohm_open(&machine, bytes_of(snapshot), snapshot.len, 0, &out) == BOHM_MISUSE, "an open machine is opened");
+    hold(bohm_apply(&machine, NULL, 1, &out) == BOHM_MISUSE, "a null text");
+    hold(bohm_apply_held(&machine, NULL, 1, &out) == BOHM_MISUSE, "a null text");
+    hold(bohm_answer(NULL, 1, &out) == BOHM_MISUSE, "a null text");
+    hold(bohm_value_at(&machine, NULL, 1, 0, &present, &value) == BOHM_MISUSE, "a null key");
+    hold(bohm_value_at(&machine, (const uint8_t *)"a", 1, 0, NULL, &value) == BOHM_MISUSE, "a null flag");
+    hold(bohm_value_at(&machine, (const uint8_t *)"a", 1, 0, &present, NULL) == BOHM_MISUSE, "a null value");
+    hold(bohm_digest(&machine, 0, NULL) == BOHM_MISUSE, "a null digest");
+    hold(bohm_counts(&machine, NULL) == BOHM_MISUSE, "null counts");
+    uint32_t last = 3;
+    hold(bohm_timestamps(&machine, NULL, &last) == BOHM_MISUSE && last == 3, "a null floor");
+    hold(bohm_timestamps(&machine, &last, NULL) == BOHM_MISUSE && last == 3, "a null top");
+    hold(bohm_rows(&machine, NULL, &values) == BOHM_MISUSE, "null rows");
+    hold(bohm_rows(&machine, &rows, NULL) == BOHM_MISUSE, "null values");
+    hold(bohm_run_calls(&machine, NULL, &out) == BOHM_MISUSE, "null calls");
+    hold(bohm_run_calls(&machine, &closed, &out) == BOHM_MISUSE, "closed calls");
+    hold(bohm_run_calls_held(&machine, NULL) == BOHM_MISUSE, "null calls");
+    hold(bohm_run_calls_held(&machine, &closed) == BOHM_MISUSE, "closed calls");
+    hold(present == 7 && value == 8 && is_none(out) && are_none(rows, values), "something is handed out");
+    hold(machine.at == same.at, "another machine");
+    check_machine(&machine, 5);
+    /* nulls that are good: of no bytes, and of an `out` */
+    hold(bohm_value_at(&machine, NULL, 0, 0, &present, &value) == BOHM_NO_KEY, "no bytes are no key");
+    hold(bohm_apply(&machine, NULL, 0, NULL) == BOHM_REFUSED, "no bytes are no segment");
+    hold(bohm_apply(&machine, bytes_of(segment), segment.len, NULL) == BOHM_DONE, "replies that nobody wants");
+    hold(bohm_store_at(&machine, 8, NULL) == BOHM_DONE, "a snapshot that nobody wants");
+    hold(bohm_answer(NULL, 0, NULL) == BOHM_REFUSED, "no bytes are no log");
+    check_machine(&machine, 8);
+    bohm_close(&machine);
+    hold(!machine.at && bohm_open(&machine, NULL, 0, 0, NULL) == BOHM_REFUSED && !machine.at, "no bytes are no snapshot");
+    free(snapshot.at);
+    free(segment.at);
+}
+
+static void misused_calls(void) {
+    procedures of = prepare_all(now);
+    bohm_procedure none = {0}, *procedure_at = &of.count;
+    bohm_calls calls = {0}, closed = {0};
+    bohm_machine machine = {0};
+    bohm_key a = key_of("a"), null_key = {NULL, 0}, wrong = {NULL, 1};
+    int64_t one = 1;
+    hold(bohm_prepare(procedure_at, (const uint8_t *)COPY_TEXT, strlen(COPY_TEXT), NULL) == BOHM_MISUSE, "an open procedure is opened");
+    hold(bohm_prepare(&none, NULL, 1, NULL) == BOHM_MISUSE && bohm_prepare(NULL, NULL, 0, NULL) == BOHM_MISUSE, "a null text");
+    hold(bohm_open_calls(&calls, 1) == BOHM_DONE, "no list of calls");
+    hold(bohm_open_calls(&calls, 1) == BOHM_MISUSE && bohm_open_calls(NULL, 1) == BOHM_MISUSE, "an open list is opened");
+    hold(bohm_push(&closed, &of.count, &a, 1, &one, 1) == BOHM_MISUSE, "a closed list");
+    hold(bohm_push(NULL, &of.count, &a, 1, &one, 1) == BOHM_MISUSE, "no list");
+    hold(bohm_push(&calls, &none, &a, 1, &one, 1) == BOHM_MISUSE, "a closed procedure");
+    hold(bohm_push(&calls, NULL, &a, 1, &one, 1) == BOHM_MISUSE, "no procedure");
+    hold(bohm_push(&calls, &of.count, NULL, 1, &one, 1) == BOHM_MISUSE, "null keys");
+    hold(bohm_push(&calls, &of.count, &a, 1, NULL, 1) == BOHM_MISUSE, "null values");
+    hold(bohm_push(&calls, &of.count, &wrong, 1, &one, 1) == BOHM_MISUSE, "a null key");
+    hold(bohm_push(&calls, &of.count, &null_key, 1, &one, 1) == BOHM_NO_KEY, "no bytes are no key");
+    hold(bohm_push(&calls, &of.count, NULL, 0, NULL, 0) == BOHM_UNFIT, "no arguments");
+    hold(bohm_clear_calls(&closed) == BOHM_MISUSE && bohm_clear_calls(NULL) == BOHM_MISUSE, "a closed list");
+    /* a handle of another kind is no such handle */
+    bohm_calls odd = {of.count.at};
+    hold(bohm_clear_calls(&odd) == BOHM_MISUSE && odd.at == of.count.at, "a procedure in the place of a list");
+    bohm_machine strange = {of.count.at};
+    misused_machine(&(bohm_machine){0});
+    hold(bohm_trim(&strange, 0) == BOHM_MISUSE && strange.at == of.count.at, "a procedure in the place of a machine");
+    hold(push(&calls, &of, 1) == BOHM_DONE, "a call isn't taken");
+    open_behind(&machine, 0);
+    run_on(&machine, &calls, 1);
+    bohm_close(&machine);
+    bohm_close_calls(&calls);
+    bohm_close_calls(&calls);
+    bohm_close_calls(NULL);
+    close_all(&of);
+    close_all(&of);
+    bohm_close_procedure(NULL);
+}
+
+static void misuse(void) {
+    now = "misuse";
+    long before = blocks;
+    bohm_machine closed = {0};
+    misused_machine(&closed);
+    hold(!closed.at, "it is open");
+    misused_machine(NULL);
+    hold(bohm_open(NULL, NULL, 0, 0, NULL) == BOHM_MISUSE, "no machine");
+    misused_pointers();
+    misused_calls();
+    bohm_free(NULL);
+    for (uint32_t one = 0; one <= BOHM_MISUSE; one++)
+        for (uint32_t other = 0; other <= BOHM_MISUSE + 1; other++)
+            hold((one == other) == !strcmp(bohm_status_text(one), bohm_status_text(other)), "a status in other words");
+    hold(blocks == before, "a block that nobody frees");
+}
+
 int main(void) {
+    misuse();
     each_status();
     each_call_status();
     arguments();
+    outcomes();
     without_memory();
     digests();
     each_refused("bohm_answer", answer_refused, 9);
@@ -552,6 +799,8 @@ int main(void) {
     each_refused("bohm_run_calls", run_calls_refused, 9);
     each_refused("bohm_run_calls in three batches", run_calls_refused, 8200);
     hold(ended[BOHM_STOPPED] && ended[BOHM_KEPT], "an end that isn't reached");
+    each_refused("bohm_rows", rows_refused, 9);
+    each_refused("bohm_rows of three batches", rows_refused, 8200);
     each_refused("bohm_prepare", prepare_refused, 0);
     each_refused("bohm_push", push_refused, 0);
     each_refused("bohm_store_at", store_at_refused, 0);

@@ -4,6 +4,7 @@
 #include "../../crates/bohm_c/include/bohm.h"
 
 #include <stdio.h>
+#include <stdlib.h>
 #include <string.h>
 
 typedef struct {

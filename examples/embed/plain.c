@@ -6,7 +6,6 @@ typedef __UINT8_TYPE__ uint8_t;
 typedef __UINT32_TYPE__ uint32_t;
 typedef __UINT64_TYPE__ uint64_t;
 typedef __INT64_TYPE__ int64_t;
-void free(void *at);
 ssize_t read(int file, void *at, size_t len);
 ssize_t write(int file, const void *at, size_t len);
 

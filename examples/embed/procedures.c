@@ -3,6 +3,7 @@
 #include "../../crates/bohm_c/include/bohm.h"
 
 #include <stdio.h>
+#include <stdlib.h>
 #include <string.h>
 
 static const char *accounts = "log 1\nalice 100\nbob 20\ncarol 0\n";
@@ -27,7 +28,7 @@ static const char *audit_text = "procedure 1\n"
 
 static void need_done(const char *what, uint32_t status) {
     if (status == BOHM_DONE) return;
-    fprintf(stderr, "%s: %u\n", what, status);
+    fprintf(stderr, "%s: %s\n", what, bohm_status_text(status));
     exit(1);
 }
 
@@ -38,7 +39,7 @@ static bohm_procedure prepare(const char *text) {
     return procedure;
 }
 
-static void transfer(bohm_calls *calls, bohm_procedure *procedure, const char *from, const char *to, int64_t amount) {
+static void transfer(bohm_calls *calls, const bohm_procedure *procedure, const char *from, const char *to, int64_t amount) {
     const bohm_key keys[] = {{(const uint8_t *)from, strlen(from)}, {(const uint8_t *)to, strlen(to)}};
     need_done("transfer", bohm_push(calls, procedure, keys, 2, &amount, 1));
 }
@@ -55,9 +56,7 @@ int main(void) {
     transfer(&calls, &by, "bob", "carol", 80);
     transfer(&calls, &by, "alice", "carol", 70);
     transfer(&calls, &by, "alice", "bob", 1);
-    const bohm_key none = {(const uint8_t *)"", 0};
-    const int64_t no_value = 0;
-    need_done("audit", bohm_push(&calls, &audit, &none, 0, &no_value, 0));
+    need_done("audit", bohm_push(&calls, &audit, 0, 0, 0, 0));
 
     need_done("run_calls", bohm_run_calls(&machine, &calls, &out));
     fwrite(out.at, 1, out.len, stdout);

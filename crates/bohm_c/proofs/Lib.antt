@@ -1,7 +1,5 @@
 mod Values
-mod HeldValues
-mod ProcedureValues
-mod CallsValues
+mod Handles
 mod LeftStore
 mod Refusing
 mod Snapshots

@@ -1,6 +1,5 @@
 -- How the logic stores what a handle keeps.
-use base.Fml.{Fml, ftrue}
-use Rattle.std.specs.Prelude.{◌≡◌, ℕ, zero, suc, ℤ, Bool, true, false, List, Option, Some, None, Result, Ok, Err, refl}
+use Rattle.std.specs.Prelude.{◌≡◌, ℕ, zero, suc, ℤ, List, Option, Some, None, Result, Ok, Err, refl}
 use Rattle.std.specs.Coded.{Coded, code_by, coded×, coded_ℕ, coded_ℤ, coded_list, coded_option, coded_result}
 use Rattle.bohm_tree.specs.declared.cell.Cell.{Cell}
 use Rattle.bohm_tree.specs.declared.cell.Cell.TheVariants.{Absent, Present}
@@ -81,8 +80,3 @@ reply_code = code_by (Result (List ℤ) (Reason × ℕ)) (coded_result (coded_li
 
 abbrev pub keeper_code : Coded Keeper
 keeper_code = code_by (Ledger × (List Reply × ℕ)) (coded× ledger_code (coded× (coded_list reply_code) coded_ℕ)) (λ k. (k.machine, (k.waiting, k.behind))) (λ p. record { machine = p.0; waiting = p.1.0; behind = p.1.1 }) (λ _. refl)
-
--- the formula, where the truth value is true
-abbrev pub when : Bool → Fml → Fml
-when true F = F
-when false F = ftrue

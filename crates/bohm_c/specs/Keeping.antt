@@ -1,5 +1,5 @@
 -- What the calls on a handle say.
-use Rattle.std.specs.Prelude.{◌≡◌, ℕ, ℤ, ◌+◌, ◌<◌, ◌≤◌, Bool, true, false, List, [], length, max, take}
+use Rattle.std.specs.Prelude.{◌≡◌, ℕ, ℤ, ◌+◌, ◌<◌, ◌≤◌, Bool, true, false, List, [], length, max, min, take}
 use Rattle.std.specs.FinMap.{entries}
 use Rattle.bohm_tree.specs.Document.{Document}
 use Rattle.bohm_tree.specs.declared.cell.Cell.{Cell}
@@ -9,10 +9,12 @@ use Rattle.bohm_txn.specs.Faulty.{WellFormed}
 use Rattle.bohm_txn.specs.Stores.{cell_in, store_of}
 use Rattle.bohm_text.specs.Print.{print_doc, print_numbered}
 use Rattle.bohm_run.specs.Headline.{answer_of}
+use Rattle.bohm_store.specs.Versions.{total}
 use Rattle.bohm_machine.specs.Machines.{GoesOn, HasRun, Ledger, floor_of, past_of, top_of}
 use Rattle.bohm_machine.specs.Segments.{AreWholeBatches, IsTaken, RunsOn, IsRefused as IsUntakenBy}
 use Rattle.bohm_machine.specs.declared.fault.SegmentFault.{SegmentFault}
 use Rattle.bohm_run.specs.declared.fault.RunFault.TheVariants.{NoMemory}
+use Rattle.bohm_c.specs.declared.keeper.BohmCounts.{BohmCounts}
 use Rattle.bohm_c.specs.declared.keeper.Keeper.{Keeper}
 use Rattle.bohm_c.specs.declared.keeper.OpenFault.{OpenFault}
 use Rattle.bohm_c.specs.declared.keeper.OpenFault.TheVariants.{Text, HasLog}
@@ -81,6 +83,13 @@ pub record IsKept (was now : Keeper) (text : List ℕ) : Type 0 where
   pub read : IsRead text document
   pub run : IsRunUntold was now document
 
+-- all of it was run, and the replies wait
+pub record IsHeld (was now : Keeper) (text : List ℕ) : Type 0 where
+  pub document : Document
+  pub read : IsRead text document
+  pub run : IsRunUntold was now document
+  pub whole : length now.waiting ≡ length document.log
+
 -- the text is a segment that the machine refuses, and why
 pub record IsUntaken (m : Ledger) (text : List ℕ) (fault : SegmentFault) : Type 0 where
   pub document : Document
@@ -123,6 +132,13 @@ pub record IsSnapshot (m : Ledger) (ts : ℕ) (text : List ℕ) : Type 0 where
   pub listed : store ≡ entries (store_of store)
   pub formed : WellFormed (snapshot_of store)
   pub printed : text ≡ print_doc (snapshot_of store)
+
+-- these are the machine's counts
+pub record HasCounts (keeper : Keeper) (counts : BohmCounts) : Type 0 where
+  pub floor : counts.floor ≡ floor_of keeper.machine
+  pub top : counts.top ≡ top_of keeper.machine
+  pub versions : counts.versions ≡ min (total keeper.machine.history.chains) 18446744073709551615
+  pub waiting : counts.waiting ≡ length keeper.waiting
 
 -- the past from the new floor on is as it was, and so are the replies that wait
 pub record IsTrimmed (was now : Keeper) (least : ℕ) : Type 0 where

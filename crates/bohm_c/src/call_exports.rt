@@ -1,6 +1,6 @@
 //! The functions that C calls on procedures, and on lists of their calls.
 
-ghost use Rattle.std.specs.Prelude.{◌≡◌, ◌≢◌, ◌<◌, ◌⊎◌, length, map, true, false, None};
+ghost use Rattle.std.specs.Prelude.{◌≡◌, ◌≢◌, ◌<◌, ◌⊎◌, ◌↔◌, length, map, None, Some};
 ghost use Rattle.std.specs.List.{Any};
 ghost use Rattle.bohm_tree.specs.Appending.{empty_document};
 ghost use Rattle.bohm_tree.specs.Name.{key_of};
@@ -9,15 +9,16 @@ ghost use Rattle.bohm_machine.specs.Segments.{IsRefused};
 ghost use Rattle.bohm_machine.specs.declared.fault.SegmentFault.TheVariants as segment_is;
 ghost use Rattle.bohm_procedures.specs.Accepting.{Takes};
 ghost use Rattle.bohm_c.specs.Calling.{IsPrepared, IsProcedureRefusal, IsPushed};
+ghost use Rattle.bohm_c.specs.Handles.{IsCallList, IsMachine, IsProcedure, OnCalls, OnMachine, OnProcedure};
 ghost use Rattle.bohm_c.specs.Keeping.{IsRunPartly, IsRunUntold, IsRunWhole};
 
 use crate::call_list::{CallList, PushFault};
-use crate::calls_handle::BohmCalls;
-use crate::handle::BohmMachine;
+use crate::handle::{BohmHandle, put_back, take_back};
+use crate::kept::Kept;
 use crate::prepared::{prepare, refuse_procedure};
-use crate::procedure_handle::BohmProcedure;
-use crate::status::{DONE, KEPT, NO_KEY, NO_MEMORY, REFUSED, STOPPED, TIMESTAMPS, UNFIT, WAITING};
-use crate::{calls_handle, handle, procedure_handle};
+use crate::status::{
+    DONE, KEPT, MISUSE, NO_KEY, NO_MEMORY, REFUSED, STOPPED, TIMESTAMPS, UNFIT, WAITING,
+};
 use bohm_tree::Edition;
 use std::alloc::Global;
 
@@ -25,22 +26,26 @@ use std::alloc::Global;
 #[unsafe(no_mangle)]
 pub extern "C" fn bohm_prepare<'a>(
     alloc: Global,
-    procedure: &mut BohmProcedure,
+    procedure: &mut BohmHandle,
     text: &[u8],
     out: &mut &'a mut [u8],
 ) -> u32
-    requires { procedure.old.is_open ≡ false }
-    ensures status { (result ≡ DONE) ⊎ (result ≡ REFUSED) ⊎ (result ≡ NO_MEMORY) }
-    ensures opened { result ≡ DONE → procedure.new.is_open ≡ true }
-    ensures done { result ≡ DONE → IsPrepared text.now procedure.new.value }
+    ensures status { (result ≡ DONE) ⊎ (result ≡ REFUSED) ⊎ (result ≡ NO_MEMORY)
+        ⊎ (result ≡ MISUSE) }
+    ensures misuse { (result ≡ MISUSE) ↔ (procedure.old.value ≢ None) }
+    ensures done { result ≡ DONE → OnProcedure procedure.new.value (IsPrepared text.now) }
     ensures refused { result ≡ REFUSED → IsProcedureRefusal text.now out.new.now }
-    ensures unchanged { 0 < result → procedure.new ≡ procedure.old }
+    ensures unchanged { 0 < result → procedure.new.value ≡ procedure.old.value }
     ensures untouched { result ≢ REFUSED → out.new ≡ out.old }
 {
+    if let Some(kept) = take_back(alloc, procedure) {
+        put_back(procedure, kept);
+        return MISUSE;
+    }
     match prepare(alloc, text) {
-        Ok(prepared) => match Box::new(alloc, prepared) {
-            Ok(prepared) => {
-                procedure_handle::put_back(procedure, prepared);
+        Ok(prepared) => match Box::new(alloc, Kept::Prepared(prepared)) {
+            Ok(kept) => {
+                put_back(procedure, kept);
                 DONE
             }
             Err(_) => NO_MEMORY,
@@ -49,37 +54,66 @@ pub extern "C" fn bohm_prepare<'a>(
     }
 }
 
-/// Frees the procedure. Its calls stay.
-#[unsafe(no_mangle)]
-pub extern "C" fn bohm_close_procedure(alloc: Global, procedure: &mut BohmProcedure)
-    requires { procedure.old.is_open ≡ true }
-    ensures { procedure.new.is_open ≡ false }
-{
-    let _prepared = procedure_handle::take_back(alloc, procedure);
-}
-
 /// Opens a list of no calls, of procedures of edition 1 or 2.
 #[unsafe(no_mangle)]
-pub extern "C" fn bohm_open_calls(alloc: Global, calls: &mut BohmCalls, edition: u32) -> u32
-    requires { calls.old.is_open ≡ false }
-    ensures status { (result ≡ DONE) ⊎ (result ≡ UNFIT) ⊎ (result ≡ NO_MEMORY) }
-    ensures opened { result ≡ DONE → calls.new.is_open ≡ true }
-    ensures one { result ≡ DONE → edition ≡ 1 → calls.new.value ≡ empty_document One }
-    ensures two { result ≡ DONE → edition ≡ 2 → calls.new.value ≡ empty_document Two }
+pub extern "C" fn bohm_open_calls(alloc: Global, calls: &mut BohmHandle, edition: u32) -> u32
+    ensures status { (result ≡ DONE) ⊎ (result ≡ UNFIT) ⊎ (result ≡ NO_MEMORY)
+        ⊎ (result ≡ MISUSE) }
+    ensures misuse { (result ≡ MISUSE) ↔ (calls.old.value ≢ None) }
+    ensures one { result ≡ DONE → edition ≡ 1
+        → OnCalls calls.new.value (λ d. d ≡ empty_document One) }
+    ensures two { result ≡ DONE → edition ≢ 1
+        → OnCalls calls.new.value (λ d. d ≡ empty_document Two) }
+    ensures edition { result ≡ DONE → (edition ≡ 1) ⊎ (edition ≡ 2) }
     ensures unfit { result ≡ UNFIT → (edition ≢ 1) × (edition ≢ 2) }
-    ensures unchanged { 0 < result → calls.new ≡ calls.old }
+    ensures unchanged { 0 < result → calls.new.value ≡ calls.old.value }
 {
+    if let Some(kept) = take_back(alloc, calls) {
+        put_back(calls, kept);
+        return MISUSE;
+    }
     let edition = match edition {
         1 => Edition::One,
         2 => Edition::Two,
         _ => return UNFIT,
     };
-    match Box::new(alloc, CallList::new(alloc, edition)) {
-        Ok(list) => {
-            calls_handle::put_back(calls, list);
+    match Box::new(alloc, Kept::Calls(CallList::new(alloc, edition))) {
+        Ok(kept) => {
+            put_back(calls, kept);
             DONE
         }
         Err(_) => NO_MEMORY,
+    }
+}
+
+/// Adds the call of a procedure to a list, where they are these.
+fn push_on(calls: &mut Kept, procedure: &Kept, keys: &[&[u8]], values: &[i64]) -> u32
+    ensures status { (result ≡ DONE) ⊎ (result ≡ NO_MEMORY) ⊎ (result ≡ NO_KEY)
+        ⊎ (result ≡ UNFIT)
+        ⊎ (result ≡ MISUSE) }
+    ensures misuse { (result ≡ MISUSE)
+        ↔ ¬ (IsCallList (Some calls.old) × IsProcedure (Some procedure.now)) }
+    ensures done { result ≡ DONE → OnProcedure (Some procedure.now) (λ p.
+        OnCalls (Some calls.old) (λ was.
+        OnCalls (Some calls.new) (λ now.
+        IsPushed p (map (λ k. k.now) keys.now) values.now was now))) }
+    ensures no_key { result ≡ NO_KEY → Any (λ k. key_of k.now ≡ None) keys.now }
+    ensures unfit { result ≡ UNFIT → OnProcedure (Some procedure.now) (λ p.
+        OnCalls (Some calls.old) (λ was.
+        ¬ Takes was p (map (λ k. k.now) keys.now) values.now)) }
+    ensures unchanged { 0 < result → calls.new ≡ calls.old }
+{
+    let Kept::Prepared(procedure) = procedure else {
+        return MISUSE;
+    };
+    let Kept::Calls(list) = calls else {
+        return MISUSE;
+    };
+    match list.push(procedure, keys, values) {
+        Ok(()) => DONE,
+        Err(PushFault::NoKey) => NO_KEY,
+        Err(PushFault::Unfit) => UNFIT,
+        Err(PushFault::NoMemory) => NO_MEMORY,
     }
 }
 
@@ -87,36 +121,73 @@ pub extern "C" fn bohm_open_calls(alloc: Global, calls: &mut BohmCalls, edition:
 #[unsafe(no_mangle)]
 pub extern "C" fn bohm_push(
     alloc: Global,
-    calls: &mut BohmCalls,
-    procedure: &mut BohmProcedure,
+    calls: &mut BohmHandle,
+    procedure: &mut BohmHandle,
     keys: &[&[u8]],
     values: &[i64],
 ) -> u32
-    requires calls { calls.old.is_open ≡ true }
-    requires procedure { procedure.old.is_open ≡ true }
-    ensures open { calls.new.is_open ≡ true }
-    ensures procedure_open { procedure.new.is_open ≡ true }
     ensures same { procedure.new.value ≡ procedure.old.value }
     ensures status { (result ≡ DONE) ⊎ (result ≡ NO_MEMORY) ⊎ (result ≡ NO_KEY)
-        ⊎ (result ≡ UNFIT) }
-    ensures done { result ≡ DONE → IsPushed procedure.old.value (map (λ k. k.now) keys.now)
-        values.now calls.old.value calls.new.value }
+        ⊎ (result ≡ UNFIT)
+        ⊎ (result ≡ MISUSE) }
+    ensures misuse { (result ≡ MISUSE)
+        ↔ ¬ (IsCallList calls.old.value × IsProcedure procedure.old.value) }
+    ensures done { result ≡ DONE → OnProcedure procedure.old.value (λ p.
+        OnCalls calls.old.value (λ was.
+        OnCalls calls.new.value (λ now.
+        IsPushed p (map (λ k. k.now) keys.now) values.now was now))) }
     ensures no_key { result ≡ NO_KEY → Any (λ k. key_of k.now ≡ None) keys.now }
-    ensures unfit { result ≡ UNFIT
-        → ¬ Takes calls.old.value procedure.old.value (map (λ k. k.now) keys.now) values.now }
+    ensures unfit { result ≡ UNFIT → OnProcedure procedure.old.value (λ p.
+        OnCalls calls.old.value (λ was.
+        ¬ Takes was p (map (λ k. k.now) keys.now) values.now)) }
     ensures unchanged { 0 < result → calls.new.value ≡ calls.old.value }
 {
-    let mut list = calls_handle::take_back(alloc, calls);
-    let prepared = procedure_handle::take_back(alloc, procedure);
-    let status = match list.push(&prepared, keys, values) {
-        Ok(()) => DONE,
-        Err(PushFault::NoKey) => NO_KEY,
-        Err(PushFault::Unfit) => UNFIT,
-        Err(PushFault::NoMemory) => NO_MEMORY,
+    let Some(mut list) = take_back(alloc, calls) else {
+        return MISUSE;
     };
-    procedure_handle::put_back(procedure, prepared);
-    calls_handle::put_back(calls, list);
+    let status = match take_back(alloc, procedure) {
+        Some(prepared) => {
+            let status = push_on(&mut *list, &*prepared, keys, values);
+            put_back(procedure, prepared);
+            status
+        }
+        None => MISUSE,
+    };
+    put_back(calls, list);
     status
+}
+
+/// Runs calls on a machine, where they are these.
+fn run_on<'a>(machine: &mut Kept, alloc: Global, calls: &Kept, out: &mut &'a mut [u8]) -> u32
+    ensures status { (result ≡ DONE) ⊎ (result ≡ TIMESTAMPS) ⊎ (result ≡ WAITING)
+        ⊎ (result ≡ STOPPED) ⊎ (result ≡ KEPT)
+        ⊎ (result ≡ MISUSE) }
+    ensures misuse { (result ≡ MISUSE)
+        ↔ ¬ (IsMachine (Some machine.old) × IsCallList (Some calls.now)) }
+    ensures done { result ≡ DONE → OnMachine (Some machine.old) (λ was.
+        OnMachine (Some machine.new) (λ now.
+        OnCalls (Some calls.now) (λ log. IsRunWhole was now log out.new.now))) }
+    ensures stopped { result ≡ STOPPED → OnMachine (Some machine.old) (λ was.
+        OnMachine (Some machine.new) (λ now.
+        OnCalls (Some calls.now) (λ log. IsRunPartly was now log out.new.now))) }
+    ensures kept { result ≡ KEPT → OnMachine (Some machine.old) (λ was.
+        OnMachine (Some machine.new) (λ now.
+        OnCalls (Some calls.now) (λ log. IsRunUntold was now log))) }
+    ensures timestamps { result ≡ TIMESTAMPS → OnMachine (Some machine.old) (λ was.
+        OnCalls (Some calls.now) (λ log. IsRefused was.machine log segment_is.Timestamps)) }
+    ensures waiting { result ≡ WAITING
+        → OnMachine (Some machine.old) (λ was. 0 < length was.waiting) }
+    ensures unchanged { result ≢ DONE → result ≢ STOPPED → result ≢ KEPT
+        → machine.new ≡ machine.old }
+    ensures untouched { result ≢ DONE → result ≢ STOPPED → out.new ≡ out.old }
+{
+    let Kept::Calls(list) = calls else {
+        return MISUSE;
+    };
+    let Kept::Machine(keeper) = machine else {
+        return MISUSE;
+    };
+    keeper.run_calls(alloc, list, out)
 }
 
 /// Runs the calls as a segment, and hands out the text of its replies, numbered on from the top.
@@ -124,54 +195,67 @@ pub extern "C" fn bohm_push(
 #[unsafe(no_mangle)]
 pub extern "C" fn bohm_run_calls<'a>(
     alloc: Global,
-    machine: &mut BohmMachine,
-    calls: &mut BohmCalls,
+    machine: &mut BohmHandle,
+    calls: &mut BohmHandle,
     out: &mut &'a mut [u8],
 ) -> u32
-    requires machine { machine.old.is_open ≡ true }
-    requires calls { calls.old.is_open ≡ true }
-    ensures open { machine.new.is_open ≡ true }
-    ensures calls_open { calls.new.is_open ≡ true }
     ensures same { calls.new.value ≡ calls.old.value }
     ensures status { (result ≡ DONE) ⊎ (result ≡ TIMESTAMPS) ⊎ (result ≡ WAITING)
-        ⊎ (result ≡ STOPPED) ⊎ (result ≡ KEPT) }
-    ensures done { result ≡ DONE
-        → IsRunWhole machine.old.value machine.new.value calls.old.value out.new.now }
-    ensures stopped { result ≡ STOPPED
-        → IsRunPartly machine.old.value machine.new.value calls.old.value out.new.now }
-    ensures kept { result ≡ KEPT
-        → IsRunUntold machine.old.value machine.new.value calls.old.value }
-    ensures timestamps { result ≡ TIMESTAMPS
-        → IsRefused machine.old.value.machine calls.old.value segment_is.Timestamps }
-    ensures waiting { result ≡ WAITING → 0 < length machine.old.value.waiting }
-    ensures unchanged { 0 < result → result < STOPPED → machine.new.value ≡ machine.old.value }
+        ⊎ (result ≡ STOPPED) ⊎ (result ≡ KEPT)
+        ⊎ (result ≡ MISUSE) }
+    ensures misuse { (result ≡ MISUSE)
+        ↔ ¬ (IsMachine machine.old.value × IsCallList calls.old.value) }
+    ensures done { result ≡ DONE → OnMachine machine.old.value (λ was.
+        OnMachine machine.new.value (λ now.
+        OnCalls calls.old.value (λ log. IsRunWhole was now log out.new.now))) }
+    ensures stopped { result ≡ STOPPED → OnMachine machine.old.value (λ was.
+        OnMachine machine.new.value (λ now.
+        OnCalls calls.old.value (λ log. IsRunPartly was now log out.new.now))) }
+    ensures kept { result ≡ KEPT → OnMachine machine.old.value (λ was.
+        OnMachine machine.new.value (λ now.
+        OnCalls calls.old.value (λ log. IsRunUntold was now log))) }
+    ensures timestamps { result ≡ TIMESTAMPS → OnMachine machine.old.value (λ was.
+        OnCalls calls.old.value (λ log. IsRefused was.machine log segment_is.Timestamps)) }
+    ensures waiting { result ≡ WAITING
+        → OnMachine machine.old.value (λ was. 0 < length was.waiting) }
+    ensures unchanged { result ≢ DONE → result ≢ STOPPED → result ≢ KEPT
+        → machine.new.value ≡ machine.old.value }
     ensures untouched { result ≢ DONE → result ≢ STOPPED → out.new ≡ out.old }
 {
-    let mut keeper = handle::take_back(alloc, machine);
-    let list = calls_handle::take_back(alloc, calls);
-    let status = keeper.run_calls(alloc, &list, out);
-    calls_handle::put_back(calls, list);
-    handle::put_back(machine, keeper);
+    let Some(mut kept) = take_back(alloc, machine) else {
+        return MISUSE;
+    };
+    let status = match take_back(alloc, calls) {
+        Some(list) => {
+            let status = run_on(&mut *kept, alloc, &*list, out);
+            put_back(calls, list);
+            status
+        }
+        None => MISUSE,
+    };
+    put_back(machine, kept);
     status
 }
 
 /// Lets all calls of an open list go.
 #[unsafe(no_mangle)]
-pub extern "C" fn bohm_clear_calls(alloc: Global, calls: &mut BohmCalls)
-    requires { calls.old.is_open ≡ true }
-    ensures open { calls.new.is_open ≡ true }
-    ensures none { calls.new.value ≡ empty_document calls.old.value.edition }
+pub extern "C" fn bohm_clear_calls(alloc: Global, calls: &mut BohmHandle) -> u32
+    ensures status { (result ≡ DONE) ⊎ (result ≡ MISUSE) }
+    ensures misuse { (result ≡ MISUSE) ↔ ¬ IsCallList calls.old.value }
+    ensures done { result ≡ DONE → OnCalls calls.old.value (λ was.
+        OnCalls calls.new.value (λ now. now ≡ empty_document was.edition)) }
+    ensures unchanged { 0 < result → calls.new.value ≡ calls.old.value }
 {
-    let mut list = calls_handle::take_back(alloc, calls);
-    list.clear(alloc);
-    calls_handle::put_back(calls, list);
-}
-
-/// Frees the list.
-#[unsafe(no_mangle)]
-pub extern "C" fn bohm_close_calls(alloc: Global, calls: &mut BohmCalls)
-    requires { calls.old.is_open ≡ true }
-    ensures { calls.new.is_open ≡ false }
-{
-    let _list = calls_handle::take_back(alloc, calls);
+    let Some(mut kept) = take_back(alloc, calls) else {
+        return MISUSE;
+    };
+    let status = match &mut *kept {
+        Kept::Calls(list) => {
+            list.clear(alloc);
+            DONE
+        }
+        Kept::Machine(_) | Kept::Prepared(_) => MISUSE,
+    };
+    put_back(calls, kept);
+    status
 }

@@ -1,37 +1,27 @@
 //! The functions that C calls.
 
-ghost use Rattle.std.specs.Prelude.{◌≡◌, ◌≢◌, ◌+◌, ◌<◌, ◌≤◌, ◌⊎◌, [], length, min, true, false, None};
+ghost use Rattle.std.specs.Prelude.{◌≡◌, ◌≢◌, ◌+◌, ◌<◌, ◌≤◌, ◌⊎◌, ◌↔◌, [], length, None};
 ghost use Rattle.bohm_tree.specs.Name.{key_of};
 ghost use Rattle.bohm_text.specs.Print.{print_numbered};
-ghost use Rattle.bohm_store.specs.Versions.{total};
 ghost use Rattle.bohm_machine.specs.Digests.{IsDigest};
 ghost use Rattle.bohm_machine.specs.Machines.{floor_of, past_of, top_of};
 ghost use Rattle.bohm_machine.specs.declared.fault.SegmentFault.TheVariants as segment_is;
-ghost use Rattle.bohm_c.specs.Keeping.{HasTransactions, IsAnswer, IsDone, IsKept, IsOpening, IsReadable, IsSnapshot, IsStopped, IsTrimmed, IsUntaken, told};
+ghost use Rattle.bohm_c.specs.Handles.{IsMachine, OnMachine};
+ghost use Rattle.bohm_c.specs.Keeping.{HasCounts, HasTransactions, IsAnswer, IsDone, IsKept, IsOpening, IsReadable, IsSnapshot, IsStopped, IsTrimmed, IsUntaken, told};
 ghost use Rattle.bohm_c.specs.Reading.{IsRefusal};
 
 use crate::handing::hand_over;
-use crate::handle::{BohmMachine, put_back, take_back};
-use crate::keeper::{open, refuse, refuse_opening};
+use crate::handle::{BohmHandle, put_back, take_back};
+use crate::keeper::{BohmCounts, open, refuse, refuse_opening};
+use crate::kept::Kept;
 use crate::reading::read;
 use crate::status::{
-    DONE, FUTURE, HAS_LOG, HAS_STORE, KEPT, NO_KEY, NO_MEMORY, REFUSED, STOPPED, TIMESTAMPS,
-    TRIMMED, WAITING,
+    DONE, FUTURE, HAS_LOG, HAS_STORE, KEPT, MISUSE, NO_KEY, NO_MEMORY, REFUSED, STOPPED,
+    TIMESTAMPS, TRIMMED, WAITING,
 };
 use crate::whole::answer;
 use bohm_tree::Key;
 use std::alloc::Global;
-
-/// The least and the greatest timestamp that can be read, how many versions are kept, and how many
-/// replies wait.
-#[repr(C)]
-#[derive(Clone, Copy, Debug)]
-pub struct BohmCounts {
-    pub floor: u32,
-    pub top: u32,
-    pub versions: u64,
-    pub waiting: u64,
-}
 
 /// Runs the log of a text, and hands out the text of its answer.
 #[unsafe(no_mangle)]
@@ -58,25 +48,29 @@ pub extern "C" fn bohm_answer<'a>(alloc: Global, text: &[u8], out: &mut &'a mut 
 #[unsafe(no_mangle)]
 pub extern "C" fn bohm_open<'a>(
     alloc: Global,
-    machine: &mut BohmMachine,
+    machine: &mut BohmHandle,
     text: &[u8],
     top: u32,
     out: &mut &'a mut [u8],
 ) -> u32
-    requires { machine.old.is_open ≡ false }
     ensures status { (result ≡ DONE) ⊎ (result ≡ REFUSED) ⊎ (result ≡ NO_MEMORY)
-        ⊎ (result ≡ HAS_LOG) }
-    ensures opened { result ≡ DONE → machine.new.is_open ≡ true }
-    ensures done { result ≡ DONE → IsOpening text.now top machine.new.value }
+        ⊎ (result ≡ HAS_LOG)
+        ⊎ (result ≡ MISUSE) }
+    ensures misuse { (result ≡ MISUSE) ↔ (machine.old.value ≢ None) }
+    ensures done { result ≡ DONE → OnMachine machine.new.value (IsOpening text.now top) }
     ensures refused { result ≡ REFUSED → IsRefusal text.now out.new.now }
     ensures has_log { result ≡ HAS_LOG → HasTransactions text.now }
-    ensures unchanged { 0 < result → machine.new ≡ machine.old }
+    ensures unchanged { 0 < result → machine.new.value ≡ machine.old.value }
     ensures untouched { result ≢ REFUSED → out.new ≡ out.old }
 {
+    if let Some(kept) = take_back(alloc, machine) {
+        put_back(machine, kept);
+        return MISUSE;
+    }
     match open(alloc, text, top) {
-        Ok(keeper) => match Box::new(alloc, keeper) {
-            Ok(keeper) => {
-                put_back(machine, keeper);
+        Ok(keeper) => match Box::new(alloc, Kept::Machine(keeper)) {
+            Ok(kept) => {
+                put_back(machine, kept);
                 DONE
             }
             Err(_) => NO_MEMORY,
@@ -89,31 +83,40 @@ pub extern "C" fn bohm_open<'a>(
 #[unsafe(no_mangle)]
 pub extern "C" fn bohm_apply<'a>(
     alloc: Global,
-    machine: &mut BohmMachine,
+    machine: &mut BohmHandle,
     text: &[u8],
     out: &mut &'a mut [u8],
 ) -> u32
-    requires { machine.old.is_open ≡ true }
-    ensures open { machine.new.is_open ≡ true }
     ensures status { (result ≡ DONE) ⊎ (result ≡ REFUSED) ⊎ (result ≡ NO_MEMORY)
         ⊎ (result ≡ HAS_STORE)
-        ⊎ (result ≡ TIMESTAMPS) ⊎ (result ≡ WAITING) ⊎ (result ≡ STOPPED) ⊎ (result ≡ KEPT) }
-    ensures done { result ≡ DONE → IsDone machine.old.value machine.new.value text.now out.new.now }
-    ensures stopped { result ≡ STOPPED
-        → IsStopped machine.old.value machine.new.value text.now out.new.now }
-    ensures kept { result ≡ KEPT → IsKept machine.old.value machine.new.value text.now }
+        ⊎ (result ≡ TIMESTAMPS) ⊎ (result ≡ WAITING) ⊎ (result ≡ STOPPED) ⊎ (result ≡ KEPT)
+        ⊎ (result ≡ MISUSE) }
+    ensures misuse { (result ≡ MISUSE) ↔ ¬ IsMachine machine.old.value }
+    ensures done { result ≡ DONE → OnMachine machine.old.value (λ was.
+        OnMachine machine.new.value (λ now. IsDone was now text.now out.new.now)) }
+    ensures stopped { result ≡ STOPPED → OnMachine machine.old.value (λ was.
+        OnMachine machine.new.value (λ now. IsStopped was now text.now out.new.now)) }
+    ensures kept { result ≡ KEPT → OnMachine machine.old.value (λ was.
+        OnMachine machine.new.value (λ now. IsKept was now text.now)) }
     ensures refused { result ≡ REFUSED → IsRefusal text.now out.new.now }
     ensures has_store { result ≡ HAS_STORE
-        → IsUntaken machine.old.value.machine text.now segment_is.Store }
-    ensures timestamps { result ≡ TIMESTAMPS
-        → IsUntaken machine.old.value.machine text.now segment_is.Timestamps }
-    ensures waiting { result ≡ WAITING → 0 < length machine.old.value.waiting }
-    ensures unchanged { 0 < result → result < STOPPED → machine.new.value ≡ machine.old.value }
+        → OnMachine machine.old.value (λ was. IsUntaken was.machine text.now segment_is.Store) }
+    ensures timestamps { result ≡ TIMESTAMPS → OnMachine machine.old.value
+        (λ was. IsUntaken was.machine text.now segment_is.Timestamps) }
+    ensures waiting { result ≡ WAITING
+        → OnMachine machine.old.value (λ was. 0 < length was.waiting) }
+    ensures unchanged { result ≢ DONE → result ≢ STOPPED → result ≢ KEPT
+        → machine.new.value ≡ machine.old.value }
     ensures untouched { result ≢ DONE → result ≢ REFUSED → result ≢ STOPPED → out.new ≡ out.old }
 {
-    let mut keeper = take_back(alloc, machine);
-    let status = keeper.apply(alloc, text, out);
-    put_back(machine, keeper);
+    let Some(mut kept) = take_back(alloc, machine) else {
+        return MISUSE;
+    };
+    let status = match &mut *kept {
+        Kept::Machine(keeper) => keeper.apply(alloc, text, out),
+        Kept::Prepared(_) | Kept::Calls(_) => MISUSE,
+    };
+    put_back(machine, kept);
     status
 }
 
@@ -121,22 +124,26 @@ pub extern "C" fn bohm_apply<'a>(
 #[unsafe(no_mangle)]
 pub extern "C" fn bohm_replies<'a>(
     alloc: Global,
-    machine: &mut BohmMachine,
+    machine: &mut BohmHandle,
     out: &mut &'a mut [u8],
 ) -> u32
-    requires { machine.old.is_open ≡ true }
-    ensures open { machine.new.is_open ≡ true }
-    ensures status { (result ≡ DONE) ⊎ (result ≡ NO_MEMORY) }
-    ensures machine { machine.new.value.machine ≡ machine.old.value.machine }
-    ensures says { result ≡ DONE
-        → out.new.now ≡ print_numbered (machine.old.value.behind + 1) machine.old.value.waiting }
-    ensures handed { result ≡ DONE → machine.new.value.waiting ≡ [] }
+    ensures status { (result ≡ DONE) ⊎ (result ≡ NO_MEMORY) ⊎ (result ≡ MISUSE) }
+    ensures misuse { (result ≡ MISUSE) ↔ ¬ IsMachine machine.old.value }
+    ensures done { result ≡ DONE → OnMachine machine.old.value (λ was.
+        OnMachine machine.new.value (λ now. (now.machine ≡ was.machine) × (now.waiting ≡ []))) }
+    ensures says { result ≡ DONE → OnMachine machine.old.value
+        (λ was. out.new.now ≡ print_numbered (was.behind + 1) was.waiting) }
     ensures unchanged { 0 < result → machine.new.value ≡ machine.old.value }
     ensures untouched { 0 < result → out.new ≡ out.old }
 {
-    let mut keeper = take_back(alloc, machine);
-    let status = keeper.replies(alloc, out);
-    put_back(machine, keeper);
+    let Some(mut kept) = take_back(alloc, machine) else {
+        return MISUSE;
+    };
+    let status = match &mut *kept {
+        Kept::Machine(keeper) => keeper.replies(alloc, out),
+        Kept::Prepared(_) | Kept::Calls(_) => MISUSE,
+    };
+    put_back(machine, kept);
     status
 }
 
@@ -144,29 +151,35 @@ pub extern "C" fn bohm_replies<'a>(
 #[unsafe(no_mangle)]
 pub extern "C" fn bohm_value_at(
     alloc: Global,
-    machine: &mut BohmMachine,
+    machine: &mut BohmHandle,
     key: &[u8],
     ts: u32,
     present: &mut bool,
     value: &mut i64,
 ) -> u32
-    requires { machine.old.is_open ≡ true }
-    ensures open { machine.new.is_open ≡ true }
     ensures same { machine.new.value ≡ machine.old.value }
-    ensures status { (result ≡ DONE) ⊎ (result ≡ TRIMMED) ⊎ (result ≡ FUTURE) ⊎ (result ≡ NO_KEY) }
-    ensures done { result ≡ DONE
-        → past_of machine.old.value.machine ts key.now ≡ told present.new value.new }
-    ensures within { result ≡ DONE → IsReadable machine.old.value.machine ts }
-    ensures trimmed { result ≡ TRIMMED → ts < floor_of machine.old.value.machine }
-    ensures future { result ≡ FUTURE → top_of machine.old.value.machine < ts }
+    ensures status { (result ≡ DONE) ⊎ (result ≡ TRIMMED) ⊎ (result ≡ FUTURE) ⊎ (result ≡ NO_KEY)
+        ⊎ (result ≡ MISUSE) }
+    ensures misuse { (result ≡ MISUSE) ↔ ¬ IsMachine machine.old.value }
+    ensures done { result ≡ DONE → OnMachine machine.old.value
+        (λ k. past_of k.machine ts key.now ≡ told present.new value.new) }
+    ensures within { result ≡ DONE → OnMachine machine.old.value (λ k. IsReadable k.machine ts) }
+    ensures trimmed { result ≡ TRIMMED
+        → OnMachine machine.old.value (λ k. ts < floor_of k.machine) }
+    ensures future { result ≡ FUTURE → OnMachine machine.old.value (λ k. top_of k.machine < ts) }
     ensures no_key { result ≡ NO_KEY → key_of key.now ≡ None }
 {
-    let Some(key) = Key::new(key) else {
-        return NO_KEY;
+    let Some(kept) = take_back(alloc, machine) else {
+        return MISUSE;
     };
-    let keeper = take_back(alloc, machine);
-    let status = keeper.value_at(&key, ts, present, value);
-    put_back(machine, keeper);
+    let status = match &*kept {
+        Kept::Machine(keeper) => match Key::new(key) {
+            Some(key) => keeper.value_at(&key, ts, present, value),
+            None => NO_KEY,
+        },
+        Kept::Prepared(_) | Kept::Calls(_) => MISUSE,
+    };
+    put_back(machine, kept);
     status
 }
 
@@ -175,24 +188,32 @@ pub extern "C" fn bohm_value_at(
 #[unsafe(no_mangle)]
 pub extern "C" fn bohm_store_at<'a>(
     alloc: Global,
-    machine: &mut BohmMachine,
+    machine: &mut BohmHandle,
     ts: u32,
     out: &mut &'a mut [u8],
 ) -> u32
-    requires { machine.old.is_open ≡ true }
-    ensures open { machine.new.is_open ≡ true }
     ensures same { machine.new.value ≡ machine.old.value }
     ensures status { (result ≡ DONE) ⊎ (result ≡ NO_MEMORY) ⊎ (result ≡ TRIMMED)
-        ⊎ (result ≡ FUTURE) }
-    ensures done { result ≡ DONE → IsSnapshot machine.old.value.machine ts out.new.now }
-    ensures trimmed { result ≡ TRIMMED → ts < floor_of machine.old.value.machine }
-    ensures future { result ≡ FUTURE → top_of machine.old.value.machine < ts }
-    ensures no_memory { result ≡ NO_MEMORY → IsReadable machine.old.value.machine ts }
+        ⊎ (result ≡ FUTURE)
+        ⊎ (result ≡ MISUSE) }
+    ensures misuse { (result ≡ MISUSE) ↔ ¬ IsMachine machine.old.value }
+    ensures done { result ≡ DONE
+        → OnMachine machine.old.value (λ k. IsSnapshot k.machine ts out.new.now) }
+    ensures trimmed { result ≡ TRIMMED
+        → OnMachine machine.old.value (λ k. ts < floor_of k.machine) }
+    ensures future { result ≡ FUTURE → OnMachine machine.old.value (λ k. top_of k.machine < ts) }
+    ensures no_memory { result ≡ NO_MEMORY
+        → OnMachine machine.old.value (λ k. IsReadable k.machine ts) }
     ensures untouched { 0 < result → out.new ≡ out.old }
 {
-    let keeper = take_back(alloc, machine);
-    let status = keeper.store_at(alloc, ts, out);
-    put_back(machine, keeper);
+    let Some(kept) = take_back(alloc, machine) else {
+        return MISUSE;
+    };
+    let status = match &*kept {
+        Kept::Machine(keeper) => keeper.store_at(alloc, ts, out),
+        Kept::Prepared(_) | Kept::Calls(_) => MISUSE,
+    };
+    put_back(machine, kept);
     status
 }
 
@@ -201,71 +222,121 @@ pub extern "C" fn bohm_store_at<'a>(
 #[unsafe(no_mangle)]
 pub extern "C" fn bohm_digest(
     alloc: Global,
-    machine: &mut BohmMachine,
+    machine: &mut BohmHandle,
     ts: u32,
     digest: &mut [u8; 32],
 ) -> u32
-    requires { machine.old.is_open ≡ true }
-    ensures open { machine.new.is_open ≡ true }
     ensures same { machine.new.value ≡ machine.old.value }
     ensures status { (result ≡ DONE) ⊎ (result ≡ NO_MEMORY) ⊎ (result ≡ TRIMMED)
-        ⊎ (result ≡ FUTURE) }
-    ensures done { result ≡ DONE → IsDigest (past_of machine.old.value.machine ts) digest.new }
-    ensures within { result ≡ DONE → IsReadable machine.old.value.machine ts }
-    ensures trimmed { result ≡ TRIMMED → ts < floor_of machine.old.value.machine }
-    ensures future { result ≡ FUTURE → top_of machine.old.value.machine < ts }
-    ensures no_memory { result ≡ NO_MEMORY → IsReadable machine.old.value.machine ts }
+        ⊎ (result ≡ FUTURE)
+        ⊎ (result ≡ MISUSE) }
+    ensures misuse { (result ≡ MISUSE) ↔ ¬ IsMachine machine.old.value }
+    ensures done { result ≡ DONE
+        → OnMachine machine.old.value (λ k. IsDigest (past_of k.machine ts) digest.new) }
+    ensures within { result ≡ DONE → OnMachine machine.old.value (λ k. IsReadable k.machine ts) }
+    ensures trimmed { result ≡ TRIMMED
+        → OnMachine machine.old.value (λ k. ts < floor_of k.machine) }
+    ensures future { result ≡ FUTURE → OnMachine machine.old.value (λ k. top_of k.machine < ts) }
+    ensures no_memory { result ≡ NO_MEMORY
+        → OnMachine machine.old.value (λ k. IsReadable k.machine ts) }
     ensures untouched { 0 < result → digest.new ≡ digest.old }
 {
-    let keeper = take_back(alloc, machine);
-    let status = keeper.digest(alloc, ts, digest);
-    put_back(machine, keeper);
+    let Some(kept) = take_back(alloc, machine) else {
+        return MISUSE;
+    };
+    let status = match &*kept {
+        Kept::Machine(keeper) => keeper.digest(alloc, ts, digest),
+        Kept::Prepared(_) | Kept::Calls(_) => MISUSE,
+    };
+    put_back(machine, kept);
     status
 }
 
 /// Drops the past below a timestamp, where it is above the floor.
 #[unsafe(no_mangle)]
-pub extern "C" fn bohm_trim(alloc: Global, machine: &mut BohmMachine, floor: u32) -> u32
-    requires { machine.old.is_open ≡ true }
-    ensures open { machine.new.is_open ≡ true }
-    ensures status { (result ≡ DONE) ⊎ (result ≡ FUTURE) }
-    ensures done { result ≡ DONE → IsTrimmed machine.old.value machine.new.value floor }
-    ensures future { result ≡ FUTURE → top_of machine.old.value.machine < floor }
-    ensures unchanged { result ≡ FUTURE → machine.new.value ≡ machine.old.value }
+pub extern "C" fn bohm_trim(alloc: Global, machine: &mut BohmHandle, floor: u32) -> u32
+    ensures status { (result ≡ DONE) ⊎ (result ≡ FUTURE) ⊎ (result ≡ MISUSE) }
+    ensures misuse { (result ≡ MISUSE) ↔ ¬ IsMachine machine.old.value }
+    ensures done { result ≡ DONE → OnMachine machine.old.value (λ was.
+        OnMachine machine.new.value (λ now. IsTrimmed was now floor)) }
+    ensures future { result ≡ FUTURE
+        → OnMachine machine.old.value (λ was. top_of was.machine < floor) }
+    ensures unchanged { 0 < result → machine.new.value ≡ machine.old.value }
 {
-    let mut keeper = take_back(alloc, machine);
-    let status = keeper.trim(floor);
-    put_back(machine, keeper);
+    let Some(mut kept) = take_back(alloc, machine) else {
+        return MISUSE;
+    };
+    let status = match &mut *kept {
+        Kept::Machine(keeper) => keeper.trim(floor),
+        Kept::Prepared(_) | Kept::Calls(_) => MISUSE,
+    };
+    put_back(machine, kept);
+    status
+}
+
+/// The least and the greatest timestamp that can be read.
+#[unsafe(no_mangle)]
+pub extern "C" fn bohm_timestamps(
+    alloc: Global,
+    machine: &mut BohmHandle,
+    floor: &mut u32,
+    top: &mut u32,
+) -> u32
+    ensures same { machine.new.value ≡ machine.old.value }
+    ensures status { (result ≡ DONE) ⊎ (result ≡ MISUSE) }
+    ensures misuse { (result ≡ MISUSE) ↔ ¬ IsMachine machine.old.value }
+    ensures floor { result ≡ DONE
+        → OnMachine machine.old.value (λ k. floor.new ≡ floor_of k.machine) }
+    ensures top { result ≡ DONE → OnMachine machine.old.value (λ k. top.new ≡ top_of k.machine) }
+    ensures same_floor { result ≡ MISUSE → floor.new ≡ floor.old }
+    ensures same_top { result ≡ MISUSE → top.new ≡ top.old }
+{
+    let Some(kept) = take_back(alloc, machine) else {
+        return MISUSE;
+    };
+    let status = match &*kept {
+        Kept::Machine(keeper) => {
+            *floor = keeper.machine.floor();
+            *top = keeper.machine.top();
+            DONE
+        }
+        Kept::Prepared(_) | Kept::Calls(_) => MISUSE,
+    };
+    put_back(machine, kept);
     status
 }
 
 /// Counts what the machine has.
 #[unsafe(no_mangle)]
-pub extern "C" fn bohm_counts(alloc: Global, machine: &mut BohmMachine, counts: &mut BohmCounts)
-    requires { machine.old.is_open ≡ true }
-    ensures open { machine.new.is_open ≡ true }
+pub extern "C" fn bohm_counts(
+    alloc: Global,
+    machine: &mut BohmHandle,
+    counts: &mut BohmCounts,
+) -> u32
     ensures same { machine.new.value ≡ machine.old.value }
-    ensures floor { counts.new.floor ≡ floor_of machine.old.value.machine }
-    ensures top { counts.new.top ≡ top_of machine.old.value.machine }
-    ensures versions { counts.new.versions
-        ≡ min (total machine.old.value.machine.history.chains) 18446744073709551615 }
-    ensures waiting { counts.new.waiting ≡ length machine.old.value.waiting }
+    ensures status { (result ≡ DONE) ⊎ (result ≡ MISUSE) }
+    ensures misuse { (result ≡ MISUSE) ↔ ¬ IsMachine machine.old.value }
+    ensures done { result ≡ DONE → OnMachine machine.old.value (λ k. HasCounts k counts.new) }
+    ensures untouched { 0 < result → counts.new ≡ counts.old }
 {
-    let keeper = take_back(alloc, machine);
-    *counts = BohmCounts {
-        floor: keeper.machine.floor(),
-        top: keeper.machine.top(),
-        versions: keeper.machine.version_count(),
-        waiting: keeper.waiting.len() as u64,
+    let Some(kept) = take_back(alloc, machine) else {
+        return MISUSE;
     };
-    put_back(machine, keeper);
+    let status = match &*kept {
+        Kept::Machine(keeper) => {
+            *counts = keeper.counts();
+            DONE
+        }
+        Kept::Prepared(_) | Kept::Calls(_) => MISUSE,
+    };
+    put_back(machine, kept);
+    status
 }
 
-/// Frees the machine.
+/// Frees what the handle keeps, if it keeps something. Calls of a procedure stay.
 #[unsafe(no_mangle)]
-pub extern "C" fn bohm_close(alloc: Global, machine: &mut BohmMachine)
-    requires { machine.old.is_open ≡ true }
-    ensures { machine.new.is_open ≡ false }
+pub extern "C" fn bohm_close(alloc: Global, handle: &mut BohmHandle)
+    ensures { handle.new.value ≡ None }
 {
-    let _keeper = take_back(alloc, machine);
+    let _kept = take_back(alloc, handle);
 }

@@ -1,82 +1,85 @@
-//! A machine behind a pointer that C keeps.
+//! What is kept behind a pointer that C has.
 
-ghost use Rattle.std.specs.Prelude.{◌≡◌, true, false, Bool};
-ghost use Rattle.bohm_c.specs.Codes.{keeper_code};
-ghost use Rattle.bohm_c.specs.declared.keeper.Keeper.{Keeper};
+ghost use Rattle.std.specs.Prelude.{◌≡◌, Option, None, Some, MatchOption};
+ghost use Rattle.bohm_c.specs.Kept.{kept_code};
+ghost use Rattle.bohm_c.specs.declared.kept.Kept.{Kept};
 
-use crate::keeper::Keeper;
+use crate::kept::Kept;
 use crate::loose::Loose;
 use std::alloc::Global;
 use std::marker::Model;
 use std::mem::replace;
 use std::ptr::null_mut;
 
-/// A machine that C keeps, and gives back with each call. It isn't `Drop`: an open one ends by
-/// `take_back` alone.
+/// A machine, a procedure or a list of calls that C has, and gives back with each call; or nothing,
+/// where it is closed. It isn't `Drop`: an open one ends by `take_back` alone.
 #[repr(C)]
-pub struct BohmMachine {
+pub struct BohmHandle {
     at: *mut u8,
-    pub ghost value: { Keeper } by { keeper_code },
-    pub ghost is_open: { Bool },
+    pub ghost value: { Option Kept } by { kept_code },
 }
 
-impl Model for BohmMachine {
+impl Model for BohmHandle {
     ghost use Rattle.std.specs.Box.Ownership.{box_owns};
     ghost use Rattle.std.specs.contracts.impls.GlobalAllocator.TheImpl.{ghosts};
-    ghost use Rattle.bohm_c.specs.Codes.{when};
-    ghost use Rattle.bohm_c.specs.contracts.keeper.Keeper.{the_row};
+    ghost use Rattle.bohm_c.specs.Kept.{owned};
+    ghost use Rattle.bohm_c.specs.contracts.kept.Kept.{the_row};
 
-    ghost also_owns = { λ e. when e.is_open (box_owns (ghosts.dealloc_token (record { memory = record { seal = tt } })) the_row e.at e.value) };
+    ghost also_owns = { λ h. owned (box_owns (ghosts.dealloc_token (record { memory = record { seal = tt } })) the_row) h.at h.value };
 }
 
 /// The pointer, whose type C doesn't know.
-fn erased(loose: Loose<Keeper, Global>) -> BohmMachine
-    ensures value { result.value ≡ loose.value }
-    ensures open { result.is_open ≡ true }
+fn erased(loose: Loose<Kept, Global>) -> BohmHandle
+    ensures { result.value ≡ Some loose.value }
 {
     let Loose { at, alloc: _ } = loose;
-    BohmMachine { at: at as *mut u8 }
+    BohmHandle { at: at as *mut u8 }
 }
 
-fn named(alloc: Global, held: BohmMachine) -> Loose<Keeper, Global>
-    requires { held.is_open ≡ true }
-    ensures { result.value ≡ held.value }
+/// What is behind the pointer, if it isn't null.
+fn named(alloc: Global, held: BohmHandle) -> Option<Loose<Kept, Global>>
+    ensures { MatchOption result (held.value ≡ None) (λ l. held.value ≡ Some l.value) }
 {
-    let BohmMachine { at } = held;
-    Loose {
-        at: at as *mut Keeper,
-        alloc,
+    let BohmHandle { at } = held;
+    if at.is_null() {
+        None
+    } else {
+        Some(Loose {
+            at: at as *mut Kept,
+            alloc,
+        })
     }
 }
 
-/// A handle of no machine.
-pub fn closed() -> BohmMachine
-    ensures { result.is_open ≡ false }
+/// A closed handle.
+pub fn closed() -> BohmHandle
+    ensures { result.value ≡ None }
 {
-    BohmMachine { at: null_mut() }
+    BohmHandle { at: null_mut() }
 }
 
-/// Ends a handle of no machine.
-pub fn end_closed(held: BohmMachine)
-    requires { held.is_open ≡ false }
+/// Ends a closed handle.
+pub fn end_closed(held: BohmHandle)
+    requires { held.value ≡ None }
 {
-    let BohmMachine { at: _ } = held;
+    let BohmHandle { at: _ } = held;
 }
 
-/// Hands the machine out.
-pub fn put_back(machine: &mut BohmMachine, keeper: Box<Keeper>)
-    requires { machine.old.is_open ≡ false }
-    ensures value { machine.new.value ≡ keeper.value }
-    ensures open { machine.new.is_open ≡ true }
+/// Hands it out by a closed handle.
+pub fn put_back(held: &mut BohmHandle, kept: Box<Kept>)
+    requires { held.old.value ≡ None }
+    ensures { held.new.value ≡ Some kept.value }
 {
-    end_closed(replace(machine, erased(Loose::of(keeper))));
+    end_closed(replace(held, erased(Loose::of(kept))));
 }
 
-/// Takes the machine back, and leaves the handle closed.
-pub fn take_back(alloc: Global, machine: &mut BohmMachine) -> Box<Keeper>
-    requires { machine.old.is_open ≡ true }
-    ensures value { result.value ≡ machine.old.value }
-    ensures closed { machine.new.is_open ≡ false }
+/// Takes back what it keeps, and leaves the handle closed.
+pub fn take_back(alloc: Global, held: &mut BohmHandle) -> Option<Box<Kept>>
+    ensures value { MatchOption result (held.old.value ≡ None) (λ b. held.old.value ≡ Some b.value) }
+    ensures closed { held.new.value ≡ None }
 {
-    named(alloc, replace(machine, closed())).into_box()
+    match named(alloc, replace(held, closed())) {
+        Some(loose) => Some(loose.into_box()),
+        None => None,
+    }
 }

@@ -9,7 +9,7 @@ ghost use Rattle.bohm_machine.specs.Segments.{IsRefused as IsUntakenBy};
 ghost use Rattle.bohm_run.specs.FaultLine.{fault_line};
 ghost use Rattle.bohm_run.specs.declared.fault.RunFault.TheVariants as run_is;
 ghost use Rattle.bohm_machine.specs.declared.fault.SegmentFault.TheVariants as segment_is;
-ghost use Rattle.bohm_c.specs.Keeping.{HasTransactions, IsDone, IsKept, IsOpened, IsOpening, IsReadable, IsRefusedOpening, IsRunPartly, IsRunUntold, IsRunWhole, IsSnapshot, IsStopped, IsTrimmed, IsUnopened, IsUntaken, told};
+ghost use Rattle.bohm_c.specs.Keeping.{HasCounts, HasTransactions, IsDone, IsKept, IsOpened, IsOpening, IsReadable, IsRefusedOpening, IsRunPartly, IsRunUntold, IsRunWhole, IsSnapshot, IsStopped, IsTrimmed, IsUnopened, IsUntaken, told};
 ghost use Rattle.bohm_c.specs.Reading.{IsRefusal, IsRefused};
 ghost use Rattle.bohm_c.specs.declared.keeper.OpenFault.TheVariants as open_is;
 
@@ -36,6 +36,17 @@ pub struct Keeper {
     pub waiting: Replies,
     /// The timestamp before the first of them.
     pub behind: u32,
+}
+
+/// The least and the greatest timestamp that can be read, how many versions are kept, and how many
+/// replies wait.
+#[repr(C)]
+#[derive(Clone, Copy, Debug)]
+pub struct BohmCounts {
+    pub floor: u32,
+    pub top: u32,
+    pub versions: u64,
+    pub waiting: u64,
 }
 
 /// Why a snapshot isn't opened.
@@ -236,6 +247,18 @@ impl Keeper {
 }
 
 impl Keeper {
+    /// Counts what the machine has.
+    pub fn counts(&self) -> BohmCounts
+        ensures { HasCounts self.now result }
+    {
+        BohmCounts {
+            floor: self.machine.floor(),
+            top: self.machine.top(),
+            versions: self.machine.version_count(),
+            waiting: self.waiting.len() as u64,
+        }
+    }
+
     /// Tells what a key holds after the transaction with a timestamp.
     pub fn value_at(&self, key: &Key, ts: u32, present: &mut bool, value: &mut i64) -> u32
         ensures status { (result ≡ DONE) ⊎ (result ≡ TRIMMED) ⊎ (result ≡ FUTURE) }

@@ -8,8 +8,8 @@ ghost use Rattle.bohm_c.specs.Reading.{snapshot_of};
 ghost use Rattle.bohm_c.specs.declared.keeper.Keeper.{Keeper};
 
 use crate::status::{
-    DONE, FUTURE, HAS_LOG, HAS_STORE, KEPT, NO_KEY, NO_MEMORY, REFUSED, STOPPED, TIMESTAMPS,
-    TRIMMED, UNFIT, WAITING,
+    DONE, FUTURE, HAS_LOG, HAS_STORE, KEPT, MISUSE, NO_KEY, NO_MEMORY, REFUSED, STOPPED,
+    TIMESTAMPS, TRIMMED, UNFIT, WAITING,
 };
 use bohm_text::laws::one_text;
 
@@ -29,6 +29,7 @@ pub fn status_numbers()
     ensures stopped { STOPPED ≡ 10 }
     ensures kept { KEPT ≡ 11 }
     ensures unfit { UNFIT ≡ 12 }
+    ensures misuse { MISUSE ≡ 13 }
 {}
 
 /// A machine that is opened on a snapshot of another one's top, at that top, holds what that one

@@ -3,27 +3,29 @@
 
 mod call_exports;
 mod call_list;
-mod calls_handle;
 mod exports;
 mod handing;
 mod handle;
+mod holding;
 mod keeper;
+mod kept;
 pub mod laws;
 mod loose;
 mod prepared;
-mod procedure_handle;
 mod reading;
+mod row_exports;
+mod rows;
 mod status;
 mod whole;
 
 pub use call_exports::{
-    bohm_clear_calls, bohm_close_calls, bohm_close_procedure, bohm_open_calls, bohm_prepare,
-    bohm_push, bohm_run_calls,
+    bohm_clear_calls, bohm_open_calls, bohm_prepare, bohm_push, bohm_run_calls,
 };
-pub use calls_handle::BohmCalls;
 pub use exports::{
-    BohmCounts, bohm_answer, bohm_apply, bohm_close, bohm_counts, bohm_digest, bohm_open,
-    bohm_replies, bohm_store_at, bohm_trim, bohm_value_at,
+    bohm_answer, bohm_apply, bohm_close, bohm_counts, bohm_digest, bohm_open, bohm_replies,
+    bohm_store_at, bohm_timestamps, bohm_trim, bohm_value_at,
 };
-pub use handle::BohmMachine;
-pub use procedure_handle::BohmProcedure;
+pub use handle::BohmHandle;
+pub use keeper::BohmCounts;
+pub use row_exports::{bohm_apply_held, bohm_rows, bohm_run_calls_held};
+pub use rows::BohmReply;

@@ -38,3 +38,7 @@ pub const KEPT: u32 = 11;
 
 /// The edition, the numbers of arguments or the number of calls don't fit, and nothing has changed.
 pub const UNFIT: u32 = 12;
+
+/// A handle isn't open or closed as the call wants it, and nothing has changed. C's callers have it
+/// for a null pointer too.
+pub const MISUSE: u32 = 13;

@@ -22,6 +22,7 @@ class Status(enum.IntEnum):
     STOPPED = 10
     KEPT = 11
     UNFIT = 12
+    MISUSE = 13
 
 
 class BohmError(Exception):
@@ -129,6 +130,7 @@ class UnfitError(BohmError, ValueError):
 class ClosedError(BohmError, ValueError):
     """The machine or the procedure is closed."""
 
+    status = Status.MISUSE
     why = "it is closed"
 
 
@@ -136,7 +138,7 @@ BY_STATUS: Dict[Status, Type[BohmError]] = {
     kind.status: kind
     for kind in (
         RefusedError, OutOfMemoryError, TrimmedError, FutureError, HasStoreError, TimestampsError, HasLogError,
-        NoKeyError, WaitingError, StoppedError, KeptError, UnfitError,
+        NoKeyError, WaitingError, StoppedError, KeptError, UnfitError, ClosedError,
     )
 }
 

@@ -10,13 +10,6 @@ Text = Union[str, bytes, bytearray, memoryview]
 # The shared object's name, which changes with what programs may rely on.
 SHARED = "libbohm.so.0"
 
-# Where the pointer to no bytes lies.
-NOWHERE = 16
-
-
-class RawBytes(ctypes.Structure):
-    _fields_ = [("at", c_void_p), ("len", c_size_t)]
-
 
 class RawCounts(ctypes.Structure):
     _fields_ = [("floor", c_uint32), ("top", c_uint32), ("versions", c_uint64), ("waiting", c_uint64)]
@@ -26,6 +19,10 @@ class RawHandle(ctypes.Structure):
     """A machine, a procedure or a list of calls: null where it is closed."""
 
     _fields_ = [("at", c_void_p)]
+
+
+class RawArray(ctypes.Structure):
+    _fields_ = [("at", c_void_p), ("len", c_size_t)]
 
 
 class RawKey(ctypes.Structure):
@@ -44,29 +41,29 @@ class Library:
         beside = os.path.join(os.path.dirname(os.path.abspath(__file__)), SHARED)
         self.path = os.path.abspath(path) if path else beside if os.path.exists(beside) else SHARED
         self.calls = ctypes.CDLL(self.path)
-        self.heap = ctypes.CDLL(None)
-        self.heap.free.argtypes, self.heap.free.restype = [c_void_p], None
-        handle, text, out = POINTER(RawHandle), [c_char_p, c_size_t], POINTER(RawBytes)
+        handle, text, out = POINTER(RawHandle), [c_char_p, c_size_t], POINTER(RawArray)
         declared = {
             "bohm_answer": [*text, out],
             "bohm_open": [handle, *text, c_uint32, out],
-            "bohm_apply": [handle, *text, out],
-            "bohm_replies": [handle, out],
+            "bohm_apply_held": [handle, *text, out],
+            "bohm_rows": [handle, out, out],
             "bohm_value_at": [handle, *text, c_uint32, POINTER(c_uint8), POINTER(c_int64)],
             "bohm_store_at": [handle, c_uint32, out],
             "bohm_digest": [handle, c_uint32, ctypes.c_char * 32],
             "bohm_trim": [handle, c_uint32],
+            "bohm_timestamps": [handle, POINTER(c_uint32), POINTER(c_uint32)],
             "bohm_counts": [handle, POINTER(RawCounts)],
             "bohm_close": [handle],
             "bohm_prepare": [handle, *text, out],
             "bohm_close_procedure": [handle],
             "bohm_open_calls": [handle, c_uint32],
             "bohm_push": [handle, handle, POINTER(RawKey), c_size_t, POINTER(c_int64), c_size_t],
-            "bohm_run_calls": [handle, handle, out],
+            "bohm_run_calls_held": [handle, handle],
             "bohm_clear_calls": [handle],
             "bohm_close_calls": [handle],
+            "bohm_free": [c_void_p],
         }
-        nothing = ("bohm_counts", "bohm_close", "bohm_close_procedure", "bohm_clear_calls", "bohm_close_calls")
+        nothing = ("bohm_close", "bohm_close_procedure", "bohm_close_calls", "bohm_free")
         for name, words in declared.items():
             call = getattr(self.calls, name)
             call.argtypes, call.restype = words, None if name in nothing else c_uint32
@@ -86,13 +83,16 @@ class Library:
 
     def handed(self, call: Any, *words: Any) -> Tuple[int, bytes]:
         """The status of a call, and the bytes that it hands out."""
-        out = RawBytes(NOWHERE, 0)
+        out = RawArray()
         status = call(*words, byref(out))
+        return status, self.taken(out, 1)
+
+    def taken(self, out: RawArray, size: int) -> bytes:
+        """The bytes of an array that was handed out, whose elements have this size. It is freed."""
         try:
-            return status, ctypes.string_at(out.at, out.len)
+            return ctypes.string_at(out.at, out.len * size) if out.at else b""
         finally:
-            if out.len:
-                self.heap.free(out.at)
+            self.calls.bohm_free(out.at)
 
 
 @functools.lru_cache(maxsize=None)

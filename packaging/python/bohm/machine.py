@@ -1,13 +1,13 @@
 """Machines: stores with their past, which segments and calls take on."""
 import ctypes
 import threading
-from ctypes import byref, c_int64, c_uint8
-from typing import Any, Dict, Iterable, List, NamedTuple, Optional
+from ctypes import byref, c_int64, c_uint8, c_uint32
+from typing import Any, Dict, Iterable, List, NamedTuple, Optional, Tuple
 
-from .errors import ClosedError, RefusedError, Status, StoppedError, UnfitError, raise_for
-from .library import Library, RawCounts, RawHandle, RawKey, Text, load, octets
+from .errors import ClosedError, KeptError, RefusedError, Status, StoppedError, UnfitError, raise_for
+from .library import Library, RawArray, RawCounts, RawHandle, RawKey, Text, load, octets
 from .procedures import Call, Procedure
-from .replies import Answer, Reply, answer_of, replies_of, store_of
+from .replies import ROW, Answer, Reply, answer_of, replies_of, store_of
 
 
 class Counts(NamedTuple):
@@ -62,20 +62,27 @@ class Machine:
             raise ClosedError("the machine is closed")
         return byref(self.raw)
 
-    def told(self, status: int, given: bytes) -> List[Reply]:
-        """The replies that a run handed out."""
-        if status == Status.REFUSED:
-            raise RefusedError(given.decode().strip())
+    def told(self, status: int, behind: int) -> List[Reply]:
+        """The replies of what was run behind a timestamp."""
+        if status != Status.STOPPED:
+            raise_for(status)
+        rows, values = RawArray(), RawArray()
+        if self.library.calls.bohm_rows(self.opened(), byref(rows), byref(values)):
+            raise KeptError()
+        replies = replies_of(behind, self.library.taken(rows, ROW.size), self.library.taken(values, 8))
         if status == Status.STOPPED:
-            raise StoppedError(replies_of(given))
-        raise_for(status)
-        return replies_of(given)
+            raise StoppedError(replies)
+        return replies
 
     def apply(self, segment: Text) -> List[Reply]:
         """Runs a segment: the text of a log without a store. The first reply is that of the timestamp `top + 1`."""
         text = octets(segment)
         with self.lock:
-            return self.told(*self.library.handed(self.library.calls.bohm_apply, self.opened(), text, len(text)))
+            raw, behind = self.opened(), self.top
+            status, line = self.library.handed(self.library.calls.bohm_apply_held, raw, text, len(text))
+            if status == Status.REFUSED:
+                raise RefusedError(line.decode().strip())
+            return self.told(status, behind)
 
     def prepare(self, text: Text) -> Procedure:
         """The procedure of a text, to be called on this machine."""
@@ -92,8 +99,8 @@ class Machine:
         return byref(self.lists[edition])
 
     def push(self, calls: Any, call: Call) -> None:
-        keys = (RawKey * max(len(call.keys), 1))(*[RawKey(key, len(key)) for key in call.keys])
-        values = (c_int64 * max(len(call.values), 1))(*call.values)
+        keys = (RawKey * len(call.keys))(*[RawKey(key, len(key)) for key in call.keys])
+        values = (c_int64 * len(call.values))(*call.values)
         raise_for(self.library.calls.bohm_push(
             calls, call.procedure.opened(), keys, len(call.keys), values, len(call.values)))
 
@@ -107,21 +114,20 @@ class Machine:
         if any(call.procedure.edition != edition for call in wanted):
             raise UnfitError("the procedures have two editions")
         with self.lock:
-            machine = self.opened()
+            machine, behind = self.opened(), self.top
             pushed = self.list_of(edition)
             try:
                 for call in wanted:
                     self.push(pushed, call)
-                return self.told(*self.library.handed(self.library.calls.bohm_run_calls, machine, pushed))
+                return self.told(self.library.calls.bohm_run_calls_held(machine, pushed), behind)
             finally:
                 self.library.calls.bohm_clear_calls(pushed)
 
     def replies(self) -> List[Reply]:
         """The replies that wait after a `KeptError`."""
         with self.lock:
-            status, given = self.library.handed(self.library.calls.bohm_replies, self.opened())
-        raise_for(status)
-        return replies_of(given)
+            counts = self.counts()
+            return self.told(Status.DONE, counts.top - counts.waiting)
 
     def value_at(self, key: Text, ts: Optional[int] = None) -> Optional[int]:
         """What a key holds after the transaction with a timestamp, or at the top: `None` if it holds nothing."""
@@ -164,20 +170,28 @@ class Machine:
         raise_for(status)
 
     def counts(self) -> Counts:
+        """Counts what there is. Its time grows with the number of keys."""
         raw = RawCounts()
         with self.lock:
             self.library.calls.bohm_counts(self.opened(), byref(raw))
         return Counts(raw.floor, raw.top, raw.versions, raw.waiting)
 
+    def timestamps(self) -> Tuple[int, int]:
+        """The least and the greatest timestamp that can be read."""
+        floor, top = c_uint32(0), c_uint32(0)
+        with self.lock:
+            self.library.calls.bohm_timestamps(self.opened(), byref(floor), byref(top))
+        return floor.value, top.value
+
     @property
     def floor(self) -> int:
         """The least timestamp that can be read."""
-        return self.counts().floor
+        return self.timestamps()[0]
 
     @property
     def top(self) -> int:
         """The timestamp of the last transaction."""
-        return self.counts().top
+        return self.timestamps()[1]
 
     def close(self) -> None:
         """Frees the machine. A second time it does nothing."""

@@ -1,5 +1,6 @@
 """Replies, and answers of whole logs."""
 import enum
+import struct
 from typing import Dict, List, NamedTuple, Optional, Tuple
 
 
@@ -44,16 +45,25 @@ class Answer(NamedTuple):
         return "".join(f"{line}\n" for line in lines)
 
 
+# How the library lays out a reply: outcome, statement, the place of its first value among all, and their number.
+ROW = struct.Struct("=IIQQ")
+REASONS = (None, Reason.NEED, Reason.FAIL, Reason.ABSENT, Reason.RANGE)
+
+
+def replies_of(behind: int, rows: bytes, values: bytes) -> List[Reply]:
+    """The replies of rows and the values that they show, behind a timestamp."""
+    shown = struct.unpack(f"={len(values) // 8}q", values)
+    return [
+        Reply(timestamp, shown[first:first + count], REASONS[outcome], statement)
+        for timestamp, (outcome, statement, first, count) in enumerate(ROW.iter_unpack(rows), behind + 1)
+    ]
+
+
 def reply_of(line: str) -> Reply:
     timestamp, outcome, *rest = line.split(" ")
     if outcome == "commit":
         return Reply(int(timestamp), tuple(map(int, rest)))
     return Reply(int(timestamp), (), Reason(rest[0]), int(rest[1]))
-
-
-def replies_of(text: bytes) -> List[Reply]:
-    """The replies of the lines of a text."""
-    return [reply_of(line) for line in text.decode().splitlines()]
 
 
 def store_of(lines: List[str]) -> Dict[str, int]:

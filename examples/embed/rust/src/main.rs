@@ -12,11 +12,10 @@ fn split(log: &str) -> (&str, Vec<&str>) {
 }
 
 /// Each balance of a past timestamp is the one in that timestamp's snapshot.
-fn check_balances(ledger: &mut Machine, ts: u32) -> Result<(), Box<dyn Error>> {
-    let snapshot = String::from_utf8(ledger.store_at(ts)?.as_slice().to_vec())?;
-    for line in snapshot.lines().skip(1) {
+fn check_balances(ledger: &Machine, ts: u32) -> Result<(), Box<dyn Error>> {
+    for line in ledger.store_at(ts)?.as_str().lines().skip(1) {
         let (key, value) = line.split_once(' ').ok_or("a store's line")?;
-        assert_eq!(ledger.value_at(key.as_bytes(), ts)?, Some(value.parse()?));
+        assert_eq!(ledger.value_at(key, ts)?, Some(value.parse()?));
     }
     Ok(())
 }
@@ -26,29 +25,31 @@ fn main() -> Result<(), Box<dyn Error>> {
     let log = fs::read_to_string(words.get(1).ok_or("usage: ledger LOG SIZE")?)?;
     let size: usize = words.get(2).ok_or("usage: ledger LOG SIZE")?.parse()?;
     let (store, txns) = split(&log);
-    let mut ledger = Machine::open(store.as_bytes(), 0)?;
+    let mut ledger = Machine::open(store, 0)?;
     let mut second = None;
     let mut out = stdout().lock();
     let segments = txns.chunks(size);
     let half = segments.len() / 2;
     for (number, txns) in segments.enumerate() {
         let segment = [&log[..6], &txns.concat()].concat();
-        let replies = ledger.apply(segment.as_bytes())?;
-        out.write_all(replies.as_slice())?;
+        let replies = ledger.apply(&segment)?;
+        write!(out, "{replies}")?;
         if let Some(second) = &mut second {
-            assert_eq!(Machine::apply(second, segment.as_bytes())?.as_slice(), replies.as_slice());
+            assert!(Machine::apply(second, &segment)?.iter().eq(replies.iter()));
         } else if number == half {
-            let top = ledger.counts().top;
-            second = Some(Machine::open(ledger.store_at(top)?.as_slice(), top)?);
+            let top = ledger.top();
+            second = Some(Machine::open(ledger.store_at(top)?, top)?);
         }
     }
-    let top = ledger.counts().top;
+    let top = ledger.top();
+    if let Some(second) = &second {
+        assert_eq!(second.digest(top)?, ledger.digest(top)?);
+    }
     for ts in [0, top / 2, top] {
-        check_balances(&mut ledger, ts)?;
+        check_balances(&ledger, ts)?;
     }
     ledger.trim(top)?;
-    assert_eq!(ledger.counts().floor, top);
-    out.write_all(b"--\n")?;
-    out.write_all(&ledger.store_at(top)?.as_slice()[6..])?;
+    assert_eq!(ledger.floor(), top);
+    write!(out, "--\n{}", &ledger.store_at(top)?.as_str()[6..])?;
     Ok(())
 }

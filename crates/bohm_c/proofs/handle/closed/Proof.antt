@@ -1,5 +1,7 @@
 -- `closed` makes a handle that owns nothing.
-use Rattle.std.proofs.Common.{◌≡◌, false, lit<, [], ◌∷◌, refl}
+use Rattle.std.specs.Prelude.{Option, None}
+use Rattle.bohm_c.specs.declared.kept.Kept.{Kept}
+use Rattle.std.proofs.Common.{◌≡◌, lit<, [], ◌∷◌, refl}
 use mir.Val.{Val}
 use base.Logic.{SProp, emp}
 use base.Fml.{ftrue}
@@ -15,17 +17,15 @@ use denote.RawPtr.{null_ptr}
 use denote.Steps.{nothing}
 use denote.Triple.Walked.{Stays, walk_of}
 use Rattle.std.proofs.raw_atomic.Walks.{proved_at, leaves}
-use Rattle.bohm_c.proofs.HeldValues.{one, null_val}
+use Rattle.bohm_c.proofs.Handles.{one, null_val}
 use Rattle.bohm_c.specs.contracts.handle.closed.{ended, clauses}
 use Rattle.bohm_c.specs.contracts.handle.closed.Key.{name as #self}
 use Rattle.bohm_c.proofs.handle.closed.Statement.{statement}
 use Rattle.bohm_c.proofs.handle.closed.Code as code
-use Rattle.bohm_c.specs.declared.keeper.Keeper.{Keeper}
-use Rattle.bohm_c.proofs.HeldValues.{held_none}
+use Rattle.bohm_c.proofs.Handles.{held_none}
 
--- what a closed handle is seen to keep
-abbrev nothing_kept : Keeper
-nothing_kept = record { machine = record { base = 0; history = record { floor = 0; top = 0; chains = [] } }; waiting = []; behind = 0 }
+abbrev nothing_kept : Option Kept
+nothing_kept = None
 
 pub closed_spec : {M : Type 1} → statement M
 closed_spec 𝓤 𝓛 𝓜 𝓡 wired =
@@ -37,6 +37,6 @@ closed_spec 𝓤 𝓛 𝓜 𝓡 wired =
     let asked = raw ((c κs z.0.3).requires z.1) in
     qed 𝓛 ((‵ ftrue ⊛ ‵ (owns (types_at En.signature.params κs) z.0.3 z.0.4)) ∷ asked ∷ []) ∵ split ! $
     enter ! 𝓣.C 𝓣.Λ fn [] Post $ alloc_all ! (λ l. pass_all ! refl tt $
-    sets ! (agg ! (and_then ! (lit ! tt) (no_more !))) refl (tt, (record { fits = lit< tt }, tt)) $ held_none ! (nothing_kept) $
-    use0 𝓛 (raw (fact 𝓤 (false ≡ false))) (fact_i 𝓤 (false ≡ false) (emp 𝓤) refl) $ nothing ! $
-    returns ! (look_at ! 0 refl) $ free_all ! refl $ keep ! (3 ∷ 0 ∷ 2 ∷ 1 ∷ []) $ by ! (leaves 𝓛 En hs c z (one null_val) (record { at = null_ptr; value = nothing_kept; is_open = false }) tt tt)))
+    sets ! (agg ! (and_then ! (lit ! tt) (no_more !))) refl (tt, (record { fits = lit< tt }, tt)) $ held_none ! $
+    use0 𝓛 (raw (fact 𝓤 (nothing_kept ≡ nothing_kept))) (fact_i 𝓤 (nothing_kept ≡ nothing_kept) (emp 𝓤) refl) $ nothing ! $
+    returns ! (look_at ! 0 refl) $ free_all ! refl $ keep ! (3 ∷ 0 ∷ 2 ∷ 1 ∷ []) $ by ! (leaves 𝓛 En hs c z (one null_val) (record { at = null_ptr; value = None }) tt tt)))

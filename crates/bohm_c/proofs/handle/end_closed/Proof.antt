@@ -16,7 +16,7 @@ use denote.Steps.{nothing}
 use denote.Triple.Walked.{Stays, stay_dropped, walk_of}
 use Rattle.core.proofs.alloc.Calls.{Goes-blank}
 use Rattle.std.proofs.raw_atomic.Walks.{proved_at, leaves}
-use Rattle.bohm_c.proofs.HeldValues.{one, Held, held_gone, pointer_fits}
+use Rattle.bohm_c.proofs.Handles.{one, Held, held_gone, pointer_fits}
 use Rattle.bohm_c.specs.contracts.handle.end_closed.{ended, clauses}
 use Rattle.bohm_c.specs.contracts.handle.end_closed.Key.{name as #self}
 use Rattle.bohm_c.proofs.handle.end_closed.Statement.{statement}

@@ -1,0 +1,93 @@
+/* The executor by calls of a prepared procedure, whose replies come as rows. The past below the last segment is let go. */
+#include "peer.h"
+
+#include "../../crates/bohm_c/include/bohm.h"
+
+#include <stdio.h>
+#include <stdlib.h>
+#include <string.h>
+
+static const char *transfer_text = "procedure 1\n"
+                                   "key from\n"
+                                   "key to\n"
+                                   "value amount\n"
+                                   "reads from to\n"
+                                   "writes from to\n"
+                                   "need from >= $amount\n"
+                                   "set from = from - $amount\n"
+                                   "set to = to + $amount\n"
+                                   "end\n";
+
+static bohm_machine machine;
+static bohm_procedure by;
+static bohm_calls calls;
+static char *store;
+static size_t len, room;
+
+static void done(uint32_t status) { check(status == BOHM_DONE, bohm_status_text(status)); }
+
+static void put_line(const char *line) {
+    size_t more = strlen(line);
+    if (room - len < more) check((store = realloc(store, room = 2 * room + 4096)) != NULL, "no memory");
+    memcpy(store + len, line, more);
+    len += more;
+}
+
+void peer_open(void) {
+    done(bohm_prepare(&by, (const uint8_t *)transfer_text, strlen(transfer_text), NULL));
+    done(bohm_open_calls(&calls, 1));
+    put_line("log 1\n");
+}
+
+void peer_put(const char *key, long long balance) {
+    char line[64];
+    snprintf(line, sizeof line, "%s %lld\n", key, balance);
+    put_line(line);
+}
+
+void peer_filled(void) {
+    done(bohm_open(&machine, (const uint8_t *)store, len, 0, NULL));
+    free(store);
+}
+
+static bohm_key key_of(const char *name) { return (bohm_key){(const uint8_t *)name, strlen(name)}; }
+
+static uint32_t top(void) {
+    uint32_t floor, last;
+    done(bohm_timestamps(&machine, &floor, &last));
+    return last;
+}
+
+void peer_run(transfer *transfers, size_t count) {
+    static uint32_t ran;
+    bohm_reply_rows rows = BOHM_NO_ROWS;
+    bohm_values values = BOHM_NO_VALUES;
+    for (size_t i = 0; i < count; i++) {
+        bohm_key keys[] = {key_of(transfers[i].payer), key_of(transfers[i].payee)};
+        int64_t amount = transfers[i].amount;
+        done(bohm_push(&calls, &by, keys, 2, &amount, 1));
+    }
+    done(bohm_run_calls_held(&machine, &calls));
+    done(bohm_rows(&machine, &rows, &values));
+    for (size_t i = 0; i < count; i++) transfers[i].is_done = rows.at[i].outcome == BOHM_COMMIT;
+    bohm_free_rows(&rows, &values);
+    done(bohm_clear_calls(&calls));
+    done(bohm_trim(&machine, ran += (uint32_t)count));
+}
+
+void peer_each(void (*tell)(const char *key, size_t size, long long balance)) {
+    bohm_bytes out = BOHM_NO_BYTES;
+    done(bohm_store_at(&machine, top(), &out));
+    const char *end = (const char *)out.at + out.len;
+    for (const char *at = (const char *)out.at + strlen("log 1\n"); at < end; at = strchr(at, '\n') + 1) {
+        const char *space = strchr(at, ' ');
+        tell(at, (size_t)(space - at), strtoll(space, NULL, 10));
+    }
+    bohm_free_bytes(&out);
+}
+
+void peer_close(void) {
+    bohm_close(&machine);
+    bohm_close_calls(&calls);
+    bohm_close_procedure(&by);
+}

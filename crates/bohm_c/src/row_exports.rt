@@ -1,0 +1,153 @@
+//! The functions by which C has replies as rows.
+
+ghost use Rattle.std.specs.Prelude.{◌≡◌, ◌≢◌, ◌<◌, ◌⊎◌, ◌↔◌, [], length, Some};
+ghost use Rattle.std.specs.List.{flat_map};
+ghost use Rattle.bohm_machine.specs.Segments.{IsRefused};
+ghost use Rattle.bohm_machine.specs.declared.fault.SegmentFault.TheVariants as segment_is;
+ghost use Rattle.bohm_c.specs.Handles.{IsCallList, IsMachine, OnCalls, OnMachine};
+ghost use Rattle.bohm_c.specs.Keeping.{IsHeld, IsKept, IsRunUntold, IsUntaken};
+ghost use Rattle.bohm_c.specs.Reading.{IsRefusal};
+ghost use Rattle.bohm_c.specs.Rows.{rows_from, shows_of};
+
+use crate::handle::{BohmHandle, put_back, take_back};
+use crate::kept::Kept;
+use crate::rows::BohmReply;
+use crate::status::{DONE, HAS_STORE, MISUSE, NO_MEMORY, REFUSED, STOPPED, TIMESTAMPS, WAITING};
+use std::alloc::Global;
+
+/// Runs a segment, as `bohm_apply` does; its replies wait.
+#[unsafe(no_mangle)]
+pub extern "C" fn bohm_apply_held<'a>(
+    alloc: Global,
+    machine: &mut BohmHandle,
+    text: &[u8],
+    out: &mut &'a mut [u8],
+) -> u32
+    ensures status { (result ≡ DONE) ⊎ (result ≡ REFUSED) ⊎ (result ≡ NO_MEMORY)
+        ⊎ (result ≡ HAS_STORE)
+        ⊎ (result ≡ TIMESTAMPS) ⊎ (result ≡ WAITING) ⊎ (result ≡ STOPPED)
+        ⊎ (result ≡ MISUSE) }
+    ensures misuse { (result ≡ MISUSE) ↔ ¬ IsMachine machine.old.value }
+    ensures done { result ≡ DONE → OnMachine machine.old.value (λ was.
+        OnMachine machine.new.value (λ now. IsHeld was now text.now)) }
+    ensures stopped { result ≡ STOPPED → OnMachine machine.old.value (λ was.
+        OnMachine machine.new.value (λ now. IsKept was now text.now)) }
+    ensures refused { result ≡ REFUSED → IsRefusal text.now out.new.now }
+    ensures has_store { result ≡ HAS_STORE
+        → OnMachine machine.old.value (λ was. IsUntaken was.machine text.now segment_is.Store) }
+    ensures timestamps { result ≡ TIMESTAMPS → OnMachine machine.old.value
+        (λ was. IsUntaken was.machine text.now segment_is.Timestamps) }
+    ensures waiting { result ≡ WAITING
+        → OnMachine machine.old.value (λ was. 0 < length was.waiting) }
+    ensures unchanged { result ≢ DONE → result ≢ STOPPED
+        → machine.new.value ≡ machine.old.value }
+    ensures untouched { result ≢ REFUSED → out.new ≡ out.old }
+{
+    let Some(mut kept) = take_back(alloc, machine) else {
+        return MISUSE;
+    };
+    let status = match &mut *kept {
+        Kept::Machine(keeper) => keeper.apply_held(alloc, text, out),
+        Kept::Prepared(_) | Kept::Calls(_) => MISUSE,
+    };
+    put_back(machine, kept);
+    status
+}
+
+/// Runs calls on a machine, where they are these; the replies wait.
+fn hold_on(machine: &mut Kept, alloc: Global, calls: &Kept) -> u32
+    ensures status { (result ≡ DONE) ⊎ (result ≡ TIMESTAMPS) ⊎ (result ≡ WAITING)
+        ⊎ (result ≡ STOPPED)
+        ⊎ (result ≡ MISUSE) }
+    ensures misuse { (result ≡ MISUSE)
+        ↔ ¬ (IsMachine (Some machine.old) × IsCallList (Some calls.now)) }
+    ensures ran { (result ≡ DONE) ⊎ (result ≡ STOPPED) → OnMachine (Some machine.old) (λ was.
+        OnMachine (Some machine.new) (λ now.
+        OnCalls (Some calls.now) (λ log. IsRunUntold was now log))) }
+    ensures whole { result ≡ DONE → OnMachine (Some machine.new) (λ now.
+        OnCalls (Some calls.now) (λ log. length now.waiting ≡ length log.log)) }
+    ensures timestamps { result ≡ TIMESTAMPS → OnMachine (Some machine.old) (λ was.
+        OnCalls (Some calls.now) (λ log. IsRefused was.machine log segment_is.Timestamps)) }
+    ensures waiting { result ≡ WAITING
+        → OnMachine (Some machine.old) (λ was. 0 < length was.waiting) }
+    ensures unchanged { result ≢ DONE → result ≢ STOPPED → machine.new ≡ machine.old }
+{
+    let Kept::Calls(list) = calls else {
+        return MISUSE;
+    };
+    let Kept::Machine(keeper) = machine else {
+        return MISUSE;
+    };
+    keeper.run_calls_held(alloc, list)
+}
+
+/// Runs calls, as `bohm_run_calls` does; their replies wait.
+#[unsafe(no_mangle)]
+pub extern "C" fn bohm_run_calls_held(
+    alloc: Global,
+    machine: &mut BohmHandle,
+    calls: &mut BohmHandle,
+) -> u32
+    ensures same { calls.new.value ≡ calls.old.value }
+    ensures status { (result ≡ DONE) ⊎ (result ≡ TIMESTAMPS) ⊎ (result ≡ WAITING)
+        ⊎ (result ≡ STOPPED)
+        ⊎ (result ≡ MISUSE) }
+    ensures misuse { (result ≡ MISUSE)
+        ↔ ¬ (IsMachine machine.old.value × IsCallList calls.old.value) }
+    ensures ran { (result ≡ DONE) ⊎ (result ≡ STOPPED) → OnMachine machine.old.value (λ was.
+        OnMachine machine.new.value (λ now.
+        OnCalls calls.old.value (λ log. IsRunUntold was now log))) }
+    ensures whole { result ≡ DONE → OnMachine machine.new.value (λ now.
+        OnCalls calls.old.value (λ log. length now.waiting ≡ length log.log)) }
+    ensures timestamps { result ≡ TIMESTAMPS → OnMachine machine.old.value (λ was.
+        OnCalls calls.old.value (λ log. IsRefused was.machine log segment_is.Timestamps)) }
+    ensures waiting { result ≡ WAITING
+        → OnMachine machine.old.value (λ was. 0 < length was.waiting) }
+    ensures unchanged { result ≢ DONE → result ≢ STOPPED
+        → machine.new.value ≡ machine.old.value }
+{
+    let Some(mut kept) = take_back(alloc, machine) else {
+        return MISUSE;
+    };
+    let status = match take_back(alloc, calls) {
+        Some(list) => {
+            let status = hold_on(&mut *kept, alloc, &*list);
+            put_back(calls, list);
+            status
+        }
+        None => MISUSE,
+    };
+    put_back(machine, kept);
+    status
+}
+
+/// Hands out the replies that wait as rows, and the values that they show in one array.
+#[unsafe(no_mangle)]
+pub extern "C" fn bohm_rows<'a>(
+    alloc: Global,
+    machine: &mut BohmHandle,
+    replies: &mut &'a mut [BohmReply],
+    values: &mut &'a mut [i64],
+) -> u32
+    ensures status { (result ≡ DONE) ⊎ (result ≡ NO_MEMORY) ⊎ (result ≡ MISUSE) }
+    ensures misuse { (result ≡ MISUSE) ↔ ¬ IsMachine machine.old.value }
+    ensures done { result ≡ DONE → OnMachine machine.old.value (λ was.
+        OnMachine machine.new.value (λ now. (now.machine ≡ was.machine) × (now.waiting ≡ []))) }
+    ensures replies { result ≡ DONE → OnMachine machine.old.value
+        (λ was. replies.new.now ≡ rows_from 0 was.waiting) }
+    ensures values { result ≡ DONE → OnMachine machine.old.value
+        (λ was. values.new.now ≡ flat_map shows_of was.waiting) }
+    ensures unchanged { 0 < result → machine.new.value ≡ machine.old.value }
+    ensures untouched { 0 < result → replies.new ≡ replies.old }
+    ensures same_values { 0 < result → values.new ≡ values.old }
+{
+    let Some(mut kept) = take_back(alloc, machine) else {
+        return MISUSE;
+    };
+    let status = match &mut *kept {
+        Kept::Machine(keeper) => keeper.rows(alloc, replies, values),
+        Kept::Prepared(_) | Kept::Calls(_) => MISUSE,
+    };
+    put_back(machine, kept);
+    status
+}

@@ -1,0 +1,41 @@
+//! Transfers between accounts by procedures, as `procedures.c`.
+use bohm::{Calls, Edition, Error, Machine, Procedure};
+
+const ACCOUNTS: &str = "log 1\nalice 100\nbob 20\ncarol 0\n";
+
+const TRANSFER: &str = "\
+procedure 1
+key from
+key to
+value amount
+reads from to
+writes from to
+need from >= $amount
+set from = from - $amount
+set to = to + $amount
+end
+";
+
+const AUDIT: &str = "\
+procedure 1
+reads alice bob carol
+writes
+show alice + bob + carol
+show carol
+end
+";
+
+fn main() -> Result<(), Error> {
+    let mut machine = Machine::open(ACCOUNTS, 0)?;
+    let transfer = Procedure::prepare(TRANSFER)?;
+    let audit = Procedure::prepare(AUDIT)?;
+    let mut calls = Calls::new(Edition::One)?;
+    calls.push(&transfer, &["alice", "bob"], &[30])?;
+    calls.push(&transfer, &["bob", "carol"], &[80])?;
+    calls.push(&transfer, &["alice", "carol"], &[70])?;
+    calls.push(&transfer, &["alice", "bob"], &[1])?;
+    calls.push::<&str>(&audit, &[], &[])?;
+    print!("{}", machine.run(&calls)?);
+    print!("--\n{}", &machine.store_at(machine.top())?.as_str()[6..]);
+    Ok(())
+}

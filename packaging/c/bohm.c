@@ -1,0 +1,230 @@
+/* The calls of bohm.h. Each sees to it that no pointer is null, which the proved call behind it has from its caller, and
+ * gives it a pointer to nothing in the place of a null one of no elements. Whether a handle is open the proved call sees
+ * itself. scripts/pack builds this file into the library, where the names of the proved calls begin with `proved_`.
+ *
+ * A call that doesn't change a handle hands a copy of it on: a proved call empties the handle that it has, and fills it
+ * again before it returns. */
+typedef __SIZE_TYPE__ size_t;
+typedef __UINT8_TYPE__ uint8_t;
+typedef __UINT32_TYPE__ uint32_t;
+typedef __UINT64_TYPE__ uint64_t;
+typedef __INT64_TYPE__ int64_t;
+
+#define BOHM_TYPES_ARE_DECLARED
+#include "../../crates/bohm_c/include/bohm.h"
+
+void free(void *at);
+
+uint32_t proved_bohm_answer(const uint8_t *text, size_t len, bohm_bytes *out);
+uint32_t proved_bohm_open(bohm_machine *machine, const uint8_t *text, size_t len, uint32_t top, bohm_bytes *out);
+uint32_t proved_bohm_apply(bohm_machine *machine, const uint8_t *text, size_t len, bohm_bytes *out);
+uint32_t proved_bohm_replies(bohm_machine *machine, bohm_bytes *out);
+uint32_t proved_bohm_apply_held(bohm_machine *machine, const uint8_t *text, size_t len, bohm_bytes *out);
+uint32_t proved_bohm_rows(bohm_machine *machine, bohm_reply_rows *rows, bohm_values *values);
+uint32_t proved_bohm_value_at(bohm_machine *machine, const uint8_t *key, size_t len, uint32_t ts, uint8_t *present, int64_t *value);
+uint32_t proved_bohm_store_at(bohm_machine *machine, uint32_t ts, bohm_bytes *out);
+uint32_t proved_bohm_digest(bohm_machine *machine, uint32_t ts, uint8_t *digest);
+uint32_t proved_bohm_trim(bohm_machine *machine, uint32_t floor);
+uint32_t proved_bohm_timestamps(bohm_machine *machine, uint32_t *floor, uint32_t *top);
+uint32_t proved_bohm_counts(bohm_machine *machine, bohm_machine_counts *counts);
+uint32_t proved_bohm_prepare(bohm_procedure *procedure, const uint8_t *text, size_t len, bohm_bytes *out);
+uint32_t proved_bohm_open_calls(bohm_calls *calls, uint32_t edition);
+uint32_t proved_bohm_push(bohm_calls *calls, bohm_procedure *procedure, const bohm_key *keys, size_t key_count, const int64_t *values, size_t value_count);
+uint32_t proved_bohm_run_calls(bohm_machine *machine, bohm_calls *calls, bohm_bytes *out);
+uint32_t proved_bohm_run_calls_held(bohm_machine *machine, bohm_calls *calls);
+uint32_t proved_bohm_clear_calls(bohm_calls *calls);
+void proved_bohm_close(void *handle);
+
+/* Where a pointer to no elements lies: the proved calls take no null, and read nothing there. */
+#define NOWHERE ((void *)16)
+
+#define is_array(at, len) ((at) || !(len))
+#define array_of(at) ((at) ? (at) : NOWHERE)
+
+/* Gives the caller what a proved call has handed out, or lets it go. */
+static uint32_t hand_out(bohm_bytes *out, bohm_bytes told, uint32_t status) {
+    if (!told.len) told.at = 0;
+    if (!out) free(told.at);
+    else if (status == BOHM_DONE || status == BOHM_REFUSED || status == BOHM_STOPPED) *out = told;
+    return status;
+}
+
+const char *bohm_status_text(uint32_t status) {
+    static const char *const texts[] = {
+        [BOHM_DONE] = "done",
+        [BOHM_REFUSED] = "the text was refused",
+        [BOHM_NO_MEMORY] = "an allocation failed",
+        [BOHM_TRIMMED] = "the timestamp is below the floor",
+        [BOHM_FUTURE] = "the timestamp is above the top",
+        [BOHM_HAS_STORE] = "the segment has a store of its own",
+        [BOHM_TIMESTAMPS] = "the segment's timestamps would pass 4294967295",
+        [BOHM_HAS_LOG] = "the snapshot has transactions",
+        [BOHM_NO_KEY] = "the bytes are no key's",
+        [BOHM_WAITING] = "replies of an earlier segment wait",
+        [BOHM_STOPPED] = "an allocation failed on the way",
+        [BOHM_KEPT] = "the text of the replies could not be allocated",
+        [BOHM_UNFIT] = "an edition, or a number of arguments or calls doesn't fit",
+        [BOHM_MISUSE] = "a handle or a pointer isn't as the call wants it",
+    };
+    return status < sizeof texts / sizeof *texts ? texts[status] : "no status";
+}
+
+void bohm_free(void *at) { free(at); }
+
+uint32_t bohm_answer(const uint8_t *text, size_t len, bohm_bytes *out) {
+    if (!is_array(text, len)) return BOHM_MISUSE;
+    bohm_bytes told = {NOWHERE, 0};
+    uint32_t status = proved_bohm_answer(array_of(text), len, &told);
+    return hand_out(out, told, status);
+}
+
+uint32_t bohm_open(bohm_machine *machine, const uint8_t *text, size_t len, uint32_t top, bohm_bytes *out) {
+    if (!machine || !is_array(text, len)) return BOHM_MISUSE;
+    bohm_bytes told = {NOWHERE, 0};
+    uint32_t status = proved_bohm_open(machine, array_of(text), len, top, &told);
+    return status ? hand_out(out, told, status) : status;
+}
+
+uint32_t bohm_apply(bohm_machine *machine, const uint8_t *text, size_t len, bohm_bytes *out) {
+    if (!machine || !is_array(text, len)) return BOHM_MISUSE;
+    bohm_bytes told = {NOWHERE, 0};
+    uint32_t status = proved_bohm_apply(machine, array_of(text), len, &told);
+    return hand_out(out, told, status);
+}
+
+uint32_t bohm_replies(bohm_machine *machine, bohm_bytes *out) {
+    if (!machine) return BOHM_MISUSE;
+    bohm_bytes told = {NOWHERE, 0};
+    uint32_t status = proved_bohm_replies(machine, &told);
+    return hand_out(out, told, status);
+}
+
+uint32_t bohm_apply_held(bohm_machine *machine, const uint8_t *text, size_t len, bohm_bytes *out) {
+    if (!machine || !is_array(text, len)) return BOHM_MISUSE;
+    bohm_bytes told = {NOWHERE, 0};
+    uint32_t status = proved_bohm_apply_held(machine, array_of(text), len, &told);
+    return status == BOHM_REFUSED ? hand_out(out, told, status) : status;
+}
+
+uint32_t bohm_rows(bohm_machine *machine, bohm_reply_rows *rows, bohm_values *values) {
+    if (!machine || !rows || !values) return BOHM_MISUSE;
+    bohm_reply_rows replies = {NOWHERE, 0};
+    bohm_values shown = {NOWHERE, 0};
+    uint32_t status = proved_bohm_rows(machine, &replies, &shown);
+    if (status) return status;
+    if (!replies.len) replies.at = 0;
+    if (!shown.len) shown.at = 0;
+    *rows = replies;
+    *values = shown;
+    return status;
+}
+
+uint32_t bohm_value_at(const bohm_machine *machine, const uint8_t *key, size_t len, uint32_t ts,
+                       uint8_t *present, int64_t *value) {
+    if (!machine || !is_array(key, len) || !present || !value) return BOHM_MISUSE;
+    bohm_machine held = *machine;
+    uint8_t is_there = 0;
+    int64_t holds = 0;
+    uint32_t status = proved_bohm_value_at(&held, array_of(key), len, ts, &is_there, &holds);
+    if (status) return status;
+    *present = is_there;
+    if (is_there) *value = holds;
+    return status;
+}
+
+uint32_t bohm_store_at(const bohm_machine *machine, uint32_t ts, bohm_bytes *out) {
+    if (!machine) return BOHM_MISUSE;
+    bohm_machine held = *machine;
+    bohm_bytes told = {NOWHERE, 0};
+    uint32_t status = proved_bohm_store_at(&held, ts, &told);
+    return hand_out(out, told, status);
+}
+
+uint32_t bohm_digest(const bohm_machine *machine, uint32_t ts, uint8_t digest[32]) {
+    if (!machine || !digest) return BOHM_MISUSE;
+    bohm_machine held = *machine;
+    return proved_bohm_digest(&held, ts, digest);
+}
+
+uint32_t bohm_trim(bohm_machine *machine, uint32_t floor) {
+    return machine ? proved_bohm_trim(machine, floor) : BOHM_MISUSE;
+}
+
+uint32_t bohm_timestamps(const bohm_machine *machine, uint32_t *floor, uint32_t *top) {
+    if (!machine || !floor || !top) return BOHM_MISUSE;
+    bohm_machine held = *machine;
+    uint32_t least = 0, greatest = 0;
+    uint32_t status = proved_bohm_timestamps(&held, &least, &greatest);
+    if (status) return status;
+    *floor = least;
+    *top = greatest;
+    return status;
+}
+
+uint32_t bohm_counts(const bohm_machine *machine, bohm_machine_counts *counts) {
+    if (!machine || !counts) return BOHM_MISUSE;
+    bohm_machine held = *machine;
+    return proved_bohm_counts(&held, counts);
+}
+
+void bohm_close(bohm_machine *machine) {
+    if (machine) proved_bohm_close(machine);
+}
+
+uint32_t bohm_prepare(bohm_procedure *procedure, const uint8_t *text, size_t len, bohm_bytes *out) {
+    if (!procedure || !is_array(text, len)) return BOHM_MISUSE;
+    bohm_bytes told = {NOWHERE, 0};
+    uint32_t status = proved_bohm_prepare(procedure, array_of(text), len, &told);
+    return status ? hand_out(out, told, status) : status;
+}
+
+void bohm_close_procedure(bohm_procedure *procedure) {
+    if (procedure) proved_bohm_close(procedure);
+}
+
+uint32_t bohm_open_calls(bohm_calls *calls, uint32_t edition) {
+    return calls ? proved_bohm_open_calls(calls, edition) : BOHM_MISUSE;
+}
+
+/* BOHM_DONE where each key has bytes; a null one of no bytes is no key. */
+static uint32_t look_at(const bohm_key *keys, size_t count) {
+    uint32_t status = BOHM_DONE;
+    for (size_t i = 0; i < count; i++) {
+        if (keys[i].at) continue;
+        if (keys[i].len) return BOHM_MISUSE;
+        status = BOHM_NO_KEY;
+    }
+    return status;
+}
+
+uint32_t bohm_push(bohm_calls *calls, const bohm_procedure *procedure, const bohm_key *keys, size_t key_count,
+                   const int64_t *values, size_t value_count) {
+    if (!calls || !procedure || !is_array(keys, key_count) || !is_array(values, value_count)) return BOHM_MISUSE;
+    if (!calls->at || !procedure->at) return BOHM_MISUSE;
+    uint32_t status = look_at(keys, key_count);
+    if (status) return status;
+    bohm_procedure held = *procedure;
+    return proved_bohm_push(calls, &held, array_of(keys), key_count, array_of(values), value_count);
+}
+
+uint32_t bohm_run_calls(bohm_machine *machine, const bohm_calls *calls, bohm_bytes *out) {
+    if (!machine || !calls) return BOHM_MISUSE;
+    bohm_calls held = *calls;
+    bohm_bytes told = {NOWHERE, 0};
+    uint32_t status = proved_bohm_run_calls(machine, &held, &told);
+    return hand_out(out, told, status);
+}
+
+uint32_t bohm_run_calls_held(bohm_machine *machine, const bohm_calls *calls) {
+    if (!machine || !calls) return BOHM_MISUSE;
+    bohm_calls held = *calls;
+    return proved_bohm_run_calls_held(machine, &held);
+}
+
+uint32_t bohm_clear_calls(bohm_calls *calls) {
+    return calls ? proved_bohm_clear_calls(calls) : BOHM_MISUSE;
+}
+
+void bohm_close_calls(bohm_calls *calls) {
+    if (calls) proved_bohm_close(calls);
+}

@@ -1,0 +1,83 @@
+//! What `bohm.h` declares.
+
+use std::os::raw::c_void;
+
+#[repr(C)]
+pub struct Array<T> {
+    pub at: *mut T,
+    pub len: usize,
+}
+
+impl<T> Array<T> {
+    pub const fn none() -> Array<T> {
+        Array { at: std::ptr::null_mut(), len: 0 }
+    }
+}
+
+/// A machine, a procedure or a list of calls: null where it is closed.
+#[repr(C)]
+#[derive(Debug)]
+pub struct Handle {
+    pub at: *mut c_void,
+}
+
+impl Handle {
+    pub const fn closed() -> Handle {
+        Handle { at: std::ptr::null_mut() }
+    }
+}
+
+#[repr(C)]
+#[derive(Clone, Copy)]
+pub struct Key {
+    pub at: *const u8,
+    pub len: usize,
+}
+
+#[repr(C)]
+#[derive(Clone, Copy)]
+pub struct Row {
+    pub outcome: u32,
+    pub statement: u32,
+    pub first: u64,
+    pub shown: u64,
+}
+
+pub const DONE: u32 = 0;
+pub const REFUSED: u32 = 1;
+pub const NO_MEMORY: u32 = 2;
+pub const TRIMMED: u32 = 3;
+pub const FUTURE: u32 = 4;
+pub const HAS_STORE: u32 = 5;
+pub const TIMESTAMPS: u32 = 6;
+pub const HAS_LOG: u32 = 7;
+pub const NO_KEY: u32 = 8;
+pub const WAITING: u32 = 9;
+pub const STOPPED: u32 = 10;
+pub const UNFIT: u32 = 12;
+
+extern "C" {
+    pub fn bohm_free(at: *mut c_void);
+    pub fn bohm_answer(text: *const u8, len: usize, out: *mut Array<u8>) -> u32;
+    pub fn bohm_open(machine: *mut Handle, text: *const u8, len: usize, top: u32, out: *mut Array<u8>) -> u32;
+    pub fn bohm_apply_held(machine: *mut Handle, text: *const u8, len: usize, out: *mut Array<u8>) -> u32;
+    pub fn bohm_rows(machine: *mut Handle, rows: *mut Array<Row>, values: *mut Array<i64>) -> u32;
+    pub fn bohm_value_at(machine: *const Handle, key: *const u8, len: usize, ts: u32, present: *mut u8, value: *mut i64) -> u32;
+    pub fn bohm_store_at(machine: *const Handle, ts: u32, out: *mut Array<u8>) -> u32;
+    pub fn bohm_digest(machine: *const Handle, ts: u32, digest: *mut [u8; 32]) -> u32;
+    pub fn bohm_trim(machine: *mut Handle, floor: u32) -> u32;
+    pub fn bohm_timestamps(machine: *const Handle, floor: *mut u32, top: *mut u32) -> u32;
+    pub fn bohm_counts(machine: *const Handle, counts: *mut crate::Counts) -> u32;
+    pub fn bohm_close(machine: *mut Handle);
+    pub fn bohm_prepare(procedure: *mut Handle, text: *const u8, len: usize, out: *mut Array<u8>) -> u32;
+    pub fn bohm_close_procedure(procedure: *mut Handle);
+    pub fn bohm_open_calls(calls: *mut Handle, edition: u32) -> u32;
+    pub fn bohm_push(
+        calls: *mut Handle, procedure: *const Handle, keys: *const Key, key_count: usize, values: *const i64, value_count: usize,
+    ) -> u32;
+    pub fn bohm_run_calls_held(machine: *mut Handle, calls: *const Handle) -> u32;
+    pub fn bohm_clear_calls(calls: *mut Handle) -> u32;
+    pub fn bohm_close_calls(calls: *mut Handle);
+    pub static bohm_version: [u8; 16];
+    pub static bohm_sources: [u8; 65];
+}

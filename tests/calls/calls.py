@@ -1,0 +1,36 @@
+"""Runs the calls of a script of tests/procedures: `calls.py LIBRARY < SCRIPT` writes their answer."""
+import sys
+from pathlib import Path
+
+sys.path.insert(0, str(Path(__file__).resolve().parents[2] / "packaging" / "python"))
+import bohm  # noqa: E402
+
+
+def main(library, lines):
+    library, machine = bohm.load(library), None
+    store, text, procedures, calls = "", "", [], []
+    for line in lines:
+        word, _, rest = line.rstrip("\n").partition(" ")
+        if word == "store":
+            store += rest + "\n"
+        elif word == "line":
+            text += rest + "\n"
+        elif word == "prepare":
+            machine = machine or bohm.Machine(store, library=library)
+            procedures.append(machine.prepare(text))
+            text = ""
+        elif word == "push":
+            number, count, *words = rest.split(" ")
+            keys, values = words[:int(count)], [int(value) for value in words[int(count) + 1:]]
+            calls.append(procedures[int(number)].call(*keys, *values))
+        elif word == "run":
+            # One call goes by the procedure itself.
+            replies = machine.run(calls) if len(calls) != 1 else [calls[0].procedure(*calls[0].keys, *calls[0].values)]
+            sys.stdout.writelines(f"{reply}\n" for reply in replies)
+            calls = []
+    again = bohm.Machine(machine.snapshot(), machine.top, library=library)
+    assert again.digest() == machine.digest()
+    sys.stdout.write("--\n" + "".join(f"{key} {value}\n" for key, value in machine.store_at().items()))
+
+
+main(sys.argv[1], sys.stdin)
