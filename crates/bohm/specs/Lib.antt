@@ -1,0 +1,9 @@
+pub use Rattle.bohm_tree.specs.Document
+pub use Rattle.bohm_tree.specs.Txn
+pub use Rattle.bohm_text.specs.Print
+pub use Rattle.bohm_txn.specs.Serial
+pub use Rattle.bohm_txn.specs.Stores
+pub use Rattle.bohm_run.specs.Runs
+pub use Rattle.bohm_run.specs.Headline
+pub use Rattle.bohm_machine.specs.Machines
+pub use Rattle.bohm_machine.specs.Segments

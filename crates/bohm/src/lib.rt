@@ -1,0 +1,14 @@
+//! What a program needs, in one `use`: a log is parsed, checked and run, or a machine executes it
+//! segment by segment. `CALLING.md` shows how.
+#![tactic(auto)]
+
+mod running;
+
+pub use bohm_machine::{Machine, SegmentFault};
+pub use bohm_procedures::{Calls, Procedure, ProcedureFault};
+pub use bohm_run::{Answer, Applied, RunFault, Settings, run_text};
+pub use bohm_store::{History, PastFault, StoreFault};
+pub use bohm_text::{TextFault, parse};
+pub use bohm_tree::{Cell, Edition, Key, NoMemory, Value};
+pub use bohm_txn::{CheckFault, CheckKind, Checked, Outcome, Reason, Replies, Reply, check};
+pub use running::run;

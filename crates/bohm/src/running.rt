@@ -1,0 +1,55 @@
+//! A whole run by settings.
+
+ghost use Rattle.std.specs.Prelude.{IfOk, ◌≡◌};
+ghost use Rattle.bohm_txn.specs.Serial.{replies};
+ghost use Rattle.bohm_txn.specs.Stores.{cell_in, store_of};
+ghost use Rattle.bohm_run.specs.Runs.{IsHistoryOf};
+
+use bohm_exec::OpenGate;
+use bohm_run::{Answer, ByteSum, Cuts, Settings};
+use bohm_tree::NoMemory;
+use bohm_txn::Checked;
+use std::alloc::Global;
+use std::random::RandomSource;
+use std::sync::Wait;
+use std::thread::Threads;
+
+/// Executes a checked log on its starting store, with as many workers, partitions and transactions
+/// in a batch as the settings say. For all settings the replies, and the store after each timestamp
+/// from the history's floor to its top, are those of executing the transactions one after another
+/// in log order. The last `keep` timestamps before the top stay readable; `at` is ignored.
+///
+/// Keys are hashed from a seed that is drawn for this run.
+///
+/// # Errors
+///
+/// `NoMemory` if an allocation or the start of the planning thread failed.
+///
+/// The time and the memory are those of `bohm_run::run`.
+pub fn run<R: Threads + Wait + Sync + RandomSource>(
+    rt: &R,
+    alloc: Global,
+    checked: &Checked,
+    settings: Settings,
+) -> Result<Answer, NoMemory>
+    ensures replies { let start = cell_in (store_of checked.now.store) in
+        IfOk result (λ a. a.replies ≡ replies start checked.now.log) }
+    ensures history { let start = cell_in (store_of checked.now.store) in
+        IfOk result (λ a. IsHistoryOf start checked.now.log settings.keep a.history) }
+{
+    let Some(partition) = ByteSum::new(settings.parts()) else {
+        unreachable!()
+    };
+    let cuts = Cuts::even(alloc, checked.log().len() as u32, settings.batch())?;
+    bohm_run::run(
+        rt,
+        alloc,
+        checked,
+        &cuts,
+        settings.cc(),
+        settings.exec(),
+        settings.keep(),
+        &partition,
+        &OpenGate,
+    )
+}
