@@ -248,8 +248,13 @@ impl<S: BuildHasher + Drop> Draft<S> {
     {
         let end = self.sheet.terms.len() as u32;
         let (first, second) = self.pending.ends(end);
-        self.sheet
-            .add_written(action, place, name, self.pending.start, (first, second, end))?;
+        self.sheet.add_written(
+            action,
+            place,
+            name,
+            self.pending.start,
+            (first, second, end),
+        )?;
         self.pending = Pending::at(end);
         Ok(())
     }
@@ -378,12 +383,7 @@ impl<S: BuildHasher + Drop> Draft<S> {
 
     /// `set KEY = SUM when SUM CMP SUM`, of the declared write at a place.
     #[tactic(auto, using(crate::proofs::Statements::put_when_made, crate::proofs::Statements::put_when_sound))]
-    pub fn put_when_at(
-        &mut self,
-        place: u32,
-        key: &[u8],
-        cmp: Cmp,
-    ) -> Result<(), SumFault>
+    pub fn put_when_at(&mut self, place: u32, key: &[u8], cmp: Cmp) -> Result<(), SumFault>
         requires done { length self.old.done ≡ 2 }
         requires place { slice_get self.old.txn.writes place ≡ Some key.now }
         requires name { is_name key.now ≡ true }

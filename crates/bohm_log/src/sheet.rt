@@ -190,7 +190,8 @@ impl<S: BuildHasher + Drop> Sheet<S> {
             (λ i. slice_get (parts_of self.now).writes i ≡ Some word.now) }
         ensures name { IsSome result → is_name word.now ≡ true }
     {
-        self.named_places.place_of_word(self.writes.as_slice(), word)
+        self.named_places
+            .place_of_word(self.writes.as_slice(), word)
     }
 
     /// Adds the declared read at a place.

@@ -279,7 +279,7 @@ short_words k h name f few = same_from_decides
         let s = short h.name h.is in
         let e : word_in h.name ≡ word_in name = sym first ∙ (unsigned_Decides (slice_index_or k.words 0 0) (word_in name)).0 t in
         let p : padded 8 h.name ≡ padded 8 name = word-injective (padded 8 h.name) (padded 8 name) (padded-length 8 h.name) (padded-length 8 name)
-            (padded-bytes 8 h.name s.filled) (padded_any 8 name f) e in
+        (padded-bytes 8 h.name s.filled) (padded_any 8 name f) e in
         let few_too : length h.name ≤ 7 = as_short 7 h.name name s.filled few p in
         h.made ∙ sym (one_word h.name (word_in h.name) (omega (arith, few_too)) refl) ∙ ap (λ w. w ∷ 0 ∷ 0 ∷ 0 ∷ []) e ∙ one_word name (word_in name) (omega (arith, few)) refl
 

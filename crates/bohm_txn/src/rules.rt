@@ -112,12 +112,7 @@ fn is_defined(txn: &PlacedTxn<'_>, before: &[StmtRow], noted: &Bound, term: &Ter
 }
 
 /// Whether these statements bind each local that the terms read.
-fn are_defined(
-    txn: &PlacedTxn<'_>,
-    before: &[StmtRow],
-    noted: &Bound,
-    terms: &[TermRow],
-) -> bool
+fn are_defined(txn: &PlacedTxn<'_>, before: &[StmtRow], noted: &Bound, terms: &[TermRow]) -> bool
     requires terms { All (TermIn txn.now) terms.now }
     requires before { All (RowIn txn.now) before.now }
     requires noted { AreNoted noted.now.noted before.now }
@@ -151,12 +146,7 @@ fn rebinds(txn: &PlacedTxn<'_>, before: &[StmtRow], noted: &Bound, row: &StmtRow
 /// Whether the statement reads a local that none of the statements before it binds, or binds a name
 /// that one of them binds.
 #[tactic(auto, using(crate::proofs::Placing::all_flat))]
-pub fn is_misnamed(
-    txn: &PlacedTxn<'_>,
-    before: &[StmtRow],
-    noted: &Bound,
-    row: &StmtRow,
-) -> bool
+pub fn is_misnamed(txn: &PlacedTxn<'_>, before: &[StmtRow], noted: &Bound, row: &StmtRow) -> bool
     requires row { RowIn txn.now row.now }
     requires before { All (RowIn txn.now) before.now }
     requires noted { AreNoted noted.now.noted before.now }
