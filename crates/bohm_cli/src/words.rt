@@ -27,7 +27,9 @@ pub fn read_words(alloc: Global, words: &[String]) -> Result<Settings, WordFault
         matches.get_one("exec").unwrap_or(defaults.exec().count()),
         matches.get_one("parts").unwrap_or(defaults.parts()),
         matches.get_one("batch").unwrap_or(defaults.batch()),
-        matches.get_one("keep").unwrap_or(defaults.keep().timestamps()),
+        matches
+            .get_one("keep")
+            .unwrap_or(defaults.keep().timestamps()),
         matches.get_one("at"),
     );
     Ok(settings.unwrap())

@@ -50,5 +50,5 @@ returns-clause-settled c =
     let end : c.self.inside.top + c.len.result ≡ c.self.inside.top + length (txns_of b) = ap (λ (n : ℕ). c.self.inside.top + n) c.len.ensures in
     let done : (n : ℕ) → held_at newest n ≡ newest_only (held_at items n ++ versions_by ws n) = rw value at c.replace_all.ensures in
     rw (← c.self.view_is) (rw is (settled_kept names (base_of b) (txns_of b) b.batched.formed b.batched.some old new ws
-        c.self.invariant c.requires.names given.base
+    c.self.invariant c.requires.names given.base
     c.requires.writes.below listed end end c.clear.ensures.items done))

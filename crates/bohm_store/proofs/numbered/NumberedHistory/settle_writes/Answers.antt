@@ -36,9 +36,9 @@ invariant_of-self c =
     rw is (record {
       ordered = omega (arith, was.ordered);
       low = grown_low names (base_of b) (txns_of b) b.batched.formed b.batched.some old ws was
-        c.requires.names given.base c.requires.writes.below listed new refl end grew;
+          c.requires.names given.base c.requires.writes.below listed new refl end grew;
       rising = grown_rises names (base_of b) (txns_of b) b.batched.formed b.batched.some old ws was
-        c.requires.names given.base c.requires.writes.below listed new refl end grew;
+          c.requires.names given.base c.requires.writes.below listed new refl end grew;
       linked = λ n. linked n (was.linked n);
       climbs = rw end (c.in-Ok.ensures.climbs (c.self.inside.top + 1) (c.self.inside.top + length (txns_of b)) rise climbs);
       due =
@@ -65,7 +65,7 @@ returns-in-Ok-clause-ok c =
     let linked = rw value at c.in-Ok.ensures.linked in
     let grew : (n : ℕ) → versions_at new n ≡ versions_at old n ++ versions_by ws n = λ n. versions n (was.linked n) in
     rw (← c.self.view_is) (rw is (grown_settled names (base_of b) (txns_of b) b.batched.formed b.batched.some old ws was
-        c.requires.names given.base c.requires.writes.below listed new refl end grew))
+    c.requires.names given.base c.requires.writes.below listed new refl end grew))
 
 pub invariant_of-self-in-Err : goal.invariant_of-self-in-Err
 invariant_of-self-in-Err c =
