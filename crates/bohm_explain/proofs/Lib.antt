@@ -23,3 +23,5 @@ mod Banding
 mod Texts
 mod Shallow
 mod Surveys
+mod Wants
+mod RunBatches

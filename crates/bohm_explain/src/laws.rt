@@ -4,9 +4,14 @@ ghost use Rattle.std.specs.Prelude.{◌≡◌, ◌+◌, ◌<◌, ◌↔◌, ℕ,
 ghost use Rattle.bohm_tree.specs.Txn.{Txn};
 ghost use Rattle.bohm_explain.specs.declared.arrow.Arrow.{Arrow};
 ghost use Rattle.bohm_explain.specs.declared.heat.Heat.{Heat};
+ghost use Rattle.std.specs.List.{sum};
 ghost use Rattle.bohm_place.specs.Chains.{greatest};
-ghost use Rattle.bohm_explain.specs.Chains.{EndsAt, IsChainOf, IsGreatest, IsOn, LeadsOn, weight_of};
-ghost use Rattle.bohm_explain.specs.Figures.{depths};
+ghost use Rattle.bohm_place.specs.Plans.{IsRightPlan};
+ghost use Rattle.bohm_board.specs.declared.batch.Batch.{Batch};
+ghost use Rattle.bohm_board.specs.Batches.{IsIn, Wants, plan_of, position, txns_of};
+ghost use Rattle.bohm_line.specs.Cuttings.{Cutting, IsEven, txns_at};
+ghost use Rattle.bohm_explain.specs.Chains.{EndsAt, IsChainOf, IsGreatest, IsOn, IsWantedBy, LeadsOn, weight_of};
+ghost use Rattle.bohm_explain.specs.Figures.{batch_at, batch_count, depths};
 ghost use Rattle.bohm_explain.specs.Heaviest.{AreRising, greatest_wanted, greatest_wanting, heaviest_from, heaviest_to};
 ghost use Rattle.bohm_explain.specs.Printed.{heights, longest};
 ghost use Rattle.bohm_explain.specs.Ranking.{IsRanking};
@@ -60,6 +65,21 @@ pub fn chains_of_a_batch()
         (greatest (heaviest_to (weights txns) (arrows txns))) }
     ensures longest { (txns : List Txn) (p : ℕ) → p < length txns
         → (slice_index_or (longest txns) p false ≡ true) ↔ IsOn txns p (greatest (depths txns)) }
+{}
+
+/// An arrow leads from one transaction to another exactly where, on the board of a run, the second
+/// wants a version that the first produces.
+pub fn arrows_are_wanted()
+    ensures { (b : Batch) (t u : ℕ) → IsRightPlan (txns_of b) (plan_of b) → IsIn b t → IsIn b u
+        → Wants b t u ↔ IsWantedBy (arrows (txns_of b)) (position b u) (position b t) }
+{}
+
+/// The batches that are explained are those of a run with batches of this size.
+pub fn batches_are_those_of_a_run()
+    ensures count { (c : Cutting) (size : ℕ) → IsEven size c.sizes → sum c.sizes ≡ length c.log
+        → 0 < size → batch_count size c.log ≡ length c.sizes }
+    ensures each { (c : Cutting) (size i : ℕ) → IsEven size c.sizes → sum c.sizes ≡ length c.log
+        → i < length c.sizes → batch_at size c.log i ≡ txns_at c i }
 {}
 
 /// There is one ranking of some heats, however they come.
