@@ -58,7 +58,7 @@ fn prepare(
     if counted(count, part.len()) > MOST_TXNS {
         return Ok(Prepared::TooMany);
     }
-    if settings.exec() == 1 {
+    if settings.exec().count() == 1 {
         return Ok(Prepared::Ready);
     }
     let cuts = Cuts::even(alloc, part.len() as u32, settings.batch())?;
