@@ -120,6 +120,10 @@ class ReplicaFaults(Faults):
         replica.disturbed = True
         network.fill(replica.folder)
         self.scene.tell(f"{replica.name}'s disk is full")
+        # Without clients it writes nothing, until it is told to end.
+        self.scene.wait(f"{replica.name} ends", lambda: replica.ended_alone() or not self.scene.loaded())
+        if not replica.ended_alone():
+            replica.tell_to_end()
         self.scene.wait(f"{replica.name} ends", replica.ended_alone)
         if b"ended: OSError: [Errno 28]" not in replica.said.read_bytes()[-300:]:
             raise Failed(f"{replica.name} doesn't say that its disk is full")
