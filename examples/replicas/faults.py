@@ -187,6 +187,7 @@ class ReplicaFaults(Faults):
         self.scene.wait("the witness", lambda: self.scene.witness.revision >= revision)
         for replica in self.scene.replicas:
             if not self.scene.status(replica)["snapshot_revision"]:
+                self.scene.caught_up(replica)
                 replica.disturbed = True
                 replica.end()
                 self.scene.start(replica)
