@@ -9,11 +9,13 @@ import threading
 import time
 from collections.abc import Iterator
 from dataclasses import dataclass
-from typing import Any
+from typing import Any, ClassVar
 
-# Seconds: for one answer, between two tries, and until a silent watch is opened at the next member: at least, more for
-# each revision that there is to tell, and at most. A member tells 1,000 revisions at once, which takes its time.
-ANSWER, PAUSE, SILENCE, EACH, LONGEST = 2.0, 0.05, 2.0, 0.02, 120.0
+# Seconds: for one answer at least and at most, and between two tries.
+ANSWER, SLOWEST, PAUSE = 2.0, 30.0, 0.05
+# Seconds until a silent watch is opened at the next member: at least, more for each revision that there is to tell, and
+# at most. A member tells 1,000 revisions at once, which takes its time.
+SILENCE, EACH, LONGEST = 2.0, 0.02, 120.0
 # gRPC's codes of requests that no other try can help: bad ones, and those that are too large or find no room.
 FINAL = {3, 8}
 # gRPC's code of a compaction that was done before.
@@ -83,6 +85,10 @@ def put_of(key: bytes, value: bytes) -> dict[str, Any]:
 class Etcd:
     """The members of one cluster, as HOST:PORT, asked in turn from `first` on. For one thread at a time."""
 
+    # How long an answer may take: longer after each one that took too long, for all threads, so that a machine that is
+    # short of time doesn't try for ever.
+    answer: ClassVar[float] = ANSWER
+
     def __init__(self, members: list[str], first: int = 0, patience: float = 60.0) -> None:
         self.members = itertools.cycle(members[first:] + members[:first])
         self.patience = patience
@@ -111,14 +117,18 @@ class Etcd:
             raise Refused(fault.get("message"))
         raise Unavailable(fault.get("message"), fault.get("code", 0))
 
-    def ask(self, path: str, words: dict[str, Any], patience: float | None = None) -> dict[str, Any]:
+    def ask(self, path: str, words: dict[str, Any], patience: float | None = None) -> Any:
         """The answer of the first member that has one. The request may have had its effect more than once."""
         end = time.monotonic() + (self.patience if patience is None else patience)
         while True:
             try:
-                return json.loads(self.post(path, words, ANSWER).read())
+                said = json.loads(self.post(path, words, Etcd.answer).read())
+                Etcd.answer = max(ANSWER, 0.9 * Etcd.answer)
+                return said
             except FAULTS as fault:
                 self.turn()
+                if isinstance(fault, TimeoutError):
+                    Etcd.answer = min(SLOWEST, 1.5 * Etcd.answer)
                 if isinstance(fault, Unavailable) and fault.code == PAST:
                     raise
                 if time.monotonic() > end:
@@ -127,7 +137,7 @@ class Etcd:
 
     def cluster(self) -> str:
         """The cluster's number, by which its revisions are told from another one's."""
-        return self.ask("/v3/maintenance/status", {})["header"]["cluster_id"]
+        return str(self.ask("/v3/maintenance/status", {})["header"]["cluster_id"])
 
     def revision(self, patience: float | None = None) -> int:
         """The revision of the last change that was acknowledged before this call, or of a later one."""
@@ -198,11 +208,10 @@ class Etcd:
         by another member where one fails."""
         tries = 0
         while True:
-            begin = first
+            begin, missing = first, self.missing(first)
+            self.close()
             try:
-                patience = silence(self.missing(first), tries)
-                self.close()
-                for changes in self.watch(first, patience):
+                for changes in self.watch(first, silence(missing, tries)):
                     changes.sort(key=lambda change: (change.revision, change.key))
                     for revision, group in itertools.groupby(changes, lambda change: change.revision):
                         # A member that is behind may tell revisions from before the one that was asked for.
@@ -211,18 +220,18 @@ class Etcd:
                             yield list(group)
             except FAULTS:
                 pass
-            tries = tries + 1 if first == begin else 0
+            tries = tries + 1 if missing and first == begin else 0
             self.turn()
             pause()
 
     def missing(self, first: int) -> int:
-        """How many revisions there are from one on, if a member says so at once."""
+        """How many revisions there are from one on; 1 where no member says so at once."""
         try:
-            return self.revision(patience=0.0) - first + 1
+            return max(0, self.revision(patience=0.0) - first + 1)
         except Unreachable:
-            return 0
+            return 1
 
 
 def silence(revisions: int, tries: int = 0) -> float:
     """Seconds that a member may take to tell revisions, after so many tries in which that was too short."""
-    return min(LONGEST, SILENCE + max(0, revisions) * EACH * 2**min(tries, 10))
+    return min(LONGEST, (SILENCE + max(0, revisions) * EACH) * 2**min(tries, 10))

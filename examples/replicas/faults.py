@@ -120,6 +120,10 @@ class ReplicaFaults(Faults):
         replica.disturbed = True
         network.fill(replica.folder)
         self.scene.tell(f"{replica.name}'s disk is full")
+        # Without clients it writes nothing, until it is told to end.
+        self.scene.wait(f"{replica.name} ends", lambda: replica.ended_alone() or not self.scene.loaded())
+        if not replica.ended_alone():
+            replica.tell_to_end()
         self.scene.wait(f"{replica.name} ends", replica.ended_alone)
         if b"ended: OSError: [Errno 28]" not in replica.said.read_bytes()[-300:]:
             raise Failed(f"{replica.name} doesn't say that its disk is full")
@@ -183,6 +187,7 @@ class ReplicaFaults(Faults):
         self.scene.wait("the witness", lambda: self.scene.witness.revision >= revision)
         for replica in self.scene.replicas:
             if not self.scene.status(replica)["snapshot_revision"]:
+                self.scene.caught_up(replica)
                 replica.disturbed = True
                 replica.end()
                 self.scene.start(replica)

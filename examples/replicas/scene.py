@@ -13,7 +13,9 @@ from load import Client
 from stage import Child, ReplicaChild
 
 # Seconds: for what was just started to answer on a machine that has other work, and between two looks.
-STARTED, LOOK = 300.0, 0.02
+STARTED, LOOK = 600.0, 0.02
+# Seconds that a replica may take to say how far it is, for the story.
+GLANCE = 2.0
 
 
 class Failed(Exception):
@@ -57,11 +59,14 @@ class Scene:
     def elapsed(self) -> float:
         return time.monotonic() - self.began
 
+    def loaded(self) -> bool:
+        return any(client.is_alive() for client in self.clients)
+
     def look(self) -> None:
         """Keeps in mind how far each replica is."""
         while not self.over:
             for replica in list(self.replicas):
-                status = replica.status() if replica.process else None
+                status = replica.status(GLANCE) if replica.process else None
                 if status:
                     self.known[replica.name] = status["entries"]
                 else:

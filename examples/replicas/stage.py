@@ -19,8 +19,8 @@ from network import Seat
 
 # Ports below those that the system gives to outgoing connections, so that a port stays free while its owner is down.
 PORTS = range(10_000, 32_000)
-# Seconds that an answer, and a process that was told to end, may take.
-ANSWER, END = 3.0, 120.0
+# Seconds that an answer, and a process that was told to end, may take on a machine that has other work.
+ANSWER, END = 30.0, 300.0
 # Milliseconds after which etcd's members miss one another, for machines that have other work.
 PATIENT = ["--heartbeat-interval", "200", "--election-timeout", "2000"]
 
@@ -128,9 +128,9 @@ class ReplicaChild(Child):
     cut: str = ""
     base: int = 0
 
-    def ask(self, path: str) -> Any:
+    def ask(self, path: str, wait: float) -> Any:
         """What it says of itself, if it answers."""
-        line = http.client.HTTPConnection("127.0.0.1", self.port, timeout=ANSWER)
+        line = http.client.HTTPConnection("127.0.0.1", self.port, timeout=wait)
         try:
             line.request("GET", path)
             said = line.getresponse()
@@ -140,8 +140,8 @@ class ReplicaChild(Child):
         finally:
             line.close()
 
-    def status(self) -> dict[str, Any] | None:
-        found: dict[str, Any] | None = self.ask("/status")
+    def status(self, wait: float = ANSWER) -> dict[str, Any] | None:
+        found: dict[str, Any] | None = self.ask("/status", wait)
         return found
 
 
