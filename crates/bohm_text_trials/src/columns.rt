@@ -204,10 +204,15 @@ fn literals_have_a_text(rt: HostRuntime) {
 /// A sum without terms ends neither itself nor a statement.
 #[test]
 fn sums_have_terms(rt: HostRuntime) {
+    let (a, x) = (name(&rt, "a"), name(&rt, "x"));
     let mut draft = new_draft(rt.alloc());
+    draft.begin(Edition::Two);
     assert_eq!(rt; draft.show(), Err(SumFault::Empty));
-    assert_eq!(rt; draft.put(name(&rt, "a")), Err(SumFault::Empty));
-    assert_eq!(rt; draft.bind(name(&rt, "x")), Err(SumFault::Empty));
+    draft.begin(Edition::Two);
+    assert_eq!(rt; draft.put(a), Err(SumFault::Empty));
+    draft.begin(Edition::Two);
+    assert_eq!(rt; draft.bind(x), Err(SumFault::Empty));
+    draft.begin(Edition::Two);
     assert_eq!(rt; draft.next_sum(), Err(SumFault::Empty));
 }
 
