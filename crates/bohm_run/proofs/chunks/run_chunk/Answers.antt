@@ -16,7 +16,7 @@ pub returns-then-is_some-clause-runs : goal.returns-then-is_some-clause-runs
 returns-then-is_some-clause-runs g c =
     let count = c.counted-state.ensures ∙ (λ i. count_with (c.requires.next i) (c.len.ensures i)) in
     chunk_skipped c.args.chunk.log c.args.state.now _ refl refl count
-    (λ d counted so_far. subst (λ (log : List Txn). IsCheckedTo (with_log d log) c.check_more-state.result) c.part.ensures
+    (λ d counted so_far. subst (λ (log : List Txn). IsCheckedTo (with_log d log) c.check_more-state.result) c.part.ensures.same
     (c.check_more-state.ensures.checked d (subst (IsCountOf (length d.log)) (sym c.requires.next) counted) so_far))
     (λ none. absurd (some_not c.args.state.now.fault (sym c.is_some.ensures ∙ c.if-is_some.true) (c.check_more-state.ensures.kept none)))
 
@@ -49,19 +49,19 @@ returns-in-TooMany-clause-count g c = c.counted-state.ensures ∙ (λ i. count_w
 pub run_clean-requires-clause-total : goal.run_clean-requires-clause-total
 run_clean-requires-clause-total g c κs within =
     let known : ArePlanned c.args.chunk.count c.args.chunk.log c.in-Planned.cuts c.in-Planned.plans.items = subst (IsPrepared c.args.chunk.count c.args.chunk.log) c.in-Planned.is c.requires.prepared in
-    rw c.part-in-Planned.ensures known.total
+    rw c.part-in-Planned.ensures.same known.total
 
 pub run_clean-requires-clause-few : goal.run_clean-requires-clause-few
 run_clean-requires-clause-few g c κs within =
     let none = no_some c.args.state.now.fault (sym c.is_some.ensures ∙ c.if-is_some.false) in
     let known : ArePlanned c.args.chunk.count c.args.chunk.log c.in-Planned.cuts c.in-Planned.plans.items = subst (IsPrepared c.args.chunk.count c.args.chunk.log) c.in-Planned.is c.requires.prepared in
     let few : c.args.state.now.count ≤ 1000000 = omega (arith, known.ready.few, c.requires.next) in
-    omega (arith, known.ready.few, c.requires.level none few, c.requires.next, ap length c.part-in-Planned.ensures)
+    omega (arith, known.ready.few, c.requires.level none few, c.requires.next, ap length c.part-in-Planned.ensures.same)
 
 pub run_clean-requires-clause-formed : goal.run_clean-requires-clause-formed
 run_clean-requires-clause-formed g c κs within =
     let known : ArePlanned c.args.chunk.count c.args.chunk.log c.in-Planned.cuts c.in-Planned.plans.items = subst (IsPrepared c.args.chunk.count c.args.chunk.log) c.in-Planned.is c.requires.prepared in
-    subst (λ (log : List Txn). All IsWellFormedTxn log) (sym c.part-in-Planned.ensures) known.ready.formed
+    subst (λ (log : List Txn). All IsWellFormedTxn log) (sym c.part-in-Planned.ensures.same) known.ready.formed
 
 pub run_clean-requires-clause-plans : goal.run_clean-requires-clause-plans
 run_clean-requires-clause-plans g c κs within =
@@ -69,7 +69,7 @@ run_clean-requires-clause-plans g c κs within =
     let known : ArePlanned c.args.chunk.count c.args.chunk.log c.in-Planned.cuts c.in-Planned.plans.items = subst (IsPrepared c.args.chunk.count c.args.chunk.log) c.in-Planned.is c.requires.prepared in
     let few : c.args.state.now.count ≤ 1000000 = omega (arith, known.ready.few, c.requires.next) in
     let first = c.requires.next ∙ sym (c.requires.level none few) in
-    subst (λ (log : List Txn). ArePlans (record { first = c.args.state.now.progress.history.top + 1; log = log; sizes = c.in-Planned.cuts }) c.in-Planned.plans.items) (sym c.part-in-Planned.ensures)
+    subst (λ (log : List Txn). ArePlans (record { first = c.args.state.now.progress.history.top + 1; log = log; sizes = c.in-Planned.cuts }) c.in-Planned.plans.items) (sym c.part-in-Planned.ensures.same)
     (subst (λ (n : ℕ). ArePlans (record { first = n + 1; log = c.args.chunk.log; sizes = c.in-Planned.cuts }) c.in-Planned.plans.items) first known.planned)
 
 pub returns-clause-runs : goal.returns-clause-runs
@@ -79,7 +79,7 @@ returns-clause-runs g c =
     let known : ArePlanned c.args.chunk.count c.args.chunk.log c.in-Planned.cuts c.in-Planned.plans.items = subst (IsPrepared c.args.chunk.count c.args.chunk.log) c.in-Planned.is c.requires.prepared in
     let few : c.args.state.now.count ≤ 1000000 = omega (arith, known.ready.few, c.requires.next) in
     let was = c.args.state.now in
-    let part = subst (λ (log : List Txn). IsPartRun was.progress.history c.run_clean.new.progress.history log was.executor.keep (was.progress.history.top + 1) was.text.items c.run_clean.new.text.items) c.part-in-Planned.ensures c.in_ok-run_clean-in-Planned.ensures.run in
+    let part = subst (λ (log : List Txn). IsPartRun was.progress.history c.run_clean.new.progress.history log was.executor.keep (was.progress.history.top + 1) was.text.items c.run_clean.new.text.items) c.part-in-Planned.ensures.same c.in_ok-run_clean-in-Planned.ensures.run in
     chunk_ran c.args.chunk.log was _ refl c.run_clean.ensures.keep count none none (omega (arith, known.ready.few, c.requires.next))
     (subst (λ (n : ℕ). IsFaultBehind n c.args.chunk.log None) c.requires.next known.ready.checked) (c.requires.level none few) part
 
@@ -91,12 +91,12 @@ run-requires-clause-few g c =
     let none = no_some c.args.state.now.fault (sym c.is_some.ensures ∙ c.if-is_some.false) in
     let known : AreReady c.args.chunk.count c.args.chunk.log = subst (IsPrepared c.args.chunk.count c.args.chunk.log) c.in-Ready.is c.requires.prepared in
     let few : c.args.state.now.count ≤ 1000000 = omega (arith, known.few, c.requires.next) in
-    omega (arith, known.few, c.requires.level none few, c.requires.next, ap length c.part-in-Ready.ensures)
+    omega (arith, known.few, c.requires.level none few, c.requires.next, ap length c.part-in-Ready.ensures.same)
 
 pub run-requires-clause-formed : goal.run-requires-clause-formed
 run-requires-clause-formed g c =
     let known : AreReady c.args.chunk.count c.args.chunk.log = subst (IsPrepared c.args.chunk.count c.args.chunk.log) c.in-Ready.is c.requires.prepared in
-    subst (λ (log : List Txn). All IsWellFormedTxn log) (sym c.part-in-Ready.ensures) known.formed
+    subst (λ (log : List Txn). All IsWellFormedTxn log) (sym c.part-in-Ready.ensures.same) known.formed
 
 pub returns-in-Ready-clause-runs : goal.returns-in-Ready-clause-runs
 returns-in-Ready-clause-runs g c =
@@ -107,7 +107,7 @@ returns-in-Ready-clause-runs g c =
     let was = c.args.state.now in
     let part =
     subst (λ (log : List Txn). IsPartRun was.progress.history c.run.new.history log was.executor.keep (was.progress.history.top + 1)
-    was.text.items c.run.new.text.items) c.part-in-Ready.ensures c.in_ok-run-in-Ready.ensures in
+    was.text.items c.run.new.text.items) c.part-in-Ready.ensures.same c.in_ok-run-in-Ready.ensures in
     chunk_ran c.args.chunk.log was _ refl refl count none none (omega (arith, known.few, c.requires.next))
     (subst (λ (n : ℕ). IsFaultBehind n c.args.chunk.log None) c.requires.next known.checked) (c.requires.level none few) part
 
