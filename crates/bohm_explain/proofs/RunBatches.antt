@@ -50,8 +50,8 @@ each_even c size i even total low =
     ⊎_elim
     (λ inner. ap (take size) at ∙ ap (λ n. take n (drop (ahead c.sizes i) c.log)) (sym (even.full i (omega (arith, inner)))))
     (λ outer.
-        let last : length c.sizes ≡ suc i = omega (arith, low, outer) in
-        let (least, most) = few size c.sizes i even last in
-        let left : length (drop (ahead c.sizes i) c.log) ≡ slice_index c.sizes i = omega (arith, length-drop (ahead c.sizes i) c.log, total, whole size c.sizes i even last, ahead_is) in
-        ap (take size) at ∙ take_all size (drop (ahead c.sizes i) c.log) (omega (arith, left, most)) ∙ sym (take_all (slice_index c.sizes i) (drop (ahead c.sizes i) c.log) (omega (arith, left))))
+    let last : length c.sizes ≡ suc i = omega (arith, low, outer) in
+    let (least, most) = few size c.sizes i even last in
+    let left : length (drop (ahead c.sizes i) c.log) ≡ slice_index c.sizes i = omega (arith, length-drop (ahead c.sizes i) c.log, total, whole size c.sizes i even last, ahead_is) in
+    ap (take size) at ∙ take_all size (drop (ahead c.sizes i) c.log) (omega (arith, left, most)) ∙ sym (take_all (slice_index c.sizes i) (drop (ahead c.sizes i) c.log) (omega (arith, left))))
     (cases_lt (i + 1) (length c.sizes))

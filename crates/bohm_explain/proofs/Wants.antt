@@ -145,8 +145,8 @@ module _ (b : Batch) (right : IsRightPlan (txns_of b) (plan_of b)) (t u : ℕ) (
   to_either x at_x a within sure c =
       ⊎_elim
       (λ read.
-          let (r, has, from, to) = to_arrow (txns_of b) (plan_of b) right (position b t) x at_x Reads u a within read in
-          (r, Contains-append_left (arrows_in Reads (txns_of b) (position b t)) (cond sure [] (arrows_in Writes (txns_of b) (position b t))) r has, from, to))
+      let (r, has, from, to) = to_arrow (txns_of b) (plan_of b) right (position b t) x at_x Reads u a within read in
+      (r, Contains-append_left (arrows_in Reads (txns_of b) (position b t)) (cond sure [] (arrows_in Writes (txns_of b) (position b t))) r has, from, to))
       (λ write. to_unsure x at_x a within sure write)
       (Contains-append_cases (planned_in Reads (plan_of b) (position b t)) (cond sure [] (planned_in Writes (plan_of b) (position b t))) a c)
 
