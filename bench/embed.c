@@ -8,6 +8,9 @@
 #include <string.h>
 #include <time.h>
 
+/* The same in each run, so that times compare. */
+static const uint8_t seed[16];
+
 static double seconds(void) {
     struct timespec now;
     clock_gettime(CLOCK_MONOTONIC, &now);
@@ -32,7 +35,7 @@ int main(int argc, char **argv) {
     long size = atol(argv[2]);
     bohm_machine machine = {0};
     bohm_bytes out = BOHM_NO_BYTES;
-    if (bohm_open(&machine, (uint8_t *)store, store_len, 0, &out)) return 1;
+    if (bohm_open(&machine, seed, (uint8_t *)store, store_len, 0, &out)) return 1;
     char *segment = malloc(len + 7);
     memcpy(segment, "log 1\n", 6);
     double spent = 0;

@@ -91,7 +91,7 @@ static void check_machine(bohm_machine *machine, uint32_t top) {
 static void open_behind(bohm_machine *machine, uint32_t top) {
     text snapshot = snapshot_behind(top);
     bohm_bytes out = BOHM_NO_BYTES;
-    hold(bohm_open(machine, bytes_of(snapshot), snapshot.len, top, &out) == BOHM_DONE, "it doesn't open");
+    hold(bohm_open(machine, seed, bytes_of(snapshot), snapshot.len, top, &out) == BOHM_DONE, "it doesn't open");
     hold(is_none(out) && machine->at, "a machine that is open hands nothing out");
     free(snapshot.at);
 }
@@ -114,7 +114,7 @@ static long answer_refused(long from, long to) {
     text log = log_of(least_count);
     bohm_bytes out = BOHM_NO_BYTES;
     refuse(from, to);
-    uint32_t status = bohm_answer(bytes_of(log), log.len, &out);
+    uint32_t status = bohm_answer(seed, bytes_of(log), log.len, &out);
     long asked_for = relent();
     if (status == BOHM_DONE) take(now, &out, answer_of(least_count));
     else hold(status == BOHM_NO_MEMORY && is_none(out) && asked_for >= from, "another end");
@@ -127,7 +127,7 @@ static long open_refused(long from, long to) {
     bohm_machine machine = {0};
     bohm_bytes out = BOHM_NO_BYTES;
     refuse(from, to);
-    uint32_t status = bohm_open(&machine, bytes_of(snapshot), snapshot.len, 40, &out);
+    uint32_t status = bohm_open(&machine, seed, bytes_of(snapshot), snapshot.len, 40, &out);
     long asked_for = relent();
     hold(is_none(out), "something is handed out");
     if (status) {
@@ -277,7 +277,7 @@ static long prepare_refused(long from, long to) {
     bohm_procedure procedure = {0};
     bohm_bytes out = BOHM_NO_BYTES;
     refuse(from, to);
-    uint32_t status = bohm_prepare(&procedure, (const uint8_t *)COPY_TEXT, strlen(COPY_TEXT), &out);
+    uint32_t status = bohm_prepare(&procedure, seed, (const uint8_t *)COPY_TEXT, strlen(COPY_TEXT), &out);
     long asked_for = relent();
     hold(is_none(out), "something is handed out");
     if (status) hold(status == BOHM_NO_MEMORY && asked_for >= from && !procedure.at, "another end");
@@ -303,11 +303,11 @@ static long push_refused(long from, long to) {
     uint32_t taken = 0, status;
     open_behind(&machine, 0);
     refuse(from, to);
-    status = bohm_open_calls(&calls, 1);
+    status = bohm_open_calls(&calls, seed, 1);
     while (!status && taken < 12 && !(status = push(&calls, &of, taken + 1))) taken++;
     long asked_for = relent();
     hold(!status || (status == BOHM_NO_MEMORY && asked_for >= from), "another end");
-    if (!calls.at) hold(bohm_open_calls(&calls, 1) == BOHM_DONE, "no list of calls");
+    if (!calls.at) hold(bohm_open_calls(&calls, seed, 1) == BOHM_DONE, "no list of calls");
     run_on(&machine, &calls, taken);
     bohm_clear_calls(&calls);
     for (uint32_t k = taken + 1; k <= 16; k++) hold(push(&calls, &of, k) == BOHM_DONE, "a call isn't taken");
@@ -463,7 +463,7 @@ static void check_refusal(const char *procedure, const char *line) {
     bohm_procedure made = {0};
     bohm_bytes out = BOHM_NO_BYTES;
     text right = {0};
-    uint32_t status = bohm_prepare(&made, (const uint8_t *)procedure, strlen(procedure), &out);
+    uint32_t status = bohm_prepare(&made, seed, (const uint8_t *)procedure, strlen(procedure), &out);
     put(&right, line, 0, "");
     hold(status == (*line ? BOHM_REFUSED : BOHM_DONE) && !made.at == !!*line, "another end of a procedure");
     take(now, &out, right);
@@ -484,9 +484,9 @@ static void each_call_status(void) {
     bohm_machine machine = {0};
     bohm_key a = key_of("a"), none = {(const uint8_t *)"a", 0}, large = key_of("A"), two[] = {a, large};
     int64_t one = 1;
-    hold(bohm_open_calls(&calls, 0) == BOHM_UNFIT && !calls.at, "a list of no edition");
-    hold(bohm_open_calls(&calls, 3) == BOHM_UNFIT && !calls.at, "a list of no edition");
-    hold(bohm_open_calls(&calls, 1) == BOHM_DONE && calls.at, "no list of calls");
+    hold(bohm_open_calls(&calls, seed, 0) == BOHM_UNFIT && !calls.at, "a list of no edition");
+    hold(bohm_open_calls(&calls, seed, 3) == BOHM_UNFIT && !calls.at, "a list of no edition");
+    hold(bohm_open_calls(&calls, seed, 1) == BOHM_DONE && calls.at, "no list of calls");
     open_behind(&machine, 4294967290u);
     hold(bohm_push(&calls, &of.count, &none, 1, &one, 1) == BOHM_NO_KEY, "no key");
     hold(bohm_push(&calls, &of.count, &large, 1, &one, 1) == BOHM_NO_KEY, "no key");
@@ -521,7 +521,7 @@ static void arguments(void) {
     int64_t values[] = {3, INT64_MIN, INT64_MAX, 0};
     text right = {0};
     open_behind(&machine, 0);
-    hold(bohm_open_calls(&calls, 1) == BOHM_DONE, "no list of calls");
+    hold(bohm_open_calls(&calls, seed, 1) == BOHM_DONE, "no list of calls");
     hold(bohm_push(&calls, &move, both, 2, &values[0], 1) == BOHM_DONE, "a call isn't taken");
     hold(bohm_push(&calls, &move, same, 2, &values[0], 1) == BOHM_DONE, "a call isn't taken");
     hold(bohm_push(&calls, &move, both, 2, &values[1], 1) == BOHM_DONE, "a call isn't taken");
@@ -598,7 +598,7 @@ static void each_status(void) {
     bohm_machine machine = {0};
     bohm_bytes out = BOHM_NO_BYTES;
     text log = log_of(1);
-    hold(bohm_open(&machine, bytes_of(log), log.len, 0, &out) == BOHM_HAS_LOG && !machine.at && is_none(out), "a log is opened");
+    hold(bohm_open(&machine, seed, bytes_of(log), log.len, 0, &out) == BOHM_HAS_LOG && !machine.at && is_none(out), "a log is opened");
     free(log.at);
     open_behind(&machine, 4294967290u);
     hold(counts_of(&machine).floor == 4294967290u, "another floor");
@@ -614,6 +614,30 @@ static void each_status(void) {
     free(one.at);
     check_machine(&machine, 4294967295u);
     bohm_close(&machine);
+}
+
+/* What is answered doesn't depend on the seed, and a machine goes on from another one's snapshot. */
+static void seeds(void) {
+    now = "seeds";
+    static const uint8_t others[3][16] = {{0}, {255, 255, 255, 255, 255, 255, 255, 255}, "\1\2\3\4\5\6\7\b\t\n"};
+    text log = log_of(9), snapshot = snapshot_behind(40);
+    uint8_t right[32], told[32];
+    bohm_machine machine = {0};
+    open_behind(&machine, 40);
+    go_on(&machine, 9);
+    hold(bohm_digest(&machine, 49, right) == BOHM_DONE, "no digest");
+    bohm_close(&machine);
+    for (size_t i = 0; i < 3; i++) {
+        bohm_bytes out = BOHM_NO_BYTES;
+        hold(bohm_answer(others[i], bytes_of(log), log.len, &out) == BOHM_DONE, "no answer");
+        take(now, &out, answer_of(9));
+        hold(bohm_open(&machine, others[i], bytes_of(snapshot), snapshot.len, 40, &out) == BOHM_DONE, "it doesn't open");
+        go_on(&machine, 9);
+        hold(bohm_digest(&machine, 49, told) == BOHM_DONE && !memcmp(told, right, 32), "another digest");
+        bohm_close(&machine);
+    }
+    free(log.at);
+    free(snapshot.at);
 }
 
 static void without_memory(void) {
@@ -658,7 +682,7 @@ static void misused_machine(bohm_machine *machine) {
     int64_t value = 8;
     const uint8_t *some = (const uint8_t *)"log 1\n";
     memset(digest, 0xa5, sizeof digest);
-    hold(bohm_open_calls(&calls, 1) == BOHM_DONE, "no list of calls");
+    hold(bohm_open_calls(&calls, seed, 1) == BOHM_DONE, "no list of calls");
     hold(bohm_apply(machine, some, 6, &out) == BOHM_MISUSE, "apply");
     hold(bohm_apply_held(machine, some, 6, &out) == BOHM_MISUSE, "apply_held");
     hold(bohm_replies(machine, &out) == BOHM_MISUSE, "replies");
@@ -690,10 +714,10 @@ static void misused_pointers(void) {
     go_on(&machine, 5);
     same = machine;
     text snapshot = snapshot_behind(0), segment = segment_behind(5, 3);
-    hold(bohm_open(&machine, bytes_of(snapshot), snapshot.len, 0, &out) == BOHM_MISUSE, "an open machine is opened");
+    hold(bohm_open(&machine, seed, bytes_of(snapshot), snapshot.len, 0, &out) == BOHM_MISUSE, "an open machine is opened");
     hold(bohm_apply(&machine, NULL, 1, &out) == BOHM_MISUSE, "a null text");
     hold(bohm_apply_held(&machine, NULL, 1, &out) == BOHM_MISUSE, "a null text");
-    hold(bohm_answer(NULL, 1, &out) == BOHM_MISUSE, "a null text");
+    hold(bohm_answer(seed, NULL, 1, &out) == BOHM_MISUSE, "a null text");
     hold(bohm_value_at(&machine, NULL, 1, 0, &present, &value) == BOHM_MISUSE, "a null key");
     hold(bohm_value_at(&machine, (const uint8_t *)"a", 1, 0, NULL, &value) == BOHM_MISUSE, "a null flag");
     hold(bohm_value_at(&machine, (const uint8_t *)"a", 1, 0, &present, NULL) == BOHM_MISUSE, "a null value");
@@ -716,10 +740,10 @@ static void misused_pointers(void) {
     hold(bohm_apply(&machine, NULL, 0, NULL) == BOHM_REFUSED, "no bytes are no segment");
     hold(bohm_apply(&machine, bytes_of(segment), segment.len, NULL) == BOHM_DONE, "replies that nobody wants");
     hold(bohm_store_at(&machine, 8, NULL) == BOHM_DONE, "a snapshot that nobody wants");
-    hold(bohm_answer(NULL, 0, NULL) == BOHM_REFUSED, "no bytes are no log");
+    hold(bohm_answer(seed, NULL, 0, NULL) == BOHM_REFUSED, "no bytes are no log");
     check_machine(&machine, 8);
     bohm_close(&machine);
-    hold(!machine.at && bohm_open(&machine, NULL, 0, 0, NULL) == BOHM_REFUSED && !machine.at, "no bytes are no snapshot");
+    hold(!machine.at && bohm_open(&machine, seed, NULL, 0, 0, NULL) == BOHM_REFUSED && !machine.at, "no bytes are no snapshot");
     free(snapshot.at);
     free(segment.at);
 }
@@ -731,10 +755,10 @@ static void misused_calls(void) {
     bohm_machine machine = {0};
     bohm_key a = key_of("a"), null_key = {NULL, 0}, wrong = {NULL, 1};
     int64_t one = 1;
-    hold(bohm_prepare(procedure_at, (const uint8_t *)COPY_TEXT, strlen(COPY_TEXT), NULL) == BOHM_MISUSE, "an open procedure is opened");
-    hold(bohm_prepare(&none, NULL, 1, NULL) == BOHM_MISUSE && bohm_prepare(NULL, NULL, 0, NULL) == BOHM_MISUSE, "a null text");
-    hold(bohm_open_calls(&calls, 1) == BOHM_DONE, "no list of calls");
-    hold(bohm_open_calls(&calls, 1) == BOHM_MISUSE && bohm_open_calls(NULL, 1) == BOHM_MISUSE, "an open list is opened");
+    hold(bohm_prepare(procedure_at, seed, (const uint8_t *)COPY_TEXT, strlen(COPY_TEXT), NULL) == BOHM_MISUSE, "an open procedure is opened");
+    hold(bohm_prepare(&none, seed, NULL, 1, NULL) == BOHM_MISUSE && bohm_prepare(NULL, seed, NULL, 0, NULL) == BOHM_MISUSE, "a null text");
+    hold(bohm_open_calls(&calls, seed, 1) == BOHM_DONE, "no list of calls");
+    hold(bohm_open_calls(&calls, seed, 1) == BOHM_MISUSE && bohm_open_calls(NULL, seed, 1) == BOHM_MISUSE, "an open list is opened");
     hold(bohm_push(&closed, &of.count, &a, 1, &one, 1) == BOHM_MISUSE, "a closed list");
     hold(bohm_push(NULL, &of.count, &a, 1, &one, 1) == BOHM_MISUSE, "no list");
     hold(bohm_push(&calls, &none, &a, 1, &one, 1) == BOHM_MISUSE, "a closed procedure");
@@ -763,6 +787,20 @@ static void misused_calls(void) {
     bohm_close_procedure(NULL);
 }
 
+/* A null in the place of a seed. */
+static void misused_seeds(void) {
+    const uint8_t *some = (const uint8_t *)"log 1\n", *copy = (const uint8_t *)COPY_TEXT;
+    bohm_machine machine = {0};
+    bohm_procedure procedure = {0};
+    bohm_calls calls = {0};
+    bohm_bytes out = BOHM_NO_BYTES;
+    hold(bohm_answer(NULL, some, 6, &out) == BOHM_MISUSE, "answer");
+    hold(bohm_open(&machine, NULL, some, 6, 0, &out) == BOHM_MISUSE && !machine.at, "open");
+    hold(bohm_prepare(&procedure, NULL, copy, strlen(COPY_TEXT), &out) == BOHM_MISUSE && !procedure.at, "prepare");
+    hold(bohm_open_calls(&calls, NULL, 1) == BOHM_MISUSE && !calls.at, "open_calls");
+    hold(is_none(out), "something is handed out");
+}
+
 static void misuse(void) {
     now = "misuse";
     long before = blocks;
@@ -770,7 +808,8 @@ static void misuse(void) {
     misused_machine(&closed);
     hold(!closed.at, "it is open");
     misused_machine(NULL);
-    hold(bohm_open(NULL, NULL, 0, 0, NULL) == BOHM_MISUSE, "no machine");
+    hold(bohm_open(NULL, seed, NULL, 0, 0, NULL) == BOHM_MISUSE, "no machine");
+    misused_seeds();
     misused_pointers();
     misused_calls();
     bohm_free(NULL);
@@ -786,6 +825,7 @@ int main(void) {
     each_call_status();
     arguments();
     outcomes();
+    seeds();
     without_memory();
     digests();
     each_refused("bohm_answer", answer_refused, 9);

@@ -10,6 +10,9 @@
 #include <stdlib.h>
 #include <string.h>
 
+/* Any bytes: no answer depends on them. */
+static const uint8_t seed[16] = "a made-up seed!";
+
 /* A text that grows. */
 typedef struct {
     char *at;
@@ -62,7 +65,7 @@ typedef struct {
 static inline bohm_procedure prepared(const char *what, const char *procedure) {
     bohm_procedure made = {0};
     bohm_bytes out = BOHM_NO_BYTES;
-    if (bohm_prepare(&made, (const uint8_t *)procedure, strlen(procedure), &out)) fault(what, "a procedure is refused");
+    if (bohm_prepare(&made, seed, (const uint8_t *)procedure, strlen(procedure), &out)) fault(what, "a procedure is refused");
     return made;
 }
 
@@ -90,7 +93,7 @@ static inline uint32_t push(bohm_calls *calls, procedures *of, uint32_t k) {
 /* The calls that are the segment of `count` transactions behind `top`. */
 static inline bohm_calls calls_behind(const char *what, procedures *of, uint32_t top, uint32_t count) {
     bohm_calls calls = {0};
-    if (bohm_open_calls(&calls, 1)) fault(what, "no list of calls");
+    if (bohm_open_calls(&calls, seed, 1)) fault(what, "no list of calls");
     for (uint32_t i = 1; i <= count; i++)
         if (push(&calls, of, top + i)) fault(what, "a call isn't taken");
     return calls;

@@ -11,7 +11,7 @@ static pthread_barrier_t both;
 static void open_new(bohm_machine *machine) {
     text snapshot = snapshot_behind(0);
     bohm_bytes out = BOHM_NO_BYTES;
-    if (bohm_open(machine, bytes_of(snapshot), snapshot.len, 0, &out)) fault("threads", "open");
+    if (bohm_open(machine, seed, bytes_of(snapshot), snapshot.len, 0, &out)) fault("threads", "open");
     free(snapshot.at);
 }
 

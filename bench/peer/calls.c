@@ -18,6 +18,9 @@ static const char *transfer_text = "procedure 1\n"
                                    "set to = to + $amount\n"
                                    "end\n";
 
+/* The same in each run, so that times compare. */
+static const uint8_t seed[16];
+
 static bohm_machine machine;
 static bohm_procedure by;
 static bohm_calls calls;
@@ -34,8 +37,8 @@ static void put_line(const char *line) {
 }
 
 void peer_open(void) {
-    done(bohm_prepare(&by, (const uint8_t *)transfer_text, strlen(transfer_text), NULL));
-    done(bohm_open_calls(&calls, 1));
+    done(bohm_prepare(&by, seed, (const uint8_t *)transfer_text, strlen(transfer_text), NULL));
+    done(bohm_open_calls(&calls, seed, 1));
     put_line("log 1\n");
 }
 
@@ -46,7 +49,7 @@ void peer_put(const char *key, long long balance) {
 }
 
 void peer_filled(void) {
-    done(bohm_open(&machine, (const uint8_t *)store, len, 0, NULL));
+    done(bohm_open(&machine, seed, (const uint8_t *)store, len, 0, NULL));
     free(store);
 }
 

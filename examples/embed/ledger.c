@@ -6,6 +6,7 @@
 #include <stdio.h>
 #include <stdlib.h>
 #include <string.h>
+#include <unistd.h>
 
 typedef struct {
     char *text;
@@ -44,7 +45,9 @@ static size_t segment_end(text log, size_t from, long size) {
 
 static void open_at(bohm_machine *machine, const uint8_t *snapshot, size_t len, uint32_t top) {
     bohm_bytes line = BOHM_NO_BYTES;
-    uint32_t status = bohm_open(machine, snapshot, len, top, &line);
+    uint8_t seed[16];
+    if (getentropy(seed, sizeof seed)) fail("getentropy", 0);
+    uint32_t status = bohm_open(machine, seed, snapshot, len, top, &line);
     if (status) fail("open", status);
 }
 

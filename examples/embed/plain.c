@@ -8,6 +8,7 @@ typedef __UINT64_TYPE__ uint64_t;
 typedef __INT64_TYPE__ int64_t;
 ssize_t read(int file, void *at, size_t len);
 ssize_t write(int file, const void *at, size_t len);
+int getentropy(void *at, size_t len);
 
 #define BOHM_TYPES_ARE_DECLARED
 #include "../../crates/bohm_c/include/bohm.h"
@@ -47,7 +48,8 @@ int main(int argc, char **argv) {
     while (at < len && !is_at(at, len, "txn\n")) while (at < len && text[at++] != '\n');
     bohm_machine machine = {0};
     bohm_bytes out = BOHM_NO_BYTES;
-    if (!size || bohm_open(&machine, text, at, 0, &out)) return 1;
+    uint8_t seed[16];
+    if (!size || getentropy(seed, sizeof seed) || bohm_open(&machine, seed, text, at, 0, &out)) return 1;
     while (at < len) {
         size_t filled = 0;
         while (filled < 6) segment[filled] = text[filled], filled++;

@@ -5,6 +5,7 @@
 #include <stdio.h>
 #include <stdlib.h>
 #include <string.h>
+#include <unistd.h>
 
 static const char *accounts = "log 1\nalice 100\nbob 20\ncarol 0\n";
 
@@ -32,10 +33,10 @@ static void need_done(const char *what, uint32_t status) {
     exit(1);
 }
 
-static bohm_procedure prepare(const char *text) {
+static bohm_procedure prepare(const uint8_t *seed, const char *text) {
     bohm_procedure procedure = {0};
     bohm_bytes line = BOHM_NO_BYTES;
-    need_done("prepare", bohm_prepare(&procedure, (const uint8_t *)text, strlen(text), &line));
+    need_done("prepare", bohm_prepare(&procedure, seed, (const uint8_t *)text, strlen(text), &line));
     return procedure;
 }
 
@@ -48,10 +49,12 @@ int main(void) {
     bohm_machine machine = {0};
     bohm_calls calls = {0};
     bohm_bytes out = BOHM_NO_BYTES;
-    need_done("open", bohm_open(&machine, (const uint8_t *)accounts, strlen(accounts), 0, &out));
-    bohm_procedure by = prepare(transfer_text), audit = prepare(audit_text);
+    uint8_t seed[16];
+    if (getentropy(seed, sizeof seed)) return 1;
+    need_done("open", bohm_open(&machine, seed, (const uint8_t *)accounts, strlen(accounts), 0, &out));
+    bohm_procedure by = prepare(seed, transfer_text), audit = prepare(seed, audit_text);
 
-    need_done("open_calls", bohm_open_calls(&calls, 1));
+    need_done("open_calls", bohm_open_calls(&calls, seed, 1));
     transfer(&calls, &by, "alice", "bob", 30);
     transfer(&calls, &by, "bob", "carol", 80);
     transfer(&calls, &by, "alice", "carol", 70);

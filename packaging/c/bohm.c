@@ -15,8 +15,8 @@ typedef __INT64_TYPE__ int64_t;
 
 void free(void *at);
 
-uint32_t proved_bohm_answer(const uint8_t *text, size_t len, bohm_bytes *out);
-uint32_t proved_bohm_open(bohm_machine *machine, const uint8_t *text, size_t len, uint32_t top, bohm_bytes *out);
+uint32_t proved_bohm_answer(const uint8_t *seed, const uint8_t *text, size_t len, bohm_bytes *out);
+uint32_t proved_bohm_open(bohm_machine *machine, const uint8_t *seed, const uint8_t *text, size_t len, uint32_t top, bohm_bytes *out);
 uint32_t proved_bohm_apply(bohm_machine *machine, const uint8_t *text, size_t len, bohm_bytes *out);
 uint32_t proved_bohm_replies(bohm_machine *machine, bohm_bytes *out);
 uint32_t proved_bohm_apply_held(bohm_machine *machine, const uint8_t *text, size_t len, bohm_bytes *out);
@@ -27,8 +27,8 @@ uint32_t proved_bohm_digest(bohm_machine *machine, uint32_t ts, uint8_t *digest)
 uint32_t proved_bohm_trim(bohm_machine *machine, uint32_t floor);
 uint32_t proved_bohm_timestamps(bohm_machine *machine, uint32_t *floor, uint32_t *top);
 uint32_t proved_bohm_counts(bohm_machine *machine, bohm_machine_counts *counts);
-uint32_t proved_bohm_prepare(bohm_procedure *procedure, const uint8_t *text, size_t len, bohm_bytes *out);
-uint32_t proved_bohm_open_calls(bohm_calls *calls, uint32_t edition);
+uint32_t proved_bohm_prepare(bohm_procedure *procedure, const uint8_t *seed, const uint8_t *text, size_t len, bohm_bytes *out);
+uint32_t proved_bohm_open_calls(bohm_calls *calls, const uint8_t *seed, uint32_t edition);
 uint32_t proved_bohm_push(bohm_calls *calls, bohm_procedure *procedure, const bohm_key *keys, size_t key_count, const int64_t *values, size_t value_count);
 uint32_t proved_bohm_run_calls(bohm_machine *machine, bohm_calls *calls, bohm_bytes *out);
 uint32_t proved_bohm_run_calls_held(bohm_machine *machine, bohm_calls *calls);
@@ -71,17 +71,18 @@ const char *bohm_status_text(uint32_t status) {
 
 void bohm_free(void *at) { free(at); }
 
-uint32_t bohm_answer(const uint8_t *text, size_t len, bohm_bytes *out) {
-    if (!is_array(text, len)) return BOHM_MISUSE;
+uint32_t bohm_answer(const uint8_t seed[16], const uint8_t *text, size_t len, bohm_bytes *out) {
+    if (!seed || !is_array(text, len)) return BOHM_MISUSE;
     bohm_bytes told = {NOWHERE, 0};
-    uint32_t status = proved_bohm_answer(array_of(text), len, &told);
+    uint32_t status = proved_bohm_answer(seed, array_of(text), len, &told);
     return hand_out(out, told, status);
 }
 
-uint32_t bohm_open(bohm_machine *machine, const uint8_t *text, size_t len, uint32_t top, bohm_bytes *out) {
-    if (!machine || !is_array(text, len)) return BOHM_MISUSE;
+uint32_t bohm_open(bohm_machine *machine, const uint8_t seed[16], const uint8_t *text, size_t len, uint32_t top,
+                   bohm_bytes *out) {
+    if (!machine || !seed || !is_array(text, len)) return BOHM_MISUSE;
     bohm_bytes told = {NOWHERE, 0};
-    uint32_t status = proved_bohm_open(machine, array_of(text), len, top, &told);
+    uint32_t status = proved_bohm_open(machine, seed, array_of(text), len, top, &told);
     return status ? hand_out(out, told, status) : status;
 }
 
@@ -171,10 +172,11 @@ void bohm_close(bohm_machine *machine) {
     if (machine) proved_bohm_close(machine);
 }
 
-uint32_t bohm_prepare(bohm_procedure *procedure, const uint8_t *text, size_t len, bohm_bytes *out) {
-    if (!procedure || !is_array(text, len)) return BOHM_MISUSE;
+uint32_t bohm_prepare(bohm_procedure *procedure, const uint8_t seed[16], const uint8_t *text, size_t len,
+                      bohm_bytes *out) {
+    if (!procedure || !seed || !is_array(text, len)) return BOHM_MISUSE;
     bohm_bytes told = {NOWHERE, 0};
-    uint32_t status = proved_bohm_prepare(procedure, array_of(text), len, &told);
+    uint32_t status = proved_bohm_prepare(procedure, seed, array_of(text), len, &told);
     return status ? hand_out(out, told, status) : status;
 }
 
@@ -182,8 +184,8 @@ void bohm_close_procedure(bohm_procedure *procedure) {
     if (procedure) proved_bohm_close(procedure);
 }
 
-uint32_t bohm_open_calls(bohm_calls *calls, uint32_t edition) {
-    return calls ? proved_bohm_open_calls(calls, edition) : BOHM_MISUSE;
+uint32_t bohm_open_calls(bohm_calls *calls, const uint8_t seed[16], uint32_t edition) {
+    return calls && seed ? proved_bohm_open_calls(calls, seed, edition) : BOHM_MISUSE;
 }
 
 /* BOHM_DONE where each key has bytes; a null one of no bytes is no key. */

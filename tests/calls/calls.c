@@ -15,6 +15,9 @@ static void need(int is_so, const char *what) {
     exit(1);
 }
 
+/* Any bytes: no answer depends on them. */
+static const uint8_t seed[16] = "a made-up seed!";
+
 static char store[ROOM], text[ROOM], line[ROOM];
 static bohm_machine machine;
 static bohm_calls calls;
@@ -22,8 +25,8 @@ static bohm_procedure procedures[MOST];
 static size_t prepared;
 
 static void prepare(void) {
-    if (!machine.at) need(bohm_open(&machine, (uint8_t *)store, strlen(store), 0, NULL) == BOHM_DONE, "open");
-    need(prepared < MOST && bohm_prepare(&procedures[prepared++], (uint8_t *)text, strlen(text), NULL) == BOHM_DONE, "prepare");
+    if (!machine.at) need(bohm_open(&machine, seed, (uint8_t *)store, strlen(store), 0, NULL) == BOHM_DONE, "open");
+    need(prepared < MOST && bohm_prepare(&procedures[prepared++], seed, (uint8_t *)text, strlen(text), NULL) == BOHM_DONE, "prepare");
     text[0] = 0;
 }
 
@@ -87,7 +90,7 @@ static void end(void) {
     need(bohm_counts(&machine, &counts) == BOHM_DONE, "counts");
     need(bohm_store_at(&machine, counts.top, &out) == BOHM_DONE, "store_at");
     printf("--\n%.*s", (int)out.len - 6, (char *)out.at + 6);
-    need(bohm_open(&again, out.at, out.len, counts.top, NULL) == BOHM_DONE, "open again");
+    need(bohm_open(&again, seed, out.at, out.len, counts.top, NULL) == BOHM_DONE, "open again");
     need(bohm_digest(&machine, counts.top, digest) == BOHM_DONE && bohm_digest(&again, counts.top, same) == BOHM_DONE, "digest");
     need(!memcmp(digest, same, 32), "another digest");
     bohm_free_bytes(&out);
@@ -106,7 +109,7 @@ int main(void) {
         } else {
             line[strcspn(line, "\n")] = 0;
             const char *word = strtok(line, " ");
-            if (!strcmp(word, "edition")) need(bohm_open_calls(&calls, (uint32_t)count()) == BOHM_DONE, "open_calls");
+            if (!strcmp(word, "edition")) need(bohm_open_calls(&calls, seed, (uint32_t)count()) == BOHM_DONE, "open_calls");
             else if (!strcmp(word, "prepare")) prepare();
             else if (!strcmp(word, "push")) push();
             else if (!strcmp(word, "run")) run();

@@ -20,7 +20,7 @@ use bohm_log::{LogPart, TxnView};
 use bohm_place::{Access, DeclaredSet, Plan, Source};
 use bohm_tree::{Cell, Items, Key};
 
-// The cell of a key among entries of distinct keys, or absence.
+// The cell of a key among entries with distinct keys; `Absent` if it has no entry.
 fn cell_of(entries: &[(Key, Cell)], key: &Key) -> Cell
     requires { IsDistinct bytes_eq (keys_of entries.now) }
     ensures { result ≡ newest entries.now key.now Absent }
@@ -33,7 +33,7 @@ fn cell_of(entries: &[(Key, Cell)], key: &Key) -> Cell
     Cell::Absent
 }
 
-/// Transactions of a log that run as one, their plan, and what each key that they declare holds
+/// Transactions of a log that run together, their plan, and what each key that they declare holds
 /// before them.
 #[derive(Drop)]
 pub struct Batch<'a> {
@@ -51,10 +51,10 @@ impl<'a> Batch<'a> {
     ghost use Rattle.bohm_board.specs.Batches.{position, rights_of, width_at, is_sure_at, IsIn};
     ghost use Rattle.std.specs.Option.{option_map};
 
-    /// A batch whose first transaction has the timestamp `first`. The base has an entry for each
-    /// key that a transaction declares and for no other, and its keys rise. The time grows with the
-    /// number of accesses, each by the logarithm of the base's length: the plan's accesses whose
-    /// source is `Before` have the place of their key in the base from now on.
+    /// A batch whose first transaction has the timestamp `first`. The base has exactly one entry
+    /// for each key that a transaction declares, sorted by key. Each access of the plan whose
+    /// source is `Before` gets the index of its key in the base: the time grows with the number of
+    /// accesses times the logarithm of the base's length.
     pub fn new(first: u32, txns: LogPart<'a>, plan: Plan, base: Vec<(Key, Cell)>) -> Batch<'a>
         requires batched { IsBatched txns plan }
         requires first { plan.first ≡ first }
@@ -147,8 +147,7 @@ impl<'a> Batch<'a> {
         width(&self.txn(t))
     }
 
-    /// Where a declared read, counted from 0, of the transaction with a timestamp finds its
-    /// version.
+    /// The source of a declared read, counted from 0, of the transaction with a timestamp.
     pub fn read(&self, t: u32, index: u32) -> Source
         requires txn { IsIn self.now t }
         requires index { index < length (reads_at self.now t) }
@@ -157,8 +156,8 @@ impl<'a> Batch<'a> {
         self.plan.read(t, index)
     }
 
-    /// Where the key of a declared write, counted from 0, of the transaction with a timestamp has
-    /// its version before it.
+    /// The source of a declared write, counted from 0, of the transaction with a timestamp: the
+    /// version of its key before the transaction.
     pub fn write(&self, t: u32, index: u32) -> Source
         requires txn { IsIn self.now t }
         requires index { index < length (writes_at self.now t) }
@@ -177,9 +176,9 @@ impl<'a> Batch<'a> {
         self.plan.access(set, t, index)
     }
 
-    /// What the key of this index, counted from 0, in a declared set of the transaction with a
-    /// timestamp holds before the batch, where that is the version that its access takes. Its time
-    /// is constant.
+    /// The cell before the batch of the key of this index, counted from 0, in a declared set of the
+    /// transaction with a timestamp. The access takes the version before the batch. Its time is
+    /// constant.
     pub fn cell_before(&self, set: DeclaredSet, t: u32, index: u32) -> Cell
         requires txn { IsIn self.now t }
         requires index { index < length (accesses_in set self.now t) }
@@ -191,8 +190,8 @@ impl<'a> Batch<'a> {
         self.base.as_slice()[access.index as usize].1
     }
 
-    /// What a key holds before the batch: absence where no transaction of the batch declares it.
-    /// It goes over the base from its start: the time grows with the number of declared keys.
+    /// What a key holds before the batch; `Absent` if no transaction of the batch declares it. The
+    /// time grows with the number of declared keys.
     pub fn before(&self, key: &Key) -> Cell
         ensures { result ≡ base_of self.now key.now }
     {

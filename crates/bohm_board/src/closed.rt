@@ -26,7 +26,7 @@ pub struct Closed<'a> {
     ghost sound: { AreSound batch (words_of columns) },
 }
 
-/// Copies words from a place on into all of a vector.
+/// Fills a vector with the words from an index on.
 pub(crate) fn copy_words(words: &atomic_table::Closed<(), Global>, from: usize, into: &mut Vec<u64>)
     requires full { IsFull words.now.words }
     requires inside { from + vec_len into.old ≤ slots_len words.now.words }

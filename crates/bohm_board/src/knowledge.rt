@@ -20,10 +20,10 @@ pub struct Rights {
     pub slots: LinkedList<RightSlot>,
 }
 
-/// What a pass knows. Positions are timestamps; they and slots stand in the order in which they
-/// were learnt.
+/// What a pass knows. Positions are timestamps; positions and slots are listed in the order in
+/// which they were learnt.
 pub struct View {
-    /// What is right in the batch that the pass belongs to.
+    /// What is right in the pass's batch.
     pub right: Rights,
     /// Positions that it saw Done.
     pub done: LinkedList<u32>,

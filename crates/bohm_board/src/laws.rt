@@ -37,8 +37,8 @@ pub fn ruled_is_lawful()
         → Shows b t rule.state × IsLawful b rule.state }
 {}
 
-/// Each step on a word is the event of its name. Of a status word a load is a `Status`, an exchange
-/// of 0 for 1 a `Claim`, and the store of an outcome a `Finish`; of a slot's words loads are a
+/// Each step on a word is the event of its name. On a status word a load is a `Status`, an exchange
+/// of 0 for 1 a `Claim`, and the store of an outcome a `Finish`; on a slot's words loads are a
 /// `LookPresence` and a `LookValue`, and stores a `FillValue` and a `FillPresence`.
 pub fn steps_are_events()
     ensures status { (b : Batch) (t : Table (Unit {0}) View) (s : State) (p : ℕ) (v : View)

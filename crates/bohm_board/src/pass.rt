@@ -7,7 +7,7 @@ use crate::knowledge::View;
 use atomic_table::Seat;
 
 /// The token with which a thread steps on a board. Its ghost view is what it has observed. If a
-/// pass is dropped, the position that it held stays Busy for good.
+/// pass is dropped, the position that it held stays Busy forever.
 #[derive(Drop)]
 pub struct Pass {
     pub(crate) seat: Seat<(), View>,

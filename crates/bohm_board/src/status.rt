@@ -1,6 +1,6 @@
 //! The status of a position.
 
-/// How far a position is.
+/// The progress of a position.
 #[derive(Clone, Copy, Debug, PartialEq, Eq)]
 pub enum Status {
     /// No pass has claimed it.

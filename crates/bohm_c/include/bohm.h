@@ -8,6 +8,9 @@
  *   closed handle where an open one is wanted, or an open one where a closed one is, is answered by BOHM_MISUSE, and
  *   nothing is touched. What can't be seen is the caller's to see to: lengths are right, pointers lead to what they
  *   are said to, none points into what another one points to, and a handle isn't copied.
+ * - Keys are hashed from a `seed` of 16 bytes, of which what is opened keeps a copy. Where strangers choose keys, draw
+ *   it from a source of randomness, as getentropy, and tell it nobody: whoever knows it can choose n keys that take
+ *   n * n steps. Else any bytes do. No answer, snapshot or digest depends on it: each replica draws its own.
  * - It takes the memory that it needs from the C library's heap, and keeps none of the caller's.
  * - It starts no thread, doesn't block, and reads and writes no file. Any thread may call, but no signal
  *   handler, and no forked child of a process with threads.
@@ -67,7 +70,7 @@ static inline void bohm_free_bytes(bohm_bytes *bytes) {
 }
 
 /* Runs the log text[0..len] and hands out its answer: BOHM_DONE, BOHM_REFUSED or BOHM_NO_MEMORY. */
-uint32_t bohm_answer(const uint8_t *text, size_t len, bohm_bytes *out);
+uint32_t bohm_answer(const uint8_t seed[16], const uint8_t *text, size_t len, bohm_bytes *out);
 
 /* A store with its past from a floor up to a top, which are timestamps. {0} is closed. An open one isn't
  * copied, overwritten or let go: bohm_close frees it. */
@@ -78,12 +81,13 @@ typedef struct {
 /* Opens a closed machine on a snapshot: `log 1` or `log 2`, a line for each key of the store, rising, and no
  * transaction. `top` is the timestamp of the last transaction behind which the store stands, 0 for a new one.
  * BOHM_DONE, BOHM_REFUSED, BOHM_NO_MEMORY or BOHM_HAS_LOG; but for the first it stays closed. */
-uint32_t bohm_open(bohm_machine *machine, const uint8_t *text, size_t len, uint32_t top, bohm_bytes *out);
+uint32_t bohm_open(bohm_machine *machine, const uint8_t seed[16], const uint8_t *text, size_t len, uint32_t top,
+                   bohm_bytes *out);
 
 /* Runs a segment on an open machine: `log 1` or `log 2` and transactions, without a store. Hands out a line
- * for each reply, the first of which is numbered top + 1. All ran at BOHM_DONE. At BOHM_STOPPED and BOHM_KEPT
- * as many ran as the top has risen by: whole batches of 4096, and the rest can be applied again. Or
- * BOHM_REFUSED, BOHM_NO_MEMORY, BOHM_HAS_STORE, BOHM_TIMESTAMPS, BOHM_WAITING. */
+ * for each reply, the first of which is numbered top + 1. All ran at BOHM_DONE, not all at BOHM_STOPPED, one at
+ * least at BOHM_KEPT: as many as the top has risen by, in whole batches of 4096; the rest can be applied again.
+ * Or BOHM_REFUSED, BOHM_NO_MEMORY, BOHM_HAS_STORE, BOHM_TIMESTAMPS, BOHM_WAITING. */
 uint32_t bohm_apply(bohm_machine *machine, const uint8_t *text, size_t len, bohm_bytes *out);
 
 /* Hands out the replies that wait after BOHM_KEPT, as bohm_apply would have: BOHM_DONE or BOHM_NO_MEMORY. */
@@ -177,7 +181,8 @@ typedef struct {
 
 /* Opens a closed handle of the procedure of a text: BOHM_DONE, BOHM_REFUSED or BOHM_NO_MEMORY; but for the first
  * it stays closed. In a refusal the statements of the values' `let`s count. */
-uint32_t bohm_prepare(bohm_procedure *procedure, const uint8_t *text, size_t len, bohm_bytes *out);
+uint32_t bohm_prepare(bohm_procedure *procedure, const uint8_t seed[16], const uint8_t *text, size_t len,
+                      bohm_bytes *out);
 
 /* Frees a procedure, and leaves it closed. Calls of it stay. Of a closed one there is nothing to do. */
 void bohm_close_procedure(bohm_procedure *procedure);
@@ -190,7 +195,7 @@ typedef struct {
 
 /* Opens a closed list of no calls, for procedures of edition 1 or 2: BOHM_DONE, BOHM_UNFIT for another number, or
  * BOHM_NO_MEMORY; but for the first it stays closed. */
-uint32_t bohm_open_calls(bohm_calls *calls, uint32_t edition);
+uint32_t bohm_open_calls(bohm_calls *calls, const uint8_t seed[16], uint32_t edition);
 
 /* An argument: the bytes of a key. */
 typedef struct {
@@ -212,7 +217,7 @@ uint32_t bohm_run_calls(bohm_machine *machine, const bohm_calls *calls, bohm_byt
  * BOHM_STOPPED, BOHM_TIMESTAMPS or BOHM_WAITING. */
 uint32_t bohm_run_calls_held(bohm_machine *machine, const bohm_calls *calls);
 
-/* Takes all calls out of an open list: BOHM_DONE. */
+/* Takes all calls out of an open list, which keeps their room for others: BOHM_DONE. */
 uint32_t bohm_clear_calls(bohm_calls *calls);
 
 /* Frees a list of calls, and leaves it closed. Of a closed one there is nothing to do. */

@@ -12,16 +12,17 @@ use Rattle.bohm_run.specs.Runs.{IsApplied}
 use Rattle.bohm_run.proofs.ForCallers.{store_then}
 
 -- what a history that opened at a store holds at its top, behind all of a log
-top_after : (s : Store) (was now : Timeline) (log : List Txn) (keep : ℕ) (a : List Reply) → was.top ≡ 0 → past was 0 ≡ cell_in s → now.floor ≤ now.top → IsApplied was now log keep a → past now now.top ≡ state (cell_in s) log (length log)
+top_after : (s : Store) (was now : Timeline) (log : List Txn) (keep : ℕ) (a : List Reply) → was.top ≡ 0 → past was 0 ≡ cell_in s
+    → now.floor ≤ now.top → IsApplied was now log keep a → past now now.top ≡ state (cell_in s) log (length log)
 top_after s was now log keep a top opened ordered h =
     let from : past was was.top ≡ cell_in s = ap (past was) top ∙ opened in
     let all : now.top - was.top ≡ length log = omega (arith, h.top) in
     h.later now.top ordered (omega (arith, h.top)) (omega arith) ∙ ap (λ (l : Look). state l log (now.top - was.top)) from ∙ ap (state (cell_in s) log) all
 
 -- the entries of the store there are those of the log's
-pub left_store : (s : Store) (was now : Timeline) (log : List Txn) (keep : ℕ) (a : List Reply) (entered : List (List ℕ × ℤ)) → was.top ≡ 0 → past was 0 ≡ cell_in s → now.floor ≤ now.top → IsApplied was now (take (length a) log) keep a → length a ≡ length log
-    → cell_in (store_of entered) ≡ past now now.top → entered ≡ entries (store_of entered) → entered ≡ entries (store_after s log)
-left_store s was now log keep a entered top opened ordered h all there own =
-    let whole : take (length a) log ≡ log = ap (λ n. take n log) all ∙ take-length log in
-    let g : IsApplied was now log keep a = rw whole at h in
-    store_then s log (length log) entered (omega arith) (there ∙ top_after s was now log keep a top opened ordered g) own ∙ ap (λ (ts : List Txn). entries (store_after s ts)) (take-length log)
+pub left_store : (s : Store) (was now : Timeline) (log : List Txn) (keep : ℕ) (a : List Reply) (entered : List (List ℕ × ℤ)) → was.top ≡ 0
+    → past was 0 ≡ cell_in s → now.floor ≤ now.top → IsApplied was now log keep a → cell_in (store_of entered) ≡ past now now.top
+    → entered ≡ entries (store_of entered) → entered ≡ entries (store_after s log)
+left_store s was now log keep a entered top opened ordered h there own =
+    store_then s log (length log) entered (omega arith) (there ∙ top_after s was now log keep a top opened ordered h) own
+    ∙ ap (λ (ts : List Txn). entries (store_after s ts)) (take-length log)

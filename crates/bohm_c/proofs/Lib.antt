@@ -4,3 +4,4 @@ mod LeftStore
 mod Refusing
 mod Snapshots
 mod Opening
+mod Ran

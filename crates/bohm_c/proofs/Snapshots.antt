@@ -15,7 +15,8 @@ use Rattle.bohm_txn.specs.Meaning.{Look}
 use Rattle.bohm_txn.specs.Serial.{state}
 use Rattle.bohm_txn.specs.Stores.{cell_in, store_of}
 use Rattle.bohm_txn.specs.declared.fault.CheckKind.TheVariants.{Order, Unread, Unwritten, Local, Limit}
-use Rattle.bohm_machine.specs.Machines.{Ledger, now_of, top_of}
+use Rattle.bohm_store.specs.Versions.{Timeline}
+use Rattle.bohm_machine.specs.Machines.{now_of, top_of}
 use Rattle.bohm_c.specs.Keeping.{IsOpening, IsSnapshot}
 use Rattle.bohm_c.specs.Reading.{snapshot_of}
 use Rattle.bohm_c.specs.declared.keeper.Keeper.{Keeper}
@@ -55,7 +56,7 @@ snapshot_formed store listed (suc t) s kind faulty = cc
 -- ---- a machine that is opened on a snapshot of the top
 
 pub opened_holds : (one_text : (d e : Document) → IsDocument d → IsDocument e → print_doc d ≡ print_doc e → d ≡ e)
-    → (m : Ledger) (text : List ℕ) (keeper : Keeper) (snapshot : IsSnapshot m (top_of m) text) → IsDocument (snapshot_of snapshot.store) → IsOpening text (top_of m) keeper → now_of keeper.machine ≡ now_of m
+    → (m : Timeline) (text : List ℕ) (keeper : Keeper) (snapshot : IsSnapshot m (top_of m) text) → IsDocument (snapshot_of snapshot.store) → IsOpening text (top_of m) keeper → now_of keeper.machine ≡ now_of m
 opened_holds one_text m text keeper snapshot sound opening =
     let same : opening.document ≡ snapshot_of snapshot.store = one_text opening.document (snapshot_of snapshot.store) opening.read.sound sound (opening.read.printed ∙ snapshot.printed) in
     let look : Look = cell_in (store_of opening.document.store) in

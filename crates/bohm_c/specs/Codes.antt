@@ -9,7 +9,6 @@ use Rattle.bohm_txn.specs.declared.outcome.Reply.{Reply}
 use Rattle.bohm_txn.specs.declared.outcome.Reply.TheVariants.{Commit, Abort}
 use Rattle.bohm_store.specs.declared.version.Version.{Version}
 use Rattle.bohm_store.specs.Versions.{Timeline}
-use Rattle.bohm_machine.specs.Machines.{Ledger}
 use Rattle.bohm_c.specs.declared.keeper.Keeper.{Keeper}
 
 -- ---- versions
@@ -34,9 +33,6 @@ version_code = code_by (ℕ × Cell) (coded× coded_ℕ cell_code) (λ v. (v.beg
 
 abbrev timeline_code : Coded Timeline
 timeline_code = code_by (ℕ × (ℕ × List (List ℕ × List Version))) (coded× coded_ℕ (coded× coded_ℕ (coded_list (coded× (coded_list coded_ℕ) (coded_list version_code))))) (λ t. (t.floor, (t.top, t.chains))) (λ p. record { floor = p.0; top = p.1.0; chains = p.1.1 }) (λ _. refl)
-
-abbrev ledger_code : Coded Ledger
-ledger_code = code_by (ℕ × Timeline) (coded× coded_ℕ timeline_code) (λ m. (m.base, m.history)) (λ p. record { base = p.0; history = p.1 }) (λ _. refl)
 
 -- ---- replies
 
@@ -79,4 +75,4 @@ reply_code = code_by (Result (List ℤ) (Reason × ℕ)) (coded_result (coded_li
 -- ---- what a handle keeps
 
 abbrev pub keeper_code : Coded Keeper
-keeper_code = code_by (Ledger × (List Reply × ℕ)) (coded× ledger_code (coded× (coded_list reply_code) coded_ℕ)) (λ k. (k.machine, (k.waiting, k.behind))) (λ p. record { machine = p.0; waiting = p.1.0; behind = p.1.1 }) (λ _. refl)
+keeper_code = code_by (Timeline × (List Reply × ℕ)) (coded× timeline_code (coded× (coded_list reply_code) coded_ℕ)) (λ k. (k.machine, (k.waiting, k.behind))) (λ p. record { machine = p.0; waiting = p.1.0; behind = p.1.1 }) (λ _. refl)

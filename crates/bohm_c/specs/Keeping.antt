@@ -9,8 +9,8 @@ use Rattle.bohm_txn.specs.Faulty.{WellFormed}
 use Rattle.bohm_txn.specs.Stores.{cell_in, store_of}
 use Rattle.bohm_text.specs.Print.{print_doc, print_numbered}
 use Rattle.bohm_run.specs.Headline.{answer_of}
-use Rattle.bohm_store.specs.Versions.{total}
-use Rattle.bohm_machine.specs.Machines.{GoesOn, HasRun, Ledger, floor_of, past_of, top_of}
+use Rattle.bohm_store.specs.Versions.{Timeline, total}
+use Rattle.bohm_machine.specs.Machines.{GoesOn, HasRun, floor_of, past_of, top_of}
 use Rattle.bohm_machine.specs.Segments.{AreWholeBatches, IsTaken, RunsOn, IsRefused as IsUntakenBy}
 use Rattle.bohm_machine.specs.declared.fault.SegmentFault.{SegmentFault}
 use Rattle.bohm_run.specs.declared.fault.RunFault.TheVariants.{NoMemory}
@@ -55,10 +55,11 @@ pub record IsRunWhole (was now : Keeper) (segment : Document) (answer : List ℕ
   pub says : answer ≡ print_numbered (top_of was.machine + 1) answered
   pub handed : now.waiting ≡ []
 
--- some of it was, and the text of the replies is handed out
+-- some of it was and not all, and the text of the replies is handed out
 pub record IsRunPartly (was now : Keeper) (segment : Document) (answer : List ℕ) : Type 0 where
   pub answered : List Reply
   pub run : IsRun was now segment answered
+  pub part : length answered < length segment.log
   pub says : answer ≡ print_numbered (top_of was.machine + 1) answered
   pub handed : now.waiting ≡ []
 
@@ -66,6 +67,11 @@ pub record IsRunPartly (was now : Keeper) (segment : Document) (answer : List �
 pub record IsRunUntold (was now : Keeper) (segment : Document) : Type 0 where
   pub run : IsRun was now segment now.waiting
   pub behind : now.behind ≡ top_of was.machine
+
+-- the same, of one transaction at least
+pub record IsRunKept (was now : Keeper) (segment : Document) : Type 0 where
+  pub run : IsRunUntold was now segment
+  pub some : 0 < length now.waiting
 
 -- these of the segment that a text is
 pub record IsDone (was now : Keeper) (text answer : List ℕ) : Type 0 where
@@ -81,7 +87,7 @@ pub record IsStopped (was now : Keeper) (text answer : List ℕ) : Type 0 where
 pub record IsKept (was now : Keeper) (text : List ℕ) : Type 0 where
   pub document : Document
   pub read : IsRead text document
-  pub run : IsRunUntold was now document
+  pub run : IsRunKept was now document
 
 -- all of it was run, and the replies wait
 pub record IsHeld (was now : Keeper) (text : List ℕ) : Type 0 where
@@ -90,8 +96,15 @@ pub record IsHeld (was now : Keeper) (text : List ℕ) : Type 0 where
   pub run : IsRunUntold was now document
   pub whole : length now.waiting ≡ length document.log
 
+-- some of it was and not all, and the replies wait
+pub record IsHeldPartly (was now : Keeper) (text : List ℕ) : Type 0 where
+  pub document : Document
+  pub read : IsRead text document
+  pub run : IsRunUntold was now document
+  pub part : length now.waiting < length document.log
+
 -- the text is a segment that the machine refuses, and why
-pub record IsUntaken (m : Ledger) (text : List ℕ) (fault : SegmentFault) : Type 0 where
+pub record IsUntaken (m : Timeline) (text : List ℕ) (fault : SegmentFault) : Type 0 where
   pub document : Document
   pub read : IsRead text document
   pub untaken : IsUntakenBy m document fault
@@ -115,7 +128,7 @@ pub record IsAnswer (text answer : List ℕ) : Type 0 where
   pub answers : answer ≡ answer_of document (length document.log)
 
 -- from the floor to the top
-pub record IsReadable (m : Ledger) (ts : ℕ) : Type 0 where
+pub record IsReadable (m : Timeline) (ts : ℕ) : Type 0 where
   pub kept : floor_of m ≤ ts
   pub there : ts ≤ top_of m
 
@@ -125,7 +138,7 @@ told true z = Present z
 told false z = Absent
 
 -- the text is that of a well-formed document without transactions, which has the store after the transaction with a timestamp
-pub record IsSnapshot (m : Ledger) (ts : ℕ) (text : List ℕ) : Type 0 where
+pub record IsSnapshot (m : Timeline) (ts : ℕ) (text : List ℕ) : Type 0 where
   pub store : List (List ℕ × ℤ)
   pub readable : IsReadable m ts
   pub holds : cell_in (store_of store) ≡ past_of m ts
@@ -137,7 +150,7 @@ pub record IsSnapshot (m : Ledger) (ts : ℕ) (text : List ℕ) : Type 0 where
 pub record HasCounts (keeper : Keeper) (counts : BohmCounts) : Type 0 where
   pub floor : counts.floor ≡ floor_of keeper.machine
   pub top : counts.top ≡ top_of keeper.machine
-  pub versions : counts.versions ≡ min (total keeper.machine.history.chains) 18446744073709551615
+  pub versions : counts.versions ≡ min (total keeper.machine.chains) 18446744073709551615
   pub waiting : counts.waiting ≡ length keeper.waiting
 
 -- the past from the new floor on is as it was, and so are the replies that wait

@@ -10,23 +10,25 @@ ghost use Rattle.bohm_machine.specs.declared.fault.SegmentFault.TheVariants as s
 ghost use Rattle.bohm_procedures.specs.Accepting.{Takes};
 ghost use Rattle.bohm_c.specs.Calling.{IsPrepared, IsProcedureRefusal, IsPushed};
 ghost use Rattle.bohm_c.specs.Handles.{IsCallList, IsMachine, IsProcedure, OnCalls, OnMachine, OnProcedure};
-ghost use Rattle.bohm_c.specs.Keeping.{IsRunPartly, IsRunUntold, IsRunWhole};
+ghost use Rattle.bohm_c.specs.Keeping.{IsRunKept, IsRunPartly, IsRunWhole};
 
 use crate::call_list::{CallList, PushFault};
 use crate::handle::{BohmHandle, put_back, take_back};
 use crate::kept::Kept;
 use crate::prepared::{prepare, refuse_procedure};
+use crate::seeds::draw;
 use crate::status::{
     DONE, KEPT, MISUSE, NO_KEY, NO_MEMORY, REFUSED, STOPPED, TIMESTAMPS, UNFIT, WAITING,
 };
 use bohm_tree::Edition;
 use std::alloc::Global;
 
-/// Reads a procedure's text, and opens its handle.
+/// Reads a procedure's text, whose names are hashed from the seed, and opens its handle.
 #[unsafe(no_mangle)]
 pub extern "C" fn bohm_prepare<'a>(
     alloc: Global,
     procedure: &mut BohmHandle,
+    seed: &[u8; 16],
     text: &[u8],
     out: &mut &'a mut [u8],
 ) -> u32
@@ -42,7 +44,7 @@ pub extern "C" fn bohm_prepare<'a>(
         put_back(procedure, kept);
         return MISUSE;
     }
-    match prepare(alloc, text) {
+    match prepare(alloc, draw(seed), text) {
         Ok(prepared) => match Box::new(alloc, Kept::Prepared(prepared)) {
             Ok(kept) => {
                 put_back(procedure, kept);
@@ -54,9 +56,14 @@ pub extern "C" fn bohm_prepare<'a>(
     }
 }
 
-/// Opens a list of no calls, of procedures of edition 1 or 2.
+/// Opens a list of no calls, of procedures of edition 1 or 2. Keys are hashed from the seed.
 #[unsafe(no_mangle)]
-pub extern "C" fn bohm_open_calls(alloc: Global, calls: &mut BohmHandle, edition: u32) -> u32
+pub extern "C" fn bohm_open_calls(
+    alloc: Global,
+    calls: &mut BohmHandle,
+    seed: &[u8; 16],
+    edition: u32,
+) -> u32
     ensures status { (result ≡ DONE) ⊎ (result ≡ UNFIT) ⊎ (result ≡ NO_MEMORY)
         ⊎ (result ≡ MISUSE) }
     ensures misuse { (result ≡ MISUSE) ↔ (calls.old.value ≢ None) }
@@ -77,7 +84,10 @@ pub extern "C" fn bohm_open_calls(alloc: Global, calls: &mut BohmHandle, edition
         2 => Edition::Two,
         _ => return UNFIT,
     };
-    match Box::new(alloc, Kept::Calls(CallList::new(alloc, edition))) {
+    match Box::new(
+        alloc,
+        Kept::Calls(CallList::new(alloc, draw(seed), edition)),
+    ) {
         Ok(kept) => {
             put_back(calls, kept);
             DONE
@@ -172,7 +182,7 @@ fn run_on<'a>(machine: &mut Kept, alloc: Global, calls: &Kept, out: &mut &'a mut
         OnCalls (Some calls.now) (λ log. IsRunPartly was now log out.new.now))) }
     ensures kept { result ≡ KEPT → OnMachine (Some machine.old) (λ was.
         OnMachine (Some machine.new) (λ now.
-        OnCalls (Some calls.now) (λ log. IsRunUntold was now log))) }
+        OnCalls (Some calls.now) (λ log. IsRunKept was now log))) }
     ensures timestamps { result ≡ TIMESTAMPS → OnMachine (Some machine.old) (λ was.
         OnCalls (Some calls.now) (λ log. IsRefused was.machine log segment_is.Timestamps)) }
     ensures waiting { result ≡ WAITING
@@ -213,7 +223,7 @@ pub extern "C" fn bohm_run_calls<'a>(
         OnCalls calls.old.value (λ log. IsRunPartly was now log out.new.now))) }
     ensures kept { result ≡ KEPT → OnMachine machine.old.value (λ was.
         OnMachine machine.new.value (λ now.
-        OnCalls calls.old.value (λ log. IsRunUntold was now log))) }
+        OnCalls calls.old.value (λ log. IsRunKept was now log))) }
     ensures timestamps { result ≡ TIMESTAMPS → OnMachine machine.old.value (λ was.
         OnCalls calls.old.value (λ log. IsRefused was.machine log segment_is.Timestamps)) }
     ensures waiting { result ≡ WAITING
@@ -251,7 +261,7 @@ pub extern "C" fn bohm_clear_calls(alloc: Global, calls: &mut BohmHandle) -> u32
     };
     let status = match &mut *kept {
         Kept::Calls(list) => {
-            list.clear(alloc);
+            list.clear();
             DONE
         }
         Kept::Machine(_) | Kept::Prepared(_) => MISUSE,

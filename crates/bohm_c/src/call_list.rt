@@ -8,7 +8,7 @@ ghost use Rattle.bohm_procedures.specs.Accepting.{Takes};
 ghost use Rattle.bohm_c.specs.Calling.{IsPushed};
 ghost use Rattle.bohm_c.specs.declared.call_list.PushFault.TheVariants as push_is;
 
-use bohm_log::HashSeed;
+use bohm_log::DrawnSeed;
 use bohm_procedures::{Calls, Procedure};
 use bohm_tree::{Edition, Key, NoMemory, Value};
 use bohm_txn::Checked;
@@ -83,23 +83,22 @@ fn fill_values(values: &mut Vec<Value>, numbers: &[i64]) -> Result<(), NoMemory>
 }
 
 impl CallList {
-    /// No calls. It allocates nothing.
-    pub fn new(alloc: Global, edition: Edition) -> CallList
+    /// No calls, whose keys are hashed from the seed. It allocates nothing.
+    pub fn new(alloc: Global, seed: DrawnSeed, edition: Edition) -> CallList
         ensures { result ≡ empty_document edition }
     {
         CallList {
-            calls: Calls::new(alloc, HashSeed::fixed(), edition),
+            calls: Calls::new(alloc, seed, edition),
             keys: Vec::new(alloc),
             values: Vec::new(alloc),
         }
     }
 
-    /// Lets all calls go.
-    pub fn clear(&mut self, alloc: Global)
+    /// Lets all calls go. Their room is kept for others.
+    pub fn clear(&mut self)
         ensures { self.new ≡ empty_document self.old.edition }
     {
-        let edition = self.calls.segment().edition();
-        self.calls = Calls::new(alloc, HashSeed::fixed(), edition);
+        self.calls.clear();
     }
 
     /// Adds a call with these arguments.

@@ -15,6 +15,7 @@ use crate::handle::{BohmHandle, put_back, take_back};
 use crate::keeper::{BohmCounts, open, refuse, refuse_opening};
 use crate::kept::Kept;
 use crate::reading::read;
+use crate::seeds::draw;
 use crate::status::{
     DONE, FUTURE, HAS_LOG, HAS_STORE, KEPT, MISUSE, NO_KEY, NO_MEMORY, REFUSED, STOPPED,
     TIMESTAMPS, TRIMMED, WAITING,
@@ -23,19 +24,25 @@ use crate::whole::answer;
 use bohm_tree::Key;
 use std::alloc::Global;
 
-/// Runs the log of a text, and hands out the text of its answer.
+/// Runs the log of a text, and hands out the text of its answer. Keys are hashed from the seed.
 #[unsafe(no_mangle)]
-pub extern "C" fn bohm_answer<'a>(alloc: Global, text: &[u8], out: &mut &'a mut [u8]) -> u32
+pub extern "C" fn bohm_answer<'a>(
+    alloc: Global,
+    seed: &[u8; 16],
+    text: &[u8],
+    out: &mut &'a mut [u8],
+) -> u32
     ensures status { result ≤ NO_MEMORY }
     ensures done { result ≡ DONE → IsAnswer text.now out.new.now }
     ensures refused { result ≡ REFUSED → IsRefusal text.now out.new.now }
     ensures untouched { result ≡ NO_MEMORY → out.new ≡ out.old }
 {
-    let checked = match read(alloc, text) {
+    let seed = draw(seed);
+    let checked = match read(alloc, seed, text) {
         Ok(checked) => checked,
         Err(fault) => return refuse(alloc, fault, out),
     };
-    match answer(alloc, &checked) {
+    match answer(alloc, seed, &checked) {
         Ok(answer) => {
             *out = hand_over(alloc, answer);
             DONE
@@ -44,11 +51,13 @@ pub extern "C" fn bohm_answer<'a>(alloc: Global, text: &[u8], out: &mut &'a mut 
     }
 }
 
-/// Opens a machine on a snapshot, which is the store after the transaction with a timestamp.
+/// Opens a machine on a snapshot, which is the store after the transaction with a timestamp. Keys
+/// are hashed from the seed.
 #[unsafe(no_mangle)]
 pub extern "C" fn bohm_open<'a>(
     alloc: Global,
     machine: &mut BohmHandle,
+    seed: &[u8; 16],
     text: &[u8],
     top: u32,
     out: &mut &'a mut [u8],
@@ -67,7 +76,7 @@ pub extern "C" fn bohm_open<'a>(
         put_back(machine, kept);
         return MISUSE;
     }
-    match open(alloc, text, top) {
+    match open(alloc, draw(seed), text, top) {
         Ok(keeper) => match Box::new(alloc, Kept::Machine(keeper)) {
             Ok(kept) => {
                 put_back(machine, kept);

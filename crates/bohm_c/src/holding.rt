@@ -4,7 +4,7 @@ ghost use Rattle.std.specs.Prelude.{◌≡◌, ◌≢◌, ◌<◌, ◌⊎◌, []
 ghost use Rattle.std.specs.List.{flat_map};
 ghost use Rattle.bohm_machine.specs.Segments.{IsRefused as IsUntakenBy};
 ghost use Rattle.bohm_machine.specs.declared.fault.SegmentFault.TheVariants as segment_is;
-ghost use Rattle.bohm_c.specs.Keeping.{IsHeld, IsKept, IsRunUntold, IsUntaken};
+ghost use Rattle.bohm_c.specs.Keeping.{IsHeld, IsHeldPartly, IsRunUntold, IsUntaken};
 ghost use Rattle.bohm_c.specs.Reading.{IsRefusal};
 ghost use Rattle.bohm_c.specs.Rows.{rows_from, shows_of};
 
@@ -28,6 +28,7 @@ impl Keeper {
         ensures done { result ≡ DONE → IsRunUntold self.old self.new segment.now }
         ensures whole { result ≡ DONE → length self.new.waiting ≡ length segment.now.log }
         ensures stopped { result ≡ STOPPED → IsRunUntold self.old self.new segment.now }
+        ensures part { result ≡ STOPPED → length self.new.waiting < length segment.now.log }
         ensures has_store { result ≡ HAS_STORE
             → IsUntakenBy self.old.machine segment.now segment_is.Store }
         ensures timestamps { result ≡ TIMESTAMPS
@@ -37,10 +38,11 @@ impl Keeper {
         let behind = self.machine.top();
         match self.machine.apply(alloc, segment) {
             Ok(applied) => {
-                let Applied { replies, end } = applied;
+                let Applied { replies, .. } = applied;
+                let (ran, count) = (replies.len(), segment.log().len());
                 self.waiting = replies;
                 self.behind = behind;
-                if end.is_ok() { DONE } else { STOPPED }
+                if ran < count { STOPPED } else { DONE }
             }
             Err(SegmentFault::Store) => HAS_STORE,
             Err(SegmentFault::Timestamps) => TIMESTAMPS,
@@ -53,7 +55,7 @@ impl Keeper {
             ⊎ (result ≡ HAS_STORE)
             ⊎ (result ≡ TIMESTAMPS) ⊎ (result ≡ WAITING) ⊎ (result ≡ STOPPED) }
         ensures done { result ≡ DONE → IsHeld self.old self.new text.now }
-        ensures stopped { result ≡ STOPPED → IsKept self.old self.new text.now }
+        ensures stopped { result ≡ STOPPED → IsHeldPartly self.old self.new text.now }
         ensures refused { result ≡ REFUSED → IsRefusal text.now out.new.now }
         ensures has_store { result ≡ HAS_STORE
             → IsUntaken self.old.machine text.now segment_is.Store }
@@ -64,7 +66,7 @@ impl Keeper {
         ensures untouched { result ≢ REFUSED → out.new ≡ out.old }
     {
         if self.waiting.is_empty() {
-            match read(alloc, text) {
+            match read(alloc, self.machine.seed(), text) {
                 Ok(segment) => self.hold(alloc, &segment),
                 Err(fault) => refuse(alloc, fault, out),
             }
@@ -80,6 +82,7 @@ impl Keeper {
         ensures done { result ≡ DONE → IsRunUntold self.old self.new calls.now }
         ensures whole { result ≡ DONE → length self.new.waiting ≡ length calls.now.log }
         ensures stopped { result ≡ STOPPED → IsRunUntold self.old self.new calls.now }
+        ensures part { result ≡ STOPPED → length self.new.waiting < length calls.now.log }
         ensures timestamps { result ≡ TIMESTAMPS
             → IsUntakenBy self.old.machine calls.now segment_is.Timestamps }
         ensures waiting { result ≡ WAITING → 0 < length self.old.waiting }

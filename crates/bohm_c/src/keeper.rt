@@ -1,6 +1,6 @@
 //! The state behind a handle: a machine, and the replies that could not be handed out yet.
 
-ghost use Rattle.std.specs.Prelude.{◌≡◌, ◌≢◌, ◌+◌, ◌<◌, ◌≤◌, ◌⊎◌, ◌↔◌, ℕ, List, [], length, true, false, is_ok, None, IfSome, IfOk, IfErr};
+ghost use Rattle.std.specs.Prelude.{◌≡◌, ◌≢◌, ◌+◌, ◌<◌, ◌≤◌, ◌^◌, ◌⊎◌, ◌↔◌, ℕ, List, [], length, true, false, is_ok, None, IfSome, IfOk, IfErr};
 ghost use Rattle.bohm_tree.specs.declared.cell.Cell.TheVariants as cell_is;
 ghost use Rattle.bohm_text.specs.Print.{print_numbered};
 ghost use Rattle.bohm_machine.specs.Digests.{IsDigest};
@@ -9,7 +9,7 @@ ghost use Rattle.bohm_machine.specs.Segments.{IsRefused as IsUntakenBy};
 ghost use Rattle.bohm_run.specs.FaultLine.{fault_line};
 ghost use Rattle.bohm_run.specs.declared.fault.RunFault.TheVariants as run_is;
 ghost use Rattle.bohm_machine.specs.declared.fault.SegmentFault.TheVariants as segment_is;
-ghost use Rattle.bohm_c.specs.Keeping.{HasCounts, HasTransactions, IsDone, IsKept, IsOpened, IsOpening, IsReadable, IsRefusedOpening, IsRunPartly, IsRunUntold, IsRunWhole, IsSnapshot, IsStopped, IsTrimmed, IsUnopened, IsUntaken, told};
+ghost use Rattle.bohm_c.specs.Keeping.{HasCounts, HasTransactions, IsDone, IsKept, IsOpened, IsOpening, IsReadable, IsRefusedOpening, IsRunKept, IsRunPartly, IsRunWhole, IsSnapshot, IsStopped, IsTrimmed, IsUnopened, IsUntaken, told};
 ghost use Rattle.bohm_c.specs.Reading.{IsRefusal, IsRefused};
 ghost use Rattle.bohm_c.specs.declared.keeper.OpenFault.TheVariants as open_is;
 
@@ -20,6 +20,7 @@ use crate::status::{
     DONE, FUTURE, HAS_LOG, HAS_STORE, KEPT, NO_MEMORY, REFUSED, STOPPED, TIMESTAMPS, TRIMMED,
     WAITING,
 };
+use bohm_log::DrawnSeed;
 use bohm_machine::{Machine, SegmentFault};
 use bohm_run::{Applied, RunFault, print_fault};
 use bohm_store::{PastFault, StoreFault};
@@ -108,36 +109,52 @@ pub fn refuse_opening<'a>(alloc: Global, fault: OpenFault, out: &mut &'a mut [u8
     }
 }
 
+/// The text of the replies of a segment after a timestamp. That of none needs no memory.
+fn text_of(alloc: Global, behind: u32, replies: &Replies) -> Result<Vec<u8>, NoMemory>
+    requires { behind + length replies.now < 2 ^ 32 }
+    ensures ok { IfOk result (λ t. t.items ≡ print_numbered (behind + 1) replies.now) }
+    ensures err { IfErr result (λ _. 0 < length replies.now) }
+{
+    if replies.is_empty() {
+        return Ok(Vec::new(alloc));
+    }
+    print_numbered(alloc, u64::from(behind) + 1, replies)
+}
+
 impl Keeper {
-    /// Hands out the text of the replies of a segment after a timestamp. If the allocation failed,
-    /// the replies wait.
+    /// Hands out the text of the replies of a segment of so many transactions after a timestamp. If
+    /// the allocation failed, the replies wait.
     fn hand_out<'a>(
         &mut self,
         alloc: Global,
         applied: Applied,
+        count: usize,
         behind: u32,
         text: Result<Vec<u8>, NoMemory>,
         out: &mut &'a mut [u8],
     ) -> u32
         requires handed { self.old.waiting ≡ [] }
+        requires few { length applied.replies ≤ count }
         requires text { IfOk text (λ t. t.items ≡ print_numbered (behind + 1) applied.replies) }
+        requires untold { IfErr text (λ _. 0 < length applied.replies) }
         ensures machine { self.new.machine ≡ self.old.machine }
         ensures status { (result ≡ DONE) ⊎ (result ≡ STOPPED) ⊎ (result ≡ KEPT) }
-        ensures done { result ≡ DONE → is_ok applied.end ≡ true }
-        ensures stopped { result ≡ STOPPED → is_ok applied.end ≡ false }
+        ensures done { result ≡ DONE → length applied.replies ≡ count }
+        ensures stopped { result ≡ STOPPED → length applied.replies < count }
         ensures kept { (result ≡ KEPT) ↔ (is_ok text ≡ false) }
         ensures says { result ≤ STOPPED
             → out.new.now ≡ print_numbered (behind + 1) applied.replies }
         ensures handed { result ≤ STOPPED → self.new.waiting ≡ [] }
+        ensures some { result ≡ KEPT → 0 < length applied.replies }
         ensures waits { result ≡ KEPT → self.new.waiting ≡ applied.replies }
         ensures behind { result ≡ KEPT → self.new.behind ≡ behind }
         ensures untouched { result ≡ KEPT → out.new ≡ out.old }
     {
-        let Applied { replies, end } = applied;
+        let Applied { replies, .. } = applied;
         match text {
             Ok(text) => {
                 *out = hand_over(alloc, text);
-                if end.is_ok() { DONE } else { STOPPED }
+                if replies.len() < count { STOPPED } else { DONE }
             }
             Err(_) => {
                 self.waiting = replies;
@@ -155,7 +172,7 @@ impl Keeper {
         ensures done { result ≡ DONE → IsRunWhole self.old self.new segment.now out.new.now }
         ensures stopped { result ≡ STOPPED
             → IsRunPartly self.old self.new segment.now out.new.now }
-        ensures kept { result ≡ KEPT → IsRunUntold self.old self.new segment.now }
+        ensures kept { result ≡ KEPT → IsRunKept self.old self.new segment.now }
         ensures has_store { result ≡ HAS_STORE
             → IsUntakenBy self.old.machine segment.now segment_is.Store }
         ensures timestamps { result ≡ TIMESTAMPS
@@ -166,8 +183,8 @@ impl Keeper {
         let behind = self.machine.top();
         match self.machine.apply(alloc, segment) {
             Ok(applied) => {
-                let text = print_numbered(alloc, u64::from(behind) + 1, &applied.replies);
-                self.hand_out(alloc, applied, behind, text, out)
+                let text = text_of(alloc, behind, &applied.replies);
+                self.hand_out(alloc, applied, segment.log().len(), behind, text, out)
             }
             Err(SegmentFault::Store) => HAS_STORE,
             Err(SegmentFault::Timestamps) => TIMESTAMPS,
@@ -195,7 +212,7 @@ impl Keeper {
         if !self.waiting.is_empty() {
             return WAITING;
         }
-        match read(alloc, text) {
+        match read(alloc, self.machine.seed(), text) {
             Ok(segment) => self.run(alloc, &segment, out),
             Err(fault) => refuse(alloc, fault, out),
         }
@@ -208,7 +225,7 @@ impl Keeper {
         ensures done { result ≡ DONE → IsRunWhole self.old self.new calls.now out.new.now }
         ensures stopped { result ≡ STOPPED
             → IsRunPartly self.old self.new calls.now out.new.now }
-        ensures kept { result ≡ KEPT → IsRunUntold self.old self.new calls.now }
+        ensures kept { result ≡ KEPT → IsRunKept self.old self.new calls.now }
         ensures timestamps { result ≡ TIMESTAMPS
             → IsUntakenBy self.old.machine calls.now segment_is.Timestamps }
         ensures waiting { result ≡ WAITING → 0 < length self.old.waiting }
@@ -346,14 +363,19 @@ impl Keeper {
 }
 
 /// The machine of a snapshot's store, as it stands after the transaction with a timestamp.
-fn restore(alloc: Global, snapshot: &Checked, top: u32) -> Result<Keeper, OpenFault>
+fn restore(
+    alloc: Global,
+    seed: DrawnSeed,
+    snapshot: &Checked,
+    top: u32,
+) -> Result<Keeper, OpenFault>
     ensures ok { IfOk result (IsOpened snapshot.now top) }
     ensures err { IfErr result (IsUnopened snapshot.now) }
 {
     if snapshot.log().len() > 0 {
         return Err(OpenFault::HasLog);
     }
-    match Machine::restore(alloc, snapshot.store(), top) {
+    match Machine::restore(alloc, seed, snapshot.store(), top) {
         Ok(machine) => Ok(Keeper {
             machine,
             waiting: Replies::new(alloc),
@@ -364,12 +386,12 @@ fn restore(alloc: Global, snapshot: &Checked, top: u32) -> Result<Keeper, OpenFa
 }
 
 /// Opens a machine on a snapshot, which is the store after the transaction with a timestamp.
-pub fn open(alloc: Global, text: &[u8], top: u32) -> Result<Keeper, OpenFault>
+pub fn open(alloc: Global, seed: DrawnSeed, text: &[u8], top: u32) -> Result<Keeper, OpenFault>
     ensures ok { IfOk result (IsOpening text.now top) }
     ensures err { IfErr result (IsRefusedOpening text.now) }
 {
-    match read(alloc, text) {
-        Ok(snapshot) => restore(alloc, &snapshot, top),
+    match read(alloc, seed, text) {
+        Ok(snapshot) => restore(alloc, seed, &snapshot, top),
         Err(fault) => Err(OpenFault::Text(fault)),
     }
 }

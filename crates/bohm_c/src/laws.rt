@@ -2,7 +2,8 @@
 
 ghost use Rattle.std.specs.Prelude.{◌≡◌, ℕ, List};
 ghost use Rattle.bohm_tree.specs.Sound.{IsDocument};
-ghost use Rattle.bohm_machine.specs.Machines.{Ledger, now_of, top_of};
+ghost use Rattle.bohm_store.specs.Versions.{Timeline};
+ghost use Rattle.bohm_machine.specs.Machines.{now_of, top_of};
 ghost use Rattle.bohm_c.specs.Keeping.{IsOpening, IsSnapshot};
 ghost use Rattle.bohm_c.specs.Reading.{snapshot_of};
 ghost use Rattle.bohm_c.specs.declared.keeper.Keeper.{Keeper};
@@ -36,7 +37,7 @@ pub fn status_numbers()
 /// holds there: so it goes on as that one does. The names of the snapshot's keys are names, as
 /// those of every `Key` are.
 pub fn snapshot_goes_on()
-    ensures { (m : Ledger) (text : List ℕ) (keeper : Keeper)
+    ensures { (m : Timeline) (text : List ℕ) (keeper : Keeper)
         → (snapshot : IsSnapshot m (top_of m) text) → IsDocument (snapshot_of snapshot.store)
         → IsOpening text (top_of m) keeper → now_of keeper.machine ≡ now_of m }
 {

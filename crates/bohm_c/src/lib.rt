@@ -15,6 +15,7 @@ mod prepared;
 mod reading;
 mod row_exports;
 mod rows;
+mod seeds;
 mod status;
 mod whole;
 

@@ -5,18 +5,18 @@ ghost use Rattle.bohm_c.specs.Calling.{IsPrepared, IsProcedureRefusal, IsUnprepa
 
 use crate::keeper::refuse;
 use crate::status::{NO_MEMORY, REFUSED};
-use bohm_log::HashSeed;
+use bohm_log::DrawnSeed;
 use bohm_procedures::{Procedure, ProcedureFault};
 use bohm_run::RunFault;
 use bohm_text::TextFault;
 use std::alloc::Global;
 
 /// The accepted procedure of a text.
-pub fn prepare(alloc: Global, text: &[u8]) -> Result<Procedure, ProcedureFault>
+pub fn prepare(alloc: Global, seed: DrawnSeed, text: &[u8]) -> Result<Procedure, ProcedureFault>
     ensures ok { IfOk result (IsPrepared text.now) }
     ensures err { IfErr result (IsUnprepared text.now) }
 {
-    Procedure::read(alloc, HashSeed::fixed(), text)
+    Procedure::read(alloc, seed, text)
 }
 
 /// The fault of a log that is told by the same line.

@@ -7,22 +7,22 @@ ghost use Rattle.bohm_txn.specs.Stores.{store_of};
 ghost use Rattle.bohm_text.specs.Print.{print_doc};
 ghost use Rattle.bohm_c.specs.Reading.{IsRead, IsRefused, snapshot_of};
 
-use bohm_log::{Doc, HashSeed, Log};
+use bohm_log::{Doc, DrawnSeed, FixedSeed, HashSeed, Log};
 use bohm_run::{LONGEST_TEXT, RunFault};
-use bohm_text::{parse, print_doc};
+use bohm_text::{parse_with_seed, print_doc};
 use bohm_tree::{Edition, Key, NoMemory, Value};
 use bohm_txn::{Checked, check};
 use std::alloc::Global;
 
 /// The well-formed document of a text.
-pub fn read(alloc: Global, text: &[u8]) -> Result<Checked, RunFault>
+pub fn read(alloc: Global, seed: DrawnSeed, text: &[u8]) -> Result<Checked, RunFault>
     ensures ok { IfOk result (IsRead text.now) }
     ensures err { IfErr result (IsRefused text.now) }
 {
     if text.len() > LONGEST_TEXT {
         return Err(RunFault::TooLong);
     }
-    let doc = parse(alloc, text)?;
+    let doc = parse_with_seed(alloc, seed, text)?;
     Ok(check(doc)?)
 }
 
@@ -32,7 +32,11 @@ pub fn print_snapshot(alloc: Global, store: Vec<(Key, Value)>) -> Result<Vec<u8>
     ensures formed { WellFormed (snapshot_of store.items) }
     ensures printed { IfOk result (λ text. text.items ≡ print_doc (snapshot_of store.items)) }
 {
-    let Some(doc) = Doc::new(Edition::One, store, Log::new(alloc, HashSeed::fixed())) else {
+    let Some(doc) = Doc::new(
+        Edition::One,
+        store,
+        Log::new(alloc, HashSeed::from(FixedSeed)),
+    ) else {
         unreachable!()
     };
     print_doc(alloc, &doc)

@@ -5,7 +5,7 @@ ghost use Rattle.std.specs.List.{flat_map};
 ghost use Rattle.bohm_machine.specs.Segments.{IsRefused};
 ghost use Rattle.bohm_machine.specs.declared.fault.SegmentFault.TheVariants as segment_is;
 ghost use Rattle.bohm_c.specs.Handles.{IsCallList, IsMachine, OnCalls, OnMachine};
-ghost use Rattle.bohm_c.specs.Keeping.{IsHeld, IsKept, IsRunUntold, IsUntaken};
+ghost use Rattle.bohm_c.specs.Keeping.{IsHeld, IsHeldPartly, IsRunUntold, IsUntaken};
 ghost use Rattle.bohm_c.specs.Reading.{IsRefusal};
 ghost use Rattle.bohm_c.specs.Rows.{rows_from, shows_of};
 
@@ -31,7 +31,7 @@ pub extern "C" fn bohm_apply_held<'a>(
     ensures done { result ≡ DONE → OnMachine machine.old.value (λ was.
         OnMachine machine.new.value (λ now. IsHeld was now text.now)) }
     ensures stopped { result ≡ STOPPED → OnMachine machine.old.value (λ was.
-        OnMachine machine.new.value (λ now. IsKept was now text.now)) }
+        OnMachine machine.new.value (λ now. IsHeldPartly was now text.now)) }
     ensures refused { result ≡ REFUSED → IsRefusal text.now out.new.now }
     ensures has_store { result ≡ HAS_STORE
         → OnMachine machine.old.value (λ was. IsUntaken was.machine text.now segment_is.Store) }
@@ -66,6 +66,8 @@ fn hold_on(machine: &mut Kept, alloc: Global, calls: &Kept) -> u32
         OnCalls (Some calls.now) (λ log. IsRunUntold was now log))) }
     ensures whole { result ≡ DONE → OnMachine (Some machine.new) (λ now.
         OnCalls (Some calls.now) (λ log. length now.waiting ≡ length log.log)) }
+    ensures part { result ≡ STOPPED → OnMachine (Some machine.new) (λ now.
+        OnCalls (Some calls.now) (λ log. length now.waiting < length log.log)) }
     ensures timestamps { result ≡ TIMESTAMPS → OnMachine (Some machine.old) (λ was.
         OnCalls (Some calls.now) (λ log. IsRefused was.machine log segment_is.Timestamps)) }
     ensures waiting { result ≡ WAITING
@@ -99,6 +101,8 @@ pub extern "C" fn bohm_run_calls_held(
         OnCalls calls.old.value (λ log. IsRunUntold was now log))) }
     ensures whole { result ≡ DONE → OnMachine machine.new.value (λ now.
         OnCalls calls.old.value (λ log. length now.waiting ≡ length log.log)) }
+    ensures part { result ≡ STOPPED → OnMachine machine.new.value (λ now.
+        OnCalls calls.old.value (λ log. length now.waiting < length log.log)) }
     ensures timestamps { result ≡ TIMESTAMPS → OnMachine machine.old.value (λ was.
         OnCalls calls.old.value (λ log. IsRefused was.machine log segment_is.Timestamps)) }
     ensures waiting { result ≡ WAITING

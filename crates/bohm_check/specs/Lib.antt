@@ -4,3 +4,4 @@ pub mod All
 pub mod Names
 pub mod Scopes
 pub mod SummaryLine
+pub mod Shown

@@ -2,8 +2,7 @@
 
 use crate::lines::{behind_lines, first_line};
 
-/// A text from one of its lines on, so that the lines of faults that follow one another are found in
-/// one pass.
+/// A text from one of its lines on, so that the lines of successive faults are found in one pass.
 #[derive(Clone, Copy)]
 pub struct Cursor<'a> {
     text: &'a [u8],
@@ -20,7 +19,7 @@ impl<'a> Cursor<'a> {
         }
     }
 
-    /// The same text from a line on, counted from 1.
+    /// Advances to a line, counted from 1.
     pub fn at(self, line: u64) -> Cursor<'a> {
         let (from, skipped) = if line < self.line {
             (self.text, line.saturating_sub(1))

@@ -23,7 +23,7 @@ use bohm_txn::{
 };
 use std::alloc::Global;
 
-/// Where faults stand: a place of a document, and its line.
+/// A place of a document where faults are, and its line.
 #[derive(Clone, Copy)]
 struct Spot {
     txn: u32,
@@ -31,14 +31,14 @@ struct Spot {
     line: u64,
 }
 
-/// A number plus another one, which overflows only for a document larger than memory.
+/// The sum of two numbers. It overflows only for a document larger than memory.
 fn further(number: u64, more: usize) -> Result<u64, NoMemory>
     ensures { IfOk result (λ n. n ≡ number + more) }
 {
     number.checked_add(more as u64).ok_or(NoMemory)
 }
 
-/// The number of what has this index.
+/// The number, counted from 1, of the item at an index.
 fn counted(index: usize) -> Result<u32, NoMemory>
     ensures { IfOk result (λ n. n ≡ index + 1) }
 {
@@ -48,7 +48,7 @@ fn counted(index: usize) -> Result<u32, NoMemory>
     }
 }
 
-/// Adds a fault, if it is there.
+/// Adds a fault if there is one.
 fn tell(told: &mut Items<Told>, is_there: bool, spot: Spot, kind: CheckKind) -> Result<(), NoMemory>
     ensures { OnOk result
         (told.new ≡ told.old ++ told_if is_there (told_of spot.txn spot.stmt kind spot.line)) }
@@ -66,7 +66,7 @@ fn tell(told: &mut Items<Told>, is_there: bool, spot: Spot, kind: CheckKind) -> 
     Ok(())
 }
 
-/// Whether a statement, counted from 0, has a sum that is too long.
+/// Whether a statement, counted from 0, has too long a sum.
 fn is_stmt_long(txn: &TxnView<'_>, index: usize) -> bool
     requires { index < length txn.now.body }
     ensures { stmt_at txn.now index (λ s. result ≡ is_long s) }
@@ -75,7 +75,7 @@ fn is_stmt_long(txn: &TxnView<'_>, index: usize) -> bool
     is_long(&placed, &placed.rows()[index])
 }
 
-/// Adds the faults of a statement, which is counted from 0, by the names that it may use.
+/// Adds the faults of a statement, counted from 0, over the names that it may use.
 fn tell_stmt(
     told: &mut Items<Told>,
     txn: &TxnView<'_>,
@@ -111,8 +111,8 @@ fn tell_stmt(
     tell(told, is_stmt_long(txn, index), spot, CheckKind::Limit)
 }
 
-/// Adds the faults of a transaction's statements until there are enough. Its opening stands on a
-/// line. The time grows with the number n of declared keys, terms and statements as n log n.
+/// Adds the faults of a transaction's statements until there are enough. `opening` is the line of
+/// its `txn`. The time grows with the number n of declared keys, terms and statements as n log n.
 fn tell_body(
     alloc: Global,
     told: &mut Items<Told>,
@@ -138,7 +138,7 @@ fn tell_body(
     Ok(())
 }
 
-/// The line of a transaction's first set that doesn't rise. Its opening stands on a line.
+/// The line of a transaction's first set whose keys don't rise. `opening` is the line of its `txn`.
 fn unordered_line(txn: &TxnView<'_>, opening: u64) -> Result<u64, NoMemory>
     ensures { IfOk result (λ n. n ≡ unordered_line txn.now opening) }
 {
@@ -149,7 +149,7 @@ fn unordered_line(txn: &TxnView<'_>, opening: u64) -> Result<u64, NoMemory>
     }
 }
 
-/// The line of a transaction's first count that is too large. Its opening stands on a line.
+/// The line of a transaction's first count that is too large. `opening` is the line of its `txn`.
 fn large_line(txn: &TxnView<'_>, opening: u64) -> Result<u64, NoMemory>
     ensures { IfOk result (λ n. n ≡ large_line txn.now opening) }
 {
@@ -164,7 +164,7 @@ fn large_line(txn: &TxnView<'_>, opening: u64) -> Result<u64, NoMemory>
     }
 }
 
-/// Adds the faults of a transaction's sets and counts. Its opening stands on a line.
+/// Adds the faults of a transaction's sets and counts. `opening` is the line of its `txn`.
 fn tell_sets(
     told: &mut Items<Told>,
     txn: &TxnView<'_>,
@@ -189,8 +189,8 @@ fn tell_sets(
     tell(told, is_large(txn), large, CheckKind::Limit)
 }
 
-/// Adds the faults of a transaction, which is counted from 0, until there are enough. Its opening
-/// stands on a line.
+/// Adds the faults of a transaction, counted from 0, until there are enough. `opening` is the line
+/// of its `txn`.
 fn tell_txn(
     alloc: Global,
     told: &mut Items<Told>,
@@ -208,14 +208,14 @@ fn tell_txn(
     tell_body(alloc, told, txn, number, opening)
 }
 
-/// The line after a transaction whose opening stands on a line.
+/// The line after a transaction whose `txn` has the line `opening`.
 fn behind_txn(txn: &TxnView<'_>, opening: u64) -> Result<u64, NoMemory>
     ensures { IfOk result (λ n. n ≡ opening + length txn.now.body + 4) }
 {
     further(further(opening, txn.body_len())?, 4)
 }
 
-/// The line of the opening of the transaction with this index, or the line after the log.
+/// The line of the `txn` of the transaction at this index, or the line after the log.
 fn opening_line(doc: &Doc, index: usize) -> Result<u64, NoMemory>
     requires { index ≤ length doc.now.log }
     ensures { IfOk result (λ n. n ≡ opening_line doc.now index) }
@@ -266,7 +266,7 @@ fn first_fall(store: &[(Key, Value)]) -> usize
     store.len()
 }
 
-/// The line of the transaction with which a log is too long.
+/// The line of the first transaction above a log's limit.
 fn excess_line(doc: &Doc) -> Result<u64, NoMemory>
     ensures { IfOk result (λ n. MOST_TXNS < length doc.now.log → n ≡ opening_line doc.now MOST_TXNS) }
 {
@@ -317,8 +317,8 @@ fn first_faults(alloc: Global, doc: &Doc) -> Result<Vec<Told>, NoMemory>
     Ok(told)
 }
 
-/// The faults of a document in the order of their places, the first 20 of them, each with the line
-/// of the document's text on which it stands. Faults of one place stand in the order of their kinds.
+/// The first 20 faults of a document in the order of their places, each with its line of the
+/// document's text. Faults of one place are in the order of their kinds.
 ///
 /// Its time grows with the number of the document's store entries, keys, terms and statements, and
 /// in a transaction with faults with the number n of these as n log n.

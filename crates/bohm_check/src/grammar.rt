@@ -17,7 +17,7 @@ pub enum Place {
 }
 
 impl Place {
-    /// Which line comes after a line that may stand here.
+    /// Which line comes next after a valid line.
     pub fn behind(self, line: &[u8]) -> Place {
         match self {
             Place::Head => Place::Store,
@@ -36,7 +36,7 @@ impl Place {
     }
 }
 
-/// What a sum's end may be.
+/// What may follow a sum.
 #[derive(Clone, Copy, Debug, PartialEq, Eq)]
 pub enum SumEnd {
     /// The end of the line.
@@ -162,12 +162,12 @@ impl State {
         )
     }
 
-    /// How far a word is one that may stand here.
+    /// How far a word fits here.
     pub fn fit(self, word: &[u8]) -> Fit {
         best_fit(self.spellings(), word)
     }
 
-    /// Which word comes after one that may stand here.
+    /// Which word comes next after a valid word.
     pub fn behind(self, word: &[u8]) -> State {
         match self {
             State::Log => State::Edition,
@@ -217,17 +217,17 @@ fn behind_term(end: SumEnd, word: &[u8]) -> State {
     }
 }
 
-/// Where a line stops being one that may stand at a place.
+/// Where a line stops being valid at its place.
 #[derive(Clone, Copy, Debug, PartialEq, Eq)]
 pub struct Halt {
-    /// The bytes before it, with which a line that may stand there begins.
+    /// How many bytes before it are a prefix of a valid line.
     pub offset: usize,
-    /// Which word stands there, or isn't there.
+    /// Which word was expected there.
     pub state: State,
 }
 
-/// Where a line stops being one that may stand at a place: at the least number of bytes of which,
-/// with one more, no such line begins. Nothing where it is one. The time grows with the line.
+/// Where a line stops being valid at a place: after its longest prefix that a valid line may begin
+/// with. `None` if the line is valid. The time grows with the line.
 pub fn first_halt(place: Place, line: &[u8]) -> Option<Halt> {
     let mut state = State::at(place);
     let mut offset: usize = 0;

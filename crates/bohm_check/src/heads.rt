@@ -23,7 +23,7 @@ fn put_order(out: &mut Vec<u8>, set: &str, before: Key, key: Key) -> Result<(), 
     put_text(out, " rise\n")
 }
 
-/// The message about the first key of a store that doesn't rise, which stands on this line.
+/// The message about the first key of a store that doesn't rise, on this line.
 pub fn put_store_order(out: &mut Vec<u8>, doc: &Doc, line: u64) -> Result<(), NoMemory> {
     let Some(index) = line.checked_sub(2) else {
         return Ok(());
@@ -36,7 +36,7 @@ pub fn put_store_order(out: &mut Vec<u8>, doc: &Doc, line: u64) -> Result<(), No
     }
 }
 
-/// A count that is limited: what has it, and what it is a count of.
+/// A limited count: whose it is, and of what.
 #[derive(Clone, Copy)]
 struct Count {
     rule: &'static str,
@@ -104,7 +104,7 @@ struct Set<'a> {
     keys: Keys<'a>,
 }
 
-/// The message about a set that doesn't rise, and the set in order.
+/// The message about a set whose keys don't rise, and the set in order.
 fn put_set_order(alloc: Global, out: &mut Vec<u8>, set: &Set<'_>) -> Result<(), NoMemory> {
     let keys = keys_of(alloc, &set.keys)?;
     if let Some((before, key)) = first_fall(keys.as_slice()) {
@@ -114,7 +114,7 @@ fn put_set_order(alloc: Global, out: &mut Vec<u8>, set: &Set<'_>) -> Result<(), 
     put_set_help(out, None, set.word, sorted.as_slice())
 }
 
-/// The message about a transaction's first set that doesn't rise.
+/// The message about a transaction's first set whose keys don't rise.
 pub fn put_sets_order(alloc: Global, out: &mut Vec<u8>, txn: &TxnView<'_>) -> Result<(), NoMemory> {
     if !are_rising(&txn.reads()) {
         let set = Set {

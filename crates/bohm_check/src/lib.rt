@@ -1,5 +1,5 @@
-//! Reports a log's faults to people. It tells each fault's line, where a bad line goes wrong, and
-//! what to write instead.
+//! Reports a log's faults to people: each fault's line, where a bad line goes wrong, and what to
+//! write instead.
 #![tactic(auto)]
 
 mod cursor;
@@ -8,6 +8,7 @@ mod grammar;
 mod heads;
 mod lines;
 mod locals;
+mod loose_faults;
 mod marking;
 mod mending;
 mod mistakes;
@@ -25,8 +26,8 @@ mod told;
 
 pub use finding::faults;
 pub use lines::line_at;
+pub use loose_faults::{put_double, put_loose_end, put_loose_fault};
 pub use report::put_faults;
-pub use shown::{put_bad_line, put_line};
 pub use summary::Summary;
 pub use text_faults::put_text_fault;
 pub use told::{MOST_TOLD, Told};

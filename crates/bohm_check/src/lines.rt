@@ -2,7 +2,7 @@
 
 use memchr::memchr;
 
-/// What follows the first newline of a text, and nothing where there is none.
+/// The text after the first newline; empty if there is none.
 fn behind_line(text: &[u8]) -> &[u8] {
     let Some(at) = memchr(b'\n', text) else {
         return &[];
@@ -10,7 +10,7 @@ fn behind_line(text: &[u8]) -> &[u8] {
     text.get(at.saturating_add(1)..).unwrap_or(&[])
 }
 
-/// The text from a line on, which is counted from the text's first, 0.
+/// The text from a line on, counted from 0.
 pub fn behind_lines(text: &[u8], count: u64) -> &[u8] {
     let mut rest = text;
     for _ in 0..count {
@@ -28,7 +28,7 @@ pub fn first_line(text: &[u8]) -> &[u8] {
     text.get(..end).unwrap_or(text)
 }
 
-/// A line of a text, counted from 1, without its newline. Empty where the text has no such line. The
+/// A line of a text, counted from 1, without its newline; empty if the text has no such line. The
 /// time grows with the text before it.
 pub fn line_at(text: &[u8], line: u64) -> &[u8] {
     first_line(behind_lines(text, line.saturating_sub(1)))

@@ -10,7 +10,7 @@ use bohm_tree::{Key, MOST_TERMS, NoMemory};
 use std::alloc::Global;
 use std::collections::BTreeMap;
 
-/// By each local that a body binds, the index of the first statement that binds it.
+/// For each local that a body binds, the index of the first statement that binds it.
 #[derive(Drop)]
 struct Bindings {
     firsts: BTreeMap<Key, usize>,
@@ -33,13 +33,14 @@ impl Bindings {
         self.firsts.get(&name).copied()
     }
 
-    /// The same, if it is one of this many first statements.
+    /// The index of the first statement that binds a name, if it is below this number of
+    /// statements.
     fn before(&self, stmts: usize, name: Key) -> Option<usize> {
         self.first(name).filter(|index| *index < stmts)
     }
 }
 
-/// The first local that a statement reads and that none of the statements before it binds.
+/// The first local that a statement reads and no statement before it binds.
 fn unbound(
     alloc: Global,
     bindings: &Bindings,
@@ -70,7 +71,7 @@ fn line_of(site: Site<'_>, index: usize) -> u64 {
     site.opening.saturating_add(3).saturating_add(index as u64)
 }
 
-/// A name that the transaction has nowhere: this one with `_` and a digit after it.
+/// A name that the transaction doesn't use: this one with `_` and a digit appended.
 fn fresh_name(alloc: Global, txn: &TxnView<'_>, name: Key) -> Result<Option<Key>, NoMemory> {
     let mut text = Vec::new(alloc);
     text.extend_from_slice(name.text().as_slice())?;
@@ -89,7 +90,7 @@ fn fresh_name(alloc: Global, txn: &TxnView<'_>, name: Key) -> Result<Option<Key>
     Ok(None)
 }
 
-/// The statement with another name, where no key and no length of it is wrong.
+/// The statement with a new name, unless it also has an undeclared key or too long a sum.
 fn put_rebound_help(
     alloc: Global,
     out: &mut Vec<u8>,
@@ -113,7 +114,7 @@ fn put_rebound_help(
     put_text(out, "\n")
 }
 
-/// The message about a name that a statement binds once more.
+/// The message about a name that a statement binds a second time.
 fn put_rebound(out: &mut Vec<u8>, site: Site<'_>, name: Key, first: usize) -> Result<(), NoMemory> {
     let local = PlacedName {
         name,
@@ -148,7 +149,7 @@ fn put_unbound(
     put_text(out, "\n")
 }
 
-/// The message about a statement that binds a name once more, or else reads a local too early.
+/// The message about a statement that binds a name a second time, or else reads a local too early.
 pub fn put_misnamed(
     alloc: Global,
     out: &mut Vec<u8>,

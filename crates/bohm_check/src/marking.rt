@@ -8,11 +8,11 @@ use bohm_tree::{Key, NoMemory};
 pub struct PlacedName {
     pub name: Key,
     pub is_local: bool,
-    /// Which word of the line it stands in, counted from 0.
+    /// The index, counted from 0, of its word on the line.
     pub word: usize,
 }
 
-/// The bytes of a line before a word, which is counted from 0. All where there are fewer words.
+/// The bytes of a line before a word, counted from 0; all of them if there are fewer words.
 pub fn bytes_before(line: &[u8], word: usize) -> usize {
     let mut offset: usize = 0;
     for (place, part) in line.split(|byte| *byte == b' ').enumerate() {

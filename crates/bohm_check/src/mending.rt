@@ -6,7 +6,7 @@ use bohm_tree::NoMemory;
 use std::alloc::Global;
 
 /// What stands before a comment.
-fn uncommented(line: &[u8]) -> &[u8] {
+pub fn uncommented(line: &[u8]) -> &[u8] {
     let end = line
         .iter()
         .position(|byte| *byte == b'#')
@@ -22,7 +22,7 @@ fn is_blank(byte: u8) -> bool {
     byte == b' ' || byte == b'\t' || byte == b'\r'
 }
 
-/// Adds a word in small letters, with a space before it where others stand.
+/// Adds a word in lower case, with a space before it unless it is the first.
 fn put_word(out: &mut Vec<u8>, word: &[u8]) -> Result<(), NoMemory> {
     if !out.is_empty() {
         out.push(b' ')?;
@@ -37,9 +37,9 @@ fn put_word(out: &mut Vec<u8>, word: &[u8]) -> Result<(), NoMemory> {
     Ok(())
 }
 
-/// The line that was meant at a place: without a byte order mark, a comment and a carriage return,
-/// in small letters, with one space between words and `=` for `==`. Nothing where that is no line
-/// that may stand there.
+/// The line that was probably meant at a place: without a byte order mark, a comment and a carriage
+/// return, in lower case, with one space between words and `=` for `==`. `None` if that isn't valid
+/// there either.
 pub fn mended(alloc: Global, place: Place, line: &[u8]) -> Result<Option<Vec<u8>>, NoMemory> {
     let mut out = Vec::new(alloc);
     for word in uncommented(unmarked(line)).split(|byte| is_blank(*byte)) {

@@ -3,7 +3,7 @@
 use crate::grammar::{Halt, Place, State};
 use crate::spelling::{LONGEST_NAME, is_name_byte};
 
-/// A mistake that has words of its own.
+/// A mistake with a message of its own.
 #[derive(Clone, Copy, Debug, PartialEq, Eq)]
 pub enum Mistake {
     ByteOrderMark,
@@ -26,7 +26,7 @@ pub enum Mistake {
     ForeignByte,
     /// The line ends where more has to come.
     TooShort,
-    /// Another byte, in a word or at its begin.
+    /// Another byte, in a word or at its beginning.
     Word,
 }
 
@@ -34,7 +34,7 @@ pub enum Mistake {
 pub const BYTE_ORDER_MARK: &[u8] = b"\xEF\xBB\xBF";
 
 impl Mistake {
-    /// The mistake at which a line stops being one that may stand at a place.
+    /// The mistake at which a line stops being valid at a place.
     pub fn at(place: Place, line: &[u8], halt: Halt) -> Mistake {
         if line.is_empty() {
             return Mistake::EmptyLine;
@@ -55,7 +55,7 @@ impl Mistake {
         }
     }
 
-    /// The mistake of a byte between those before it and those after it.
+    /// The mistake of a byte, given those before it and those after it.
     fn of_byte(before: &[u8], byte: u8, others: &[u8], state: State) -> Mistake {
         match byte {
             b'\t' => Mistake::Tab,
@@ -75,7 +75,7 @@ impl Mistake {
         }
     }
 
-    /// The mistake of a digit that can't stand where a number may have it.
+    /// The mistake of a digit where a number may have a digit, but not this one.
     fn of_digit(before: &[u8], byte: u8) -> Mistake {
         match before.last() {
             Some(b'0') if digits_before(before) == 1 => Mistake::LeadingZero,
@@ -85,7 +85,7 @@ impl Mistake {
         }
     }
 
-    /// Whether its words leave open what was expected.
+    /// Whether its message doesn't say what was expected.
     pub fn leaves_open(self) -> bool {
         matches!(
             self,
@@ -125,13 +125,13 @@ impl Mistake {
     }
 }
 
-/// How many bytes of a name stand at the end.
+/// The length of the name at the end of these bytes.
 fn name_before(before: &[u8]) -> usize {
     let others = before.iter().rev().position(|byte| !is_name_byte(*byte));
     others.unwrap_or(before.len())
 }
 
-/// How many digits stand at the end.
+/// The number of digits at the end of these bytes.
 fn digits_before(before: &[u8]) -> usize {
     let others = before.iter().rev().position(|byte| !byte.is_ascii_digit());
     others.unwrap_or(before.len())

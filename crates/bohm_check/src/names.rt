@@ -1,4 +1,4 @@
-//! Sets of names, and whether a statement keeps to them.
+//! Sets of names, and whether a statement uses only these.
 
 ghost use Rattle.std.specs.Prelude.{◌≡◌, ◌||◌, ℕ, Bool, List, not, IfOk, OnOk};
 ghost use Rattle.std.specs.List.{list_all};
@@ -24,7 +24,7 @@ pub fn has(names: &BTreeSet<Key>, name: &Key) -> bool
     names.contains(name)
 }
 
-/// Adds a name, if it isn't there.
+/// Adds a name unless it is there.
 #[tactic(auto, using(crate::proofs::Named::inserted))]
 pub fn add_name(names: &mut BTreeSet<Key>, name: Key) -> Result<(), NoMemory>
     ensures { OnOk result
@@ -34,8 +34,8 @@ pub fn add_name(names: &mut BTreeSet<Key>, name: Key) -> Result<(), NoMemory>
     Ok(())
 }
 
-/// The keys of a set, which may stand in any order and more than once. The time grows with their
-/// number n as n log n.
+/// The keys of a set, which may be in any order and repeated. The time grows with their number n as
+/// n log n.
 #[tactic(auto, using(crate::proofs::Named::none_yet))]
 pub fn names_of(alloc: Global, keys: &Keys<'_>) -> Result<BTreeSet<Key>, NoMemory>
     ensures { IfOk result (AreNamesOf keys.now) }
@@ -68,7 +68,7 @@ fn all_sums<F: Fn(&SumView<'_>) -> bool>(stmt: &StmtView<'_>, passes: F) -> bool
     }
 }
 
-/// Whether an atom reads no key, or one of these.
+/// Whether an atom, if it reads a key, reads one of these.
 fn is_read_in(names: &BTreeSet<Key>, atom: AtomParts) -> bool
     ensures { result ≡ reads_in names.now (atom_shown atom) }
 {
@@ -78,7 +78,7 @@ fn is_read_in(names: &BTreeSet<Key>, atom: AtomParts) -> bool
     }
 }
 
-/// Whether an atom reads no local, or one of these.
+/// Whether an atom, if it reads a local, reads one of these.
 fn is_local_in(names: &BTreeSet<Key>, atom: AtomParts) -> bool
     ensures { result ≡ locals_in names.now (atom_shown atom) }
 {
@@ -88,7 +88,7 @@ fn is_local_in(names: &BTreeSet<Key>, atom: AtomParts) -> bool
     }
 }
 
-/// Whether a sum reads none but these keys.
+/// Whether a sum reads only these keys.
 fn are_read_in(names: &BTreeSet<Key>, sum: &SumView<'_>) -> bool
     ensures { result ≡ list_all (λ term. reads_in names.now term.1) sum.now }
 {
@@ -100,7 +100,7 @@ fn are_read_in(names: &BTreeSet<Key>, sum: &SumView<'_>) -> bool
     true
 }
 
-/// Whether a sum reads none but these locals.
+/// Whether a sum reads only these locals.
 fn are_locals_in(names: &BTreeSet<Key>, sum: &SumView<'_>) -> bool
     ensures { result ≡ list_all (λ term. locals_in names.now term.1) sum.now }
 {
@@ -122,7 +122,7 @@ fn has_some(names: &BTreeSet<Key>, name: Option<Key>) -> bool
     }
 }
 
-/// Whether there is a name, and it is none of these.
+/// Whether there is a name, and it isn't one of these.
 fn lacks_some(names: &BTreeSet<Key>, name: Option<Key>) -> bool
     ensures { result ≡ some_passes (λ k. not (has names.now k)) name }
 {
@@ -132,8 +132,8 @@ fn lacks_some(names: &BTreeSet<Key>, name: Option<Key>) -> bool
     }
 }
 
-/// Whether the statement reads or tests a key that is none of these. The time grows with the number
-/// of its terms.
+/// Whether the statement reads or tests a key that isn't one of these. The time grows with the
+/// number of its terms.
 #[tactic(auto, using(crate::proofs::Named::unread_by))]
 pub fn is_unread(reads: &BTreeSet<Key>, stmt: &StmtView<'_>) -> bool
     ensures { (keys : List (List ℕ)) → AreNamesOf keys reads.now
@@ -142,7 +142,7 @@ pub fn is_unread(reads: &BTreeSet<Key>, stmt: &StmtView<'_>) -> bool
     !all_sums(stmt, |sum| are_read_in(reads, sum)) || lacks_some(reads, stmt.tested())
 }
 
-/// Whether the statement writes a key that is none of these.
+/// Whether the statement writes a key that isn't one of these.
 #[tactic(auto, using(crate::proofs::Named::unwritten_by))]
 pub fn is_unwritten(writes: &BTreeSet<Key>, stmt: &StmtView<'_>) -> bool
     ensures { (keys : List (List ℕ)) → AreNamesOf keys writes.now
@@ -151,8 +151,8 @@ pub fn is_unwritten(writes: &BTreeSet<Key>, stmt: &StmtView<'_>) -> bool
     lacks_some(writes, stmt.target())
 }
 
-/// Whether the statement reads a local that is none of these bound ones, or binds one of them once
-/// more. The time grows with the number of its terms.
+/// Whether the statement reads a local that isn't one of these bound ones, or binds one of them
+/// again. The time grows with the number of its terms.
 #[tactic(auto, using(crate::proofs::Named::misnamed_by))]
 pub fn is_misnamed(bound: &BTreeSet<Key>, stmt: &StmtView<'_>) -> bool
     ensures { (before : List Stmt) → AreBoundBy before bound.now

@@ -11,7 +11,7 @@ use bohm_tree::{MOST_TXNS, NoMemory};
 use bohm_txn::{CheckFault, CheckKind};
 use std::alloc::Global;
 
-/// The line of a fault's place, its transaction and its statement; 0 is none.
+/// The line of a fault's place, its transaction and its statement; 0 stands for none.
 fn put_head(out: &mut Vec<u8>, line: u64, txn: u64, stmt: u32) -> Result<(), NoMemory> {
     put_text(out, "line ")?;
     put_number(out, line)?;
@@ -55,7 +55,7 @@ fn put_sets(
     }
 }
 
-/// The message about a statement, which is counted from 0.
+/// The message about a statement, counted from 0.
 fn put_stmt(
     alloc: Global,
     out: &mut Vec<u8>,
@@ -105,8 +105,8 @@ fn put_fault(
     }
 }
 
-/// The message about the faults of the document that a text is, in their order: of each the line,
-/// the name with carets below it, what is wrong, and the line that mends it where there is one.
+/// The message about the faults of the document of a text, in their order: for each the line, the
+/// name with carets below it, what is wrong, and the corrected line if there is one.
 pub fn put_faults(
     alloc: Global,
     out: &mut Vec<u8>,

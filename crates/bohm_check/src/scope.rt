@@ -31,7 +31,7 @@ impl Scope {
         })
     }
 
-    /// Behind a further statement.
+    /// Advances past a statement.
     pub fn pass(&mut self, stmt: &StmtView<'_>) -> Result<(), NoMemory>
         ensures { OnOk result ((t : Txn) (i : ℕ) → IsScopeOf t i self.old
             → slice_get t.body i ≡ Some stmt.now → IsScopeOf t (i + 1) self.new) }

@@ -5,7 +5,7 @@ use bohm_log::Keys;
 use bohm_tree::{Key, MOST_KEYS, NoMemory};
 use std::alloc::Global;
 
-/// The first key that isn't above the one before it, after that one.
+/// The first key that isn't above the one before it, with that one first.
 pub fn first_fall(keys: &[Key]) -> Option<(Key, Key)> {
     let nexts = keys.get(1..).unwrap_or(&[]);
     for (key, next) in keys.iter().zip(nexts.iter()) {
@@ -25,7 +25,7 @@ pub fn keys_of(alloc: Global, set: &Keys<'_>) -> Result<Vec<Key>, NoMemory> {
     Ok(keys)
 }
 
-/// The keys by rising order, each once.
+/// The keys in ascending order, each once.
 pub fn in_order(alloc: Global, mut keys: Vec<Key>) -> Result<Vec<Key>, NoMemory> {
     keys.sort()?;
     let mut sorted: Vec<Key> = Vec::new(alloc);
@@ -37,8 +37,8 @@ pub fn in_order(alloc: Global, mut keys: Vec<Key>) -> Result<Vec<Key>, NoMemory>
     Ok(sorted)
 }
 
-/// The line of a set as it is to be, in place of the line that is shown, or of this one. Nothing
-/// where it would have too many keys.
+/// The corrected line of a set, to replace the shown line or this one. Nothing if it would have too
+/// many keys.
 pub fn put_set_help(
     out: &mut Vec<u8>,
     line: Option<u64>,

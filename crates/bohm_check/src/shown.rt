@@ -1,8 +1,8 @@
 //! How a line is displayed, with a caret.
 
-ghost use Rattle.std.specs.Prelude.{◌≡◌, ◌++◌, OnOk};
+ghost use Rattle.std.specs.Prelude.{◌≡◌, ◌++◌, ◌-◌, ◌<◌, ◌≤◌, length, map, replicate, OnOk};
+ghost use Rattle.bohm_check.specs.Shown.{IsWhole, marked, printable};
 
-use crate::lines::line_at;
 use bohm_tree::{Key, NoMemory};
 use itoa::{Buffer, Integer};
 
@@ -12,7 +12,7 @@ const SHOWN_BYTES: usize = 120;
 /// The blanks before a line that is shown.
 const INDENT: usize = 4;
 
-/// What stands where a part of a line is left out.
+/// Marks a side where the line is cut.
 const CUT: &[u8] = b"..";
 
 pub fn put_text(out: &mut Vec<u8>, text: &str) -> Result<(), NoMemory>
@@ -34,15 +34,19 @@ pub fn put_name(out: &mut Vec<u8>, name: Key) -> Result<(), NoMemory> {
     Ok(())
 }
 
-fn put_times(out: &mut Vec<u8>, byte: u8, count: usize) -> Result<(), NoMemory> {
+fn put_times(out: &mut Vec<u8>, byte: u8, count: usize) -> Result<(), NoMemory>
+    ensures { OnOk result (out.new.items ≡ out.old.items ++ replicate count byte) }
+{
     for _ in 0..count {
         out.push(byte)?;
     }
     Ok(())
 }
 
-/// Bytes as they can be shown: those outside of 32 to 126 as `?`.
-fn put_printable(out: &mut Vec<u8>, bytes: &[u8]) -> Result<(), NoMemory> {
+/// Bytes in printable form: those outside of 32 to 126 as `?`.
+fn put_printable(out: &mut Vec<u8>, bytes: &[u8]) -> Result<(), NoMemory>
+    ensures { OnOk result (out.new.items ≡ out.old.items ++ map printable bytes.now) }
+{
     for byte in bytes {
         out.push(if (32..=126).contains(byte) {
             *byte
@@ -53,7 +57,7 @@ fn put_printable(out: &mut Vec<u8>, bytes: &[u8]) -> Result<(), NoMemory> {
     Ok(())
 }
 
-/// The part of a line that is shown: all of it, or `SHOWN_BYTES` bytes round an offset.
+/// The part of a line that is shown: all of it, or `SHOWN_BYTES` bytes around an offset.
 #[derive(Clone, Copy)]
 struct Window<'a> {
     bytes: &'a [u8],
@@ -63,7 +67,9 @@ struct Window<'a> {
 }
 
 impl<'a> Window<'a> {
-    fn round(line: &'a [u8], offset: usize) -> Window<'a> {
+    fn round(line: &'a [u8], offset: usize) -> Window<'a>
+        ensures { length line.now ≤ 120 → IsWhole line.now result }
+    {
         let spare = line.len().saturating_sub(SHOWN_BYTES);
         let before = offset.saturating_sub(SHOWN_BYTES / 2).min(spare);
         Window {
@@ -75,7 +81,10 @@ impl<'a> Window<'a> {
         }
     }
 
-    fn put(&self, out: &mut Vec<u8>) -> Result<(), NoMemory> {
+    fn put(&self, out: &mut Vec<u8>) -> Result<(), NoMemory>
+        ensures { OnOk result (self.now.before ≡ 0 → self.now.behind ≡ 0
+            → out.new.items ≡ out.old.items ++ map printable self.now.bytes.now) }
+    {
         if self.before > 0 {
             out.extend_from_slice(CUT)?;
         }
@@ -87,7 +96,7 @@ impl<'a> Window<'a> {
     }
 }
 
-/// A line among words: all of it, or its first `SHOWN_BYTES` bytes.
+/// A line within a sentence: all of it, or its first `SHOWN_BYTES` bytes.
 pub fn put_quoted(out: &mut Vec<u8>, line: &[u8]) -> Result<(), NoMemory> {
     out.push(b'`')?;
     Window::round(line, 0).put(out)?;
@@ -95,15 +104,18 @@ pub fn put_quoted(out: &mut Vec<u8>, line: &[u8]) -> Result<(), NoMemory> {
     Ok(())
 }
 
-/// A line after four blanks, and below it this many carets from a column on; no line below where
-/// there are none. Columns count bytes from 1. Of a line of more than 120 bytes, 120 round the
-/// column are shown.
+/// A line after four spaces, and below it this many carets from a column on; no line below if there
+/// are none. Columns count bytes from 1. Of a line of more than 120 bytes, 120 around the column
+/// are shown.
 pub fn put_line(
     out: &mut Vec<u8>,
     line: &[u8],
     column: usize,
     carets: usize,
-) -> Result<(), NoMemory> {
+) -> Result<(), NoMemory>
+    ensures marked { OnOk result (length line.now ≤ 120 → 0 < carets
+        → out.new.items ≡ out.old.items ++ marked line.now (column - 1) carets) }
+{
     let offset = column.saturating_sub(1);
     let window = Window::round(line, offset);
     put_times(out, b' ', INDENT)?;
@@ -120,22 +132,4 @@ pub fn put_line(
     put_times(out, b'^', carets)?;
     out.push(b'\n')?;
     Ok(())
-}
-
-/// A line that no line of the text may be, for people: its number, the line with a caret under a
-/// column, and what was expected there, which is a line of its own. Lines and columns count from 1,
-/// columns in bytes.
-pub fn put_bad_line(
-    out: &mut Vec<u8>,
-    text: &[u8],
-    line: u64,
-    column: usize,
-    expected: &str,
-) -> Result<(), NoMemory> {
-    put_text(out, "line ")?;
-    put_number(out, line)?;
-    put_text(out, ":\n")?;
-    put_line(out, line_at(text, line), column, 1)?;
-    put_text(out, expected)?;
-    put_text(out, "\n")
 }

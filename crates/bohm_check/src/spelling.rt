@@ -5,7 +5,7 @@ use bohm_tree::GREATEST_LITERAL;
 /// The most bytes of a name.
 pub const LONGEST_NAME: usize = 32;
 
-/// A kind of words.
+/// A kind of word.
 #[derive(Clone, Copy)]
 pub enum Spelling {
     /// One of these.
@@ -16,16 +16,16 @@ pub enum Spelling {
     Number,
     /// A literal, a key or a local.
     Atom,
-    /// One that is taken away, which isn't 0.
+    /// An atom after ` - `, which isn't 0.
     TakenAtom,
     /// An atom, or a minus and one that isn't 0.
     FirstTerm,
 }
 
-/// How far a word fits.
+/// How much of a word matches.
 #[derive(Clone, Copy, Debug, PartialEq, Eq)]
 pub struct Fit {
-    /// The most first bytes with which a word of the kind begins.
+    /// The length of the longest prefix with which a word of the kind begins.
     pub good: usize,
     /// Whether it is a word of the kind.
     pub is_whole: bool,
@@ -37,7 +37,7 @@ impl Fit {
         is_whole: false,
     };
 
-    /// This many bytes more stand before it.
+    /// The same fit with this many more bytes before it.
     fn behind(self, bytes: usize) -> Fit {
         Fit {
             good: self.good.saturating_add(bytes),
@@ -54,7 +54,7 @@ impl Fit {
     }
 }
 
-/// How far the word fits one of the kinds.
+/// How much of the word matches, for the kind that matches most.
 pub fn best_fit(spellings: &[Spelling], word: &[u8]) -> Fit {
     let mut best = Fit::NONE;
     for spelling in spellings {
@@ -126,7 +126,7 @@ fn fit_local(word: &[u8]) -> Fit {
     }
 }
 
-/// Digits that are at most a limit, without a zero before them.
+/// Digits up to a limit, without a leading zero.
 fn fit_digits(word: &[u8], limit: u64) -> Fit {
     if word.first() == Some(&b'0') {
         return Fit {
@@ -152,7 +152,7 @@ fn fit_digits(word: &[u8], limit: u64) -> Fit {
     }
 }
 
-/// A number with a digit more, if it is one and the number at most the limit.
+/// The number with one more digit, if that is at most the limit.
 fn with_digit(number: u64, byte: u8, limit: u64) -> Option<u64> {
     if !byte.is_ascii_digit() {
         return None;

@@ -10,7 +10,7 @@ use bohm_log::{Keys, StmtView, TxnView};
 use bohm_tree::{Key, MOST_TERMS, NoMemory};
 use std::alloc::Global;
 
-/// A text, and the line in it of a statement of which something is said.
+/// A text, and the lines in it of a transaction and of its statement that a message is about.
 #[derive(Clone, Copy)]
 pub struct Site<'a> {
     pub text: Cursor<'a>,
@@ -25,7 +25,7 @@ impl<'a> Site<'a> {
     }
 }
 
-/// A set in which names are missing.
+/// A declared set that lacks names.
 #[derive(Drop)]
 struct Declared<'a> {
     keys: Keys<'a>,
@@ -62,7 +62,7 @@ fn put_missing(
     put_set_help(out, Some(set.line), set.word, keys.as_slice())
 }
 
-/// The keys that a statement reads or tests and that are none of these.
+/// The keys that a statement reads or tests and that aren't among these.
 fn unread_names(
     alloc: Global,
     reads: &Keys<'_>,
@@ -134,7 +134,7 @@ pub fn put_unwritten(
     put_missing(alloc, out, site, &set, &[target])
 }
 
-/// The message about a statement with a sum that is too long.
+/// The message about a statement with too long a sum.
 pub fn put_long(out: &mut Vec<u8>, site: Site<'_>, stmt: &StmtView<'_>) -> Result<(), NoMemory> {
     put_line(out, site.shown(), 1, 0)?;
     let terms = long_sum(stmt, MOST_TERMS as usize).unwrap_or(0);

@@ -10,16 +10,16 @@ use bohm_tree::{Edition, Key, NoMemory, Value};
 use bohm_txn::{Checked, sure};
 use std::alloc::Global;
 
-/// How much a log holds.
+/// What a log holds, in numbers.
 #[derive(Clone, Copy, Debug, PartialEq, Eq)]
 pub struct Summary {
     pub edition: Edition,
     /// The keys of the starting store.
     pub keys: usize,
     pub transactions: usize,
-    /// The different keys of the store and of all sets.
+    /// The distinct keys of the store and of all sets.
     pub distinct: usize,
-    /// The transactions that commit whatever the store holds.
+    /// The transactions that commit over every store.
     pub sure: usize,
 }
 
@@ -32,7 +32,7 @@ fn mark(marks: &mut [bool], numbers: &[u32]) {
     }
 }
 
-/// The keys that the transactions declare, each once, by rising order.
+/// The keys that the transactions declare, each once, in ascending order.
 fn declared_keys(alloc: Global, log: &LogPart<'_>) -> Result<Vec<Key>, NoMemory> {
     let declared = log.keys();
     let names = declared.names();
@@ -52,7 +52,7 @@ fn declared_keys(alloc: Global, log: &LogPart<'_>) -> Result<Vec<Key>, NoMemory>
     Ok(keys)
 }
 
-/// How many of these entries' keys are none of those, which rise.
+/// How many of these entries' keys aren't among those sorted keys.
 fn count_others(store: &[(Key, Value)], keys: &[Key]) -> usize {
     let mut others: usize = 0;
     for (key, _) in store {

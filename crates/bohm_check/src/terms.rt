@@ -1,10 +1,10 @@
-//! The terms of a statement, in the order in which they stand on its line.
+//! The terms of a statement, in the order of its line.
 
 use bohm_log::{AtomParts, CondView, StmtParts, StmtView, SumView};
 use bohm_tree::{Key, NoMemory};
 use std::alloc::Global;
 
-/// An atom, and which word of the statement's line it stands in, counted from 0.
+/// An atom, and the index, counted from 0, of its word on the statement's line.
 #[derive(Clone, Copy)]
 pub struct PlacedAtom {
     pub atom: AtomParts,
@@ -27,8 +27,8 @@ pub fn local_read(atom: AtomParts) -> Option<Key> {
     }
 }
 
-/// Adds the atoms of a sum that begins with a word, and returns which word a sum after it begins
-/// with: one word stands between two terms, and between two sums.
+/// Adds the atoms of a sum whose first word has an index, and returns the index of the first word
+/// of a sum after it: one word is between two terms, and between two sums.
 fn add_sum(
     atoms: &mut Vec<PlacedAtom>,
     sum: &SumView<'_>,
@@ -75,7 +75,7 @@ pub fn atoms_of(alloc: Global, stmt: &StmtView<'_>) -> Result<Vec<PlacedAtom>, N
     Ok(atoms)
 }
 
-/// The number of a sum's terms, if it is above this.
+/// The number of a sum's terms, if it is above a limit.
 fn length_above(most: usize, sum: &SumView<'_>) -> Option<usize> {
     if sum.len() > most {
         Some(sum.len())
@@ -88,7 +88,7 @@ fn either_above(most: usize, cond: &CondView<'_>) -> Option<usize> {
     length_above(most, &cond.left).or(length_above(most, &cond.right))
 }
 
-/// The number of terms of a statement's first sum with more than this.
+/// The number of terms of a statement's first sum that exceeds a limit.
 pub fn long_sum(stmt: &StmtView<'_>, most: usize) -> Option<usize> {
     match stmt.parts() {
         StmtParts::Bind { sum, .. } => length_above(most, &sum),

@@ -9,19 +9,19 @@ use bohm_text::TextFault;
 use bohm_tree::NoMemory;
 use std::alloc::Global;
 
-/// A line of a text at which it can't go on, and which lines may stand there.
+/// The first bad line of a text, and which lines may stand there.
 #[derive(Clone, Copy)]
-struct BadLine<'a> {
-    number: u64,
-    place: Place,
-    line: &'a [u8],
+pub struct BadLine<'a> {
+    pub number: u64,
+    pub place: Place,
+    pub line: &'a [u8],
     /// Whether a newline ends it.
-    is_whole: bool,
+    pub is_whole: bool,
 }
 
 impl<'a> BadLine<'a> {
     /// The line after the lines that begin some document's text.
-    fn behind(text: &'a [u8], whole: u64) -> BadLine<'a> {
+    pub fn behind(text: &'a [u8], whole: u64) -> BadLine<'a> {
         let mut place = Place::Head;
         let mut rest = text;
         for _ in 0..whole {
@@ -38,7 +38,7 @@ impl<'a> BadLine<'a> {
     }
 
     /// Where it stops being one, and the line after the last one at its begin.
-    fn halt(&self) -> Halt {
+    pub fn halt(&self) -> Halt {
         first_halt(self.place, self.line).unwrap_or(Halt {
             offset: self.line.len(),
             state: State::LineEnd,
@@ -56,7 +56,17 @@ impl<'a> BadLine<'a> {
                 "expected a newline: the last line of a log ends with one too\n",
             );
         }
-        match Mistake::at(self.place, self.line, halt) {
+        self.put_mistake(out, halt, Mistake::at(self.place, self.line, halt))
+    }
+
+    /// The message about a mistake in it.
+    pub fn put_mistake(
+        &self,
+        out: &mut Vec<u8>,
+        halt: Halt,
+        mistake: Mistake,
+    ) -> Result<(), NoMemory> {
+        match mistake {
             Mistake::Word => self.put_word(out, halt),
             mistake => {
                 if mistake.leaves_open() {
@@ -70,7 +80,7 @@ impl<'a> BadLine<'a> {
         }
     }
 
-    /// The message about a word that isn't spelled as any that may stand there.
+    /// The message about a word that isn't one of those expected.
     fn put_word(&self, out: &mut Vec<u8>, halt: Halt) -> Result<(), NoMemory> {
         put_text(out, "expected ")?;
         put_text(out, halt.state.called())?;
@@ -94,7 +104,7 @@ impl<'a> BadLine<'a> {
     }
 
     /// The line that was meant, if the text can go on with it, and else, if it ends there, end.
-    fn put_help(&self, alloc: Global, out: &mut Vec<u8>) -> Result<(), NoMemory> {
+    pub fn put_help(&self, alloc: Global, out: &mut Vec<u8>) -> Result<(), NoMemory> {
         if !self.is_whole && self.line.is_empty() && self.place == Place::Body {
             return put_text(out, "help: end\n");
         }
@@ -108,9 +118,31 @@ impl<'a> BadLine<'a> {
         }
         Ok(())
     }
+
+    /// The line with a caret, what was expected there, and the line that was meant where that is
+    /// plain.
+    pub fn put(&self, alloc: Global, out: &mut Vec<u8>) -> Result<(), NoMemory> {
+        let halt = self.halt();
+        put_shown(out, self.number, self.line, halt.offset)?;
+        self.put_words(out, halt)?;
+        self.put_help(alloc, out)
+    }
 }
 
-/// The word at an offset of a line.
+/// A line under its number, with a caret under the byte at an offset.
+pub fn put_shown(
+    out: &mut Vec<u8>,
+    number: u64,
+    line: &[u8],
+    offset: usize,
+) -> Result<(), NoMemory> {
+    put_text(out, "line ")?;
+    put_number(out, number)?;
+    put_text(out, ":\n")?;
+    put_line(out, line, offset.saturating_add(1), 1)
+}
+
+/// The word around an offset of a line.
 fn word_round(line: &[u8], offset: usize) -> &[u8] {
     let before = line.get(..offset).unwrap_or(line);
     let begin = match before.iter().rev().position(|byte| *byte == b' ') {
@@ -126,7 +158,7 @@ fn word_round(line: &[u8], offset: usize) -> &[u8] {
 }
 
 /// How many whole lines a text has.
-fn whole_lines(text: &[u8]) -> u64 {
+pub fn whole_lines(text: &[u8]) -> u64 {
     let mut count: u64 = 0;
     for byte in text {
         if *byte == b'\n' {
@@ -136,9 +168,8 @@ fn whole_lines(text: &[u8]) -> u64 {
     count
 }
 
-/// The message about a text with a fault, as `parse` tells it: the line, where it stops being one
-/// that may stand there, what was expected, and the line that was meant where that is plain.
-/// Nothing for an allocation failure.
+/// The message about a text with a fault of `parse`: the line, where it stops being valid, what was
+/// expected, and the line that was probably meant. Nothing for an allocation failure.
 pub fn put_text_fault(
     alloc: Global,
     out: &mut Vec<u8>,
@@ -150,11 +181,5 @@ pub fn put_text_fault(
         TextFault::Short => BadLine::behind(text, whole_lines(text)),
         TextFault::NoMemory => return Ok(()),
     };
-    let halt = bad.halt();
-    put_text(out, "line ")?;
-    put_number(out, bad.number)?;
-    put_text(out, ":\n")?;
-    put_line(out, bad.line, halt.offset.saturating_add(1), 1)?;
-    bad.put_words(out, halt)?;
-    bad.put_help(alloc, out)
+    bad.put(alloc, out)
 }

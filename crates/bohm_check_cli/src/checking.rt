@@ -11,9 +11,9 @@ use std::alloc::Global;
 use std::io::{Read, Write};
 use std::random::RandomSource;
 
-/// Reads a log to the reader's end, and writes the line that says how much it holds and nothing
-/// else. It refuses what a run refuses, and a failed write, as a run does. Messages for people on
-/// why a log is refused are added to the report, as far as allocations succeed.
+/// Reads a log to the reader's end, and writes only the line that says what it holds. It refuses
+/// what a run refuses, and a failed write, as a run does. Messages for people on why a log is
+/// refused are added to the report, as long as allocations succeed.
 pub fn check_log<T: RandomSource, R: Read, W: Write>(
     rt: &T,
     alloc: Global,

@@ -33,9 +33,9 @@ The library's partitions of the keys, 1 to 64 [default: 1].
 It has no effect here: bohm shares out windows of the log";
 
 const BATCH: &str = "\
-Transactions in a batch, 1 to 4096 [default: 4096]. Smaller
-batches mean less waiting memory, larger ones more for
-workers to share";
+Transactions in a batch, 1 to 4096 [default: 4096]. Small
+batches take less memory, large ones give workers more to
+share";
 
 const KEEP: &str = "\
 How many timestamps below the log's length stay readable,
@@ -59,7 +59,7 @@ measurements, and docs/options.md says how to choose the numbers of workers.
 Exit status:
   0  the answer was printed, or this help
   1  the run was refused: standard error has the fault's line
-  2  the words were refused: standard error says why";
+  2  the arguments were refused: standard error says why";
 
 /// The command.
 pub fn command<'a>(alloc: Global) -> Result<Command<'a>, AllocError>

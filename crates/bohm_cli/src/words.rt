@@ -11,8 +11,8 @@ use bohm_command::{WordFault, command_line, parse_line};
 use bohm_run::Settings;
 use std::alloc::Global;
 
-/// The settings that the arguments after the program's name give, with the defaults of absent
-/// options. Arguments that clap doesn't accept are refused with its text.
+/// The settings that the arguments after the program's name give; absent options have their
+/// defaults. Arguments that clap doesn't accept are refused with its text.
 pub fn read_words(alloc: Global, words: &[String]) -> Result<Settings, WordFault>
     ensures ok { IfOk result (λ settings. settings ≡ settings_in (map string_bytes words.now)) }
     ensures faultless { IfOk result (λ _. faults_in bohm (map string_bytes words.now) ≡ []) }

@@ -21,11 +21,11 @@ const BAD_WORDS: u8 = 2;
 /// Why a program gives no answer.
 #[derive(Debug, Drop)]
 pub enum NoAnswer {
-    /// The arguments aren't the program's, with the text that says so.
+    /// The arguments don't fit the program; the text that says so.
     BadWords(String),
     /// The run was refused, or the help that was asked for couldn't be written.
     Run(RunFault),
-    /// It was refused for a reason that no run has, with the line that says so.
+    /// It was refused for a reason that no run has; the line that says so.
     Refused(&'static str),
 }
 
@@ -37,8 +37,7 @@ impl From<RunFault> for NoAnswer {
     }
 }
 
-/// Ends a program whose arguments gave no request: help is the answer where it was asked for, and
-/// is written.
+/// Ends a program whose arguments made no request. If help was asked for, it is the output.
 pub fn without_request<O: Write>(out: &mut O, fault: WordFault) -> Result<(), NoAnswer>
     ensures { Ends fault (O.contents out.old) (O.contents out.new) result }
 {
@@ -52,7 +51,7 @@ pub fn without_request<O: Write>(out: &mut O, fault: WordFault) -> Result<(), No
     }
 }
 
-/// The exit status of what came of the program.
+/// The exit status for the program's result.
 pub fn exit_code(answered: &Result<(), NoAnswer>) -> ExitCode
     ensures { exit_status result ≡ status_of answered.now }
 {
@@ -63,7 +62,7 @@ pub fn exit_code(answered: &Result<(), NoAnswer>) -> ExitCode
     }
 }
 
-/// Says why there is no answer. It allocates nothing. If the writer fails, it holds a beginning of
+/// Writes why there is no answer. It allocates nothing. After an error the writer has a prefix of
 /// the text.
 pub fn tell<E: Write>(err: &mut E, reason: &NoAnswer) -> io::Result<()>
     ensures ok { OnOk result (Appends (E.contents err.old) (E.contents err.new)

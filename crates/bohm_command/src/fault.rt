@@ -10,10 +10,10 @@ use clap::Error;
 use clap::error::ErrorKind;
 use std::alloc::{AllocError, AllocFailed, Global};
 
-/// Why arguments give no request.
+/// Why arguments make no request.
 #[derive(Debug, Drop)]
 pub enum WordFault {
-    /// The arguments aren't the program's, with the text that says so.
+    /// The arguments don't fit the program; clap's text.
     Bad(String),
     /// Help was asked for, with its text.
     Help(String),
@@ -46,7 +46,7 @@ fn text_of(alloc: Global, error: &Error) -> Result<String, AllocError> {
 }
 
 impl WordFault {
-    /// What clap says of the arguments, with its text.
+    /// clap's error, with its text.
     pub(crate) fn of(alloc: Global, error: Error) -> WordFault
         ensures { IsOfKind (kind_of error) result }
     {

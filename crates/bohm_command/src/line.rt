@@ -12,8 +12,8 @@ use std::alloc::{AllocError, Global};
 use std::env::{self, Env};
 use std::io;
 
-/// The arguments of the program of this name. One that isn't UTF-8, which clap can't be given here,
-/// is refused with the text that clap has for it in Rust.
+/// The arguments of the program with this name. One that isn't UTF-8 can't be passed to clap here,
+/// and is refused with the text that clap has for it in Rust.
 pub fn words_given<R: Env + AllocGlobal>(rt: &R, name: &str) -> Result<Vec<String>, WordFault> {
     let mut given = match env::args(rt) {
         Ok(given) => given,
@@ -65,7 +65,7 @@ pub fn command_line<'a>(
     Ok(line)
 }
 
-/// What the command reads in a line that begins with its name. A line that it doesn't take is
+/// What the command reads from a line that begins with its name. A line that it doesn't accept is
 /// refused with clap's text.
 pub fn parse_line<'a>(
     alloc: Global,

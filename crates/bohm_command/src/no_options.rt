@@ -11,7 +11,7 @@ use clap::Command;
 use std::alloc::Global;
 use std::env::Env;
 
-/// A program that takes no words but a call for help.
+/// A program that accepts no argument but a request for help.
 #[derive(Clone, Copy, Debug)]
 pub struct Program<'a> {
     pub name: &'a str,
@@ -29,8 +29,8 @@ fn command<'a>(alloc: Global, program: Program<'a>) -> Command<'a>
         .after_help(program.after_help)
 }
 
-/// Whether the words after a program's name ask it for what it does. Words that clap doesn't take are
-/// refused with its text.
+/// Accepts no arguments after the program's name. Others, and a request for help, are refused with
+/// clap's text.
 pub fn read_no_options(
     alloc: Global,
     program: Program<'_>,
@@ -51,7 +51,7 @@ pub fn read_no_options(
     }
 }
 
-/// The same of the words that the program was started with.
+/// Accepts no arguments on the command line, as `read_no_options` does.
 pub fn no_options_given<R: Env + AllocGlobal>(rt: &R, program: Program<'_>) -> Result<(), WordFault>
     requires simple { is_simple_and_free (new_app program.name.now) ≡ true }
 {

@@ -1,4 +1,4 @@
-//! The version that the programs tell.
+//! The version that the programs print.
 
-/// The version of this repository, as the file VERSION at its root has it.
+/// The version of this repository, as in the file VERSION at its root.
 pub const VERSION: &str = "0.1.0";

@@ -17,8 +17,8 @@ use bohm_place::DeclaredSet;
 use bohm_tree::{Cell, MOST_KEYS};
 use bohm_txn::Scratch;
 
-/// Takes the cells of the versions of the batch among the accesses of a declared set, and puts them
-/// at their places.
+/// Copies the cells of the accesses of a declared set that take a version of the batch, each to its
+/// key's index.
 fn take_cells(closed: &Closed, t: u32, set: DeclaredSet, cells: &mut [Cell; MOST_KEYS])
     requires inside { IsIn (batch_of_closed closed.now) t }
     requires before { IsFinishedBefore closed.now t }
@@ -37,7 +37,7 @@ fn take_cells(closed: &Closed, t: u32, set: DeclaredSet, cells: &mut [Cell; MOST
     }
 }
 
-/// Puts the cells of all slots of a position without an outcome.
+/// Stores the cells of all slots of a position without an outcome.
 fn put_cells(closed: &mut Closed, t: u32, evaluator: &Evaluator)
     requires inside { IsIn (batch_of_closed closed.old) t }
     requires unfinished { IsUnfinished closed.old t }
@@ -53,7 +53,7 @@ fn put_cells(closed: &mut Closed, t: u32, evaluator: &Evaluator)
     }
 }
 
-/// Evaluates a position without an outcome, where all positions before it have theirs.
+/// Evaluates a position without an outcome, once all positions before it have one.
 fn evaluate_left(closed: &mut Closed, t: u32, evaluator: &mut Evaluator)
     requires inside { IsIn (batch_of_closed closed.old) t }
     requires unfinished { IsUnfinished closed.old t }
@@ -74,8 +74,8 @@ fn evaluate_left(closed: &mut Closed, t: u32, evaluator: &mut Evaluator)
     closed.set_outcome(t, outcome);
 }
 
-/// Evaluates in log order each position without an outcome. It allocates nothing. Such a position
-/// was deferred by a sweep, as one of the `Aside`s shows.
+/// Evaluates in log order each position without an outcome. It allocates nothing. Each such
+/// position was deferred by a sweep, as one of the `Aside`s shows.
 pub fn complete<'a>(mut closed: Closed<'a>, asides: &[Aside], scratch: &mut Scratch) -> Finished<'a>
     requires aside { (t : ℕ) →
         IsIn (batch_of_closed closed) t → IsUnfinished closed t → IsSetAside asides.now t }

@@ -22,7 +22,7 @@ impl<'a> Finished<'a> {
     ghost use Rattle.bohm_exec.specs.Moments.{writes_in_txn, shows_in_txn, IsSerialOutcome};
     ghost use Rattle.bohm_exec.specs.Moments.{IsSerialCell, IsSerialShow};
 
-    /// Of a closed board whose positions all have outcomes.
+    /// The results in a closed board whose positions all have outcomes.
     pub(crate) fn new(closed: Closed<'a>) -> Finished<'a>
         requires { (t : ℕ) → IsIn (batch_of_closed closed) t → IsFinished closed t }
         ensures { batch_of_finished result ≡ batch_of_closed closed.entry }
@@ -60,7 +60,7 @@ impl<'a> Finished<'a> {
         }
     }
 
-    /// How the transaction with a timestamp ends.
+    /// The outcome of the transaction with a timestamp.
     pub fn outcome(&self, t: u32) -> Outcome
         requires { IsIn (batch_of_finished self.now) t }
         ensures { IsSerialOutcome (batch_of_finished self.now) t result }
@@ -71,7 +71,7 @@ impl<'a> Finished<'a> {
         }
     }
 
-    /// What the key of the declared write of this index, counted from 0, of the transaction with a
+    /// What the key of a declared write of this index, counted from 0, of the transaction with a
     /// timestamp holds after the transaction.
     pub fn cell(&self, t: u32, index: u32) -> Cell
         requires txn { IsIn (batch_of_finished self.now) t }
@@ -82,7 +82,7 @@ impl<'a> Finished<'a> {
     }
 
     /// The value of the `show` of this index, counted from 0, of the transaction with a timestamp;
-    /// absence where the transaction aborts.
+    /// `Absent` if the transaction aborts.
     pub fn show(&self, t: u32, index: u32) -> Cell
         requires txn { IsIn (batch_of_finished self.now) t }
         requires index { index < shows_in_txn (batch_of_finished self.now) t }

@@ -1,11 +1,11 @@
 //! Hooks at fixed points of a run.
 
-/// How far a run is. Batches count from 1.
+/// A point of a run. Batches count from 1.
 #[derive(Clone, Copy, Debug, PartialEq, Eq)]
 pub enum Point {
     /// The plan of this batch is made.
     Planned(u32),
-    /// The position with this timestamp is claimed, and none of its slots is filled yet.
+    /// The position with this timestamp is claimed, and its slots are still empty.
     Claimed(u32),
     /// The position with this timestamp has its outcome.
     Finished(u32),

@@ -44,7 +44,8 @@ pub fn filled_and_done_stay()
 
 // ---- of inputs
 
-/// The input of a transaction has at each key that it declares the cell by the key's access.
+/// The input of a transaction has for each key that it declares the cell that the key's access
+/// takes.
 pub fn input_is_by_access()
     ensures reads { (b : Batch) (s : State) (t j : ℕ) (txn : Txn) (k : List ℕ) (a : Access) →
         txn_at b t ≡ Some txn → slice_get txn.reads j ≡ Some k →
@@ -54,8 +55,8 @@ pub fn input_is_by_access()
         slice_get (writes_at b t) j ≡ Some a → input b s t txn k ≡ cell_at b s k a }
 {}
 
-/// On a state that meets the board law, a position whose wanted slots are filled gets over its
-/// input the right outcome and the right cells, and no others.
+/// On a state that meets the board law, a position whose wanted slots are filled has over its input
+/// the right outcome and the right cells, and no others.
 pub fn input_gives_what_is_right()
     ensures outcome { (b : Batch) (s : State) (t : ℕ) (o : Outcome) →
         IsLawful b s → IsIn b t → HasWanted b s t →
@@ -71,8 +72,8 @@ pub fn sure_wants_its_reads()
         txn_at b t ≡ Some txn → IsSure txn → wanted_at b t ≡ reads_at b t }
 {}
 
-/// So where a pass knows the wanted slots of the position that it holds, to fill one of its slots
-/// with the right cell, or to finish it with the right outcome, is what the core allows.
+/// So if a pass knows the wanted slots of the position that it holds, the core allows it to fill
+/// one of its slots with the right cell, and to finish it with the right outcome.
 pub fn right_steps_are_the_cores()
     ensures fill { (b : Batch) (s : State) (p : ℕ) (x : Slot) (c : Cell) →
         IsLawful b s → IsSlot b x → Holds b (s.views p) x.txn → ¬ Contains (s.views p).filled x →
@@ -84,8 +85,8 @@ pub fn right_steps_are_the_cores()
 
 // ---- of shares
 
-/// Each position of a batch stands in the share of the worker whose number is its distance from the
-/// first, modulo the number of workers; and a share has positions of the batch alone.
+/// Each position of a batch is in the share of the worker whose number is its distance from the
+/// first, modulo the number of workers; and a share has only positions of the batch.
 pub fn shares_cover_the_batch()
     ensures covers { (first len workers t : ℕ) →
         first ≤ t → t < first + len → Contains (share first len ((t - first) % workers) workers) t }
@@ -93,7 +94,7 @@ pub fn shares_cover_the_batch()
         All (λ t. (first ≤ t) × (t < first + len)) (share first len worker workers) }
 {}
 
-/// What is deferred of a share is of the share.
+/// Deferred positions of a share belong to the share.
 pub fn set_aside_is_of_the_share()
     ensures { (xs ys : List ℕ) (t : ℕ) → IsPickedFrom xs ys → Contains xs t → Contains ys t }
 {}

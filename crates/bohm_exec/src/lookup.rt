@@ -13,8 +13,8 @@ use bohm_place::DeclaredSet;
 use bohm_tree::{Cell, MOST_KEYS};
 
 impl Stepper<'_, '_> {
-    /// Looks up the versions of the batch among the accesses of a declared set, and puts their
-    /// cells at their places. Returns the producer of the first one that isn't there yet.
+    /// Copies the cells of the accesses of a declared set that take a version of the batch, each to
+    /// its key's index. Returns the producer of the first version that isn't there yet.
     fn find(&mut self, t: u32, set: DeclaredSet, cells: &mut [Cell; MOST_KEYS]) -> Option<u32>
         requires pass { IsPassFor self.old t }
         requires wanted { WantsAllOf (batch_on self.old) t set }
@@ -42,7 +42,9 @@ impl Stepper<'_, '_> {
 }
 
 impl<G> Sweeper<'_, '_, G> {
-    /// The same of all that a position wants: of its reads and, unless it is sure, of its writes.
+    /// Copies the cells of all versions of the batch that a position wants: for its reads and,
+    /// unless it is sure, for its writes. Returns the producer of the first one that isn't there
+    /// yet.
     pub(crate) fn find_wanted(&mut self, t: u32) -> Option<u32>
         requires pass { IsPassFor self.old.stepper t }
         ensures looks { Looks self.old.stepper self.new.stepper }

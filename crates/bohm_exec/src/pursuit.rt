@@ -10,8 +10,8 @@ use crate::sweeper::Sweeper;
 use crate::turns::Turned;
 
 impl<G: Gate> Sweeper<'_, '_, G> {
-    /// Evaluates a position after all that it leads to, but for what other passes have. Returns a
-    /// position that another pass has, where it leads to one.
+    /// Evaluates a position after all positions that it leads to. If another pass holds one of
+    /// these, it stops, and returns that one.
     pub(crate) fn pursue(&mut self, start: u32) -> Option<u32>
         requires start { IsFreeFor self.old.stepper start }
         requires stack { IsEmptyFor (batch_on self.old.stepper) self.old.stack.now }

@@ -6,9 +6,9 @@ ghost use Rattle.std.specs.List.{filter, range_with_len};
 use bohm_tree::NoMemory;
 use std::alloc::Global;
 
-/// The positions of a batch of this first position and length that one of the workers sweeps: those
-/// whose distance from the first is `worker` modulo `workers`. They rise. The time grows with the
-/// length.
+/// The positions, in ascending order, that one of the workers sweeps of a batch with this first
+/// position and length: those whose distance from the first is `worker` modulo `workers`. The time
+/// grows with the length.
 pub fn share_of(
     alloc: Global,
     first: u32,

@@ -7,11 +7,11 @@ use crate::stepper::Stepper;
 use bohm_board::{Board, Pass};
 use bohm_txn::Scratch;
 
-/// What one worker goes from position to position with.
+/// What a worker uses for one position after another.
 #[derive(Drop)]
 pub(crate) struct Sweeper<'a, 'b, G> {
     pub(crate) stepper: Stepper<'a, 'b>,
-    /// Has room for as many positions as the batch has, and is empty between two pursuits.
+    /// Has capacity for as many positions as the batch has, and is empty between two pursuits.
     pub(crate) stack: &'a mut Vec<u32>,
     pub(crate) gate: &'a G,
     pub(crate) evaluator: Evaluator<'a>,

@@ -15,9 +15,9 @@ use bohm_tree::NoMemory;
 use bohm_txn::Scratch;
 use std::alloc::Global;
 
-/// Evaluates the positions of the share, in its order, each after all that it leads to, but for
-/// what other passes have: a position that leads to one of those is deferred. An error comes before
-/// the first step. The work stack has room for the batch, and the answer for the share.
+/// Evaluates the positions of the share, in its order, each after all that it leads to. If another
+/// pass holds one of these, the position is deferred. An error comes before the first step: the
+/// work stack has room for the batch, and the answer for the share.
 pub fn sweep<G: Gate>(
     alloc: Global,
     board: &Board,
@@ -46,7 +46,7 @@ pub fn sweep<G: Gate>(
             };
         }
     }
-    // Taken apart, the sweeper leaves the pass as it is now.
+    // Taking the sweeper apart ends its borrow of the pass.
     let Sweeper {
         stepper,
         stack: _,

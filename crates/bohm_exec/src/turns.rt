@@ -7,14 +7,14 @@ use crate::gate::{Gate, Point};
 use crate::sweeper::Sweeper;
 use bohm_board::{Claimed, Status};
 
-/// What a turn on a position comes to.
+/// The result of a turn on a position.
 #[derive(Clone, Copy)]
 pub(crate) enum Turned {
     /// It is Done.
     Done,
-    /// Another pass has it.
+    /// Another pass holds it.
     Busy,
-    /// The version of this transaction has to be there first.
+    /// The version of this transaction is needed first.
     Needs(u32),
 }
 
@@ -41,7 +41,7 @@ impl<G: Gate> Sweeper<'_, '_, G> {
         }
     }
 
-    /// A turn on a position: nothing is done for one that is Done or Busy.
+    /// A turn on a position. One that is Done or Busy stays as it is.
     pub(crate) fn turn(&mut self, t: u32) -> Turned
         requires { IsFreeFor self.old.stepper t }
         ensures turn { Turns self.old.stepper t result self.new.stepper }

@@ -1,9 +1,9 @@
 -- A log and the batches that it is cut into.
-use Rattle.std.proofs.Common.{◌≡◌, ℕ, ◌+◌, ◌-◌, ◌*◌, ◌/◌, ◌%◌, ◌<◌, ◌≤◌, ◌^◌, List, ◌++◌, length, take, sym, ap, ◌∙◌, arith}
+use Rattle.std.proofs.Common.{◌≡◌, ℕ, ◌+◌, ◌-◌, ◌*◌, ◌/◌, ◌%◌, ◌<◌, ◌≤◌, ◌^◌, List, ◌++◌, length, take, drop, length-drop, sym, ap, ◌∙◌, arith}
 use Rattle.std.proofs.Math.Nat.{mod-lt, mul-le-mul_right}
 use Rattle.std.proofs.Math.Seq.{take-add}
 use Rattle.std.proofs.lemmas.Nat.{div-add-mod'}
-use Rattle.std.proofs.lemmas.List.{take_all}
+use Rattle.std.proofs.lemmas.List.{length-take, take_all}
 use Rattle.std.proofs.lemmas.List.Sums.{count_by-le-length}
 use Rattle.bohm_tree.specs.Txn.{Txn}
 use Rattle.bohm_tree.specs.Keys.{is_among}
@@ -28,6 +28,15 @@ whole size log i size_ok past =
     let rest : n % size < size = mod-lt n size_ok in
     let most : n / size * size ≤ i * size = mul-le-mul_right size past in
     take_all (i * size) log (omega (arith, parts, rest, most))
+
+-- each of them has a transaction
+pub not_empty : (size : ℕ) (log : List Txn) (i : ℕ) → 1 ≤ size → i < batch_count size log → 0 < length (batch_at size log i)
+not_empty size log i size_ok low =
+    let n = length log + (size - 1) in
+    let parts : n / size * size + n % size ≡ n = div-add-mod' n size in
+    let next : (i + 1) * size ≡ i * size + size = omega arith in
+    let most : (i + 1) * size ≤ n / size * size = mul-le-mul_right size (omega (arith, low)) in
+    omega (arith, parts, next, most, length-take size (drop (i * size) log), length-drop (i * size) log)
 
 -- a gathering of a log has room for transactions, as long as a log has no more than its counters hold
 pub can_take : (log : List Txn) (batches : List Chained) (g : Gathering) (n : ℕ) → IsGathered log batches g → length log + n < 2 ^ 32 → CanTake n g

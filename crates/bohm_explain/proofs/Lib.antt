@@ -7,7 +7,9 @@ mod Rising
 mod Greatest
 mod Rules
 mod Chaining
+mod WalkBack
 mod Drawn
+mod LongestLaws
 mod Steps
 mod Listing
 mod Tallying
@@ -20,8 +22,10 @@ mod Ranks
 mod Leads
 mod HeatLines
 mod Banding
+mod LeftOver
 mod Texts
 mod Shallow
 mod Surveys
 mod Wants
 mod RunBatches
+mod Told

@@ -4,7 +4,6 @@ use Rattle.std.specs.List.{sum}
 use Rattle.std.proofs.lemmas.Bool.{cases_lt}
 use Rattle.std.proofs.lemmas.Nat.{div-mul-add}
 use Rattle.std.proofs.lemmas.List.{take_all}
-use Rattle.bohm_tree.specs.Txn.{Txn}
 use Rattle.bohm_line.specs.Cuttings.{Cutting, IsEven, ahead, txns_at}
 use Rattle.bohm_line.proofs.ForCallers.{ahead_next}
 use Rattle.bohm_explain.specs.Figures.{batch_at, batch_count}

@@ -13,7 +13,7 @@ use Rattle.bohm_place.specs.declared.declared_set.DeclaredSet.TheVariants.{Reads
 use Rattle.bohm_place.specs.Plans.{Planned, IsRightPlan, keys_in, planned_in}
 use Rattle.bohm_place.specs.Writers.{IsNewest}
 use Rattle.bohm_board.specs.declared.batch.Batch.{Batch}
-use Rattle.bohm_board.specs.Batches.{IsIn, Wants, first_of, plan_of, position, txns_of}
+use Rattle.bohm_board.specs.Batches.{IsIn, Wants, plan_of, position, txns_of}
 use Rattle.bohm_explain.specs.declared.arrow.Arrow.{Arrow}
 use Rattle.bohm_explain.specs.Chains.{IsWantedBy}
 use Rattle.bohm_explain.specs.Wanted.{newest_before, place_of, arrow_of, arrows, arrows_at, arrows_below, arrows_in, is_sure_at, keys_at}

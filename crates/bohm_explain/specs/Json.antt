@@ -65,7 +65,20 @@ limits_json t =
     codes ",\n\"execution_at_most\":" ++ hundredths_cell 0 (execution_limit t)
     ++ codes ",\"run_at_most\":" ++ hundredths_cell 0 (run_limit t)
 
-abbrev pub json_text : Bool → ℕ → List Figures → List Heat → List ℕ
-json_text summary top fs ranked =
+-- with n before it
+abbrev pub place_item : ℕ → ℕ → List ℕ
+place_item zero place = decimal place
+place_item (suc n) place = codes "," ++ decimal place
+
+abbrev pub places_from : ℕ → List ℕ → List ℕ
+places_from n [] = []
+places_from n (place ∷ places) = place_item n place ++ places_from (n + 1) places
+
+-- the transactions on the longest chain
+abbrev pub chain_json : List ℕ → List ℕ
+chain_json places = codes ",\n\"longest_chain\":[" ++ places_from 0 places ++ codes "]"
+
+abbrev pub json_text : Bool → ℕ → List Figures → List Heat → List ℕ → List ℕ
+json_text summary top fs ranked longest =
     codes "{" ++ batches_json summary fs ++ codes "\"all\":" ++ figures_json (totals_of fs)
-    ++ hottest_json top ranked ++ limits_json (totals_of fs) ++ codes "}\n"
+    ++ hottest_json top ranked ++ chain_json longest ++ limits_json (totals_of fs) ++ codes "}\n"

@@ -11,6 +11,9 @@ pub mod Ranking
 pub mod Hottest
 pub mod Verdict
 pub mod Json
+pub mod ChainText
+pub mod Longest
+pub mod Walks
 pub mod Printed
 pub mod Picture
 pub mod Waiting

@@ -1,7 +1,8 @@
 -- The picture of a batch, as text in Graphviz's language. Positions count from 0; transactions are drawn under their places in the log, of which
 -- `first` is that of the batch's first one.
-use Rattle.std.specs.Prelude.{ℕ, zero, suc, ◌+◌, ◌*◌, min, ◌==◌, nat_le, List, [], ◌++◌, length, flat_map, count_by, slice_index, slice_index_or, Bool, false, not, ◌&&◌, codes, decimal, if◌then◌else◌}
+use Rattle.std.specs.Prelude.{ℕ, zero, suc, ◌+◌, ◌-◌, ◌*◌, ◌/◌, min, ◌==◌, nat_le, List, [], ◌∷◌, ◌++◌, length, take, flat_map, Option, Some, None, count_by, slice_index, slice_index_or, Bool, false, not, ◌&&◌, codes, decimal, if◌then◌else◌}
 use Rattle.std.specs.Int.{div_ceil}
+use Rattle.std.specs.List.{find, list_any}
 use Rattle.bohm_place.specs.Chains.{greatest}
 use Rattle.bohm_explain.specs.declared.arrow.Arrow.{Arrow}
 use Rattle.bohm_explain.specs.declared.bands.Band.{Band}
@@ -123,7 +124,7 @@ depths_text b =
 
 abbrev pub count_text : Band → ℕ → List ℕ
 count_text b count =
-    depths_text b ++ codes ": " ++ decimal count ++ codes " transaction"
+    depths_text b ++ codes ": " ++ decimal count ++ codes " other"
     ++ shown (not (count == 1)) (codes "s")
 
 -- a band with n before it, and so many transactions
@@ -143,21 +144,75 @@ bands_below deepest width depths (suc n) =
 abbrev pub bands : ℕ → ℕ → List ℕ → List ℕ
 bands deepest width depths = bands_below deepest width depths (div_ceil deepest width)
 
-abbrev pub band_lines : List ℕ → List ℕ
-band_lines depths = bands (greatest depths) (band_width (greatest depths)) depths
+-- the bands down to the deepest, with so many of these depths in them
+abbrev pub band_lines : ℕ → List ℕ → List ℕ
+band_lines deepest depths = bands deepest (band_width deepest) depths
+
+-- ---- a chain beside the bands, each transaction at the band of its depth
+
+-- the depths of the positions below p that aren't drawn
+abbrev pub others_below : List ℕ → List ℕ → ℕ → List ℕ
+others_below drawn depths zero = []
+others_below drawn depths (suc p) =
+    others_below drawn depths p ++ (if list_any (λ q. q == p) drawn then [] else slice_index depths p ∷ [])
+
+abbrev pub others : List ℕ → List ℕ → List ℕ
+others drawn depths = others_below drawn depths (length depths)
+
+-- a transaction of the chain, with bands of this width
+abbrev pub link_node : ℕ → ℕ → List ℕ → ℕ → Node
+link_node first width depths p = record {
+  number = first + p;
+  depth = (slice_index depths p - 1) / width + 1;
+  sure = false;
+  longest = false;
+}
+
+abbrev pub link_nodes : ℕ → ℕ → List ℕ → List ℕ → List ℕ
+link_nodes first width depths drawn = flat_map (λ p. node_line (link_node first width depths p)) drawn
+
+-- the first arrow from one position to another
+abbrev pub leading : List Arrow → ℕ → ℕ → Option Arrow
+leading arrows p q = find (λ a. a.from == p && a.to == q) arrows
+
+abbrev pub link_text : ℕ → Option Arrow → List ℕ
+link_text first None = []
+link_text first (Some a) = arrow_line first false a
+
+-- of the first n + 1 transactions of the chain
+abbrev pub links_below : ℕ → List Arrow → List ℕ → ℕ → List ℕ
+links_below first arrows drawn zero = []
+links_below first arrows drawn (suc n) =
+    links_below first arrows drawn n ++ link_text first (leading arrows (slice_index drawn n) (slice_index drawn (n + 1)))
+
+abbrev pub links : ℕ → List Arrow → List ℕ → List ℕ
+links first arrows drawn = links_below first arrows drawn (length drawn - 1)
+
+-- what is drawn of the chain, which ends the text of the title
+abbrev pub chain_legend : ℕ → ℕ → List ℕ
+chain_legend drawn all =
+    codes "\\nellipses: " ++ decimal drawn ++ codes " of the " ++ decimal all
+    ++ codes " transactions on a heaviest chain; arrow: to one that wants the key's version\"];\n"
 
 -- the title above, and boxes close to one another
 abbrev pub depth_layout : List ℕ
-depth_layout = codes "\"];\n  labelloc=t;\n  ranksep=0.2;\n"
+depth_layout = codes "  labelloc=t;\n  ranksep=0.2;\n"
 
 abbrev pub band_style : List ℕ
 band_style = codes "  node [fontname=Helvetica, shape=box, height=0.3];\n"
 
-abbrev pub by_depth : ℕ → List ℕ → List ℕ
-by_depth batch depths =
-    opening batch ++ depth_layout ++ band_style ++ band_lines depths ++ closing
+abbrev pub link_style : List ℕ
+link_style = codes "  node [shape=ellipse];\n  edge [fontname=Helvetica];\n"
 
-abbrev pub picture_text : ℕ → ℕ → List Bool → List Arrow → List ℕ → List Bool → List ℕ
-picture_text batch first sure arrows depths longest =
+abbrev pub by_depth : ℕ → ℕ → List Arrow → List ℕ → List ℕ → ℕ → List ℕ
+by_depth batch first arrows depths drawn all =
+    opening batch ++ chain_legend (length drawn) all ++ depth_layout ++ band_style
+    ++ band_lines (greatest depths) (others drawn depths) ++ link_style
+    ++ link_nodes first (band_width (greatest depths)) depths drawn ++ links first arrows drawn ++ closing
+
+-- ---- either
+
+abbrev pub picture_text : ℕ → ℕ → List Bool → List Arrow → List ℕ → List Bool → List ℕ → List ℕ
+picture_text batch first sure arrows depths longest chain =
     if nat_le (length depths) MOST_NODES then by_transaction batch first sure arrows depths longest
-    else by_depth batch depths
+    else by_depth batch first arrows depths (take MOST_NODES chain) (length chain)

@@ -1,5 +1,5 @@
 -- What is printed of a log.
-use Rattle.std.specs.Prelude.{◌≡◌, ℕ, zero, suc, ◌+◌, ◌-◌, ◌*◌, ◌<◌, ◌≤◌, List, [], ◌∷◌, ◌++◌, map, Bool, if◌then◌else◌, Option, Some, None, IfSome, IsSomeAnd}
+use Rattle.std.specs.Prelude.{◌≡◌, ℕ, zero, suc, ◌+◌, ◌-◌, ◌*◌, ◌<◌, ◌≤◌, ◌⊎◌, List, [], ◌∷◌, ◌++◌, length, map, Bool, if◌then◌else◌, Option, Some, None, IfSome, IsSomeAnd}
 use Rattle.std.specs.List.{zip}
 use Rattle.bohm_tree.specs.Txn.{Txn}
 use Rattle.bohm_txn.specs.Sure.{is_sure}
@@ -8,6 +8,8 @@ use Rattle.bohm_explain.specs.declared.figures.Figures.{Figures}
 use Rattle.bohm_explain.specs.declared.heat.Heat.{Heat}
 use Rattle.bohm_explain.specs.declared.layout.Layout.{Layout}
 use Rattle.bohm_explain.specs.Asked.{Asked}
+use Rattle.bohm_explain.specs.ChainText.{chain_text}
+use Rattle.bohm_explain.specs.Chains.{IsChainOf, weight_of}
 use Rattle.bohm_explain.specs.Figures.{alike, batch_at, batch_count, depths, figures_in, totals_of}
 use Rattle.bohm_explain.specs.Heats.{AreHeatsOf, Chained}
 use Rattle.bohm_explain.specs.Heaviest.{heaviest_from, on_longest, through}
@@ -18,6 +20,7 @@ use Rattle.bohm_explain.specs.Ranking.{IsRanking}
 use Rattle.bohm_explain.specs.Table.{table_text}
 use Rattle.bohm_explain.specs.Verdict.{verdict_text}
 use Rattle.bohm_explain.specs.Wanted.{arrows}
+use Rattle.bohm_explain.specs.Weighing.{weights}
 
 -- the transactions on the longest chain of wanted versions that begins at each position
 abbrev pub heights : List Txn → List ℕ
@@ -35,21 +38,38 @@ chained_below size log (suc n) = chained_below size log n ++ chained (batch_at s
 abbrev pub chained_in : ℕ → List Txn → List Chained
 chained_in size log = chained_below size log (batch_count size log)
 
+-- ---- the longest chain
+
+-- a chain of a batch's transactions, under their places in the log
+pub record IsPlacedChain (size : ℕ) (log : List Txn) (places : List ℕ) : Type 0 where
+  pub index : ℕ
+  pub there : index < batch_count size log
+  pub chain : List ℕ
+  pub is : IsChainOf (batch_at size log index) chain
+  pub placed : places ≡ map (λ p. (index * size + 1) + p) chain
+
+-- none is longer; it is empty where the log has no transactions
+pub record IsLongestChain (size : ℕ) (log : List Txn) (places : List ℕ) : Type 0 where
+  pub placed : (places ≡ []) ⊎ IsPlacedChain size log places
+  pub none_longer : (other : List ℕ) → IsPlacedChain size log other → length other ≤ length places
+
 -- ---- figures
 
--- a table, the first so many keys, and the line of words; or the same in JSON
-abbrev pub figures_text : Layout → ℕ → List Figures → List Heat → List ℕ
-figures_text layout top fs ranked =
-    if layout.json then json_text layout.summary top fs ranked
-    else (table_text layout.summary fs ++ hottest_text top ranked ++ verdict_text (totals_of fs) ranked)
+-- a table, the first so many keys, the longest chain and the line of words; or the same in JSON
+abbrev pub figures_text : Layout → ℕ → List Figures → List Heat → List ℕ → List ℕ
+figures_text layout top fs ranked longest =
+    if layout.json then json_text layout.summary top fs ranked longest
+    else (table_text layout.summary fs ++ hottest_text top ranked ++ chain_text longest ++ verdict_text (totals_of fs) ranked)
 
--- the figures of a log, and its keys, the hottest first
+-- the figures of a log, its keys, the hottest first, and a longest chain
 pub record IsTextOf (size top : ℕ) (layout : Layout) (log : List Txn) (text : List ℕ) : Type 0 where
   pub heats : List Heat
   pub ranked : List Heat
+  pub chain : List ℕ
   pub are_heats : AreHeatsOf log (chained_in size log) heats
   pub is_ranking : IsRanking heats ranked
-  pub says : text ≡ figures_text layout top (figures_in size log) ranked
+  pub is_longest : IsLongestChain size log chain
+  pub says : text ≡ figures_text layout top (figures_in size log) ranked chain
 
 -- ---- a picture
 
@@ -57,19 +77,27 @@ pub record IsTextOf (size top : ℕ) (layout : Layout) (log : List Txn) (text : 
 abbrev pub longest : List Txn → List Bool
 longest txns = on_longest (depths txns) (heights txns) (greatest (depths txns))
 
-abbrev pub picture_of : ℕ → ℕ → List Txn → List ℕ
-picture_of number first txns = picture_text number first (map is_sure txns) (arrows txns) (depths txns) (longest txns)
+-- a chain of the batch, and none has more terms
+pub record IsHeaviestChain (txns : List Txn) (chain : List ℕ) : Type 0 where
+  pub is : IsChainOf txns chain
+  pub none_heavier : (other : List ℕ) → IsChainOf txns other → weight_of (weights txns) other ≤ weight_of (weights txns) chain
+
+-- where the batch is large, with one of its heaviest chains
+pub record IsPictureOf (number first : ℕ) (txns : List Txn) (text : List ℕ) : Type 0 where
+  pub chain : List ℕ
+  pub is_heaviest : IsHeaviestChain txns chain
+  pub says : text ≡ picture_text number first (map is_sure txns) (arrows txns) (depths txns) (longest txns) chain
 
 -- of the batch of this number, counted from 1
-abbrev pub picture_in : ℕ → List Txn → ℕ → List ℕ
-picture_in size log number = picture_of number ((number - 1) * size + 1) (batch_at size log (number - 1))
+abbrev pub IsPictureIn : ℕ → List Txn → ℕ → List ℕ → Type 0
+IsPictureIn size log number text = IsPictureOf number ((number - 1) * size + 1) (batch_at size log (number - 1)) text
 
 -- ---- what is asked
 
 -- the picture of a batch, or the figures where none is asked for
 abbrev pub Says : Asked → List Txn → List ℕ → Option ℕ → Type 0
 Says asked log text None = IsTextOf asked.batch asked.top asked.layout log text
-Says asked log text (Some number) = text ≡ picture_in asked.batch log number
+Says asked log text (Some number) = IsPictureIn asked.batch log number text
 
 -- the log has the batch whose picture is asked for, and this is the text of what is asked
 pub record IsAnswerTo (asked : Asked) (log : List Txn) (text : List ℕ) : Type 0 where

@@ -7,7 +7,7 @@ ghost use Rattle.bohm_explain.specs.Printed.{IsAnswerTo, LacksBatch};
 use crate::drawing::print_picture;
 use crate::explanation::print_log;
 use crate::request::Request;
-use bohm_log::{HashSeed, LogPart};
+use bohm_log::{DrawnSeed, LogPart};
 use bohm_tree::NoMemory;
 use std::alloc::Global;
 
@@ -16,7 +16,7 @@ use std::alloc::Global;
 /// n of different ones as n log n.
 pub fn answer(
     alloc: Global,
-    seed: HashSeed,
+    seed: DrawnSeed,
     log: &LogPart<'_>,
     request: Request,
 ) -> Result<Option<Vec<u8>>, NoMemory>

@@ -1,13 +1,12 @@
-//! A picture with a node for each band of depths.
+//! Bands of depths, drawn as a node each.
 
 ghost use Rattle.std.specs.Prelude.{◌≡◌, ℕ, ◌*◌, ◌++◌, ◌<◌, ◌≤◌, All, IfOk, count_by, length};
 ghost use Rattle.std.specs.Prelude.{slice_index};
 ghost use Rattle.bohm_explain.specs.Asked.{IsBetween};
-ghost use Rattle.bohm_explain.specs.Picture.{band_at, band_line, band_lines, band_width, by_depth, count_text, depths_text, is_in};
+ghost use Rattle.bohm_explain.specs.Picture.{band_at, band_line, band_lines, band_width, count_text, depths_text, is_in};
 
 use crate::decimal::put_decimal;
-use crate::figures::greatest;
-use crate::pieces::{put_joined, put_opening, put_where};
+use crate::pieces::{put_joined, put_where};
 use bohm_tree::NoMemory;
 
 /// The most transactions that are drawn one by one, and the most bands of depths.
@@ -21,7 +20,7 @@ struct Band {
 }
 
 /// So many depths are drawn as one that at most 200 nodes are drawn.
-fn band_width(deepest: u32) -> u32
+pub fn band_width(deepest: u32) -> u32
     requires few { deepest ≤ 4096 }
     ensures { result ≡ band_width deepest }
 {
@@ -77,7 +76,7 @@ fn put_count(out: &mut Vec<u8>, band: Band, count: u32) -> Result<(), NoMemory>
     put_depths(out, band)?;
     out.extend_from_slice(b": ")?;
     put_decimal(out, count)?;
-    out.extend_from_slice(b" transaction")?;
+    out.extend_from_slice(b" other")?;
     put_where(out, count != 1, b"s")
 }
 
@@ -94,33 +93,18 @@ fn put_band(out: &mut Vec<u8>, before: u32, band: Band, count: u32) -> Result<()
     put_joined(out, before)
 }
 
-fn put_bands(out: &mut Vec<u8>, depths: &[u32]) -> Result<(), NoMemory>
-    requires some { 0 < length depths.now }
+/// The bands down to the deepest, with so many of these depths in them.
+pub fn put_bands(out: &mut Vec<u8>, deepest: u32, depths: &[u32]) -> Result<(), NoMemory>
+    requires deepest { IsBetween 1 4096 deepest }
     requires few { length depths.now ≤ 4096 }
-    requires depths { All (IsBetween 1 4096) depths.now }
-    ensures { IfOk result (λ _. out.new.items ≡ out.old.items ++ band_lines depths.now) }
+    requires depths { All (IsBetween 1 deepest) depths.now }
+    ensures { IfOk result (λ _. out.new.items ≡ out.old.items ++ band_lines deepest depths.now) }
 {
-    let deepest = greatest(depths);
     let width = band_width(deepest);
     let counts = band_counts(deepest, width, depths);
     for before in 0..deepest.div_ceil(width) {
         let band = band_at(deepest, width, before);
         put_band(out, before, band, counts[before as usize])?;
     }
-    Ok(())
-}
-
-/// How many transactions each depth has.
-pub fn put_by_depth(out: &mut Vec<u8>, batch: u32, depths: &[u32]) -> Result<(), NoMemory>
-    requires some { 0 < length depths.now }
-    requires few { length depths.now ≤ 4096 }
-    requires depths { All (IsBetween 1 4096) depths.now }
-    ensures { IfOk result (λ _. out.new.items ≡ out.old.items ++ by_depth batch depths.now) }
-{
-    put_opening(out, batch)?;
-    out.extend_from_slice(b"\"];\n  labelloc=t;\n  ranksep=0.2;\n")?;
-    out.extend_from_slice(b"  node [fontname=Helvetica, shape=box, height=0.3];\n")?;
-    put_bands(out, depths)?;
-    out.extend_from_slice(b"}\n")?;
     Ok(())
 }

@@ -1,17 +1,21 @@
 //! Draws a batch of a log.
 
-ghost use Rattle.std.specs.Prelude.{◌≡◌, ◌<◌, ◌≤◌, length, map, IfNone, IfOk, IfSome};
+ghost use Rattle.std.specs.Prelude.{◌≡◌, ◌<◌, ◌≤◌, All, length, map, IfNone, IfOk, IfSome};
 ghost use Rattle.bohm_place.specs.Shares.{AreWellFormed};
 ghost use Rattle.bohm_txn.specs.Sure.{is_sure};
 ghost use Rattle.bohm_explain.specs.Asked.{IsBetween};
 ghost use Rattle.bohm_explain.specs.Figures.{batch_count};
-ghost use Rattle.bohm_explain.specs.Printed.{picture_in, picture_of};
+ghost use Rattle.bohm_explain.specs.Printed.{IsHeaviestChain, IsPictureIn, IsPictureOf};
+ghost use Rattle.bohm_explain.specs.Wanted.{arrows as wanted_in};
 
+use crate::arrow::Arrow;
 use crate::batches::{batch_at, batch_count};
-use crate::chains::on_longest;
+use crate::chains::{heaviest_to, on_longest};
 use crate::figures::greatest;
 use crate::picture::put_picture;
 use crate::waits::waits_in;
+use crate::walking::heaviest_chain;
+use crate::weights::weights;
 use bohm_log::LogPart;
 use bohm_place::{Newest, plan_alone};
 use bohm_tree::NoMemory;
@@ -30,6 +34,21 @@ fn sure_marks(alloc: Global, txns: &LogPart<'_>) -> Result<Vec<bool>, NoMemory>
     Ok(marks)
 }
 
+/// The positions of one of the heaviest chains of a batch with these wanted versions.
+fn heaviest_of(alloc: Global, txns: &LogPart<'_>, arrows: &[Arrow]) -> Result<Vec<u32>, NoMemory>
+    requires some { 0 < length txns.now }
+    requires few { length txns.now ≤ 4096 }
+    requires formed { AreWellFormed txns.now }
+    requires arrows { arrows.now ≡ wanted_in txns.now }
+    requires few_arrows { length arrows.now ≤ 131072 }
+    ensures chain { IfOk result (λ v. IsHeaviestChain txns.now v.items) }
+    ensures inside { IfOk result (λ v. All (λ p. p < length txns.now) v.items) }
+{
+    let weights = weights(alloc, txns)?;
+    let heaviest = heaviest_to(alloc, weights.as_slice(), arrows)?;
+    heaviest_chain(alloc, weights.as_slice(), arrows, heaviest.as_slice())
+}
+
 /// The picture of a batch of this number, whose first transaction has this place in the log.
 fn draw_batch(
     alloc: Global,
@@ -38,24 +57,28 @@ fn draw_batch(
     txns: &LogPart<'_>,
 ) -> Result<Vec<u8>, NoMemory>
     requires first { first ≤ 1000000 }
+    requires some { 0 < length txns.now }
     requires few { length txns.now ≤ 4096 }
     requires formed { AreWellFormed txns.now }
-    ensures { IfOk result (λ text. text.items ≡ picture_of number first txns.now) }
+    ensures { IfOk result (λ text. IsPictureOf number first txns.now text.items) }
 {
     let (_, plan) = plan_alone(alloc, Newest::new(alloc), 1, txns)?;
     let waits = waits_in(alloc, &plan, txns)?;
     let sure = sure_marks(alloc, txns)?;
     let depths = waits.depths.as_slice();
     let longest = on_longest(alloc, depths, waits.heights.as_slice(), greatest(depths))?;
+    let chain = heaviest_of(alloc, txns, waits.arrows.as_slice())?;
     let mut out = Vec::new(alloc);
     put_picture(
         &mut out,
+        alloc,
         number,
         first,
         sure.as_slice(),
         waits.arrows.as_slice(),
         depths,
         longest.as_slice(),
+        chain.as_slice(),
     )?;
     Ok(out)
 }
@@ -73,7 +96,7 @@ pub fn print_picture(
     requires number { 1 ≤ number }
     ensures there { IfOk result (λ o. IfSome o (λ _. number ≤ batch_count size log.now)) }
     ensures picture { IfOk result (λ o.
-        IfSome o (λ text. text.items ≡ picture_in size log.now number)) }
+        IfSome o (λ text. IsPictureIn size log.now number text.items)) }
     ensures lacking { IfOk result (λ o. IfNone o (batch_count size log.now < number)) }
 {
     if batch_count(log, size) < number {

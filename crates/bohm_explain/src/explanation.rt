@@ -7,10 +7,12 @@ ghost use Rattle.bohm_place.specs.Shares.{AreWellFormed};
 ghost use Rattle.bohm_explain.specs.Asked.{IsBetween};
 ghost use Rattle.bohm_explain.specs.Figures.{figures_in, figures_of};
 ghost use Rattle.bohm_explain.specs.Heats.{Chained};
-ghost use Rattle.bohm_explain.specs.Printed.{IsTextOf, chained, chained_in, figures_text};
+ghost use Rattle.bohm_explain.specs.Printed.{IsLongestChain, IsTextOf, chained, chained_in, figures_text};
+ghost use Rattle.bohm_explain.specs.Longest.{IsLonger};
 ghost use Rattle.bohm_explain.specs.Tallies.{CanTake, IsGathered};
 
 use crate::batches::{batch_at, batch_count};
+use crate::chain_text::put_chain;
 use crate::chains::chains_through;
 use crate::figures::{Figures, Totals, counted};
 use crate::gathering::Gathering;
@@ -18,11 +20,12 @@ use crate::heat::Heat;
 use crate::hottest::put_hottest;
 use crate::json::put_json;
 use crate::layout::Layout;
+use crate::longest::keep_longer;
 use crate::ranking::rank;
 use crate::table::put_table;
 use crate::verdict::put_verdict;
 use crate::waits::waits_in;
-use bohm_log::{HashSeed, LogPart};
+use bohm_log::{DrawnSeed, HashSeed, LogPart};
 use bohm_place::{Newest, Plan, plan_alone};
 use bohm_tree::NoMemory;
 use std::alloc::Global;
@@ -33,19 +36,25 @@ struct Survey {
     /// Of each batch.
     figures: Vec<Figures>,
     keys: Gathering,
+    /// The places in the log of a longest chain's transactions.
+    longest: Vec<u32>,
 }
 
-/// The figures of a batch, of which this is the plan, and whose keys are noted.
+/// The figures of a batch, of which this is the plan, whose keys are noted, and whose longest chain
+/// is kept where it is longer than the one before.
 fn explain_batch(
     alloc: Global,
     plan: &Plan,
     txns: &LogPart<'_>,
     keys: &mut Gathering,
+    longest: &mut Vec<u32>,
 ) -> Result<Figures, NoMemory>
     requires few { length txns.now ≤ 4096 }
     requires plannable { IsPlannable plan.now.first txns.now }
     requires right { IsRightPlan txns.now plan.now }
     requires room { CanTake (length txns.now) keys.old }
+    requires first { plan.now.first ≤ 1000000 }
+    ensures longest { OnOk result (IsLonger plan.now.first txns.now longest.old.items longest.new.items) }
     ensures figures { IfOk result (λ f. f ≡ figures_of txns.now) }
     ensures noted { OnOk result ((log : List Txn) (batches : List Chained)
         → IsGathered log batches keys.old
@@ -56,13 +65,14 @@ fn explain_batch(
     let depths = waits.depths.as_slice();
     let through = chains_through(alloc, arrows, depths, waits.heights.as_slice())?;
     keys.note(txns, arrows, through.as_slice())?;
+    keep_longer(alloc, txns, &waits, plan.first(), longest)?;
     counted(alloc, txns, arrows, depths)
 }
 
 /// The figures of each batch of a log, and its keys.
 fn survey_log(
     alloc: Global,
-    seed: HashSeed,
+    seed: DrawnSeed,
     log: &LogPart<'_>,
     size: u32,
 ) -> Result<Survey, NoMemory>
@@ -72,17 +82,23 @@ fn survey_log(
     ensures figures { IfOk result (λ s. s.figures.items ≡ figures_in size log.now) }
     ensures few { IfOk result (λ s. length s.figures.items ≤ 1000000) }
     ensures keys { IfOk result (λ s. IsGathered log.now (chained_in size log.now) s.keys) }
+    ensures longest { IfOk result (λ s. IsLongestChain size log.now s.longest.items) }
 {
     let mut figures = Vec::new(alloc);
-    let mut keys = Gathering::new(alloc, seed);
+    let mut keys = Gathering::new(alloc, HashSeed::from(seed));
+    let mut longest = Vec::new(alloc);
     let mut newest = Newest::new(alloc);
     for index in 0..batch_count(log, size) {
         let txns = batch_at(log, size, index);
         let (next, plan) = plan_alone(alloc, newest, index * size + 1, &txns)?;
         newest = next;
-        figures.push(explain_batch(alloc, &plan, &txns, &mut keys)?)?;
+        figures.push(explain_batch(alloc, &plan, &txns, &mut keys, &mut longest)?)?;
     }
-    Ok(Survey { figures, keys })
+    Ok(Survey {
+        figures,
+        keys,
+        longest,
+    })
 }
 
 /// The text of these figures and keys, the hottest first.
@@ -90,19 +106,22 @@ fn print_figures(
     alloc: Global,
     figures: &[Figures],
     ranked: &[Heat],
+    longest: &[u32],
     top: u32,
     layout: Layout,
 ) -> Result<Vec<u8>, NoMemory>
     requires { length figures.now ≤ 1000000 }
-    ensures { IfOk result (λ text. text.items ≡ figures_text layout top figures.now ranked.now) }
+    ensures { IfOk result (λ text. text.items
+        ≡ figures_text layout top figures.now ranked.now longest.now) }
 {
     let mut out = Vec::new(alloc);
     if layout.json {
-        put_json(&mut out, layout.summary, top, figures, ranked)?;
+        put_json(&mut out, layout.summary, top, figures, ranked, longest)?;
         return Ok(out);
     }
     put_table(&mut out, layout.summary, figures)?;
     put_hottest(&mut out, ranked, top)?;
+    put_chain(&mut out, longest)?;
     put_verdict(&mut out, Totals::of(figures), ranked)?;
     Ok(out)
 }
@@ -111,7 +130,7 @@ fn print_figures(
 /// the number of declared keys, and with the number n of different ones as n log n.
 pub fn print_log(
     alloc: Global,
-    seed: HashSeed,
+    seed: DrawnSeed,
     log: &LogPart<'_>,
     size: u32,
     top: u32,
@@ -129,6 +148,7 @@ pub fn print_log(
         alloc,
         survey.figures.as_slice(),
         ranked.as_slice(),
+        survey.longest.as_slice(),
         top,
         layout,
     )?;

@@ -1,7 +1,8 @@
 //! Figures in JSON.
 
 ghost use Rattle.std.specs.Prelude.{◌≡◌, ◌≤◌, ◌++◌, [], length, take, IfOk};
-ghost use Rattle.bohm_explain.specs.Json.{batches_json, field, figures_from, figures_item, figures_json, heat_item, heat_json, heats_from, hottest_json, hundredths_field, json_text, limits_json, separator};
+ghost use Rattle.bohm_explain.specs.Json.{batches_json, field, figures_from, figures_item, figures_json, heat_item, heat_json, heats_from, hottest_json};
+ghost use Rattle.bohm_explain.specs.Json.{chain_json, hundredths_field, json_text, limits_json, place_item, places_from, separator};
 ghost use Rattle.bohm_explain.specs.Table.{hundredths};
 
 use crate::decimal::put_decimal;
@@ -150,6 +151,37 @@ fn put_hottest(out: &mut Vec<u8>, top: u32, ranked: &[Heat]) -> Result<(), NoMem
     Ok(())
 }
 
+/// A transaction's place, after this many others.
+fn put_place_item(out: &mut Vec<u8>, before: usize, place: u32) -> Result<(), NoMemory>
+    ensures { IfOk result (λ _. out.new.items ≡ out.old.items ++ place_item before place) }
+{
+    if before == 0 {
+        return put_decimal(out, place);
+    }
+    out.push(b',')?;
+    put_decimal(out, place)
+}
+
+/// These places, as the items of a list.
+fn put_places(out: &mut Vec<u8>, places: &[u32]) -> Result<(), NoMemory>
+    ensures { IfOk result (λ _. out.new.items ≡ out.old.items ++ places_from 0 places.now) }
+{
+    for (index, place) in places.iter().enumerate() {
+        put_place_item(out, index, *place)?;
+    }
+    Ok(())
+}
+
+/// The transactions on the longest chain.
+fn put_chain(out: &mut Vec<u8>, longest: &[u32]) -> Result<(), NoMemory>
+    ensures { IfOk result (λ _. out.new.items ≡ out.old.items ++ chain_json longest.now) }
+{
+    out.extend_from_slice(b",\n\"longest_chain\":[")?;
+    put_places(out, longest)?;
+    out.extend_from_slice(b"]")?;
+    Ok(())
+}
+
 /// How many times as fast all workers can at most make the execution, and a run.
 fn put_limits(out: &mut Vec<u8>, totals: Totals) -> Result<(), NoMemory>
     ensures { IfOk result (λ _. out.new.items ≡ out.old.items ++ limits_json totals) }
@@ -161,17 +193,18 @@ fn put_limits(out: &mut Vec<u8>, totals: Totals) -> Result<(), NoMemory>
 }
 
 /// The figures of each batch, unless a summary is asked for, and of the log; the first `top` keys;
-/// and what workers can at most gain.
+/// the longest chain; and what workers can at most gain.
 pub fn put_json(
     out: &mut Vec<u8>,
     summary: bool,
     top: u32,
     figures: &[Figures],
     ranked: &[Heat],
+    longest: &[u32],
 ) -> Result<(), NoMemory>
     requires { length figures.now ≤ 1000000 }
     ensures { IfOk result (λ _. out.new.items
-        ≡ out.old.items ++ json_text summary top figures.now ranked.now) }
+        ≡ out.old.items ++ json_text summary top figures.now ranked.now longest.now) }
 {
     let totals = Totals::of(figures);
     out.extend_from_slice(b"{")?;
@@ -179,6 +212,7 @@ pub fn put_json(
     out.extend_from_slice(b"\"all\":")?;
     put_figures(out, totals)?;
     put_hottest(out, top, ranked)?;
+    put_chain(out, longest)?;
     put_limits(out, totals)?;
     out.extend_from_slice(b"}\n")?;
     Ok(())

@@ -1,19 +1,22 @@
 //! Laws over the definitions alone. No call uses them.
 
-ghost use Rattle.std.specs.Prelude.{◌≡◌, ◌+◌, ◌<◌, ◌↔◌, ℕ, List, Contains, length, slice_index, slice_index_or, true, false};
+ghost use Rattle.std.specs.Prelude.{◌≡◌, ◌+◌, ◌<◌, ◌≤◌, ◌↔◌, ℕ, List, Contains, IsSomeAnd, length, map, slice_index, slice_index_or, take, true, false};
 ghost use Rattle.bohm_tree.specs.Txn.{Txn};
 ghost use Rattle.bohm_explain.specs.declared.arrow.Arrow.{Arrow};
 ghost use Rattle.bohm_explain.specs.declared.heat.Heat.{Heat};
+ghost use Rattle.std.specs.Int.{div_ceil};
 ghost use Rattle.std.specs.List.{sum};
+ghost use Rattle.bohm_explain.specs.declared.bands.TheConstants.{MOST_NODES};
 ghost use Rattle.bohm_place.specs.Chains.{greatest};
 ghost use Rattle.bohm_place.specs.Plans.{IsRightPlan};
 ghost use Rattle.bohm_board.specs.declared.batch.Batch.{Batch};
 ghost use Rattle.bohm_board.specs.Batches.{IsIn, Wants, plan_of, position, txns_of};
 ghost use Rattle.bohm_line.specs.Cuttings.{Cutting, IsEven, txns_at};
 ghost use Rattle.bohm_explain.specs.Chains.{EndsAt, IsChainOf, IsGreatest, IsOn, IsWantedBy, LeadsOn, weight_of};
-ghost use Rattle.bohm_explain.specs.Figures.{batch_at, batch_count, depths};
+ghost use Rattle.bohm_explain.specs.Figures.{batch_at, batch_count, depths, figures_in};
 ghost use Rattle.bohm_explain.specs.Heaviest.{AreRising, greatest_wanted, greatest_wanting, heaviest_from, heaviest_to};
-ghost use Rattle.bohm_explain.specs.Printed.{heights, longest};
+ghost use Rattle.bohm_explain.specs.Picture.{band_width, leading};
+ghost use Rattle.bohm_explain.specs.Printed.{IsLongestChain, heights, longest};
 ghost use Rattle.bohm_explain.specs.Ranking.{IsRanking};
 ghost use Rattle.bohm_explain.specs.Wanted.{arrows};
 ghost use Rattle.bohm_explain.specs.Weighing.{weights};
@@ -65,6 +68,26 @@ pub fn chains_of_a_batch()
         (greatest (heaviest_to (weights txns) (arrows txns))) }
     ensures longest { (txns : List Txn) (p : ℕ) → p < length txns
         → (slice_index_or (longest txns) p false ≡ true) ↔ IsOn txns p (greatest (depths txns)) }
+{}
+
+/// The listed chain of a log has as many transactions as the deepest batch is deep.
+pub fn longest_is_deepest()
+    ensures { (size : ℕ) (log : List Txn) (places : List ℕ) → 1 ≤ size
+        → IsLongestChain size log places
+        → length places ≡ greatest (map (λ f. f.depth) (figures_in size log)) }
+{}
+
+/// Whatever the batch, a picture by depth has at most 200 bands, and at most 200 transactions of a
+/// chain.
+pub fn few_are_drawn()
+    ensures bands { (deepest : ℕ) → 1 ≤ deepest → div_ceil deepest (band_width deepest) ≤ 200 }
+    ensures chain { (chain : List ℕ) → length (take MOST_NODES chain) ≤ 200 }
+{}
+
+/// Each step of a chain that is drawn beside bands has its arrow.
+pub fn steps_are_drawn()
+    ensures { (wanted : List Arrow) (p q : ℕ) → IsWantedBy wanted p q
+        → IsSomeAnd (leading wanted p q) (λ a. (a.from ≡ p) × (a.to ≡ q)) }
 {}
 
 /// An arrow leads from one transaction to another exactly where, on the board of a run, the second

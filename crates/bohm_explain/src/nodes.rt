@@ -13,16 +13,17 @@ use bohm_tree::{Key, NoMemory};
 
 /// A transaction as it is drawn.
 #[derive(Clone, Copy, Debug, PartialEq, Eq)]
-struct Node {
+pub struct Node {
     /// Its place in the log, from 1.
-    number: u32,
-    depth: u32,
-    sure: bool,
+    pub number: u32,
+    /// The column or the band that it stands at, from 1.
+    pub depth: u32,
+    pub sure: bool,
     /// Whether it is on a longest chain.
-    longest: bool,
+    pub longest: bool,
 }
 
-fn put_node(out: &mut Vec<u8>, node: Node) -> Result<(), NoMemory>
+pub fn put_node(out: &mut Vec<u8>, node: Node) -> Result<(), NoMemory>
     ensures { IfOk result (λ _. out.new.items ≡ out.old.items ++ node_line node) }
 {
     out.extend_from_slice(b"  { rank=same; d")?;
@@ -81,7 +82,7 @@ fn put_key(out: &mut Vec<u8>, key: Key) -> Result<(), NoMemory>
     Ok(())
 }
 
-fn put_arrow(out: &mut Vec<u8>, first: u32, arrow: Arrow, bold: bool) -> Result<(), NoMemory>
+pub fn put_arrow(out: &mut Vec<u8>, first: u32, arrow: Arrow, bold: bool) -> Result<(), NoMemory>
     requires first { first ≤ 1000000 }
     requires inside { IsInside 4096 arrow }
     ensures { IfOk result (λ _. out.new.items ≡ out.old.items ++ arrow_line first bold arrow) }

@@ -1,27 +1,32 @@
 //! The picture of a batch, in Graphviz's language.
 
-ghost use Rattle.std.specs.Prelude.{◌≡◌, ◌++◌, ◌≤◌, All, IfOk, length};
+ghost use Rattle.std.specs.Prelude.{◌≡◌, ◌++◌, ◌<◌, ◌≤◌, All, IfOk, length};
 ghost use Rattle.bohm_explain.specs.Asked.{IsBetween};
 ghost use Rattle.bohm_explain.specs.Heaviest.{IsInside};
 ghost use Rattle.bohm_explain.specs.Picture.{picture_text};
 
 use crate::arrow::Arrow;
-use crate::bands::{MOST_NODES, put_by_depth};
+use crate::bands::MOST_NODES;
+use crate::beside::put_by_depth;
 use crate::nodes::put_by_transaction;
 use bohm_tree::NoMemory;
+use std::alloc::Global;
 
 /// Draws the batch of this number, whose first transaction has this place in the log, from what
 /// holds at each position: whether the transaction there
-/// is sure, its depth, and whether it is on a longest chain. A batch of more than 200 transactions
-/// is drawn by depth alone. The time grows with the numbers of transactions and of arrows.
+/// is sure, its depth, and whether it is on a longest chain. Of a batch of more than 200 transactions
+/// the first 200 of this chain are drawn, and the others by depth. The time grows with the numbers of
+/// transactions and of arrows.
 pub fn put_picture(
     out: &mut Vec<u8>,
+    alloc: Global,
     batch: u32,
     first: u32,
     sure: &[bool],
     arrows: &[Arrow],
     depths: &[u32],
     longest: &[bool],
+    chain: &[u32],
 ) -> Result<(), NoMemory>
     requires first { first ≤ 1000000 }
     requires few { length depths.now ≤ 4096 }
@@ -29,12 +34,13 @@ pub fn put_picture(
     requires sure { length sure.now ≡ length depths.now }
     requires longest { length longest.now ≡ length depths.now }
     requires inside { All (IsInside (length depths.now)) arrows.now }
-    ensures { IfOk result (λ _. out.new.items
-        ≡ out.old.items ++ picture_text batch first sure.now arrows.now depths.now longest.now) }
+    requires chain { All (λ p. p < length depths.now) chain.now }
+    ensures { IfOk result (λ _. out.new.items ≡ out.old.items
+        ++ picture_text batch first sure.now arrows.now depths.now longest.now chain.now) }
 {
     if depths.len() <= MOST_NODES as usize {
         put_by_transaction(out, batch, first, sure, arrows, depths, longest)
     } else {
-        put_by_depth(out, batch, depths)
+        put_by_depth(out, alloc, batch, first, arrows, depths, chain)
     }
 }

@@ -5,7 +5,7 @@ ghost use Rattle.bohm_explain_cli.specs.Explaining.{Explains, IsEarly, RefusesLo
 
 use crate::fault::ExplainFault;
 use bohm_explain::{Request, answer};
-use bohm_log::HashSeed;
+use bohm_log::DrawnSeed;
 use bohm_report::read_reported;
 use bohm_run::write_all;
 use std::alloc::Global;
@@ -36,7 +36,7 @@ pub fn explain_text<T: RandomSource, R: Read, W: Write>(
     ensures untouched { IfErr result (λ e. IsEarly e → writer.new ≡ writer.old) }
 {
     let checked = read_reported(rt, alloc, reader, report)?;
-    let Some(text) = answer(alloc, HashSeed::drawn(rt), &checked.log(), request)? else {
+    let Some(text) = answer(alloc, DrawnSeed::draw(rt), &checked.log(), request)? else {
         return Err(ExplainFault::NoBatch);
     };
     write_all(writer, text.as_slice())?;

@@ -61,6 +61,12 @@ Hottest keys:
   readers       those that declare to read it
   chain         transactions on the longest chain with a wait for the key
 
+Below them stand the transactions of one of the longest chains, by their places
+in the log: the first hundred of them, and with --json all.
+
+A picture has the transactions of the batch. Of a batch with more than 200 it has
+the first 200 of a heaviest chain, and how many others each depth has.
+
 The last line says which key is on the longest chain, and how many times as fast
 more executing workers can at most make the execution, and the whole run. The
 second follows from the first: as measured, execution takes an eighth of a run.

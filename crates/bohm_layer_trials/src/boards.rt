@@ -59,7 +59,7 @@ pub fn assert_in(rt: &impl Abort, batch: &Batch, t: u32)
     assert!(rt; below);
 }
 
-/// The same of each of these.
+/// Asserts for each of these that a transaction of the batch has the timestamp.
 fn assert_all_in(rt: &impl Abort, batch: &Batch, share: &[u32])
     ensures { All (IsIn batch.now) share.now }
 {
@@ -87,7 +87,7 @@ fn assert_aside(rt: &impl Abort, asides: &[Aside], t: u32)
     assert!(rt; aside, "at {t}");
 }
 
-/// Asserts that each position without an outcome stands in a pair.
+/// Asserts that each position without an outcome is in a pair.
 fn assert_set_aside(rt: &impl Abort, closed: &Closed, asides: &[Aside])
     ensures { AreSetAside closed.now asides.now }
 {
@@ -121,7 +121,7 @@ pub fn sweep_these<G: Gate>(
     swept.expect(rt, "memory")
 }
 
-/// The positions that one of some workers has.
+/// The positions of one of several workers.
 pub fn share(rt: &impl Abort, alloc: Global, batch: &Batch, worker: u32, workers: u32) -> Vec<u32>
     requires { worker < workers }
 {

@@ -22,7 +22,7 @@ struct Job {
     worker: u32,
 }
 
-// All positions: every second thread goes from the last one on.
+// All positions; every second thread has them in reverse.
 fn positions(rt: &impl Abort, alloc: Global, board: &Board, worker: u32) -> Vec<u32> {
     let mut all = share(rt, alloc, board.batch(), 0, 1);
     if worker % 2 == 1 {
@@ -68,7 +68,7 @@ fn takes(board: &Board, mut pass: Pass, t: u32) -> bool
     matches!(board.claim(&mut pass, t), Claimed::Mine)
 }
 
-// The positions that a thread gets, where it claims each by a pass of its own.
+// The positions that a thread gets, each claimed by a pass of its own.
 fn claim_all(rt: &impl Abort, alloc: Global, board: &Board, job: Job) -> Vec<u32>
     requires { IsFree board.now job.pass }
 {
@@ -85,7 +85,8 @@ fn claim_all(rt: &impl Abort, alloc: Global, board: &Board, job: Job) -> Vec<u32
     mine
 }
 
-// The positions that four threads get of a board of this log, and how many are without an outcome.
+// The positions that four threads get of a board of this log, and how many positions have no
+// outcome.
 fn race<R: Abort + Threads + Sync>(rt: &R, alloc: Global, log: &Checked) -> (Vec<u32>, u32) {
     let (board, pass, other) = Sweeper::new(rt, alloc, log).split();
     let claimed = thread::map_vec(

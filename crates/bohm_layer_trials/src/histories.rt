@@ -71,7 +71,7 @@ fn opened(rt: &impl Abort, alloc: Global, store: &str) -> History {
     History::open(alloc, doc.store()).expect(rt, "memory")
 }
 
-// Goes one step, and tells the history.
+// Runs a batch, or trims, and asserts what is readable then.
 fn goes_on_so<R: Abort + Threads + Sync>(rt: &R, alloc: Global, history: &mut History, part: &str) {
     let (step, want) = part.split_once('@').expect(rt, "a step");
     if step.starts_with("txn") {
@@ -83,8 +83,8 @@ fn goes_on_so<R: Abort + Threads + Sync>(rt: &R, alloc: Global, history: &mut Hi
     assert_eq!(rt; told(rt, alloc, history).as_str(), want, "{part}");
 }
 
-/// A history of the store before the first `#`. Of each further part what stands before `@` is run
-/// as a batch, or trims the history where it is a number; then the history is told so.
+/// Opens a history of the store before the first `#`. Each further part has a batch to run, or a
+/// number to trim at, and after `@` what is readable then.
 fn goes_so<R: Abort + Threads + Sync>(rt: &R, alloc: Global, row: &str) {
     let (store, parts) = row.split_once('#').expect(rt, "a store");
     let mut history = opened(rt, alloc, store);
@@ -93,7 +93,7 @@ fn goes_so<R: Abort + Threads + Sync>(rt: &R, alloc: Global, row: &str) {
     }
 }
 
-/// A removal, of which a trim leaves the version that says so.
+/// A removal. A trim keeps the version that records it.
 const REMOVAL: &str = "\
 a 5
 #@0 to 0, 1 versions
@@ -149,7 +149,7 @@ end
 --
 ";
 
-/// Each batch sees the one before, and a floor is still seen.
+/// Each batch sees the one before, and a floor is still readable.
 const COUNTERS: &str = "\
 a 0
 #txn
@@ -283,7 +283,7 @@ b 7
 c 3
 ";
 
-/// A store is listed by rising keys.
+/// A store is listed in the order of its keys.
 const NAMES: &str = "\
 a 7
 a1 7
@@ -335,19 +335,19 @@ fn assert_values(
     }
 }
 
-/// Where no store is read, and why.
+/// Asserts at which timestamps no store can be read, and why.
 fn assert_no_store(rt: &impl Abort, alloc: Global, history: &History, ts: u32, want: StoreFault) {
     assert_eq!(rt; history.store_at(alloc, ts).err(), Some(want), "at {ts}");
 }
 
-/// A history of a store with `a`, which the first transaction of a batch has dropped.
+/// A history of a store with `a`, which the first transaction of a batch dropped.
 fn removed<R: Abort + Threads + Sync>(rt: &R, alloc: Global) -> History {
     let mut history = opened(rt, alloc, "a 5\n");
     settle_log(rt, alloc, &mut history, DROPPING);
     history
 }
 
-/// What single keys held, and what is said outside the past.
+/// What single keys held, and the errors outside the past.
 #[test]
 fn values_of_the_past(rt: HostRuntime) {
     let mut history = removed(&rt, rt.alloc());

@@ -12,7 +12,7 @@ pub fn checked(rt: &impl Abort, alloc: Global, head: &str, log: &str) -> Checked
     check(doc).expect(rt, "a document")
 }
 
-/// The text as often as this.
+/// The text this many times.
 pub fn repeated(rt: &impl Abort, alloc: Global, text: &str, count: u32) -> String {
     let mut whole = String::new(alloc);
     for _ in 0..count {

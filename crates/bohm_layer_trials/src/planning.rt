@@ -18,7 +18,7 @@ use std::sync::atomic::{AtomicU64, Ordering};
 use std::thread;
 use std::thread::Threads;
 
-/// By a key's first byte.
+/// A partition by a key's first byte.
 #[derive(Drop)]
 pub struct FirstByte {
     parts: u32,
@@ -53,7 +53,8 @@ impl Partition for FirstByte {
     ghost in_range = { λ s k. mod-lt (slice_index k 0) s.some };
 }
 
-/// By a key's first byte. The first call waits, for a while, until a second one has begun.
+/// A partition by a key's first byte, whose first call waits for a while until a second one has
+/// begun.
 #[derive(Drop)]
 struct Meeting {
     bytes: FirstByte,
@@ -199,7 +200,7 @@ fn assert_plan(rt: &impl Abort, plan: &Plan, txns: &LogPart<'_>)
     assert_writes(rt, plan, txns);
 }
 
-// What `source` answers of a key at some timestamps.
+// Asserts what `source` returns for a key at some timestamps.
 fn assert_chain(rt: &impl Abort, shards: &Shards, part: u32, name: &[u8], sources: &[(u32, u32)])
     requires { part < length shards.now }
 {
@@ -237,7 +238,7 @@ fn no_chains(rt: &impl Abort, alloc: Global, parts: u32) -> Shards
     Shards::new(alloc, parts).expect(rt, "memory")
 }
 
-// Plans the batch after an earlier one, looks at the plan and the chains, and trims them twice.
+// Plans the batch after an earlier one, checks the plan and the chains, and trims these twice.
 fn plan_batch<R: Abort + Threads + Sync>(
     rt: &R,
     alloc: Global,
@@ -271,8 +272,7 @@ fn plan_batch<R: Abort + Threads + Sync>(
     assert_chains(rt, &shards, &parts, &a, &b, &c);
 }
 
-// Plans the batch after an earlier one of another log, by the numbers of keys, and looks at the
-// plan.
+// Plans the batch after an earlier one of another log, by key numbers, and checks the plan.
 fn plan_numbered<P: Partition, R: Abort + Threads + Sync>(
     rt: &R,
     alloc: Global,
@@ -309,7 +309,7 @@ fn every_number_of_workers_and_parts_gives_the_same_plan(rt: HostRuntime) {
     }
 }
 
-// Plans the batch alone, and looks at the plan.
+// Plans the batch on its own, and checks the plan.
 fn plan_alone<P: Partition, R: Abort + Threads + Sync>(rt: &R, alloc: Global, parts: &P, cc: u32)
     requires { 0 < cc }
 {

@@ -20,7 +20,7 @@ pub struct Sweeper<'a> {
     ghost free: { IsFree board pass },
 }
 
-/// How far a position is, and the cell of one of its slots.
+/// The status of a position, and the cell of one of its slots.
 pub fn seen(
     rt: &impl Abort,
     board: &Board,
@@ -65,7 +65,7 @@ fn first_batch<'a, R: Abort + Threads + Sync>(
 }
 
 impl<'a> Sweeper<'a> {
-    /// Of a log, over its own store.
+    /// A board of a log over its own store.
     pub fn new<R: Abort + Threads + Sync>(rt: &R, alloc: Global, log: &'a Checked) -> Sweeper<'a> {
         let batch = first_batch(rt, alloc, log);
         let (board, pass) = Board::open(alloc, batch).expect(rt, "memory");
@@ -95,7 +95,7 @@ impl<'a> Sweeper<'a> {
         (Sweeper { board, pass }, holder)
     }
 
-    /// How far a position is, and the cell of one of its slots.
+    /// The status of a position, and the cell of one of its slots.
     pub fn see(&mut self, rt: &impl Abort, t: u32, index: u32) -> (Status, Option<Cell>) {
         seen(rt, &self.board, &mut self.pass, t, index)
     }
@@ -116,7 +116,7 @@ impl<'a> Sweeper<'a> {
         Sweeper { board, pass }
     }
 
-    /// Closes the board: how many positions have no outcome, and what completing it leaves.
+    /// Closes the board: how many positions have no outcome, and the result of completing it.
     pub fn finish(self, rt: &impl Abort, alloc: Global, asides: &[Aside]) -> (u32, Finished<'a>) {
         let Sweeper { board, pass } = self;
         let closed = board.close(pass);

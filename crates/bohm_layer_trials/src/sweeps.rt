@@ -1,4 +1,4 @@
-//! Worked examples of sweeps, whose answers are the serial run's by hand.
+//! Worked examples of sweeps. Their answers are the serial run's, made by hand.
 
 ghost use Rattle.bohm_exec.specs.Turns.{IsFree};
 ghost use denote.Param.Send.{IsSync};
@@ -19,14 +19,14 @@ use std::thread::Threads;
 /// Shows `a` and counts it up.
 const COUNTER: &str = "txn\nreads a\nwrites a\nshow a\nset a = a + 1\nend\n";
 
-/// Counts `a` up from 0, so often.
+/// Increments `a` from 0, this many times.
 fn counters(rt: &impl Abort, alloc: Global, count: u32) -> Checked {
     let txns = repeated(rt, alloc, COUNTER, count);
     checked(rt, alloc, "log 1\na 0\n", txns.as_str())
 }
 
-/// Asserts that each of the first transactions, this many, shows how many are before it, and leaves
-/// one more.
+/// Asserts of this many transactions that each shows the number of those before it, and leaves one
+/// more.
 fn assert_counted(rt: &impl Abort, finished: &Finished, len: u32) {
     let mut before = 0u32;
     for t in 1..=len {
@@ -106,7 +106,7 @@ fn backwards(rt: HostRuntime) {
     assert_failed(&rt, &finished);
 }
 
-/// Sets a flag at each of the two points of position 1, and goes on from its claim once it is
+/// Sets a flag at each of the two points of position 1, and waits after its claim until it is
 /// released.
 #[derive(Drop)]
 struct FirstHeld {
@@ -203,7 +203,7 @@ fn work(rt: &impl Abort, alloc: Global, board: &Board, job: Job, gate: &FirstHel
     }
 }
 
-// One pass sweeps position 1, and another one looks at it.
+// One pass sweeps position 1, and another one looks at it meanwhile.
 fn hold_and_look<R: Abort + Threads + Sync>(
     rt: &R,
     alloc: Global,
@@ -299,7 +299,7 @@ fn sure_write_goes_past(rt: HostRuntime) {
     assert_eq!(rt; cells, (present(6), present(9)));
 }
 
-/// Counts the claims and the ends.
+/// Counts the claims and the finished positions.
 #[derive(Drop)]
 struct Counts {
     claimed: AtomicU64,
@@ -320,7 +320,7 @@ impl Gate for Counts {
     }
 }
 
-// What a sweep of eight leaves of which the fourth is held.
+// What a sweep of eight positions leaves if another pass holds the fourth.
 fn assert_held_up(rt: &impl Abort, sweeper: &mut Sweeper<'_>, counts: &Counts) {
     let counted = (
         counts.claimed.load(Ordering::SeqCst),
@@ -340,7 +340,7 @@ fn assert_held_up(rt: &impl Abort, sweeper: &mut Sweeper<'_>, counts: &Counts) {
     assert_eq!(rt; found.as_slice(), want.as_slice());
 }
 
-// Sweeps eight, of which another pass holds the fourth.
+// Sweeps eight positions, of which another pass holds the fourth.
 fn sweep_around(rt: &impl Abort, alloc: Global, sweeper: &mut Sweeper<'_>) -> Aside {
     let counts = Counts {
         claimed: AtomicU64::new(0),

@@ -15,7 +15,7 @@ pub struct ByteSum {
 }
 
 impl ByteSum {
-    /// The partition of this many parts, if there are any.
+    /// The partition with this many parts; `None` for 0.
     pub fn new(parts: u32) -> Option<ByteSum>
         ensures some { is_some result ≡ nat_lt 0 parts }
         ensures parts { IfSome result (λ s. s.parts ≡ parts) }

@@ -7,7 +7,7 @@ ghost use Rattle.bohm_txn.specs.Faulty.{IsWellFormedTxn};
 use crate::cuts::Cuts;
 use bohm_log::LogPart;
 
-/// A log, the timestamp of its first transaction and its cutting.
+/// A log, the timestamp of its first transaction, and the sizes of its batches.
 #[derive(Clone, Copy)]
 pub struct CutLog<'a> {
     first: u32,
@@ -22,7 +22,7 @@ impl<'a> CutLog<'a> {
     ghost use Rattle.bohm_line.specs.Cuttings.{ahead, first_at, txns_at};
     ghost use Rattle.bohm_line.specs.CutLogs.{cutting_of};
 
-    /// A log whose first transaction has this timestamp, and its cutting.
+    /// A log whose first transaction has this timestamp, with its batches.
     pub fn new(first: u32, txns: &'a LogPart<'a>, cuts: &'a Cuts) -> CutLog<'a>
         requires whole { sum cuts.now ≡ length txns.now }
         requires timestamps { first + length txns.now ≤ 2 ^ 32 }

@@ -39,7 +39,7 @@ fn are_sizes(sizes: &[u32]) -> bool
         .all(|size| 1 <= *size && *size <= LARGEST_BATCH)
 }
 
-// The sum of these numbers, if it is a number of 32 bits.
+// The sum of these numbers, if it has at most 32 bits.
 fn total_of(sizes: &[u32]) -> Option<u32>
     ensures { result ≡ (if nat_le (sum sizes.now) 4294967295 then Some (sum sizes.now) else None) }
 {
@@ -62,7 +62,7 @@ impl Cuts {
         Some(Cuts { sizes, total })
     }
 
-    /// Batches of this size, the last one of what is left of this length.
+    /// Batches of this size for a log of this length; the last one is what is left.
     pub fn even(alloc: Global, len: u32, batch: u32) -> Result<Cuts, NoMemory>
         requires some { 1 ≤ batch }
         requires few { batch ≤ 4096 }
@@ -79,7 +79,7 @@ impl Cuts {
         Ok(Cuts { sizes, total: len })
     }
 
-    /// How many transactions the batches have together.
+    /// The number of transactions in all batches.
     pub fn total(&self) -> u32
         ensures { result ≡ sum self.now }
     {
@@ -93,7 +93,7 @@ impl Cuts {
         self.sizes.len() as u32
     }
 
-    /// How many transactions the batch at this place has, counted from 0.
+    /// The number of transactions in the batch at this index, counted from 0.
     pub fn size(&self, place: u32) -> u32
         requires { place < length self.now }
         ensures size { result ≡ slice_index self.now place }

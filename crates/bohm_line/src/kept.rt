@@ -28,7 +28,7 @@ impl Kept {
         Kept { timestamps }
     }
 
-    /// How many timestamps they are.
+    /// Their number.
     pub fn timestamps(self) -> u32
         ensures { result ≡ self }
     {

@@ -9,9 +9,9 @@ use bohm_place::{BatchKeys, Newest, Plan, plan_alone};
 use bohm_tree::NoMemory;
 use std::alloc::Global;
 
-/// Plans the batches of a log on the caller's thread, each with its keys: the plans in the order of
-/// the batches. They depend on the log, its first timestamp and its cutting alone, and not on what
-/// a history holds.
+/// Plans the batches of a log on the caller's thread: the plans, with their keys, in the order of
+/// the batches. They depend only on the log, its first timestamp and its batches, and not on what a
+/// history holds.
 ///
 /// The time grows with the number of keys that the transactions declare; the memory with that, and
 /// with the number of the log's keys.

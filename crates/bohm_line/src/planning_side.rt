@@ -42,10 +42,10 @@ fn plan_batch<P: Partition, R: Threads + Sync>(
     Ok((newest, plan))
 }
 
-/// Plans the batches of a log and sends a note for each, in order: its plan, or that planning was
-/// refused, after which there is none. It calls `planned` with the number of each batch, counted
-/// from 1, once its plan is made and before it is sent. It blocks while the queue is full, forever
-/// if nobody takes.
+/// Plans the batches of a log and sends a note for each, in order: its plan, or, as the last note,
+/// that planning was refused. It calls `planned` with the number of each batch, counted from 1,
+/// after planning and before sending it. It blocks while the queue is full, forever if no note is
+/// taken.
 ///
 /// There are as many planning workers as arrays of newest placeholders. The time grows with the
 /// number of keys that the transactions declare.

@@ -31,7 +31,7 @@ impl Planners {
         Planners { count: 1 }
     }
 
-    /// This many planning workers, if that is any.
+    /// This many planning workers; `None` for 0.
     pub fn new(count: u32) -> Option<Planners>
         ensures { SomeIff result (0 < count) count }
     {
@@ -41,7 +41,7 @@ impl Planners {
         Some(Planners { count })
     }
 
-    /// How many they are.
+    /// Their number.
     pub fn count(self) -> u32
         ensures count { result ≡ self }
         ensures some { 0 < result }
@@ -76,7 +76,7 @@ impl Executors {
         Executors { count: 1 }
     }
 
-    /// This many executing workers, if that is any.
+    /// This many executing workers; `None` for 0.
     pub fn new(count: u32) -> Option<Executors>
         ensures { SomeIff result (0 < count) count }
     {
@@ -86,7 +86,7 @@ impl Executors {
         Some(Executors { count })
     }
 
-    /// How many they are.
+    /// Their number.
     pub fn count(self) -> u32
         ensures count { result ≡ self }
         ensures some { 0 < result }

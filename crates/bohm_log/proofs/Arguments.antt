@@ -1,5 +1,5 @@
 -- Declared names and the parameters that they are.
-use Rattle.std.proofs.Common.{◌≡◌, ℕ, ◌≤◌, List, [], ◌∷◌, map, length, refl, ap, sym, subst, ◌∙◌, arith}
+use Rattle.std.proofs.Common.{◌≡◌, ℕ, ◌≤◌, true, List, [], ◌∷◌, map, length, refl, ap, sym, subst, ◌∙◌, arith}
 use Rattle.std.specs.Prelude.{ℤ}
 use Rattle.std.proofs.lemmas.List.{length-map}
 use Rattle.bohm_tree.specs.Procedure.{stands_for}
@@ -59,9 +59,11 @@ parts_made params body p r w others large terms rows =
 
 -- a template made of an own instance's parts
 pub template_made : (params : List (List ℕ)) (body : BodyColumns) (p : Parts) (locals : List ℕ) → parts_in body ≡ p → IsOwn p locals
-    → body.reads.items ≡ map (declared_name params) p.reads → body.writes.items ≡ map (declared_name params) p.writes → IsTemplate params body locals
-template_made params body p locals same own r w = record {
+    → body.reads.items ≡ map (declared_name params) p.reads → body.writes.items ≡ map (declared_name params) p.writes
+    → (body.same_sets ≡ true → p.reads ≡ p.writes) → IsTemplate params body locals
+template_made params body p locals same own r w alike = record {
   own = subst (λ (x : Parts). IsOwn x locals) (sym same) own;
   reads = are_declared params p.reads body.reads.items r;
   writes = are_declared params p.writes body.writes.items w;
+  alike = λ is. r ∙ ap (map (declared_name params)) (alike is) ∙ sym w;
 }

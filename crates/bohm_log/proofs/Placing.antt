@@ -58,6 +58,23 @@ inserted_last k xs i h e =
     let all : take i xs ≡ xs = take_all i xs h in
     sym (e ∙ (λ j. all j ++ inserted k (none j)))
 
+-- ---- keys that are their own set
+
+pub own_last : (keys : List (List ℕ)) (i : ℕ) → length keys ≤ i + 1 → i < length keys → key_set (drop i keys) ≡ drop i keys
+own_last keys i h inside =
+    let none : drop (suc i) keys ≡ [] = drop_all (suc i) keys (omega arith) in
+    let here : drop i keys ≡ get_or keys i [] ∷ [] = drop-cons keys i [] inside ∙ ap (λ (ks : List (List ℕ)). get_or keys i [] ∷ ks) none in
+    ap key_set here ∙ sym here
+
+pub own_further : (keys : List (List ℕ)) (i : ℕ) (k x : List ℕ) → i + 1 < length keys → k ≡ get_or keys i k → x ≡ get_or keys (i + 1) x
+    → slice_cmp nat_cmp k x ≡ Less → key_set (drop (i + 1) keys) ≡ drop (i + 1) keys → key_set (drop i keys) ≡ drop i keys
+own_further keys i k x inside first second less own =
+    let there : drop (i + 1) keys ≡ x ∷ drop (i + 1 + 1) keys = split_at keys (i + 1) x inside second in
+    let here : drop i keys ≡ k ∷ drop (i + 1) keys = split_at keys i k (omega arith) first in
+    ap key_set here ∙ ap (inserted k) own ∙ ap (inserted k) there
+    ∙ ap (λ o. inserted_by o k x (drop (i + 1 + 1) keys) (inserted k (drop (i + 1 + 1) keys))) less
+    ∙ ap (λ (ks : List (List ℕ)). k ∷ ks) (sym there) ∙ sym here
+
 -- ---- where they are
 
 equal_keys : (k x : List ℕ) → slice_cmp nat_cmp k x ≡ Equal → bytes_eq k x ≡ true

@@ -1,12 +1,14 @@
 -- Where a name stands in a list of names.
-use Rattle.std.proofs.Common.{◌≡◌, ℕ, ◌+◌, true, false, cond, List, [], ◌∷◌, ◌++◌, Some, None, get_or, refl, ap, sym, ◌∙◌, slice_get}
+use Rattle.std.proofs.Common.{◌≡◌, ℕ, zero, suc, ◌+◌, true, false, cond, List, [], ◌∷◌, ◌++◌, Some, None, get_or, refl, ap, sym, ◌∙◌, slice_get}
 use Rattle.std.specs.Prelude.{Bool, ◌||◌}
 use Rattle.std.specs.List.{list_any, position, position_from}
 use Rattle.std.specs.Str.{bytes_eq}
 use Rattle.std.proofs.lemmas.Iterator.Adapters.{position_from-zero}
 use Rattle.std.proofs.lemmas.List.Quantifiers.{position-Some}
-use Rattle.std.proofs.lemmas.Option.{slice_get-get_or}
-use Rattle.std.proofs.lemmas.Slice.Eq.{bytes_eq-Decides}
+use Rattle.std.proofs.lemmas.Bool.{or_right}
+use Rattle.std.proofs.lemmas.Option.{slice_get-get_or, same_Some}
+use Rattle.std.specs.Cmp.Lexicographic.{pointwise}
+use Rattle.std.proofs.lemmas.Slice.Eq.{bytes_eq-Decides, slice_eq-Decides}
 use Rattle.bohm_tree.specs.Keys.{place}
 use Rattle.bohm_log.specs.Interning.{with_name}
 use Rattle.bohm_log.specs.Parts.{IsApart}
@@ -44,3 +46,15 @@ pub at_its_number : (names : List (List ℕ)) (k : List ℕ) (i : ℕ) → Some 
 at_its_number names k i e =
     let p = position-Some (bytes_eq k) names i k (sym e) in
     slice_get-get_or names i k p.0 ∙ ap Some (sym ((bytes_eq-Decides k (get_or names i k)).0 p.1))
+
+any_at : (names : List (List ℕ)) (k : List ℕ) (i : ℕ) → slice_get names i ≡ Some k → list_any (bytes_eq k) names ≡ true
+any_at [] k i e = absurd cc
+any_at (x ∷ xs) k zero e = rw (same_Some x k e) (rw ((bytes_eq-Decides k k).1 refl) refl)
+any_at (x ∷ xs) k (suc i) e = or_right (bytes_eq k x) (list_any (bytes_eq k) xs) (any_at xs k i e)
+
+-- a name that stands among names has its number, and none comes
+pub named_already : (names : List (List ℕ)) (k : List ℕ) (i : ℕ) → slice_get names i ≡ Some k → names ≡ with_name names k
+named_already names k i e = ap (λ b. cond b names (names ++ k ∷ [])) (sym (any_at names k i e))
+
+pub same_sets : (xs ys : List (List ℕ)) → true ≡ pointwise bytes_eq xs ys → xs ≡ ys
+same_sets xs ys e = (slice_eq-Decides bytes_eq-Decides xs ys true e).0 refl

@@ -73,6 +73,7 @@ pub record IsTemplate (params : List (List ℕ)) (body : BodyColumns) (locals : 
   pub own : IsOwn (parts_in body) locals
   pub reads : AreDeclared params body.reads.items
   pub writes : AreDeclared params body.writes.items
+  pub alike : body.same_sets ≡ true → body.reads.items ≡ body.writes.items
 
 -- ---- other keys
 

@@ -103,6 +103,15 @@ pub record NumbersStand (c : Shared) (from : ℕ) (names : List (List ℕ)) : Ty
   pub named : AllNamed c.names numbers
   pub same : names_at c.names numbers ≡ names
 
+-- the numbers of these names stand from an offset on, and none behind them
+pub record NumbersEnd (c : Shared) (from : ℕ) (names : List (List ℕ)) : Type 0 where
+  pub before : List ℕ
+  pub numbers : List ℕ
+  pub ids : c.ids ≡ before ++ numbers
+  pub begin : from ≡ length before
+  pub named : AllNamed c.names numbers
+  pub same : names_at c.names numbers ≡ names
+
 -- a list came at the end of a column, between these offsets
 pub record Lands {A : Type 0} (column part : List A) (from to : ℕ) : Type 0 where
   pub rise : from ≤ to

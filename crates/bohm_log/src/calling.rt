@@ -1,6 +1,6 @@
 //! Builds the instance of a call from a procedure's columns.
 
-ghost use Rattle.std.specs.Prelude.{◌≡◌, ◌≤◌, ◌++◌, map, length, OnOk, IfOk};
+ghost use Rattle.std.specs.Prelude.{◌≡◌, ◌<◌, ◌≤◌, ◌+◌, ◌++◌, true, drop, map, length, OnOk, IfOk};
 ghost use Rattle.bohm_tree.specs.KeySets.{inserted, key_set};
 ghost use Rattle.bohm_tree.specs.Procedure.{is_minus};
 ghost use Rattle.bohm_log.specs.Calling.{literal_term, literal_large, value_terms, value_large};
@@ -87,6 +87,72 @@ fn find_places(places: &mut Vec<u32>, set: &[Key], keys: &[Key]) -> Result<(), L
     Ok(())
 }
 
+/// Whether the key at a place is below the next one, if there is one.
+#[tactic(auto, using(crate::proofs::Placing::own_further, crate::proofs::Placing::own_last))]
+fn is_below_next(keys: &[Key], i: usize) -> bool
+    requires { i < length keys.now }
+    ensures { result ≡ true → key_set (drop (i + 1) keys.now) ≡ drop (i + 1) keys.now
+        → key_set (drop i keys.now) ≡ drop i keys.now }
+{
+    match keys.get(i + 1) {
+        Some(next) => match keys[i].cmp(next) {
+            Ordering::Less => true,
+            Ordering::Equal | Ordering::Greater => false,
+        },
+        None => true,
+    }
+}
+
+/// Whether each key is below the next.
+fn are_rising(keys: &[Key]) -> bool
+    ensures { result ≡ true → key_set keys.now ≡ keys.now }
+{
+    for done in 0..keys.len() {
+        if !is_below_next(keys, keys.len() - 1 - done) {
+            return false;
+        }
+    }
+    true
+}
+
+/// The places of keys that are their own set.
+fn count_places(places: &mut Vec<u32>, keys: &[Key]) -> Result<(), LogFault>
+    requires { length keys.now ≤ 16 }
+    ensures { OnOk result (ArePlaces keys.now keys.now places.new.items) }
+{
+    places.clear();
+    for i in 0..keys.len() {
+        places.push(i as u32)?;
+    }
+    Ok(())
+}
+
+/// The set of some keys, and where each of them stands in it.
+fn settle(set: &mut Vec<Key>, places: &mut Vec<u32>, keys: &[Key]) -> Result<(), LogFault>
+    requires { length keys.now ≤ 16 }
+    ensures set { OnOk result (set.new.items ≡ key_set keys.now) }
+    ensures places { OnOk result (ArePlaces keys.now set.new.items places.new.items) }
+{
+    if are_rising(keys) {
+        copy_from(set, keys)?;
+        count_places(places, keys)?;
+        return Ok(());
+    }
+    fill_set(set, keys)?;
+    find_places(places, set.as_slice(), keys)?;
+    Ok(())
+}
+
+/// Makes a list the copy of another one.
+fn copy_from<T: Copy>(copy: &mut Vec<T>, items: &[T]) -> Result<(), LogFault>
+    ensures { OnOk result (copy.new.items ≡ items.now) }
+{
+    copy.clear();
+    copy.extend_from_slice(items)?;
+    Ok(())
+}
+
+#[inline(always)]
 fn place_or_none(places: &[u32], i: u32) -> u32
     ensures { result ≡ slice_index_or places.now i 0 }
 {
@@ -96,6 +162,7 @@ fn place_or_none(places: &[u32], i: u32) -> u32
     }
 }
 
+#[inline(always)]
 fn term_to(places: &[u32], term: &TermRow) -> TermRow
     ensures { result ≡ term_to places.now term.now }
 {
@@ -110,7 +177,8 @@ fn term_to(places: &[u32], term: &TermRow) -> TermRow
             minus: term.minus,
             place: 0,
         },
-        AtomKind::Small | AtomKind::Large | AtomKind::Local => *term,
+        // The kinds aren't listed: two tests are faster than a jump by the kind.
+        _ => *term,
     }
 }
 
@@ -301,26 +369,32 @@ impl CallBuffer {
         }
     }
 
-    /// The sets of a call, and where the procedure's names stand in them.
+    /// The sets of a call, and where the procedure's names stand in them. What a procedure reads
+    /// and writes in the same order is settled once.
     fn fill_sets(&mut self, body: &BodyColumns, args: &[Key]) -> Result<(), LogFault>
         requires reads { length body.now.reads.items ≤ 16 }
         requires writes { length body.now.writes.items ≤ 16 }
+        requires alike { body.now.same_sets ≡ true → body.now.reads.items ≡ body.now.writes.items }
         ensures { OnOk result (HasSets args.now body.now self.new) }
     {
         resolve(&mut self.read_keys, body.reads.as_slice(), args)?;
-        resolve(&mut self.write_keys, body.writes.as_slice(), args)?;
-        fill_set(&mut self.reads, self.read_keys.as_slice())?;
-        fill_set(&mut self.writes, self.write_keys.as_slice())?;
-        find_places(
+        settle(
+            &mut self.reads,
             &mut self.read_places,
-            self.reads.as_slice(),
             self.read_keys.as_slice(),
         )?;
-        find_places(
+        if body.same_sets {
+            copy_from(&mut self.writes, self.reads.as_slice())?;
+            copy_from(&mut self.write_places, self.read_places.as_slice())?;
+            return Ok(());
+        }
+        resolve(&mut self.write_keys, body.writes.as_slice(), args)?;
+        settle(
+            &mut self.writes,
             &mut self.write_places,
-            self.writes.as_slice(),
             self.write_keys.as_slice(),
-        )
+        )?;
+        Ok(())
     }
 
     /// The columns of a call.
@@ -333,6 +407,7 @@ impl CallBuffer {
     ) -> Result<(), LogFault>
         requires reads { length body.now.reads.items ≤ 16 }
         requires writes { length body.now.writes.items ≤ 16 }
+        requires alike { body.now.same_sets ≡ true → body.now.reads.items ≡ body.now.writes.items }
         requires lets { length places.now ≤ length body.now.rows.items }
         requires values { length values.now ≡ length places.now }
         ensures { OnOk result

@@ -1,16 +1,20 @@
 //! The columns that all transactions share.
 
-ghost use Rattle.std.specs.Prelude.{◌≡◌, [], ◌∷◌, IfOk, OnOk, OnErr, length};
+ghost use Rattle.std.specs.Prelude.{◌≡◌, ◌≤◌, [], ◌∷◌, ◌++◌, IfOk, OnOk, OnErr, Some, true};
+ghost use Rattle.std.specs.Prelude.{drop, length, slice_get};
 ghost use Rattle.std.specs.List.{IsDistinct};
 ghost use Rattle.std.specs.Str.{bytes_eq};
 ghost use Rattle.bohm_log.specs.Parts.{Begins};
 ghost use Rattle.bohm_log.specs.Drafting.{parts_of};
 ghost use Rattle.bohm_log.specs.Columns.{shared_of, Interns, NumbersCome, NumbersStand, Lands};
+ghost use Rattle.bohm_log.specs.Columns.{NumbersEnd};
+ghost use Rattle.bohm_log.specs.Interning.{with_name};
 ghost use Rattle.bohm_log.specs.Columns.{SetsCome, Appends, nothing_shared};
 ghost use Rattle.bohm_log.specs.Partial.{shared_seen};
 ghost use Rattle.bohm_log.specs.Slices.{parts_by};
 
 use crate::fault::LogFault;
+use crate::name_hints::NameHints;
 use crate::names::Names;
 use crate::row::{StmtRow, TermRow};
 use crate::sheet::Sheet;
@@ -20,9 +24,17 @@ use bohm_tree::{Edition, Key};
 use std::alloc::Global;
 use std::hash::BuildHasher;
 
+/// How many entries a cleared column keeps room for, however few it had.
+const KEPT_ROOM: usize = 4096;
+
+/// For how many names to a number cleared columns keep their names.
+const KEPT_NAMES: usize = 4;
+
 #[derive(Drop)]
 pub struct Columns<S: BuildHasher> {
     pub names: Names<S>,
+    /// Where names were found last.
+    pub hints: NameHints,
     pub ids: Vec<u32>,
     pub others: Vec<Key>,
     pub large: Vec<u64>,
@@ -62,6 +74,7 @@ impl<S: BuildHasher> Columns<S> {
     {
         Columns {
             names: Names::new(alloc, hasher),
+            hints: NameHints::new(alloc),
             ids: Vec::new(alloc),
             others: Vec::new(alloc),
             large: Vec::new(alloc),
@@ -87,14 +100,80 @@ impl<S: BuildHasher> Columns<S> {
     }
 }
 
+/// Removes all entries of a column. It keeps room for four times as many, or for some thousand.
+pub(crate) fn empty<T: Copy>(column: &mut Vec<T>)
+    ensures { column.new.items ≡ [] }
+{
+    let most = column.len().saturating_mul(4).max(KEPT_ROOM);
+    column.clear();
+    if column.capacity() > most {
+        column.shrink_to_fit();
+    }
+}
+
+/// Whether two sets have the same keys.
+#[tactic(auto, using(crate::proofs::Seeking::same_sets))]
+pub(crate) fn are_same(one: &[Key], other: &[Key]) -> bool
+    ensures { result ≡ true → one.now ≡ other.now }
+{
+    one == other
+}
+
+/// Adds the entries of a column from this offset on once more.
+fn repeat_end(column: &mut Vec<u32>, from: usize) -> Result<(), LogFault>
+    requires { from ≤ length column.old.items }
+    ensures ok { OnOk result (column.new.items ≡ column.old.items ++ drop from column.old.items) }
+    ensures err { OnErr result (column.new.items ≡ column.old.items) }
+{
+    column.extend_from_within(from..)?;
+    Ok(())
+}
+
+/// The number of a name, which is added if it is new. It is hashed only if it isn't where it was
+/// found last.
+#[inline(always)]
+#[tactic(auto, using(crate::proofs::Seeking::named_already))]
+fn number_of<S: BuildHasher + Drop>(
+    names: &mut Names<S>,
+    hints: &mut NameHints,
+    name: Key,
+) -> Result<u32, LogFault>
+    ensures names { OnOk result (names.new ≡ with_name names.old name) }
+    ensures named { IfOk result (λ id. slice_get names.new id ≡ Some name) }
+    ensures err { OnErr result (names.new ≡ names.old) }
+{
+    if let Some(number) = hints.number(names.as_slice(), &name) {
+        return Ok(number);
+    }
+    let number = names.id(name)?;
+    hints.note(&name, number);
+    Ok(number)
+}
+
 impl<S: BuildHasher + Drop> Columns<S> {
+    /// Removes what the transactions had. Names stay with their numbers, for transactions that
+    /// declare them again, where they are at most four times as many as keys that were declared:
+    /// else all go.
+    pub fn clear(&mut self)
+        ensures { (shared_of self.new).ids ≡ [] }
+    {
+        if self.names.len() / KEPT_NAMES > self.ids.len() {
+            self.names.clear();
+        }
+        empty(&mut self.ids);
+        empty(&mut self.others);
+        empty(&mut self.large);
+        empty(&mut self.terms);
+        empty(&mut self.rows);
+    }
+
     /// Adds the number of a name.
     fn add_name(&mut self, name: Key) -> Result<(), LogFault>
         ensures ok { OnOk result
             (NumbersCome (shared_of self.old) (shared_of self.new) (name ∷ [])) }
         ensures err { OnErr result (Interns (shared_of self.old) (shared_of self.new)) }
     {
-        let id = self.names.id(name)?;
+        let id = number_of(&mut self.names, &mut self.hints, name)?;
         self.ids.push(id)?;
         Ok(())
     }
@@ -141,6 +220,21 @@ impl<S: BuildHasher + Drop> Columns<S> {
         Ok(())
     }
 
+    /// Adds the numbers of names that are written. Where they are the reads, whose numbers stand
+    /// from `start` on up to the end, these come once more.
+    fn add_written(&mut self, reads: &[Key], start: usize, writes: &[Key]) -> Result<(), LogFault>
+        requires { NumbersEnd (shared_of self.old) start reads.now }
+        ensures ok { OnOk result
+            (NumbersCome (shared_of self.old) (shared_of self.new) writes.now) }
+        ensures err { OnErr result (Interns (shared_of self.old) (shared_of self.new)) }
+    {
+        if are_same(reads, writes) {
+            repeat_end(&mut self.ids, start)?;
+            return Ok(());
+        }
+        self.add_writes(reads, start, writes)
+    }
+
     /// Adds the numbers of the reads and then of the writes. The three offsets are where the reads
     /// begin, where the writes begin and where they end.
     #[tactic(auto, using(crate::proofs::Widening::interns_itself))]
@@ -153,7 +247,7 @@ impl<S: BuildHasher + Drop> Columns<S> {
         let start = offset(self.ids.len())?;
         self.add_names(reads)?;
         let middle = offset(self.ids.len())?;
-        self.add_writes(reads, start as usize, writes)?;
+        self.add_written(reads, start as usize, writes)?;
         let end = offset(self.ids.len())?;
         Ok((start, middle, end))
     }

@@ -10,8 +10,8 @@ use crate::table::Head;
 use bohm_tree::Key;
 use std::marker::Model;
 
-/// The names of a log's keys, and for the transactions of a part of it the numbers of the keys that
-/// each declares. It is apart from what the transactions do.
+/// The names of a log's keys and, for each transaction of a part of it, the numbers of the keys
+/// that it declares. It has nothing of what the transactions do.
 #[derive(Drop)]
 pub struct DeclaredKeys<'a> {
     pub(crate) names: &'a [Key],

@@ -100,6 +100,14 @@ impl Doc {
         self.log.push_call(template, buffer, keys, values)
     }
 
+    /// Removes the store and all transactions. Room is kept for others.
+    pub fn clear(&mut self)
+        ensures { self.new ≡ empty_document self.old.edition }
+    {
+        self.store.clear();
+        self.log.clear();
+    }
+
     pub fn edition(&self) -> Edition
         ensures { result ≡ self.now.edition }
     {

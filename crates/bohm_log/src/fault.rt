@@ -3,13 +3,13 @@
 use std::alloc::{AllocError, AllocFailed};
 use thiserror::Error;
 
-/// Why a set of names, a draft or a log took no more. It is as it was.
+/// Why a set of names, a draft or a log was not extended. It is unchanged.
 #[derive(Clone, Copy, Debug, PartialEq, Eq, Error)]
 pub enum LogFault {
     /// An allocation failed.
     #[error("out of memory")]
     NoMemory,
-    /// All of the numbers that 32 bits have are in use.
+    /// All 32-bit numbers are in use.
     #[error("the log is full")]
     Full,
 }
@@ -36,13 +36,13 @@ impl<T: Drop> From<AllocFailed<T>> for LogFault {
     }
 }
 
-/// Why a draft took no end of a sum, or no statement behind its sums. It is as it was.
+/// Why a draft ended no sum, or no statement after its sums. It is unchanged.
 #[derive(Clone, Copy, Debug, PartialEq, Eq, Error)]
 pub enum SumFault {
     /// The sum that is read has no terms, so it has no text.
     #[error("a sum without terms")]
     Empty,
-    /// No more was taken.
+    /// A list was not extended.
     #[error("{0}")]
     Log(LogFault),
 }

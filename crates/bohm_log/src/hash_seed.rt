@@ -1,29 +1,54 @@
-//! The seed of key hashes.
+//! The seeds of key hashes.
+
+ghost use Rattle.std.specs.Prelude.{◌≡◌};
 
 use std::hash::{BuildHasher, FoldHasher, Hasher};
 use std::random::RandomSource;
 
-/// The seed from which a map hashes its keys. Keys that collide under one seed needn't under
-/// another: an author of logs can't choose colliding keys for a run that draws its seed. No answer
-/// depends on it.
+/// The seed from which a map hashes its keys: a drawn one or the fixed one. Keys that collide under
+/// one seed needn't under another. No answer depends on it.
 #[derive(Clone, Copy)]
 pub struct HashSeed {
     start: FoldHasher,
 }
 
-impl HashSeed {
-    /// A seed from the system's source of randomness, or the fixed one where the system gives none.
-    pub fn drawn<R: RandomSource>(rt: &R) -> HashSeed {
-        let mut bytes = [0u8; 16];
-        let mut start = FoldHasher::default();
-        if rt.fill_bytes(&mut bytes).is_ok() {
-            start.write(&bytes);
-        }
-        HashSeed { start }
-    }
+/// A seed that a source of randomness gave. Calls that take it stay fast where strangers choose the
+/// keys: who doesn't know the seed can't choose keys that collide.
+#[derive(Clone, Copy)]
+pub struct DrawnSeed {
+    seed: HashSeed,
+}
 
-    /// The seed that is always the same.
-    pub fn fixed() -> HashSeed {
+/// The seed that is always the same, for keys that no stranger chooses: n keys that were chosen to
+/// collide under it take time that grows with n².
+#[derive(Clone, Copy, Debug, Default)]
+pub struct FixedSeed;
+
+impl DrawnSeed {
+    /// A seed of 16 bytes from a source of randomness. Bytes that a failing source doesn't give are
+    /// zeros.
+    pub fn draw<R: RandomSource>(source: &R) -> DrawnSeed {
+        let mut bytes = [0u8; 16];
+        // No answer depends on the seed, so no run ends for want of one.
+        let _ = source.fill_bytes(&mut bytes);
+        let mut start = FoldHasher::default();
+        start.write(&bytes);
+        DrawnSeed {
+            seed: HashSeed { start },
+        }
+    }
+}
+
+impl From<DrawnSeed> for HashSeed {
+    ghost from_gives = { λ drawn seed. seed ≡ drawn.seed };
+
+    fn from(drawn: DrawnSeed) -> HashSeed {
+        drawn.seed
+    }
+}
+
+impl From<FixedSeed> for HashSeed {
+    fn from(_fixed: FixedSeed) -> HashSeed {
         HashSeed {
             start: FoldHasher::default(),
         }

@@ -63,7 +63,7 @@ impl<'a> Keys<'a> {
     }
 
     /// The number of a key, counted from 0, among the names of the log's keys. It is a hint: no
-    /// clause says which key has the number, so whoever goes by it compares the key that it finds.
+    /// clause says which key has the number, so its user compares the key that it finds.
     #[tactic(auto, using(crate::proofs::Viewing::mapped_length))]
     pub fn number(&self, place: usize) -> u32
         requires { place < length self.now }

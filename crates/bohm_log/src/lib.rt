@@ -1,5 +1,5 @@
 //! A log whose transactions share a few columns. Names have numbers, terms and statements a fixed
-//! size, and views show each transaction as the one of the definitions.
+//! size; views show each transaction as a `Txn` of the definitions.
 #![tactic(auto)]
 
 mod calling;
@@ -12,6 +12,7 @@ mod hash_seed;
 mod keys;
 mod literal;
 mod log;
+mod name_hints;
 mod names;
 mod part;
 mod placed;
@@ -30,7 +31,7 @@ pub use declared::DeclaredKeys;
 pub use doc::Doc;
 pub use draft::Draft;
 pub use fault::{LogFault, SumFault};
-pub use hash_seed::HashSeed;
+pub use hash_seed::{DrawnSeed, FixedSeed, HashSeed};
 pub use keys::Keys;
 pub use literal::Literal;
 pub use log::Log;

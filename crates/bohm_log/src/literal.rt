@@ -8,8 +8,8 @@ ghost use Rattle.bohm_tree.specs.Term.{Lit};
 use bohm_tree::GREATEST_LITERAL;
 use std::marker::Model;
 
-/// A number of at most 2^63 - 1, and whether it is taken away, which 0 isn't: each has one text.
-/// Contracts see it as a term.
+/// A number of at most 2^63 - 1 and its sign; 0 has no minus, so each has one text. Contracts see
+/// it as a term.
 #[derive(Debug, Drop)]
 pub struct Literal {
     minus: bool,
@@ -29,7 +29,8 @@ impl Model for Literal {
 }
 
 impl Literal {
-    /// The literal of this number, if there is one: none above 2^63 - 1, and no 0 after a minus.
+    /// The literal of this number and sign, if there is one: none is above 2^63 - 1, and 0 has no
+    /// minus.
     #[inline(always)]
     #[tactic(auto, unfolding(bohm_tree::specs::Shape::term_of))]
     pub fn new(minus: bool, number: u64) -> Option<Literal>
@@ -42,7 +43,7 @@ impl Literal {
         }
     }
 
-    /// Whether it is taken away, and its number.
+    /// Whether it is subtracted, and its number.
     #[inline(always)]
     pub(crate) fn parts(self) -> (bool, u64)
         ensures same { self ≡ (result.0, Lit result.1) }
@@ -52,7 +53,7 @@ impl Literal {
     }
 }
 
-/// A number of 32 bits, which is added.
+/// A 32-bit number, which is added.
 impl From<u32> for Literal {
     ghost use Rattle.std.specs.Prelude.{◌≡◌, false};
     ghost use Rattle.bohm_tree.specs.Term.{Lit};

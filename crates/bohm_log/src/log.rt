@@ -5,7 +5,7 @@ ghost use Rattle.bohm_tree.specs.Procedure.{instance};
 ghost use Rattle.bohm_log.specs.SoundLogs.{AreTxns};
 
 use crate::calling::CallBuffer;
-use crate::columns::Columns;
+use crate::columns::{Columns, empty};
 use crate::draft::Draft;
 use crate::fault::LogFault;
 use crate::part::LogPart;
@@ -98,6 +98,17 @@ impl<S: BuildHasher> Log<S> {
         )?;
         self.heads.push(head)?;
         Ok(())
+    }
+
+    /// Removes all transactions. Their room is kept for others, and their keys' numbers too, where
+    /// keys are at most four times as many as were declared.
+    pub fn clear(&mut self)
+    where
+        S: Drop,
+        ensures { self.new ≡ [] }
+    {
+        empty(&mut self.heads);
+        self.columns.clear();
     }
 
     /// How many transactions there are.

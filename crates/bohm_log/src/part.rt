@@ -9,8 +9,8 @@ use crate::table::{Head, Table, txn_by};
 use crate::view::TxnView;
 use std::marker::Model;
 
-/// Transactions of a log, one after the other, which contracts see as a list of them. It borrows
-/// the log, and allocates nothing.
+/// Consecutive transactions of a log, which contracts see as a list of them. It borrows the log,
+/// and allocates nothing.
 #[derive(Drop)]
 pub struct LogPart<'a> {
     pub(crate) table: Table<'a>,
@@ -46,7 +46,7 @@ impl<'a> LogPart<'a> {
         self.heads.len()
     }
 
-    /// The same part once more.
+    /// A copy of the slice.
     pub fn fork(&self) -> LogPart<'a>
         ensures { result ≡ self.now }
     {
@@ -56,7 +56,7 @@ impl<'a> LogPart<'a> {
         }
     }
 
-    /// The transactions from one place up to another.
+    /// The transactions from one index up to another.
     #[tactic(auto, using(crate::proofs::Dividing::divided, crate::proofs::Dividing::part_divided))]
     pub fn between(&self, from: usize, to: usize) -> LogPart<'a>
         requires rises { from ≤ to }

@@ -12,8 +12,9 @@ use crate::seen::Seen;
 use bohm_tree::Key;
 use std::marker::Model;
 
-/// A transaction whose terms and statements have places instead of names. Its user keeps arrays: of
-/// the declared reads' cells, of the declared writes' cells, and of the other names' values.
+/// A transaction whose terms and statements have indices instead of names. Its user keeps three
+/// arrays: the cells of the declared reads, the cells of the declared writes, and the values of the
+/// other names.
 #[derive(Drop)]
 pub struct PlacedTxn<'a> {
     pub(crate) seen: Seen<'a>,
@@ -31,7 +32,7 @@ impl<'a> Model for PlacedTxn<'a> {
 }
 
 impl<'a> PlacedTxn<'a> {
-    /// How many keys it declares to read.
+    /// The number of keys that it declares to read.
     #[tactic(auto, using(crate::proofs::Viewing::mapped_length))]
     pub fn reads_len(&self) -> usize
         ensures { result ≡ length self.now.reads }
@@ -39,7 +40,7 @@ impl<'a> PlacedTxn<'a> {
         self.seen.reads.len()
     }
 
-    /// How many keys it declares to write.
+    /// The number of keys that it declares to write.
     #[tactic(auto, using(crate::proofs::Viewing::mapped_length))]
     pub fn writes_len(&self) -> usize
         ensures { result ≡ length self.now.writes }
@@ -47,7 +48,7 @@ impl<'a> PlacedTxn<'a> {
         self.seen.writes.len()
     }
 
-    /// The place among the reads of the key that it declares to write at a place.
+    /// The index among the declared reads of the declared write at an index.
     pub fn read_of_write(&self, write: u32) -> Option<usize>
         requires { write < length self.now.writes }
         ensures place { result ≡ place self.now.reads (name_at self.now.writes write) }

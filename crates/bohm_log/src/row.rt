@@ -5,22 +5,22 @@ ghost use Rattle.bohm_log.specs.Drafting.{opened, first_end, second_end, latest_
 
 use bohm_tree::Cmp;
 
-/// What a term's place means.
+/// What a term's index refers to.
 #[derive(Clone, Copy, Debug, PartialEq, Eq)]
 pub enum AtomKind {
-    /// The place is the literal itself.
+    /// The index is the literal itself.
     Small,
-    /// A place among the large literals.
+    /// An index among the large literals.
     Large,
-    /// A place among the reads.
+    /// An index among the reads.
     Read,
-    /// A place among the other names, of a key that isn't declared.
+    /// An index among the other names, of a key that isn't declared.
     Unread,
-    /// A place among the other names, of a local.
+    /// An index among the other names, of a local.
     Local,
 }
 
-/// An atom, and whether it is taken away, in 8 bytes.
+/// An atom, and whether it is subtracted, in 8 bytes.
 #[derive(Clone, Copy, Debug)]
 pub struct TermRow {
     pub kind: AtomKind,
@@ -42,11 +42,11 @@ pub enum Action {
     Fail,
 }
 
-/// A statement in 24 bytes. Its sums are the terms between these offsets, in turn.
+/// A statement in 24 bytes. Its sums are the terms between these offsets, one after another.
 #[derive(Clone, Copy, Debug)]
 pub struct StmtRow {
     pub action: Action,
-    /// Whether the name is a place among the declared keys, and not among the other names.
+    /// Whether the name is an index among the declared keys, rather than among the other names.
     pub declared: bool,
     pub name: u32,
     pub start: u32,
@@ -55,7 +55,7 @@ pub struct StmtRow {
     pub third: u32,
 }
 
-/// Which sum of a statement is read: its first, or a side of its condition.
+/// Which sum of a statement is being read: its first, or a side of its condition.
 #[derive(Clone, Copy, Debug)]
 pub enum Step {
     Whole,
@@ -73,7 +73,7 @@ pub struct Pending {
 }
 
 impl Pending {
-    /// A statement without terms yet.
+    /// A statement whose first sum begins at this offset.
     pub fn at(offset: u32) -> Pending
         ensures { result ≡ opened offset }
     {
@@ -85,7 +85,7 @@ impl Pending {
         }
     }
 
-    /// Where the sum that is read begins.
+    /// Where the sum that is being read begins.
     pub fn latest(&self) -> u32
         ensures { result ≡ latest_from self.now }
     {
@@ -96,7 +96,7 @@ impl Pending {
         }
     }
 
-    /// The same statement, whose sum that is read ends at this offset, and the next one begins.
+    /// The statement once the sum being read has ended at this offset, where the next one begins.
     pub fn next(&self, end: u32) -> Pending
         ensures { result ≡ next_sum end self.now.start self.now.first self.now.second self.now.step }
     {
@@ -117,7 +117,7 @@ impl Pending {
         }
     }
 
-    /// Where the first sum and the second end, where the last term ends at this offset.
+    /// The ends of the first sum and of the second, if the last term ends at this offset.
     pub fn ends(&self, end: u32) -> (u32, u32)
         ensures first { result.0 ≡ first_end self.now.first end self.now.step }
         ensures second { result.1 ≡ second_end self.now.second end self.now.step }

@@ -3,7 +3,7 @@
 use crate::row::{StmtRow, TermRow};
 use bohm_tree::{Edition, Key};
 
-/// A transaction's parts of the columns. Its reads and writes are numbers of names.
+/// A transaction's slices of the columns. Its reads and writes are numbers of names.
 #[derive(Clone, Copy)]
 pub struct Seen<'a> {
     pub edition: Edition,

@@ -29,15 +29,15 @@ pub struct Sheet<S: BuildHasher> {
     pub large: Vec<u64>,
     pub terms: Vec<TermRow>,
     pub rows: Vec<StmtRow>,
-    /// Where terms found the keys that they read.
+    /// Where terms last found the keys that they read.
     pub read_places: Glances,
-    /// Where statements found the keys that they test or write.
+    /// Where statements last found the keys that they test or write.
     pub named_places: Glances,
-    /// Where the other names were found.
+    /// Where the other names were last found.
     pub other_places: Glances,
 }
 
-/// The place of a literal at the end.
+/// The index of a literal, which is added at the end.
 fn add_large(large: &mut Vec<u64>, number: u64) -> Result<u32, LogFault>
     ensures grows { Begins large.old.items large.new.items }
     ensures ok { IfOk result (λ i. slice_get large.new.items i ≡ Some number) }
@@ -172,8 +172,8 @@ impl<S: BuildHasher + Drop> Sheet<S> {
         }
     }
 
-    /// The place of the declared read that a word names, if it stands where such a one was found
-    /// last.
+    /// The index of the declared read that a word names, if it is where the cache last found such a
+    /// name.
     #[inline(always)]
     pub fn read_place(&self, word: &[u8]) -> Option<u32>
         ensures place { IfSome result
@@ -183,7 +183,8 @@ impl<S: BuildHasher + Drop> Sheet<S> {
         self.read_places.place_of_word(self.reads.as_slice(), word)
     }
 
-    /// The same of the declared writes.
+    /// The index of the declared write that a word names, if it is where the cache last found such
+    /// a name.
     #[inline(always)]
     pub fn write_place(&self, word: &[u8]) -> Option<u32>
         ensures place { IfSome result
@@ -194,7 +195,7 @@ impl<S: BuildHasher + Drop> Sheet<S> {
             .place_of_word(self.writes.as_slice(), word)
     }
 
-    /// Adds the declared read at a place.
+    /// Adds a term that is the declared read at an index.
     pub fn add_read_at(&mut self, minus: bool, place: u32, name: &[u8]) -> Result<(), LogFault>
         requires { slice_get (parts_of self.old).reads place ≡ Some name.now }
         ensures ok { OnOk result
@@ -248,7 +249,7 @@ impl<S: BuildHasher + Drop> Sheet<S> {
         Ok(())
     }
 
-    /// Adds a statement that writes the declared key at a place, whose sums end at these offsets.
+    /// Adds a statement that writes the declared key at an index, whose sums end at these offsets.
     pub fn add_written(
         &mut self,
         action: Action,

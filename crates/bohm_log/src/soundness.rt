@@ -1,4 +1,4 @@
-//! Laws of slices of keys and values, for callers that keep them. Their loops do nothing.
+//! Laws of slices of keys and values, for callers that keep them. Their loops have no effect.
 
 ghost use Rattle.std.specs.List.{AllByRecursion};
 ghost use Rattle.bohm_tree.specs.Sound.{IsNumber, IsEntry};

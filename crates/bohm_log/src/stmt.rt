@@ -34,7 +34,7 @@ pub enum StmtParts<'a> {
     Has(Key),
     /// `need no KEY`
     Lacks(Key),
-    /// `set KEY = SUM`, and `when SUM CMP SUM` where it has a guard
+    /// `set KEY = SUM`, with `when SUM CMP SUM` if it has a guard
     Put {
         key: Key,
         sum: SumView<'a>,
@@ -48,7 +48,7 @@ pub enum StmtParts<'a> {
     Fail,
 }
 
-/// A statement, which contracts see as the one of the definitions.
+/// A statement, which contracts see as a `Stmt` of the definitions.
 #[derive(Drop)]
 pub struct StmtView<'a> {
     pub(crate) seen: &'a Seen<'a>,
@@ -68,7 +68,7 @@ impl<'a> Model for StmtView<'a> {
     ghost invariant = { λ v. IsSeenRow v.seen.now v.row };
 }
 
-/// The key at a place among declared keys, or else among the other names.
+/// The key at an index among the declared keys, or else among the other names.
 fn key_by(seen: &Seen, keys: &[u32], declared: bool, place: u32) -> Key
     requires named { AllNamed seen.now.names.now keys.now }
     requires within { KeyIn
@@ -83,7 +83,7 @@ fn key_by(seen: &Seen, keys: &[u32], declared: bool, place: u32) -> Key
     }
 }
 
-/// The statement of a row, with its parts.
+/// The parts of the statement of a row.
 fn parts_by<'a>(seen: &'a Seen<'a>, row: StmtRow) -> StmtParts<'a>
     requires seen { IsSeen seen.now }
     requires row { RowIn (parts_seen seen.now) row }

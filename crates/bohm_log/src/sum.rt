@@ -9,7 +9,7 @@ use crate::seen::Seen;
 use bohm_tree::Key;
 use std::marker::Model;
 
-/// What a term adds or takes away.
+/// What a term adds or subtracts.
 #[derive(Clone, Copy, Debug, PartialEq, Eq)]
 pub enum AtomParts {
     Lit(u64),
@@ -19,7 +19,7 @@ pub enum AtomParts {
     Local(Key),
 }
 
-/// An atom, and whether it is taken away.
+/// An atom, and whether it is subtracted.
 #[derive(Clone, Copy, Debug)]
 pub struct TermParts {
     pub minus: bool,
@@ -58,7 +58,7 @@ pub fn sum_at<'a>(seen: &'a Seen<'a>, start: u32, end: u32) -> SumView<'a>
     SumView { seen, start, end }
 }
 
-/// A term with what its place stands for.
+/// A term with the atom that its index refers to.
 fn term_parts(seen: &Seen, term: TermRow) -> TermParts
     requires within { TermIn (parts_seen seen.now) term }
     requires seen { IsSeen seen.now }

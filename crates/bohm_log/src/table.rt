@@ -20,7 +20,7 @@ pub struct Table<'a> {
     pub rows: &'a [StmtRow],
 }
 
-/// Where a transaction's parts lie in the columns. Its reads end where its writes begin.
+/// Where a transaction's parts are in the columns. Its reads end where its writes begin.
 #[derive(Clone, Copy)]
 pub struct Head {
     pub edition: Edition,

@@ -9,6 +9,7 @@ ghost use Rattle.bohm_log.specs.Locals.{ArePlacesOf};
 ghost use Rattle.bohm_log.specs.Parts.{Begins};
 ghost use Rattle.bohm_tree.specs.Procedure.{procedure_with};
 
+use crate::columns::are_same;
 use crate::draft::Draft;
 use crate::fault::LogFault;
 use crate::names::Names;
@@ -32,6 +33,8 @@ pub struct DeclaredName {
 pub struct BodyColumns {
     pub reads: Vec<DeclaredName>,
     pub writes: Vec<DeclaredName>,
+    /// Set only where the writes are the reads, in the same order.
+    pub same_sets: bool,
     pub others: Vec<Key>,
     pub large: Vec<u64>,
     pub terms: Vec<TermRow>,
@@ -148,6 +151,7 @@ impl Template {
         let mut places = Vec::new(alloc);
         place_names(&mut others, &mut places, values)?;
         let names = Vec::from_slice(alloc, others.as_slice())?;
+        let same_sets = are_same(&reads, &writes);
         let reads = declared_names(alloc, reads.as_slice(), keys.as_slice())?;
         let writes = declared_names(alloc, writes.as_slice(), keys.as_slice())?;
         are_names(keys.as_slice());
@@ -159,6 +163,7 @@ impl Template {
             body: BodyColumns {
                 reads,
                 writes,
+                same_sets,
                 others: names,
                 large,
                 terms,

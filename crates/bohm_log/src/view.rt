@@ -10,7 +10,7 @@ use crate::stmt::{StmtView, stmt_by};
 use bohm_tree::Edition;
 use std::marker::Model;
 
-/// A transaction, which contracts see as the one of the definitions.
+/// A transaction, which contracts see as a `Txn` of the definitions.
 #[derive(Drop)]
 pub struct TxnView<'a> {
     pub(crate) seen: Seen<'a>,
@@ -29,7 +29,7 @@ impl<'a> Model for TxnView<'a> {
 }
 
 impl<'a> TxnView<'a> {
-    /// The same transaction by places.
+    /// The transaction with indices instead of names.
     pub fn placed(&self) -> PlacedTxn<'a>
         ensures { txn_of self.now.edition result ≡ self.now }
     {
@@ -58,14 +58,14 @@ impl<'a> TxnView<'a> {
 }
 
 impl TxnView<'_> {
-    /// The edition whose meaning it has.
+    /// Its edition.
     pub fn edition(&self) -> Edition
         ensures { result ≡ self.now.edition }
     {
         self.seen.edition
     }
 
-    /// How many statements its body has.
+    /// The number of statements of its body.
     pub fn body_len(&self) -> usize
         ensures { result ≡ length self.now.body }
     {

@@ -8,17 +8,18 @@ use Rattle.bohm_txn.specs.Meaning.{Look}
 use Rattle.bohm_txn.specs.Serial.{state, replies}
 use Rattle.bohm_txn.proofs.ForCallers.{state-append, state-front, replies-append}
 use Rattle.bohm_store.specs.Versions.{Timeline, past}
-use Rattle.bohm_run.specs.Runs.{floor_after, IsApplied}
-use Rattle.bohm_machine.specs.Machines.{Ledger, GoesOn, HasRun, floor_of, now_of, past_of, top_of}
+use Rattle.bohm_run.specs.Runs.{IsApplied}
+use Rattle.bohm_run.proofs.ForCallers.{floor_stays}
+use Rattle.bohm_machine.specs.Machines.{GoesOn, HasRun, floor_of, now_of, past_of, top_of}
 use Rattle.bohm_machine.specs.Segments.{RunsOn}
 
 -- at the top a machine holds what its log leaves
-pub at_top : (look : Look) (start : ℕ) (log : List Txn) (m : Ledger) → HasRun look start log m → now_of m ≡ state look log (length log)
+pub at_top : (look : Look) (start : ℕ) (log : List Txn) (m : Timeline) → HasRun look start log m → now_of m ≡ state look log (length log)
 at_top look start log m h =
     let all : top_of m - start ≡ length log = omega (arith, h.top) in
     h.past (top_of m) h.ordered (omega arith) ∙ ap (state look log) all
 
-pub has_run_on : (look : Look) (start : ℕ) (log txns : List Txn) (was now : Ledger) (a : List Reply) → GoesOn was now txns a → HasRun look start log was → HasRun look start (log ++ txns) now
+pub has_run_on : (look : Look) (start : ℕ) (log txns : List Txn) (was now : Timeline) (a : List Reply) → GoesOn was now txns a → HasRun look start log was → HasRun look start (log ++ txns) now
 has_run_on look start log txns was now a g h =
     let len : length (log ++ txns) ≡ length log + length txns = length-append log txns in
     let there = at_top look start log was h in
@@ -32,11 +33,11 @@ has_run_on look start log txns was now a g h =
           (cases_lt ts (top_of was));
     }
 
-pub answers_on : (look : Look) (start : ℕ) (log txns : List Txn) (was now : Ledger) (a : List Reply) → GoesOn was now txns a → HasRun look start log was → replies look log ++ a ≡ replies look (log ++ txns)
+pub answers_on : (look : Look) (start : ℕ) (log txns : List Txn) (was now : Timeline) (a : List Reply) → GoesOn was now txns a → HasRun look start log was → replies look log ++ a ≡ replies look (log ++ txns)
 answers_on look start log txns was now a g h =
     ap (λ (b : List Reply). replies look log ++ b) (g.replies ∙ ap (λ (l : Look). replies l txns) (at_top look start log was h)) ∙ sym (replies-append look log txns)
 
-pub ran_on : (was now : Ledger) (txns : List Txn) (a : List Reply) → GoesOn was now txns a → RunsOn was now txns a
+pub ran_on : (was now : Timeline) (txns : List Txn) (a : List Reply) → GoesOn was now txns a → RunsOn was now txns a
 ran_on was now txns a g = record {
   run = λ look start log h. has_run_on look start log txns was now a g h;
   replies = λ look start log h. answers_on look start log txns was now a g h;
@@ -44,27 +45,20 @@ ran_on was now txns a g = record {
 
 -- ---- from the history to the machine
 
-floor_stays : (was : Timeline) (keep n : ℕ) → was.top + n ≤ keep → floor_after was keep n ≡ was.floor
-floor_stays was keep zero low = refl
-floor_stays was keep (suc n) low = omega (arith, low)
-
--- a history that keeps all its past takes its machine on
-pub went : (base keep : ℕ) (was now : Timeline) (txns : List Txn) (a : List Reply) → was.floor ≤ was.top → now.top ≤ keep → IsApplied was now txns keep a → GoesOn (record { base = base; history = was }) (record { base = base; history = now }) txns a
-went base keep was now txns a ordered low h =
+-- a history that keeps all its past goes on as its machine
+went : (keep : ℕ) (was now : Timeline) (txns : List Txn) (a : List Reply) → was.floor ≤ was.top → now.top ≤ keep → IsApplied was now txns keep a → GoesOn was now txns a
+went keep was now txns a ordered low h =
     let floor : now.floor ≡ was.floor = h.floor ∙ floor_stays was keep (length txns) (omega (arith, h.top, low)) in
-    let here : (base + was.top) - base ≡ was.top = omega arith in
     record {
-      replies = rw here h.replies;
-      top = omega (arith, h.top);
-      floor = ap (λ (n : ℕ). base + n) floor;
-      earlier = λ ts above below. h.earlier (ts - base) (omega (arith, above, floor)) (omega (arith, below));
-      later = λ ts above below.
-          let same : (ts - base) - was.top ≡ ts - (base + was.top) = omega arith in
-          h.later (ts - base) (omega (arith, above, floor, ordered)) (omega (arith, above)) (omega (arith, below)) ∙ rw (here, same) refl;
+      replies = h.replies;
+      top = h.top;
+      floor = floor;
+      earlier = λ ts above below. h.earlier ts (omega (arith, above, floor)) below;
+      later = λ ts above below. h.later ts (omega (arith, above, floor, ordered)) above below;
     }
 
 -- before the first transaction
-pub at_rest : (m : Ledger) → GoesOn m m [] []
+pub at_rest : (m : Timeline) → GoesOn m m [] []
 at_rest m = record {
   replies = refl;
   top = omega arith;
@@ -74,7 +68,7 @@ at_rest m = record {
 }
 
 -- a machine that was restored
-pub restored : (m : Ledger) (look : Look) (start : ℕ) → top_of m ≡ start → floor_of m ≡ start → past_of m start ≡ look → HasRun look start [] m
+pub restored : (m : Timeline) (look : Look) (start : ℕ) → top_of m ≡ start → floor_of m ≡ start → past_of m start ≡ look → HasRun look start [] m
 restored m look start top floor past = record {
   top = omega (arith, top);
   floor = omega (arith, floor);
@@ -83,7 +77,7 @@ restored m look start top floor past = record {
 }
 
 -- to let go what is below a floor keeps what was run
-pub trimmed : (look : Look) (start : ℕ) (log : List Txn) (was now : Ledger) → floor_of was ≤ floor_of now → floor_of now ≤ top_of now → top_of now ≡ top_of was → ((ts : ℕ) → floor_of now ≤ ts → past_of now ts ≡ past_of was ts) → HasRun look start log was → HasRun look start log now
+pub trimmed : (look : Look) (start : ℕ) (log : List Txn) (was now : Timeline) → floor_of was ≤ floor_of now → floor_of now ≤ top_of now → top_of now ≡ top_of was → ((ts : ℕ) → floor_of now ≤ ts → past_of now ts ≡ past_of was ts) → HasRun look start log was → HasRun look start log now
 trimmed look start log was now above ordered top past h = record {
   top = top ∙ h.top;
   floor = omega (arith, h.floor, above);
@@ -92,8 +86,8 @@ trimmed look start log was now above ordered top past h = record {
 }
 
 -- a machine whose timestamps don't pass the last one goes on by the transactions that its history went on by
-pub goes_on : (m : Ledger) (base n : ℕ) (was now : Timeline) (log : List Txn) (a : List Reply) → m ≡ record { base = base; history = was } → floor_of m ≤ top_of m → top_of m + length log < 2 ^ 32 → IsApplied was now (take n log) 4294967295 a → GoesOn m (record { base = base; history = now }) (take n log) a
-goes_on m base n was now log a is ordered low h =
-    let below : base + was.floor ≤ base + was.top = rw is at ordered in
-    let room : (base + was.top) + length log < 2 ^ 32 = rw is at low in
-    rw is (went base 4294967295 was now (take n log) a (omega (arith, below)) (omega (arith, h.top, room, length-take n log)) h)
+pub goes_on : (m : Timeline) (n : ℕ) (was now : Timeline) (log : List Txn) (a : List Reply) → m ≡ was → floor_of m ≤ top_of m → top_of m + length log < 2 ^ 32 → IsApplied was now (take n log) 4294967295 a → GoesOn m now (take n log) a
+goes_on m n was now log a is ordered low h =
+    let below : was.floor ≤ was.top = rw is at ordered in
+    let room : was.top + length log < 2 ^ 32 = rw is at low in
+    rw is (went 4294967295 was now (take n log) a below (omega (arith, h.top, room, length-take n log)) h)

@@ -12,18 +12,19 @@ use Rattle.bohm_txn.proofs.ForCallers.{length-replies}
 use Rattle.bohm_text.specs.Print.{print_answer, print_numbered, print_store}
 use Rattle.bohm_text.proofs.ForCallers.{numbered-append}
 use Rattle.bohm_run.proofs.ForCallers.{store_then}
-use Rattle.bohm_machine.specs.Machines.{Ledger, HasRun, now_of}
+use Rattle.bohm_store.specs.Versions.{Timeline}
+use Rattle.bohm_machine.specs.Machines.{HasRun, now_of}
 use Rattle.bohm_machine.specs.Texts.{Run, GoesThrough, log_of, texts_of}
 use Rattle.bohm_machine.proofs.GoingOn.{at_top, has_run_on, answers_on}
 
 -- ---- segments after a log
 
-pub went_through : (look : Look) (start : ℕ) (log : List Txn) (was now : Ledger) (runs : List Run) → HasRun look start log was → GoesThrough was runs now → HasRun look start (log ++ log_of runs) now
+pub went_through : (look : Look) (start : ℕ) (log : List Txn) (was now : Timeline) (runs : List Run) → HasRun look start log was → GoesThrough was runs now → HasRun look start (log ++ log_of runs) now
 went_through look start log was now [] h e = rw (e, append-nil log) h
 went_through look start log was now (r ∷ rs) h (mid, goes, more) =
     subst (λ (l : List Txn). HasRun look start l now) (append_assoc log r.txns (log_of rs)) (went_through look start (log ++ r.txns) mid now rs (has_run_on look start log r.txns was mid r.replies goes h) more)
 
-pub texts_joined : (look : Look) (start : ℕ) (log : List Txn) (was now : Ledger) (runs : List Run) → HasRun look start log was → GoesThrough was runs now
+pub texts_joined : (look : Look) (start : ℕ) (log : List Txn) (was now : Timeline) (runs : List Run) → HasRun look start log was → GoesThrough was runs now
     → print_numbered 1 (replies look log) ++ texts_of (1 + length log) runs ≡ print_numbered 1 (replies look (log ++ log_of runs))
 texts_joined look start log was now [] h e = append-nil (print_numbered 1 (replies look log)) ∙ ap (λ (l : List Txn). print_numbered 1 (replies look l)) (sym (append-nil log))
 texts_joined look start log was now (r ∷ rs) h (mid, goes, more) =
@@ -39,7 +40,7 @@ texts_joined look start log was now (r ∷ rs) h (mid, goes, more) =
     ∙ texts_joined look start (log ++ r.txns) mid now rs next more
     ∙ ap (λ (l : List Txn). print_numbered 1 (replies look l)) (append_assoc log r.txns (log_of rs))
 
-pub joined : (store : List (List ℕ × ℤ)) (opened now : Ledger) (runs : List Run) (listed : List (List ℕ × ℤ)) → HasRun (cell_in (store_of store)) 0 [] opened → GoesThrough opened runs now → cell_in (store_of listed) ≡ now_of now → listed ≡ entries (store_of listed)
+pub joined : (store : List (List ℕ × ℤ)) (opened now : Timeline) (runs : List Run) (listed : List (List ℕ × ℤ)) → HasRun (cell_in (store_of store)) 0 [] opened → GoesThrough opened runs now → cell_in (store_of listed) ≡ now_of now → listed ≡ entries (store_of listed)
     → texts_of 1 runs ++ print_store listed ≡ print_answer (replies (cell_in (store_of store)) (log_of runs)) (entries (store_after (store_of store) (log_of runs)))
 joined store opened now runs listed h through cells own =
     let look = cell_in (store_of store) in

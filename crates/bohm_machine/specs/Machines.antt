@@ -1,4 +1,4 @@
--- What a machine is seen as, and how it goes on.
+-- What a machine holds, and how it goes on.
 use Rattle.std.specs.Prelude.{◌≡◌, ℕ, ◌+◌, ◌-◌, ◌≤◌, List, length}
 use Rattle.bohm_tree.specs.Txn.{Txn}
 use Rattle.bohm_txn.specs.declared.outcome.Reply.{Reply}
@@ -6,27 +6,23 @@ use Rattle.bohm_txn.specs.Meaning.{Look}
 use Rattle.bohm_txn.specs.Serial.{state, replies}
 use Rattle.bohm_store.specs.Versions.{Timeline, past}
 
--- the timestamp at which the machine was restored, and the history from there on, whose own timestamps count from 0
-pub record Ledger : Type 0 where
-  pub base : ℕ
-  pub history : Timeline
+-- a machine is seen as its history
+abbrev pub top_of : Timeline → ℕ
+top_of m = m.top
 
-abbrev pub top_of : Ledger → ℕ
-top_of m = m.base + m.history.top
-
-abbrev pub floor_of : Ledger → ℕ
-floor_of m = m.base + m.history.floor
+abbrev pub floor_of : Timeline → ℕ
+floor_of m = m.floor
 
 -- what each key holds after the transaction with a timestamp
-abbrev pub past_of : Ledger → ℕ → Look
-past_of m ts = past m.history (ts - m.base)
+abbrev pub past_of : Timeline → ℕ → Look
+past_of m ts = past m ts
 
 -- what each key holds behind the last transaction
-abbrev pub now_of : Ledger → Look
+abbrev pub now_of : Timeline → Look
 now_of m = past_of m (top_of m)
 
 -- the machine went on by these transactions, one after another, and these are their replies
-pub record GoesOn (was now : Ledger) (txns : List Txn) (answered : List Reply) : Type 0 where
+pub record GoesOn (was now : Timeline) (txns : List Txn) (answered : List Reply) : Type 0 where
   pub replies : answered ≡ replies (now_of was) txns
   pub top : top_of now ≡ top_of was + length txns
   pub floor : floor_of now ≡ floor_of was
@@ -34,7 +30,7 @@ pub record GoesOn (was now : Ledger) (txns : List Txn) (answered : List Reply) :
   pub later : (ts : ℕ) → top_of was ≤ ts → ts ≤ top_of now → past_of now ts ≡ state (now_of was) txns (ts - top_of was)
 
 -- behind a timestamp at which it had this look, the machine has run this log: from the floor to the top its past is the serial run of the log
-pub record HasRun (look : Look) (start : ℕ) (log : List Txn) (m : Ledger) : Type 0 where
+pub record HasRun (look : Look) (start : ℕ) (log : List Txn) (m : Timeline) : Type 0 where
   pub top : top_of m ≡ start + length log
   pub floor : start ≤ floor_of m
   pub ordered : floor_of m ≤ top_of m

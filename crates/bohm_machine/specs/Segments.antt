@@ -10,14 +10,15 @@ use Rattle.bohm_line.specs.Cuttings.{IsEven}
 use Rattle.bohm_run.specs.Runs.{IsEndOfBatch}
 use Rattle.bohm_machine.specs.declared.fault.SegmentFault.{SegmentFault}
 use Rattle.bohm_machine.specs.declared.fault.SegmentFault.TheVariants.{Store, Timestamps}
-use Rattle.bohm_machine.specs.Machines.{Ledger, HasRun, top_of}
+use Rattle.bohm_store.specs.Versions.{Timeline}
+use Rattle.bohm_machine.specs.Machines.{HasRun, top_of}
 
 -- it has no store, and its positions are timestamps
-pub record IsTaken (m : Ledger) (segment : Document) : Type 0 where
+pub record IsTaken (m : Timeline) (segment : Document) : Type 0 where
   pub store : segment.store ≡ []
   pub timestamps : top_of m + length segment.log < 2 ^ 32
 
-abbrev pub IsRefused : Ledger → Document → SegmentFault → Type 0
+abbrev pub IsRefused : Timeline → Document → SegmentFault → Type 0
 IsRefused m segment Store = 0 < length segment.store
 IsRefused m segment Timestamps = 2 ^ 32 ≤ top_of m + length segment.log
 
@@ -29,6 +30,6 @@ pub record AreWholeBatches (log : List Txn) (batch n : ℕ) : Type 0 where
   pub end : IsEndOfBatch sizes n
 
 -- a machine that had run a log has run these transactions behind it, and the replies to all are those of the serial run
-pub record RunsOn (was now : Ledger) (txns : List Txn) (answered : List Reply) : Type 0 where
+pub record RunsOn (was now : Timeline) (txns : List Txn) (answered : List Reply) : Type 0 where
   pub run : (look : Look) (start : ℕ) (log : List Txn) → HasRun look start log was → HasRun look start (log ++ txns) now
   pub replies : (look : Look) (start : ℕ) (log : List Txn) → HasRun look start log was → replies look log ++ answered ≡ replies look (log ++ txns)

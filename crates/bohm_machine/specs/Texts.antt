@@ -3,7 +3,8 @@ use Rattle.std.specs.Prelude.{◌≡◌, ℕ, ◌+◌, List, [], ◌∷◌, ◌+
 use Rattle.bohm_tree.specs.Txn.{Txn}
 use Rattle.bohm_txn.specs.declared.outcome.Reply.{Reply}
 use Rattle.bohm_text.specs.Print.{print_numbered}
-use Rattle.bohm_machine.specs.Machines.{Ledger, GoesOn}
+use Rattle.bohm_store.specs.Versions.{Timeline}
+use Rattle.bohm_machine.specs.Machines.{GoesOn}
 
 -- the transactions of a segment that were run, and their replies
 pub record Run : Type 0 where
@@ -11,9 +12,9 @@ pub record Run : Type 0 where
   pub replies : List Reply
 
 -- from one state of a machine to another by these runs
-abbrev pub GoesThrough : Ledger → List Run → Ledger → Type 0
+abbrev pub GoesThrough : Timeline → List Run → Timeline → Type 0
 GoesThrough was [] now = now ≡ was
-GoesThrough was (r ∷ rs) now = (mid : Ledger) × GoesOn was mid r.txns r.replies × GoesThrough mid rs now
+GoesThrough was (r ∷ rs) now = (mid : Timeline) × GoesOn was mid r.txns r.replies × GoesThrough mid rs now
 
 -- the log that they are the segments of
 abbrev pub log_of : List Run → List Txn

@@ -18,8 +18,7 @@ impl Machine {
     /// Where an allocation fails it stands at the end of a batch and returns the replies up to
     /// there.
     ///
-    /// Its time grows with the number of the instances' terms, and with the number of keys that a
-    /// batch declares.
+    /// Its time grows as that of `apply`.
     pub fn run_calls(&mut self, alloc: Global, calls: &Calls) -> Result<Applied, SegmentFault>
         ensures taken { OnOk result (IsTaken self.old calls.now) }
         ensures refused { IfErr result (IsRefused self.old calls.now) }

@@ -9,13 +9,14 @@ ghost use Rattle.bohm_txn.specs.Serial.{replies};
 ghost use Rattle.bohm_txn.specs.Stores.{cell_in, store_after, store_of};
 ghost use Rattle.bohm_text.specs.Print.{print_answer, print_store};
 ghost use Rattle.bohm_machine.specs.Digests.{IsDigest};
-ghost use Rattle.bohm_machine.specs.Machines.{Ledger, GoesOn, HasRun, now_of, past_of, top_of};
+ghost use Rattle.bohm_store.specs.Versions.{Timeline};
+ghost use Rattle.bohm_machine.specs.Machines.{GoesOn, HasRun, now_of, past_of, top_of};
 ghost use Rattle.bohm_machine.specs.Texts.{Run, GoesThrough, log_of, texts_of};
 
 /// The answers of a log's segments, joined, and then the text of the store at the top are the
 /// answer of the whole log.
 pub fn answers_joined()
-    ensures { (store : List (List ℕ × ℤ)) (opened now : Ledger) (runs : List Run)
+    ensures { (store : List (List ℕ × ℤ)) (opened now : Timeline) (runs : List Run)
         (listed : List (List ℕ × ℤ)) → HasRun (cell_in (store_of store)) 0 [] opened
         → GoesThrough opened runs now → cell_in (store_of listed) ≡ now_of now
         → listed ≡ entries (store_of listed) → texts_of 1 runs ++ print_store listed
@@ -27,10 +28,10 @@ pub fn answers_joined()
 /// its store at the top, goes on as that one does: by the same transactions it returns the same
 /// replies, and comes to the same past after that timestamp.
 pub fn restored_goes_on()
-    ensures replies { (one other after1 after2 : Ledger) (txns : List Txn) (a b : List Reply)
+    ensures replies { (one other after1 after2 : Timeline) (txns : List Txn) (a b : List Reply)
         → top_of one ≡ top_of other → now_of one ≡ now_of other → GoesOn one after1 txns a
         → GoesOn other after2 txns b → a ≡ b }
-    ensures past { (one other after1 after2 : Ledger) (txns : List Txn) (a b : List Reply)
+    ensures past { (one other after1 after2 : Timeline) (txns : List Txn) (a b : List Reply)
         → top_of one ≡ top_of other → now_of one ≡ now_of other → GoesOn one after1 txns a
         → GoesOn other after2 txns b → (ts : ℕ) → top_of one ≤ ts → ts ≤ top_of after1
         → past_of after1 ts ≡ past_of after2 ts }

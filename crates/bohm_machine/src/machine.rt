@@ -1,11 +1,14 @@
 //! A machine that log segments are applied to.
 
-ghost use Rattle.std.specs.Prelude.{◌≡◌, ◌<◌, ◌≤◌, ◌↔◌, [], length, max, min, take, true, is_ok};
+ghost use Rattle.std.specs.Prelude.{◌≡◌, ℕ, ◌<◌, ◌≤◌, ◌↔◌, List, [], length, max, min, take, true, is_ok};
 ghost use Rattle.std.specs.Prelude.{Err, Ok, IfOk, IfErr, OnOk, OnErr};
 ghost use Rattle.std.specs.FinMap.{entries};
+ghost use Rattle.std.specs.List.{IsDistinct};
+ghost use Rattle.std.specs.Map.{keys_of};
+ghost use Rattle.std.specs.Str.{bytes_eq};
 ghost use Rattle.bohm_tree.specs.Keys.{rising, names_of};
 ghost use Rattle.bohm_txn.specs.Stores.{cell_in, store_of};
-ghost use Rattle.bohm_store.specs.Versions.{total};
+ghost use Rattle.bohm_store.specs.Versions.{kept_versions, total, versions};
 ghost use Rattle.bohm_store.specs.declared.fault.PastFault.TheVariants as past_is;
 ghost use Rattle.bohm_store.specs.declared.fault.StoreFault.TheVariants as store_is;
 ghost use Rattle.bohm_machine.specs.Machines.{GoesOn, HasRun, floor_of, past_of, top_of};
@@ -13,10 +16,11 @@ ghost use Rattle.bohm_machine.specs.Segments.{AreWholeBatches, IsRefused, IsTake
 
 use crate::fault::SegmentFault;
 use bohm_exec::OpenGate;
-use bohm_run::{Applied, ByteSum, Cuts, Kept, LARGEST_BATCH, Settings, apply, apply_alone};
+use bohm_log::DrawnSeed;
+use bohm_run::{Applied, ByteSum, Cuts, Kept, LARGEST_BATCH, SerialExecutor, Settings, apply};
 use bohm_store::{History, PastFault, StoreFault};
 use bohm_tree::{Cell, Key, NoMemory, Value};
-use bohm_txn::{Checked, Replies, Scratch};
+use bohm_txn::{Checked, Replies};
 use std::alloc::Global;
 use std::marker::Model;
 use std::sync::Wait;
@@ -26,49 +30,55 @@ use std::thread::Threads;
 /// to it, one after another, each after the top.
 #[derive(Drop)]
 pub struct Machine {
-    // The timestamp at which it was restored: the history's own timestamps count from there.
-    base: u32,
+    seed: DrawnSeed,
     history: History,
-    scratch: Scratch,
+    executor: SerialExecutor,
 }
 
 impl Model for Machine {
-    ghost use Rattle.std.specs.Prelude.{◌+◌, ◌<◌, ◌^◌};
-    ghost use Rattle.bohm_machine.specs.Machines.{Ledger};
+    ghost use Rattle.bohm_store.specs.Versions.{Timeline};
 
-    ghost Value = { Ledger };
+    ghost Value = { Timeline };
 
-    ghost view = { λ m. record { base = m.base; history = m.history } };
-
-    ghost invariant = { λ m. m.base + m.history.top < 2 ^ 32 };
+    ghost view = { λ m. m.history };
 }
 
 impl Machine {
     /// The machine of a store, whose entries rise by their keys, as it stands after the transaction
-    /// with the timestamp `top`: a new one is that of the empty store at 0. Its time and memory
-    /// grow with the number of the entries.
-    pub fn restore(alloc: Global, store: &[(Key, Value)], top: u32) -> Result<Machine, NoMemory>
+    /// with the timestamp `top`: a new one is that of the empty store at 0. Keys are hashed from
+    /// the seed. Its time and memory grow with the number of the entries.
+    pub fn restore(
+        alloc: Global,
+        seed: DrawnSeed,
+        store: &[(Key, Value)],
+        top: u32,
+    ) -> Result<Machine, NoMemory>
         requires { rising (names_of store.now) ≡ true }
         ensures top { IfOk result (λ m. top_of m ≡ top) }
         ensures floor { IfOk result (λ m. floor_of m ≡ top) }
         ensures past { IfOk result (λ m. past_of m top ≡ cell_in (store_of store.now)) }
         ensures run { IfOk result (HasRun (cell_in (store_of store.now)) top []) }
+        ensures count { IfOk result (λ m. total m.chains ≡ length store.now) }
     {
-        let history = History::open(alloc, store)?;
-        let scratch = Scratch::new(alloc)?;
+        let history = History::restore_with_seed(alloc, store, top, seed)?;
+        let executor = SerialExecutor::new(alloc)?;
         Ok(Machine {
-            base: top,
+            seed,
             history,
-            scratch,
+            executor,
         })
+    }
+
+    /// The seed from which it hashes keys.
+    pub fn seed(&self) -> DrawnSeed {
+        self.seed
     }
 
     /// The least timestamp of which the past is kept.
     pub fn floor(&self) -> u32
         ensures { result ≡ floor_of self.now }
     {
-        let _top = self.top();
-        self.base + self.history.floor()
+        self.history.floor()
     }
 
     /// The timestamp of the last transaction.
@@ -76,13 +86,14 @@ impl Machine {
         ensures top { result ≡ top_of self.now }
         ensures ordered { floor_of self.now ≤ result }
     {
-        self.base + self.history.top()
+        self.history.top()
     }
 
     /// The number of kept versions, or the greatest number of 64 bits where there are more. Its
     /// time grows with the number of keys.
     pub fn version_count(&self) -> u64
-        ensures { result ≡ min (total self.now.history.chains) 18446744073709551615 }
+        ensures count { result ≡ min (total self.now.chains) 18446744073709551615 }
+        ensures distinct { IsDistinct bytes_eq (keys_of self.now.chains) }
     {
         self.history.version_count()
     }
@@ -96,10 +107,7 @@ impl Machine {
         ensures within { floor_of self.now ≤ ts → ts ≤ top_of self.now
             → result ≡ Ok (past_of self.now ts key.now) }
     {
-        if ts < self.base {
-            return Err(PastFault::Trimmed);
-        }
-        self.history.value_at(key, ts - self.base)
+        self.history.value_at(key, ts)
     }
 
     /// What each key holds after the transaction with a timestamp: the keys that have a value,
@@ -115,10 +123,7 @@ impl Machine {
         ensures past { IfOk result (λ v. cell_in (store_of v.items) ≡ past_of self.now ts) }
         ensures entries { IfOk result (λ v. v.items ≡ entries (store_of v.items)) }
     {
-        if ts < self.base {
-            return Err(StoreFault::Trimmed);
-        }
-        self.history.store_at(alloc, ts - self.base)
+        self.history.store_at(alloc, ts)
     }
 
     /// Where the floor is above the present one it becomes the floor, and the past below it is
@@ -129,10 +134,15 @@ impl Machine {
         ensures top { top_of self.new ≡ top_of self.old }
         ensures past { (ts : _) → floor_of self.new ≤ ts
             → past_of self.new ts ≡ past_of self.old ts }
+        ensures versions { floor_of self.old < floor → (k : List ℕ)
+            → versions self.new k ≡ kept_versions floor (versions self.old k) }
+        ensures same { floor ≤ floor_of self.old → (k : List ℕ)
+            → versions self.new k ≡ versions self.old k }
+        ensures count { total self.new.chains ≤ total self.old.chains }
         ensures run { (look : _) (start : _) (log : _) → HasRun look start log self.old
             → HasRun look start log self.new }
     {
-        self.history.trim(floor.saturating_sub(self.base));
+        self.history.trim(floor);
     }
 
     /// Whether a segment may run: it has no store of its own, and its timestamps don't pass
@@ -159,8 +169,8 @@ impl Machine {
     /// Where an allocation fails it stands at the end of a batch and returns the replies up to
     /// there: nothing is lost, and the rest can be applied again.
     ///
-    /// Its time grows with the numbers of the transactions' terms, of the keys that each batch
-    /// declares and of the segment's keys.
+    /// Its time grows with the number of the transactions' terms, and where an allocation fails with
+    /// the number of the machine's keys too.
     pub fn apply(&mut self, alloc: Global, segment: &Checked) -> Result<Applied, SegmentFault>
         ensures taken { OnOk result (IsTaken self.old segment.now) }
         ensures refused { IfErr result (IsRefused self.old segment.now) }
@@ -177,14 +187,10 @@ impl Machine {
         self.admit(segment)?;
         let txns = segment.log();
         match Cuts::even(alloc, txns.len() as u32, LARGEST_BATCH) {
-            Ok(cuts) => Ok(apply_alone(
-                alloc,
-                &mut self.history,
-                &txns,
-                &cuts,
-                u32::MAX,
-                &mut self.scratch,
-            )),
+            Ok(cuts) => {
+                let history = &mut self.history;
+                Ok(self.executor.apply(alloc, history, &txns, &cuts, u32::MAX))
+            }
             Err(refusal) => Ok(unapplied(alloc, refusal)),
         }
     }

@@ -162,6 +162,23 @@ module _ (part : List ℕ → ℕ) (n w : ℕ) (old new hand given : List Keyed)
       let apart : (part k % n) ≢ w = λ x. grind (arith, nat_tests) in
       rw here (olds k (sym (lt_apart (part k % n) w apart) ∙ low))
 
+  foreign_by : ((p : ℕ) → p < length old → slice_get new p ≡ (if ((p % n) == w) then slice_get hand p else slice_get old p)) → (i : ℕ) (k : List ℕ) → i < length old
+      → (((i % n) == w) ≡ true → placeholders_in (λ _. i) hand k ≡ placeholders_in (λ _. i) given k)
+      → (nat_lt (i % n) w ≡ true → placeholders_in (λ _. i) old k ≡ placeholders_in (λ _. i) given k)
+      → nat_lt (i % n) (w + 1) ≡ true → (b : Bool) → ((i % n) == w) ≡ b → placeholders_in (λ _. i) new k ≡ placeholders_in (λ _. i) given k
+  foreign_by swapped i k inside hands olds low true e = let at = swapped i inside in let here : slice_get new i ≡ slice_get hand i = rw e at at in rw here (hands e)
+  foreign_by swapped i k inside hands olds low false e =
+      let at = swapped i inside in
+      let here : slice_get new i ≡ slice_get old i = rw e at at in
+      let apart : (i % n) ≢ w = λ x. grind (arith, nat_tests) in
+      rw here (olds (sym (lt_apart (i % n) w apart) ∙ low))
+
+  pub foreign : ((p : ℕ) → p < length old → slice_get new p ≡ (if ((p % n) == w) then slice_get hand p else slice_get old p)) → (i : ℕ) (k : List ℕ) → i < length old
+      → (((i % n) == w) ≡ true → placeholders_in (λ _. i) hand k ≡ placeholders_in (λ _. i) given k)
+      → (nat_lt (i % n) w ≡ true → placeholders_in (λ _. i) old k ≡ placeholders_in (λ _. i) given k)
+      → nat_lt (i % n) (w + 1) ≡ true → placeholders_in (λ _. i) new k ≡ placeholders_in (λ _. i) given k
+  foreign swapped i k inside hands olds low = foreign_by swapped i k inside hands olds low ((i % n) == w) refl
+
   pub gathered : ((p : ℕ) → p < length old → slice_get new p ≡ (if ((p % n) == w) then slice_get hand p else slice_get old p)) → ((k : List ℕ) → part k < length old)
       → ((k : List ℕ) → keys_of part n w k ≡ true → placeholders_in part hand k ≡ placeholders_in part given k ++ more k)
       → ((k : List ℕ) → nat_lt (part k % n) w ≡ true → placeholders_in part old k ≡ placeholders_in part given k ++ more k)

@@ -34,6 +34,7 @@ module _ (part : List ℕ → ℕ) (n first : ℕ) (txns : List Txn) (all own le
   found_in_all out right is inside long = record {
     found = right.found ∙ found_same (keys_of part n w) (keys_of part n w) (newest_ahead first (placeholders_in part own)) (newest_ahead first (placeholders_in part all)) (λ done k. masked is inside done k (keys_of part n w k) refl) [] txns;
     chains = λ k mine. kept_mine k (keys_of part n w k) mine (placeholders_in part own k ++ placeholders_made first txns k) (placeholders_in part own k) (right.chains k) ∙ ap (λ vs. vs ++ placeholders_made first txns k) (held part n first all own w is inside k mine);
+    others = λ i k low mine apart. (let here = is i low mine in right.others i k apart ∙ (rw here refl));
     parts = right.parts ∙ long;
   }
 

@@ -35,6 +35,22 @@ module _ (part : List ℕ → ℕ) where
       → placeholders_in part (slice_set qs (part key) new) k ≡ (if (bytes_eq key k && keys_of part n w k) then placeholders_in part qs k ++ next ∷ [] else placeholders_in part qs k)
   placed qs old new key k n w next inside at mine is = placed_by qs old new key k n w next inside at mine (bytes_eq key k) refl is (cases_eq (part k) (part key))
 
+  foreign_by : (qs : List Keyed) (old new : Keyed) (key k : List ℕ) (next : Placeholder) (i : ℕ) → part key < length qs → slice_get qs (part key) ≡ Some old → (b : Bool) → bytes_eq key k ≡ b
+      → placeholders new k ≡ (if b then placeholders old k ++ next ∷ [] else placeholders old k) → part k ≢ i → (i ≡ part key) ⊎ (i ≢ part key)
+      → placeholders_in (λ _. i) (slice_set qs (part key) new) k ≡ placeholders_in (λ _. i) qs k
+  foreign_by qs old new key k next i inside at true e is apart (inl s) = absurd (apart (ap part (sym (same_key key k e)) ∙ sym s))
+  foreign_by qs old new key k next i inside at false e is apart (inl s) =
+      let g : slice_get (slice_set qs (part key) new) i ≡ Some new = rw s (set_same qs (part key) new inside) in
+      let o : slice_get qs i ≡ Some old = rw s at in
+      rw (g, o) is
+  foreign_by qs old new key k next i inside at b e is apart (inr s) = rw (set_other qs (part key) i new s) refl
+
+  -- the keys of another part have there what they had
+  pub foreign : (qs : List Keyed) (old new : Keyed) (key k : List ℕ) (next : Placeholder) (i : ℕ) → part key < length qs → slice_get qs (part key) ≡ Some old
+      → placeholders new k ≡ (if bytes_eq key k then placeholders old k ++ next ∷ [] else placeholders old k) → part k ≢ i
+      → placeholders_in (λ _. i) (slice_set qs (part key) new) k ≡ placeholders_in (λ _. i) qs k
+  foreign qs old new key k next i inside at is apart = foreign_by qs old new key k next i inside at (bytes_eq key k) refl is apart (cases_eq i (part key))
+
 skipped : (u index : ℕ) (w : List ℕ) (ws : List (List ℕ)) (k : List ℕ) (b : Bool) → bytes_eq w k ≡ b → (b || is_among ws k) ≡ false → (is_among ws k ≡ false → placeholders_written u (index + 1) ws k ≡ []) → placeholders_written u index (w ∷ ws) k ≡ []
 skipped u index w ws k true e absent more = absurd cc
 skipped u index w ws k false e absent more = rw e (more absent)

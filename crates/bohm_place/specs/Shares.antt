@@ -1,5 +1,5 @@
 -- What each planning worker does, and what comes of all together. The worker w of n has the parts p with p % n ≡ w.
-use Rattle.std.specs.Prelude.{◌≡◌, ℕ, ◌+◌, ◌%◌, ◌==◌, ◌<◌, Bool, true, false, List, [], ◌∷◌, ◌++◌, length, map, max, All, nat_lt, slice_get, if◌then◌else◌}
+use Rattle.std.specs.Prelude.{◌≡◌, ◌≢◌, ℕ, ◌+◌, ◌%◌, ◌==◌, ◌<◌, Bool, true, false, List, [], ◌∷◌, ◌++◌, length, map, max, All, nat_lt, slice_get, if◌then◌else◌}
 use Rattle.std.specs.List.{zip}
 use Rattle.std.specs.Str.{bytes_eq}
 use Rattle.bohm_tree.specs.Txn.{Txn}
@@ -77,6 +77,10 @@ HasPartsOf n w parts own = (p : ℕ) → p < length parts → ((p % n) == w) ≡
 abbrev pub KeepsOthers : ℕ → ℕ → List Keyed → List Keyed → Type 0
 KeepsOthers n w parts left = (p : ℕ) → p < length parts → ((p % n) == w) ≡ false → slice_get left p ≡ slice_get parts p
 
+-- of two lists of parts, each part of the second has the chains of the first, but for those of the part's own keys
+abbrev pub KeepsForeign : (List ℕ → ℕ) → List Keyed → List Keyed → Type 0
+KeepsForeign part old new = (i : ℕ) (k : List ℕ) → part k ≢ i → placeholders_in (λ _. i) new k ≡ placeholders_in (λ _. i) old k
+
 -- the chains of the worker's keys lie below a timestamp
 abbrev pub AreBelow : (List ℕ → ℕ) → (List ℕ → Bool) → ℕ → List Keyed → Type 0
 AreBelow part mine ts parts = (k : List ℕ) → mine k ≡ true → All (λ b. b < ts) (chain_in part parts k)
@@ -94,10 +98,12 @@ pub record CanPlace (part : List ℕ → ℕ) (count n w first : ℕ) (given : L
 pub record IsFoundIn (part : List ℕ → ℕ) (n w first : ℕ) (txns : List Txn) (given : List Keyed) (out : List Placeholder) (left : List Keyed) : Type 0 where
   pub found : out ≡ found_by (keys_of part n w) (newest_ahead first (placeholders_in part given)) [] txns
   pub chains : ArePlacedFor part (keys_of part n w) (placeholders_made first txns) given left
+  pub others : KeepsForeign part given left
   pub parts : length left ≡ length given
 
 -- the same where it was given its own parts of all
 pub record IsFoundInAll (part : List ℕ → ℕ) (n w first : ℕ) (txns : List Txn) (all : List Keyed) (out : List Placeholder) (left : List Keyed) : Type 0 where
   pub found : out ≡ found_by (keys_of part n w) (newest_ahead first (placeholders_in part all)) [] txns
   pub chains : (k : List ℕ) → keys_of part n w k ≡ true → placeholders_in part left k ≡ placeholders_in part all k ++ placeholders_made first txns k
+  pub others : (i : ℕ) (k : List ℕ) → i < length all → ((i % n) == w) ≡ true → part k ≢ i → placeholders_in (λ _. i) left k ≡ placeholders_in (λ _. i) all k
   pub parts : length left ≡ length all

@@ -5,7 +5,7 @@
 pub enum Source {
     /// The version before the batch.
     Before,
-    /// The version that the transaction with this timestamp, one of the batch, produces.
+    /// The version of the transaction with this timestamp, which is in the batch.
     Within(u32),
 }
 
@@ -13,8 +13,7 @@ pub enum Source {
 #[derive(Clone, Copy, Debug, PartialEq, Eq)]
 pub struct Access {
     pub source: Source,
-    /// Which declared write of the source is of the key, counted from 0. Where the source is
-    /// `Before` it names no write: it is 0 as planned, and a batch notes the place of the key in
-    /// its base there.
+    /// The index, counted from 0, of the source's declared write of the key. For `Before` it is 0
+    /// in a plan, and in a batch the index of the key in the base.
     pub index: u32,
 }

@@ -16,10 +16,10 @@ use bohm_tree::NoMemory;
 use std::alloc::Global;
 
 /// Plans a batch on the caller's thread, by the numbers of its log's keys: finds for each access of
-/// its transactions, in log order, the newest writer of the key among the transactions of the batch
-/// before it. The plan is the one that `plan` makes.
+/// its transactions, in log order, the newest earlier writer of the key in the batch. The plan is
+/// the one that `plan` makes.
 ///
-/// The array is the one that was handed back for the batch before, or a new one. An error drops it.
+/// The array is the one that planning the batch before returned, or a new one. An error drops it.
 /// The time grows with the number of accesses, and with how many keys of the log are new to the
 /// array.
 pub fn plan_alone(

@@ -10,7 +10,7 @@ use bohm_tree::NoMemory;
 use std::alloc::Global;
 use std::marker::Model;
 
-// Whether a number is one of these, of which each has its place noted. Its time is constant.
+// Whether a number is among these, each of which has its index noted. Its time is constant.
 fn stands(numbers: &[u32], places: &[u32], number: u32) -> bool
     requires known { number < length places.now }
     requires placed { ArePlaced numbers.now places.now }
@@ -20,7 +20,7 @@ fn stands(numbers: &[u32], places: &[u32], number: u32) -> bool
     place < numbers.len() && numbers[place] == number
 }
 
-// Adds a number after the others, unless it is one of them.
+// Appends a number, unless it is there.
 fn add(numbers: &mut Vec<u32>, places: &mut [u32], number: u32) -> Result<(), NoMemory>
     requires known { number < length places.old }
     requires few { length numbers.old.items < 2 ^ 32 }
@@ -36,7 +36,7 @@ fn add(numbers: &mut Vec<u32>, places: &mut [u32], number: u32) -> Result<(), No
     Ok(())
 }
 
-// The same of each of these.
+// Appends each of these numbers that isn't there yet.
 fn add_all(numbers: &mut Vec<u32>, places: &mut [u32], more: &[u32]) -> Result<(), NoMemory>
     requires known { All (λ n. n < length places.old) more.now }
     requires few { length numbers.old.items + length more.now ≤ 2 ^ 32 }
@@ -50,7 +50,7 @@ fn add_all(numbers: &mut Vec<u32>, places: &mut [u32], more: &[u32]) -> Result<(
     Ok(())
 }
 
-// Adds all numbers that are declared, where there is no other yet.
+// Fills the empty list with all declared numbers, each once.
 fn add_sets(
     numbers: &mut Vec<u32>,
     places: &mut [u32],
@@ -72,9 +72,9 @@ fn add_sets(
     Ok(())
 }
 
-/// The keys that a batch declares, each once, by number, and by number where each of them stands
-/// among these. They come in the order in which they are declared first, which is a hint alone: no
-/// clause says their order. It keeps its room from one batch to the next.
+/// The keys that a batch declares, each once, as numbers, and for each number its index among
+/// these. Their order, that of their first declaration, is a hint: no clause gives it. Its memory
+/// is reused for the next batch.
 #[derive(Drop)]
 pub struct BatchKeys {
     numbers: Vec<u32>,
@@ -101,10 +101,9 @@ impl BatchKeys {
         }
     }
 
-    /// The keys that these transactions declare, instead of those before. Its time grows with how
-    /// many keys each of them declares: a key is neither hashed nor compared with another. Only
-    /// where the log has more names than ever before does it grow with these too. After an error it
-    /// stands for no batch.
+    /// Replaces its keys by those that these transactions declare. The time grows with the number
+    /// of declared keys, and with the log's names only when there are more than ever before: no key
+    /// is hashed or compared. After an error its contents are unspecified.
     pub fn gather(&mut self, keys: &DeclaredKeys<'_>) -> Result<(), NoMemory>
         requires txns { length keys.now.sets ≤ 4096 }
         requires sets { All AreFew keys.now.sets }
@@ -125,7 +124,7 @@ impl BatchKeys {
         &self.numbers
     }
 
-    /// At the number of each of the keys its place among them. Other entries have no meaning.
+    /// For each of these numbers its index among them. Other entries have no meaning.
     pub fn places(&self) -> &[u32]
         ensures { result.now ≡ self.now.places }
     {

@@ -1,8 +1,8 @@
-//! One planning worker that goes by keys.
+//! A planning worker that goes by keys.
 
 ghost use Rattle.std.specs.Prelude.{◌≡◌, ℕ, List, ◌++◌, ◌<◌, ◌≤◌, [], length, map, OnOk, IfOk};
 ghost use Rattle.bohm_place.specs.Chains.{placeholders_in};
-ghost use Rattle.bohm_place.specs.Shares.{AreDistinct, CanPlace, IsFoundIn};
+ghost use Rattle.bohm_place.specs.Shares.{AreDistinct, CanPlace, IsFoundIn, KeepsForeign};
 ghost use Rattle.bohm_place.specs.Shares.{found_by, newest_ahead};
 ghost use Rattle.bohm_place.specs.Shares.{placeholders_written, placeholders_made};
 ghost use Rattle.bohm_place.specs.Planners.{mine, found_in, IsBelow, IsPlaced, ArePlaced};
@@ -16,16 +16,16 @@ use bohm_log::Keys;
 use bohm_tree::{Key, NoMemory};
 use std::alloc::Global;
 
-/// A worker, and the parts that it alone holds while it plans, with empty ones in place of the
-/// others.
+/// A worker, and a list of all parts in which only its own, which no other worker has meanwhile,
+/// have keys.
 #[derive(Drop)]
 pub struct PartsJob {
     pub worker: Worker,
     pub parts: Vec<Places>,
 }
 
-/// What a worker hands back: for each access of its keys the placeholder of its source, `none` for
-/// the other accesses, and its parts.
+/// A worker's result: for each access of its keys the placeholder of its source, `none` for the
+/// other accesses, and its parts.
 #[derive(Drop)]
 pub struct FoundInParts {
     pub found: Vec<Placeholder>,
@@ -52,7 +52,8 @@ impl<'a, P: Partition> KeyPlanner<'a, P> {
         parts[part as usize].newest(key).within(self.batch.first)
     }
 
-    // The same of a write, whose own placeholder is added.
+    // The placeholder that a write of the key takes its version from. The write's own placeholder
+    // is added.
     fn find_and_place(
         &self,
         alloc: Global,
@@ -65,6 +66,8 @@ impl<'a, P: Partition> KeyPlanner<'a, P> {
         requires above { IsBelow P.part_of self.now next.begin parts.old key }
         ensures found { IfOk result (λ v. v ≡ found_in P.part_of self.now parts.old key) }
         ensures placed { OnOk result (IsPlaced P.part_of self.now key next parts.old parts.new) }
+        ensures others { OnOk result
+            (KeepsForeign (P.part_of self.now.keys.partition.now) parts.old parts.new) }
     {
         let part = self.keys.partition.part(&key);
         if !self.keys.worker.has(part) {
@@ -107,6 +110,8 @@ impl<'a, P: Partition> KeyPlanner<'a, P> {
             ≡ found.old.items ++ map (found_in P.part_of self.now parts.old) keys.now) }
         ensures placed { OnOk result (ArePlaced P.part_of self.now
             (placeholders_written ts 0 keys.now) parts.old parts.new) }
+        ensures others { OnOk result
+            (KeepsForeign (P.part_of self.now.keys.partition.now) parts.old parts.new) }
     {
         for i in 0..keys.len() {
             let next = Placeholder {
@@ -130,6 +135,8 @@ impl<'a, P: Partition> KeyPlanner<'a, P> {
         ensures placed { OnOk result (ArePlaced P.part_of self.now
             (placeholders_made self.now.batch.first self.now.batch.txns.now)
             parts.old parts.new) }
+        ensures others { OnOk result
+            (KeepsForeign (P.part_of self.now.keys.partition.now) parts.old parts.new) }
     {
         let mut found = Vec::with_capacity(alloc, self.batch.accesses)?;
         for i in 0..self.batch.txns.len() {
@@ -144,8 +151,7 @@ impl<'a, P: Partition> KeyPlanner<'a, P> {
     }
 }
 
-/// Goes through all transactions in log order, and finds and places the accesses of the worker's
-/// keys.
+/// Finds and adds, in log order, the accesses of the worker's keys in all transactions.
 pub fn plan_in_parts<P: Partition>(
     alloc: Global,
     mut job: PartsJob,

@@ -1,4 +1,4 @@
-//! One planning worker that goes by key numbers.
+//! A planning worker that goes by key numbers.
 
 ghost use Rattle.std.specs.Prelude.{◌≡◌, ◌+◌, ◌++◌, ◌<◌, ◌≤◌, [], length, map};
 ghost use Rattle.std.specs.Prelude.{All, OnOk, IfOk, slice_set, if◌then◌else◌};
@@ -19,15 +19,15 @@ use bohm_tree::NoMemory;
 use std::alloc::Global;
 use std::mem;
 
-/// A worker, and the array that it alone holds while it plans.
+/// A worker, and its own array.
 #[derive(Drop)]
 pub struct NumberJob {
     pub worker: Worker,
     pub newest: Newest,
 }
 
-/// What a worker hands back: for each access of its keys the placeholder of its source, `none` for
-/// the other accesses, and its array.
+/// A worker's result: for each access of its keys the placeholder of its source, `none` for the
+/// other accesses, and its array.
 #[derive(Drop)]
 pub struct FoundByNumber {
     pub found: Vec<Placeholder>,
@@ -43,8 +43,8 @@ pub struct NumberPlanner<'a, P> {
 }
 
 impl<'a, P: Partition> NumberPlanner<'a, P> {
-    // Whether the key with a number is the worker's. One worker alone has every key, and the
-    // partition isn't asked.
+    // Whether the worker has the key with a number. A single worker has every key, without a call
+    // of the partition.
     fn has(&self, number: u32) -> bool
         requires { number < length self.now.declared.names }
         ensures { result ≡ mine P.part_of self.now.keys (name_at self.now.declared.names number) }
@@ -68,7 +68,8 @@ impl<'a, P: Partition> NumberPlanner<'a, P> {
         newest[number as usize].within(self.batch.first)
     }
 
-    // The same of a write, whose own placeholder takes the place of that one.
+    // The placeholder that a write of the key takes its version from. The write's own placeholder
+    // replaces it.
     fn find_and_place(
         &self,
         newest: &mut [Placeholder],
@@ -157,8 +158,7 @@ impl<'a, P: Partition> NumberPlanner<'a, P> {
     }
 }
 
-/// Goes through all transactions in log order, and finds and places the accesses of the worker's
-/// keys.
+/// Finds and adds, in log order, the accesses of the worker's keys in all transactions.
 pub fn plan_numbers<P: Partition>(
     alloc: Global,
     job: NumberJob,

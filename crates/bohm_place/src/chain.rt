@@ -11,8 +11,7 @@ use bohm_tree::{Key, NoMemory};
 use std::alloc::Global;
 use std::collections::VecDeque;
 
-/// The placeholders of one key, rising. It is never empty, and needs no allocation for the newest
-/// one.
+/// The placeholders of one key, rising. It is never empty; the newest one needs no allocation.
 #[derive(Drop)]
 pub struct Chain {
     pub older: VecDeque<Placeholder>,
@@ -29,8 +28,8 @@ impl Chain {
         }
     }
 
-    /// Adds a placeholder, and returns the one that was the newest. The key is listed where it
-    /// wasn't; an error may leave it listed too.
+    /// Adds a placeholder, and returns the newest one before it. The key is listed if it wasn't;
+    /// after an error it may be listed too.
     pub fn extend(
         &mut self,
         long: &mut Vec<Key>,
@@ -53,7 +52,7 @@ impl Chain {
         Ok(newest)
     }
 
-    /// The begin that follows the oldest one.
+    /// The begin of the second oldest one.
     fn second(&self) -> Option<u32>
         ensures { result ≡ second (items self.now) }
     {
@@ -65,7 +64,7 @@ impl Chain {
     }
 
     /// Drops all that are older than the newest one at or below the floor, and returns whether more
-    /// than one is left. Its time grows with how many are dropped.
+    /// than one is left. The time grows with the number dropped.
     pub fn shorten(&mut self, floor: u32) -> bool
         ensures items { items self.new ≡ kept_items floor (items self.old) }
         ensures left { IsTrue result ↔ (1 < length (items self.new)) }
@@ -79,8 +78,8 @@ impl Chain {
         false
     }
 
-    /// The greatest begin below a timestamp, or 0. Its time grows with how many begins are not
-    /// below it.
+    /// The greatest begin below a timestamp, or 0. The time grows with the number of begins at or
+    /// above the timestamp.
     pub fn greatest_below(&self, ts: u32) -> u32
         requires { RisesFrom 0 (begins (items self.now)) }
         ensures { result ≡ greatest_below ts (begins (items self.now)) }

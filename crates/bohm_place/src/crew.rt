@@ -22,7 +22,7 @@ use std::alloc::Global;
 use std::thread::Threads;
 use std::{mem, thread};
 
-// One job for each array.
+// A job for each array.
 fn jobs(alloc: Global, mut arrays: Vec<Newest>) -> Result<Vec<NumberJob>, NoMemory>
     ensures count { IfOk result (λ jobs. length jobs.items ≡ length arrays.items) }
     ensures workers { IfOk result (λ jobs. (w : ℕ) (d : _) → w < length arrays.items
@@ -42,7 +42,7 @@ fn jobs(alloc: Global, mut arrays: Vec<Newest>) -> Result<Vec<NumberJob>, NoMemo
     Ok(jobs)
 }
 
-// Runs each worker's job, in a thread of its own where there is more than one.
+// Runs each worker's job; several run in threads of their own.
 fn plan_all<P: Partition, R: Threads + Sync>(
     rt: &R,
     alloc: Global,
@@ -71,7 +71,7 @@ fn plan_all<P: Partition, R: Threads + Sync>(
     Ok(each)
 }
 
-// Takes the arrays back, and joins what the workers found.
+// Collects the arrays, and joins what the workers found.
 fn gather<P: Partition>(
     alloc: Global,
     mut each: Vec<Result<FoundByNumber, NoMemory>>,
@@ -109,15 +109,15 @@ fn gather<P: Partition>(
 }
 
 /// Plans a batch by the numbers of its log's keys, as `plan_alone` does, by as many workers as
-/// there are arrays, each in a thread of its own where there is more than one. Of n workers the one
-/// with number i takes the keys whose part is i modulo n; each goes through all transactions. The
-/// plan is the same for every number of workers and every partition.
+/// there are arrays; several run in threads of their own. Worker i of n takes the keys whose part
+/// is i modulo n; each goes through all transactions. The plan is the same for every number of
+/// workers and every partition.
 ///
-/// The arrays are those that were handed back for the batch before, or new ones; their number may
-/// change from batch to batch. An error drops them. The time of one worker grows with the number of
-/// accesses, with one question to the partition for each where there is more than one worker, and
-/// with how many keys of the log are new to its array. Joining what they found takes time that
-/// grows with the number of accesses times that of the workers.
+/// The arrays are those that planning the batch before returned, or new ones; their number may
+/// change from batch to batch. An error drops them. The time of a worker grows with the number of
+/// accesses, with a call of the partition for each if there are several workers, and with how many
+/// keys of the log are new to its array. Joining what they found takes time that grows with the
+/// number of accesses times that of the workers.
 pub fn plan_by_number<P: Partition, R: Threads + Sync>(
     rt: &R,
     alloc: Global,

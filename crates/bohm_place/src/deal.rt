@@ -1,6 +1,6 @@
 //! Divides the parts among workers, and collects them.
 
-ghost use Rattle.std.specs.Prelude.{◌≡◌, ℕ, List, ◌++◌, ◌%◌, ◌<◌, ◌==◌, [], length, nat_lt};
+ghost use Rattle.std.specs.Prelude.{◌≡◌, ◌≢◌, ℕ, List, ◌++◌, ◌%◌, ◌<◌, ◌==◌, [], length, nat_lt};
 ghost use Rattle.std.specs.Prelude.{IfOk, OnOk, slice_get, slice_index_or, if◌then◌else◌};
 ghost use Rattle.bohm_place.specs.Chains.{placeholders_in};
 ghost use Rattle.bohm_place.specs.Shares.{AreParts, HasPartsOf, KeepsOthers, IsFoundInAll};
@@ -13,7 +13,7 @@ use crate::places::Places;
 use crate::shards::empty_parts;
 use crate::unplanned::UnplannedBatch;
 use crate::worker::Worker;
-use bohm_log::HashSeed;
+use bohm_log::{FixedSeed, HashSeed};
 use bohm_tree::NoMemory;
 use std::alloc::Global;
 use std::mem;
@@ -36,19 +36,19 @@ fn swap_parts<T>(a: &mut [T], b: &mut [T], worker: Worker)
     }
 }
 
-// Takes the parts of one worker out, and leaves empty ones there, which get no keys.
+// Takes out the parts of one worker, and leaves empty ones in their place, which get no keys.
 fn take_parts(alloc: Global, parts: &mut [Places], worker: Worker) -> Result<Vec<Places>, NoMemory>
     ensures count { IfOk result (λ own. length own.items ≡ length parts.old) }
     ensures taken { IfOk result
         (λ own. HasPartsOf worker.count worker.number parts.old own.items) }
     ensures others { OnOk result (KeepsOthers worker.count worker.number parts.old parts.new) }
 {
-    let mut own = empty_parts(alloc, parts.len(), HashSeed::fixed())?;
+    let mut own = empty_parts(alloc, parts.len(), HashSeed::from(FixedSeed))?;
     swap_parts(parts, own.as_mut_slice(), worker);
     Ok(own)
 }
 
-/// One job for each worker, with the parts of its own.
+/// A job for each worker, with its parts.
 pub fn deal(alloc: Global, parts: &mut [Places], workers: usize) -> Result<Vec<PartsJob>, NoMemory>
     ensures count { IfOk result (λ jobs. length jobs.items ≡ workers) }
     ensures workers { IfOk result (λ jobs. (w : ℕ) (d : _) → w < workers
@@ -95,6 +95,9 @@ pub fn gather<P: Partition>(
         → placeholders_in (P.part_of partition.now) parts.new k
         ≡ placeholders_in (P.part_of partition.now) given.value.items k
         ++ placeholders_made batch.entry.first batch.entry.txns.now k) }
+    ensures others { OnOk result ((i : ℕ) (k : List ℕ) → i < P.count partition.now
+        → P.part_of partition.now k ≢ i
+        → placeholders_in (λ _. i) parts.new k ≡ placeholders_in (λ _. i) given.value.items k) }
 {
     let count = each.len();
     let mut found = Vec::new(alloc);

@@ -1,6 +1,6 @@
-//! Planning: placeholders for the versions of a batch, and the source of each access, by parts of
-//! the keys. The design is that of BOHM: Faleiro and Abadi, "Rethinking Serializable Multiversion
-//! Concurrency Control", VLDB 2015.
+//! Planning: placeholders for the versions of a batch, and the source of each access. The design is
+//! that of BOHM: Faleiro and Abadi, "Rethinking Serializable Multiversion Concurrency Control",
+//! VLDB 2015.
 #![tactic(auto)]
 
 mod access;

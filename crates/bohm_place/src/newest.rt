@@ -8,8 +8,8 @@ use bohm_tree::NoMemory;
 use std::alloc::Global;
 use std::marker::Model;
 
-/// The newest placeholder of each key of a log, by the key's number; `none` where planning has made
-/// none. The placeholders of earlier batches stay, and are recognized by their begins: nothing is
+/// The newest placeholder of each key of a log, by the key's number; `none` if planning has made
+/// none. Placeholders of earlier batches stay, and are recognized by their begins: nothing is
 /// cleared between two batches.
 #[derive(Drop)]
 pub struct Newest {
@@ -35,8 +35,7 @@ impl Newest {
         }
     }
 
-    /// This many without placeholders, one for each planning worker. They take memory for
-    /// themselves alone.
+    /// This many empty arrays, one for each planning worker.
     pub fn several(alloc: Global, count: u32) -> Result<Vec<Newest>, NoMemory>
         ensures count { IfOk result (λ v. length v.items ≡ count) }
         ensures unplanned { IfOk result

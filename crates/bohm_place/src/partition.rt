@@ -5,7 +5,7 @@ ghost use Rattle.std.proofs.Common.{rules};
 
 use bohm_tree::Key;
 
-/// Which part of the keys each key belongs to. Both answers depend on the value and the key alone.
+/// A partition of the keys. Both answers depend only on the value and the key.
 pub trait Partition: Sync {
     ghost count: { Self → ℕ };
 

@@ -7,14 +7,14 @@ ghost use Rattle.bohm_place.specs.Shares.{within, greater_of, greater};
 /// A version that a transaction is going to produce.
 #[derive(Clone, Copy, Debug, PartialEq, Eq)]
 pub struct Placeholder {
-    /// The timestamp of the transaction, or 0 where there is no placeholder.
+    /// The timestamp of the transaction; 0 means that there is no placeholder.
     pub begin: u32,
     /// Which of its declared writes produces the version, counted from 0.
     pub index: u32,
 }
 
 impl Placeholder {
-    /// Stands where there is no placeholder.
+    /// No placeholder.
     pub fn none() -> Placeholder
         ensures { result ≡ none }
     {
@@ -32,7 +32,7 @@ impl Placeholder {
         }
     }
 
-    /// Of two of which at most one isn't `none`, that one.
+    /// Of two, at least one of which is `none`, the other.
     pub fn or(self, other: Placeholder) -> Placeholder
         ensures { result ≡ greater_of self other }
     {
@@ -43,7 +43,7 @@ impl Placeholder {
     }
 }
 
-/// Joins what another worker found, who has no key of those before it, to what they found.
+/// Adds to what some workers found what another one found, whose keys are none of theirs.
 pub fn join(found: &mut [Placeholder], more: &[Placeholder])
     requires { length found.old ≡ length more.now }
     ensures { found.new ≡ greater found.old more.now }

@@ -8,13 +8,13 @@ ghost use Rattle.bohm_place.specs.Chains.{items_at, kept_items, last_or, none};
 
 use crate::chain::Chain;
 use crate::placeholder::Placeholder;
-use bohm_log::HashSeed;
+use bohm_log::{FixedSeed, HashSeed};
 use bohm_tree::{Key, NoMemory};
 use std::alloc::Global;
 use std::collections::HashMap;
 use std::marker::Model;
 
-// Adds a placeholder to the chain of its key, and returns the one that was the newest.
+// Adds a placeholder to the chain of its key, and returns the newest one before it.
 fn append(
     chains: &mut HashMap<Key, Chain, HashSeed>,
     long: &mut Vec<Key>,
@@ -38,7 +38,7 @@ fn append(
     }
 }
 
-// Shortens the chain of a key, and returns whether it has more than one begin then.
+// Shortens the chain of a key, and returns whether it still has more than one begin.
 fn shorten(chains: &mut HashMap<Key, Chain, HashSeed>, key: &Key, floor: u32) -> bool
     ensures chains { (k : List ℕ) → items_at chains.new k
         ≡ (if bytes_eq key.now k
@@ -52,7 +52,7 @@ fn shorten(chains: &mut HashMap<Key, Chain, HashSeed>, key: &Key, floor: u32) ->
     }
 }
 
-// Shortens the listed chains, and keeps those listed that still have more than one begin.
+// Shortens the listed chains, and keeps listed those with more than one begin.
 fn shorten_all(chains: &mut HashMap<Key, Chain, HashSeed>, long: &mut Vec<Key>, floor: u32)
     requires { (k : List ℕ) → 1 < length (items_at chains.old k) → IsAmong long.old.items k }
     ensures chains { (k : List ℕ)
@@ -74,7 +74,7 @@ fn shorten_all(chains: &mut HashMap<Key, Chain, HashSeed>, long: &mut Vec<Key>, 
 #[derive(Drop)]
 pub struct Places {
     chains: HashMap<Key, Chain, HashSeed>,
-    // All keys whose chain has more than one begin are among these.
+    // Contains all keys whose chain has more than one begin.
     long: Vec<Key>,
 }
 
@@ -95,7 +95,7 @@ impl Places {
     pub fn new(alloc: Global) -> Places
         ensures { (k : List ℕ) → placeholders result k ≡ [] }
     {
-        Places::with_seed(alloc, HashSeed::fixed())
+        Places::with_seed(alloc, HashSeed::from(FixedSeed))
     }
 
     /// The same, with keys hashed from this seed.
@@ -108,7 +108,7 @@ impl Places {
         }
     }
 
-    /// Adds a begin to the chain of a key. Its time is that of one look-up.
+    /// Adds a begin to the chain of a key. The time is that of one look-up.
     pub fn place(&mut self, alloc: Global, key: Key, ts: u32) -> Result<(), NoMemory>
         requires timestamp { 0 < ts }
         requires above { All (λ b. b < ts) (chain self.old key) }
@@ -125,7 +125,7 @@ impl Places {
         Ok(())
     }
 
-    /// Adds a placeholder to the chain of a key, and returns the one that was the newest.
+    /// Adds a placeholder to the chain of a key, and returns the newest one before it.
     pub(crate) fn annotate(
         &mut self,
         alloc: Global,
@@ -152,8 +152,8 @@ impl Places {
         }
     }
 
-    /// The greatest begin below a timestamp in the chain of a key, or 0 where there is none. Its
-    /// time is that of one look-up, and grows with how many begins of the chain are not below the
+    /// The greatest begin below a timestamp in the chain of a key, or 0 if there is none. The time
+    /// is that of one look-up, and grows with the number of the chain's begins at or above the
     /// timestamp.
     pub fn source(&self, key: &Key, ts: u32) -> u32
         ensures source { result ≡ greatest_below ts (chain self.now key.now) }
@@ -165,8 +165,8 @@ impl Places {
         }
     }
 
-    /// Keeps in each chain the newest begin at or below the floor, and all begins above it. Its
-    /// time grows with how many chains have more than one begin, and with how many begins are
+    /// Keeps in each chain the newest begin at or below the floor, and all begins above it. The
+    /// time grows with the number of chains with more than one begin, and with the number of begins
     /// dropped.
     pub(crate) fn trim(&mut self, floor: u32)
         ensures { (k : List ℕ) → chain self.new k ≡ kept floor (chain self.old k) }

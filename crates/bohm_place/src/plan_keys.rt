@@ -17,8 +17,8 @@ use bohm_log::{DeclaredKeys, LogPart};
 use bohm_tree::{Key, NoMemory};
 use std::alloc::Global;
 
-/// Notes the places of the keys with these numbers, of one declared set of the transaction with the
-/// timestamp t. Each is one of the gathered keys.
+/// Notes the indices of the keys with these numbers, of one declared set of the transaction with
+/// the timestamp t. Each is one of the gathered keys.
 fn note_numbers(plan: &mut Plan, gathered: &BatchKeys, set: DeclaredSet, t: u32, numbers: &[u32])
     requires first { plan.old.first ≤ t }
     requires paired { length numbers.now ≡ length (planned_in set plan.old (t - plan.old.first)) }
@@ -39,7 +39,7 @@ fn note_numbers(plan: &mut Plan, gathered: &BatchKeys, set: DeclaredSet, t: u32,
     }
 }
 
-/// Notes at each access whose source is `Before` the place of its key among the gathered ones. The
+/// Notes at each access whose source is `Before` the index of its key among the gathered ones. The
 /// time grows with the number of accesses: no key is searched for.
 fn note_gathered(
     plan: &mut Plan,
@@ -87,9 +87,9 @@ fn numbered_keys(
 
 impl Plan {
     /// Gathers the keys that the batch declares, each once, and notes at each access whose source
-    /// is `Before` the place of its key among them: a base of these keys is read by place. An error
-    /// drops the plan. The time grows with the number of accesses: no key is hashed or compared
-    /// with another.
+    /// is `Before` the index of its key among them, so that a base of these keys is read by index.
+    /// An error drops the plan. The time grows with the number of accesses: no key is hashed or
+    /// compared.
     pub fn gather_keys(
         self,
         alloc: Global,
@@ -112,9 +112,8 @@ impl Plan {
         Ok(plan.with_keys(keys))
     }
 
-    /// The plan with the keys of its batch: as it is where it has them, else with keys that are
-    /// gathered now. An error drops the plan. The time grows with the number of accesses where it
-    /// has no keys, and else it is constant.
+    /// The plan with the keys of its batch, which are gathered unless it has them. An error drops
+    /// the plan. The time is that of `gather_keys`, or constant if it has them.
     pub fn ensure_keys(self, alloc: Global, txns: &LogPart<'_>) -> Result<Plan, NoMemory>
         requires few { length txns.now ≤ 4096 }
         requires room { self.first + length txns.now ≤ 2 ^ 32 }

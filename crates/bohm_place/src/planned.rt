@@ -20,8 +20,8 @@ pub struct NumberedKey {
     pub number: u32,
 }
 
-/// For each access of a batch its source, and which transactions are sure. It may have the keys
-/// that the batch declares, each once.
+/// The source of each access of a batch, and which transactions are sure. It may have the keys that
+/// the batch declares, each once.
 #[derive(Drop)]
 pub struct Plan {
     first: u32,
@@ -66,7 +66,7 @@ impl Plan {
     ghost use Rattle.bohm_place.specs.Plans.{source_in, sure_at, AreRows, IsNoted};
     ghost use Rattle.bohm_place.specs.declared.access.Source.TheVariants.{Before};
 
-    /// The plan of a batch that starts at a timestamp. It has no keys.
+    /// The plan, without keys, of a batch that starts at a timestamp.
     pub(crate) fn new(
         alloc: Global,
         first: u32,
@@ -86,7 +86,7 @@ impl Plan {
         }
     }
 
-    /// The same plan, with these keys instead of those that it has.
+    /// The plan with these keys instead of its own.
     pub(crate) fn with_keys(self, keys: Vec<NumberedKey>) -> Plan
         ensures { result ≡ record self { keys = map (λ k. k.key) keys.items } }
     {
@@ -123,7 +123,7 @@ impl Plan {
     }
 
     /// The source of the declared write of this index, counted from 0, of the transaction with a
-    /// timestamp: what its key holds before.
+    /// timestamp: the version of its key before the transaction.
     pub fn write(&self, t: u32, index: u32) -> Source
         requires first { self.now.first ≤ t }
         requires index { index < length (writes_of self.now (t - self.now.first)) }
@@ -160,7 +160,7 @@ impl Plan {
         Access::from(self.placeholders[row.place(set, index)])
     }
 
-    /// Notes the place of the key in the base of the batch at an access whose source is `Before`.
+    /// Notes at an access whose source is `Before` the index of its key in the base of the batch.
     /// All other accesses stay as they are. Its time is constant.
     pub fn note(&mut self, set: DeclaredSet, t: u32, index: u32, place: u32)
         requires first { self.old.first ≤ t }

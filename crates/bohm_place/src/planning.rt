@@ -1,6 +1,6 @@
 //! Plans a batch by key, with whole chains.
 
-ghost use Rattle.std.specs.Prelude.{◌≡◌, ℕ, List, ◌+◌, ◌++◌, ◌<◌};
+ghost use Rattle.std.specs.Prelude.{◌≡◌, ◌≢◌, ℕ, List, ◌+◌, ◌++◌, ◌<◌};
 ghost use Rattle.std.specs.Prelude.{length, All, IfOk, slice_index_or};
 ghost use denote.Param.Send.{IsSync};
 ghost use Rattle.bohm_place.specs.Chains.{chain_in};
@@ -39,7 +39,7 @@ pub(crate) fn accesses(rows: &[Row]) -> usize {
     }
 }
 
-// Runs each worker's job, in a thread of its own where there is more than one.
+// Runs each worker's job; several run in threads of their own.
 fn plan_all<P: Partition, R: Threads + Sync>(
     rt: &R,
     alloc: Global,
@@ -70,15 +70,14 @@ fn plan_all<P: Partition, R: Threads + Sync>(
     Ok(each)
 }
 
-/// Plans a batch: finds for each access of its transactions, in log order, the newest writer of the
-/// key among the transactions of the batch before it, and adds each declared write to its key's
-/// chain. The index of an access without such a writer is 0, and so the plan is the same for every
-/// number of workers and every partition. Of `cc` workers the one with number i takes the parts
-/// whose number is i modulo `cc`; each goes through all transactions, in a thread of its own where
-/// there is more than one.
+/// Plans a batch: finds for each access of its transactions, in log order, the newest earlier
+/// writer of the key in the batch, and adds each declared write to its key's chain. An access
+/// without such a writer has the index 0, so the plan is the same for every number of workers and
+/// every partition. Worker i of `cc` takes the parts whose number is i modulo `cc`; each goes
+/// through all transactions, and several run in threads of their own.
 ///
-/// An error drops the shards. The time of one worker grows with the number of accesses, and with
-/// one look-up for each access of its own.
+/// An error drops the shards. The time of a worker grows with the number of accesses, and with one
+/// look-up for each access of its keys.
 pub fn plan<P: Partition, R: Threads + Sync>(
     rt: &R,
     alloc: Global,
@@ -98,6 +97,8 @@ pub fn plan<P: Partition, R: Threads + Sync>(
     ensures chains { IfOk result (λ r. (k : List ℕ)
         → chain_in (P.part_of partition.now) r.0 k
         ≡ chain_in (P.part_of partition.now) shards k ++ writers first txns.now k) }
+    ensures others { IfOk result (λ r. (i : ℕ) (k : List ℕ) → i < length shards
+        → P.part_of partition.now k ≢ i → chain_in (λ _. i) r.0 k ≡ chain_in (λ _. i) shards k) }
     ensures below { IfOk result
         (λ r. (k : List ℕ)
         → All (λ b. b < first + length txns.now) (chain_in (P.part_of partition.now) r.0 k)) }

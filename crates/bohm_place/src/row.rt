@@ -10,8 +10,8 @@ use bohm_tree::NoMemory;
 use bohm_txn::sure;
 use std::alloc::Global;
 
-/// The accesses of one transaction in a list of all: its reads from `start` on, and its writes
-/// after them. And whether the transaction is sure.
+/// The accesses of one transaction in a list of all: its reads from `start` on, followed by its
+/// writes; and whether the transaction is sure.
 #[derive(Clone, Copy, Debug)]
 pub struct Row {
     pub start: usize,
@@ -21,7 +21,7 @@ pub struct Row {
 }
 
 impl Row {
-    /// Where the access of this index, counted from 0, of a declared set lies.
+    /// The position in the list of the access of this index, counted from 0, of a declared set.
     pub fn place(self, set: DeclaredSet, index: u32) -> usize
         requires { start_in set self + index < 2 ^ 64 }
         ensures { result ≡ start_in set self + index }

@@ -4,12 +4,12 @@ ghost use Rattle.std.specs.Prelude.{◌≡◌, ℕ, List, [], ◌<◌, length, s
 ghost use Rattle.bohm_place.specs.Chains.{AreEmpty, AreKept};
 
 use crate::places::Places;
-use bohm_log::HashSeed;
+use bohm_log::{DrawnSeed, FixedSeed, HashSeed};
 use bohm_tree::NoMemory;
 use std::alloc::Global;
 use std::marker::Model;
 
-/// This many parts without chains. They take memory for themselves alone.
+/// This many parts without chains.
 pub fn empty_parts(alloc: Global, count: usize, seed: HashSeed) -> Result<Vec<Places>, NoMemory>
     ensures count { IfOk result (λ v. length v.items ≡ count) }
     ensures empty { IfOk result (λ v. AreEmpty v.items) }
@@ -29,7 +29,7 @@ fn trim_parts(parts: &mut [Places], floor: u32)
     }
 }
 
-/// The chains of the keys, for each part of a partition its own.
+/// The chains of the keys, separately for each part of a partition.
 #[derive(Drop)]
 pub struct Shards {
     parts: Vec<Places>,
@@ -53,16 +53,17 @@ impl Shards {
         ensures empty { IfOk result
             (λ s. (part : List ℕ → ℕ) (k : List ℕ) → chain_in part s k ≡ []) }
     {
-        Shards::with_seed(alloc, parts, HashSeed::fixed())
+        let parts = empty_parts(alloc, parts as usize, HashSeed::from(FixedSeed))?;
+        Ok(Shards { parts })
     }
 
-    /// The same, with keys hashed from this seed.
-    pub fn with_seed(alloc: Global, parts: u32, seed: HashSeed) -> Result<Shards, NoMemory>
+    /// The same, with keys hashed from a drawn seed.
+    pub fn with_seed(alloc: Global, parts: u32, seed: DrawnSeed) -> Result<Shards, NoMemory>
         ensures parts { IfOk result (λ s. length s ≡ parts) }
         ensures empty { IfOk result
             (λ s. (part : List ℕ → ℕ) (k : List ℕ) → chain_in part s k ≡ []) }
     {
-        let parts = empty_parts(alloc, parts as usize, seed)?;
+        let parts = empty_parts(alloc, parts as usize, HashSeed::from(seed))?;
         Ok(Shards { parts })
     }
 
@@ -74,8 +75,8 @@ impl Shards {
         &self.parts[i as usize]
     }
 
-    /// Keeps in each chain the newest begin at or below the floor, and all begins above it. Its
-    /// time grows with how many chains have more than one begin, and with how many begins are
+    /// Keeps in each chain the newest begin at or below the floor, and all begins above it. The
+    /// time grows with the number of chains with more than one begin, and with the number of begins
     /// dropped.
     pub fn trim_places(&mut self, floor: u32)
         ensures parts { length self.new ≡ length self.old }

@@ -5,8 +5,8 @@ ghost use Rattle.bohm_txn.specs.Faulty.{IsWellFormedTxn};
 
 use bohm_log::LogPart;
 
-/// A batch that is to be planned: its transactions, the timestamp of the first one, and how many
-/// accesses they have.
+/// A batch to be planned: its transactions, the timestamp of the first one, and the number of
+/// accesses.
 #[derive(Clone, Copy)]
 pub struct UnplannedBatch<'a> {
     pub first: u32,

@@ -88,7 +88,10 @@ const REFUSED: [(&[u8], u32, CheckKind); 8] = [
 fn bad_lines_are_told(rt: HostRuntime) {
     let rt = &rt;
     for (text, line) in BAD {
-        assert_eq!(rt; fault(rt.alloc(), text), Some(ProcedureFault::Line(line)));
+        assert_eq!(rt;
+            fault(&rt, rt.alloc(), text),
+            Some(ProcedureFault::Line(line))
+        );
     }
 }
 
@@ -96,7 +99,7 @@ fn bad_lines_are_told(rt: HostRuntime) {
 fn short_texts_are_told(rt: HostRuntime) {
     let rt = &rt;
     for text in SHORT {
-        assert_eq!(rt; fault(rt.alloc(), text), Some(ProcedureFault::Short));
+        assert_eq!(rt; fault(&rt, rt.alloc(), text), Some(ProcedureFault::Short));
     }
 }
 
@@ -105,7 +108,10 @@ fn own_instances_are_checked(rt: HostRuntime) {
     let rt = &rt;
     for (text, stmt, kind) in REFUSED {
         let want = CheckFault { txn: 1, stmt, kind };
-        assert_eq!(rt; fault(rt.alloc(), text), Some(ProcedureFault::Check(want)));
+        assert_eq!(rt;
+            fault(&rt, rt.alloc(), text),
+            Some(ProcedureFault::Check(want))
+        );
     }
 }
 
@@ -125,7 +131,7 @@ fn shows(rt: &impl Abort, alloc: Global, count: u32) -> Vec<u8> {
 fn lets_count_among_the_statements(rt: HostRuntime) {
     let rt = &rt;
     let most = shows(rt, rt.alloc(), 63);
-    assert_eq!(rt; fault(rt.alloc(), most.as_slice()), None);
+    assert_eq!(rt; fault(&rt, rt.alloc(), most.as_slice()), None);
     let more = shows(rt, rt.alloc(), 64);
     let want = CheckFault {
         txn: 1,
@@ -133,7 +139,7 @@ fn lets_count_among_the_statements(rt: HostRuntime) {
         kind: CheckKind::Limit,
     };
     assert_eq!(rt;
-        fault(rt.alloc(), more.as_slice()),
+        fault(&rt, rt.alloc(), more.as_slice()),
         Some(ProcedureFault::Check(want))
     );
 }
@@ -171,7 +177,7 @@ fn transfers_print_as_their_text(rt: HostRuntime) {
     let procedure = procedure(rt, alloc, TRANSFER);
     let text = procedure.print(alloc).expect(rt, "memory");
     assert_eq!(rt; text.as_slice(), TRANSFER);
-    let mut calls = no_calls(alloc, Edition::One);
+    let mut calls = no_calls(rt, alloc, Edition::One);
     transfer(rt, &mut calls, &procedure, b"bob", b"alice", 30);
     transfer(rt, &mut calls, &procedure, b"bob", b"bob", i64::MIN);
     let text = print(rt, alloc, &calls);
@@ -185,7 +191,10 @@ fn other_calls_are_not_taken(rt: HostRuntime) {
     let procedure = procedure(rt, alloc, TRANSFER);
     let key = Key::new(b"bob").expect(rt, "a name");
     let (keys, values) = ([key, key], [Value::from(1)]);
-    let (calls, other) = (no_calls(alloc, Edition::One), no_calls(alloc, Edition::Two));
+    let (calls, other) = (
+        no_calls(rt, alloc, Edition::One),
+        no_calls(rt, alloc, Edition::Two),
+    );
     assert!(rt; calls.is_empty());
     assert!(rt; calls.takes(&procedure, &keys, &values));
     assert!(rt; !calls.takes(&procedure, &keys[..1], &values));

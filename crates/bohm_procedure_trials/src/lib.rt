@@ -1,5 +1,5 @@
-//! Tests of procedures and calls. Drawn ones are held against the text that they stand for and the
-//! plain program; there are faults of texts, digests, and failing allocations.
+//! Tests of procedures and calls: drawn ones against the text of their instances and the plain
+//! program, faults of texts, digests, and failing allocations.
 #![tactic(auto)]
 
 #[cfg(test)]

@@ -1,7 +1,7 @@
-//! Procedures, calls and documents from text. Where an allocation fails, what was there stands as
-//! it did, and a second try does it.
+//! Procedures, calls and documents from text. If an allocation fails, nothing has changed, and a
+//! second try succeeds.
 
-use bohm_log::HashSeed;
+use bohm_log::DrawnSeed;
 use bohm_machine::Machine;
 use bohm_procedures::{Calls, Procedure, ProcedureFault};
 use bohm_text::{TextFault, parse, print_answer};
@@ -9,28 +9,33 @@ use bohm_tree::{Edition, Key, Value};
 use bohm_txn::{Checked, Replies, check};
 use std::alloc::Global;
 use std::process::Abort;
+use std::random::RandomSource;
 
-fn read_once(alloc: Global, text: &[u8]) -> Result<Procedure, ProcedureFault> {
-    Procedure::read(alloc, HashSeed::fixed(), text)
+fn read_once(
+    rt: &impl RandomSource,
+    alloc: Global,
+    text: &[u8],
+) -> Result<Procedure, ProcedureFault> {
+    Procedure::read(alloc, DrawnSeed::draw(rt), text)
 }
 
 /// Why there is no procedure of this text.
-pub fn fault(alloc: Global, text: &[u8]) -> Option<ProcedureFault> {
-    match read_once(alloc, text) {
-        Err(ProcedureFault::NoMemory) => read_once(alloc, text).err(),
+pub fn fault(rt: &impl RandomSource, alloc: Global, text: &[u8]) -> Option<ProcedureFault> {
+    match read_once(rt, alloc, text) {
+        Err(ProcedureFault::NoMemory) => read_once(rt, alloc, text).err(),
         read => read.err(),
     }
 }
 
-pub fn procedure(rt: &impl Abort, alloc: Global, text: &[u8]) -> Procedure {
-    match read_once(alloc, text) {
-        Err(ProcedureFault::NoMemory) => read_once(alloc, text).ok().expect(rt, "a procedure"),
+pub fn procedure(rt: &(impl Abort + RandomSource), alloc: Global, text: &[u8]) -> Procedure {
+    match read_once(rt, alloc, text) {
+        Err(ProcedureFault::NoMemory) => read_once(rt, alloc, text).ok().expect(rt, "a procedure"),
         read => read.ok().expect(rt, "a procedure"),
     }
 }
 
-pub fn no_calls(alloc: Global, edition: Edition) -> Calls {
-    Calls::new(alloc, HashSeed::fixed(), edition)
+pub fn no_calls(rt: &impl RandomSource, alloc: Global, edition: Edition) -> Calls {
+    Calls::new(alloc, DrawnSeed::draw(rt), edition)
 }
 
 pub fn push(
@@ -76,10 +81,11 @@ pub fn checked(rt: &impl Abort, alloc: Global, text: &[u8]) -> Checked {
 }
 
 /// The machine of a document's store.
-pub fn machine(rt: &impl Abort, alloc: Global, doc: &Checked) -> Machine {
-    match Machine::restore(alloc, doc.store(), 0) {
+pub fn machine(rt: &(impl Abort + RandomSource), alloc: Global, doc: &Checked) -> Machine {
+    let seed = DrawnSeed::draw(rt);
+    match Machine::restore(alloc, seed, doc.store(), 0) {
         Ok(machine) => machine,
-        Err(_) => Machine::restore(alloc, doc.store(), 0).expect(rt, "memory"),
+        Err(_) => Machine::restore(alloc, seed, doc.store(), 0).expect(rt, "memory"),
     }
 }
 

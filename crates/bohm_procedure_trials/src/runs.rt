@@ -9,6 +9,7 @@ use bohm_tree::{Edition, Key, NoMemory, Value};
 use bohm_txn::Checked;
 use std::alloc::Global;
 use std::process::Abort;
+use std::random::RandomSource;
 
 /// Values, and each as a sum.
 const NUMBERS: [(i64, &[u8]); 10] = [
@@ -48,7 +49,12 @@ fn put_procedure(text: &mut Vec<u8>, edition: Edition, body: &Body) -> Result<()
     body.put_stmts(text, &OWN)
 }
 
-fn procedure_of(rt: &impl Abort, alloc: Global, edition: Edition, body: &Body) -> Procedure {
+fn procedure_of(
+    rt: &(impl Abort + RandomSource),
+    alloc: Global,
+    edition: Edition,
+    body: &Body,
+) -> Procedure {
     let mut text = Vec::new(alloc);
     put_procedure(&mut text, edition, body).expect(rt, "memory");
     procedure(rt, alloc, text.as_slice())
@@ -96,7 +102,12 @@ fn call(rt: &impl Abort, drawn: &mut Drawn, procedure: &Procedure, body: &Body, 
 }
 
 /// Four calls of a drawn procedure.
-fn call_some(rt: &impl Abort, alloc: Global, drawn: &mut Drawn, draws: &mut Draws) {
+fn call_some(
+    rt: &(impl Abort + RandomSource),
+    alloc: Global,
+    drawn: &mut Drawn,
+    draws: &mut Draws,
+) {
     let body = draw_body(rt, alloc, draws);
     let procedure = procedure_of(rt, alloc, drawn.edition, &body);
     for _ in 0..4 {
@@ -105,11 +116,11 @@ fn call_some(rt: &impl Abort, alloc: Global, drawn: &mut Drawn, draws: &mut Draw
 }
 
 /// The calls that a seed determines.
-fn draw_calls(rt: &impl Abort, alloc: Global, draws: &mut Draws) -> Drawn {
+fn draw_calls(rt: &(impl Abort + RandomSource), alloc: Global, draws: &mut Draws) -> Drawn {
     let edition = one_of(draws, &[Edition::One, Edition::Two]);
     let mut drawn = Drawn {
         edition,
-        calls: no_calls(alloc, edition),
+        calls: no_calls(rt, alloc, edition),
         lines: Vec::new(alloc),
     };
     for _ in 0..3 {
@@ -160,7 +171,7 @@ fn assert_prints(rt: &impl Abort, alloc: Global, drawn: &Drawn) {
     assert_eq!(rt; text.as_slice(), want.as_slice());
 }
 
-fn assert_runs(rt: &impl Abort, alloc: Global, drawn: &Drawn, store: &[u8]) {
+fn assert_runs(rt: &(impl Abort + RandomSource), alloc: Global, drawn: &Drawn, store: &[u8]) {
     let whole = log_text(rt, alloc, drawn, store);
     let doc = checked(rt, alloc, whole.as_slice());
     let want = serially(rt, alloc, &doc);

@@ -7,7 +7,7 @@ ghost use Rattle.bohm_text.specs.Print.{print_doc};
 ghost use Rattle.bohm_procedures.specs.Accepting.{Takes};
 
 use crate::procedure::Procedure;
-use bohm_log::{CallBuffer, HashSeed};
+use bohm_log::{CallBuffer, DrawnSeed, HashSeed};
 use bohm_text::print_doc;
 use bohm_tree::{Edition, Key, MOST_TXNS, NoMemory, Value};
 use bohm_txn::Checked;
@@ -31,13 +31,12 @@ impl Model for Calls {
 }
 
 impl Calls {
-    /// No calls. The seed is that of the table in which the keys' numbers are found. It allocates
-    /// nothing.
-    pub fn new(alloc: Global, seed: HashSeed, edition: Edition) -> Calls
+    /// No calls, whose keys are hashed from the seed. It allocates nothing.
+    pub fn new(alloc: Global, seed: DrawnSeed, edition: Edition) -> Calls
         ensures { result ≡ empty_document edition }
     {
         Calls {
-            segment: Checked::empty(alloc, seed, edition),
+            segment: Checked::empty(alloc, HashSeed::from(seed), edition),
             buffer: CallBuffer::new(alloc),
         }
     }
@@ -77,6 +76,15 @@ impl Calls {
             Ok(()) => Ok(()),
             Err(_) => Err(NoMemory),
         }
+    }
+
+    /// Removes all calls. Their room is kept for others: for four times as many, or for some
+    /// thousand. So is the table of their keys, where it has at most four keys for one that a call
+    /// declared.
+    pub fn clear(&mut self)
+        ensures { self.new ≡ empty_document self.old.edition }
+    {
+        self.segment.clear();
     }
 
     /// How many calls there are.

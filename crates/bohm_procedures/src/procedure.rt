@@ -11,7 +11,7 @@ ghost use Rattle.bohm_procedures.specs.Accepting.{BeginsWithLets, IsAccepted, Is
 ghost use Rattle.bohm_procedures.specs.declared.fault.ProcedureFault.TheVariants as faults;
 
 use crate::fault::ProcedureFault;
-use bohm_log::{Doc, Draft, HashSeed, Log, Template};
+use bohm_log::{Doc, Draft, DrawnSeed, HashSeed, Log, Template};
 use bohm_text::{ProcedureReader, TextFault, parse_procedure};
 use bohm_tree::{Edition, Key, NoMemory};
 use bohm_txn::{CheckFault, check};
@@ -45,8 +45,8 @@ impl Procedure {
     /// 32 bits of a column are full.
     ///
     /// Its time grows with the length of the text, and with the number of parameters times that of
-    /// the parameters and declared names. It keeps the text.
-    pub fn read(alloc: Global, seed: HashSeed, text: &[u8]) -> Result<Procedure, ProcedureFault>
+    /// the parameters and declared names. It keeps the text. Its names are hashed from the seed.
+    pub fn read(alloc: Global, seed: DrawnSeed, text: &[u8]) -> Result<Procedure, ProcedureFault>
         ensures found { IfOk result (λ p. print_procedure p ≡ text.now) }
         ensures sound { IfOk result IsProcedure }
         ensures accepted { IfOk result IsAccepted }
@@ -60,6 +60,7 @@ impl Procedure {
             Ok(kept) => kept,
             Err(_) => return Err(ProcedureFault::NoMemory),
         };
+        let seed = HashSeed::from(seed);
         match parse_procedure(alloc, seed, text) {
             Err(TextFault::Line(n)) => Err(ProcedureFault::Line(n)),
             Err(TextFault::Short) => Err(ProcedureFault::Short),
@@ -95,7 +96,7 @@ impl Procedure {
         self.template.values_len()
     }
 
-    /// The edition whose meaning it has.
+    /// Its edition.
     pub fn edition(&self) -> Edition
         ensures { result ≡ self.now.edition }
     {

@@ -5,10 +5,10 @@ ghost use Rattle.bohm_reading.specs.Cuts.{IsCut};
 
 use memchr::memmem;
 
-/// How many bytes at the beginning are looked over: a window has at least the line `txn`.
+/// How many bytes at the beginning aren't searched: a window has at least the line `txn`.
 pub(crate) const OPENING: usize = 3;
 
-/// Where the text's last line `txn` begins that stands after this many bytes and a newline.
+/// Where the last line `txn` begins that follows this many bytes and a newline.
 pub(crate) fn cut_at(text: &[u8], from: usize) -> Option<usize>
     requires { 3 ≤ from }
     ensures { IfSome result (IsCut text.now) }

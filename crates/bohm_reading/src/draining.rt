@@ -7,8 +7,8 @@ use crate::fault::ReadingFault;
 use crate::source::{LONGEST_TEXT, READ_SIZE};
 use std::io::Read;
 
-/// Reads to the reader's end, of a text that is refused so: a failed read and a text that is too
-/// long come first.
+/// Reads the rest of a text that is refused with this fault. A failed read, or a text that is too
+/// long, takes precedence over it.
 pub(crate) fn drain<R: Read>(reader: &mut R, total: usize, fault: ReadingFault) -> ReadingFault
     requires { total ≤ LONGEST_TEXT }
     ensures { Drains (R.remaining reader.old) (R.remaining reader.new) total fault result }

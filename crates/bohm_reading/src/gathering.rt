@@ -15,7 +15,7 @@ fn refusal(edition: Edition, lines: u64, window: &Window, fault: WindowFault) ->
     requires short { lines + length window.now.text.items ≤ 67108864 }
     ensures { RefusesWindow edition window.now.text.items window.now.last lines result }
 {
-    // The edition stands in the contract alone.
+    // Only the contract needs the edition.
     let _ = edition;
     match fault {
         WindowFault::Line(n) => ReadingFault::Line(lines + n),
@@ -25,7 +25,7 @@ fn refusal(edition: Edition, lines: u64, window: &Window, fault: WindowFault) ->
     }
 }
 
-/// Takes a window's chunk in, after this many lines. It returns how many there are then.
+/// Adds a window's chunk, which follows this many lines. Returns the number of lines with it.
 fn take_one(
     edition: Edition,
     chunks: &mut Vec<Chunk>,
@@ -49,8 +49,8 @@ fn take_one(
     }
 }
 
-/// Takes the chunks of windows in, up to the first that is refused. The windows' buffers are spare
-/// then.
+/// Adds the chunks of windows, up to the first one that is refused. The windows' buffers become
+/// spare.
 pub(crate) fn take_wave(
     edition: Edition,
     chunks: &mut Vec<Chunk>,

@@ -4,7 +4,7 @@ ghost use Rattle.std.specs.Prelude.{◌≡◌, ℕ, ◌<◌, All, IfOk, length, 
 ghost use Rattle.bohm_text.specs.Windows.{IsWindow};
 ghost use Rattle.bohm_reading.specs.Waves.{IsParsed, AreParsed};
 
-use bohm_log::HashSeed;
+use bohm_log::DrawnSeed;
 use bohm_text::{Chunk, WindowFault, parse_window};
 use bohm_tree::{Edition, NoMemory};
 use std::alloc::Global;
@@ -15,18 +15,18 @@ use std::thread::Threads;
 #[derive(Drop)]
 pub(crate) struct Window {
     pub text: Vec<u8>,
-    /// Whether nothing follows.
+    /// Whether it is the last one.
     pub last: bool,
 }
 
-/// A window, and what was read of it.
+/// A window, and the result of parsing it.
 #[derive(Drop)]
 pub(crate) struct Parsed {
     pub window: Window,
     pub result: Result<Chunk, WindowFault>,
 }
 
-fn parse_one(alloc: Global, seed: HashSeed, edition: Edition, window: Window) -> Parsed
+fn parse_one(alloc: Global, seed: DrawnSeed, edition: Edition, window: Window) -> Parsed
     requires { IsWindow window.text.items }
     ensures { IsParsed edition window result }
 {
@@ -37,7 +37,7 @@ fn parse_one(alloc: Global, seed: HashSeed, edition: Edition, window: Window) ->
 fn parse_each<T: Threads + Sync>(
     rt: &T,
     alloc: Global,
-    seed: HashSeed,
+    seed: DrawnSeed,
     edition: Edition,
     windows: Vec<Window>,
 ) -> Result<Vec<Parsed>, NoMemory>
@@ -57,11 +57,11 @@ fn parse_each<T: Threads + Sync>(
     Ok(parsed)
 }
 
-/// Reads each window, in a thread of its own where there is more than one.
+/// Parses each window; several are parsed in threads of their own.
 pub(crate) fn parse_wave<T: Threads + Sync>(
     rt: &T,
     alloc: Global,
-    seed: HashSeed,
+    seed: DrawnSeed,
     edition: Edition,
     windows: Vec<Window>,
 ) -> Result<Vec<Parsed>, NoMemory>

@@ -1,4 +1,4 @@
-//! A document from a reader: the first window, and then wave after wave of windows.
+//! A document from a reader: the first window, then wave after wave of windows.
 
 ghost use Rattle.std.specs.Prelude.{◌≡◌, ◌<◌, false, IfOk, IfErr, Err};
 ghost use Rattle.bohm_text.specs.Windowing.{ReadsFirst};
@@ -11,7 +11,7 @@ use crate::gathering::take_wave;
 use crate::parsing::parse_wave;
 use crate::source::{Piece, next_piece};
 use crate::wave::{Wave, next_wave};
-use bohm_log::HashSeed;
+use bohm_log::DrawnSeed;
 use bohm_text::{Chunk, FirstWindow, WindowFault, parse_first_window};
 use bohm_tree::Edition;
 use std::alloc::Global;
@@ -19,27 +19,27 @@ use std::io::Read;
 use std::mem;
 use std::thread::Threads;
 
-/// Where the reading of a text stands, after the windows that were read.
+/// A reader's state after the windows that were read.
 #[derive(Drop)]
 pub struct Source {
-    /// What came after the windows already: the beginning of the next one.
+    /// The beginning of the next window.
     pub rest: Vec<u8>,
-    /// How many bytes came so far.
+    /// How many bytes were read so far.
     pub total: usize,
     /// How many lines the windows have.
     pub lines: u64,
-    /// Whether the reader is at its end. Then nothing is left.
+    /// Whether the reader is at its end. Then there is no next window.
     pub ended: bool,
-    /// Buffers that served for windows, to be used again.
+    /// Buffers of earlier windows, for reuse.
     pub spare: Vec<Vec<u8>>,
 }
 
-/// Why the first window is refused, where it is the last one or not.
+/// Why the first window is refused, given whether it is the last one.
 fn first_refusal(text: &[u8], last: bool, fault: WindowFault) -> ReadingFault
     requires { ReadsFirst text.now (Err fault) }
     ensures { FirstRefused text.now last result }
 {
-    // The text stands in the contract alone.
+    // Only the contract needs the text.
     let _ = text;
     match fault {
         WindowFault::Line(n) => ReadingFault::Line(n),
@@ -49,14 +49,14 @@ fn first_refusal(text: &[u8], last: bool, fault: WindowFault) -> ReadingFault
     }
 }
 
-/// Reads the first window of a text: the head, the store, and the transactions up to the last line
-/// `txn` once this many bytes came. Where it is refused, the rest of the text is read all the same,
-/// since a failed read and a text that is too long come first.
+/// Reads the first window of a text: the head, the store, and the transactions before the last line
+/// `txn` once this many bytes were read. If it is refused, the rest of the text is read
+/// nevertheless, since a failed read and a text that is too long take precedence.
 ///
 /// The time and memory grow with the length of the window.
 pub fn read_first<R: Read>(
     alloc: Global,
-    seed: HashSeed,
+    seed: DrawnSeed,
     reader: &mut R,
     size: usize,
 ) -> Result<(FirstWindow, Source), ReadingFault>
@@ -90,20 +90,19 @@ pub fn read_first<R: Read>(
     Err(drain(reader, total, fault))
 }
 
-/// Reads the next windows of a text of this edition, at most this many, side by side: each in a
-/// thread of its own where there is more than one. A window is cut before its last line `txn` once
-/// it has this many bytes; where a transaction is longer, it goes on. Where a window is refused,
-/// the rest of the text is read all the same, since a failed read and a text that is too long come
-/// first.
+/// Reads the next windows of a text of this edition, at most this many; several are parsed in
+/// threads of their own. A window is cut before its last line `txn` once it has this many bytes; it
+/// is longer if a transaction is. If a window is refused, the rest of the text is read
+/// nevertheless, since a failed read and a text that is too long take precedence.
 ///
-/// The chunks of the windows come back in their order. An `Err` leaves nothing to go on with.
+/// The chunks are returned in the order of their windows. After an `Err` reading can't continue.
 ///
-/// The time grows with the length of the windows, spread over the threads but for reading and copying
-/// the bytes; the memory likewise.
+/// The time grows with the length of the windows, spread over the threads except for reading and
+/// copying the bytes; the memory likewise.
 pub fn read_wave<R: Read, T: Threads + Sync>(
     rt: &T,
     alloc: Global,
-    seed: HashSeed,
+    seed: DrawnSeed,
     reader: &mut R,
     edition: Edition,
     source: &mut Source,

@@ -17,7 +17,7 @@ pub const LONGEST_TEXT: usize = 67_108_864;
 /// How many bytes one read asks for.
 pub(crate) const READ_SIZE: usize = 65_536;
 
-/// The bytes of a newline and `txn`: the beginning of a cut that the next read may end.
+/// The length of a newline and `txn`: a cut may begin in one read and end in the next.
 const HALF_CUT: usize = 4;
 
 /// A window, and what was read after it.
@@ -25,13 +25,13 @@ const HALF_CUT: usize = 4;
 pub(crate) struct Piece {
     pub text: Vec<u8>,
     pub rest: Vec<u8>,
-    /// How many bytes came so far.
+    /// How many bytes were read so far.
     pub total: usize,
-    /// Whether the reader is at its end: then nothing is left.
+    /// Whether the reader is at its end. Then there is no next window.
     pub ended: bool,
 }
 
-/// An empty buffer: one that served before, if there is any.
+/// An empty buffer: a spare one, if there is any.
 fn buffer_from(alloc: Global, spare: &mut Vec<Vec<u8>>) -> Vec<u8>
     ensures { result.items ≡ [] }
 {
@@ -44,7 +44,7 @@ fn buffer_from(alloc: Global, spare: &mut Vec<Vec<u8>>) -> Vec<u8>
     }
 }
 
-/// The text up to a place, and from there on in a buffer of its own.
+/// The text up to an offset, and the rest in a buffer of its own.
 fn divided(
     alloc: Global,
     spare: &mut Vec<Vec<u8>>,
@@ -71,9 +71,9 @@ fn divided(
     })
 }
 
-/// The next window, which begins with what was read already: once it has this many bytes it is cut
-/// before its last line `txn`, and where it has none after its first line, it goes on. A cut is
-/// searched for in what came last alone.
+/// The next window, which begins with what was read before. Once it has this many bytes it is cut
+/// before its last line `txn`, unless that is its first line: then it goes on. Only bytes that are
+/// new since the last search are searched.
 pub(crate) fn next_piece<R: Read>(
     alloc: Global,
     reader: &mut R,
@@ -92,11 +92,11 @@ pub(crate) fn next_piece<R: Read>(
 {
     let mut text = begun;
     let mut total = total;
-    // How far no cut was found.
+    // Up to where there is no cut.
     let mut seen = 0usize;
     text.reserve(size.min(LONGEST_TEXT) + READ_SIZE)?;
     let mut buffer = [0u8; READ_SIZE];
-    // No more than a window's size, so that small windows are small.
+    // At most a window's size, so that small windows stay small.
     let part = &mut buffer[..size.clamp(1, READ_SIZE)];
     'reads: while total <= LONGEST_TEXT {
         if text.len() >= size {

@@ -20,7 +20,7 @@ pub(crate) struct Wave {
     pub ended: bool,
 }
 
-/// The next windows, at most this many, in spare buffers as far as there are any.
+/// The next windows, at most this many, in spare buffers if there are any.
 pub(crate) fn next_wave<R: Read>(
     alloc: Global,
     reader: &mut R,

@@ -8,16 +8,16 @@ ghost use Rattle.bohm_report.specs.Refusals.{RefusesDocument, RefusesText, Refus
 
 use crate::refusal::Refusal;
 use bohm_check::{faults, put_faults, put_text_fault};
-use bohm_log::{Doc, HashSeed};
+use bohm_log::{Doc, DrawnSeed};
 use bohm_text::{TextFault, parse_with_seed};
 use bohm_txn::{Checked, check};
 use std::alloc::Global;
 
-/// The document of a text. If it has none, a message is added to the report, as far as allocations
+/// The document of a text. If it has none, a message is added to the report, as long as allocations
 /// succeed.
 fn read_document(
     alloc: Global,
-    seed: HashSeed,
+    seed: DrawnSeed,
     text: &[u8],
     report: &mut Vec<u8>,
 ) -> Result<Doc, Refusal>
@@ -36,7 +36,7 @@ fn read_document(
     }
 }
 
-/// The document, if it has no faults. The message about its faults is added to the report, as far
+/// The document, if it has no faults. The message about its faults is added to the report, as long
 /// as allocations succeed.
 fn check_document(
     alloc: Global,
@@ -62,15 +62,15 @@ fn check_document(
     }
 }
 
-/// The document of a text, checked, or the fault for which a run refuses it. Messages for people are
-/// added to the report, as far as allocations succeed: for a text that isn't a document's, on its
-/// first bad line; for a document, on its faults, up to 20.
+/// The document of a text, checked, or the fault for which a run refuses it. Messages for people
+/// are added to the report, as long as allocations succeed: on the first bad line if the text isn't
+/// a document's, else on up to 20 faults of the document.
 ///
-/// Names are hashed from the seed. The time grows with the length of the text, and with the number k
-/// of its keys as k log k.
+/// Names are hashed from the seed. The time grows with the length of the text, and with the number
+/// k of its keys as k log k.
 pub fn check_text(
     alloc: Global,
-    seed: HashSeed,
+    seed: DrawnSeed,
     text: &[u8],
     report: &mut Vec<u8>,
 ) -> Result<Checked, Refusal>

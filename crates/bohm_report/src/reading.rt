@@ -7,7 +7,7 @@ ghost use Rattle.bohm_run.specs.Headline.{IsBeforeWriting, ReadsDocument, Refuse
 
 use crate::checking::check_text;
 use crate::refusal::Refusal;
-use bohm_log::HashSeed;
+use bohm_log::DrawnSeed;
 use bohm_run::{RunFault, read_all};
 use bohm_txn::Checked;
 use std::alloc::Global;
@@ -25,8 +25,9 @@ fn fault_of(refusal: Refusal) -> RunFault
     }
 }
 
-/// Reads a log to the reader's end. It refuses what a run refuses, with the same fault. Messages for
-/// people on why a text isn't a valid log are added to the report, as far as allocations succeed.
+/// Reads a log to the reader's end. It refuses what a run refuses, with the same fault. Messages
+/// for people on why a text isn't a valid log are added to the report, as long as allocations
+/// succeed.
 ///
 /// The time grows with the length of the text, and with the number k of its keys as k log k.
 pub fn read_reported<T: RandomSource, R: Read>(
@@ -43,7 +44,7 @@ pub fn read_reported<T: RandomSource, R: Read>(
     ensures before { IfErr result IsBeforeWriting }
 {
     let text = read_all(alloc, reader)?;
-    match check_text(alloc, HashSeed::drawn(rt), text.as_slice(), report) {
+    match check_text(alloc, DrawnSeed::draw(rt), text.as_slice(), report) {
         Ok(checked) => Ok(checked),
         Err(refusal) => Err(fault_of(refusal)),
     }

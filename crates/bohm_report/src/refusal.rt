@@ -4,12 +4,12 @@ use bohm_text::TextFault;
 use bohm_tree::NoMemory;
 use bohm_txn::CheckFault;
 
-/// Why a text is no log that is run.
+/// Why a text isn't a log that can be run.
 #[derive(Clone, Copy, Debug, PartialEq, Eq)]
 pub enum Refusal {
-    /// It isn't a document's. An allocation failure is never reported so.
+    /// It isn't a document's text. An allocation failure is never reported so.
     Text(TextFault),
-    /// The document that it is has faults, and this is the first.
+    /// Its document has faults; this is the first.
     Check(CheckFault),
     /// An allocation failed.
     NoMemory,

@@ -4,3 +4,5 @@
 pub use Rattle.bohm_run.proofs.Walks.{store_then}
 -- a refusal before the writing says nothing of what was written
 pub use Rattle.bohm_run.proofs.Refusals.{before_writing}
+-- a floor so far below the top stays
+pub use Rattle.bohm_run.proofs.Going.{floor_stays}

@@ -1,6 +1,7 @@
 -- A history that went on by some transactions and then by others went on by both.
-use Rattle.std.proofs.Common.{◌≡◌, ℕ, zero, suc, [], ◌∷◌, ◌+◌, ◌-◌, ◌<◌, ◌≤◌, ◌++◌, List, length, length-append, max, refl, ap, sym, ◌∙◌, arith, ⊎_elim}
+use Rattle.std.proofs.Common.{◌≡◌, ℕ, zero, suc, [], ◌∷◌, ◌+◌, ◌-◌, ◌<◌, ◌≤◌, ◌++◌, List, length, length-append, take, max, refl, ap, sym, ◌∙◌, arith, ⊎_elim}
 use Rattle.std.proofs.lemmas.Bool.{cases_lt}
+use Rattle.std.proofs.lemmas.List.{length-take}
 use Rattle.bohm_tree.specs.Txn.{Txn}
 use Rattle.bohm_txn.specs.declared.outcome.Reply.{Reply}
 use Rattle.bohm_txn.specs.Meaning.{Look}
@@ -9,7 +10,7 @@ use Rattle.bohm_txn.proofs.ForCallers.{state-append, state-front, replies-append
 use Rattle.bohm_tree.specs.declared.cell.Cell.TheVariants.{Absent}
 use Rattle.bohm_store.specs.Versions.{Timeline, past, cell_at}
 use Rattle.bohm_store.specs.Nexts.{IsSame, IsSettledKept}
-use Rattle.bohm_run.specs.Runs.{floor_after, IsApplied}
+use Rattle.bohm_run.specs.Runs.{floor_after, IsApplied, IsStillPast, RanSome}
 
 -- a floor of that kind lies between the old one and the top
 pub floor_low : (was now : Timeline) (keep n : ℕ) → was.floor ≤ was.top → now.floor ≡ floor_after was keep n → now.top ≡ was.top + n → now.floor ≤ now.top
@@ -69,7 +70,23 @@ settled_on was now txns keep some h = record {
   later = h.later;
 }
 
--- where nothing that is seen changes, a history went on by what it went on by
+-- where its past stays, a history went on by what it went on by
+pub stayed_past : (was mid now : Timeline) (txns : List Txn) (keep : ℕ) (a : List Reply) → was.floor ≤ was.top → IsStillPast mid now
+    → IsApplied was mid txns keep a → IsApplied was now txns keep a
+stayed_past was mid now txns keep a ordered still h =
+    let low : mid.floor ≤ mid.top = floor_low was mid keep (length txns) ordered h.floor h.top in
+    record {
+      replies = h.replies;
+      top = still.top ∙ h.top;
+      floor = still.floor ∙ h.floor;
+      earlier = λ ts above below.
+          still.past ts (omega (arith, above, still.floor)) (omega (arith, below, h.top)) ∙ h.earlier ts (omega (arith, above, still.floor)) below;
+      later = λ ts above from below.
+          still.past ts (omega (arith, above, still.floor)) (omega (arith, below, still.top))
+          ∙ h.later ts (omega (arith, above, still.floor)) from (omega (arith, below, still.top));
+    }
+
+-- so it does where nothing that is seen changes
 pub stayed : (was mid now : Timeline) (txns : List Txn) (keep : ℕ) (a : List Reply) → IsSame mid now → IsApplied was mid txns keep a → IsApplied was now txns keep a
 stayed was mid now txns keep a same h =
     let alike : (ts : ℕ) → past now ts ≡ past mid ts = λ ts i k. cell_at ts (same.versions k i) Absent in
@@ -79,6 +96,38 @@ stayed was mid now txns keep a same h =
       floor = same.floor ∙ h.floor;
       earlier = λ ts above below. alike ts ∙ h.earlier ts (omega (arith, above, same.floor)) below;
       later = λ ts above from below. alike ts ∙ h.later ts (omega (arith, above, same.floor)) from (omega (arith, below, same.top));
+    }
+
+-- ---- all that a batch adds stays, and then goes
+
+pub floor_stays : (was : Timeline) (keep n : ℕ) → was.top + n ≤ keep → floor_after was keep n ≡ was.floor
+floor_stays was keep zero le = refl
+floor_stays was keep (suc n) le = (let z : (was.top + suc n) - keep ≡ 0 = omega (arith, le) in rw z (omega arith))
+
+-- a history that ran some of the transactions, and let them go, has the past that it had
+pub taken_back : (was mid now : Timeline) (txns : List Txn) (keep : ℕ) → was.top + length txns ≤ keep → RanSome was mid txns keep
+    → now.floor ≡ mid.floor → now.top ≡ was.top → ((ts : ℕ) → ts ≤ was.top → past now ts ≡ past mid ts) → IsStillPast was now
+taken_back was mid now txns keep room (n, a, h) floor top back =
+    let few = length-take n txns in
+    let stays : mid.floor ≡ was.floor = h.floor ∙ floor_stays was keep (length (take n txns)) (omega (arith, few, room)) in
+    record {
+      top = top;
+      floor = floor ∙ stays;
+      past = λ ts above below. back ts below ∙ h.earlier ts (omega (arith, above, stays)) below;
+    }
+
+-- one that ran all of them, and is trimmed so far below its end, went on by them
+pub trimmed_on : (was mid now : Timeline) (txns : List Txn) (all keep : ℕ) (a : List Reply) → 0 < length txns → was.top + length txns ≤ all
+    → IsApplied was mid txns all a → now.floor ≡ max mid.floor (mid.top - keep) → now.top ≡ mid.top
+    → ((ts : ℕ) → now.floor ≤ ts → past now ts ≡ past mid ts) → IsApplied was now txns keep a
+trimmed_on was mid now txns all keep a some room h floor top same =
+    let stays : mid.floor ≡ was.floor = h.floor ∙ floor_stays was all (length txns) room in
+    record {
+      replies = h.replies;
+      top = top ∙ h.top;
+      floor = floor_behind was txns keep now.floor some (floor ∙ (λ i. max (stays i) (h.top i - keep)));
+      earlier = λ ts above below. same ts above ∙ h.earlier ts (omega (arith, above, floor)) below;
+      later = λ ts above from below. same ts above ∙ h.later ts (omega (arith, above, floor)) from (omega (arith, below, top));
     }
 
 -- before the first transaction

@@ -20,6 +20,16 @@ pub record IsApplied (was now : Timeline) (txns : List Txn) (keep : ℕ) (answer
   pub earlier : (ts : ℕ) → now.floor ≤ ts → ts ≤ was.top → past now ts ≡ past was ts
   pub later : (ts : ℕ) → now.floor ≤ ts → was.top ≤ ts → ts ≤ now.top → past now ts ≡ state (past was was.top) txns (ts - was.top)
 
+-- some of the transactions were run, from the first on
+abbrev pub RanSome : Timeline → Timeline → List Txn → ℕ → Type 0
+RanSome was now txns keep = (n : ℕ) × (answered : List Reply) × IsApplied was now (take n txns) keep answered
+
+-- from the floor to the top a history has the past that it had
+pub record IsStillPast (was now : Timeline) : Type 0 where
+  pub top : now.top ≡ was.top
+  pub floor : now.floor ≡ was.floor
+  pub past : (ts : ℕ) → was.floor ≤ ts → ts ≤ was.top → past now ts ≡ past was ts
+
 -- these transactions behind the top of a history, in batches of these sizes
 abbrev pub cutting_behind : Timeline → List Txn → List ℕ → Cutting
 cutting_behind t txns sizes = record { first = t.top + 1; log = txns; sizes = sizes }

@@ -14,7 +14,7 @@ use crate::chunks::RunState;
 use crate::fault::RunFault;
 use crate::settings::Settings;
 use crate::streaming::run_log;
-use bohm_log::HashSeed;
+use bohm_log::DrawnSeed;
 use bohm_store::History;
 use bohm_text::{parse_with_seed, put_store};
 use bohm_tree::{Key, MOST_TXNS, NoMemory, Value};
@@ -29,7 +29,11 @@ const WINDOW_SIZE: usize = 262_144;
 
 /// The log that the reader holds, read to the reader's end, or why it is none. Its text is let go.
 /// Names are hashed from the seed.
-pub fn read_log<R: Read>(alloc: Global, seed: HashSeed, reader: &mut R) -> Result<Checked, RunFault>
+pub fn read_log<R: Read>(
+    alloc: Global,
+    seed: DrawnSeed,
+    reader: &mut R,
+) -> Result<Checked, RunFault>
     ensures ok { IfOk result (ReadsDocument (R.remaining reader.old) (R.remaining reader.new)) }
     ensures err { IfErr result
         (λ e. (given : Given)

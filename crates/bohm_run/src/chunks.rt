@@ -13,12 +13,12 @@ ghost use Rattle.bohm_run.specs.Chunks.{AreNext, IsLevel, IsPartRun, IsStarted, 
 
 use crate::checked_chunk::{CheckedChunk, Prepared, counted};
 use crate::executing::{Executor, Progress};
-use crate::in_order::InOrder;
+use crate::serial_executor::SerialExecutor;
 use crate::settings::Settings;
 use crate::workers::Crew;
 use bohm_exec::OpenGate;
 use bohm_line::{CutLog, Cuts};
-use bohm_log::{HashSeed, LogPart};
+use bohm_log::{DrawnSeed, LogPart};
 use bohm_place::Plan;
 use bohm_store::{History, Seats};
 use bohm_text::put_replies;
@@ -35,7 +35,7 @@ pub(crate) struct RunState {
     /// The text of the replies so far.
     pub(crate) text: Vec<u8>,
     pub(crate) executor: Executor,
-    pub(crate) in_order: InOrder,
+    pub(crate) serial: SerialExecutor,
     /// How many transactions came, exact up to the most that a log may have.
     pub(crate) count: usize,
     /// The fault of the starting store.
@@ -47,7 +47,7 @@ pub(crate) struct RunState {
 /// The history of a store, or of the empty one where the store has a fault.
 fn open_history(
     alloc: Global,
-    seed: HashSeed,
+    seed: DrawnSeed,
     store: &[(Key, Value)],
     in_store: Option<CheckFault>,
 ) -> Result<History, NoMemory>
@@ -66,7 +66,7 @@ impl RunState {
     /// Before the first transaction, over this starting store.
     pub(crate) fn start(
         alloc: Global,
-        seed: HashSeed,
+        seed: DrawnSeed,
         store: Vec<(Key, Value)>,
         settings: Settings,
     ) -> Result<RunState, NoMemory>
@@ -84,7 +84,7 @@ impl RunState {
                 seats: Seats::new(alloc),
                 keep: settings.keep().timestamps(),
             },
-            in_order: InOrder::new(alloc)?,
+            serial: SerialExecutor::new(alloc)?,
             count: 0,
             in_store,
             fault: in_store,
@@ -154,7 +154,7 @@ fn run_chunk<T: Threads + Sync>(
         }
         Prepared::TooMany => Ok(()),
         Prepared::Ready => {
-            state.in_order.run(
+            state.serial.run_to_text(
                 alloc,
                 &mut state.progress.history,
                 &mut state.text,

@@ -3,7 +3,6 @@
 //! Faleiro and Abadi, "Rethinking Serializable Multiversion Concurrency Control", VLDB 2015.
 #![tactic(auto)]
 
-mod alone;
 mod answering;
 mod applying;
 mod bytes;
@@ -13,16 +12,15 @@ mod chunks;
 mod executing;
 mod fault;
 mod fault_line;
-mod in_order;
 pub mod laws;
 mod log_reader;
 mod replies;
 mod running;
+mod serial_executor;
 mod settings;
 mod streaming;
 mod workers;
 
-pub use alone::apply_alone;
 pub use answering::{read_log, run_text, run_text_in_windows};
 pub use applying::{Applied, apply};
 pub use bohm_line::{
@@ -33,4 +31,5 @@ pub use bytes::{read_all, write_all};
 pub use fault::RunFault;
 pub use fault_line::{print_fault, write_bytes, write_fault};
 pub use running::{Answer, run};
+pub use serial_executor::SerialExecutor;
 pub use settings::{LARGEST_BATCH, MOST_KEPT, MOST_PARTS, MOST_WORKERS, Settings};

@@ -8,7 +8,7 @@ ghost use Rattle.bohm_run.specs.Reading.{ReadsAhead};
 use crate::checked_chunk::CheckedChunk;
 use crate::checked_wave::prepare_wave;
 use crate::settings::Settings;
-use bohm_log::HashSeed;
+use bohm_log::DrawnSeed;
 use bohm_reading::{ReadingFault, Source, read_wave};
 use bohm_text::Chunk;
 use bohm_tree::{Edition, NoMemory};
@@ -19,7 +19,7 @@ use std::thread::Threads;
 /// Where the reading of a log stands.
 #[derive(Drop)]
 pub(crate) struct LogReader {
-    pub(crate) seed: HashSeed,
+    pub(crate) seed: DrawnSeed,
     pub(crate) edition: Edition,
     pub(crate) source: Source,
     /// How many transactions were read, exact up to the most that a log may have.

@@ -9,7 +9,7 @@ ghost use Rattle.bohm_run.specs.Runs.{IsHistoryOf};
 use crate::applying::{Applied, apply};
 use bohm_exec::Gate;
 use bohm_line::{Cuts, Executors, Kept, Planners};
-use bohm_log::HashSeed;
+use bohm_log::DrawnSeed;
 use bohm_place::Partition;
 use bohm_store::History;
 use bohm_tree::NoMemory;
@@ -55,7 +55,7 @@ pub fn run<P: Partition, G: Gate, R: Threads + Wait + Sync + RandomSource>(
     ensures history { let start = cell_in (store_of checked.now.store) in
         IfOk result (λ a. IsHistoryOf start checked.now.log keep a.history) }
 {
-    let mut history = History::open_with_seed(alloc, checked.store(), HashSeed::drawn(rt))?;
+    let mut history = History::open_with_seed(alloc, checked.store(), DrawnSeed::draw(rt))?;
     let log = checked.log();
     let Applied { replies, end } = apply(
         rt,

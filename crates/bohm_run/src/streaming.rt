@@ -15,7 +15,7 @@ use crate::chunks::{RunState, run_chunks};
 use crate::fault::RunFault;
 use crate::log_reader::LogReader;
 use crate::settings::Settings;
-use bohm_log::HashSeed;
+use bohm_log::DrawnSeed;
 use bohm_reading::{ReadingFault, read_first};
 use bohm_text::{Chunk, FirstWindow};
 use bohm_tree::NoMemory;
@@ -117,7 +117,7 @@ pub(crate) fn run_log<R: Read, T: Threads + Sync + RandomSource>(
         → Refuses given (R.remaining reader.old) (R.remaining reader.new) None None e) }
     ensures before { IfErr result IsBeforeWriting }
 {
-    let seed = HashSeed::drawn(rt);
+    let seed = DrawnSeed::draw(rt);
     let (first, source) = read_first(alloc, seed, reader, size)?;
     let FirstWindow {
         edition,

@@ -15,15 +15,15 @@ use bohm_tree::{Cell, Items, Key, NoMemory, Value};
 use bohm_txn::{Checked, Outcome, Replies, Scratch, eval};
 use std::alloc::Global;
 
-/// The result of a run: the replies in log order, and the entries of the store that it leaves, in
-/// the order of their keys.
+/// The result of a run: the replies in log order, and the entries of the final store, sorted by
+/// key.
 #[derive(Debug, Drop)]
 pub struct Answer {
     pub replies: Replies,
     pub store: Items<(Key, Value)>,
 }
 
-/// What the keys hold, in their order, in place of what stood in the list.
+/// Replaces the list by what these keys hold, in their order.
 fn look_up(store: &Store, keys: &Keys<'_>, cells: &mut Vec<Cell>) -> Result<(), NoMemory>
     ensures { OnOk result (cells.new.items ≡ map (cell_in store.now) keys.now) }
 {
@@ -45,7 +45,7 @@ fn put_cells(store: &mut Store, keys: &Keys<'_>, cells: &[Cell]) -> Result<(), N
     Ok(())
 }
 
-/// Adds the reply of a transaction that ended so.
+/// Adds the reply of a transaction with this outcome.
 fn push_reply(replies: &mut Replies, outcome: Outcome, shows: &[Value]) -> Result<(), NoMemory>
     ensures { OnOk result (replies.new ≡ replies.old ++ reply_with outcome shows.now ∷ []) }
 {
@@ -55,7 +55,7 @@ fn push_reply(replies: &mut Replies, outcome: Outcome, shows: &[Value]) -> Resul
     }
 }
 
-/// The cells that a transaction is handed, and the room to run it in.
+/// The cells over which a transaction runs, and memory to run it in.
 #[derive(Drop)]
 struct Desk {
     reads: Vec<Cell>,

@@ -12,8 +12,7 @@ use std::alloc::Global;
 use std::collections::HashMap;
 use std::marker::Model;
 
-/// A store that changes, which contracts see as a finite map. A look-up and a change take the same
-/// time whatever it holds.
+/// A mutable store, which contracts see as a finite map. A look-up and a change take constant time.
 #[derive(Drop)]
 pub struct Store {
     values: HashMap<Key, Value>,
@@ -55,7 +54,7 @@ impl Store {
         }
     }
 
-    /// Gives the key this cell. A refusal leaves the store as it was.
+    /// Gives the key this cell. An error leaves the store as it was.
     pub fn put(&mut self, key: &Key, cell: Cell) -> Result<(), NoMemory>
         ensures ok { OnOk result (self.new ≡ put self.old key.now cell) }
         ensures err { OnErr result (self.new ≡ self.old) }
@@ -71,8 +70,7 @@ impl Store {
         Ok(())
     }
 
-    /// Its entries, in the order of their keys. The time grows with the number n of entries as n
-    /// log n.
+    /// Its entries, sorted by key. The time grows with the number n of entries as n log n.
     pub fn entries(&self, alloc: Global) -> Result<Vec<(Key, Value)>, NoMemory>
         ensures { IfOk result (λ list. list.items ≡ entries self.now) }
     {

@@ -1,5 +1,5 @@
 //! The plain program: a log on standard input, run one transaction after another, its answer on
-//! standard output. The run by batches is measured against it.
+//! standard output. It is the baseline of measurements.
 #![tactic(auto)]
 
 mod help;

@@ -7,7 +7,7 @@ ghost use Rattle.bohm_txn.specs.Stores.{store_of, store_after, cell_in};
 ghost use Rattle.bohm_run.specs.Given.{defaults};
 ghost use Rattle.bohm_run.specs.Headline.{Answers, IsBeforeWriting, Refuses, answer_of, time_of};
 
-use bohm_log::HashSeed;
+use bohm_log::DrawnSeed;
 use bohm_run::{RunFault, read_log, write_all};
 use bohm_serial::{Answer, run};
 use bohm_text::print_answer;
@@ -36,9 +36,9 @@ fn answer(alloc: Global, checked: Checked) -> Result<Vec<u8>, NoMemory>
     print_answer(alloc, &replies, store.as_slice())
 }
 
-/// Reads a log to the reader's end, runs it, and writes the text of its answer and nothing else, as
-/// a run with the settings by default does. The whole answer is made before the first byte is
-/// written. Every failure of a reader or a writer counts, an interrupted call too.
+/// Reads a log to the reader's end, runs it, and writes only the text of its answer, as a run with
+/// the default settings does. The whole answer is made before the first byte is written. Every
+/// failure of a reader or a writer counts, also an interrupted call.
 ///
 /// The time grows with the text and with the number of the store's keys k as k log k. The memory
 /// grows with the text.
@@ -59,7 +59,7 @@ pub fn serial_text<T: RandomSource, R: Read, W: Write>(
     // Before all faults but a failed write the writer is untouched.
     ensures untouched { IfErr result (λ e. IsBeforeWriting e → writer.new ≡ writer.old) }
 {
-    let checked = read_log(alloc, HashSeed::drawn(rt), reader)?;
+    let checked = read_log(alloc, DrawnSeed::draw(rt), reader)?;
     let text = answer(alloc, checked)?;
     write_all(writer, text.as_slice())
 }

@@ -21,7 +21,7 @@ removed_by : (k : List ℕ) (f : List ℕ × List Version) (fs : Keyed) (b : Boo
 removed_by k f fs true e more = rw e (omega arith)
 removed_by k f fs false e more = rw e (omega (arith, more))
 
-total_removed : (k : List ℕ) (fs : Keyed) → total (remove_entry (bytes_eq k) fs) + length (versions_in fs k) ≡ total fs
+pub total_removed : (k : List ℕ) (fs : Keyed) → total (remove_entry (bytes_eq k) fs) + length (versions_in fs k) ≡ total fs
 total_removed k [] = refl
 total_removed k (f ∷ fs) = removed_by k f fs (bytes_eq k f.0) refl (total_removed k fs)
 
@@ -29,7 +29,7 @@ versions_if : (b : Bool) (o : Option (List Version)) → unwrap_or (cond b None 
 versions_if true o = refl
 versions_if false o = refl
 
-versions_removed : (k q : List ℕ) (fs : Keyed) → IsDistinct bytes_eq (keys_of fs)
+pub versions_removed : (k q : List ℕ) (fs : Keyed) → IsDistinct bytes_eq (keys_of fs)
     → versions_in (remove_entry (bytes_eq k) fs) q ≡ (if bytes_eq k q then [] else versions_in fs q)
 versions_removed k q fs d =
     ap (λ (o : Option (List Version)). unwrap_or o []) (lookup-remove_entry nat_list_eq_equiv (bytes_eq k) (λ x y e. nat_list_eq_equiv.congr k x y e) q fs d)
@@ -51,7 +51,7 @@ unfolding IsDistinct
 distinct_by k f fs true e d more = rw e d.1
 distinct_by k f fs false e d more = rw e (all_removed (λ y. bytes_eq f.0 y ≡ false) k fs d.0, more)
 
-distinct_removed : (k : List ℕ) (fs : Keyed) → IsDistinct bytes_eq (keys_of fs) → IsDistinct bytes_eq (keys_of (remove_entry (bytes_eq k) fs))
+pub distinct_removed : (k : List ℕ) (fs : Keyed) → IsDistinct bytes_eq (keys_of fs) → IsDistinct bytes_eq (keys_of (remove_entry (bytes_eq k) fs))
 unfolding IsDistinct
 distinct_removed k [] d = d
 distinct_removed k (f ∷ fs) d = distinct_by k f fs (bytes_eq k f.0) refl d (distinct_removed k fs d.1)

@@ -7,12 +7,14 @@ mod Bases
 mod SettledHistory
 mod StoreEntries
 mod Counts
+mod Bounds
 mod Names
 mod Named
 mod Linked
 mod Longer
 mod OlderVersions
 mod Places
+mod Rewound
 mod NumberedWrites
 mod Kept
 mod Settled

@@ -1,5 +1,5 @@
 -- A history by the numbers of keys.
-use Rattle.std.specs.Prelude.{◌≡◌, ℕ, ◌+◌, ◌<◌, ◌≤◌, ◌==◌, ◌&&◌, nat_lt, All, List, [], ◌∷◌, ◌++◌, length, if◌then◌else◌}
+use Rattle.std.specs.Prelude.{◌≡◌, ℕ, ◌+◌, ◌-◌, ◌<◌, ◌≤◌, ◌==◌, ◌&&◌, nat_le, nat_lt, All, List, [], ◌∷◌, ◌++◌, length, get_or, if◌then◌else◌}
 use Rattle.bohm_store.specs.declared.version.Version.{Version}
 use Rattle.bohm_store.specs.Versions.{Rises, Timeline}
 use Rattle.bohm_store.specs.Chains.{UpTo, later_begins}
@@ -47,6 +47,15 @@ IsNotDue floor (o ∷ os) = floor < o.end
 abbrev pub first_after : ℕ → List Older → ℕ → List Version → List Version
 first_after ts [] n now = now
 first_after ts (o ∷ os) n now = if ((o.number == n) && nat_lt ts o.end) then version_of o ∷ [] else first_after ts os n now
+
+-- the last one ended at or below a timestamp
+abbrev pub IsEndedBy : ℕ → List Older → Type 0
+IsEndedBy ts os = (d : Older) → 0 < length os → (get_or os (length os - 1) d).end ≤ ts
+
+-- up to the first one that ended above a timestamp
+abbrev pub ended_by : ℕ → List Older → List Older
+ended_by ts [] = []
+ended_by ts (o ∷ os) = if nat_le o.end ts then o ∷ ended_by ts os else []
 
 -- ---- all versions
 

@@ -1,9 +1,9 @@
 -- The versions of each key, and the stores of the past that they say.
-use Rattle.std.specs.Prelude.{◌≡◌, ℕ, ◌+◌, ℤ, ◌≤◌, ◌<◌, ◌⊎◌, List, [], ◌∷◌, ◌++◌, Contains, All, if◌then◌else◌, nat_le, length, unwrap_or}
+use Rattle.std.specs.Prelude.{◌≡◌, ℕ, ◌+◌, ◌≤◌, ◌<◌, ◌⊎◌, List, [], ◌∷◌, ◌++◌, Contains, All, if◌then◌else◌, nat_le, length, unwrap_or}
 use Rattle.std.specs.Str.{bytes_eq}
 use Rattle.std.specs.Map.{lookup}
 use Rattle.bohm_tree.specs.declared.cell.Cell.{Cell}
-use Rattle.bohm_tree.specs.declared.cell.Cell.TheVariants.{Absent, Present}
+use Rattle.bohm_tree.specs.declared.cell.Cell.TheVariants.{Absent}
 use Rattle.bohm_tree.specs.Txn.{Txn}
 use Rattle.bohm_tree.specs.Keys.{is_among}
 use Rattle.bohm_txn.specs.Meaning.{Look}
@@ -42,6 +42,11 @@ kept_versions floor [] = []
 kept_versions floor (v ∷ []) = v ∷ []
 kept_versions floor (v ∷ w ∷ ws) = if nat_le w.begin floor then kept_versions floor (w ∷ ws) else (v ∷ w ∷ ws)
 
+-- those that begin at or below a timestamp
+abbrev pub versions_to : ℕ → List Version → List Version
+versions_to ts [] = []
+versions_to ts (v ∷ vs) = if nat_le v.begin ts then v ∷ versions_to ts vs else versions_to ts vs
+
 -- ---- the versions of all keys
 
 -- a version with its key
@@ -72,13 +77,13 @@ abbrev pub total : List (List ℕ × List Version) → ℕ
 total [] = 0
 total (e ∷ es) = length e.1 + total es
 
--- the versions that a starting store gives a key
-abbrev pub store_versions : List (List ℕ × ℤ) → List ℕ → List Version
-store_versions [] k = []
-store_versions (p ∷ ps) k = if bytes_eq p.0 k then record { begin = 0; cell = Present p.1 } ∷ [] else store_versions ps k
-
 -- the versions that transactions give a key, the first of which is at u and sees this look: one for each that declares to write it, aborted ones included
 abbrev pub produced_versions : ℕ → Look → List Txn → List ℕ → List Version
 produced_versions u look [] k = []
 produced_versions u look (t ∷ ts) k =
     (if is_among t.writes k then record { begin = u; cell = after look t k } ∷ [] else []) ++ produced_versions (u + 1) (after look t) ts k
+
+-- how many writes the transactions declare
+abbrev pub declared_writes : List Txn → ℕ
+declared_writes [] = 0
+declared_writes (t ∷ ts) = length t.writes + declared_writes ts

@@ -1,9 +1,9 @@
 //! The newest version of a key.
 
-ghost use Rattle.std.specs.Prelude.{◌≡◌, ◌≤◌, [], ◌∷◌, length, option_to_list, slice_index_or};
+ghost use Rattle.std.specs.Prelude.{◌≡◌, ◌≤◌, ℕ, [], ◌∷◌, length, option_to_list, slice_index_or};
 ghost use Rattle.bohm_tree.specs.declared.cell.Cell.TheVariants as cells;
-ghost use Rattle.bohm_store.specs.Versions.{cell_at};
-ghost use Rattle.bohm_store.specs.Held.{held_cell, held_versions};
+ghost use Rattle.bohm_store.specs.Versions.{cell_at, versions_to};
+ghost use Rattle.bohm_store.specs.Held.{held_at, held_cell, held_versions};
 ghost use Rattle.bohm_store.specs.declared.held.Held.TheVariants.{Never};
 
 use crate::version::Version;
@@ -66,6 +66,16 @@ impl Held {
         }
     }
 
+    /// The same where its version begins at or below a timestamp.
+    pub fn up_to(self, ts: u32) -> Held
+        ensures { held_versions result ≡ versions_to ts (held_versions self) }
+    {
+        match self {
+            Held::Absent { begin } | Held::Present { begin, .. } if ts < begin => Held::Never,
+            _ => self,
+        }
+    }
+
     /// The cell at a timestamp, where no older version is known.
     pub fn cell_at(self, ts: u32) -> Cell
         ensures { result ≡ cell_at ts (held_versions self) cells.Absent }
@@ -78,6 +88,15 @@ impl Held {
 }
 
 const _: () = prove!(std::mem::size_of::<Held>() == 16);
+
+/// Lets go what keys hold since a timestamp above this one. Its time grows with the number of keys.
+pub fn forget_after(newest: &mut [Held], ts: u32)
+    ensures { (n : ℕ) → held_at newest.new n ≡ versions_to ts (held_at newest.old n) }
+{
+    for i in 0..newest.len() {
+        newest[i] = newest[i].up_to(ts);
+    }
+}
 
 /// What the key with a number holds.
 pub fn held_of(newest: &[Held], number: u32) -> Held

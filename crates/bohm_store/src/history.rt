@@ -12,11 +12,12 @@ ghost use Rattle.bohm_store.specs.Chains.{starting_versions};
 mod advance;
 mod next_batch;
 mod reads;
+mod rewind;
 mod settle;
 mod trim;
 
 use crate::numbered::NumberedHistory;
-use bohm_log::{HashSeed, Names};
+use bohm_log::{DrawnSeed, FixedSeed, HashSeed, Names};
 use bohm_tree::{Key, NoMemory, Value};
 use std::alloc::Global;
 use std::marker::Model;
@@ -74,14 +75,14 @@ impl History {
         ensures count { IfOk result (λ h. total h.chains ≡ length entries.now) }
         ensures past { IfOk result (λ h. past h 0 ≡ cell_in (store_of entries.now)) }
     {
-        History::open_with_seed(alloc, entries, HashSeed::fixed())
+        History::restore(alloc, entries, 0)
     }
 
-    /// The same, with keys hashed from this seed.
+    /// The same, with keys hashed from a drawn seed.
     pub fn open_with_seed(
         alloc: Global,
         entries: &[(Key, Value)],
-        seed: HashSeed,
+        seed: DrawnSeed,
     ) -> Result<History, NoMemory>
         requires { rising (names_of entries.now) ≡ true }
         ensures floor { IfOk result (λ h. h.floor ≡ 0) }
@@ -108,11 +109,30 @@ impl History {
         ensures count { IfOk result (λ h. total h.chains ≡ length entries.now) }
         ensures past { IfOk result (λ h. past h ts ≡ cell_in (store_of entries.now)) }
     {
-        History::restore_with_seed(alloc, entries, ts, HashSeed::fixed())
+        History::stand(alloc, entries, ts, HashSeed::from(FixedSeed))
     }
 
-    /// The same, with keys hashed from this seed.
+    /// The same, with keys hashed from a drawn seed.
     pub fn restore_with_seed(
+        alloc: Global,
+        entries: &[(Key, Value)],
+        ts: u32,
+        seed: DrawnSeed,
+    ) -> Result<History, NoMemory>
+        requires { rising (names_of entries.now) ≡ true }
+        ensures floor { IfOk result (λ h. h.floor ≡ ts) }
+        ensures top { IfOk result (λ h. h.top ≡ ts) }
+        ensures versions { IfOk result
+            (λ h. (k : List ℕ)
+            → versions h k ≡ starting_versions (cell_in (store_of entries.now) k)) }
+        ensures count { IfOk result (λ h. total h.chains ≡ length entries.now) }
+        ensures past { IfOk result (λ h. past h ts ≡ cell_in (store_of entries.now)) }
+    {
+        History::stand(alloc, entries, ts, HashSeed::from(seed))
+    }
+
+    // What `restore` answers, with keys hashed from either kind of seed.
+    fn stand(
         alloc: Global,
         entries: &[(Key, Value)],
         ts: u32,
@@ -139,7 +159,7 @@ impl History {
         ensures versions { (k : List ℕ) → versions result k ≡ [] }
     {
         History {
-            names: Names::new(alloc, HashSeed::fixed()),
+            names: Names::new(alloc, HashSeed::from(FixedSeed)),
             numbered: NumberedHistory::empty(alloc),
         }
     }

@@ -9,16 +9,16 @@ ghost use Rattle.bohm_tree.specs.declared.cell.Cell.TheVariants as cells;
 ghost use Rattle.bohm_txn.specs.Faulty.{IsWellFormedTxn};
 ghost use Rattle.bohm_txn.specs.Stores.{cell_in, store_of};
 ghost use Rattle.bohm_board.specs.Batches.{txns_of};
-ghost use Rattle.bohm_store.specs.Versions.{IsCellAt, Rises, cell_at, kept_versions, past, total, versions};
+ghost use Rattle.bohm_store.specs.Versions.{IsCellAt, Rises, cell_at, kept_versions, past, total, versions, versions_to};
 ghost use Rattle.bohm_store.specs.Chains.{starting_versions};
 ghost use Rattle.bohm_store.specs.Nexts.{IsNext, IsSettled, IsSettledKept};
 ghost use Rattle.bohm_store.specs.Writes.{AreTxnWrites, AreWritesOf};
 ghost use Rattle.bohm_store.specs.Numbered.{timeline, versions_at};
 
-use crate::held::{Held, held_of};
-use crate::listing::{count_held, present_at};
+use crate::held::{Held, forget_after, held_of};
+use crate::listing::{count_held, present_at, rewind};
 use crate::numbered_write::NumberedWrite;
-use crate::older::{OlderVersions, add, cell_before, trim};
+use crate::older::{OlderVersions, add, cell_before, cut_off, trim};
 use crate::replacing::replace_all;
 use bohm_board::Batch;
 use bohm_log::TxnView;
@@ -178,6 +178,24 @@ impl NumberedHistory {
         }
         trim(&mut self.older, floor);
         self.floor = floor;
+    }
+
+    /// Takes back what came after a timestamp, which becomes the top: of each key there stay the
+    /// versions that begin at or below it. Its time grows with how many versions go and with the
+    /// number of keys. It allocates nothing.
+    pub fn rewind(&mut self, ts: u32)
+        requires { self.old.floor ≤ ts }
+        ensures floor { self.new.floor ≡ self.old.floor }
+        ensures top { self.new.top ≡ ts }
+        ensures long { length self.new.newest ≡ length self.old.newest }
+        ensures versions { (n : ℕ)
+            → versions_at self.new n ≡ versions_to ts (versions_at self.old n) }
+    {
+        let newest = self.newest.as_mut_slice();
+        rewind(newest, &self.older, ts);
+        forget_after(newest, ts);
+        cut_off(&mut self.older, ts);
+        self.top = ts;
     }
 
     /// Settles the next batch, by the list of its writes, and keeps the batch's end alone. It

@@ -9,7 +9,7 @@ ghost use Rattle.bohm_store.specs.declared.older.Older.{Older};
 ghost use Rattle.bohm_store.specs.Versions.{cell_at, kept_versions};
 ghost use Rattle.bohm_store.specs.Chains.{later_begins};
 ghost use Rattle.bohm_store.specs.Held.{held_at, held_versions};
-ghost use Rattle.bohm_store.specs.Numbered.{EndsRise, IsLinked, IsNotDue, ends_of, first_after, older_of, version_of};
+ghost use Rattle.bohm_store.specs.Numbered.{IsEndedBy, EndsRise, IsLinked, IsNotDue, ended_by, ends_of, first_after, older_of, version_of};
 
 use crate::held::Held;
 use crate::numbered_write::NumberedWrite;
@@ -161,6 +161,19 @@ impl OlderVersions {
         });
     }
 
+    // Takes the last one out, if it ended above a timestamp.
+    fn take_ended_after(&mut self, ts: u32) -> Option<Older>
+        ensures { MatchOption result
+            ((self.new.items ≡ self.old.items) × IsEndedBy ts self.old.items)
+            (λ o. (self.old.items ≡ self.new.items ++ o ∷ []) × (ts < o.end)) }
+    {
+        let last = *self.queue.back()?;
+        if last.end <= ts {
+            return None;
+        }
+        self.queue.pop_back()
+    }
+
     // Takes the first one out, if it ended at or below the floor.
     fn take_due(&mut self, floor: u32) -> Option<Older>
         ensures { MatchOption result
@@ -214,6 +227,14 @@ pub fn trim(older: &mut OlderVersions, floor: u32)
         → All (λ o. floor < o.end) older.new.items }
 {
     while let Some(_) = older.take_due(floor) {}
+}
+
+/// Lets those go that ended above a timestamp. Its time grows with how many go.
+pub fn cut_off(older: &mut OlderVersions, ts: u32)
+    ensures { (top : ℕ) → EndsRise top older.old.items
+        → older.new.items ≡ ended_by ts older.old.items }
+{
+    while let Some(_) = older.take_ended_after(ts) {}
 }
 
 /// Puts a version in place of what the key holds, which is kept as an older one. There is room for

@@ -63,8 +63,8 @@ fn put_reply(out: &mut Vec<u8>, number: u64, reply: ReplyView<'_>) -> Result<(),
     Ok(())
 }
 
-/// Appends a line for each reply, numbered from a first number on. Its time grows with the length
-/// of the lines. An error leaves the text with the beginning of them.
+/// Appends a line for each reply, numbered from a first number on. The time grows with the length
+/// of the lines. After an error the text has a prefix of them.
 pub fn put_replies(out: &mut Vec<u8>, first: u64, replies: &Replies) -> Result<(), NoMemory>
     requires { first + length replies.now ≤ 2 ^ 64 }
     ensures { IfOk result
@@ -77,8 +77,8 @@ pub fn put_replies(out: &mut Vec<u8>, first: u64, replies: &Replies) -> Result<(
     Ok(())
 }
 
-/// Appends the line `--`, and then a line for each key. Its time grows with the length of the
-/// lines. An error leaves the text with the beginning of them.
+/// Appends the line `--`, then a line for each key. The time grows with the length of the lines.
+/// After an error the text has a prefix of them.
 pub fn put_store(out: &mut Vec<u8>, entries: &[(Key, Value)]) -> Result<(), NoMemory>
     ensures { IfOk result (λ _. out.new.items ≡ out.old.items ++ print_store entries.now) }
 {
@@ -95,7 +95,7 @@ const VALUE_BYTES: usize = 21;
 /// The longest line of a key and a value.
 const ENTRY_BYTES: usize = 54;
 
-/// How many bytes the replies take at most, where their numbers are timestamps.
+/// The most bytes that the replies take, if their numbers are timestamps.
 fn most_bytes(replies: &Replies) -> usize
     ensures { length replies.now < 2 ^ 64 }
 {
@@ -103,8 +103,8 @@ fn most_bytes(replies: &Replies) -> usize
     lines.saturating_add(replies.most_shows().saturating_mul(VALUE_BYTES))
 }
 
-/// An empty text with room for this many bytes, so that it isn't copied as it grows. If that
-/// allocation fails it has none: the text may be shorter.
+/// An empty text with capacity for this many bytes, so that it isn't copied as it grows; without
+/// capacity if that allocation fails, since the text may be shorter.
 fn with_room(alloc: Global, bytes: usize) -> Vec<u8>
     ensures { result.items ≡ [] }
 {

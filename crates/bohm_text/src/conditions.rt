@@ -11,7 +11,7 @@ use crate::words::Words;
 use bohm_log::{Draft, HashSeed};
 use bohm_tree::Cmp;
 
-/// Adds both sums of the condition that the words are, and returns its comparison.
+/// Adds both sums of the condition that the words spell, and returns its comparison.
 #[tactic(auto, unfolding(crate::specs::Reading::cond_of))]
 pub fn read_cond(draft: &mut Draft<HashSeed>, words: &mut Words) -> Result<Cmp, ReadFault>
     requires { length draft.old.done < 2 }

@@ -6,7 +6,7 @@ use std::alloc::{AllocError, AllocFailed};
 /// Why a line could not be read.
 #[derive(Clone, Copy, Debug, PartialEq, Eq)]
 pub enum ReadFault {
-    /// It is not spelled as any line that may stand there.
+    /// It isn't spelled as any line that may stand there.
     Bad,
     NoMemory,
 }
@@ -44,7 +44,8 @@ impl From<bohm_tree::NoMemory> for ReadFault {
     }
 }
 
-/// Indices have 32 bits, and a log that needs more takes more memory than that.
+/// Indices have 32 bits. A log that exceeds them exceeds the memory too, so it is refused for
+/// memory.
 impl From<LogFault> for ReadFault {
     ghost use Rattle.std.specs.Prelude.{◌≡◌};
     ghost use Rattle.bohm_text.specs.declared.fault.ReadFault.TheVariants.{NoMemory};
@@ -56,7 +57,7 @@ impl From<LogFault> for ReadFault {
     }
 }
 
-/// A statement whose sum has no terms is spelled as no line.
+/// A statement whose sum has no terms is no valid line.
 impl From<SumFault> for ReadFault {
     ghost use Rattle.std.specs.Prelude.{◌≡◌};
     ghost use Rattle.bohm_text.specs.Taking.{read_fault_of};
@@ -71,7 +72,7 @@ impl From<SumFault> for ReadFault {
     }
 }
 
-/// Why a text isn't a document's. A whole line is one that a newline byte ends.
+/// Why a text isn't a document's. A complete line is one that a newline ends.
 #[derive(Clone, Copy, Debug, PartialEq, Eq)]
 pub enum TextFault {
     /// The complete lines before this one are a prefix of a document's text, and with this one they

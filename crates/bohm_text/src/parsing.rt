@@ -11,7 +11,7 @@ ghost use Rattle.bohm_text.specs.Faults.{IsFirstBadLine, IsShort};
 use crate::fault::{ReadFault, TextFault, WindowFault};
 use crate::reader::{Place, Reader, read_head};
 use crate::separators::newline_at;
-use bohm_log::{Doc, HashSeed};
+use bohm_log::{Doc, DrawnSeed, FixedSeed, HashSeed};
 use bohm_tree::Edition;
 use std::alloc::Global;
 
@@ -29,7 +29,7 @@ pub fn split_line(text: &[u8]) -> Option<(&[u8], &[u8])>
     }
 }
 
-/// Reads lines that stand after an edition's head line, and counts them.
+/// Reads lines that follow an edition's head line, and counts them.
 pub(crate) fn read_lines(
     alloc: Global,
     seed: HashSeed,
@@ -78,26 +78,7 @@ pub(crate) fn read_text(
     }
 }
 
-/// The document whose print the text is. Its time and memory grow with the length of the text, and
-/// a line that is refused takes memory in proportion to its length at most. Names are hashed from a
-/// fixed seed: where strangers choose them, use `parse_with_seed`.
-///
-/// # Errors
-///
-/// `Line` and `Short` say where the text stops being a prefix of a document's text. `NoMemory` says
-/// that an allocation failed.
-pub fn parse(alloc: Global, text: &[u8]) -> Result<Doc, TextFault>
-    ensures found { IfOk result (λ doc. print_doc doc ≡ text.now) }
-    ensures sound { IfOk result IsDocument }
-    ensures line { (n : ℕ) → result ≡ Err (TextFault.Line n)
-        → IsFirstBadLine (whole_lines text.now) n }
-    ensures short { result ≡ Err TextFault.Short → IsShort text.now }
-{
-    parse_with_seed(alloc, HashSeed::fixed(), text)
-}
-
-/// The same, with names hashed from this seed.
-pub fn parse_with_seed(alloc: Global, seed: HashSeed, text: &[u8]) -> Result<Doc, TextFault>
+fn read_doc(alloc: Global, seed: HashSeed, text: &[u8]) -> Result<Doc, TextFault>
     ensures found { IfOk result (λ doc. print_doc doc ≡ text.now) }
     ensures sound { IfOk result IsDocument }
     ensures line { (n : ℕ) → result ≡ Err (TextFault.Line n)
@@ -116,4 +97,33 @@ pub fn parse_with_seed(alloc: Global, seed: HashSeed, text: &[u8]) -> Result<Doc
         Some(doc) => Ok(doc),
         None => unreachable!(),
     }
+}
+
+/// The document whose print the text is. Its time and memory grow with the length of the text, and
+/// a line that is refused takes memory in proportion to its length at most. Names are hashed from
+/// the fixed seed: where strangers choose them, use `parse_with_seed`.
+///
+/// # Errors
+///
+/// `Line` and `Short` say where the text stops being a prefix of a document's text. `NoMemory` says
+/// that an allocation failed.
+pub fn parse(alloc: Global, text: &[u8]) -> Result<Doc, TextFault>
+    ensures found { IfOk result (λ doc. print_doc doc ≡ text.now) }
+    ensures sound { IfOk result IsDocument }
+    ensures line { (n : ℕ) → result ≡ Err (TextFault.Line n)
+        → IsFirstBadLine (whole_lines text.now) n }
+    ensures short { result ≡ Err TextFault.Short → IsShort text.now }
+{
+    read_doc(alloc, HashSeed::from(FixedSeed), text)
+}
+
+/// The same, with names hashed from a drawn seed.
+pub fn parse_with_seed(alloc: Global, seed: DrawnSeed, text: &[u8]) -> Result<Doc, TextFault>
+    ensures found { IfOk result (λ doc. print_doc doc ≡ text.now) }
+    ensures sound { IfOk result IsDocument }
+    ensures line { (n : ℕ) → result ≡ Err (TextFault.Line n)
+        → IsFirstBadLine (whole_lines text.now) n }
+    ensures short { result ≡ Err TextFault.Short → IsShort text.now }
+{
+    read_doc(alloc, HashSeed::from(seed), text)
 }

@@ -37,7 +37,7 @@ pub enum ParamPlace {
     Reading,
     /// A statement or the closing.
     Body,
-    /// None.
+    /// Nothing.
     Done,
 }
 
@@ -73,7 +73,7 @@ fn is_param(keys: &[Key], values: &[Key], name: &Key) -> bool
     is_among(keys, name) || is_among(values, name)
 }
 
-/// Whether the draft declares each of some keys.
+/// Whether the draft declares each of these keys.
 fn are_declared(keys: &[Key], draft: &Draft<HashSeed>) -> bool
     ensures { result ≡ are_declared keys.now draft.now.txn.reads draft.now.txn.writes }
 {
@@ -203,7 +203,7 @@ impl ProcedureReader {
         read_stmt(&mut self.draft, &mut Words::of(line))
     }
 
-    /// Takes the next line in. After an `Err` nothing is said of what it holds.
+    /// Reads the next line. After an `Err` the reader's contents are unspecified.
     #[tactic(auto, unfolding(crate::specs::ProcedureText::stage_after))]
     pub fn feed(&mut self, line: &[u8]) -> Result<(), ReadFault>
         requires { IsReady self.old }
@@ -281,7 +281,7 @@ pub fn read_procedure(
     }
 }
 
-/// The same, with faults in the text's own words.
+/// Reads a procedure's text to its end, with the faults of a text.
 pub fn parse_procedure(
     alloc: Global,
     seed: HashSeed,

@@ -1,4 +1,4 @@
-//! Where words and lines end. Many bytes are looked at together, since most ends are near.
+//! Where words and lines end. Several bytes are compared at once, since most ends are near.
 
 ghost use Rattle.std.specs.Prelude.{◌≡◌, ◌≤◌, ◌<◌, ◌==◌, IfSome, Some, length};
 ghost use Rattle.std.specs.List.{position_from};
@@ -7,13 +7,13 @@ ghost use Rattle.bohm_text.specs.Parse.{newline_in};
 use memchr::memchr;
 use std::simd::prelude::*;
 
-/// How many bytes of a line are looked at together.
+/// How many bytes of a line are compared at once.
 const LINE_BLOCK: usize = 32;
 
-/// How many bytes of a word are looked at together.
+/// How many bytes of a word are compared at once.
 const WORD_BLOCK: usize = 8;
 
-/// The first newline, if it stands among the first bytes.
+/// The first newline, if it is among the first bytes.
 #[inline(always)]
 fn newline_near(bytes: &[u8]) -> Option<usize>
     requires { LINE_BLOCK ≤ length bytes.now }
@@ -43,7 +43,7 @@ pub fn newline_at(bytes: &[u8]) -> Option<usize>
     memchr(b'\n', bytes)
 }
 
-/// The first space, if it stands among the first bytes.
+/// The first space, if it is among the first bytes.
 #[inline(always)]
 fn space_near(bytes: &[u8]) -> Option<usize>
     requires { WORD_BLOCK ≤ length bytes.now }

@@ -54,7 +54,7 @@ fn read_bind(draft: &mut Draft<HashSeed>, words: &mut Words) -> Result<(), ReadF
     Ok(())
 }
 
-/// What a key is set to, and when.
+/// Adds what a key is set to, and its guard.
 fn read_assigned(
     draft: &mut Draft<HashSeed>,
     target: &Target<'_>,
@@ -109,14 +109,14 @@ fn read_presence(draft: &mut Draft<HashSeed>, word: &[u8], name: &[u8]) -> Resul
     Ok(())
 }
 
-/// Whether a word behind `need` may say that a key's presence is tested.
+/// Whether a word after `need` may begin a test of a key's presence.
 fn is_test(word: &[u8]) -> bool
     ensures { result ≡ (bytes_eq word.now (codes "has") || bytes_eq word.now (codes "no")) }
 {
     word == b"has".as_slice() || word == b"no".as_slice()
 }
 
-/// The two words of a test of a key's presence, where the words are no more than these.
+/// The two words of a test of a key's presence, if there are no others.
 #[tactic(auto, using(crate::proofs::Needs::no_words, crate::proofs::Needs::one_word))]
 fn test_in<'a>(words: &Words<'a>) -> Option<(&'a [u8], &'a [u8])>
     ensures { MatchOption result (need_of words.now ≡ option_map Need (cond_of words.now))
@@ -134,7 +134,7 @@ fn test_in<'a>(words: &Words<'a>) -> Option<(&'a [u8], &'a [u8])>
     }
 }
 
-/// Two words test a key's presence, more are a condition.
+/// Two words after `need` test a key's presence; more are a condition.
 fn read_need(draft: &mut Draft<HashSeed>, words: &mut Words) -> Result<(), ReadFault>
     requires { IsBetween draft.old }
     ensures { TakesStmt result (need_of words.old) draft.old draft.new }
@@ -181,7 +181,7 @@ fn read_fail(draft: &mut Draft<HashSeed>, words: &mut Words) -> Result<(), ReadF
     Ok(())
 }
 
-/// Adds the statement that the words are. After an `Err` the draft may hold a part of it.
+/// Adds the statement that the words spell. After an `Err` the draft may hold a part of it.
 #[tactic(auto, unfolding(crate::specs::Reading::stmt_of))]
 pub fn read_stmt(draft: &mut Draft<HashSeed>, words: &mut Words) -> Result<(), ReadFault>
     requires { IsBetween draft.old }
@@ -220,7 +220,7 @@ pub fn read_entry(words: &mut Words) -> Result<(Key, Value), ReadFault>
     Ok((key, Value::from(number)))
 }
 
-/// Declares the keys that the words are to be read.
+/// Declares the keys that the words spell as read.
 pub fn read_reads(draft: &mut Draft<HashSeed>, words: &mut Words) -> Result<(), ReadFault>
     requires { IsBare draft.old }
     ensures { Takes result (keys_of words.old) (with_reads draft.old) draft.new }
@@ -234,7 +234,7 @@ pub fn read_reads(draft: &mut Draft<HashSeed>, words: &mut Words) -> Result<(), 
     Ok(())
 }
 
-/// Declares the keys that the words are to be written.
+/// Declares the keys that the words spell as written.
 pub fn read_writes(draft: &mut Draft<HashSeed>, words: &mut Words) -> Result<(), ReadFault>
     requires { IsBare draft.old }
     ensures { Takes result (keys_of words.old) (with_writes draft.old) draft.new }

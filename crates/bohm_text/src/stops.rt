@@ -5,7 +5,7 @@ ghost use Rattle.bohm_text.specs.Reading.{cmp_of, stop_of};
 
 use bohm_tree::Cmp;
 
-/// What stands after a sum.
+/// What follows a sum.
 #[derive(Clone, Copy, Debug, PartialEq, Eq)]
 pub enum Stop {
     /// The end of the line.

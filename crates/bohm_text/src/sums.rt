@@ -42,7 +42,8 @@ fn take_other(draft: &mut Draft<HashSeed>, minus: bool, word: &[u8]) -> Result<(
     add_term(draft, minus, atom)
 }
 
-/// The same. A declared read that stands where it was found last is compared in place.
+/// Adds the term of a word whose sign was read. A declared read that is where the cache last found
+/// it is compared in place.
 #[inline(always)]
 fn take_term(draft: &mut Draft<HashSeed>, minus: bool, word: &[u8]) -> Result<(), ReadFault>
     ensures { Takes result (further_of minus word.now) (with_one draft.old) draft.new }
@@ -53,7 +54,7 @@ fn take_term(draft: &mut Draft<HashSeed>, minus: bool, word: &[u8]) -> Result<()
     take_other(draft, minus, word)
 }
 
-/// Adds the first term, its sign at the atom.
+/// Adds the first term, whose sign is part of the word.
 #[tactic(auto, unfolding(crate::specs::Reading::first_of, crate::specs::Reading::further_of))]
 fn take_first(draft: &mut Draft<HashSeed>, word: &[u8]) -> Result<(), ReadFault>
     ensures { Takes result (first_of word.now) (with_one draft.old) draft.new }
@@ -111,7 +112,7 @@ pub fn read_sum(draft: &mut Draft<HashSeed>, words: &mut Words) -> Result<Stop, 
     read_terms(draft, words)
 }
 
-/// Adds the sum that the words are.
+/// Adds the sum that the words spell.
 #[tactic(auto, using(crate::proofs::TermLoops::last_fails))]
 pub fn read_last_sum(draft: &mut Draft<HashSeed>, words: &mut Words) -> Result<(), ReadFault>
     ensures { Takes result (last_sum words.old) (with_terms draft.old) draft.new }

@@ -12,9 +12,9 @@ use bohm_tree::{Cmp, Key};
 /// The key that a statement writes.
 #[derive(Drop)]
 pub enum Target<'a> {
-    /// The declared one at this place, whose name this word is. No key is made of it.
+    /// The declared key at this index, which this word names. No `Key` is made of it.
     Declared(u32, &'a [u8]),
-    /// Another one, or one that doesn't stand where it was found last.
+    /// Another key, or one that isn't where the cache last found it.
     Named(Key),
 }
 

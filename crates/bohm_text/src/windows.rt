@@ -7,7 +7,7 @@ ghost use Rattle.bohm_text.specs.Windowing.{ReadsFirst, ReadsWindow};
 use crate::fault::WindowFault;
 use crate::parsing::{read_lines, read_text};
 use crate::reader::Reader;
-use bohm_log::{HashSeed, Log};
+use bohm_log::{DrawnSeed, HashSeed, Log};
 use bohm_tree::{Edition, Key, Value};
 use std::alloc::Global;
 
@@ -38,12 +38,12 @@ pub struct FirstWindow {
 /// an allocation failed.
 pub fn parse_first_window(
     alloc: Global,
-    seed: HashSeed,
+    seed: DrawnSeed,
     text: &[u8],
 ) -> Result<FirstWindow, WindowFault>
     ensures { ReadsFirst text.now result }
 {
-    let (reader, lines) = read_text(alloc, seed, text)?;
+    let (reader, lines) = read_text(alloc, HashSeed::from(seed), text)?;
     let Reader {
         edition,
         mut store,
@@ -58,10 +58,10 @@ pub fn parse_first_window(
     })
 }
 
-/// Reads a window that stands after others of a text of this edition, and begins with the line
-/// `txn`. What it reads doesn't depend on the windows before it, so windows are read in any order.
-/// Its time and memory grow with the length of the window. Names are hashed from the seed, and are
-/// numbered for this window alone.
+/// Reads a window that follows others of a text of this edition, and begins with the line `txn`.
+/// The result doesn't depend on the windows before it, so windows are read in any order. The time
+/// and memory grow with the length of the window. Names are hashed from the seed, and are numbered
+/// for this window alone.
 ///
 /// # Errors
 ///
@@ -69,14 +69,14 @@ pub fn parse_first_window(
 /// that an allocation failed.
 pub fn parse_window(
     alloc: Global,
-    seed: HashSeed,
+    seed: DrawnSeed,
     edition: Edition,
     text: &[u8],
 ) -> Result<Chunk, WindowFault>
     requires { IsWindow text.now }
     ensures { ReadsWindow edition text.now result }
 {
-    let (reader, lines) = read_lines(alloc, seed, edition, text)?;
+    let (reader, lines) = read_lines(alloc, HashSeed::from(seed), edition, text)?;
     Ok(Chunk {
         log: reader.log,
         lines,

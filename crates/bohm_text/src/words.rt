@@ -43,15 +43,15 @@ impl<'a> Words<'a> {
         Words { rest: Some(line) }
     }
 
-    /// The same words, to be read apart.
+    /// A copy, to be read independently.
     pub fn fork(&self) -> Words<'a>
         ensures { result ≡ self.now }
     {
         Words { rest: self.rest }
     }
 
-    /// The sign of a further term, where the next word is one and another stands behind it: it is
-    /// taken then.
+    /// The sign of a further term, if the next word is a sign and another word follows it. Then it
+    /// is consumed.
     #[inline(always)]
     pub fn next_sign(&mut self) -> Option<bool>
         ensures sign { result ≡ sign_ahead self.old }

@@ -7,7 +7,8 @@ use bohm_text::parse;
 use bohm_tree::NoMemory;
 use std::process::Abort;
 
-/// Each term of the statement's sums reads the key at this place among the declared reads.
+/// Asserts that each term of the statement's sums reads the key at this index among the declared
+/// reads.
 fn assert_row(rt: &impl Abort, txn: &PlacedTxn<'_>, row: StmtRow, place: u32)
     requires { RowIn txn.now row }
 {
@@ -36,7 +37,7 @@ show c - c
 end
 ";
 
-/// They find it where it stands among the reads.
+/// Asserts that they find it at its index among the reads.
 fn assert_reading(rt: &impl Abort, txn: &PlacedTxn<'_>) {
     let ends = txn.rows().iter().map(|row| row.third);
     assert!(rt; ends.eq([1, 3, 4, 7, 9]));

@@ -71,7 +71,7 @@ fn add_target(keys: &mut Vec<Key>, target: Option<Key>) -> Result<(), NoMemory>
     Ok(())
 }
 
-/// Appends the keys that the transaction's body reads or tests, as often as it does.
+/// Appends the keys that the transaction's body reads or tests, once for each time.
 pub fn add_body_reads(keys: &mut Vec<Key>, txn: &TxnView<'_>) -> Result<(), NoMemory>
     ensures { IfOk result (λ _. keys.new.items ≡ keys.old.items ++ body_reads txn.now.body) }
 {
@@ -81,7 +81,7 @@ pub fn add_body_reads(keys: &mut Vec<Key>, txn: &TxnView<'_>) -> Result<(), NoMe
     Ok(())
 }
 
-/// Appends the keys that the transaction's body writes, as often as it does.
+/// Appends the keys that the transaction's body writes, once for each time.
 pub fn add_body_writes(keys: &mut Vec<Key>, txn: &TxnView<'_>) -> Result<(), NoMemory>
     ensures { IfOk result (λ _. keys.new.items ≡ keys.old.items ++ body_writes txn.now.body) }
 {

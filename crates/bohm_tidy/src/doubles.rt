@@ -3,14 +3,15 @@
 use bohm_tree::{Key, NoMemory, Value};
 use std::alloc::Global;
 
-/// Two places of one key.
+/// The indices of two entries with one key.
 #[derive(Clone, Copy)]
 pub struct Places {
     pub first: usize,
     pub again: usize,
 }
 
-/// The place of the first entry whose key stands before it, and the first place of that key.
+/// The index of the first entry whose key occurs before it, and the index of that key's first
+/// entry.
 pub fn first_double(alloc: Global, store: &[(Key, Value)]) -> Result<Places, NoMemory> {
     let mut keys = Vec::with_capacity(alloc, store.len())?;
     for (place, entry) in store.iter().enumerate() {
@@ -20,7 +21,7 @@ pub fn first_double(alloc: Global, store: &[(Key, Value)]) -> Result<Places, NoM
     Ok(least_double(keys.as_slice()))
 }
 
-/// Whichever of two is found earlier.
+/// The pair that is found earlier in the store.
 fn earlier(one: Option<Places>, other: Places) -> Places {
     match one {
         Some(places) if places.again <= other.again => places,
@@ -28,7 +29,8 @@ fn earlier(one: Option<Places>, other: Places) -> Places {
     }
 }
 
-/// The least place after another one of its key, with that, of places by their keys.
+/// Among keys with their indices, sorted: the least index of an entry whose key occurs before it,
+/// and that key's first index.
 fn least_double(keys: &[(Key, usize)]) -> Places {
     let mut found = None;
     let mut start = 0;

@@ -5,18 +5,18 @@ ghost use Rattle.bohm_tidy.specs.declared.fault.TidyFault.TheVariants.{NoMemory}
 
 use std::alloc::{AllocError, AllocFailed};
 
-/// Two lines of a store that name one key, numbered from 1 in the text as it was handed in.
+/// Two lines of a store with one key, numbered from 1 in the text that was given.
 #[derive(Clone, Copy, Debug)]
 pub struct Double {
     pub first: u64,
     pub again: u64,
 }
 
-/// Why a text is no log's, however loosely it is read.
+/// Why a text isn't a log, not even a loosely written one.
 #[derive(Clone, Copy, Debug)]
 pub enum TidyFault {
     /// The lines before this one are a prefix of a log, and with this one they aren't. Lines count
-    /// from 1 in the text as it was handed in.
+    /// from 1 in the text that was given.
     Line(u64),
     /// The lines are a prefix of a log, but not a whole one.
     Short,

@@ -17,7 +17,7 @@ pub fn add_keys(list: &mut Vec<Key>, keys: &Keys<'_>) -> Result<(), NoMemory>
     Ok(())
 }
 
-/// Puts the keys in order, and keeps each once.
+/// Sorts the keys, and keeps each once.
 fn settle(keys: &mut Vec<Key>)
     ensures { keys.new.items ≡ key_set keys.old.items }
 {

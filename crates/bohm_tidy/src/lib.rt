@@ -15,4 +15,5 @@ mod store;
 mod tidying;
 
 pub use fault::{Double, TidyFault};
+pub use plain::read_as;
 pub use tidying::tidy;

@@ -1,4 +1,4 @@
-//! One line of a loose text, as the exact text has it.
+//! One line of a loose text, as it is in the exact text.
 
 ghost use Rattle.std.specs.Prelude.{◌≡◌, ◌++◌, ◌∷◌, [], IfOk};
 ghost use Rattle.bohm_tidy.specs.declared.line.Gap.TheVariants.{Start};
@@ -10,14 +10,14 @@ use crate::bytes::place_of;
 use bohm_text::Words;
 use bohm_tree::NoMemory;
 
-/// What stands before the next word.
+/// What precedes the next word.
 #[derive(Clone, Copy)]
 pub enum Gap {
     /// No word yet.
     Start,
-    /// A word after which a sum begins, or goes on with an atom.
+    /// A word after which a sum begins, or continues with an atom.
     Sum,
-    /// The minus of a sum's first term, which stands at its atom.
+    /// The minus of a sum's first term, which is followed by its atom without a space.
     Minus,
     /// An atom or a key.
     Atom,
@@ -30,7 +30,7 @@ fn is_sign(byte: u8) -> bool
     matches!(byte, b'+' | b'-' | b'<' | b'=' | b'>')
 }
 
-/// Whether a word ends between two bytes that are no blanks.
+/// Whether a word ends between two bytes that aren't blanks.
 fn is_cut(byte: u8, next: u8) -> bool
     ensures { result ≡ is_cut byte next }
 {
@@ -40,14 +40,14 @@ fn is_cut(byte: u8, next: u8) -> bool
     is_sign(byte) || is_sign(next)
 }
 
-/// The byte, a space where it is a tab.
+/// The byte; a space for a tab.
 fn shown(byte: u8) -> u8
     ensures { result ≡ shown byte }
 {
     if byte == b'\t' { b' ' } else { byte }
 }
 
-/// Appends a byte that stands after another one, with a space between them where a word ends.
+/// Appends a byte that follows another one, with a space between them if a word ends there.
 fn put_byte(out: &mut Vec<u8>, signs: bool, before: u8, byte: u8) -> Result<(), NoMemory>
     ensures { IfOk result (λ _. out.new.items
         ≡ out.old.items ++ (cut_text signs before byte ++ shown byte ∷ [])) }
@@ -61,8 +61,8 @@ fn put_byte(out: &mut Vec<u8>, signs: bool, before: u8, byte: u8) -> Result<(), 
     Ok(())
 }
 
-/// Appends the bytes with a space between any two words. `signs` says whether a sign is a word by
-/// itself.
+/// Appends the bytes with a space between any two words. `signs` says whether a sign is a word of
+/// its own.
 #[tactic(auto, unfolding(crate::specs::Line::apart))]
 fn set_apart(out: &mut Vec<u8>, signs: bool, bytes: &[u8]) -> Result<(), NoMemory>
     ensures { IfOk result (λ _. out.new.items ≡ out.old.items ++ apart signs 32 bytes.now) }
@@ -111,7 +111,7 @@ fn put_word(out: &mut Vec<u8>, gap: Gap, word: &[u8]) -> Result<(), NoMemory>
     Ok(())
 }
 
-/// Appends the words as the exact text spaces them.
+/// Appends the words, spaced as in the exact text.
 #[tactic(auto, unfolding(crate::specs::Line::joined))]
 fn put_joined(out: &mut Vec<u8>, signs: bool, words: &mut Words) -> Result<(), NoMemory>
     ensures { IfOk result (λ _. out.new.items ≡ out.old.items ++ joined signs Start words.old) }
@@ -147,9 +147,9 @@ fn before_comment(line: &[u8]) -> &[u8]
     }
 }
 
-/// Appends the line as an exact text has it, without its newline: its words with a space between
+/// Appends the line as it is in an exact text, without its newline: its words with a space between
 /// two of them, without its comment. A line without words appends nothing. `signs` says whether the
-/// signs of sums and comparisons are words by themselves. `room` is room for the work.
+/// signs of sums and comparisons are words of their own. `room` is working memory.
 pub fn put_line(
     out: &mut Vec<u8>,
     room: &mut Vec<u8>,

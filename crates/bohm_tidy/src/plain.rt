@@ -1,4 +1,4 @@
-//! A loose text line by line, as lines of an exact text.
+//! A loose text line by line, converted to lines of an exact text.
 
 ghost use Rattle.std.specs.Prelude.{◌≡◌, ◌≤◌, IfOk, OnOk, codes, length};
 ghost use Rattle.bohm_tidy.specs.Plain.{begins, fed, filled, has_writes, nothing, place_after};
@@ -24,21 +24,21 @@ pub enum Place {
     Body,
 }
 
-/// Lines of an exact text that were made of those of a loose one. Where a transaction has no line
-/// of its reads or of its writes, an empty one stands, and it is kept in mind.
+/// The lines of an exact text made from those of a loose one. If a transaction lacks the line of
+/// its reads or of its writes, an empty one is added, and noted.
 #[derive(Drop)]
 pub struct Plain {
     pub place: Place,
     pub text: Vec<u8>,
-    /// For each transaction whether its reads are missing.
+    /// For each transaction, whether its reads are missing.
     pub no_reads: Vec<bool>,
-    /// For each transaction whether its writes are missing.
+    /// For each transaction, whether its writes are missing.
     pub no_writes: Vec<bool>,
     line: Vec<u8>,
     room: Vec<u8>,
 }
 
-/// Whether signs are words by themselves.
+/// Whether signs are words of their own.
 fn signs_at(place: Place) -> bool
     ensures { result ≡ signs_at place }
 {
@@ -92,7 +92,7 @@ impl Plain {
         }
     }
 
-    /// Puts an empty line of writes before the next line, where that is none.
+    /// Adds an empty line of writes, unless the next line is one.
     fn fill_writes(&mut self) -> Result<(), NoMemory>
         ensures filled { IfOk result (λ _. written_of self.new
             ≡ has_writes (begins self.old.line.items (codes "writes")) (written_of self.old)) }
@@ -108,7 +108,7 @@ impl Plain {
         Ok(())
     }
 
-    /// Puts an empty line of reads before the next line, where that is none, and then one of writes.
+    /// Adds an empty line of reads, unless the next line is one, and then one of writes.
     fn fill_reads(&mut self) -> Result<(), NoMemory>
         requires { self.old.place ≡ places.Opened }
         ensures filled { IfOk result (λ _. written_of self.new
@@ -125,7 +125,7 @@ impl Plain {
         self.fill_writes()
     }
 
-    /// Puts empty lines of sets before the next line, where they are missing.
+    /// Adds empty lines for missing sets before the next line.
     fn fill(&mut self) -> Result<(), NoMemory>
         ensures filled { IfOk result (λ _. written_of self.new
             ≡ filled self.old.line.items (written_of self.old)) }
@@ -139,7 +139,7 @@ impl Plain {
         }
     }
 
-    /// Puts the next line down.
+    /// Appends the next line.
     fn put(&mut self) -> Result<(), NoMemory>
         ensures { IfOk result
             (λ _. written_of self.new ≡ with_line self.old.line.items (written_of self.old)) }
@@ -150,7 +150,7 @@ impl Plain {
         Ok(())
     }
 
-    /// Takes the next line of the loose text in.
+    /// Reads the next line of the loose text.
     pub fn feed(&mut self, line: &[u8]) -> Result<(), NoMemory>
         ensures { IfOk result (λ _. written_of self.new ≡ fed (written_of self.old) line.now) }
     {
@@ -176,8 +176,8 @@ fn without_mark(text: &[u8]) -> &[u8]
     }
 }
 
-/// The lines of an exact text that a loose one is read as. Its time and memory grow with the length
-/// of the text.
+/// The lines of an exact text made from a loose one. The time and memory grow with the length of
+/// the text.
 pub fn plain_text(alloc: Global, text: &[u8]) -> Result<Plain, NoMemory>
     ensures { IfOk result (λ plain. written_of plain ≡ written text.now) }
 {
@@ -189,6 +189,26 @@ pub fn plain_text(alloc: Global, text: &[u8]) -> Result<Plain, NoMemory>
     }
     plain.feed(rest)?;
     Ok(plain)
+}
+
+/// The lines of an exact text that the first lines of a loose one are read as, and all of them where
+/// it has fewer. The time grows with those lines.
+pub fn read_as(alloc: Global, text: &[u8], lines: u64) -> Result<Vec<u8>, NoMemory> {
+    let mut plain = Plain::new(alloc);
+    let mut rest = without_mark(text);
+    let mut left = lines;
+    'lines: while let Some(at) = place_of(b'\n', rest) {
+        if left == 0 {
+            return Ok(plain.text);
+        }
+        plain.feed(&rest[..at])?;
+        left -= 1;
+        rest = &rest[at + 1..];
+    }
+    if left > 0 {
+        plain.feed(rest)?;
+    }
+    Ok(plain.text)
 }
 
 /// The line of the loose text, counted from 1, that the byte at this place of the plain text was
@@ -208,7 +228,7 @@ pub fn line_at(alloc: Global, text: &[u8], place: usize) -> Result<u64, NoMemory
     Ok(number as u64)
 }
 
-/// Where a line of a text, counted from 1, begins.
+/// The offset at which a line of a text, counted from 1, begins.
 pub fn line_start(text: &[u8], line: u64) -> usize {
     let mut rest = text;
     for _line in 1..line {

@@ -1,4 +1,4 @@
-//! The text of a document whose keys are put in order.
+//! The text of a document with sorted keys.
 
 ghost use Rattle.std.specs.Prelude.{◌≡◌, ◌++◌, ◌∷◌, [], IfOk, OnOk, codes, if◌then◌else◌};
 ghost use Rattle.std.specs.List.{IsDistinct, flat_map};
@@ -16,7 +16,7 @@ use bohm_text::{put_body, put_entries};
 use bohm_tree::{Edition, Key, NoMemory, Value};
 use std::alloc::Global;
 
-/// The line of its reads, or of what its body reads where they are missing.
+/// The line of its reads; of what its body reads, if they are missing.
 fn put_reads(
     out: &mut Vec<u8>,
     keys: &mut Vec<Key>,
@@ -35,7 +35,7 @@ fn put_reads(
     put_set(out, b"reads", keys)
 }
 
-/// The line of its writes, or of what its body writes where they are missing.
+/// The line of its writes; of what its body writes, if they are missing.
 fn put_writes(
     out: &mut Vec<u8>,
     keys: &mut Vec<Key>,
@@ -54,7 +54,7 @@ fn put_writes(
     put_set(out, b"writes", keys)
 }
 
-/// A transaction with its sets in order. `keys` is room for the work.
+/// A transaction with sorted sets. `keys` is working memory.
 fn put_txn(
     out: &mut Vec<u8>,
     keys: &mut Vec<Key>,
@@ -73,7 +73,7 @@ fn put_txn(
     Ok(())
 }
 
-/// The first flag and the others. Where they are used up, nothing is missing.
+/// The first flag and the others. Once there are no more flags, nothing is missing.
 fn split_flag(flags: &[bool]) -> (bool, &[bool])
     ensures first { result.0 ≡ first_flag flags.now }
     ensures others { result.1.now ≡ other_flags flags.now }
@@ -84,7 +84,7 @@ fn split_flag(flags: &[bool]) -> (bool, &[bool])
     }
 }
 
-/// Transactions with their sets in order.
+/// Transactions with sorted sets.
 fn put_log(
     out: &mut Vec<u8>,
     keys: &mut Vec<Key>,
@@ -107,7 +107,7 @@ fn put_log(
     Ok(())
 }
 
-/// The text of the document with these entries as its store, and with its sets in order.
+/// The text of the document with these entries as its store, and with sorted sets.
 fn print_with_store(
     alloc: Global,
     doc: &Doc,
@@ -136,8 +136,8 @@ fn print_with_store(
     Ok(out)
 }
 
-/// The exact text of a document whose keys stand in any order. A transaction's flags say whether
-/// its reads, and its writes, are missing.
+/// The exact text of a document whose keys are in any order. A transaction's flags say whether its
+/// reads, and its writes, are missing.
 pub fn print_settled(
     alloc: Global,
     doc: &Doc,

@@ -1,4 +1,4 @@
-//! The store in the order of its keys.
+//! The store sorted by key.
 
 ghost use Rattle.std.specs.Prelude.{◌≡◌, IfOk, OnOk};
 ghost use Rattle.std.specs.FinMap.{entries};
@@ -49,7 +49,7 @@ fn is_rising(store: &[(Key, Value)]) -> bool
     store.is_sorted_by(|entry, next| entry.0 < next.0)
 }
 
-/// The entries in the order of their keys. The time grows with their number n as n log n.
+/// The entries sorted by key. The time grows with their number n as n log n.
 pub fn settled_store(alloc: Global, store: &[(Key, Value)]) -> Result<Vec<(Key, Value)>, Unsettled>
     ensures listed { IfOk result (λ list. list.items ≡ entries (store_of store.now)) }
     ensures distinct { OnOk result (IsDistinct bytes_eq (names_of store.now)) }

@@ -13,17 +13,17 @@ use crate::fault::{Double, TidyFault};
 use crate::plain::{Plain, line_at, line_start, plain_text};
 use crate::settled::print_settled;
 use crate::store::Unsettled;
-use bohm_log::{Doc, HashSeed};
+use bohm_log::{Doc, DrawnSeed};
 use bohm_text::{TextFault, parse_with_seed};
 use bohm_tree::NoMemory;
 use std::alloc::Global;
 
-/// The line of the loose text that made this line of the plain one. Both count from 1.
+/// The line of the loose text from which this line of the plain one was made. Both count from 1.
 fn loose_line(alloc: Global, text: &[u8], plain: &Plain, line: u64) -> Result<u64, NoMemory> {
     line_at(alloc, text, line_start(plain.text.as_slice(), line))
 }
 
-/// The double key of a document that was read from a plain text.
+/// The repeated key of a document that was read from a plain text.
 fn twice(alloc: Global, text: &[u8], plain: &Plain, doc: &Doc) -> Result<TidyFault, NoMemory> {
     let places = first_double(alloc, doc.store())?;
     Ok(TidyFault::Twice(Double {
@@ -32,7 +32,7 @@ fn twice(alloc: Global, text: &[u8], plain: &Plain, doc: &Doc) -> Result<TidyFau
     }))
 }
 
-/// The double key of a document that was read from an exact text.
+/// The repeated key of a document that was read from an exact text.
 fn twice_exactly(alloc: Global, doc: &Doc) -> Result<TidyFault, NoMemory> {
     let places = first_double(alloc, doc.store())?;
     Ok(TidyFault::Twice(Double {
@@ -42,7 +42,7 @@ fn twice_exactly(alloc: Global, doc: &Doc) -> Result<TidyFault, NoMemory> {
 }
 
 /// The exact text of a text that isn't exact.
-fn tidy_by_lines(alloc: Global, seed: HashSeed, text: &[u8]) -> Result<Vec<u8>, TidyFault>
+fn tidy_by_lines(alloc: Global, seed: DrawnSeed, text: &[u8]) -> Result<Vec<u8>, TidyFault>
     ensures { IfOk result (λ exact. IsTidiedByLines text.now exact.items) }
 {
     let plain = plain_text(alloc, text)?;
@@ -67,7 +67,7 @@ fn tidy_by_lines(alloc: Global, seed: HashSeed, text: &[u8]) -> Result<Vec<u8>, 
 }
 
 /// The document whose text this is, if there is one.
-fn exact_doc(alloc: Global, seed: HashSeed, text: &[u8]) -> Result<Option<Doc>, NoMemory>
+fn exact_doc(alloc: Global, seed: DrawnSeed, text: &[u8]) -> Result<Option<Doc>, NoMemory>
     ensures { IfOk result (IsExactDoc text.now) }
 {
     match parse_with_seed(alloc, seed, text) {
@@ -78,7 +78,7 @@ fn exact_doc(alloc: Global, seed: HashSeed, text: &[u8]) -> Result<Option<Doc>, 
     }
 }
 
-/// The exact text of a document that was read from an exact one.
+/// The exact text of a document that was read from an exact text.
 fn tidy_exactly(alloc: Global, doc: &Doc) -> Result<Vec<u8>, TidyFault>
     ensures text { IfOk result (λ exact. exact.items ≡ print_doc (settled [] [] doc.now)) }
     ensures distinct { OnOk result (IsDistinct bytes_eq (names_of doc.now.store)) }
@@ -91,15 +91,15 @@ fn tidy_exactly(alloc: Global, doc: &Doc) -> Result<Vec<u8>, TidyFault>
 }
 
 /// The exact text of a loosely written log: with comments, free spacing, keys in any order, and
-/// sets that are missing. Names are hashed from the seed. The time grows with the length of the
-/// text, and with the number n of the keys of a set or of the store as n log n; the memory grows
-/// with the text.
+/// missing sets. Names are hashed from the seed. The time grows with the length of the text, and
+/// with the number n of the keys of a set or of the store as n log n; the memory grows with the
+/// text.
 ///
 /// # Errors
 ///
 /// `Line` and `Short` say where the text stops being a prefix of a log, `Twice` which key the store
 /// names twice. `NoMemory` says that an allocation failed.
-pub fn tidy(alloc: Global, seed: HashSeed, text: &[u8]) -> Result<Vec<u8>, TidyFault>
+pub fn tidy(alloc: Global, seed: DrawnSeed, text: &[u8]) -> Result<Vec<u8>, TidyFault>
     ensures { IfOk result (λ exact. IsTidied text.now exact.items) }
 {
     match exact_doc(alloc, seed, text)? {

@@ -5,18 +5,18 @@ use bohm_command::Program;
 /// What help says above the options.
 const ABOUT: &str = "\
 Writes the exact text of the log of transactions on standard input, which may be
-written at ease:
+loosely written:
 
   - comments, from # to the end of a line, and empty lines
-  - spaces and tabs before, between and behind words; lines that end as on
-    Windows; a byte order mark; no newline behind the last line
+  - spaces and tabs before, between and after words; lines that end as on
+    Windows; a byte order mark; no newline after the last line
   - sums, comparisons and = without spaces: set a=b+c-5 when d<=0
   - the keys of the store, of reads and of writes in any order, and a key of
     reads or of writes more than once
-  - no reads or no writes: the line is filled with what the body reads or writes
+  - no reads or no writes: a line is added with what the body reads or writes
 
-The exact text is what bohm, check and explain take. Nothing is run, and what is
-no matter of spelling, as a key that isn't declared, is left for check to tell.";
+bohm, check and explain take the exact text. Nothing is run, and undeclared keys
+and the like are left for check to report.";
 
 /// What help says below them.
 const AFTER_HELP: &str = "\
@@ -45,9 +45,10 @@ becomes
   set bob = bob + 30
   end
 
-What is refused: a line that can't be read, told by its number in the text that
-was handed in; a text that ends too soon; a key that the store names twice; more
-than 67108864 bytes, of the text or of the exact one.
+What is refused: a line that can't be read; a text that ends too soon; a key that
+the store names twice; more than 67108864 bytes, of the text or of the exact one.
+Below the refusal stands what is wrong, as check says it: the line of the text
+that was handed in, a caret, what was expected, and a line that mends it.
 
 Start it so:
   tidy < loose.log > exact.log

@@ -5,10 +5,12 @@ ghost use Rattle.bohm_run.specs.Headline.{IsBeforeWriting};
 ghost use Rattle.bohm_tidy.specs.Tidied.{IsTidied};
 ghost use Rattle.bohm_tidy_cli.specs.Tidying.{StopsTidying, Tidies};
 
-use bohm_log::HashSeed;
+use bohm_check::{put_double, put_loose_end, put_loose_fault};
+use bohm_log::DrawnSeed;
 use bohm_run::{LONGEST_TEXT, RunFault, read_all, write_all};
 use bohm_text::TextFault;
-use bohm_tidy::{TidyFault, tidy};
+use bohm_tidy::{TidyFault, read_as, tidy};
+use bohm_tree::NoMemory;
 use bohm_txn::{CheckFault, CheckKind};
 use std::alloc::Global;
 use std::io::{Read, Write};
@@ -30,31 +32,73 @@ fn refusal_of(fault: TidyFault) -> RunFault
     }
 }
 
-/// The exact text, if it isn't too long for a text.
-fn exact_text<T: RandomSource>(rt: &T, alloc: Global, text: &[u8]) -> Result<Vec<u8>, RunFault>
+/// The message about a text that is no log's.
+fn put_refusal(
+    alloc: Global,
+    report: &mut Vec<u8>,
+    text: &[u8],
+    fault: TidyFault,
+) -> Result<(), NoMemory> {
+    match fault {
+        TidyFault::Line(line) => {
+            let above = read_as(alloc, text, line.saturating_sub(1))?;
+            let exact = read_as(alloc, text, line)?;
+            put_loose_fault(
+                alloc,
+                report,
+                text,
+                line,
+                above.as_slice(),
+                exact.as_slice(),
+            )
+        }
+        TidyFault::Short => {
+            let exact = read_as(alloc, text, u64::MAX)?;
+            put_loose_end(alloc, report, text, exact.as_slice())
+        }
+        TidyFault::Twice(double) => put_double(report, text, double.first, double.again),
+        TidyFault::NoMemory => Ok(()),
+    }
+}
+
+/// The exact text, if it isn't too long for a text. A message on why the text is no log's is added
+/// to the report, as far as allocations succeed.
+fn exact_text<T: RandomSource>(
+    rt: &T,
+    alloc: Global,
+    text: &[u8],
+    report: &mut Vec<u8>,
+) -> Result<Vec<u8>, RunFault>
     ensures tidied { IfOk result (λ exact. IsTidied text.now exact.items) }
     ensures short { IfOk result (λ exact. length exact.items ≤ LONGEST_TEXT) }
+    ensures silent { OnOk result (report.new ≡ report.old) }
     ensures before { IfErr result IsBeforeWriting }
 {
-    match tidy(alloc, HashSeed::drawn(rt), text) {
+    match tidy(alloc, DrawnSeed::draw(rt), text) {
         Ok(exact) if exact.len() > LONGEST_TEXT => Err(RunFault::TooLong),
         Ok(exact) => Ok(exact),
-        Err(fault) => Err(refusal_of(fault)),
+        Err(fault) => {
+            let _ = put_refusal(alloc, report, text, fault);
+            Err(refusal_of(fault))
+        }
     }
 }
 
 /// Reads a text to the reader's end, and writes the exact text of the log that it loosely is, and
 /// nothing else. The whole text is made before the first byte is written. Every failure of a reader
-/// or a writer counts, an interrupted call too.
+/// or a writer counts, an interrupted call too. A message for people on why a text is refused is
+/// added to the report, as far as allocations succeed.
 pub fn tidy_text<T: RandomSource, R: Read, W: Write>(
     rt: &T,
     alloc: Global,
     reader: &mut R,
     writer: &mut W,
+    report: &mut Vec<u8>,
 ) -> Result<(), RunFault>
     ensures ok { OnOk result
         (Tidies (R.remaining reader.old) (R.remaining reader.new) (W.contents writer.old)
         (W.contents writer.new)) }
+    ensures silent { OnOk result (report.new ≡ report.old) }
     ensures sent { (sent : ℕ) → result ≡ Err (RunFault.Write sent)
         → StopsTidying (R.remaining reader.old) (R.remaining reader.new) (W.contents writer.old)
         (W.contents writer.new) sent }
@@ -63,6 +107,6 @@ pub fn tidy_text<T: RandomSource, R: Read, W: Write>(
     ensures untouched { IfErr result (λ e. IsBeforeWriting e → writer.new ≡ writer.old) }
 {
     let text = read_all(alloc, reader)?;
-    let exact = exact_text(rt, alloc, text.as_slice())?;
+    let exact = exact_text(rt, alloc, text.as_slice(), report)?;
     write_all(writer, exact.as_slice())
 }

@@ -4,7 +4,7 @@ ghost use Rattle.std.specs.Prelude.{◌≡◌, Some};
 
 use std::marker::Model;
 
-/// A whole number of 64 bits.
+/// A signed 64-bit integer.
 #[derive(Clone, Copy, Debug, PartialEq, Eq)]
 pub struct Value {
     number: i64,
@@ -21,7 +21,7 @@ impl Model for Value {
 }
 
 impl Value {
-    /// The value of this number: each number of 64 bits is one.
+    /// The value of this number. Always `Some`.
     pub fn new(number: i64) -> Option<Value>
         ensures { result ≡ Some number }
     {

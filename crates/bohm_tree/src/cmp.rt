@@ -1,6 +1,6 @@
 //! Comparisons.
 
-/// How two sums are compared.
+/// A comparison of two sums.
 #[derive(Clone, Copy, Debug, PartialEq, Eq)]
 pub enum Cmp {
     Lt,

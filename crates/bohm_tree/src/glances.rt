@@ -1,4 +1,4 @@
-//! A cache of where names were found.
+//! A direct-mapped cache of where names were last found.
 
 ghost use Rattle.std.specs.Prelude.{◌≡◌, ◌≤◌, IfSome, IsSome, Some, true, length, slice_get};
 ghost use Rattle.std.specs.Int.{w64, from_be_bytes};
@@ -8,9 +8,9 @@ ghost use Rattle.bohm_tree.specs.Words.{padded, words_of};
 use crate::key::Key;
 use crate::packing::{first_word, glance_at, glance_of, words_of};
 
-/// For each glance, an 8-bit hash of a name, the place at which such a name was found last. A place
-/// is compared with the name before it is used: a wrong one costs the search that would be needed
-/// without it, so none is ever cleared.
+/// For each 8-bit hash of a name, its *glance*, the index at which such a name was last found. The
+/// name at the index is compared before the index is used: a wrong one costs only the search that
+/// would be needed without it, so entries are never cleared.
 #[derive(Clone, Copy)]
 pub struct Glances {
     places: [u8; 256],
@@ -21,7 +21,7 @@ impl Glances {
         Glances { places: [0; 256] }
     }
 
-    /// The place of a name among these, if it stands where its glance was found last.
+    /// The index of a name among these, if it is where a name of its glance was last found.
     pub fn place(&self, names: &[Key], name: &Key) -> Option<u32>
         ensures { IfSome result (λ i. slice_get names.now i ≡ Some name.now) }
     {
@@ -34,8 +34,9 @@ impl Glances {
         }
     }
 
-    /// The same of the name that a word is. The word is compared in place: no key is made of it. A
-    /// word that begins with a digit is none.
+    /// The index of the name that a word spells, if it is where a name of its glance was last
+    /// found. The word is compared in place: no `Key` is made of it. A word that begins with a
+    /// digit is no name.
     #[inline(always)]
     pub fn place_of_word(&self, names: &[Key], word: &[u8]) -> Option<u32>
         ensures place { IfSome result (λ i. slice_get names.now i ≡ Some word.now) }
@@ -50,7 +51,8 @@ impl Glances {
         self.place_of_short(names, word, first_word(word))
     }
 
-    /// The same of a word that doesn't begin with a digit. Few are long: they stand out of the way.
+    /// `place_of_word` for a word of more than 7 bytes, which doesn't begin with a digit. Few are
+    /// so long: their code isn't inlined.
     #[inline(never)]
     fn place_of_long(&self, names: &[Key], word: &[u8]) -> Option<u32>
         ensures place { IfSome result (λ i. slice_get names.now i ≡ Some word.now) }
@@ -59,7 +61,7 @@ impl Glances {
         self.place_of_packed(names, word, &words_of(word))
     }
 
-    /// The same of a word that was packed into these words.
+    /// `place_of_word` for a word that was packed into these words.
     #[inline(always)]
     fn place_of_packed(&self, names: &[Key], word: &[u8], words: &[u64; 4]) -> Option<u32>
         requires { words.now ≡ words_of word.now }
@@ -75,7 +77,7 @@ impl Glances {
         }
     }
 
-    /// The same of a word of at most 7 bytes, which was packed into one word.
+    /// `place_of_word` for a word of at most 7 bytes, which was packed into one word.
     #[inline(always)]
     fn place_of_short(&self, names: &[Key], word: &[u8], packed: u64) -> Option<u32>
         requires short { length word.now ≤ 7 }
@@ -92,7 +94,7 @@ impl Glances {
         }
     }
 
-    /// Notes where a name was found. Places above 255 aren't noted.
+    /// Notes where a name was found. Indices above 255 aren't noted.
     pub fn note(&mut self, name: &Key, place: u32) {
         if let Ok(place) = u8::try_from(place) {
             self.places[name.glance()] = place;

@@ -6,7 +6,7 @@ use crate::memory::NoMemory;
 use std::alloc::Global;
 use std::marker::Model;
 
-/// The values of a `Vec`, in order. It is made from a `Vec`, and gives it back without an
+/// The values of a `Vec`, in order. It is made from a `Vec`, and converts back without an
 /// allocation.
 #[derive(Debug, Drop)]
 pub struct Items<T> {
@@ -54,6 +54,15 @@ impl<T> Items<T> {
     {
         self.values.push(value)?;
         Ok(())
+    }
+
+    /// Removes all values, and keeps their room.
+    pub fn clear(&mut self)
+    where
+        T: Drop,
+        ensures { self.new ≡ [] }
+    {
+        self.values.clear();
     }
 
     /// Frees unused capacity.

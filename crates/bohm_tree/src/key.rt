@@ -13,14 +13,14 @@ ghost use Rattle.std.specs.Int.{w64, from_be_bytes};
 ghost use Rattle.bohm_tree.specs.Words.{padded, words_of};
 ghost use Rattle.bohm_tree.specs.Keys.{place};
 
-use crate::packing::{glance_at, size_of, spread, words_of, zeros_behind};
+use crate::packing::{glance_at, mixed, size_of, spread, words_of, zeros_behind};
 use std::cmp::Ordering;
 use std::hash::{Hash, Hasher};
 use std::marker::Model;
 
 /// A name of 1 to 32 bytes: a lower-case letter, then lower-case letters, digits and underscores.
-/// It is kept in four words, most significant byte first, padded with zeros: names are ordered as
-/// their words are.
+/// It is stored in four words, most significant byte first, padded with zeros, so names are ordered
+/// as their words are.
 #[derive(Clone, Copy, Debug)]
 pub struct Key {
     words: [u64; 4],
@@ -42,7 +42,7 @@ impl Model for Key {
     ghost inverse_ok = { worded_ok };
 }
 
-/// By byte: itself where a name may have it, and else another one, `_`.
+/// For each byte itself, if a name may have it, and else another one, `_`.
 const NAME_BYTES: [u8; 256] = *b"\
     ________________________________________________0123456789______\
     _________________________________abcdefghijklmnopqrstuvwxyz_____\
@@ -136,7 +136,7 @@ impl Key {
         let _ = &self.words;
     }
 
-    /// Whether a word, which was packed into these words, is its name. No key is made of it.
+    /// Whether a word that was packed into these words is its name. No `Key` is made of it.
     #[inline(always)]
     pub(crate) fn is_packed(&self, word: &[u8], words: &[u64; 4]) -> bool
         requires { words.now ≡ words_of word.now }
@@ -146,8 +146,8 @@ impl Key {
         self.words == *words && word.len() == size_of(&self.words)
     }
 
-    /// The same of a word of at most 7 bytes, packed into one word. A longer name has no 0 at the end
-    /// of its first word, so the other words aren't compared.
+    /// Whether a word of at most 7 bytes, packed into one word, is its name. A longer name has no 0
+    /// at the end of its first word, so the other words aren't compared.
     #[inline(always)]
     pub(crate) fn is_short(&self, word: &[u8], packed: u64) -> bool
         requires short { length word.now ≤ 7 }
@@ -158,12 +158,19 @@ impl Key {
         self.words[0] == packed && word.len() == 8 - zeros_behind(packed)
     }
 
-    /// A number below 256 that equal keys share.
+    /// A number below 256, equal for equal keys.
     #[inline(always)]
     pub(crate) fn glance(&self) -> usize
         ensures { result < 256 }
     {
         glance_at(&self.words)
+    }
+
+    /// A number that equal keys share, and that others seldom have. Its upper bits differ most. An
+    /// author of keys can choose some that share it: it is for hints alone.
+    #[inline(always)]
+    pub fn mixed(&self) -> u64 {
+        mixed(&self.words)
     }
 
     /// Its first place among these, if it is one of them. The time grows with their number.
@@ -199,7 +206,7 @@ impl PartialOrd for Key {
     }
 }
 
-/// By bytes, a shorter key before its extensions.
+/// Bytewise, a shorter key before its extensions.
 impl Ord for Key {
     ghost cmp = { slice_cmp nat_cmp };
 
@@ -214,7 +221,7 @@ impl Ord for Key {
     }
 }
 
-/// By one write of its name.
+/// As one write of its name.
 impl Hash for Key {
     ghost use Rattle.std.specs.Prelude.{[], ◌∷◌};
     ghost use Rattle.std.specs.Hash.{same_Alike};

@@ -1,5 +1,5 @@
-//! What a document is made of: keys, values, editions and comparisons; and in `specs/` what
-//! transactions, logs and documents are.
+//! What a document is made of: keys, values, editions and comparisons; in `specs/`, the definitions
+//! of transactions, logs and documents.
 #![tactic(auto)]
 
 mod cell;

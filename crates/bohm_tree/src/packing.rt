@@ -5,8 +5,8 @@ ghost use Rattle.std.specs.Int.{w64, from_be_bytes, trailing_zeros};
 ghost use Rattle.bohm_tree.specs.Name.{is_name};
 ghost use Rattle.bohm_tree.specs.Words.{padded, words_of, spread};
 
-/// The word of the first 8 bytes, padded with zeros. No buffer is filled with them: most names are
-/// short.
+/// The word of the first 8 bytes, padded with zeros. No buffer is filled with them, since most
+/// names are short.
 #[inline(always)]
 pub(crate) fn first_word(bytes: &[u8]) -> u64
     ensures { result ≡ from_be_bytes w64 (padded 8 bytes.now) }
@@ -31,7 +31,7 @@ fn behind(bytes: &[u8]) -> &[u8]
     if bytes.len() <= 8 { &[] } else { &bytes[8..] }
 }
 
-/// The same word, where it is no name's only one: few are.
+/// `first_word` of a name's word if it has several. Few have, so it isn't inlined.
 #[inline(never)]
 fn further_word(bytes: &[u8]) -> u64
     ensures { result ≡ from_be_bytes w64 (padded 8 bytes.now) }
@@ -39,8 +39,8 @@ fn further_word(bytes: &[u8]) -> u64
     first_word(bytes)
 }
 
-/// The words of a name of more than 8 bytes. They are returned one by one, so that no name has its
-/// words in memory for the sake of the long ones.
+/// The words of a name of more than 8 bytes. They are returned one by one, so that short names
+/// don't go through memory.
 #[inline(always)]
 fn long_words_of(name: &[u8]) -> [u64; 4]
     ensures { result ≡ words_of name.now }
@@ -80,7 +80,7 @@ pub(crate) fn spread(words: &[u64; 4]) -> [u8; 32]
     bytes
 }
 
-/// How many bytes of 0 a word ends with.
+/// How many zero bytes a word ends with.
 #[inline(always)]
 pub(crate) fn zeros_behind(word: u64) -> usize
     ensures { result ≡ trailing_zeros w64 word / 8 }
@@ -88,7 +88,7 @@ pub(crate) fn zeros_behind(word: u64) -> usize
     (word.trailing_zeros() / 8) as usize
 }
 
-/// The length of the name in four words: only zeros follow it.
+/// The length of the name in four words, which ends before the padding zeros.
 #[inline(always)]
 pub(crate) fn size_of(words: &[u64; 4]) -> usize
     ensures short { result ≤ 32 }
@@ -112,13 +112,24 @@ pub(crate) fn size_of(words: &[u64; 4]) -> usize
 pub(crate) fn glance_at(words: &[u64; 4]) -> usize
     ensures { result < 256 }
 {
-    glance_of(words[0] ^ words[1] ^ words[2] ^ words[3])
+    (mixed(words) >> 56) as usize
 }
 
-/// The same for a word that is alone.
+/// A number below 256 for a name of one word.
 #[inline(always)]
 pub(crate) fn glance_of(word: u64) -> usize
     ensures { result < 256 }
 {
-    (word.wrapping_mul(0x9e37_79b9_7f4a_7c15) >> 56) as usize
+    (mixed_word(word) >> 56) as usize
+}
+
+/// A number for these words, of which the upper bits depend on all of theirs.
+#[inline(always)]
+pub(crate) fn mixed(words: &[u64; 4]) -> u64 {
+    mixed_word(words[0] ^ words[1] ^ words[2] ^ words[3])
+}
+
+#[inline(always)]
+fn mixed_word(word: u64) -> u64 {
+    word.wrapping_mul(0x9e37_79b9_7f4a_7c15)
 }

@@ -55,7 +55,7 @@ fn one_of<T: Copy>(draws: &mut Draws, choices: &[T]) -> T
     choices[draws.below(choices.len())]
 }
 
-/// Keys for a log: a key is the likelier the more often it stands here.
+/// Keys for a log: a key is the likelier the more often it occurs here.
 const KEYS: [[u8; 6]; 4] = [*b"aaabbc", *b"aabbcd", *b"aabcde", *b"abcdef"];
 
 /// Numbers of a starting store.
@@ -203,7 +203,7 @@ fn put_keys(text: &mut Vec<u8>, word: &[u8], keys: &[u8]) -> Result<(), NoMemory
     Ok(())
 }
 
-/// A transaction, which declares a key more than it names, now and then.
+/// A transaction, which now and then declares a key more than it names.
 fn put_txn(rt: &impl Abort, alloc: Global, text: &mut Vec<u8>, draws: &mut Draws, keys: &[u8; 6]) {
     let mut body = Vec::new(alloc);
     let mut named = Named {
@@ -249,7 +249,7 @@ pub fn put_txns(rt: &impl Abort, alloc: Global, text: &mut Vec<u8>, seed: u32, c
     }
 }
 
-/// The text of the first transactions, this many, of the log that the seed determines.
+/// The text of a log of this many transactions that the seed determines.
 pub fn drawn_text(rt: &impl Abort, alloc: Global, seed: u32, count: u32) -> Vec<u8> {
     let mut draws = Draws::new(seed);
     let keys = one_of(&mut draws, &KEYS);
@@ -262,7 +262,7 @@ pub fn drawn_text(rt: &impl Abort, alloc: Global, seed: u32, count: u32) -> Vec<
     text
 }
 
-/// The first transactions, this many, of the log that the seed determines.
+/// A log of this many transactions that the seed determines.
 pub fn drawn(rt: &impl Abort, alloc: Global, seed: u32, count: u32) -> Checked {
     checked(rt, alloc, drawn_text(rt, alloc, seed, count).as_slice())
 }

@@ -1,4 +1,4 @@
-//! Readers and writers in memory that fail when they are told to.
+//! Readers and writers in memory that fail on request.
 
 use std::alloc::Global;
 use std::io::{self, ErrorKind, Read, Write};
@@ -25,7 +25,7 @@ impl Failure {
         }
     }
 
-    /// What the next call meets. After the failure no other one comes.
+    /// The next call's result. The failure comes once.
     fn next(&mut self) -> io::Result<()> {
         match self.calls {
             None => Ok(()),
@@ -41,7 +41,7 @@ impl Failure {
     }
 }
 
-/// Hands out at most `most` of its bytes a call.
+/// Returns at most `most` of its bytes a call.
 #[derive(Drop)]
 pub struct FakeReader<'a> {
     pub bytes: &'a [u8],
@@ -57,7 +57,7 @@ impl Read for FakeReader<'_> {
     }
 }
 
-/// Keeps what it takes, at most `most` bytes a call.
+/// Stores what it accepts, at most `most` bytes a call.
 #[derive(Drop)]
 pub struct FakeWriter {
     pub taken: Vec<u8>,

@@ -10,7 +10,7 @@ use std::sync::atomic::{AtomicU64, Ordering};
 use std::thread;
 use std::thread::Threads;
 
-/// Holds the thread that gets to one point until some thread gets to one of the others.
+/// Holds the thread that reaches one point until some thread reaches one of the others.
 #[derive(Drop)]
 struct Hold {
     at: Point,
@@ -63,7 +63,7 @@ impl Gate for Holds<'_> {
     }
 }
 
-/// Each held thread saw what it waited for.
+/// Asserts that each held thread saw what it waited for.
 fn assert_seen(rt: &impl Abort, holds: &[Hold]) {
     for hold in holds {
         let seen = hold.seen.load(Ordering::SeqCst);
@@ -71,8 +71,8 @@ fn assert_seen(rt: &impl Abort, holds: &[Hold]) {
     }
 }
 
-/// A log with this many executing workers and batches of these sizes: each held thread saw what it
-/// waited for, and the log is answered so.
+/// Runs a log with this many executing workers and batches of these sizes, and asserts that each
+/// held thread saw what it waited for, and that the answer is this one.
 fn held_so<R: Abort + AllocGlobal + Threads + Wait + Sync + RandomSource>(
     rt: &R,
     log: &Checked,
@@ -105,7 +105,7 @@ set b = b + 1
 end
 ";
 
-/// Two workers on it, of which one is held.
+/// Runs it on two workers, of which one is held.
 fn two_held_so<R: Abort + AllocGlobal + Threads + Wait + Sync + RandomSource>(rt: &R, hold: Hold) {
     let log = checked(rt, rt.alloc(), APART);
     let answer = b"1 commit\n2 commit\n--\na 2\nb 2\n";
@@ -165,7 +165,7 @@ fn plan_beside(rt: HostRuntime) {
     held_so(&rt, &log, &[1, 2], "", &[executing, planning], answer);
 }
 
-/// Counts the claims and the ends.
+/// Counts the claims and the finished positions.
 #[derive(Drop)]
 struct Counts {
     claimed: AtomicU64,

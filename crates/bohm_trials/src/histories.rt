@@ -21,7 +21,7 @@ fn numbers(rt: &impl Abort, alloc: Global, words: &str) -> Vec<u32> {
     numbers
 }
 
-/// What a log cut in this way leaves with these settings.
+/// What a log in these batches leaves with these settings.
 fn left<R: Abort + Threads + Wait + Sync + RandomSource>(
     rt: &R,
     alloc: Global,
@@ -35,7 +35,7 @@ fn left<R: Abort + Threads + Wait + Sync + RandomSource>(
     told_with_versions(rt, alloc, &found.replies, &found.history)
 }
 
-/// Each row has the sizes of the batches, settings, and what is left.
+/// Asserts what each row leaves: it has the sizes of the batches, settings, and the result.
 fn leaves_so<R: Abort + AllocGlobal + Threads + Wait + Sync + RandomSource>(
     rt: &R,
     log: &Checked,
@@ -175,7 +175,7 @@ fn count_on<R: Abort + Threads + Wait + Sync + RandomSource>(
     applied
 }
 
-/// How many counters are applied and how many timestamps are kept.
+/// How many counters to apply, and how many timestamps to keep.
 fn counts(rt: &impl Abort, log: &str) -> (u32, Kept) {
     let (count, keep) = log.split_once(" keep ").expect(rt, "a log");
     let count = count.parse::<u32>().ok().expect(rt, "a count");
@@ -183,8 +183,8 @@ fn counts(rt: &impl Abort, log: &str) -> (u32, Kept) {
     (count, Kept::new(keep))
 }
 
-/// What a row's logs leave one after another, each as how many counters are applied and how many
-/// timestamps are kept.
+/// What a row's logs leave, applied one after another; each is how many counters to apply, and how
+/// many timestamps to keep.
 fn left_in_turn<R: Abort + Threads + Wait + Sync + RandomSource>(
     rt: &R,
     alloc: Global,

@@ -18,7 +18,7 @@ const ANSWER: &[u8] = b"1 commit 5\n--\na 6\n";
 /// The defaults, and small batches on two workers.
 const TWICE: [&str; 2] = ["", "exec 2 batch 1"];
 
-/// What the log is refused for where this writer takes the answer.
+/// The fault of a run of the log with this writer.
 fn fault_at<R: AllocGlobal + Threads + Wait + Sync + RandomSource>(
     rt: &R,
     writer: &mut FakeWriter,
@@ -28,7 +28,7 @@ fn fault_at<R: AllocGlobal + Threads + Wait + Sync + RandomSource>(
     run_text(rt, rt.alloc(), &mut unread, writer, settings).err()
 }
 
-/// What comes of a reader that hands out a byte a call and fails at one of its calls.
+/// The result of a reader that returns a byte a call and fails at one of its calls.
 fn read_failing<R: Abort + AllocGlobal + Threads + Wait + Sync + RandomSource>(
     rt: &R,
     failure: Failure,
@@ -69,7 +69,7 @@ fn readers_fail_at_each_call(rt: HostRuntime) {
     }
 }
 
-// The whole log, and its answer, with at most this many bytes a call.
+// Asserts that the whole log is read and its answer written, with at most this many bytes a call.
 fn passes<R: Abort + AllocGlobal + Threads + Wait + Sync + RandomSource>(
     rt: &R,
     most: usize,

@@ -31,19 +31,19 @@ fn source_of(rt: &impl Abort, plan: &Plan, txns: &LogPart<'_>, t: u32) -> Source
     plan.read(t, 0)
 }
 
-// Asserts from where the transaction takes what its first declared read has.
+// Asserts the source of the transaction's first declared read.
 fn assert_source(rt: &impl Abort, plan: &Plan, txns: &LogPart<'_>, t: u32, want: Source)
     requires { ∥ IsRightPlan txns.now plan.now ∥₁ }
 {
     assert_eq!(rt; source_of(rt, plan, txns, t), want);
 }
 
-// Asserts which transactions a plan is of: from which timestamp on, and how many.
+// Asserts the extent of a plan: its first timestamp, and the number of its transactions.
 fn assert_extent(rt: &impl Abort, plan: &Plan, want: (u32, u32)) {
     assert_eq!(rt; (plan.first(), plan.len()), want);
 }
 
-// Plans the batch that comes next, and sends the plan.
+// Plans the next batch, and sends the plan.
 fn send_plan<L: Line, R: Abort + Threads + Wait + Sync>(
     rt: &R,
     alloc: Global,

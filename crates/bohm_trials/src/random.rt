@@ -1,4 +1,4 @@
-//! Drawn logs, each on drawn settings, against running their transactions one after another.
+//! Drawn logs, each with drawn settings, against a serial run.
 
 ghost use Rattle.std.specs.Prelude.{◌<◌};
 
@@ -14,7 +14,7 @@ use std::random::RandomSource;
 use std::sync::Wait;
 use std::thread::Threads;
 
-/// The replies, and after them the store after each count of transactions from this one on.
+/// The replies, followed by the store after each number of transactions from this one on.
 fn serially(rt: &impl Abort, alloc: Global, seed: u32, len: u32, floor: u32) -> Vec<u8> {
     let mut text = serial_replies(rt, alloc, seed, len);
     for count in floor..=len {
@@ -25,7 +25,7 @@ fn serially(rt: &impl Abort, alloc: Global, seed: u32, len: u32, floor: u32) -> 
     text
 }
 
-/// The replies to the first transactions, this many.
+/// The replies to this many first transactions.
 fn serial_replies(rt: &impl Abort, alloc: Global, seed: u32, len: u32) -> Vec<u8> {
     let log = drawn(rt, alloc, seed, len);
     let answer = bohm_serial::run(alloc, &log).expect(rt, "memory");
@@ -39,7 +39,7 @@ fn serial_store(rt: &impl Abort, alloc: Global, seed: u32, len: u32) -> Vec<u8> 
     print_store(alloc, answer.store.as_slice()).expect(rt, "memory")
 }
 
-/// What a run left is what the plain program leaves.
+/// Asserts that a run left what the plain program leaves.
 fn assert_left(
     rt: &impl Abort,
     alloc: Global,
@@ -88,7 +88,7 @@ fn drawn_logs(rt: HostRuntime) {
     }
 }
 
-/// What the drawn logs come to is of every kind.
+/// The drawn logs have results of every kind.
 #[test]
 fn drawn_ends(rt: HostRuntime) {
     let mut text = Vec::new(rt.alloc());

@@ -1,4 +1,4 @@
-//! Logs and settings from their text, runs, and what they tell.
+//! Logs and settings from their text, runs, and their results as text.
 
 use bohm_exec::Gate;
 use bohm_run::{Answer, ByteSum, Cuts, Settings, run};
@@ -17,7 +17,7 @@ pub fn checked(rt: &impl Abort, alloc: Global, text: &[u8]) -> Checked {
     check(doc).expect(rt, "a document")
 }
 
-/// The opening, and after it the transaction as often as this.
+/// The opening, followed by the transaction this many times.
 pub fn repeated(rt: &impl Abort, alloc: Global, opening: &[u8], txn: &[u8], count: u32) -> Vec<u8> {
     let mut text = Vec::from_slice(alloc, opening).expect(rt, "memory");
     for _ in 0..count {
@@ -29,7 +29,7 @@ pub fn repeated(rt: &impl Abort, alloc: Global, opening: &[u8], txn: &[u8], coun
 /// Shows `a` and counts it up.
 const COUNTER: &[u8] = b"txn\nreads a\nwrites a\nshow a\nset a = a + 1\nend\n";
 
-/// Counts `a` up from 0, so often.
+/// Increments `a` from 0, this many times.
 pub fn counters(rt: &impl Abort, alloc: Global, count: u32) -> Checked {
     let text = repeated(rt, alloc, b"log 1\na 0\n", COUNTER, count);
     checked(rt, alloc, text.as_slice())
@@ -60,7 +60,7 @@ pub fn cuts(rt: &impl Abort, alloc: Global, sizes: &[u32]) -> Cuts {
     Cuts::new(sizes).expect(rt, "sizes")
 }
 
-/// The run of a log in batches of this cutting, whatever size of batches the settings say.
+/// The run of a log in these batches, whatever batch size the settings have.
 pub fn ran<G: Gate, R: Abort + Threads + Wait + Sync + RandomSource>(
     rt: &R,
     alloc: Global,
@@ -77,7 +77,7 @@ pub fn ran<G: Gate, R: Abort + Threads + Wait + Sync + RandomSource>(
     answer.expect(rt, "memory")
 }
 
-/// What the plain program answers.
+/// The plain program's answer.
 pub fn serially(rt: &impl Abort, alloc: Global, checked: &Checked) -> Vec<u8> {
     let answer = bohm_serial::run(alloc, checked);
     let bohm_serial::Answer { replies, store } = answer.expect(rt, "memory");
@@ -91,7 +91,7 @@ fn put_store(rt: &impl Abort, alloc: Global, text: &mut Vec<u8>, store: &[(Key, 
         .expect(rt, "memory");
 }
 
-/// The replies, and after them the store of each timestamp from the floor to the top.
+/// The replies, followed by the store at each timestamp from the floor to the top.
 pub fn told(rt: &impl Abort, alloc: Global, replies: &Replies, history: &History) -> Vec<u8> {
     let mut text = print_replies(alloc, replies).expect(rt, "memory");
     for ts in history.floor()..=history.top() {
@@ -101,7 +101,7 @@ pub fn told(rt: &impl Abort, alloc: Global, replies: &Replies, history: &History
     text
 }
 
-/// What a run with this gate tells.
+/// The result, as text, of a run with this gate.
 pub fn run_told<G: Gate, R: Abort + Threads + Wait + Sync + RandomSource>(
     rt: &R,
     alloc: Global,
@@ -114,7 +114,7 @@ pub fn run_told<G: Gate, R: Abort + Threads + Wait + Sync + RandomSource>(
     told(rt, alloc, &replies, &history)
 }
 
-/// The floor, the top and the number of versions, and after them the replies and the stores.
+/// The floor, the top and the number of versions, followed by the replies and the stores.
 pub fn told_with_versions(
     rt: &impl Abort,
     alloc: Global,

@@ -1,4 +1,4 @@
-//! A whole batch in one chain, whose claims are held at random.
+//! A whole batch in one chain, whose claims are held for random times.
 
 use crate::runs::{counters, cuts, run_told, serially, settings};
 use bohm_exec::{Gate, Point};
@@ -19,7 +19,7 @@ struct Delays {
     claims: AtomicU64,
 }
 
-/// How many turns a claim is held: few mostly, and now and then many.
+/// How many turns a claim is held: mostly few, now and then many.
 fn turns(round: u64, t: u32) -> u64 {
     let mixed = (round << 32 | u64::from(t)).wrapping_mul(0x9e37_79b9_7f4a_7c15);
     let drawn = mixed >> 48;

@@ -19,8 +19,8 @@ const READERS: [&str; 3] = ["cc 1", "cc 2 batch 3", "cc 3 exec 2"];
 /// Bytes of a window.
 const SIZES: [usize; 3] = [100, 300, 4096];
 
-/// What stands between drawn transactions: nothing, a transaction that fails the check, one with a
-/// bad line, one that isn't ended, and a line that stands in no transaction.
+/// What is inserted between drawn transactions: nothing, a transaction that fails the check, one
+/// with a bad line, one without its end, and a line outside of transactions.
 const PIECES: [&[u8]; 5] = [
     b"",
     b"txn\nreads\nwrites\nshow q\nend\n",
@@ -29,7 +29,7 @@ const PIECES: [&[u8]; 5] = [
     b"end\n",
 ];
 
-/// What the plain program answers, or why the text is refused.
+/// The plain program's answer, or why the text is refused.
 fn plainly(rt: &impl Abort, alloc: Global, text: &[u8]) -> Result<Vec<u8>, RunFault> {
     let doc = parse(alloc, text)?;
     let checked = check(doc)?;

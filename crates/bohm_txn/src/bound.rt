@@ -7,7 +7,7 @@ ghost use Rattle.bohm_txn.specs.Rows.{AreNoted, binds_at};
 
 use bohm_log::{Action, StmtRow};
 
-/// Of how many names it is noted whether they are bound. Others are sought.
+/// How many names have a note whether they are bound. For others the statements are searched.
 const NOTED: usize = 64;
 
 /// Whether each of the first names is bound.
@@ -16,7 +16,7 @@ pub struct Bound {
     noted: [bool; NOTED],
 }
 
-/// The names are compared first: most rows have another one.
+/// The names are compared first, since most rows have another one.
 fn binds(row: &StmtRow, place: u32) -> bool
     ensures { result ≡ binds_at place row.now }
 {
@@ -39,7 +39,7 @@ impl Bound {
         }
     }
 
-    /// Takes the next statement in.
+    /// Notes the next statement.
     pub fn note(&mut self, row: &StmtRow)
         ensures { (rows : List StmtRow) → AreNoted self.old.noted rows
             → AreNoted self.new.noted (rows ++ row.now ∷ []) }
@@ -49,7 +49,7 @@ impl Bound {
         }
     }
 
-    /// Whether one of the statements so far binds the name at a place.
+    /// Whether one of the statements so far binds the name at an index.
     pub fn binds(&self, before: &[StmtRow], place: u32) -> bool
         requires { AreNoted self.now.noted before.now }
         ensures { result ≡ list_any (binds_at place) before.now }

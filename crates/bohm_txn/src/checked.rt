@@ -60,6 +60,13 @@ impl Checked {
         self.doc.push_call(template, buffer, keys, values)
     }
 
+    /// Removes the store and all transactions. Room is kept for others.
+    pub fn clear(&mut self)
+        ensures { self.new ≡ empty_document self.old.edition }
+    {
+        self.doc.clear();
+    }
+
     /// The document.
     pub fn doc(&self) -> &Doc
         ensures { result.now ≡ self.now }

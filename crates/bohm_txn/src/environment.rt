@@ -16,8 +16,7 @@ use bohm_log::{AtomKind, PlacedTxn, TermRow};
 use bohm_tree::{Cell, Cmp, Key, Value};
 use std::cmp::Ordering;
 
-/// What a statement sees: the terms of its transaction, the cells of the declared reads, and the
-/// locals.
+/// What a statement sees: its transaction's terms, the cells of the declared reads, and the locals.
 #[derive(Clone, Copy)]
 pub struct Environment<'a> {
     pub txn: &'a PlacedTxn<'a>,
@@ -35,7 +34,7 @@ fn last_bound<'a>(locals: &'a [(Key, Value)], name: &Key) -> Option<&'a (Key, Va
     locals.iter().rev().find(|local| local.0 == *name)
 }
 
-/// The value that was bound last to a name, or 0.
+/// The value last bound to a name, or 0.
 fn local_among(locals: &[(Key, Value)], name: &Key) -> Value
     ensures { result ≡ newest locals.now name.now (pos 0) }
 {
@@ -71,7 +70,7 @@ fn number_in(cell: Cell) -> Option<i128>
 impl Environment<'_> {
     ghost use Rattle.bohm_txn.specs.Seeing.{cond_between, look_of};
 
-    /// The number of a term's atom, if its key isn't missing.
+    /// The number of a term's atom, unless its key is missing.
     fn atom(&self, term: TermRow) -> Option<i128>
         requires { TermIn self.now.txn.now term }
         ensures value { result
@@ -143,7 +142,7 @@ impl Environment<'_> {
         }
     }
 
-    /// Whether a comparison of two sums, one after the other, holds.
+    /// Whether a comparison holds between two sums, which follow one another.
     pub fn holds(&self, cmp: Cmp, from: u32, middle: u32, to: u32) -> Result<bool, Reason>
         requires left { from ≤ middle }
         requires right { middle ≤ to }
@@ -159,7 +158,7 @@ impl Environment<'_> {
         Ok(compares(cmp, left.get().cmp(&right.get())))
     }
 
-    /// The cell of a key that is tested, at its place among the reads if it is declared.
+    /// The cell of a key that is tested; the index is among the reads if it is declared.
     fn cell(&self, declared: bool, place: u32) -> Cell
         requires { KeyIn self.now.txn.now.reads self.now.txn.now.others declared place }
         ensures { result

@@ -12,10 +12,10 @@ use bohm_log::TxnView;
 use bohm_tree::Cell;
 
 /// Runs a transaction over any store in which its declared reads have the cells `reads` and, unless
-/// it is sure, its declared writes have the cells `earlier`. It leaves in the scratch the cells of
-/// the declared writes after the transaction, and the shown values. It allocates nothing.
+/// it is sure, its declared writes have the cells `earlier`. Afterwards the scratch has the cells
+/// of the declared writes after the transaction, and the shown values. It allocates nothing.
 ///
-/// Its time grows with the terms of the body. A term has its key's place; a local is searched for
+/// The time grows with the terms of the body. A term has its key's index; a local is searched for
 /// among those that are bound.
 pub fn eval(txn: &TxnView<'_>, reads: &[Cell], earlier: &[Cell], scratch: &mut Scratch) -> Outcome
     requires well { IsWellFormedTxn txn.now }

@@ -12,12 +12,13 @@ pub enum CheckKind {
     /// A statement reads a local that no earlier one binds, or binds a name that an earlier one
     /// binds.
     Local,
-    /// A log has over 1,000,000 transactions, a transaction over 64 statements or 16 reads, writes
-    /// or shown values, or a sum over 16 terms.
+    /// A log has more than 1,000,000 transactions, a transaction more than 64 statements or 16
+    /// reads, writes or shown values, or a sum more than 16 terms.
     Limit,
 }
 
-/// A document's first fault: transaction 0 is the document as a whole, statement 0 a transaction's.
+/// A document's first fault. Transaction 0 is the document as a whole, statement 0 a transaction's
+/// sets and counts.
 #[derive(Clone, Copy, Debug, PartialEq, Eq)]
 pub struct CheckFault {
     pub txn: u32,

@@ -37,7 +37,7 @@ pub fn is_store_rising(store: &[(Key, Value)]) -> bool
     store.is_sorted_by(|entry, next| entry.0 < next.0)
 }
 
-/// Whether it shows too many values. With few statements it doesn't: none are counted then.
+/// Whether it shows too many values. Few statements can't, so they aren't counted.
 fn shows_many(txn: &TxnView<'_>) -> bool
     ensures { result ≡ not (nat_le (shows_in txn.now.body) 16) }
 {
@@ -54,7 +54,7 @@ pub fn is_large(txn: &TxnView<'_>) -> bool
         || shows_many(txn)
 }
 
-/// The least kind of fault of a statement that stands after these others.
+/// The least kind of fault of a statement that follows these others.
 fn stmt_fault(
     txn: &PlacedTxn<'_>,
     before: &[StmtRow],

@@ -1,5 +1,5 @@
-//! The check of a document whose transactions come in chunks. The store is first, then chunk after
-//! chunk, then the end.
+//! The check of a document whose transactions come in chunks: first of the store, then of each
+//! chunk, then of the whole.
 
 ghost use Rattle.std.specs.Prelude.{◌≡◌, ◌+◌, ◌++◌, ◌≤◌, None, length, All, IfSome};
 ghost use Rattle.bohm_tree.specs.Document.{Document};
@@ -34,11 +34,12 @@ pub fn check_store(store: &[(Key, Value)]) -> Option<CheckFault>
     }
 }
 
-/// The first fault of a document with the transactions of a chunk after this many others, of which
-/// this fault was found. Where there are more than a log may have, nothing is promised.
+/// The first fault of a document extended by a chunk, given the number of transactions before the
+/// chunk and the first fault among them. Above the most transactions of a log the result is
+/// unspecified.
 ///
-/// Its time grows with the number of the chunk's keys, terms and statements, and is constant where a
-/// fault was found before.
+/// The time grows with the number of the chunk's keys, terms and statements, and is constant after
+/// a fault.
 pub fn check_more(
     count: usize,
     found: Option<CheckFault>,
@@ -64,8 +65,8 @@ pub fn check_more(
     })
 }
 
-/// The first fault of a document of this many transactions, of whose store this fault was found,
-/// and of its transactions this one.
+/// The first fault of a document, given its number of transactions, its store's fault and the first
+/// fault of its transactions.
 pub fn check_end(
     in_store: Option<CheckFault>,
     count: usize,

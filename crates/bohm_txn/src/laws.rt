@@ -39,7 +39,7 @@ pub fn same_body()
         → body look t ≡ body other t }
 {}
 
-/// It changes its declared writes alone.
+/// The body changes only its declared writes.
 pub fn unwritten_stay()
     ensures { (t : Txn) (look : Look) (k : List ℕ) → IsWellFormedTxn t → ¬ IsAmong t.writes k
         → after look t k ≡ look k }
@@ -57,7 +57,7 @@ pub fn shows_are_counted()
         → length run.shows ≡ shows_in t.body }
 {}
 
-/// Where the body does the same, a key that holds the same before holds the same afterwards.
+/// If the body has the same result, a key that holds the same before holds the same afterwards.
 pub fn same_cell_after()
     ensures { (t : Txn) (look other : Look) (k : List ℕ) → body look t ≡ body other t
         → look k ≡ other k → after look t k ≡ after other t k }
@@ -68,12 +68,12 @@ pub fn sure_commits()
     ensures { (t : Txn) (look : Look) → IsSure t → (run : Run) × (body look t ≡ Ok run) }
 {}
 
-/// Over every store a sure transaction's body does the same.
+/// A sure transaction's body has the same result over every store.
 pub fn sure_body_is_same()
     ensures { (t : Txn) (look other : Look) → IsSure t → body look t ≡ body other t }
 {}
 
-/// After a sure transaction its declared writes hold the same, whatever stood before.
+/// After a sure transaction its declared writes hold the same, whatever they held before.
 pub fn sure_cells_are_same()
     ensures { (t : Txn) (look other : Look) → IsSure t
         → map (after look t) t.writes ≡ map (after other t) t.writes }
@@ -85,12 +85,12 @@ pub fn store_has_last_state()
         → cell_in (store_after s ts) ≡ state (cell_in s) ts (length ts) }
 {}
 
-/// Two stores whose keys hold the same are one.
+/// Two stores in which each key holds the same are equal.
 pub fn same_cells_same_store()
     ensures { (s r : Store) → ((k : List ℕ) → cell_in s k ≡ cell_in r k) → s ≡ r }
 {}
 
-/// The next state is what the next transaction makes of the one before.
+/// Each state is what a transaction makes of the state before it.
 pub fn next_state()
     ensures { (look : Look) (ts : List Txn) (i : ℕ) (t : Txn) → slice_get ts i ≡ Some t
         → state look ts (suc i) ≡ after (state look ts i) t }

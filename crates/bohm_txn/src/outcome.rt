@@ -5,21 +5,21 @@ use bohm_tree::{Items, Value};
 /// Why a transaction aborts.
 #[derive(Clone, Copy, Debug, PartialEq, Eq)]
 pub enum Reason {
-    /// A comparison is false, or a key is missing or there that must not be.
+    /// A comparison is false, or a key is missing or present contrary to a test.
     Need,
-    /// The body says so.
+    /// A `fail` was reached.
     Fail,
     /// A sum reads a missing key.
     Absent,
-    /// A sum's total is no value.
+    /// A sum's total isn't a value.
     Range,
 }
 
-/// Whether a transaction took effect.
+/// Whether a transaction commits.
 #[derive(Clone, Copy, Debug, PartialEq, Eq)]
 pub enum Outcome {
     Commit,
-    /// The first statement that fails, counted from 1, and why it does.
+    /// The first statement that fails, counted from 1, and why.
     Abort { reason: Reason, stmt: u32 },
 }
 
@@ -28,6 +28,6 @@ pub enum Outcome {
 pub enum Reply {
     /// The shown values, in the order of the statements.
     Commit { shows: Items<Value> },
-    /// The first statement that fails, counted from 1, and why it does.
+    /// The first statement that fails, counted from 1, and why.
     Abort { reason: Reason, stmt: u32 },
 }

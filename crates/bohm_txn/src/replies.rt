@@ -15,19 +15,19 @@ use std::marker::Model;
 pub enum ReplyView<'a> {
     /// The shown values, in the order of the statements.
     Commit { shows: &'a [Value] },
-    /// The first statement that fails, counted from 1, and why it does.
+    /// The first statement that fails, counted from 1, and why.
     Abort { reason: Reason, stmt: u32 },
 }
 
-/// How a transaction ended, and where its shows lie among all of them.
+/// A transaction's outcome, and where its shown values are among all of them.
 #[derive(Clone, Copy, Debug)]
 pub enum ReplyRow {
     Commit { start: usize, end: usize },
     Abort { reason: Reason, stmt: u32 },
 }
 
-/// Replies in log order, which contracts see as a list of them. They lie in two vectors, one of a
-/// small row for each reply and one of all shown values, so that a reply takes no allocation.
+/// Replies in log order, which contracts see as a list of them. They are stored in two vectors, one
+/// of a small row for each reply and one of all shown values, so a reply needs no allocation.
 #[derive(Debug, Drop)]
 pub struct Replies {
     rows: Vec<ReplyRow>,
@@ -47,7 +47,7 @@ impl Model for Replies {
     ghost invariant = { λ r. All (IsInside r.values.items) r.rows.items };
 }
 
-/// The reply that a row is of.
+/// The reply of a row.
 fn lent<'a>(values: &'a [Value], row: ReplyRow) -> ReplyView<'a>
     requires { IsInside values.now row }
     ensures { reply_shown result ≡ reply_by values.now row }
@@ -95,7 +95,7 @@ impl Replies {
         }
     }
 
-    /// Makes room for this many replies more, apart from the values that they show.
+    /// Reserves capacity for this many more replies, apart from the values that they show.
     pub fn reserve(&mut self, more: usize) -> Result<(), NoMemory>
         ensures { self.new ≡ self.old }
     {

@@ -1,4 +1,4 @@
-//! A list with capacity made before.
+//! A list with fixed capacity.
 
 ghost use Rattle.std.specs.Prelude.{◌≡◌, ◌<◌, ◌≤◌, [], ◌∷◌, ◌++◌, length};
 ghost use Rattle.std.specs.Prelude.{IfOk, slice_set};
@@ -6,7 +6,7 @@ ghost use Rattle.std.specs.Prelude.{IfOk, slice_set};
 use std::alloc::{AllocError, Global};
 use std::marker::Model;
 
-/// Values, and room for some number of them.
+/// Values in a list with fixed capacity.
 #[derive(Debug, Drop)]
 pub struct Room<T> {
     values: Vec<T>,
@@ -55,7 +55,7 @@ impl<T> Room<T> {
         self.values.clear();
     }
 
-    /// Puts these values in place of those that it holds.
+    /// Replaces its values by these.
     pub fn copy_from(&mut self, values: &[T])
     where
         T: Copy + Drop,

@@ -51,7 +51,7 @@ fn writes_key(row: &StmtRow) -> bool
     )
 }
 
-/// Whether a term reads no key that isn't declared.
+/// Whether a term, if it reads a key, reads a declared one.
 fn is_declared(term: &TermRow) -> bool
     ensures { result ≡ is_declared term.now.kind }
 {
@@ -84,7 +84,7 @@ pub fn is_unwritten(txn: &PlacedTxn<'_>, row: &StmtRow) -> bool
     writes_key(row) && !row.declared
 }
 
-/// Whether one of these statements binds the name at a place. Equal names stand at one place.
+/// Whether one of these statements binds the name at an index. Equal names have one index.
 #[tactic(auto, using(crate::proofs::Placing::bound_at))]
 fn is_bound(txn: &PlacedTxn<'_>, before: &[StmtRow], noted: &Bound, place: u32) -> bool
     requires inside { place < length txn.now.others }
@@ -97,7 +97,7 @@ fn is_bound(txn: &PlacedTxn<'_>, before: &[StmtRow], noted: &Bound, place: u32) 
     noted.binds(before, place)
 }
 
-/// Whether a term reads no local, or one that these statements bind.
+/// Whether a term, if it reads a local, reads one that these statements bind.
 fn is_defined(txn: &PlacedTxn<'_>, before: &[StmtRow], noted: &Bound, term: &TermRow) -> bool
     requires term { TermIn txn.now term.now }
     requires before { All (RowIn txn.now) before.now }
@@ -143,8 +143,8 @@ fn rebinds(txn: &PlacedTxn<'_>, before: &[StmtRow], noted: &Bound, row: &StmtRow
     }
 }
 
-/// Whether the statement reads a local that none of the statements before it binds, or binds a name
-/// that one of them binds.
+/// Whether the statement reads a local that no statement before it binds, or binds a name that one
+/// of them binds.
 #[tactic(auto, using(crate::proofs::Placing::all_flat))]
 pub fn is_misnamed(txn: &PlacedTxn<'_>, before: &[StmtRow], noted: &Bound, row: &StmtRow) -> bool
     requires row { RowIn txn.now row.now }

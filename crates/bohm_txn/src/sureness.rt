@@ -9,15 +9,15 @@ ghost use Rattle.bohm_txn.specs.Sure.{is_sure_sum, is_sure_stmt, is_target, is_s
 use bohm_log::{Action, AtomKind, PlacedTxn, StmtRow, TermRow, TxnView};
 use bohm_tree::Key;
 
-/// The totals of a sum's literals: of those that it adds, and of those that it takes away.
-/// They have room for as many literals as a sum can have.
+/// The totals of a sum's literals: of those that it adds, and of those that it subtracts. Both have
+/// enough bits for as many literals as a sum can have.
 #[derive(Clone, Copy)]
 struct Literals {
     added: u128,
     taken: u128,
 }
 
-/// How many values are below zero.
+/// The number of values below zero.
 const NEGATIVE_VALUES: u128 = 9_223_372_036_854_775_808;
 
 impl Literals {
@@ -42,7 +42,7 @@ impl Literals {
         }
     }
 
-    /// The literals of some terms, if they have nothing else.
+    /// The literals of some terms, if they have only literals.
     fn of(txn: &PlacedTxn<'_>, terms: &[TermRow]) -> Option<Literals>
         requires { All (TermIn txn.now) terms.now }
         ensures value { result ≡ literals_from none_yet (map (term_of txn.now) terms.now) }
@@ -131,8 +131,8 @@ fn are_targets(txn: &TxnView<'_>) -> bool
 }
 
 /// Whether the transaction commits over every store, with the same cells: its body has only `set`
-/// without a guard, `drop` and `show`, its sums have only literals and are in range, and each
-/// declared write is the target of a statement. Its time grows with the terms of the body, and with
+/// without a guard, `drop` and `show`; its sums have only literals and are in range; and each
+/// declared write is the target of a statement. The time grows with the terms of the body, and with
 /// its statements times the declared writes.
 pub fn sure(txn: &TxnView<'_>) -> bool
     ensures { result ≡ is_sure txn.now }

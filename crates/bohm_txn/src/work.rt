@@ -17,7 +17,7 @@ use bohm_log::{Action, PlacedTxn, StmtRow};
 use bohm_tree::{Cell, Edition, Key, MOST_KEYS, MOST_SHOWS, MOST_STMTS, NoMemory, Value};
 use std::alloc::Global;
 
-/// What the statements so far did, with room for what a well-formed transaction does.
+/// The effects of the statements so far, with capacity for those of any well-formed transaction.
 #[derive(Debug, Drop)]
 pub struct Work {
     /// The values that are bound.
@@ -30,7 +30,7 @@ pub struct Work {
     pub shows: Room<Value>,
 }
 
-/// Goes on where it holds.
+/// Fails unless it holds.
 fn need(holds: bool) -> Result<(), Reason>
     ensures { MatchResult result (λ _. holds ≡ true)
         (λ reason. (holds ≡ false) × (reason ≡ reasons.Need)) }
@@ -69,8 +69,8 @@ impl Work {
         }
     }
 
-    /// Writes what later statements see of the key at a place among the declared writes, where it
-    /// is declared to be read.
+    /// Writes the cell that later statements see of a key, given by its index among the declared
+    /// writes, if it is declared to be read.
     fn write_seen(&mut self, txn: &PlacedTxn<'_>, place: u32, cell: &Cell)
         requires sized { length self.old.seen.0 ≡ length txn.now.reads }
         requires place { place < length txn.now.writes }
@@ -86,7 +86,7 @@ impl Work {
         }
     }
 
-    /// Writes the cell of the key at a place among the declared writes: in edition two, later
+    /// Writes the cell of the key at an index among the declared writes. In edition two later
     /// statements see it.
     fn write(&mut self, edition: Edition, txn: &PlacedTxn<'_>, place: u32, cell: Cell)
         requires sized { IsSized (txn_of edition txn.now) self.old }
@@ -105,7 +105,7 @@ impl Work {
         }
     }
 
-    /// Runs one statement; or why it fails.
+    /// Runs one statement. The error says why it fails.
     fn perform(
         &mut self,
         edition: Edition,
@@ -165,7 +165,7 @@ impl Work {
         self.shows.clear();
     }
 
-    /// Runs the body; or why, and at which statement, it fails.
+    /// Runs the body. The error says why, and at which statement, it fails.
     pub fn run(
         &mut self,
         edition: Edition,
@@ -193,7 +193,7 @@ impl Work {
         Ok(())
     }
 
-    /// Takes back all that was done: these are the cells as before.
+    /// Undoes all effects: these are the cells before.
     pub fn take_back(&mut self, before: &[Cell])
         requires room { IsRoomy self.old }
         requires few { length before.now ≤ 16 }

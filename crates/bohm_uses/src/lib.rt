@@ -1,4 +1,4 @@
-//! A caller of `bohm`, and of nothing below it.
+//! A caller of `bohm` alone.
 #![tactic(auto)]
 
 ghost use Rattle.std.specs.Prelude.{◌≡◌, IfOk};
@@ -7,7 +7,7 @@ ghost use Rattle.bohm.specs.Print.{print_doc};
 ghost use Rattle.bohm.specs.Serial.{state};
 ghost use Rattle.bohm.specs.Stores.{cell_in, store_of};
 
-use bohm::{Cell, CheckFault, Key, NoMemory, PastFault, Settings, TextFault};
+use bohm::{Cell, CheckFault, DrawnSeed, Key, NoMemory, PastFault, Settings, TextFault};
 use std::alloc::Global;
 use std::random::RandomSource;
 use std::sync::Wait;
@@ -38,7 +38,7 @@ pub fn value_at<R: Threads + Wait + Sync + RandomSource>(
     ensures { IfOk result (λ cell. (document : Document) × (print_doc document ≡ text.now)
         × (cell ≡ state (cell_in (store_of document.store)) document.log ts key.now)) }
 {
-    let doc = bohm::parse(alloc, text)?;
+    let doc = bohm::parse_with_seed(alloc, DrawnSeed::draw(rt), text)?;
     let checked = bohm::check(doc)?;
     let answer = bohm::run(rt, alloc, &checked, Settings::default())?;
     let cell = answer.history.value_at(key, ts)?;

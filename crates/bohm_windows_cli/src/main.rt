@@ -1,15 +1,33 @@
-//! The program with windows of a given size. Tests run it on the worked logs: the first argument is
-//! the size in bytes, and options of the program follow it.
+//! The program in two other ways, which tests run. After a number of bytes it runs a log in windows of
+//! that size. After the word `machine` it runs a log without a store as a segment of a new machine, on
+//! workers. Options of the program follow.
 #![tactic(auto)]
 
 use bohm_command::{NoAnswer, WordFault, exit_code, tell, without_request, words_given};
-use bohm_run::{Settings, run_text_in_windows};
-use std::io;
+use bohm_log::DrawnSeed;
+use bohm_machine::{Machine, SegmentFault};
+use bohm_run::{Applied, RunFault, Settings, read_log, run_text_in_windows, write_all};
+use bohm_store::StoreFault;
+use bohm_text::print_answer;
+use std::alloc::Global;
+use std::io::{self, Read, Write};
 use std::process::ExitCode;
+use std::random::RandomSource;
+use std::sync::Wait;
+use std::thread::Threads;
+
+/// How the log is run.
+#[derive(Clone, Copy)]
+enum Way {
+    /// In windows of so many bytes.
+    Windows(usize),
+    /// As a segment of a machine.
+    Machine,
+}
 
 /// What the arguments ask for.
 struct Request {
-    size: usize,
+    way: Way,
     settings: Settings,
 }
 
@@ -19,9 +37,17 @@ fn number_of(words: &[String], name: &str) -> Option<u32> {
     words.get(at.saturating_add(1))?.parse::<u32>().ok()
 }
 
+fn read_way(word: &str) -> Option<Way> {
+    if word == "machine" {
+        return Some(Way::Machine);
+    }
+    let size = word.parse::<u32>().ok()?;
+    Some(Way::Windows(size as usize))
+}
+
 /// The request of these arguments, with the defaults of absent options.
 fn read_request(words: &[String]) -> Option<Request> {
-    let size = words.first()?.parse::<u32>().ok()?;
+    let way = read_way(words.first()?.as_str())?;
     let settings = Settings::new(
         number_of(words, "--cc").unwrap_or(1),
         number_of(words, "--exec").unwrap_or(1),
@@ -30,33 +56,65 @@ fn read_request(words: &[String]) -> Option<Request> {
         number_of(words, "--keep").unwrap_or(0),
         number_of(words, "--at"),
     )?;
-    Some(Request {
-        size: size as usize,
-        settings,
-    })
+    Some(Request { way, settings })
 }
 
 fn request_given(rt: &HostRuntime) -> Result<Request, WordFault> {
     let words = words_given(rt, "bohm_windows_cli")?;
     match read_request(words.as_slice()) {
         Some(request) => Ok(request),
-        None => Err(WordFault::Bad(format!(in rt.alloc(); "windows of how many bytes?\n")?)),
+        None => Err(WordFault::Bad(format!(in rt.alloc();
+            "windows of how many bytes, or machine?\n"
+        )?)),
     }
+}
+
+/// The replies, and the store that the machine holds.
+fn answer(alloc: Global, machine: &Machine, applied: Applied) -> Result<Vec<u8>, RunFault> {
+    let Applied { replies, end } = applied;
+    end?;
+    let store = match machine.store_at(alloc, machine.top()) {
+        Ok(store) => store,
+        Err(StoreFault::Trimmed) => return Err(RunFault::Trimmed),
+        Err(StoreFault::Future) => return Err(RunFault::Future),
+        Err(StoreFault::NoMemory) => return Err(RunFault::NoMemory),
+    };
+    Ok(print_answer(alloc, &replies, store.as_slice())?)
+}
+
+/// Runs the log that the reader holds as a segment of a new machine, and writes its answer.
+fn run_on_machine<T: Threads + Wait + Sync + RandomSource, R: Read, W: Write>(
+    rt: &T,
+    alloc: Global,
+    reader: &mut R,
+    writer: &mut W,
+    settings: Settings,
+) -> Result<(), NoAnswer> {
+    let seed = DrawnSeed::draw(rt);
+    let segment = read_log(alloc, seed, reader)?;
+    let mut machine = Machine::restore(alloc, seed, &[], 0).map_err(RunFault::from)?;
+    let applied = match machine.apply_on_workers(rt, alloc, &segment, settings) {
+        Ok(applied) => applied,
+        Err(SegmentFault::Store) => return Err(NoAnswer::Refused("refused: store\n")),
+        Err(SegmentFault::Timestamps) => return Err(NoAnswer::Refused("refused: timestamps\n")),
+    };
+    let text = answer(alloc, &machine, applied)?;
+    write_all(writer, text.as_slice())?;
+    Ok(())
 }
 
 fn main(rt: HostRuntime) -> ExitCode {
     let mut out = io::writer(&rt);
+    let alloc = rt.alloc();
     let answered = match request_given(&rt) {
-        Ok(Request { size, settings }) => {
-            run_text_in_windows(
-                &rt,
-                rt.alloc(),
-                &mut rt.reader(),
-                &mut out,
-                settings,
-                size,
-            ).map_err(NoAnswer::from)
-        }
+        Ok(Request { way, settings }) => match way {
+            Way::Windows(size) => {
+                let reader = &mut rt.reader();
+                let ran = run_text_in_windows(&rt, alloc, reader, &mut out, settings, size);
+                ran.map_err(NoAnswer::from)
+            }
+            Way::Machine => run_on_machine(&rt, alloc, &mut rt.reader(), &mut out, settings),
+        },
         Err(fault) => without_request(&mut out, fault),
     };
     if let Err(reason) = &answered {

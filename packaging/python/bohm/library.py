@@ -34,6 +34,11 @@ def octets(text: Text) -> bytes:
     return text.encode() if isinstance(text, str) else bytes(memoryview(text))
 
 
+def drawn_seed() -> bytes:
+    """The seed of key hashes: random bytes, so that who chooses keys can't choose ones that collide."""
+    return os.urandom(16)
+
+
 class Library:
     """A shared object that is loaded: the one that is named, or else the one beside this file or the system's."""
 
@@ -41,10 +46,10 @@ class Library:
         beside = os.path.join(os.path.dirname(os.path.abspath(__file__)), SHARED)
         self.path = os.path.abspath(path) if path else beside if os.path.exists(beside) else SHARED
         self.calls = ctypes.CDLL(self.path)
-        handle, text, out = POINTER(RawHandle), [c_char_p, c_size_t], POINTER(RawArray)
+        handle, seed, text, out = POINTER(RawHandle), c_char_p, [c_char_p, c_size_t], POINTER(RawArray)
         declared = {
-            "bohm_answer": [*text, out],
-            "bohm_open": [handle, *text, c_uint32, out],
+            "bohm_answer": [seed, *text, out],
+            "bohm_open": [handle, seed, *text, c_uint32, out],
             "bohm_apply_held": [handle, *text, out],
             "bohm_rows": [handle, out, out],
             "bohm_value_at": [handle, *text, c_uint32, POINTER(c_uint8), POINTER(c_int64)],
@@ -54,9 +59,9 @@ class Library:
             "bohm_timestamps": [handle, POINTER(c_uint32), POINTER(c_uint32)],
             "bohm_counts": [handle, POINTER(RawCounts)],
             "bohm_close": [handle],
-            "bohm_prepare": [handle, *text, out],
+            "bohm_prepare": [handle, seed, *text, out],
             "bohm_close_procedure": [handle],
-            "bohm_open_calls": [handle, c_uint32],
+            "bohm_open_calls": [handle, seed, c_uint32],
             "bohm_push": [handle, handle, POINTER(RawKey), c_size_t, POINTER(c_int64), c_size_t],
             "bohm_run_calls_held": [handle, handle],
             "bohm_clear_calls": [handle],

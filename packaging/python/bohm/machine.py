@@ -5,7 +5,7 @@ from ctypes import byref, c_int64, c_uint8, c_uint32
 from typing import Any, Dict, Iterable, List, NamedTuple, Optional, Tuple
 
 from .errors import ClosedError, KeptError, RefusedError, Status, StoppedError, UnfitError, raise_for
-from .library import Library, RawArray, RawCounts, RawHandle, RawKey, Text, load, octets
+from .library import Library, RawArray, RawCounts, RawHandle, RawKey, Text, drawn_seed, load, octets
 from .procedures import Call, Procedure
 from .replies import ROW, Answer, Reply, answer_of, replies_of, store_of
 
@@ -29,7 +29,7 @@ def answer(log: Text, *, library: Optional[Library] = None) -> Answer:
     """Runs a whole log."""
     library = library or load()
     text = octets(log)
-    status, given = library.handed(library.calls.bohm_answer, text, len(text))
+    status, given = library.handed(library.calls.bohm_answer, drawn_seed(), text, len(text))
     if status == Status.REFUSED:
         raise RefusedError(given.decode().strip())
     raise_for(status)
@@ -52,7 +52,8 @@ class Machine:
         self.lists: Dict[int, RawHandle] = {}
         self.raw = RawHandle(None)
         text = octets(snapshot)
-        status, line = self.library.handed(self.library.calls.bohm_open, byref(self.raw), text, len(text), timestamp(top))
+        status, line = self.library.handed(
+            self.library.calls.bohm_open, byref(self.raw), drawn_seed(), text, len(text), timestamp(top))
         if status == Status.REFUSED:
             raise RefusedError(line.decode().strip())
         raise_for(status)
@@ -94,7 +95,7 @@ class Machine:
         """An open list of calls for procedures of an edition."""
         if edition not in self.lists:
             raw = RawHandle(None)
-            raise_for(self.library.calls.bohm_open_calls(byref(raw), edition))
+            raise_for(self.library.calls.bohm_open_calls(byref(raw), drawn_seed(), edition))
             self.lists[edition] = raw
         return byref(self.lists[edition])
 

@@ -4,7 +4,7 @@ from ctypes import byref
 from typing import TYPE_CHECKING, Any, Dict, List, NamedTuple, Tuple
 
 from .errors import ClosedError, RefusedError, Status, raise_for
-from .library import RawHandle, Text, octets
+from .library import RawHandle, Text, drawn_seed, octets
 from .replies import Reply
 
 if TYPE_CHECKING:
@@ -45,7 +45,8 @@ class Procedure:
         self.machine = machine
         self.raw = RawHandle(None)
         given = octets(text)
-        status, line = machine.library.handed(machine.library.calls.bohm_prepare, byref(self.raw), given, len(given))
+        status, line = machine.library.handed(
+            machine.library.calls.bohm_prepare, byref(self.raw), drawn_seed(), given, len(given))
         if status == Status.REFUSED:
             raise RefusedError(line.decode().strip())
         raise_for(status)

@@ -2,6 +2,7 @@
 
 use crate::error::{done, told, Error};
 use crate::raw::{self, Handle, Key};
+use crate::seed;
 use crate::text::Text;
 use std::ptr;
 
@@ -27,7 +28,7 @@ impl Procedure {
         let text = text.as_ref();
         let (mut raw, mut out) = (Handle::closed(), Text::none());
         // SAFETY: the handle is closed, and the text has that length.
-        let status = unsafe { raw::bohm_prepare(&mut raw, text.as_ptr(), text.len(), out.0.out()) };
+        let status = unsafe { raw::bohm_prepare(&mut raw, &seed::draw(), text.as_ptr(), text.len(), out.0.out()) };
         told(status, &out)?;
         Ok(Procedure { raw })
     }
@@ -58,7 +59,7 @@ impl Calls {
     pub fn new(edition: Edition) -> Result<Calls, Error> {
         let mut raw = Handle::closed();
         // SAFETY: the handle is closed.
-        done(unsafe { raw::bohm_open_calls(&mut raw, edition as u32) })?;
+        done(unsafe { raw::bohm_open_calls(&mut raw, &seed::draw(), edition as u32) })?;
         Ok(Calls { raw, len: 0 })
     }
 
@@ -88,7 +89,7 @@ impl Calls {
         self.len == 0
     }
 
-    /// Takes all calls out.
+    /// Takes all calls out. Their room is kept for others.
     pub fn clear(&mut self) {
         // SAFETY: the list is open until it is dropped.
         unsafe { raw::bohm_clear_calls(&mut self.raw) };

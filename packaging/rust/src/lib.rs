@@ -23,6 +23,7 @@ mod error;
 mod machine;
 mod raw;
 mod replies;
+mod seed;
 mod text;
 
 pub use calls::{Calls, Edition, Procedure};

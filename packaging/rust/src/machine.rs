@@ -4,6 +4,7 @@ use crate::calls::Calls;
 use crate::error::{done, told, Error};
 use crate::raw::{self, Handle};
 use crate::replies::Replies;
+use crate::seed;
 use crate::text::{Owned, Text};
 
 /// The least and the greatest timestamp that can be read, how many versions are kept, and how many replies wait.
@@ -21,7 +22,7 @@ pub fn answer(log: impl AsRef<[u8]>) -> Result<Text, Error> {
     let log = log.as_ref();
     let mut out = Text::none();
     // SAFETY: the text has that length.
-    let status = unsafe { raw::bohm_answer(log.as_ptr(), log.len(), out.0.out()) };
+    let status = unsafe { raw::bohm_answer(&seed::draw(), log.as_ptr(), log.len(), out.0.out()) };
     told(status, &out)?;
     Ok(out)
 }
@@ -42,7 +43,8 @@ impl Machine {
         let snapshot = snapshot.as_ref();
         let (mut raw, mut out) = (Handle::closed(), Text::none());
         // SAFETY: the handle is closed, and the text has that length.
-        let status = unsafe { raw::bohm_open(&mut raw, snapshot.as_ptr(), snapshot.len(), top, out.0.out()) };
+        let status =
+            unsafe { raw::bohm_open(&mut raw, &seed::draw(), snapshot.as_ptr(), snapshot.len(), top, out.0.out()) };
         told(status, &out)?;
         Ok(Machine { raw })
     }

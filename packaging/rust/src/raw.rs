@@ -58,8 +58,10 @@ pub const UNFIT: u32 = 12;
 
 extern "C" {
     pub fn bohm_free(at: *mut c_void);
-    pub fn bohm_answer(text: *const u8, len: usize, out: *mut Array<u8>) -> u32;
-    pub fn bohm_open(machine: *mut Handle, text: *const u8, len: usize, top: u32, out: *mut Array<u8>) -> u32;
+    pub fn bohm_answer(seed: *const [u8; 16], text: *const u8, len: usize, out: *mut Array<u8>) -> u32;
+    pub fn bohm_open(
+        machine: *mut Handle, seed: *const [u8; 16], text: *const u8, len: usize, top: u32, out: *mut Array<u8>,
+    ) -> u32;
     pub fn bohm_apply_held(machine: *mut Handle, text: *const u8, len: usize, out: *mut Array<u8>) -> u32;
     pub fn bohm_rows(machine: *mut Handle, rows: *mut Array<Row>, values: *mut Array<i64>) -> u32;
     pub fn bohm_value_at(machine: *const Handle, key: *const u8, len: usize, ts: u32, present: *mut u8, value: *mut i64) -> u32;
@@ -69,9 +71,11 @@ extern "C" {
     pub fn bohm_timestamps(machine: *const Handle, floor: *mut u32, top: *mut u32) -> u32;
     pub fn bohm_counts(machine: *const Handle, counts: *mut crate::Counts) -> u32;
     pub fn bohm_close(machine: *mut Handle);
-    pub fn bohm_prepare(procedure: *mut Handle, text: *const u8, len: usize, out: *mut Array<u8>) -> u32;
+    pub fn bohm_prepare(
+        procedure: *mut Handle, seed: *const [u8; 16], text: *const u8, len: usize, out: *mut Array<u8>,
+    ) -> u32;
     pub fn bohm_close_procedure(procedure: *mut Handle);
-    pub fn bohm_open_calls(calls: *mut Handle, edition: u32) -> u32;
+    pub fn bohm_open_calls(calls: *mut Handle, seed: *const [u8; 16], edition: u32) -> u32;
     pub fn bohm_push(
         calls: *mut Handle, procedure: *const Handle, keys: *const Key, key_count: usize, values: *const i64, value_count: usize,
     ) -> u32;

@@ -14,7 +14,7 @@ use bohm_place::{DeclaredSet, Plan, Source};
 use bohm_tree::{Cell, Key};
 use std::cmp::Ordering;
 
-/// The place of a key among entries by rising keys, or where it would stand.
+/// The index of a key among entries sorted by key, or the index at which it would be inserted.
 fn search(entries: &[(Key, Cell)], key: &Key) -> Result<usize, usize>
     requires { rising (keys_of entries.now) ≡ true }
     ensures found { IfOk result (λ i. slice_get (keys_of entries.now) i ≡ Some key.now) }
@@ -27,7 +27,7 @@ fn search(entries: &[(Key, Cell)], key: &Key) -> Result<usize, usize>
     )
 }
 
-/// Notes the places of the keys of one declared set of the transaction with the timestamp t.
+/// Notes the indices of the keys of one declared set of the transaction with the timestamp t.
 fn note_set(plan: &mut Plan, entries: &[(Key, Cell)], set: DeclaredSet, t: u32, txn: &TxnView<'_>)
     requires first { plan.old.first ≤ t }
     requires paired { length (keys_in set txn.now)
@@ -54,8 +54,8 @@ fn note_set(plan: &mut Plan, entries: &[(Key, Cell)], set: DeclaredSet, t: u32, 
     }
 }
 
-/// Notes at each access whose source is `Before` the place of its key in the base. The time grows
-/// with these accesses, each by the logarithm of the base's length.
+/// Notes at each access whose source is `Before` the index of its key in the base. The time grows
+/// with the number of these accesses times the logarithm of the base's length.
 pub fn note_places(plan: &mut Plan, txns: &LogPart<'_>, entries: &[(Key, Cell)])
     requires batched { IsBatched txns.now plan.old }
     requires rises { rising (keys_of entries.now) ≡ true }

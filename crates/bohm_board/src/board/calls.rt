@@ -113,7 +113,7 @@ impl<'a> Board<'a> {
         }
     }
 
-    /// How far the position with a timestamp is. The pass sees it so.
+    /// The status of the position with a timestamp. The pass's view records it.
     pub fn status(&self, pass: &mut Pass, t: u32) -> Status
         requires own { IsPassOf self.now pass.old }
         requires inside { IsIn (batch_of self.now) t }
@@ -149,7 +149,7 @@ impl<'a> Board<'a> {
         }
     }
 
-    /// The cell of a slot, if it is there. The pass knows the slot then.
+    /// The cell of a slot, if the slot is filled. The pass's view records it.
     pub fn look(&self, pass: &mut Pass, slot: Slot) -> Option<Cell>
         requires own { IsPassOf self.now pass.old }
         requires inside { IsSlot (batch_of self.now) slot }
@@ -206,9 +206,8 @@ impl<'a> Board<'a> {
         pass.held = None;
     }
 
-    /// What the steps of all passes left: the words of a state of the core, so of one that meets
-    /// the board law. What the pass saw Done is finished there. The time grows with the number of
-    /// words.
+    /// Closes the board. Its words show a state of the core, so one that meets the board law.
+    /// Positions that the pass saw Done have an outcome. The time grows with the number of words.
     pub fn close(self, pass: Pass) -> Closed<'a>
         requires own { IsPassOf self pass }
         requires free { HoldsNothing (view pass) }

@@ -15,7 +15,7 @@ use std::alloc::Global;
 use std::marker::Model;
 use std::sync::Wait;
 
-/// How many notes the queue holds at most.
+/// The most notes in the queue.
 const CAPACITY: usize = 2;
 
 /// Where a sending end pushes.
@@ -92,7 +92,7 @@ impl<L: Line> PlanSender<L> {
         self.sent
     }
 
-    /// Sends the next note. It blocks while the queue is full, forever if nobody takes.
+    /// Sends the next note. It blocks while the queue is full, forever if no note is taken.
     pub fn send<R: Wait>(&mut self, rt: &R, note: PlanNote)
         requires number { note.number ≡ length self.old.notes + 1 }
         requires batch { note.number ≤ length L.cutting.sizes }
@@ -129,7 +129,7 @@ impl<L: Line> PlanReceiver<L> {
     }
 }
 
-// Tries again where the note is handed back.
+// Sends until the queue takes the note.
 fn send_note<L: Line, R: Wait>(
     rt: &R,
     to: &Pushes<L>,
@@ -152,7 +152,7 @@ fn send_note<L: Line, R: Wait>(
     unreachable!()
 }
 
-// Tries again where nothing came.
+// Takes until a note comes.
 fn take_note<L: Line, R: Wait>(rt: &R, from: &Pops<L>, pass: &mut Pass<PlanNote, End>) -> PlanNote
     requires seat { IsSeatAt (receives_on from.now) pass.old }
     requires role { (pass_view pass.old).takes ≡ true }

@@ -1,5 +1,5 @@
-//! The rule of the queue: the notes taken, and then those that it holds, are the notes sent, in the
-//! order of the batches. At most one end sends, and one takes.
+//! The rule of the queue: the notes taken, followed by those that it holds, are the notes sent, in
+//! the order of the batches. At most one end sends, and one takes.
 
 use crate::line::note::{Line, PlanNote};
 use atomic_table::Split;
@@ -28,7 +28,7 @@ impl<L: Line> Protocol<PlanNote, End> for InOrder<L> {
     ghost first = { end_of true true [] [] };
 }
 
-/// One end sends from now on, and the other takes.
+/// The two roles: one end sends, the other takes.
 pub struct Roles;
 
 impl Split<End> for Roles {

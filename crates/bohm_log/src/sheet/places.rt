@@ -10,8 +10,8 @@ use crate::row::Action;
 use bohm_tree::{Glances, Key, MOST_KEYS};
 use std::hash::BuildHasher;
 
-/// The place of a key among a few. A set with more is refused whole by the check, before it asks
-/// whether a key is in it.
+/// The index of a key among at most 16. The check refuses larger sets before it asks whether a key
+/// is in one.
 #[tactic(auto, using(crate::proofs::Seeking::found, crate::proofs::Seeking::not_found))]
 pub(crate) fn place_in(keys: &[Key], key: &Key) -> Option<u32>
     ensures found { IfSome result (λ i. slice_get keys.now i ≡ Some key.now) }
@@ -24,7 +24,7 @@ pub(crate) fn place_in(keys: &[Key], key: &Key) -> Option<u32>
     Some(place as u32)
 }
 
-/// The same, looked for first where it was found last.
+/// The index of a key, looked up first where it was last found.
 pub(crate) fn place_again(keys: &[Key], places: &mut Glances, key: &Key) -> Option<u32>
     ensures found { IfSome result (λ i. slice_get keys.now i ≡ Some key.now) }
     ensures none { IfNone result (IsApart keys.now key.now) }
@@ -37,8 +37,8 @@ pub(crate) fn place_again(keys: &[Key], places: &mut Glances, key: &Key) -> Opti
     Some(place)
 }
 
-/// The place of a name among the other names, to which it is added if it is new. It is hashed only
-/// if it isn't where it was found last.
+/// The index of a name among the other names, to which it is added if it is new. It is hashed only
+/// if it isn't where it was last found.
 pub(crate) fn place_other<S: BuildHasher + Drop>(
     others: &mut Names<S>,
     places: &mut Glances,
@@ -55,7 +55,7 @@ pub(crate) fn place_other<S: BuildHasher + Drop>(
     Ok(place)
 }
 
-/// The place of a statement's name among these declared keys, or else among the other names, and
+/// The index of a statement's name among these declared keys, or else among the other names; and
 /// whether it is one of the keys.
 pub(crate) fn place_name<S: BuildHasher + Drop>(
     keys: &[Key],

@@ -2,7 +2,7 @@
 
 ghost use Rattle.std.specs.Prelude.{◌≡◌, ◌<◌, ◌≤◌, ◌↔◌, ℕ, List, max, Contains};
 ghost use Rattle.bohm_store.specs.declared.version.Version.{Version};
-ghost use Rattle.bohm_store.specs.Versions.{IsKept, kept_versions, past, versions};
+ghost use Rattle.bohm_store.specs.Versions.{IsKept, kept_versions, past, total, versions};
 
 use crate::history::History;
 
@@ -22,6 +22,7 @@ impl History {
         ensures kept { self.old.floor < floor → (k : List ℕ) (v : Version)
             → Contains (versions self.new k) v ↔ IsKept floor (versions self.old k) v }
         ensures past { (ts : ℕ) → self.new.floor ≤ ts → past self.new ts ≡ past self.old ts }
+        ensures count { total self.new.chains ≤ total self.old.chains }
     {
         self.numbered.trim(floor);
     }

@@ -1,4 +1,4 @@
-use Rattle.std.proofs.Common.{◌≡◌, ◌∙◌, ◌++◌, ap, false, ℕ, List, codes, nat_le, arith}
+use Rattle.std.proofs.Common.{◌≡◌, ◌∙◌, ◌++◌, ap, false, ℕ, codes, nat_le, arith}
 use Rattle.bohm_explain.specs.Table.{hundredths_cell}
 use Rattle.bohm_explain.specs.Verdict.{execution_limit, run_limit}
 use Rattle.bohm_explain.proofs.Parts.{three}

@@ -10,5 +10,6 @@ returns g c =
     record {
       found = rw c.as_mut_slice.ensures.value at c.in_ok-found.ensures.found;
       chains = λ k. (let h = c.in_ok-found.ensures.placed k in rw whole (rw c.as_mut_slice.ensures.value at h));
+      others = λ i k apart. (let h = c.in_ok-found.ensures.others i k apart in rw whole (rw c.as_mut_slice.ensures.value at h));
       parts = rw whole kept;
     }

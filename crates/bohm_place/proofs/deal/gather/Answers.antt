@@ -5,7 +5,7 @@ use Rattle.std.proofs.lemmas.List.{get_or-set_other, length-set}
 use Rattle.bohm_place.specs.Chains.{placeholders_in}
 use Rattle.bohm_place.specs.Shares.{placeholders_made, found_by, newest_ahead, keys_of, IsFoundInAll}
 use Rattle.bohm_place.specs.declared.by_key.FoundInParts.{FoundInParts}
-use Rattle.bohm_place.proofs.Found.{found_first, found_next, gathered, length-found_by}
+use Rattle.bohm_place.proofs.Found.{foreign, found_first, found_next, gathered, length-found_by}
 use Rattle.bohm_place.proofs.deal.gather.Goals.{then-number-eq0, else-number-eq0}
 use Rattle.bohm_place.proofs.deal.gather.Goals as goal
 
@@ -60,5 +60,11 @@ loop-number-preserved g c =
           (λ k. omega (arith, c.requires.law k))
           right.chains
           was.chains;
+      others = λ i k low below apart. foreign part n w c.loop-number.parts c.swap_parts.new.a more.parts.items given (placeholders_made c.args.batch.first txns)
+          (rw c.as_mut_slice.ensures.value at c.swap_parts.ensures.a)
+          i k (omega (arith, low))
+          (λ mine. right.others i k low mine apart)
+          (λ before. was.others i k low before apart)
+          below;
       found = found;
     }

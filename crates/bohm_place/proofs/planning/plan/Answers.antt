@@ -2,7 +2,7 @@ use Rattle.std.proofs.Common.{arith, rules, ◌≡◌, ℕ, ◌<◌, ◌∙◌, 
 use Rattle.std.proofs.lemmas.Grind.{common_steps}
 use Rattle.std.proofs.lemmas.Result.{IfOk-weaker}
 use Rattle.bohm_place.specs.declared.by_key.PartsJob.{PartsJob}
-use Rattle.bohm_place.specs.Chains.{placeholders_in}
+use Rattle.bohm_place.specs.Chains.{placeholders_in, begins}
 use Rattle.bohm_place.specs.Shares.{HasPartsOf, placeholders_made, ahead_of}
 use Rattle.bohm_place.proofs.Nested.{nested, right_plan, no_places, rows_whole}
 use Rattle.bohm_place.proofs.Lists.{first_of}
@@ -100,3 +100,11 @@ returns-clause-below g c k =
     let part = g.P.Partition.part_of c.args.partition.now in
     let behind = made_behind g (goal.at.returns-clause-below g c).After-new k in
     chain_below part c.args.first c.args.txns.now c.args.shards c.into_parts-parts.result.items c.from_parts.result c.into_parts-parts.ensures k behind c.requires.earlier
+
+pub returns-clause-others : goal.returns-clause-others
+returns-clause-others g c i k low apart =
+    let left = c.gather.new.parts in
+    let same : take c.into_parts-parts.result.len (left ++ drop (length left) (take c.into_parts-parts.result.len (c.deal.new.parts ++ drop (length c.deal.new.parts) c.into_parts-parts.result.items))) ≡ left = grind (arith, common_steps) in
+    let h = c.in_ok-found.ensures.others i k (omega (arith, low, c.requires.parts)) apart in
+    let more = rw c.of-given.ensures at h in
+    rw (c.from_parts.ensures, same) (ap begins (more ∙ ap (λ parts. placeholders_in (λ _. i) parts k) c.into_parts-parts.ensures))

@@ -86,15 +86,15 @@ returns-clause-runs g c =
 pub returns-clause-count : goal.returns-clause-count
 returns-clause-count g c = c.counted-state.ensures ∙ (λ i. count_with (c.requires.next i) (c.len.ensures i))
 
-pub run-requires-clause-few : goal.run-requires-clause-few
-run-requires-clause-few g c =
+pub run_to_text-requires-clause-few : goal.run_to_text-requires-clause-few
+run_to_text-requires-clause-few g c =
     let none = no_some c.args.state.now.fault (sym c.is_some.ensures ∙ c.if-is_some.false) in
     let known : AreReady c.args.chunk.count c.args.chunk.log = subst (IsPrepared c.args.chunk.count c.args.chunk.log) c.in-Ready.is c.requires.prepared in
     let few : c.args.state.now.count ≤ 1000000 = omega (arith, known.few, c.requires.next) in
     omega (arith, known.few, c.requires.level none few, c.requires.next, ap length c.part-in-Ready.ensures.same)
 
-pub run-requires-clause-formed : goal.run-requires-clause-formed
-run-requires-clause-formed g c =
+pub run_to_text-requires-clause-formed : goal.run_to_text-requires-clause-formed
+run_to_text-requires-clause-formed g c =
     let known : AreReady c.args.chunk.count c.args.chunk.log = subst (IsPrepared c.args.chunk.count c.args.chunk.log) c.in-Ready.is c.requires.prepared in
     subst (λ (log : List Txn). All IsWellFormedTxn log) (sym c.part-in-Ready.ensures.same) known.formed
 
@@ -106,8 +106,8 @@ returns-in-Ready-clause-runs g c =
     let few : c.args.state.now.count ≤ 1000000 = omega (arith, known.few, c.requires.next) in
     let was = c.args.state.now in
     let part =
-    subst (λ (log : List Txn). IsPartRun was.progress.history c.run.new.history log was.executor.keep (was.progress.history.top + 1)
-    was.text.items c.run.new.text.items) c.part-in-Ready.ensures.same c.in_ok-run-in-Ready.ensures in
+    subst (λ (log : List Txn). IsPartRun was.progress.history c.run_to_text.new.history log was.executor.keep (was.progress.history.top + 1)
+    was.text.items c.run_to_text.new.text.items) c.part-in-Ready.ensures.same c.in_ok-run_to_text-in-Ready.ensures in
     chunk_ran c.args.chunk.log was _ refl refl count none none (omega (arith, known.few, c.requires.next))
     (subst (λ (n : ℕ). IsFaultBehind n c.args.chunk.log None) c.requires.next known.checked) (c.requires.level none few) part
 

@@ -8,7 +8,7 @@ pub returns-in_err-id-clause-err : goal.returns-in_err-id-clause-err
 returns-in_err-id-clause-err g c =
     let p = err_from_is_err_and c.from_residual.result c.from_residual.ensures.1 in
     let s = shared_of c.args.self.now in
-    rw p.1 (interns_itself s (record { names = c.id.new.self; ids = s.ids; others = s.others; large = s.large; terms = s.terms; rows = s.rows })
+    rw p.1 (interns_itself s (record { names = c.number_of.new.names; ids = s.ids; others = s.others; large = s.large; terms = s.terms; rows = s.rows })
     (λ i. record { names = c.in_err-id.ensures.err i; ids = s.ids; others = s.others; large = s.large; terms = s.terms; rows = s.rows }))
 
 pub returns-in_err-push-clause-err : goal.returns-in_err-push-clause-err

@@ -47,6 +47,9 @@ fill-requires-clause-reads g c = few_reads _ _ _ c.template.invariant.0
 pub fill-requires-clause-writes : goal.fill-requires-clause-writes
 fill-requires-clause-writes g c = few_writes _ _ _ c.template.invariant.0
 
+pub fill-requires-clause-alike : goal.fill-requires-clause-alike
+fill-requires-clause-alike g c = c.template.invariant.0.alike
+
 pub invariant_of-self-2 : goal.invariant_of-self-2
 invariant_of-self-2 g c =
     let body : BodyColumns = c.template.inside.body in

@@ -27,6 +27,7 @@ invariant_of-result g c =
     let body : BodyColumns = record {
       reads = c.in_ok-reads.reads;
       writes = c.in_ok-writes.writes;
+      same_sets = c.are_same-same_sets.result;
       others = c.in_ok-names.names;
       large = c.into_parts-edition.result.1.large;
       terms = c.into_parts-edition.result.1.terms;
@@ -47,7 +48,8 @@ invariant_of-result g c =
     ∙ made c.into_parts-edition.result.0 p names c.args.draft.txn keys c.args.values.now places
     c.into_parts-edition.ensures.same c.into_parts-edition.ensures.within grow at in
     let named : AreNames keys = rw c.as_slice-6.ensures.value at c.are_names.ensures in (
-      template_made keys body (with_others p names) places parts own r w,
+      template_made keys body (with_others p names) places parts own r w
+          (λ is. sym c.deref.ensures.value ∙ c.are_same-same_sets.ensures is ∙ c.deref-2.ensures.value),
       subst IsSoundProcedure (sym is) (procedure_sound c.args.draft.txn keys c.args.values.now c.into_parts-edition.ensures.sound named c.are_names-2.ensures),
     )
 
@@ -64,6 +66,7 @@ returns g c =
     let body : BodyColumns = record {
       reads = c.in_ok-reads.reads;
       writes = c.in_ok-writes.writes;
+      same_sets = c.are_same-same_sets.result;
       others = c.in_ok-names.names;
       large = c.into_parts-edition.result.1.large;
       terms = c.into_parts-edition.result.1.terms;

@@ -1,4 +1,4 @@
-use Rattle.std.proofs.Common.{arith, ◌≡◌, ◌+◌, ◌++◌, ◌<◌, ℕ, length, List, map, refl, take, if◌then◌else◌, subst}
+use Rattle.std.proofs.Common.{arith, ◌≡◌, ◌+◌, ◌++◌, ◌<◌, ◌∙◌, ℕ, length, List, map, refl, take, if◌then◌else◌, subst}
 use Rattle.std.proofs.lemmas.List.{length-take-le}
 use Rattle.std.proofs.lemmas.Option.{get_or_from_slice_get}
 use Rattle.bohm_txn.specs.Faulty.{IsWellFormedTxn}
@@ -55,5 +55,6 @@ loop-i-preserved g c =
     let added : c.find_and_place_writes.new.found.items ≡ (c.loop-i.found.items ++ map value txn.reads) ++ map value txn.writes = rw (writes, reads, c.writes-writes.ensures, c.reads-reads.ensures) refl in
     record {
       placed = λ k. chains_step own base now new first txns i txn inside k (c.loop-i.invariant.placed k) (rw (get_or_from_slice_get txns i txn txn c.txn-txn.ensures) (rw c.writes-writes.ensures at c.in_ok-find_and_place_writes.ensures.placed k));
+      others = λ j k apart. c.in_ok-find_and_place_writes.ensures.others j k apart ∙ c.loop-i.invariant.others j k apart;
       found = found_step own base now first txns i txn inside c.loop-i.invariant.placed c.loop-i.found.items c.find_and_place_writes.new.found.items c.loop-i.invariant.found (rw (get_or_from_slice_get txns i txn txn c.txn-txn.ensures) added);
     }

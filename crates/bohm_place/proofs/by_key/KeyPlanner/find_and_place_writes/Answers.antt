@@ -1,4 +1,4 @@
-use Rattle.std.proofs.Common.{◌≡◌, ◌<◌, List, All, take, get_or, length, sym, subst, arith, if◌then◌else◌}
+use Rattle.std.proofs.Common.{◌≡◌, ◌<◌, List, All, take, get_or, length, sym, subst, ◌∙◌, arith, if◌then◌else◌}
 use Rattle.std.proofs.lemmas.List.{length-take-le}
 use Rattle.std.proofs.lemmas.Option.{get_or_from_slice_get}
 use Rattle.bohm_place.specs.declared.placeholder.Placeholder.{Placeholder}
@@ -43,4 +43,5 @@ loop-i-preserved g c =
     record {
       found = found_write (λ k. if own k then within planner.batch.first (last_or none (base k)) else none) c.args.found.now.items c.loop-i.found.items c.push.new.self.items c.in_ok-newest.newest keys i key inside is c.loop-i.invariant.found c.in_ok-push.ensures.items found_here;
       placed = λ k. write_placed (own k) (base k) (now k) (new k) c.args.ts i keys k key inside len (c.loop-i.invariant.placed k) (rw is (c.in_ok-newest.ensures.placed k));
+      others = λ j k apart. c.in_ok-newest.ensures.others j k apart ∙ c.loop-i.invariant.others j k apart;
     }

@@ -1,5 +1,5 @@
 use Rattle.std.proofs.Common.{◌≡◌, ◌++◌, take, map}
-use Rattle.bohm_place.specs.Shares.{placeholders_written}
+use Rattle.bohm_place.specs.Shares.{placeholders_written, KeepsForeign}
 use Rattle.bohm_place.specs.Planners.{found_in, ArePlaced}
 use Rattle.bohm_place.proofs.by_key.KeyPlanner.find_and_place_writes.Given as goal
 
@@ -9,4 +9,5 @@ invariant-loop-i g l =
     record {
       found : l.found.items ≡ l.initial.found.items ++ map (found_in part_of l.self l.initial.parts) (take l.i l.keys);
       placed : ArePlaced part_of l.self (placeholders_written l.ts 0 (take l.i l.keys)) l.initial.parts l.parts;
+      others : KeepsForeign (part_of l.self.keys.partition.now) l.initial.parts l.parts;
     }

@@ -4,6 +4,7 @@ use Rattle.bohm_tree.specs.declared.cell.Cell.TheVariants.{Absent}
 use Rattle.bohm_store.specs.declared.version.Version.{Version}
 use Rattle.bohm_store.specs.Versions.{Rises, cell_at, kept_versions, versions}
 use Rattle.bohm_store.specs.Numbered.{timeline, versions_at}
+use Rattle.bohm_store.proofs.Bounds.{kept_no_more, named_no_more}
 use Rattle.bohm_store.proofs.Past.{cell_at-kept}
 use Rattle.bohm_store.proofs.Named.{all_versions, mapped_versions}
 use Rattle.bohm_store.proofs.NewestVersion.{kept_members}
@@ -41,3 +42,11 @@ returns-clause-past c =
     ∙ cell_at-kept c.args.floor ts (versions (timeline c.self.inside.names c.self.inside.numbered) k) Absent (omega (arith, low, c.trim.ensures.floor)))
     (λ (le : c.args.floor ≤ c.self.inside.numbered.floor). ap (λ (vs : List Version). cell_at ts vs Absent) (same c le k))
     (cases_lt c.self.inside.numbered.floor c.args.floor) in λ i k. each k i))
+
+pub returns-clause-count : goal.returns-clause-count
+returns-clause-count c =
+    let old = c.self.inside.numbered in
+    rw (← c.self.view_is) (named_no_more (versions_at c.trim.new.self) (versions_at old) 0 c.self.inside.names (λ n. ⊎_elim
+    (λ (lt : old.floor < c.args.floor). (let is = c.trim.ensures.versions lt n in rw is (kept_no_more c.args.floor (versions_at old n))))
+    (λ (le : c.args.floor ≤ old.floor). (let is = c.trim.ensures.unchanged le n in rw is (omega arith)))
+    (cases_lt old.floor c.args.floor)))

@@ -1,0 +1,5 @@
+use Rattle.bohm_explain.proofs.Told.{as_long}
+use Rattle.bohm_explain.proofs.laws.longest_is_deepest.Goals as goal
+
+pub returns : goal.returns
+returns c = as_long

@@ -1,0 +1,61 @@
+//! Where names were found last among many.
+
+ghost use Rattle.std.specs.Prelude.{◌≡◌, IfSome, Some, slice_get};
+
+use bohm_tree::Key;
+use std::alloc::Global;
+
+/// How many numbers there are at first, and at most. Both are powers of 2.
+const FEWEST: usize = 256;
+
+const MOST: usize = 65536;
+
+/// For each of some thousand hashes the number of the last name that had it. A number is compared
+/// with the name before it is used: a wrong one costs the search that would be needed without it,
+/// so none is ever cleared.
+#[derive(Drop)]
+pub struct NameHints {
+    numbers: Vec<u32>,
+}
+
+/// The place of a name's number among so many.
+fn slot_of(name: &Key, count: usize) -> usize {
+    if count == 0 {
+        return 0;
+    }
+    (name.mixed() >> 48) as usize & (count - 1)
+}
+
+impl NameHints {
+    /// No numbers. It allocates nothing.
+    pub fn new(alloc: Global) -> NameHints {
+        NameHints {
+            numbers: Vec::new(alloc),
+        }
+    }
+
+    /// The number of a name among these, if it is the one that was noted last for the name's hash.
+    #[inline(always)]
+    pub fn number(&self, names: &[Key], name: &Key) -> Option<u32>
+        ensures { IfSome result (λ i. slice_get names.now i ≡ Some name.now) }
+    {
+        let number = *self.numbers.get(slot_of(name, self.numbers.len()))?;
+        let there = names.get(number as usize)?;
+        if *there == *name { Some(number) } else { None }
+    }
+
+    /// Notes the number of a name. Room is made for as many names as there are, up to 65,536: where
+    /// there is no memory for it, it stays as it is.
+    pub fn note(&mut self, name: &Key, number: u32) {
+        let count = self.numbers.len();
+        if number as usize >= count && count < MOST {
+            let _ = self
+                .numbers
+                .resize(if count == 0 { FEWEST } else { 4 * count }, 0);
+        }
+        let slot = slot_of(name, self.numbers.len());
+        if let Some(noted) = self.numbers.get_mut(slot) {
+            *noted = number;
+        }
+    }
+}

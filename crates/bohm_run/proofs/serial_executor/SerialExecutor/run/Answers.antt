@@ -1,0 +1,42 @@
+use Rattle.std.proofs.Common.{◌≡◌, ◌∙◌, ◌+◌, ◌++◌, ◌∷◌, [], List, take, ap, arith, append_assoc, subst, ⊎_elim}
+use Rattle.bohm_tree.specs.Txn.{Txn}
+use Rattle.bohm_txn.specs.declared.outcome.Reply.{Reply}
+use Rattle.bohm_txn.specs.Meaning.{body}
+use Rattle.bohm_txn.specs.Serial.{replies, reply_of}
+use Rattle.bohm_store.specs.Nexts.{IsSame, IsSettledKept}
+use Rattle.bohm_store.specs.Versions.{past}
+use Rattle.bohm_run.specs.Runs.{IsApplied}
+use Rattle.bohm_run.proofs.Going.{stayed}
+use Rattle.bohm_run.proofs.Ordered.{one_more}
+use Rattle.bohm_run.proofs.Replying.{on_err}
+use Rattle.bohm_run.proofs.serial_executor.SerialExecutor.run.Goals as goal
+
+pub returns-in_err-run_next-clause-some : goal.returns-in_err-run_next-clause-some
+returns-in_err-run_next-clause-some c =
+    let was = c.args.history.now in
+    let at = c.loop-index in
+    let txns = c.args.txns.now in
+    let new = c.run_next.new.history in
+    let told = replies (past was was.top) (take at.index txns) in
+    let next = told ++ reply_of (body (past at.history at.history.top) c.txn.result) ∷ [] in
+    on_err c.from_residual-in_err-run_next.result (⊎_elim
+    (λ same. (at.index, told, stayed was at.history new (take at.index txns) c.args.keep told same at.invariant.applied))
+    (λ settled. (at.index + 1, next, one_more was at.history new txns at.index c.args.keep c.txn.result told c.requires.ordered c.txn.ensures at.invariant.applied settled))
+    c.in_err-run_next.ensures.tried)
+
+pub loop-index-preserved : goal.loop-index-preserved
+loop-index-preserved c =
+    let was = c.args.history.now in
+    let at = c.loop-index in
+    let txns = c.args.txns.now in
+    let new = c.run_next.new.history in
+    let done = c.in_ok-run_next.ensures in
+    let told = replies (past was was.top) (take at.index txns) in
+    let own : List Reply = reply_of (body (past at.history at.history.top) c.txn.result) ∷ [] in
+    let on : IsApplied was new (take (at.index + 1) txns) c.args.keep (told ++ own) =
+    one_more was at.history new txns at.index c.args.keep c.txn.result told c.requires.ordered c.txn.ensures at.invariant.applied done.settled in
+    record {
+      applied = subst (λ (rs : List Reply). IsApplied was new (take (at.index + 1) txns) c.args.keep rs) on.replies on;
+      answered = done.reply ∙ ap (λ (rs : List Reply). rs ++ own) at.invariant.answered
+          ∙ append_assoc c.reserve.new.self told own ∙ ap (λ (rs : List Reply). c.reserve.new.self ++ rs) on.replies;
+    }

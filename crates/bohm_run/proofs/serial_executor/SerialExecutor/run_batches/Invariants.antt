@@ -1,0 +1,11 @@
+use Rattle.std.proofs.Common.{◌≡◌, take}
+use Rattle.bohm_line.specs.CutLogs.{cutting_of}
+use Rattle.bohm_line.specs.Cuttings.{ahead}
+use Rattle.bohm_run.specs.Runs.{IsApplied}
+use Rattle.bohm_run.proofs.serial_executor.SerialExecutor.run_batches.Given as goal
+
+abbrev pub invariant-loop-place : goal.invariant-loop-place
+invariant-loop-place l = record {
+  start : l.start ≡ ahead (cutting_of l.log).sizes l.place;
+  applied : IsApplied l.initial.history l.history (take l.start (cutting_of l.log).log) l.keep l.answered;
+}

@@ -1,0 +1,25 @@
+use Rattle.std.proofs.Common.{◌∙◌, List, ℕ, ap, arith}
+use Rattle.std.proofs.lemmas.List.{length-map}
+use Rattle.std.specs.Prelude.{ℤ}
+use Rattle.bohm_tree.specs.declared.cell.Cell.TheVariants.{Absent}
+use Rattle.bohm_txn.specs.Stores.{cell_in, store_of}
+use Rattle.bohm_store.specs.Versions.{cell_at}
+use Rattle.bohm_store.proofs.Opened.{started_past}
+use Rattle.bohm_store.proofs.history.History.stand.Goals as goal
+
+pub invariant_of-result : goal.invariant_of-result
+invariant_of-result c =
+    let es = c.args.entries.now in
+    rw c.in_ok-names.ensures (omega (arith, c.in_ok-numbered.ensures.long, length-map es (λ (e : List ℕ × ℤ). e.0)))
+
+pub returns-clause-versions : goal.returns-clause-versions
+returns-clause-versions c k = rw c.in_ok-names.ensures (c.in_ok-numbered.ensures.versions k)
+
+pub returns-clause-past : goal.returns-clause-past
+returns-clause-past c =
+    let look = cell_in (store_of c.args.entries.now) in
+    let same : (k : List ℕ) → _ = λ k. ap (λ vs. cell_at c.args.ts vs Absent) (c.in_ok-numbered.ensures.versions k) ∙ started_past c.args.ts (look k) in
+    rw c.in_ok-names.ensures (λ i k. same k i)
+
+pub returns-clause-count : goal.returns-clause-count
+returns-clause-count c = rw c.in_ok-names.ensures c.in_ok-numbered.ensures.count

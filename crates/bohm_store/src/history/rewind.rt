@@ -1,0 +1,22 @@
+//! Takes transactions back.
+
+ghost use Rattle.std.specs.Prelude.{◌≡◌, ◌≤◌, ℕ, List};
+ghost use Rattle.bohm_store.specs.Versions.{past, versions, versions_to};
+
+use crate::history::History;
+
+impl History {
+    /// Takes back the transactions after a timestamp, which becomes the top: of each key there stay
+    /// the versions that begin at or below it, and the past up to there is the same. Keys keep
+    /// their numbers. Its time grows with the number of keys and with how many versions go. It
+    /// allocates nothing.
+    pub fn rewind(&mut self, ts: u32)
+        requires { self.old.floor ≤ ts }
+        ensures floor { self.new.floor ≡ self.old.floor }
+        ensures top { self.new.top ≡ ts }
+        ensures versions { (k : List ℕ) → versions self.new k ≡ versions_to ts (versions self.old k) }
+        ensures past { (t : ℕ) → t ≤ ts → past self.new t ≡ past self.old t }
+    {
+        self.numbered.rewind(ts);
+    }
+}
