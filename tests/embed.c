@@ -319,6 +319,33 @@ static long push_refused(long from, long to) {
     return asked_for;
 }
 
+/* The same of handles, and of pushes by them. A handle that was made names its key behind all refusals, and when the calls
+ * are cleared. */
+static long push_named_refused(long from, long to) {
+    procedures of = prepare_all(now);
+    bohm_machine machine = {0};
+    bohm_calls calls = {0};
+    handles keys = {7, 7, 7};
+    uint32_t taken = 0, status;
+    open_behind(&machine, 0);
+    hold(bohm_open_calls(&calls, seed, 1) == BOHM_DONE, "no list of calls");
+    refuse(from, to);
+    status = make_handles(&calls, &keys);
+    while (!status && taken < 12 && !(status = push_named(&calls, &of, &keys, taken + 1))) taken++;
+    long asked_for = relent();
+    hold(!status || (status == BOHM_NO_MEMORY && asked_for >= from), "another end");
+    hold((keys.a == 7 || keys.a == 0) && (keys.b == 7 || keys.b == 1) && (keys.c == 7 || keys.c == 2), "other handles");
+    if (keys.c == 7) hold(make_handles(&calls, &keys) == BOHM_DONE, "no handles");
+    run_on(&machine, &calls, taken);
+    bohm_clear_calls(&calls);
+    for (uint32_t k = taken + 1; k <= 16; k++) hold(push_named(&calls, &of, &keys, k) == BOHM_DONE, "a call isn't taken");
+    run_on(&machine, &calls, 16 - taken);
+    bohm_close(&machine);
+    bohm_close_calls(&calls);
+    close_all(&of);
+    return asked_for;
+}
+
 static long run_calls_refused(long from, long to) {
     uint32_t top = 6, count = least_count;
     procedures of = prepare_all(now);
@@ -507,6 +534,46 @@ static void each_call_status(void) {
     bohm_close(&machine);
     bohm_close_procedure(&other);
     bohm_close_calls(&calls);
+}
+
+/* The same of calls whose keys are named by handles. */
+static void each_handle_status(void) {
+    now = "handles";
+    procedures of = prepare_all(now);
+    bohm_procedure other = prepared(now, "procedure 2\nreads\nwrites\nend\n");
+    bohm_calls calls = {0};
+    bohm_machine machine = {0};
+    uint32_t keys[4] = {9, 9, 9, 9}, strange[] = {0, 4}, last[] = {0, UINT32_MAX};
+    int64_t one = 1;
+    open_behind(&machine, 0);
+    hold(bohm_open_calls(&calls, seed, 1) == BOHM_DONE, "no list of calls");
+    hold(handle_of(&calls, "", keys) == BOHM_NO_KEY && handle_of(&calls, "A", keys) == BOHM_NO_KEY && keys[0] == 9, "no key");
+    hold(bohm_push_named(&calls, &of.count, strange, 1, &one, 1) == BOHM_MISUSE, "a handle that nobody made");
+    const char *names[] = {"a", "b", "a", "c"};
+    for (uint32_t i = 0; i < 4; i++) hold(handle_of(&calls, names[i], &keys[i]) == BOHM_DONE && keys[i] == i, "another handle");
+    hold(bohm_push_named(&calls, &of.copy, strange, 2, &one, 1) == BOHM_MISUSE, "a handle that nobody made");
+    hold(bohm_push_named(&calls, &of.copy, last, 2, &one, 1) == BOHM_MISUSE, "a handle that nobody made");
+    hold(bohm_push_named(&calls, &of.count, strange, 2, &one, 1) == BOHM_MISUSE, "a handle that nobody made");
+    hold(bohm_push_named(&calls, &of.count, keys, 1, &one, 0) == BOHM_UNFIT, "too few values");
+    hold(bohm_push_named(&calls, &of.need, keys, 1, &one, 1) == BOHM_UNFIT, "too many values");
+    hold(bohm_push_named(&calls, &of.copy, keys, 1, &one, 1) == BOHM_UNFIT, "too few keys");
+    hold(bohm_push_named(&calls, &of.need, keys, 2, NULL, 0) == BOHM_UNFIT, "too many keys");
+    hold(bohm_push_named(&calls, &other, NULL, 0, NULL, 0) == BOHM_UNFIT, "another edition");
+    run_on(&machine, &calls, 0);
+    /* both handles of `a`, and lists that are cleared, with more handles each time */
+    for (uint32_t top = 0; top < 24; top += 4) {
+        handles by = {keys[top / 4 % 2 * 2], keys[1], keys[3]};
+        char name[16];
+        for (uint32_t k = top + 1; k <= top + 4; k++) hold(push_named(&calls, &of, &by, k) == BOHM_DONE, "a call isn't taken");
+        run_on(&machine, &calls, 4);
+        bohm_clear_calls(&calls);
+        sprintf(name, "other_%" PRIu32, top);
+        hold(handle_of(&calls, name, &strange[1]) == BOHM_DONE && strange[1] == 4 + top / 4, "another handle");
+    }
+    bohm_close(&machine);
+    bohm_close_procedure(&other);
+    bohm_close_calls(&calls);
+    close_all(&of);
 }
 
 /* Calls with equal keys, and with the least and the greatest value. */
@@ -748,6 +815,29 @@ static void misused_pointers(void) {
     free(segment.at);
 }
 
+/* Handles of a list and calls by them, with nulls, closed handles and handles that nobody made. */
+static void misused_handles(procedures *of, bohm_calls *calls) {
+    bohm_procedure none = {0};
+    bohm_calls closed = {0};
+    uint32_t key = 9;
+    int64_t one = 1;
+    hold(handle_of(&closed, "a", &key) == BOHM_MISUSE && handle_of(NULL, "a", &key) == BOHM_MISUSE, "a closed list");
+    hold(handle_of(&closed, "A", &key) == BOHM_MISUSE, "a closed list");
+    hold(handle_of(calls, "a", NULL) == BOHM_MISUSE, "a null handle");
+    hold(bohm_key_handle(calls, NULL, 1, &key) == BOHM_MISUSE, "a null key");
+    hold(bohm_key_handle(calls, NULL, 0, &key) == BOHM_NO_KEY && key == 9, "no bytes are no key");
+    hold(handle_of(calls, "a", &key) == BOHM_DONE && key == 0, "another handle");
+    hold(bohm_push_named(&closed, &of->count, &key, 1, &one, 1) == BOHM_MISUSE, "a closed list");
+    hold(bohm_push_named(NULL, &of->count, &key, 1, &one, 1) == BOHM_MISUSE, "no list");
+    hold(bohm_push_named(calls, &none, &key, 1, &one, 1) == BOHM_MISUSE, "a closed procedure");
+    hold(bohm_push_named(calls, NULL, &key, 1, &one, 1) == BOHM_MISUSE, "no procedure");
+    hold(bohm_push_named(calls, &of->count, NULL, 1, &one, 1) == BOHM_MISUSE, "null handles");
+    hold(bohm_push_named(calls, &of->count, &key, 1, NULL, 1) == BOHM_MISUSE, "null values");
+    hold(bohm_push_named(calls, &of->count, NULL, 0, NULL, 0) == BOHM_UNFIT, "no arguments");
+    key = 1;
+    hold(bohm_push_named(calls, &of->count, &key, 1, &one, 1) == BOHM_MISUSE, "a handle that nobody made");
+}
+
 static void misused_calls(void) {
     procedures of = prepare_all(now);
     bohm_procedure none = {0}, *procedure_at = &of.count;
@@ -769,9 +859,12 @@ static void misused_calls(void) {
     hold(bohm_push(&calls, &of.count, &null_key, 1, &one, 1) == BOHM_NO_KEY, "no bytes are no key");
     hold(bohm_push(&calls, &of.count, NULL, 0, NULL, 0) == BOHM_UNFIT, "no arguments");
     hold(bohm_clear_calls(&closed) == BOHM_MISUSE && bohm_clear_calls(NULL) == BOHM_MISUSE, "a closed list");
+    misused_handles(&of, &calls);
     /* a handle of another kind is no such handle */
     bohm_calls odd = {of.count.at};
     hold(bohm_clear_calls(&odd) == BOHM_MISUSE && odd.at == of.count.at, "a procedure in the place of a list");
+    uint32_t key = 9;
+    hold(handle_of(&odd, "a", &key) == BOHM_MISUSE && key == 9 && odd.at == of.count.at, "a procedure in the place of a list");
     bohm_machine strange = {of.count.at};
     misused_machine(&(bohm_machine){0});
     hold(bohm_trim(&strange, 0) == BOHM_MISUSE && strange.at == of.count.at, "a procedure in the place of a machine");
@@ -823,6 +916,7 @@ int main(void) {
     misuse();
     each_status();
     each_call_status();
+    each_handle_status();
     arguments();
     outcomes();
     seeds();
@@ -843,6 +937,7 @@ int main(void) {
     each_refused("bohm_rows of three batches", rows_refused, 8200);
     each_refused("bohm_prepare", prepare_refused, 0);
     each_refused("bohm_push", push_refused, 0);
+    each_refused("bohm_push_named", push_named_refused, 0);
     each_refused("bohm_store_at", store_at_refused, 0);
     each_refused("bohm_digest", digest_refused, 0);
     each_refused("bohm_apply of a bad line", line_refused, 0);

@@ -90,12 +90,38 @@ static inline uint32_t push(bohm_calls *calls, procedures *of, uint32_t k) {
     return bohm_push(calls, &of->need, &a, 1, &one, 0);
 }
 
-/* The calls that are the segment of `count` transactions behind `top`. */
+/* The handles of the keys in a list. */
+typedef struct {
+    uint32_t a, b, c;
+} handles;
+
+static inline uint32_t handle_of(bohm_calls *calls, const char *name, uint32_t *handle) {
+    return bohm_key_handle(calls, (const uint8_t *)name, strlen(name), handle);
+}
+
+static inline uint32_t make_handles(bohm_calls *calls, handles *keys) {
+    uint32_t status = handle_of(calls, "a", &keys->a);
+    if (!status) status = handle_of(calls, "b", &keys->b);
+    return status ? status : handle_of(calls, "c", &keys->c);
+}
+
+/* Adds the call that is transaction `k`, whose keys are named by handles. */
+static inline uint32_t push_named(bohm_calls *calls, procedures *of, const handles *keys, uint32_t k) {
+    uint32_t both[] = {keys->b, keys->c};
+    int64_t one = 1;
+    if (k % 2) return bohm_push_named(calls, &of->count, &keys->a, 1, &one, 1);
+    if (k % 4) return bohm_push_named(calls, &of->copy, both, 2, &one, 1);
+    return bohm_push_named(calls, &of->need, &keys->a, 1, &one, 0);
+}
+
+/* The calls that are the segment of `count` transactions behind `top`: some name their keys by handles. */
 static inline bohm_calls calls_behind(const char *what, procedures *of, uint32_t top, uint32_t count) {
     bohm_calls calls = {0};
+    handles keys;
     if (bohm_open_calls(&calls, seed, 1)) fault(what, "no list of calls");
-    for (uint32_t i = 1; i <= count; i++)
-        if (push(&calls, of, top + i)) fault(what, "a call isn't taken");
+    if (make_handles(&calls, &keys)) fault(what, "no handles");
+    for (uint32_t k = top + 1; k - top <= count; k++)
+        if (k % 3 ? push_named(&calls, of, &keys, k) : push(&calls, of, k)) fault(what, "a call isn't taken");
     return calls;
 }
 

@@ -1,4 +1,5 @@
-/* The executor by calls of a prepared procedure, whose replies come as rows. The past below the last segment is let go. */
+/* The executor by calls of a prepared procedure, whose replies come as rows. The past below the last segment is let go. With
+ * BY_HANDLES defined, each account was looked up before the first call, and is named by its handle. */
 #include "peer.h"
 
 #include "../../crates/bohm_c/include/bohm.h"
@@ -42,8 +43,37 @@ void peer_open(void) {
     put_line("log 1\n");
 }
 
+#ifdef BY_HANDLES
+/* The handles of the accounts, by their numbers. */
+static uint32_t *handles;
+static size_t handle_count, handle_room;
+
+static void look_up(const char *key) {
+    if (handle_count == handle_room)
+        check((handles = realloc(handles, (handle_room = 2 * handle_room + 64) * sizeof *handles)) != NULL, "no memory");
+    done(bohm_key_handle(&calls, (const uint8_t *)key, strlen(key), &handles[handle_count++]));
+}
+
+static uint32_t push(const transfer *it) {
+    uint32_t keys[] = {handles[it->payer_number], handles[it->payee_number]};
+    int64_t amount = it->amount;
+    return bohm_push_named(&calls, &by, keys, 2, &amount, 1);
+}
+#else
+static void look_up(const char *key) { (void)key; }
+
+static bohm_key key_of(const char *name) { return (bohm_key){(const uint8_t *)name, strlen(name)}; }
+
+static uint32_t push(const transfer *it) {
+    bohm_key keys[] = {key_of(it->payer), key_of(it->payee)};
+    int64_t amount = it->amount;
+    return bohm_push(&calls, &by, keys, 2, &amount, 1);
+}
+#endif
+
 void peer_put(const char *key, long long balance) {
     char line[64];
+    look_up(key);
     snprintf(line, sizeof line, "%s %lld\n", key, balance);
     put_line(line);
 }
@@ -52,8 +82,6 @@ void peer_filled(void) {
     done(bohm_open(&machine, seed, (const uint8_t *)store, len, 0, NULL));
     free(store);
 }
-
-static bohm_key key_of(const char *name) { return (bohm_key){(const uint8_t *)name, strlen(name)}; }
 
 static uint32_t top(void) {
     uint32_t floor, last;
@@ -65,11 +93,7 @@ void peer_run(transfer *transfers, size_t count) {
     static uint32_t ran;
     bohm_reply_rows rows = BOHM_NO_ROWS;
     bohm_values values = BOHM_NO_VALUES;
-    for (size_t i = 0; i < count; i++) {
-        bohm_key keys[] = {key_of(transfers[i].payer), key_of(transfers[i].payee)};
-        int64_t amount = transfers[i].amount;
-        done(bohm_push(&calls, &by, keys, 2, &amount, 1));
-    }
+    for (size_t i = 0; i < count; i++) done(push(&transfers[i]));
     done(bohm_run_calls_held(&machine, &calls));
     done(bohm_rows(&machine, &rows, &values));
     for (size_t i = 0; i < count; i++) transfers[i].is_done = rows.at[i].outcome == BOHM_COMMIT;

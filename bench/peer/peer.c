@@ -37,14 +37,31 @@ static double seconds(void) {
     return (double)now.tv_sec + (double)now.tv_nsec * 1e-9;
 }
 
+typedef char name[LONGEST_KEY + 1];
+
+static name *names;
+static size_t name_count;
+
 static void fill(const char *store) {
     FILE *file = fopen(store, "r");
-    char key[LONGEST_KEY + 1];
+    size_t room = 1 << 16;
     long long balance;
-    check(file && fscanf(file, "log 1\n") == 0, "no store");
-    while (fscanf(file, "%32s %lld", key, &balance) == 2) peer_put(key, balance);
+    names = malloc(room * sizeof *names);
+    check(file && names && fscanf(file, "log 1\n") == 0, "no store");
+    while (fscanf(file, "%32s %lld", names[name_count], &balance) == 2) {
+        peer_put(names[name_count], balance);
+        if (++name_count == room) check((names = realloc(names, (room *= 2) * sizeof *names)) != NULL, "no memory");
+    }
     peer_filled();
     fclose(file);
+}
+
+static int is_before(const void *one, const void *other) { return strcmp(one, other); }
+
+static unsigned number_of(const char *key) {
+    name *found = bsearch(key, names, name_count, sizeof *names, is_before);
+    check(found != NULL, "a key that isn't in the store");
+    return (unsigned)(found - names);
 }
 
 static transfer *read_transfers(size_t *count) {
@@ -65,6 +82,10 @@ int main(int argc, char **argv) {
     transfer *transfers = read_transfers(&count);
     peer_open();
     fill(argv[1]);
+    for (size_t at = 0; at < count; at++) {
+        transfers[at].payer_number = number_of(transfers[at].payer);
+        transfers[at].payee_number = number_of(transfers[at].payee);
+    }
     double start = seconds();
     for (size_t at = 0; at < count; at += together) peer_run(transfers + at, count - at < together ? count - at : together);
     fprintf(stderr, "%.9f\n", seconds() - start);

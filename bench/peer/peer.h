@@ -3,8 +3,10 @@
 
 enum { LONGEST_KEY = 32 };
 
+/* The numbers are those of the keys in the order of the store. */
 typedef struct {
     char payer[LONGEST_KEY + 1], payee[LONGEST_KEY + 1];
+    unsigned payer_number, payee_number;
     long long amount;
     int is_done;
 } transfer;

@@ -1,5 +1,5 @@
-/* Transfers between accounts by procedures: each is read once, and then called with keys and amounts. Writes the
- * replies, a line `--` and the balances. */
+/* Transfers between accounts by procedures: each is read once, and then called with keys and amounts. Each account is
+ * looked up once, and named by its handle. Writes the replies, a line `--` and the balances. */
 #include "../../crates/bohm_c/include/bohm.h"
 
 #include <stdio.h>
@@ -40,9 +40,15 @@ static bohm_procedure prepare(const uint8_t *seed, const char *text) {
     return procedure;
 }
 
-static void transfer(bohm_calls *calls, const bohm_procedure *procedure, const char *from, const char *to, int64_t amount) {
-    const bohm_key keys[] = {{(const uint8_t *)from, strlen(from)}, {(const uint8_t *)to, strlen(to)}};
-    need_done("transfer", bohm_push(calls, procedure, keys, 2, &amount, 1));
+static uint32_t look_up(bohm_calls *calls, const char *name) {
+    uint32_t handle = 0;
+    need_done("key_handle", bohm_key_handle(calls, (const uint8_t *)name, strlen(name), &handle));
+    return handle;
+}
+
+static void transfer(bohm_calls *calls, const bohm_procedure *procedure, uint32_t from, uint32_t to, int64_t amount) {
+    const uint32_t keys[] = {from, to};
+    need_done("transfer", bohm_push_named(calls, procedure, keys, 2, &amount, 1));
 }
 
 int main(void) {
@@ -55,10 +61,11 @@ int main(void) {
     bohm_procedure by = prepare(seed, transfer_text), audit = prepare(seed, audit_text);
 
     need_done("open_calls", bohm_open_calls(&calls, seed, 1));
-    transfer(&calls, &by, "alice", "bob", 30);
-    transfer(&calls, &by, "bob", "carol", 80);
-    transfer(&calls, &by, "alice", "carol", 70);
-    transfer(&calls, &by, "alice", "bob", 1);
+    uint32_t alice = look_up(&calls, "alice"), bob = look_up(&calls, "bob"), carol = look_up(&calls, "carol");
+    transfer(&calls, &by, alice, bob, 30);
+    transfer(&calls, &by, bob, carol, 80);
+    transfer(&calls, &by, alice, carol, 70);
+    transfer(&calls, &by, alice, bob, 1);
     need_done("audit", bohm_push(&calls, &audit, 0, 0, 0, 0));
 
     need_done("run_calls", bohm_run_calls(&machine, &calls, &out));

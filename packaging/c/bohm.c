@@ -30,6 +30,8 @@ uint32_t proved_bohm_counts(bohm_machine *machine, bohm_machine_counts *counts);
 uint32_t proved_bohm_prepare(bohm_procedure *procedure, const uint8_t *seed, const uint8_t *text, size_t len, bohm_bytes *out);
 uint32_t proved_bohm_open_calls(bohm_calls *calls, const uint8_t *seed, uint32_t edition);
 uint32_t proved_bohm_push(bohm_calls *calls, bohm_procedure *procedure, const bohm_key *keys, size_t key_count, const int64_t *values, size_t value_count);
+uint32_t proved_bohm_key_handle(bohm_calls *calls, const uint8_t *key, size_t len, uint32_t *handle);
+uint32_t proved_bohm_push_named(bohm_calls *calls, bohm_procedure *procedure, const uint32_t *handles, size_t handle_count, const int64_t *values, size_t value_count);
 uint32_t proved_bohm_run_calls(bohm_machine *machine, bohm_calls *calls, bohm_bytes *out);
 uint32_t proved_bohm_run_calls_held(bohm_machine *machine, bohm_calls *calls);
 uint32_t proved_bohm_clear_calls(bohm_calls *calls);
@@ -207,6 +209,21 @@ uint32_t bohm_push(bohm_calls *calls, const bohm_procedure *procedure, const boh
     if (status) return status;
     bohm_procedure held = *procedure;
     return proved_bohm_push(calls, &held, array_of(keys), key_count, array_of(values), value_count);
+}
+
+uint32_t bohm_key_handle(bohm_calls *calls, const uint8_t *key, size_t len, uint32_t *handle) {
+    if (!calls || !is_array(key, len) || !handle) return BOHM_MISUSE;
+    uint32_t made = 0;
+    uint32_t status = proved_bohm_key_handle(calls, array_of(key), len, &made);
+    if (!status) *handle = made;
+    return status;
+}
+
+uint32_t bohm_push_named(bohm_calls *calls, const bohm_procedure *procedure, const uint32_t *handles, size_t handle_count,
+                         const int64_t *values, size_t value_count) {
+    if (!calls || !procedure || !is_array(handles, handle_count) || !is_array(values, value_count)) return BOHM_MISUSE;
+    bohm_procedure held = *procedure;
+    return proved_bohm_push_named(calls, &held, array_of(handles), handle_count, array_of(values), value_count);
 }
 
 uint32_t bohm_run_calls(bohm_machine *machine, const bohm_calls *calls, bohm_bytes *out) {

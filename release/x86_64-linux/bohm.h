@@ -22,7 +22,7 @@
 
 /* The version, and the checksum of the sources that the library is built from. */
 #define BOHM_VERSION "0.1.0"
-#define BOHM_SOURCES "b79868928fa7d29969545b06b68aadcc6620bce789c42e9bbf7e3a99891f121b"
+#define BOHM_SOURCES "2134195de387b86d30ddf34d7d2840c0c72060a0a4853280dffc0bec1d9145f3"
 
 /* The same, of the library that the program is linked with. */
 extern const char bohm_version[16], bohm_sources[65];
@@ -216,6 +216,16 @@ typedef struct {
 uint32_t bohm_push(bohm_calls *calls, const bohm_procedure *procedure, const bohm_key *keys, size_t key_count,
                    const int64_t *values, size_t value_count);
 
+/* Makes a handle of a key, by which bohm_push_named names it in this list: a small number, which stays good until the
+ * list is closed, also where it is cleared. A key that gets a second handle has two. BOHM_DONE; BOHM_NO_KEY if the bytes
+ * are no key's; or BOHM_NO_MEMORY, also at 2^32 handles. But for the first *handle stays as it was. */
+uint32_t bohm_key_handle(bohm_calls *calls, const uint8_t *key, size_t len, uint32_t *handle);
+
+/* Adds a call as bohm_push does, whose keys are named by handles of the list. It looks no key up that has been in one of
+ * the list's calls. BOHM_DONE, BOHM_UNFIT or BOHM_NO_MEMORY; or BOHM_MISUSE if a handle isn't the list's. */
+uint32_t bohm_push_named(bohm_calls *calls, const bohm_procedure *procedure, const uint32_t *handles, size_t handle_count,
+                         const int64_t *values, size_t value_count);
+
 /* Runs an open list's calls on an open machine, as bohm_apply runs a segment: BOHM_DONE, BOHM_STOPPED, BOHM_KEPT,
  * BOHM_TIMESTAMPS or BOHM_WAITING. The list keeps its calls. */
 uint32_t bohm_run_calls(bohm_machine *machine, const bohm_calls *calls, bohm_bytes *out);
@@ -224,7 +234,7 @@ uint32_t bohm_run_calls(bohm_machine *machine, const bohm_calls *calls, bohm_byt
  * BOHM_STOPPED, BOHM_TIMESTAMPS or BOHM_WAITING. */
 uint32_t bohm_run_calls_held(bohm_machine *machine, const bohm_calls *calls);
 
-/* Takes all calls out of an open list, which keeps their room for others: BOHM_DONE. */
+/* Takes all calls out of an open list, which keeps their room for others, and its handles: BOHM_DONE. */
 uint32_t bohm_clear_calls(bohm_calls *calls);
 
 /* Frees a list of calls, and leaves it closed. Of a closed one there is nothing to do. */

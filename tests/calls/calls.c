@@ -1,5 +1,5 @@
 /* Runs the calls of a script of tests/procedures: `calls < SCRIPT` writes their answer. Segments' replies are handed out as
- * text and as rows in turn. */
+ * text and as rows in turn. Calls name their keys by handles, by bytes, and so on in turn. */
 #include "../../crates/bohm_c/include/bohm.h"
 
 #include <inttypes.h>
@@ -34,8 +34,23 @@ static size_t count(void) {
     return strtoul(strtok(NULL, " "), NULL, 10);
 }
 
+/* The handle of a key, which is looked up the first time. Another key may be numbered in between. */
+static uint32_t handle_of(bohm_key key) {
+    static char names[MOST][33];
+    static uint32_t handles[MOST];
+    static size_t known;
+    for (size_t i = 0; i < known; i++)
+        if (strlen(names[i]) == key.len && !memcmp(names[i], key.at, key.len)) return handles[i];
+    need(known < MOST && key.len < sizeof names[0], "too many keys");
+    memcpy(names[known], key.at, key.len);
+    need(bohm_key_handle(&calls, key.at, key.len, &handles[known]) == BOHM_DONE, "key_handle");
+    return handles[known++];
+}
+
 static void push(void) {
+    static int turn;
     bohm_key keys[MOST];
+    uint32_t handles[MOST];
     int64_t values[MOST];
     size_t number = count(), key_count = count(), value_count;
     for (size_t i = 0; i < key_count; i++) {
@@ -44,7 +59,12 @@ static void push(void) {
     }
     value_count = count();
     for (size_t i = 0; i < value_count; i++) values[i] = strtoll(strtok(NULL, " "), NULL, 10);
-    need(bohm_push(&calls, &procedures[number], keys, key_count, values, value_count) == BOHM_DONE, "push");
+    if (turn++ % 3) {
+        for (size_t i = 0; i < key_count; i++) handles[i] = handle_of(keys[i]);
+        need(bohm_push_named(&calls, &procedures[number], handles, key_count, values, value_count) == BOHM_DONE, "push_named");
+    } else {
+        need(bohm_push(&calls, &procedures[number], keys, key_count, values, value_count) == BOHM_DONE, "push");
+    }
 }
 
 static void run_for_text(void) {

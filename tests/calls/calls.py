@@ -1,4 +1,5 @@
-"""Runs the calls of a script of tests/procedures: `calls.py LIBRARY < SCRIPT` writes their answer."""
+"""Runs the calls of a script of tests/procedures: `calls.py LIBRARY < SCRIPT` writes their answer. Calls name their keys by
+texts, by what the machine looked up, and by both in turn."""
 import sys
 from pathlib import Path
 
@@ -6,9 +7,17 @@ sys.path.insert(0, str(Path(__file__).resolve().parents[2] / "packaging" / "pyth
 import bohm  # noqa: E402
 
 
+def named(machine, known, turn, names):
+    """The keys as the call of this turn names them."""
+    for name in names[:(0, 1, len(names))[turn % 3]]:
+        if name not in known:
+            known[name] = machine.key(name)
+    return [known[name] if turn % 3 > (place > 0) else name for place, name in enumerate(names)]
+
+
 def main(library, lines):
     library, machine = bohm.load(library), None
-    store, text, procedures, calls = "", "", [], []
+    store, text, procedures, calls, known, turn = "", "", [], [], {}, 0
     for line in lines:
         word, _, rest = line.rstrip("\n").partition(" ")
         if word == "store":
@@ -21,7 +30,8 @@ def main(library, lines):
             text = ""
         elif word == "push":
             number, count, *words = rest.split(" ")
-            keys, values = words[:int(count)], [int(value) for value in words[int(count) + 1:]]
+            keys, turn = named(machine, known, turn, words[:int(count)]), turn + 1
+            values = [int(value) for value in words[int(count) + 1:]]
             calls.append(procedures[int(number)].call(*keys, *values))
         elif word == "run":
             # One call goes by the procedure itself.
@@ -30,6 +40,12 @@ def main(library, lines):
             calls = []
     again = bohm.Machine(machine.snapshot(), machine.top, library=library)
     assert again.digest() == machine.digest()
+    try:
+        procedures[0].key_of(again.key("a"))
+    except ValueError:
+        pass
+    else:
+        raise AssertionError("another machine's key is taken")
     sys.stdout.write("--\n" + "".join(f"{key} {value}\n" for key, value in machine.store_at().items()))
 
 

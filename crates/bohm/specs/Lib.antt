@@ -1,5 +1,5 @@
-pub use Rattle.bohm_tree.specs.Document
-pub use Rattle.bohm_tree.specs.Txn
+pub use Rattle.bohm_types.specs.Document
+pub use Rattle.bohm_types.specs.Txn
 pub use Rattle.bohm_text.specs.Print
 pub use Rattle.bohm_txn.specs.Serial
 pub use Rattle.bohm_txn.specs.Stores

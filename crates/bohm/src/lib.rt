@@ -6,10 +6,10 @@ mod running;
 
 pub use bohm_log::{DrawnSeed, FixedSeed, HashSeed};
 pub use bohm_machine::{Machine, SegmentFault};
-pub use bohm_procedures::{Calls, Procedure, ProcedureFault};
+pub use bohm_procedures::{Calls, KeyHandle, Procedure, ProcedureFault};
 pub use bohm_run::{Answer, Applied, RunFault, Settings, run_text};
 pub use bohm_store::{History, PastFault, StoreFault};
 pub use bohm_text::{TextFault, parse, parse_with_seed};
-pub use bohm_tree::{Cell, Edition, Key, NoMemory, Value};
 pub use bohm_txn::{CheckFault, CheckKind, Checked, Outcome, Reason, Replies, Reply, check};
+pub use bohm_types::{Cell, Edition, Key, NoMemory, Value};
 pub use running::run;

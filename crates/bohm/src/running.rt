@@ -7,8 +7,8 @@ ghost use Rattle.bohm_run.specs.Runs.{IsHistoryOf};
 
 use bohm_exec::OpenGate;
 use bohm_run::{Answer, ByteSum, Cuts, Settings};
-use bohm_tree::NoMemory;
 use bohm_txn::Checked;
+use bohm_types::NoMemory;
 use std::alloc::Global;
 use std::random::RandomSource;
 use std::sync::Wait;

@@ -1,5 +1,6 @@
 -- The places of declared keys among the entries of a base.
-use Rattle.std.proofs.Common.{◌≡◌, ℕ, suc, ◌*◌, ◌<◌, ◌≤◌, true, false, List, [], ◌∷◌, ◌++◌, length, slice_get, get_or, Some, refl, sym, ◌∙◌, arith, All, length-append}
+use Rattle.std.proofs.Common.{◌≡◌, ℕ, suc, ◌*◌, ◌<◌, ◌≤◌, true, false, List, [], ◌∷◌, ◌++◌, length}
+use Rattle.std.proofs.Common.{slice_get, get_or, Some, refl, sym, ◌∙◌, arith, All, length-append}
 use Rattle.std.specs.List.{list_any, AllByRecursion, IsDistinct}
 use Rattle.std.specs.Str.{bytes_eq}
 use Rattle.std.specs.Cmp.Lexicographic.{nat_list_eq_equiv}
@@ -8,9 +9,9 @@ use Rattle.std.proofs.lemmas.List.{length-map}
 use Rattle.std.proofs.lemmas.List.Folds.{list_any-append}
 use Rattle.std.proofs.lemmas.Map.Made.{length-le_from_is_member}
 use Rattle.std.proofs.lemmas.Option.{slice_get-get_or, slice_get_within}
-use Rattle.bohm_tree.specs.declared.cell.Cell.{Cell}
-use Rattle.bohm_tree.specs.Txn.{Txn}
-use Rattle.bohm_tree.specs.Keys.{IsAmong, is_among, rising}
+use Rattle.bohm_types.specs.declared.cell.Cell.{Cell}
+use Rattle.bohm_types.specs.Txn.{Txn}
+use Rattle.bohm_types.specs.Keys.{IsAmong, is_among, rising}
 use Rattle.bohm_txn.specs.Faulty.{IsWellFormedTxn}
 use Rattle.bohm_txn.proofs.ForCallers.{AllApart, rising_apart, among_first, among_then, other_key, usable}
 use Rattle.bohm_place.specs.declared.access.Access.{Access}
@@ -31,7 +32,10 @@ Entries = List (List ℕ × Cell)
 
 apart_each : (x : List ℕ) (ks : List (List ℕ)) → ¬ IsAmong ks x → AllByRecursion (λ y. bytes_eq x y ≡ false) ks
 apart_each x [] h = tt
-apart_each x (k ∷ ks) h = (other_key k x (false_from_ne_true (bytes_eq k x) (λ e. h (among_first k x ks e))), apart_each x ks (λ among. h (among_then k x ks among)))
+apart_each x (k ∷ ks) h = (
+  other_key k x (false_from_ne_true (bytes_eq k x) (λ e. h (among_first k x ks e))),
+  apart_each x ks (λ among. h (among_then k x ks among)),
+)
 
 distinct_apart : (ks : List (List ℕ)) → AllApart ks → IsDistinct bytes_eq ks
 unfolding IsDistinct
@@ -47,7 +51,11 @@ member_among (x ∷ ks) k = rw (nat_list_eq_equiv.symm k x, member_among ks k) r
 
 pub declared_any : (ts : List Txn) (k : List ℕ) → is_among (declared_keys ts) k ≡ list_any (declares_key k) ts
 declared_any [] k = refl
-declared_any (t ∷ ts) k = rw (list_any-append (λ y. bytes_eq y k) (t.reads ++ t.writes) (declared_keys ts), list_any-append (λ y. bytes_eq y k) t.reads t.writes, declared_any ts k) refl
+declared_any (t ∷ ts) k = rw (
+  list_any-append (λ y. bytes_eq y k) (t.reads ++ t.writes) (declared_keys ts),
+  list_any-append (λ y. bytes_eq y k) t.reads t.writes,
+  declared_any ts k,
+) refl
 
 length-declared : (ts : List Txn) → All IsWellFormedTxn ts → length (declared_keys ts) ≤ 32 * length ts
 length-declared [] h = omega arith
@@ -59,8 +67,14 @@ length-declared (t ∷ ts) h =
 pub few_entries : (ts : List Txn) (entries : Entries) → IsBase ts entries → All IsWellFormedTxn ts → length entries ≤ 32 * length ts
 few_entries ts entries base formed =
     let keys = keys_of entries in
-    let among : (k : List ℕ) → list_any (bytes_eq k) keys ≡ true → list_any (bytes_eq k) (declared_keys ts) ≡ true = λ k has. member_among (declared_keys ts) k ∙ declared_any ts k ∙ sym (base.each k) ∙ sym (member_among keys k) ∙ has in
-    omega (arith, length-le_from_is_member nat_list_eq_equiv keys (declared_keys ts) base.apart among, length-declared ts formed, length-map entries (λ (e : List ℕ × Cell). e.0))
+    let among : (k : List ℕ) → list_any (bytes_eq k) keys ≡ true → list_any (bytes_eq k) (declared_keys ts) ≡ true =
+    λ k has. member_among (declared_keys ts) k ∙ declared_any ts k ∙ sym (base.each k) ∙ sym (member_among keys k) ∙ has in
+    omega (
+      arith,
+      length-le_from_is_member nat_list_eq_equiv keys (declared_keys ts) base.apart among,
+      length-declared ts formed,
+      length-map entries (λ (e : List ℕ × Cell). e.0),
+    )
 
 -- what is so of a batch stays so where places are noted
 pub batched_on : (txns : List Txn) (p q : Planned) → IsBatched txns p → HasSourcesOf p q → ∥ IsRightPlan txns q ∥₁ → IsBatched txns q
@@ -75,7 +89,8 @@ batched_on txns p q is same right = record {
 -- ---- of a batch
 
 -- an access that takes the version before the batch has the place of its key
-pub placed : (b : Batch) (set : DeclaredSet) (t j : ℕ) (a : Access) → IsIn b t → slice_get (accesses_in set b t) j ≡ Some a → a.source ≡ Before → (k : List ℕ) × (key_in set b t j ≡ Some k) × (slice_get (keys_of (entries_of b)) a.index ≡ Some k)
+pub placed : (b : Batch) (set : DeclaredSet) (t j : ℕ) (a : Access) → IsIn b t → slice_get (accesses_in set b t) j ≡ Some a → a.source ≡ Before
+    → (k : List ℕ) × (key_in set b t j ≡ Some k) × (slice_get (keys_of (entries_of b)) a.index ≡ Some k)
 placed b set t j a is at before =
     let (x, at_x) = txn_there b t is in
     let keys = keys_in set x in

@@ -4,8 +4,8 @@ use Rattle.std.specs.Prelude.{Option, Contains, ℤ, ◌⊎◌, ◌<◌, ◌==�
 use Rattle.std.proofs.lemmas.Bool.Decides.{eqb_tells}
 use Rattle.std.proofs.lemmas.List.Elements.{Contains-push_cases, Contains-append_cases}
 use Rattle.std.proofs.lemmas.Option.{same_Some}
-use Rattle.bohm_tree.specs.declared.cell.Cell.{Cell}
-use Rattle.bohm_tree.specs.declared.cell.Cell.TheVariants as cells
+use Rattle.bohm_types.specs.declared.cell.Cell.{Cell}
+use Rattle.bohm_types.specs.declared.cell.Cell.TheVariants as cells
 use Rattle.bohm_txn.specs.declared.outcome.Outcome.{Outcome}
 use Rattle.bohm_board.specs.declared.batch.Batch.{Batch}
 use Rattle.bohm_board.specs.declared.slot.Slot.{Slot}
@@ -19,9 +19,12 @@ use Rattle.bohm_board.specs.Views.{Presence, Absent, Present, Holds, KnowsWanted
 
 -- ---- what is there
 
-filled_as : (b : Batch) (s : State) (x : Slot) (k : Presence) → IsSound b s → s.presences x ≡ Some k → IsRightCell b x (cell_in s x) × (presence_of (cell_in s x) ≡ k)
-filled_as b s x Absent sound e = subst (λ (o : Option Presence). IsRightCell b x (cell_by o (s.values x)) × (presence_of (cell_by o (s.values x)) ≡ Absent)) (sym e) (sound.absent x e, refl)
-filled_as b s x Present sound e = subst (λ (o : Option Presence). IsRightCell b x (cell_by o (s.values x)) × (presence_of (cell_by o (s.values x)) ≡ Present)) (sym e) (sound.present x e, refl)
+filled_as : (b : Batch) (s : State) (x : Slot) (k : Presence) → IsSound b s → s.presences x ≡ Some k
+    → IsRightCell b x (cell_in s x) × (presence_of (cell_in s x) ≡ k)
+filled_as b s x Absent sound e = subst (λ (o : Option Presence). IsRightCell b x (cell_by o (s.values x)) × (presence_of (cell_by o (s.values x)) ≡ Absent))
+    (sym e) (sound.absent x e, refl)
+filled_as b s x Present sound e = subst (λ (o : Option Presence). IsRightCell b x (cell_by o (s.values x)) × (presence_of (cell_by o (s.values x)) ≡ Present))
+    (sym e) (sound.present x e, refl)
 
 -- the cell of a filled slot is right
 pub filled_right : (b : Batch) (s : State) (x : Slot) → IsSound b s → IsFull s x → IsRightCell b x (cell_in s x)
@@ -46,7 +49,8 @@ pub one_holder : (p q : ℕ) → Claimed p ≡ Claimed q → p ≡ q
 one_holder p q e = ap holder e
 
 -- where a pass knows what a position wants, it is filled
-pub wanted_filled : (b : Batch) (s : State) (t : ℕ) (v : View) → ((x : Slot) → Contains v.absent x → s.presences x ≡ Some Absent) → ((x : Slot) → Contains v.present x → s.presences x ≡ Some Present) → KnowsWanted b v t → HasWanted b s t
+pub wanted_filled : (b : Batch) (s : State) (t : ℕ) (v : View) → ((x : Slot) → Contains v.absent x → s.presences x ≡ Some Absent)
+    → ((x : Slot) → Contains v.present x → s.presences x ≡ Some Present) → KnowsWanted b v t → HasWanted b s t
 wanted_filled b s t v absent present wanted = λ a u in_it e. ⊎_elim
     (λ (c : Contains v.absent (slot_in u a)). (Absent, absent (slot_in u a) c))
     (λ (c : Contains v.present (slot_in u a)). (Present, present (slot_in u a) c))
@@ -67,7 +71,8 @@ still b s views = record { done = λ t o h. h; busy = λ t h. h; filled = λ x k
 pub stays : (b : Batch) (s s' : State) → IsSound b s → Grows b s s' → Stays s s'
 stays b s s' sound g = record { presences = g.filled; outcomes = g.done; values = λ x e. g.stored x (s.values x) (sound.present x e) refl }
 
-pub true_on : (b : Batch) (s s' : State) (p : ℕ) (v : View) → Grows b s s' → ((t : ℕ) → Holds b v t → s'.positions t ≡ Claimed p) → IsTrueOf b s p v → IsTrueOf b s' p v
+pub true_on : (b : Batch) (s s' : State) (p : ℕ) (v : View) → Grows b s s' → ((t : ℕ) → Holds b v t → s'.positions t ≡ Claimed p) → IsTrueOf b s p v
+    → IsTrueOf b s' p v
 true_on b s s' p v g held k = record {
   done = λ t c. let (o, e) = k.done t c in (o, g.done t o e);
   busy = λ t c. g.busy t (k.busy t c);
@@ -90,8 +95,10 @@ put_cases P f t a u here other = ⊎_elim
 slot_tells : (x y : Slot) → ((is_slot x y ≡ true) × (y ≡ x)) ⊎ ((is_slot x y ≡ false) × (y ≢ x))
 slot_tells x y = ⊎_elim
     (λ (h : ((y.txn == x.txn) ≡ true) × (y.txn ≡ x.txn)). ⊎_elim
-    (λ (g : ((y.index == x.index) ≡ true) × (y.index ≡ x.index)). inl (ap (λ (v : Bool). v && (y.index == x.index)) h.0 ∙ g.0, λ i. record { txn = h.1 i; index = g.1 i }))
-    (λ (g : ((y.index == x.index) ≡ false) × (y.index ≢ x.index)). inr (ap (λ (v : Bool). v && (y.index == x.index)) h.0 ∙ g.0, λ e. g.1 (ap (λ (z : Slot). z.index) e)))
+    (λ (g : ((y.index == x.index) ≡ true) × (y.index ≡ x.index)). inl
+    (ap (λ (v : Bool). v && (y.index == x.index)) h.0 ∙ g.0, λ i. record { txn = h.1 i; index = g.1 i }))
+    (λ (g : ((y.index == x.index) ≡ false) × (y.index ≢ x.index)). inr
+    (ap (λ (v : Bool). v && (y.index == x.index)) h.0 ∙ g.0, λ e. g.1 (ap (λ (z : Slot). z.index) e)))
     (eqb_tells y.index x.index))
     (λ (h : ((y.txn == x.txn) ≡ false) × (y.txn ≢ x.txn)). inr (ap (λ (v : Bool). v && (y.index == x.index)) h.0, λ e. h.1 (ap (λ (z : Slot). z.txn) e)))
     (eqb_tells y.txn x.txn)
@@ -117,27 +124,46 @@ pub moved : (b : Batch) (s s' : State) (p : ℕ) (v : View) → IsLawful b s →
     → Advances b s (record s' { views = point_update s.views p v })
 moved b s s' p v kept g sound mine others back holds = record {
   lawful = record {
-    sound = record { absent = sound.absent; present = sound.present; inside = sound.inside; outcomes = sound.outcomes; whole = sound.whole; untouched = sound.untouched };
+    sound = record {
+      absent = sound.absent;
+      present = sound.present;
+      inside = sound.inside;
+      outcomes = sound.outcomes;
+      whole = sound.whole;
+      untouched = sound.untouched;
+    };
     each = λ q. put_cases (λ (w : View). IsTrueOf b (record s' { views = point_update s.views p v }) q w) s.views p v q
         (λ e. seen s' (point_update s.views p v) q v (subst (λ (r : ℕ). IsTrueOf b s' r v) (sym e) mine))
         (λ ne. seen s' (point_update s.views p v) q (s.views q) (true_on b s s' q (s.views q) g (λ t h. others q t ne ((kept.each q).held t h)) (kept.each q)));
-    held = λ q t h. put_cases (λ (w : View). Holds b w t) s.views p v q (λ e. holds t (subst (λ (r : ℕ). s'.positions t ≡ Claimed r) e h)) (λ ne. kept.held q t (back q t ne h));
+    held = λ q t h. put_cases (λ (w : View). Holds b w t) s.views p v q (λ e. holds t (subst (λ (r : ℕ). s'.positions t ≡ Claimed r) e h))
+        (λ ne. kept.held q t (back q t ne h));
   };
   grows = record { done = g.done; busy = g.busy; filled = g.filled; stored = g.stored };
 }
   where
     seen : (r : State) (views : ℕ → View) (q : ℕ) (w : View) → IsTrueOf b r q w → IsTrueOf b (record r { views = views }) q w
-    seen r views q w k = record { done = k.done; busy = k.busy; absent = k.absent; present = k.present; held = k.held; stored = k.stored; filled = k.filled; named = k.named }
+    seen r views q w k = record {
+      done = k.done;
+      busy = k.busy;
+      absent = k.absent;
+      present = k.present;
+      held = k.held;
+      stored = k.stored;
+      filled = k.filled;
+      named = k.named;
+    }
 
 -- the words stay, and so does what the pass holds
-pub relearnt : (b : Batch) (s : State) (p : ℕ) (v : View) → IsLawful b s → IsTrueOf b s p v → v.held ≡ (s.views p).held → Advances b s (record s { views = point_update s.views p v })
+pub relearnt : (b : Batch) (s : State) (p : ℕ) (v : View) → IsLawful b s → IsTrueOf b s p v → v.held ≡ (s.views p).held
+    → Advances b s (record s { views = point_update s.views p v })
 relearnt b s p v kept mine same = moved b s s p v kept (still b s s.views) kept.sound mine (λ q t ne h. h) (λ q t ne h. h) (λ t h. same ∙ kept.held p t h)
 
 -- a fact on what a list contains, and one more
 pub more : {A : Type 0} (P : A → Type 0) (xs : List A) (x : A) → ((y : A) → Contains xs y → P y) → P x → (y : A) → Contains (xs ++ x ∷ []) y → P y
 more P xs x all here y c = ⊎_elim (all y) (λ (e : x ≡ y). subst P e here) (Contains-push_cases xs x y c)
 
-pub both : {A : Type 0} (P : A → Type 0) (xs ys : List A) → ((y : A) → Contains xs y → P y) → ((y : A) → Contains ys y → P y) → (y : A) → Contains (xs ++ ys) y → P y
+pub both : {A : Type 0} (P : A → Type 0) (xs ys : List A) → ((y : A) → Contains xs y → P y) → ((y : A) → Contains ys y → P y) → (y : A)
+    → Contains (xs ++ ys) y → P y
 both P xs ys left right y c = ⊎_elim (left y) (right y) (Contains-append_cases xs ys y c)
 
 pub nothing_in : {A : Type 0} (x : A) → Contains [] x → ⊥

@@ -2,8 +2,8 @@
 use Rattle.std.proofs.Common.{◌≡◌, ◌≢◌, ℕ, ◌+◌, ◌<◌, ◌≤◌, List, length, get_or, set, sym, ap, ◌∙◌, subst, arith, refl, Option, None, Some}
 use Rattle.std.specs.Prelude.{ℤ}
 use Rattle.atomic_table.specs.Table.{Final, Seen}
-use Rattle.bohm_tree.specs.declared.cell.Cell.{Cell}
-use Rattle.bohm_tree.specs.declared.cell.Cell.TheVariants as cells
+use Rattle.bohm_types.specs.declared.cell.Cell.{Cell}
+use Rattle.bohm_types.specs.declared.cell.Cell.TheVariants as cells
 use Rattle.bohm_txn.specs.declared.outcome.Outcome.{Outcome}
 use Rattle.bohm_board.specs.declared.batch.Batch.{Batch}
 use Rattle.bohm_board.specs.declared.slot.Slot.{Slot}
@@ -67,7 +67,8 @@ pub record IsEnd (b : Batch) (w : Words) (id : ℕ) (v : View) : Type 0 where
   pub saw : IsTrueOf b state id v
 
 -- three vectors with the last words, each in its place
-pub settles : (b : Batch) (id : ℕ) (v : View) (ws : List ℕ) (xs : List (Unit {0})) (c : Words) (n m : ℕ) → v.right ≡ rights_of b → Final (Seen (IsRuled b) id v) ws xs → IsSized (rights_of b) c → n ≡ length (rights_of b).outcomes → m ≡ n + length (rights_of b).slots
+pub settles : (b : Batch) (id : ℕ) (v : View) (ws : List ℕ) (xs : List (Unit {0})) (c : Words) (n m : ℕ) → v.right ≡ rights_of b
+    → Final (Seen (IsRuled b) id v) ws xs → IsSized (rights_of b) c → n ≡ length (rights_of b).outcomes → m ≡ n + length (rights_of b).slots
     → ((j : ℕ) → j < length c.statuses → get_or c.statuses j 0 ≡ get_or ws (0 + j) 0)
     → ((j : ℕ) → j < length c.presences → get_or c.presences j 0 ≡ get_or ws (n + j) 0)
     → ((j : ℕ) → j < length c.values → get_or c.values j 0 ≡ get_or ws (m + j) 0)
@@ -78,9 +79,16 @@ settles b id v ws xs c n m own final sized is_n is_m at_a at_b at_c =
     let w = rule.shows.words in
     let first : n ≡ length c.statuses = is_n ∙ sym sized.statuses in
     let second : m ≡ length c.statuses + length c.presences = is_m ∙ (λ i. first i + sym sized.presences i) in
-    let same : w ≡ c = same_words w ws c.statuses c.presences c.values (sym final.2 ∙ rule.shows.line) (sized.statuses ∙ sym old.statuses) (sized.presences ∙ sym old.presences) (sized.values ∙ sym old.values)
-    at_a (subst (λ (z : ℕ). (j : ℕ) → j < length c.presences → get_or c.presences j 0 ≡ get_or ws (z + j) 0) first at_b) (subst (λ (z : ℕ). (j : ℕ) → j < length c.values → get_or c.values j 0 ≡ get_or ws (z + j) 0) second at_c) in
-    record { state = rule.state; shown = subst (λ (z : Words). AreShown b z rule.state) same rule.shows.shown; reached = rule.reached; saw = true_of b final.0 rule id v final.1.1 own }
+    let same : w ≡ c = same_words w ws c.statuses c.presences c.values (sym final.2 ∙ rule.shows.line) (sized.statuses ∙ sym old.statuses)
+    (sized.presences ∙ sym old.presences) (sized.values ∙ sym old.values)
+    at_a (subst (λ (z : ℕ). (j : ℕ) → j < length c.presences → get_or c.presences j 0 ≡ get_or ws (z + j) 0) first at_b)
+    (subst (λ (z : ℕ). (j : ℕ) → j < length c.values → get_or c.values j 0 ≡ get_or ws (z + j) 0) second at_c) in
+    record {
+      state = rule.state;
+      shown = subst (λ (z : Words). AreShown b z rule.state) same rule.shows.shown;
+      reached = rule.reached;
+      saw = true_of b final.0 rule id v final.1.1 own;
+    }
 
 pub two_word : (c : Cell) → filled_word c ≢ 1 → filled_word c ≡ 2
 two_word cells.Absent ne = absurd (ne refl)
@@ -89,7 +97,8 @@ two_word (cells.Present z) ne = refl
 -- ---- completing them
 
 -- a right cell is put
-pub cell_put : (b : Batch) (w : Words) (s : Slot) (c : Cell) (p n : ℕ) → IsSized (rights_of b) w → AreSound b w → IsSlot b s → IsRightCell b s c → p ≡ filled_word c → (filled_word c ≡ 2 → present_at n ≡ c)
+pub cell_put : (b : Batch) (w : Words) (s : Slot) (c : Cell) (p n : ℕ) → IsSized (rights_of b) w → AreSound b w → IsSlot b s → IsRightCell b s c
+    → p ≡ filled_word c → (filled_word c ≡ 2 → present_at n ≡ c)
     → AreSound b (record w { presences = set w.presences (number b s) p; values = set w.values (number b s) n })
 cell_put b w s c p n sized sound is right word value =
     let k : ℕ = number b s in
@@ -102,7 +111,8 @@ cell_put b w s c p n sized sound is right word value =
     let same : (x : Slot) → IsSlot b x → number b x ≡ k → s ≡ x = λ x also e. one_number b s x is also (sym e) in record {
       outcomes = sound.outcomes;
       presences = λ x d also this. put_at (λ z. z ≢ 0 → z ≡ filled_word d) w.presences k p (number b x) in_presences
-          (λ e _. word ∙ ap filled_word (one_cell b x c d (subst (λ (z : Slot). IsRightCell b z c) (same x also e) right) this)) (λ _. sound.presences x d also this);
+          (λ e _. word ∙ ap filled_word (one_cell b x c d (subst (λ (z : Slot). IsRightCell b z c) (same x also e) right) this))
+          (λ _. sound.presences x d also this);
       values = λ x also. put_at (λ z. z ≡ 2 → IsRightCell b x (present_at (get_or (set w.values k n) (number b x) 0))) w.presences k p (number b x) in_presences
           (λ e two. put_at (λ z. IsRightCell b x (present_at z)) w.values k n (number b x) in_values
           (λ _. subst (λ (z : Slot). IsRightCell b z (present_at n)) (same x also e) (right ∙ ap Some (sym (value (sym word ∙ two))))) (λ ne. absurd (ne e)))
@@ -115,7 +125,8 @@ cell_put b w s c p n sized sound is right word value =
     some_cell (cells.Present z) e = omega arith
 
 -- the right outcome is put, where all slots have their cells
-pub outcome_put : (b : Batch) (w : Words) (t : ℕ) (o : Outcome) (x : ℕ) → IsSized (rights_of b) w → AreSound b w → IsIn b t → IsRightOutcome b t o → x ≡ word_of o → ((y : Slot) → IsSlot b y → y.txn ≡ t → get_or w.presences (number b y) 0 ≢ 0)
+pub outcome_put : (b : Batch) (w : Words) (t : ℕ) (o : Outcome) (x : ℕ) → IsSized (rights_of b) w → AreSound b w → IsIn b t → IsRightOutcome b t o
+    → x ≡ word_of o → ((y : Slot) → IsSlot b y → y.txn ≡ t → get_or w.presences (number b y) 0 ≢ 0)
     → AreSound b (record w { statuses = set w.statuses (position b t) x })
 outcome_put b w t o x sized sound is right word full =
     let i : ℕ = position b t in
@@ -123,7 +134,8 @@ outcome_put b w t o x sized sound is right word full =
     let inside : i < length w.statuses = omega (arith, position_inside b t is, outcomes_long b) in
     let back : outcome_at x ≡ o = ap outcome_at word ∙ outcome_back o (short_outcome b i o right) in record {
       outcomes = λ u also. put_at (λ z. 2 ≤ z → IsRightOutcome b u (outcome_at z)) w.statuses i x (position b u) inside
-          (λ e _. subst (λ (z : ℕ). IsRightOutcome b z (outcome_at x)) (one_position b t u is also (sym e)) (right ∙ ap Some (sym back))) (λ _. sound.outcomes u also);
+          (λ e _. subst (λ (z : ℕ). IsRightOutcome b z (outcome_at x)) (one_position b t u is also (sym e)) (right ∙ ap Some (sym back)))
+          (λ _. sound.outcomes u also);
       presences = sound.presences;
       values = sound.values;
       whole = λ y also. put_at (λ z. 2 ≤ z → get_or w.presences (number b y) 0 ≢ 0) w.statuses i x (position b y.txn) inside

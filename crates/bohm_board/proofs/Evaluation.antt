@@ -1,5 +1,7 @@
--- The input of a position has at each declared key the cell by its access, and where its wanted slots are filled the position ends over it as in the serial run.
-use Rattle.std.proofs.Common.{◌≡◌, ℕ, zero, suc, ◌+◌, List, [], ◌∷◌, ◌++◌, map, length, Bool, true, false, cond, Some, refl, ap, sym, ◌∙◌, subst, inl, inr, arith, ◌<◌, ◌≤◌, ⊎_elim}
+-- The input of a position has at each declared key the cell by its access, and
+-- where its wanted slots are filled the position ends over it as in the serial run.
+use Rattle.std.proofs.Common.{◌≡◌, ℕ, zero, suc, ◌+◌, List, [], ◌∷◌, ◌++◌, map, length, Bool, true, false}
+use Rattle.std.proofs.Common.{cond, Some, refl, ap, sym, ◌∙◌, subst, inl, inr, arith, ◌<◌, ◌≤◌, ⊎_elim}
 use Rattle.std.specs.Prelude.{Option, Contains, unwrap_or, if◌then◌else◌, true}
 use Rattle.std.specs.Option.{option_map}
 use Rattle.std.specs.List.{slice_get, All}
@@ -7,10 +9,10 @@ use Rattle.std.specs.Str.{bytes_eq}
 use Rattle.std.proofs.lemmas.Option.{same_Some, slice_get_within, get_or_from_slice_get}
 use Rattle.std.proofs.lemmas.List.{append-nil}
 use Rattle.std.proofs.lemmas.List.Elements.{Contains-append_left, Contains-append_right}
-use Rattle.bohm_tree.specs.declared.cell.Cell.{Cell}
-use Rattle.bohm_tree.specs.declared.cell.Cell.TheVariants as cells
-use Rattle.bohm_tree.specs.Txn.{Txn}
-use Rattle.bohm_tree.specs.Keys.{IsAmong, is_among}
+use Rattle.bohm_types.specs.declared.cell.Cell.{Cell}
+use Rattle.bohm_types.specs.declared.cell.Cell.TheVariants as cells
+use Rattle.bohm_types.specs.Txn.{Txn}
+use Rattle.bohm_types.specs.Keys.{IsAmong, is_among}
 use Rattle.bohm_txn.specs.Declares.{shows_in}
 use Rattle.bohm_txn.specs.Meaning.{Look, Ended, newest, body, ◌>>=◌}
 use Rattle.bohm_txn.specs.Serial.{after, state, shows_of, outcome_of}
@@ -22,7 +24,8 @@ use Rattle.bohm_place.specs.declared.access.Source.TheVariants.{Before, Within}
 use Rattle.bohm_board.specs.declared.batch.Batch.{Batch}
 use Rattle.bohm_board.specs.declared.slot.Slot.{Slot}
 use Rattle.bohm_board.specs.Serial.{own_cells, show_cells}
-use Rattle.bohm_board.specs.Batches.{txns_of, base_of, position, number, rights_of, right_cell, IsIn, IsSlot, txn_at, reads_at, writes_at, wanted_at, is_sure_at, plan_of, first_of}
+use Rattle.bohm_board.specs.Batches.{txns_of, base_of, position, number, rights_of, right_cell, IsIn, IsSlot}
+use Rattle.bohm_board.specs.Batches.{txn_at, reads_at, writes_at, wanted_at, is_sure_at, plan_of, first_of}
 use Rattle.bohm_board.specs.Inputs.{IsCellFrom, IsCellOf, EndsAlike}
 use Rattle.bohm_board.proofs.Inputs.{among_place, own_right, outcome_right, read_before, write_before, cell_planned}
 use Rattle.bohm_board.proofs.SlotNumbers.{txn_there, slot_there}
@@ -45,7 +48,8 @@ contains_at xs j x e = (j, slice_get_within xs j x e, get_or_from_slice_get xs j
 -- ---- what a fold of entries finds
 
 -- where each entry of the key has P, and so has what stands before, what is found has it
-newest_has : (P : Cell → Type 0) (es : List (List ℕ × Cell)) (k : List ℕ) (d : Cell) → ((j : ℕ) (e : List ℕ × Cell) → slice_get es j ≡ Some e → e.0 ≡ k → P e.1) → P d → P (newest es k d)
+newest_has : (P : Cell → Type 0) (es : List (List ℕ × Cell)) (k : List ℕ) (d : Cell)
+    → ((j : ℕ) (e : List ℕ × Cell) → slice_get es j ≡ Some e → e.0 ≡ k → P e.1) → P d → P (newest es k d)
 newest_has P [] k d each here = here
 newest_has P (e ∷ es) k d each here =
     newest_has P es k (if bytes_eq e.0 k then e.1 else d) (λ j. each (suc j))
@@ -55,7 +59,8 @@ newest_has P (e ∷ es) k d each here =
     ] refl)
 
 -- where the key has an entry, what is found is that of an entry of the key
-pub newest_among : (P : Cell → Type 0) (es : List (List ℕ × Cell)) (k : List ℕ) (d : Cell) (j : ℕ) (e : List ℕ × Cell) → slice_get es j ≡ Some e → e.0 ≡ k → ((m : ℕ) (f : List ℕ × Cell) → slice_get es m ≡ Some f → f.0 ≡ k → P f.1) → P (newest es k d)
+pub newest_among : (P : Cell → Type 0) (es : List (List ℕ × Cell)) (k : List ℕ) (d : Cell) (j : ℕ) (e : List ℕ × Cell) → slice_get es j ≡ Some e → e.0 ≡ k
+    → ((m : ℕ) (f : List ℕ × Cell) → slice_get es m ≡ Some f → f.0 ≡ k → P f.1) → P (newest es k d)
 newest_among P [] k d j e at same each = absurd cc
 newest_among P (x ∷ es) k d zero e at same each =
     let first : x ≡ e = same_Some x e at in
@@ -73,7 +78,8 @@ pub record IsEntry (b : Batch) (s : State) (keys : List (List ℕ)) (accesses : 
   pub access_at : slice_get accesses j ≡ Some access
   pub cell : e.1 ≡ cell_at b s e.0 access
 
-pub entry_of : (b : Batch) (s : State) (keys : List (List ℕ)) (accesses : List Access) (j : ℕ) (e : List ℕ × Cell) → slice_get (entries b s keys accesses) j ≡ Some e → IsEntry b s keys accesses j e
+pub entry_of : (b : Batch) (s : State) (keys : List (List ℕ)) (accesses : List Access) (j : ℕ) (e : List ℕ × Cell)
+    → slice_get (entries b s keys accesses) j ≡ Some e → IsEntry b s keys accesses j e
 entry_of b s [] accesses j e at = absurd cc
 entry_of b s (k ∷ ks) [] j e at = absurd cc
 entry_of b s (k ∷ ks) (a ∷ more) zero e at =
@@ -84,7 +90,8 @@ entry_of b s (k ∷ ks) (a ∷ more) (suc j) e at =
     record { access = rest.access; key_at = rest.key_at; access_at = rest.access_at; cell = rest.cell }
 
 -- each key with an access has an entry
-pub entry_at : (b : Batch) (s : State) (keys : List (List ℕ)) (accesses : List Access) (j : ℕ) (k : List ℕ) (a : Access) → slice_get keys j ≡ Some k → slice_get accesses j ≡ Some a → slice_get (entries b s keys accesses) j ≡ Some (k, cell_at b s k a)
+pub entry_at : (b : Batch) (s : State) (keys : List (List ℕ)) (accesses : List Access) (j : ℕ) (k : List ℕ) (a : Access) → slice_get keys j ≡ Some k
+    → slice_get accesses j ≡ Some a → slice_get (entries b s keys accesses) j ≡ Some (k, cell_at b s k a)
 entry_at b s [] accesses j k a at_key at_access = absurd cc
 entry_at b s (x ∷ ks) [] j k a at_key at_access = absurd cc
 entry_at b s (x ∷ ks) (y ∷ more) zero k a at_key at_access =
@@ -130,8 +137,10 @@ same_index first txns k u i j all n m =
     let other : u ≡ first + m.there.place = m.there.timestamp in
     let place : m.there.place ≡ n.there.place = omega arith in
     let same : m.txn ≡ n.txn = same_Some m.txn n.txn (sym m.there.is_at ∙ (ap (slice_get txns) place ∙ n.there.is_at)) in
-    let formed : IsWellFormedTxn n.txn = subst IsWellFormedTxn (get_or_from_slice_get txns n.there.place n.txn n.txn n.there.is_at) (all n.there.place n.txn (slice_get_within txns n.there.place n.txn n.there.is_at)) in
-    same_place n.txn.writes i j k (AreDistinct-rising n.txn.writes (rising_writes n.txn formed)) n.declared (subst (λ (x : Txn). slice_get x.writes j ≡ Some k) same m.declared)
+    let formed : IsWellFormedTxn n.txn = subst IsWellFormedTxn (get_or_from_slice_get txns n.there.place n.txn n.txn n.there.is_at)
+    (all n.there.place n.txn (slice_get_within txns n.there.place n.txn n.there.is_at)) in
+    same_place n.txn.writes i j k (AreDistinct-rising n.txn.writes (rising_writes n.txn formed)) n.declared
+    (subst (λ (x : Txn). slice_get x.writes j ≡ Some k) same m.declared)
 
 -- ---- each entry of a key has the same cell
 
@@ -139,16 +148,20 @@ module _ (b : Batch) (s : State) (t : ℕ) (x : Txn) (at : txn_at b t ≡ Some x
   abbrev Right : List ℕ → Access → Type 0
   Right k a = IsRightAccess (first_of b) (txns_of b) (first_of b + position b t) k a
 
-  same_cell_by : (k : List ℕ) (i j : ℕ) (o : Source) → IsIndexOf (first_of b) (txns_of b) k i o → IsIndexOf (first_of b) (txns_of b) k j o → cell_from b s k i o ≡ cell_from b s k j o
+  same_cell_by : (k : List ℕ) (i j : ℕ) (o : Source) → IsIndexOf (first_of b) (txns_of b) k i o → IsIndexOf (first_of b) (txns_of b) k j o
+      → cell_from b s k i o ≡ cell_from b s k j o
   same_cell_by k i j Before n m = refl
-  same_cell_by k i j (Within u) n m = ap (λ (index : ℕ). cell_in s (record { txn = u; index = index })) (same_index (first_of b) (txns_of b) k u i j b.batched.formed n m)
+  same_cell_by k i j (Within u) n m = ap (λ (index : ℕ). cell_in s (record { txn = u; index = index }))
+      (same_index (first_of b) (txns_of b) k u i j b.batched.formed n m)
 
   same_cell : (k : List ℕ) (a d : Access) → Right k a → Right k d → cell_at b s k a ≡ cell_at b s k d
   same_cell k a d n m =
       let source : a.source ≡ d.source = same_source (first_of b) (txns_of b) k (first_of b + position b t) a.source d.source n.newest m.newest in
-      ap (cell_from b s k a.index) source ∙ same_cell_by k a.index d.index d.source (subst (IsIndexOf (first_of b) (txns_of b) k a.index) source n.write) m.write
+      ap (cell_from b s k a.index) source ∙ same_cell_by k a.index d.index d.source
+      (subst (IsIndexOf (first_of b) (txns_of b) k a.index) source n.write) m.write
 
-  own_entry : (keys : List (List ℕ)) (accesses : List Access) → AreRightAccesses (first_of b) (txns_of b) (first_of b + position b t) keys accesses → (m : ℕ) (e : List ℕ × Cell) (k : List ℕ) (a : Access) → Right k a → slice_get (entries b s keys accesses) m ≡ Some e → e.0 ≡ k → e.1 ≡ cell_at b s k a
+  own_entry : (keys : List (List ℕ)) (accesses : List Access) → AreRightAccesses (first_of b) (txns_of b) (first_of b + position b t) keys accesses
+      → (m : ℕ) (e : List ℕ × Cell) (k : List ℕ) (a : Access) → Right k a → slice_get (entries b s keys accesses) m ≡ Some e → e.0 ≡ k → e.1 ≡ cell_at b s k a
   own_entry keys accesses are m e k a right at_m key =
       let is = entry_of b s keys accesses m e at_m in
       let here : Right e.0 is.access = are.each m e.0 is.access is.key_at is.access_at in
@@ -158,44 +171,55 @@ module _ (b : Batch) (s : State) (t : ℕ) (x : Txn) (at : txn_at b t ≡ Some x
   all_entries = entries b s x.reads (reads_at b t) ++ entries b s x.writes (writes_at b t)
 
   each_entry : (k : List ℕ) (a : Access) → Right k a → (m : ℕ) (e : List ℕ × Cell) → slice_get all_entries m ≡ Some e → e.0 ≡ k → e.1 ≡ cell_at b s k a
-  each_entry k a right m e at_m key = elim (in_either (entries b s x.reads (reads_at b t)) (entries b s x.writes (writes_at b t)) m e at_m) as (λ _. e.1 ≡ cell_at b s k a) [
-    | inl h ↦ own_entry x.reads (reads_at b t) (plan.reads (position b t) x at) m e k a right h key
-    | inr (n, _, h) ↦ own_entry x.writes (writes_at b t) (plan.writes (position b t) x at) n e k a right h key
-  ]
+  each_entry k a right m e at_m key = elim (in_either (entries b s x.reads (reads_at b t))
+      (entries b s x.writes (writes_at b t)) m e at_m) as (λ _. e.1 ≡ cell_at b s k a) [
+        | inl h ↦ own_entry x.reads (reads_at b t) (plan.reads (position b t) x at) m e k a right h key
+        | inr (n, _, h) ↦ own_entry x.writes (writes_at b t) (plan.writes (position b t) x at) n e k a right h key
+      ]
 
   found : (k : List ℕ) (a : Access) (m : ℕ) → Right k a → slice_get all_entries m ≡ Some (k, cell_at b s k a) → input b s t x k ≡ cell_at b s k a
   found k a m right at_m = newest_among (λ c. c ≡ cell_at b s k a) all_entries k cells.Absent m (k, cell_at b s k a) at_m refl (each_entry k a right)
 
   read_found : (j : ℕ) (k : List ℕ) (a : Access) → slice_get x.reads j ≡ Some k → slice_get (reads_at b t) j ≡ Some a → input b s t x k ≡ cell_at b s k a
   read_found j k a at_key at_access =
-      found k a j ((plan.reads (position b t) x at).each j k a at_key at_access) (get_left (entries b s x.reads (reads_at b t)) (entries b s x.writes (writes_at b t)) j (k, cell_at b s k a) (entry_at b s x.reads (reads_at b t) j k a at_key at_access))
+      found k a j ((plan.reads (position b t) x at).each j k a at_key at_access)
+      (get_left (entries b s x.reads (reads_at b t)) (entries b s x.writes (writes_at b t)) j (k, cell_at b s k a)
+      (entry_at b s x.reads (reads_at b t) j k a at_key at_access))
 
   write_found : (j : ℕ) (k : List ℕ) (a : Access) → slice_get x.writes j ≡ Some k → slice_get (writes_at b t) j ≡ Some a → input b s t x k ≡ cell_at b s k a
   write_found j k a at_key at_access =
       let first : List (List ℕ × Cell) = entries b s x.reads (reads_at b t) in
-      found k a (length first + j) ((plan.writes (position b t) x at).each j k a at_key at_access) (get_right first (entries b s x.writes (writes_at b t)) (length first + j) j refl ∙ entry_at b s x.writes (writes_at b t) j k a at_key at_access)
+      found k a (length first + j) ((plan.writes (position b t) x at).each j k a at_key at_access)
+      (get_right first (entries b s x.writes (writes_at b t)) (length first + j) j refl ∙ entry_at b s x.writes (writes_at b t) j k a at_key at_access)
 
-pub read_by_access : (b : Batch) (s : State) (t j : ℕ) (x : Txn) (k : List ℕ) (a : Access) → txn_at b t ≡ Some x → slice_get x.reads j ≡ Some k → slice_get (reads_at b t) j ≡ Some a → input b s t x k ≡ cell_at b s k a
-read_by_access b s t j x k a at at_key at_access = cell_planned b k (input b s t x) (cell_at b s k a) (λ plan. read_found b s t x at plan j k a at_key at_access)
+pub read_by_access : (b : Batch) (s : State) (t j : ℕ) (x : Txn) (k : List ℕ) (a : Access) → txn_at b t ≡ Some x → slice_get x.reads j ≡ Some k
+    → slice_get (reads_at b t) j ≡ Some a → input b s t x k ≡ cell_at b s k a
+read_by_access b s t j x k a at at_key at_access =
+    cell_planned b k (input b s t x) (cell_at b s k a) (λ plan. read_found b s t x at plan j k a at_key at_access)
 
-pub write_by_access : (b : Batch) (s : State) (t j : ℕ) (x : Txn) (k : List ℕ) (a : Access) → txn_at b t ≡ Some x → slice_get x.writes j ≡ Some k → slice_get (writes_at b t) j ≡ Some a → input b s t x k ≡ cell_at b s k a
-write_by_access b s t j x k a at at_key at_access = cell_planned b k (input b s t x) (cell_at b s k a) (λ plan. write_found b s t x at plan j k a at_key at_access)
+pub write_by_access : (b : Batch) (s : State) (t j : ℕ) (x : Txn) (k : List ℕ) (a : Access) → txn_at b t ≡ Some x → slice_get x.writes j ≡ Some k
+    → slice_get (writes_at b t) j ≡ Some a → input b s t x k ≡ cell_at b s k a
+write_by_access b s t j x k a at at_key at_access =
+    cell_planned b k (input b s t x) (cell_at b s k a) (λ plan. write_found b s t x at plan j k a at_key at_access)
 
 -- ---- Body(t, Input(t)) is Body(t, S(t - 1))
 
-source_right : (b : Batch) (s : State) (k : List ℕ) (index : ℕ) (o : Source) → IsSound b s → ((u : ℕ) → o ≡ Within u → IsFull s (record { txn = u; index = index })) → IsCellFrom b k index (cell_from b s k index o) o
+source_right : (b : Batch) (s : State) (k : List ℕ) (index : ℕ) (o : Source) → IsSound b s
+    → ((u : ℕ) → o ≡ Within u → IsFull s (record { txn = u; index = index })) → IsCellFrom b k index (cell_from b s k index o) o
 source_right b s k index Before sound filled = refl
 source_right b s k index (Within u) sound filled = filled_right b s (record { txn = u; index = index }) sound (filled u refl)
 
 -- the cell of a wanted access is right
-wanted_right : (b : Batch) (s : State) (t : ℕ) (k : List ℕ) (a : Access) → IsSound b s → HasWanted b s t → Contains (wanted_at b t) a → IsCellOf b k a (cell_at b s k a)
+wanted_right : (b : Batch) (s : State) (t : ℕ) (k : List ℕ) (a : Access) → IsSound b s → HasWanted b s t → Contains (wanted_at b t) a
+    → IsCellOf b k a (cell_at b s k a)
 wanted_right b s t k a sound filled in_it = source_right b s k a.index a.source sound (λ u e. filled a u in_it e)
 
 unsure_wants : (b : Batch) (t : ℕ) → is_sure_at b t ≡ false → wanted_at b t ≡ reads_at b t ++ writes_at b t
 unsure_wants b t e = ap (λ (sure : Bool). reads_at b t ++ (if sure then [] else writes_at b t)) e
 
 -- every declared key of an unsure transaction has its cell of the state before it
-module _ (b : Batch) (s : State) (t : ℕ) (x : Txn) (at : txn_at b t ≡ Some x) (sound : IsSound b s) (filled : HasWanted b s t) (unsure : is_sure_at b t ≡ false) where
+module _ (b : Batch) (s : State) (t : ℕ) (x : Txn) (at : txn_at b t ≡ Some x) (sound : IsSound b s) (filled : HasWanted b s t)
+    (unsure : is_sure_at b t ≡ false) where
   abbrev before : Look
   before = state (base_of b) (txns_of b) (position b t)
 
@@ -212,7 +236,8 @@ module _ (b : Batch) (s : State) (t : ℕ) (x : Txn) (at : txn_at b t ≡ Some x
       let (a, at_access) = there (reads_at b t) j (omega (arith, slice_get_within x.reads j k at_key, reads_paired b t x at)) in
       let right = wanted_right b s t k a sound filled (read_wanted a (contains_at (reads_at b t) j a at_access)) in
       read_by_access b s t j x k a at at_key at_access
-      ∙ sym (read_before b (position b t) x j k (cell_at b s k a) at at_key (λ d at_d. subst (λ (y : Access). IsCellOf b k y (cell_at b s k a)) (same_Some a d (sym at_access ∙ at_d)) right))
+      ∙ sym (read_before b (position b t) x j k (cell_at b s k a) at at_key
+      (λ d at_d. subst (λ (y : Access). IsCellOf b k y (cell_at b s k a)) (same_Some a d (sym at_access ∙ at_d)) right))
 
   unsure_write : (k : List ℕ) → IsAmong x.writes k → input b s t x k ≡ before k
   unsure_write k among =
@@ -220,11 +245,13 @@ module _ (b : Batch) (s : State) (t : ℕ) (x : Txn) (at : txn_at b t ≡ Some x
       let (a, at_access) = there (writes_at b t) j (omega (arith, slice_get_within x.writes j k at_key, writes_paired b t x at)) in
       let right = wanted_right b s t k a sound filled (write_wanted a (contains_at (writes_at b t) j a at_access)) in
       write_by_access b s t j x k a at at_key at_access
-      ∙ sym (write_before b (position b t) x j k (cell_at b s k a) at at_key (λ d at_d. subst (λ (y : Access). IsCellOf b k y (cell_at b s k a)) (same_Some a d (sym at_access ∙ at_d)) right))
+      ∙ sym (write_before b (position b t) x j k (cell_at b s k a) at at_key
+      (λ d at_d. subst (λ (y : Access). IsCellOf b k y (cell_at b s k a)) (same_Some a d (sym at_access ∙ at_d)) right))
 
   unsure_alike : EndsAlike (input b s t x) before x
   unsure_alike =
-      let bodies : body (input b s t x) x ≡ body before x = same_reads (input b s t x) before x (usable_at (txns_of b) b.batched.formed (position b t) x at) unsure_read in
+      let bodies : body (input b s t x) x ≡ body before x =
+      same_reads (input b s t x) before x (usable_at (txns_of b) b.batched.formed (position b t) x at) unsure_read in
       let own : map (after (input b s t x) x) x.writes ≡ map (after before x) x.writes = same_cells (input b s t x) before x x.writes bodies unsure_write in
       record { bodies = bodies; cells = λ d. own d ++ show_cells (shows_in x.body) (shows_of (bodies d)) }
 
@@ -234,7 +261,8 @@ sure_alike look other x sure =
     let own : map (after look x) x.writes ≡ map (after other x) x.writes = sure_after look other x sure in
     record { bodies = bodies; cells = λ d. own d ++ show_cells (shows_in x.body) (shows_of (bodies d)) }
 
-pub over_own_input : (b : Batch) (s : State) (t : ℕ) (x : Txn) → txn_at b t ≡ Some x → IsSound b s → HasWanted b s t → EndsAlike (input b s t x) (state (base_of b) (txns_of b) (position b t)) x
+pub over_own_input : (b : Batch) (s : State) (t : ℕ) (x : Txn) → txn_at b t ≡ Some x → IsSound b s → HasWanted b s t
+    → EndsAlike (input b s t x) (state (base_of b) (txns_of b) (position b t)) x
 over_own_input b s t x at sound filled =
     let here : is_sure_at b t ≡ is_sure x = ap (λ (o : Option Txn). unwrap_or (option_map is_sure o) false) at in
     elim (is_sure x) as (λ (v : Bool). is_sure x ≡ v → EndsAlike (input b s t x) (state (base_of b) (txns_of b) (position b t)) x) [
@@ -247,7 +275,8 @@ over_own_input b s t x at sound filled =
 outcome_at : (b : Batch) (s : State) (t : ℕ) (x : Txn) → txn_at b t ≡ Some x → outcome_over b s t ≡ Some (outcome_of (body (input b s t x) x))
 outcome_at b s t x at = ap (λ (o : Option Txn). option_map (λ y. outcome_of (body (input b s t y) y)) o) at
 
-pub outcome_is_right : (b : Batch) (s : State) (t : ℕ) → IsSound b s → IsIn b t → HasWanted b s t → outcome_over b s t ≡ slice_get (rights_of b).outcomes (position b t)
+pub outcome_is_right : (b : Batch) (s : State) (t : ℕ) → IsSound b s → IsIn b t → HasWanted b s t
+    → outcome_over b s t ≡ slice_get (rights_of b).outcomes (position b t)
 outcome_is_right b s t sound inside filled =
     let (x, at) = txn_there b t inside in
     let alike = over_own_input b s t x at sound filled in
@@ -256,7 +285,8 @@ outcome_is_right b s t sound inside filled =
 cell_over_at : (b : Batch) (s : State) (y : Slot) (x : Txn) → txn_at b y.txn ≡ Some x → cell_over b s y ≡ slice_get (own_cells (input b s y.txn x) x) y.index
 cell_over_at b s y x at = ap (λ (o : Option Txn). o >>= (λ z. slice_get (own_cells (input b s y.txn z) z) y.index)) at
 
-pub cell_is_right : (b : Batch) (s : State) (y : Slot) → IsSound b s → IsSlot b y → HasWanted b s y.txn → cell_over b s y ≡ right_cell (rights_of b) (number b y)
+pub cell_is_right : (b : Batch) (s : State) (y : Slot) → IsSound b s → IsSlot b y → HasWanted b s y.txn
+    → cell_over b s y ≡ right_cell (rights_of b) (number b y)
 cell_is_right b s y sound is filled =
     let (x, at, below) = slot_there b y is in
     let before : Look = state (base_of b) (txns_of b) (position b y.txn) in

@@ -8,14 +8,22 @@ use Rattle.bohm_board.specs.declared.status.Claimed.TheVariants as won
 use Rattle.bohm_board.specs.declared.batch.Batch.{Batch}
 use Rattle.bohm_board.specs.Batches.{rights_of}
 use Rattle.bohm_board.specs.Core.{Progress, State, Open, Claimed, Done, empty_state}
-use Rattle.bohm_board.specs.Events.{Event, LookPresence, LookValue, Status, Claim, FillValue, FillPresence, Finish, Split, Join, IsAllowed, IsRun, IsReached, final_state, next_state, is_win, is_finish}
+use Rattle.bohm_board.specs.Events.{Event, LookPresence, LookValue, Status, Claim, FillValue, FillPresence, Finish}
+use Rattle.bohm_board.specs.Events.{Split, Join, IsAllowed, IsRun, IsReached, final_state, next_state, is_win, is_finish}
 use Rattle.bohm_board.specs.Law.{IsLawful, Stays}
 use Rattle.bohm_board.proofs.BoardLaw.{Grows, still, stays, put_cases, true_of_newcomer}
 use Rattle.bohm_board.proofs.LawPreservation.{advances, won_mine}
 
 pub starts : (b : Batch) → IsLawful b (empty_state b)
 starts b = record {
-  sound = record { absent = λ x h. absurd cc; present = λ x h. absurd cc; inside = λ t o h. absurd cc; outcomes = λ t o h. absurd cc; whole = λ x o is h. absurd cc; untouched = λ x h. refl };
+  sound = record {
+    absent = λ x h. absurd cc;
+    present = λ x h. absurd cc;
+    inside = λ t o h. absurd cc;
+    outcomes = λ t o h. absurd cc;
+    whole = λ x o is h. absurd cc;
+    untouched = λ x h. refl;
+  };
   each = λ p. true_of_newcomer b (empty_state b) p (rights_of b) (inr refl);
   held = λ p t h. absurd cc;
 }
@@ -37,14 +45,24 @@ leave_more s [] e = refl
 leave_more s (f ∷ es) e = leave_more (next_state s f) es e
 
 pub reached_more : (b : Batch) (s : State) (e : Event) → IsReached b s → IsAllowed b s e → IsReached b (next_state s e)
-reached_more b s e r may = (r.0 ++ e ∷ [], run_more b (empty_state b) r.0 e r.1 (subst (λ (z : State). IsAllowed b z e) (sym r.2) may), leave_more (empty_state b) r.0 e ∙ ap (λ (z : State). next_state z e) r.2)
+reached_more b s e r may = (
+  r.0 ++ e ∷ [],
+  run_more b (empty_state b) r.0 e r.1 (subst (λ (z : State). IsAllowed b z e) (sym r.2) may),
+  leave_more (empty_state b) r.0 e ∙ ap (λ (z : State). next_state z e) r.2,
+)
 
 grows_more : (b : Batch) (s r q : State) → Grows b s r → Grows b r q → Grows b s q
-grows_more b s r q g h = record { done = λ t o e. h.done t o (g.done t o e); busy = λ t e. h.busy t (g.busy t e); filled = λ x k e. h.filled x k (g.filled x k e); stored = λ x z right e. h.stored x z right (g.stored x z right e) }
+grows_more b s r q g h = record {
+  done = λ t o e. h.done t o (g.done t o e);
+  busy = λ t e. h.busy t (g.busy t e);
+  filled = λ x k e. h.filled x k (g.filled x k e);
+  stored = λ x z right e. h.stored x z right (g.stored x z right e);
+}
 
 grows_on : (b : Batch) (s : State) (es : List Event) → IsLawful b s → IsRun b s es → Grows b s (final_state s es)
 grows_on b s [] kept run = still b s s.views
-grows_on b s (e ∷ es) kept run = grows_more b s (next_state s e) (final_state (next_state s e) es) (advances b s e kept run.0).grows (grows_on b (next_state s e) es (advances b s e kept run.0).lawful run.1)
+grows_on b s (e ∷ es) kept run = grows_more b s (next_state s e) (final_state (next_state s e) es) (advances b s e kept run.0).grows
+    (grows_on b (next_state s e) es (advances b s e kept run.0).lawful run.1)
 
 pub reached_stays : (b : Batch) (s : State) (es : List Event) → IsReached b s → IsRun b s es → Stays s (final_state s es)
 reached_stays b s es r run = let kept = reached_lawful b s r in stays b s (final_state s es) kept.sound (grows_on b s es kept run)
@@ -92,8 +110,10 @@ claim_of t (Join p q) h = absurd cc
 
 pub claimed_once : (b : Batch) (es : List Event) (t : ℕ) → IsRun b (empty_state b) es → count_by (is_win t) es ≤ 1
 claimed_once b es t run = one_passes b (is_win t) (λ s. s.positions t ≢ Open)
-    (λ s e kept may closed. false_from_ne_true (is_win t e) (λ h. let (p, is) = claim_of t e h in closed (won_mine (s.positions t) (subst (λ (z : Event). IsAllowed b s z) is may).3)))
-    (λ s e kept may h. let (p, is) = claim_of t e h in subst (λ (z : Event). (next_state s z).positions t ≢ Open) (sym is) (put_cases (λ w. w ≢ Open) s.positions t (Claimed p) t (λ _ g. cc) (λ ne. absurd (ne refl))))
+    (λ s e kept may closed. false_from_ne_true (is_win t e)
+    (λ h. let (p, is) = claim_of t e h in closed (won_mine (s.positions t) (subst (λ (z : Event). IsAllowed b s z) is may).3)))
+    (λ s e kept may h. let (p, is) = claim_of t e h in subst (λ (z : Event). (next_state s z).positions t ≢ Open) (sym is)
+    (put_cases (λ w. w ≢ Open) s.positions t (Claimed p) t (λ _ g. cc) (λ ne. absurd (ne refl))))
     (λ s e kept may closed. (advances b s e kept may).grows.busy t closed)
     (empty_state b) es (starts b) run
 
@@ -118,7 +138,10 @@ not_both p o w e f = cc
 
 pub finished_once : (b : Batch) (es : List Event) (t : ℕ) → IsRun b (empty_state b) es → count_by (is_finish t) es ≤ 1
 finished_once b es t run = one_passes b (is_finish t) (IsDoneAt t)
-    (λ s e kept may done. false_from_ne_true (is_finish t e) (λ h. let (p, o, is) = ended t e h in not_both p done.0 (s.positions t) ((kept.each p).held t (subst (λ (z : Event). IsAllowed b s z) is may).1.holds) done.1))
-    (λ s e kept may h. let (p, o, is) = ended t e h in subst (λ (z : Event). IsDoneAt t (next_state s z)) (sym is) (o, put_cases (λ w. w ≡ Done o) s.positions t (Done o) t (λ _. refl) (λ ne. absurd (ne refl))))
+    (λ s e kept may done. false_from_ne_true (is_finish t e)
+    (λ h. let (p, o, is) = ended t e h in not_both p done.0 (s.positions t)
+    ((kept.each p).held t (subst (λ (z : Event). IsAllowed b s z) is may).1.holds) done.1))
+    (λ s e kept may h. let (p, o, is) = ended t e h in subst (λ (z : Event). IsDoneAt t (next_state s z)) (sym is)
+    (o, put_cases (λ w. w ≡ Done o) s.positions t (Done o) t (λ _. refl) (λ ne. absurd (ne refl))))
     (λ s e kept may done. (done.0, (advances b s e kept may).grows.done t done.0 done.1))
     (empty_state b) es (starts b) run

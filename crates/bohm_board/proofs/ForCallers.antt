@@ -1,7 +1,8 @@
 -- What the crates above cite of this crate's proofs. Each lemma is proved in the file of its subject.
 
 -- what a later view has of an earlier one
-pub use Rattle.bohm_board.proofs.Monotonicity.{keeps_same, keeps_then, keeps_along, keeps_claimed, keeps_looked, keeps_joined, still_done, still_known, knows_on, knows_looked, joined_done}
+pub use Rattle.bohm_board.proofs.Monotonicity.{keeps_same, keeps_then, keeps_along, keeps_claimed, keeps_looked}
+pub use Rattle.bohm_board.proofs.Monotonicity.{keeps_joined, still_done, still_known, knows_on, knows_looked, joined_done}
 -- a batch's transactions, accesses and wanted sources
 pub use Rattle.bohm_board.proofs.SlotNumbers.{txn_there, width_there}
 pub use Rattle.bohm_board.proofs.WantedSources.{keys_paired, reads_paired, writes_paired, IsEarlier, in_either, wanted_earlier}

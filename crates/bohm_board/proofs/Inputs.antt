@@ -1,17 +1,18 @@
 -- The cells that a position takes by its plan are those of the state before it.
-use Rattle.std.proofs.Common.{◌≡◌, ℕ, suc, ◌+◌, ◌-◌, ◌<◌, ◌≤◌, List, [], ◌∷◌, map, length, Option, None, Some, refl, ap, sym, ◌∙◌, subst, arith, true, false, Bool}
+use Rattle.std.proofs.Common.{◌≡◌, ℕ, suc, ◌+◌, ◌-◌, ◌<◌, ◌≤◌, List, [], ◌∷◌, map, length, Option}
+use Rattle.std.proofs.Common.{None, Some, refl, ap, sym, ◌∙◌, subst, arith, true, false, Bool}
 use Rattle.std.specs.Prelude.{Ok, Err, ◌||◌}
 use Rattle.std.specs.Option.{option_map}
 use Rattle.std.specs.List.{slice_get, list_any}
 use Rattle.std.specs.Str.{bytes_eq}
 use Rattle.std.proofs.Math.Logic.{∥∥₁_elim}
 use Rattle.std.specs.Coded.{Coded-set}
-use Rattle.bohm_tree.specs.contracts.cell.Cell.{the_row}
+use Rattle.bohm_types.specs.contracts.cell.Cell.{the_row}
 use Rattle.std.proofs.lemmas.Option.{same_Some, slice_get_within}
 use Rattle.std.proofs.lemmas.Slice.Eq.{bytes_eq-Decides}
-use Rattle.bohm_tree.specs.declared.cell.Cell.{Cell}
-use Rattle.bohm_tree.specs.Txn.{Txn}
-use Rattle.bohm_tree.specs.Keys.{IsAmong}
+use Rattle.bohm_types.specs.declared.cell.Cell.{Cell}
+use Rattle.bohm_types.specs.Txn.{Txn}
+use Rattle.bohm_types.specs.Keys.{IsAmong}
 use Rattle.bohm_txn.specs.declared.outcome.Outcome.{Outcome}
 use Rattle.bohm_txn.specs.declared.outcome.Reason.{Reason}
 use Rattle.bohm_txn.specs.Meaning.{Look, Ended, body, fresh}
@@ -34,31 +35,38 @@ use Rattle.bohm_board.proofs.SlotPlaces.{outcomes_long}
 use Rattle.bohm_board.proofs.SerialSlots.{slot_serial, own_write, outcome_serial, fault_within}
 
 -- what position i leaves in its slots is right
-pub own_right : (b : Batch) (i : ℕ) (x : Txn) → slice_get (txns_of b) i ≡ Some x → AreRight (rights_of b) (offset (txns_of b) i) (own_cells (state (base_of b) (txns_of b) i) x)
+pub own_right : (b : Batch) (i : ℕ) (x : Txn) → slice_get (txns_of b) i ≡ Some x
+    → AreRight (rights_of b) (offset (txns_of b) i) (own_cells (state (base_of b) (txns_of b) i) x)
 unfolding rights_of
 own_right b i x e = λ j c own. ap (λ o. option_map (λ s. s.cell) o) (slot_serial (first_of b) (base_of b) (txns_of b) i x j c e own)
 
-pub outcome_right : (b : Batch) (i : ℕ) (x : Txn) → slice_get (txns_of b) i ≡ Some x → slice_get (rights_of b).outcomes i ≡ Some (outcome_of (body (state (base_of b) (txns_of b) i) x))
+pub outcome_right : (b : Batch) (i : ℕ) (x : Txn) → slice_get (txns_of b) i ≡ Some x
+    → slice_get (rights_of b).outcomes i ≡ Some (outcome_of (body (state (base_of b) (txns_of b) i) x))
 unfolding rights_of
 outcome_right b i x e = outcome_serial (base_of b) (txns_of b) i x e
 
 -- the right cell of the slot of u for a key is the key's cell after u
-pub slot_right : (b : Batch) (k : List ℕ) (u index : ℕ) → WritesAt (first_of b) (txns_of b) k u index → right_cell (rights_of b) (number b (record { txn = u; index = index })) ≡ Some (state (base_of b) (txns_of b) ((u + 1) - first_of b) k)
+pub slot_right : (b : Batch) (k : List ℕ) (u index : ℕ) → WritesAt (first_of b) (txns_of b) k u index
+    → right_cell (rights_of b) (number b (record { txn = u; index = index })) ≡ Some (state (base_of b) (txns_of b) ((u + 1) - first_of b) k)
 slot_right b k u index w =
     let p = w.there.place in
     let stamp : u ≡ first_of b + p = w.there.timestamp in
     let here : u - first_of b ≡ p = omega arith in
     let past : (u + 1) - first_of b ≡ suc p = omega arith in
-    let own = own_right b p w.txn w.there.is_at index (after (state (base_of b) (txns_of b) p) w.txn k) (own_write (state (base_of b) (txns_of b) p) w.txn index k w.declared) in
+    let own = own_right b p w.txn w.there.is_at index (after (state (base_of b) (txns_of b) p) w.txn k)
+    (own_write (state (base_of b) (txns_of b) p) w.txn index k w.declared) in
     rw (here, past, next (base_of b) (txns_of b) p w.txn w.there.is_at) own
 
 -- the cell of the right access is the key's cell before the position
-pub cell_before : (b : Batch) (i : ℕ) (k : List ℕ) (index : ℕ) (c : Cell) (s : Source) → i ≤ length (txns_of b) → IsNewest (first_of b) (txns_of b) k (first_of b + i) s → IsIndexOf (first_of b) (txns_of b) k index s → IsCellFrom b k index c s → state (base_of b) (txns_of b) i k ≡ c
+pub cell_before : (b : Batch) (i : ℕ) (k : List ℕ) (index : ℕ) (c : Cell) (s : Source) → i ≤ length (txns_of b) → IsNewest (first_of b) (txns_of b) k
+    (first_of b + i) s → IsIndexOf (first_of b) (txns_of b) k index s → IsCellFrom b k index c s → state (base_of b) (txns_of b) i k ≡ c
 cell_before b i k index c Before inside n w is = newest_state_by (base_of b) (txns_of b) (first_of b) i k Before b.batched.formed inside n ∙ sym is
 cell_before b i k index c (Within u) inside n w is =
-    newest_state_by (base_of b) (txns_of b) (first_of b) i k (Within u) b.batched.formed inside n ∙ same_Some (state (base_of b) (txns_of b) ((u + 1) - first_of b) k) c (sym (slot_right b k u index w) ∙ is)
+    newest_state_by (base_of b) (txns_of b) (first_of b) i k (Within u) b.batched.formed inside n
+    ∙ same_Some (state (base_of b) (txns_of b) ((u + 1) - first_of b) k) c (sym (slot_right b k u index w) ∙ is)
 
-access_before : (b : Batch) (i : ℕ) (k : List ℕ) (a : Access) (c : Cell) → i ≤ length (txns_of b) → IsRightAccess (first_of b) (txns_of b) (first_of b + i) k a → IsCellOf b k a c → state (base_of b) (txns_of b) i k ≡ c
+access_before : (b : Batch) (i : ℕ) (k : List ℕ) (a : Access) (c : Cell) → i ≤ length (txns_of b)
+    → IsRightAccess (first_of b) (txns_of b) (first_of b + i) k a → IsCellOf b k a c → state (base_of b) (txns_of b) i k ≡ c
 access_before b i k a c inside r is = cell_before b i k a.index c a.source inside r.newest r.write is
 
 cell_set : IsSet Cell
@@ -68,7 +76,8 @@ cell_set = Coded-set the_row.coded
 pub cell_planned : (b : Batch) (k : List ℕ) (look : Look) (c : Cell) → (IsRightPlan (txns_of b) (plan_of b) → look k ≡ c) → look k ≡ c
 cell_planned b k look c f = ∥∥₁_elim b.batched.right (cell_set (look k) c) f
 
-right_among : (b : Batch) (i : ℕ) (keys : List (List ℕ)) (accesses : List Access) (j : ℕ) (k : List ℕ) (c : Cell) → i ≤ length (txns_of b) → AreRightAccesses (first_of b) (txns_of b) (first_of b + i) keys accesses → slice_get keys j ≡ Some k
+right_among : (b : Batch) (i : ℕ) (keys : List (List ℕ)) (accesses : List Access) (j : ℕ) (k : List ℕ) (c : Cell) → i ≤ length (txns_of b)
+    → AreRightAccesses (first_of b) (txns_of b) (first_of b + i) keys accesses → slice_get keys j ≡ Some k
     → ((a : Access) → slice_get accesses j ≡ Some a → IsCellOf b k a c) → state (base_of b) (txns_of b) i k ≡ c
 right_among b i keys accesses j k c inside are at_key is =
     let within = slice_get_within keys j k at_key in
@@ -76,18 +85,23 @@ right_among b i keys accesses j k c inside are at_key is =
     access_before b i k a c inside (are.each j k a at_key at_access) (is a at_access)
 
 -- the cell of a declared read's access is the key's cell before the position
-pub read_before : (b : Batch) (i : ℕ) (x : Txn) (j : ℕ) (k : List ℕ) (c : Cell) → slice_get (txns_of b) i ≡ Some x → slice_get x.reads j ≡ Some k → ((a : Access) → slice_get (reads_of (plan_of b) i) j ≡ Some a → IsCellOf b k a c) → state (base_of b) (txns_of b) i k ≡ c
+pub read_before : (b : Batch) (i : ℕ) (x : Txn) (j : ℕ) (k : List ℕ) (c : Cell) → slice_get (txns_of b) i ≡ Some x → slice_get x.reads j ≡ Some k
+    → ((a : Access) → slice_get (reads_of (plan_of b) i) j ≡ Some a → IsCellOf b k a c) → state (base_of b) (txns_of b) i k ≡ c
 read_before b i x j k c at at_key is =
     let within = slice_get_within (txns_of b) i x at in
-    cell_planned b k (state (base_of b) (txns_of b) i) c (λ plan. right_among b i x.reads (reads_of (plan_of b) i) j k c (omega (arith, within)) (plan.reads i x at) at_key is)
+    cell_planned b k (state (base_of b) (txns_of b) i) c
+    (λ plan. right_among b i x.reads (reads_of (plan_of b) i) j k c (omega (arith, within)) (plan.reads i x at) at_key is)
 
 -- and so is that of a declared write's
-pub write_before : (b : Batch) (i : ℕ) (x : Txn) (j : ℕ) (k : List ℕ) (c : Cell) → slice_get (txns_of b) i ≡ Some x → slice_get x.writes j ≡ Some k → ((a : Access) → slice_get (writes_of (plan_of b) i) j ≡ Some a → IsCellOf b k a c) → state (base_of b) (txns_of b) i k ≡ c
+pub write_before : (b : Batch) (i : ℕ) (x : Txn) (j : ℕ) (k : List ℕ) (c : Cell) → slice_get (txns_of b) i ≡ Some x → slice_get x.writes j ≡ Some k
+    → ((a : Access) → slice_get (writes_of (plan_of b) i) j ≡ Some a → IsCellOf b k a c) → state (base_of b) (txns_of b) i k ≡ c
 write_before b i x j k c at at_key is =
     let within = slice_get_within (txns_of b) i x at in
-    cell_planned b k (state (base_of b) (txns_of b) i) c (λ plan. right_among b i x.writes (writes_of (plan_of b) i) j k c (omega (arith, within)) (plan.writes i x at) at_key is)
+    cell_planned b k (state (base_of b) (txns_of b) i) c
+    (λ plan. right_among b i x.writes (writes_of (plan_of b) i) j k c (omega (arith, within)) (plan.writes i x at) at_key is)
 
-same_list : (look : Look) (keys : List (List ℕ)) (cells : List Cell) → length keys ≡ length cells → ((j : ℕ) (k : List ℕ) (c : Cell) → slice_get keys j ≡ Some k → slice_get cells j ≡ Some c → look k ≡ c) → map look keys ≡ cells
+same_list : (look : Look) (keys : List (List ℕ)) (cells : List Cell) → length keys ≡ length cells
+    → ((j : ℕ) (k : List ℕ) (c : Cell) → slice_get keys j ≡ Some k → slice_get cells j ≡ Some c → look k ≡ c) → map look keys ≡ cells
 same_list look [] [] long each = refl
 same_list look [] (c ∷ cs) long each = absurd (omega arith)
 same_list look (k ∷ ks) [] long each = absurd (omega arith)
@@ -97,11 +111,15 @@ same_list look (k ∷ ks) (c ∷ cs) long each =
     λ i. first i ∷ rest i
 
 -- the cells of all declared reads, by their accesses, are those before the position
-pub reads_before : (b : Batch) (i : ℕ) (x : Txn) (cells : List Cell) → slice_get (txns_of b) i ≡ Some x → AreCellsOf b x.reads (reads_of (plan_of b) i) cells → map (state (base_of b) (txns_of b) i) x.reads ≡ cells
-reads_before b i x cells at are = same_list (state (base_of b) (txns_of b) i) x.reads cells are.paired (λ j k c at_key at_cell. read_before b i x j k c at at_key (λ a at_access. are.each j k a c at_key at_access at_cell))
+pub reads_before : (b : Batch) (i : ℕ) (x : Txn) (cells : List Cell) → slice_get (txns_of b) i ≡ Some x → AreCellsOf b x.reads (reads_of (plan_of b) i) cells
+    → map (state (base_of b) (txns_of b) i) x.reads ≡ cells
+reads_before b i x cells at are = same_list (state (base_of b) (txns_of b) i) x.reads cells are.paired
+    (λ j k c at_key at_cell. read_before b i x j k c at at_key (λ a at_access. are.each j k a c at_key at_access at_cell))
 
-pub writes_before : (b : Batch) (i : ℕ) (x : Txn) (cells : List Cell) → slice_get (txns_of b) i ≡ Some x → AreCellsOf b x.writes (writes_of (plan_of b) i) cells → map (state (base_of b) (txns_of b) i) x.writes ≡ cells
-writes_before b i x cells at are = same_list (state (base_of b) (txns_of b) i) x.writes cells are.paired (λ j k c at_key at_cell. write_before b i x j k c at at_key (λ a at_access. are.each j k a c at_key at_access at_cell))
+pub writes_before : (b : Batch) (i : ℕ) (x : Txn) (cells : List Cell) → slice_get (txns_of b) i ≡ Some x
+    → AreCellsOf b x.writes (writes_of (plan_of b) i) cells → map (state (base_of b) (txns_of b) i) x.writes ≡ cells
+writes_before b i x cells at are = same_list (state (base_of b) (txns_of b) i) x.writes cells are.paired
+    (λ j k c at_key at_cell. write_before b i x j k c at at_key (λ a at_access. are.each j k a c at_key at_access at_cell))
 
 -- ---- Body(t, Input(t)) is Body(t, S(t - 1))
 
@@ -135,4 +153,5 @@ short_outcome b i o e =
     let keeps = usable_at (txns_of b) b.batched.formed i x at in
     let before : Look = state (base_of b) (txns_of b) i in
     let same : outcome_of (body before x) ≡ o = same_Some (outcome_of (body before x)) o (sym (outcome_right b i x at) ∙ e) in
-    subst (λ (z : Outcome). stmt_of z < 1000) same (few_of x (body before x) (λ fault h. let few = keeps.few_stmts in omega (arith, fault_within x.edition before fresh 1 x.body fault h)))
+    subst (λ (z : Outcome). stmt_of z < 1000) same
+    (few_of x (body before x) (λ fault h. let few = keeps.few_stmts in omega (arith, fault_within x.edition before fresh 1 x.body fault h)))

@@ -3,8 +3,8 @@ use Rattle.std.proofs.Common.{◌≡◌, ◌≢◌, ℕ, zero, suc, List, [], �
 use Rattle.std.specs.Prelude.{Contains}
 use Rattle.std.proofs.lemmas.List.Elements.{Contains-append_cases, Contains-append_left, Contains-append_right, Contains-push}
 use Rattle.std.proofs.lemmas.List.{append-nil}
-use Rattle.bohm_tree.specs.declared.cell.Cell.{Cell}
-use Rattle.bohm_tree.specs.declared.cell.Cell.TheVariants.{Absent, Present}
+use Rattle.bohm_types.specs.declared.cell.Cell.{Cell}
+use Rattle.bohm_types.specs.declared.cell.Cell.TheVariants.{Absent, Present}
 use Rattle.bohm_board.specs.declared.batch.Batch.{Batch}
 use Rattle.bohm_board.specs.declared.slot.Slot.{Slot}
 use Rattle.bohm_board.specs.declared.status.Status.{Status}
@@ -57,8 +57,20 @@ keeps_claimed v i Done = keeps_saw v i Done
 
 pub keeps_looked : (v : View) (k : Slot) (answer : Option Cell) → Keeps v (after_look v k answer)
 keeps_looked v k None = keeps_same v
-keeps_looked v k (Some Absent) = record { right = refl; done = same_on v.done; busy = same_on v.busy; absent = one_more v.absent k; present = same_on v.present }
-keeps_looked v k (Some (Present z)) = record { right = refl; done = same_on v.done; busy = same_on v.busy; absent = same_on v.absent; present = one_more v.present k }
+keeps_looked v k (Some Absent) = record {
+  right = refl;
+  done = same_on v.done;
+  busy = same_on v.busy;
+  absent = one_more v.absent k;
+  present = same_on v.present;
+}
+keeps_looked v k (Some (Present z)) = record {
+  right = refl;
+  done = same_on v.done;
+  busy = same_on v.busy;
+  absent = same_on v.absent;
+  present = one_more v.present k;
+}
 
 pub keeps_joined : (v w : View) → Keeps v (after_join v w)
 keeps_joined v w = record { right = refl; done = (w.done, refl); busy = (w.busy, refl); absent = (w.absent, refl); present = (w.present, refl) }

@@ -4,9 +4,9 @@ use Rattle.std.specs.Prelude.{Option, unwrap_or}
 use Rattle.std.specs.Option.{option_map}
 use Rattle.std.specs.List.{slice_get}
 use Rattle.std.proofs.lemmas.Option.{slice_get_within}
-use Rattle.bohm_tree.specs.declared.cell.Cell.{Cell}
-use Rattle.bohm_tree.specs.declared.cell.Cell.TheVariants.{Absent, Present}
-use Rattle.bohm_tree.specs.Txn.{Txn}
+use Rattle.bohm_types.specs.declared.cell.Cell.{Cell}
+use Rattle.bohm_types.specs.declared.cell.Cell.TheVariants.{Absent, Present}
+use Rattle.bohm_types.specs.Txn.{Txn}
 use Rattle.bohm_txn.specs.Serial.{state}
 use Rattle.bohm_txn.proofs.ForCallers.{there}
 use Rattle.bohm_board.specs.declared.batch.Batch.{Batch}
@@ -14,7 +14,8 @@ use Rattle.bohm_board.specs.declared.slot.Slot.{Slot}
 use Rattle.bohm_board.specs.declared.knowledge.RightSlot.{RightSlot}
 use Rattle.bohm_board.specs.declared.knowledge.Rights.{Rights}
 use Rattle.bohm_board.specs.Serial.{width, offset, own_cells, slot_at}
-use Rattle.bohm_board.specs.Batches.{txns_of, base_of, first_of, position, timestamp, IsIn, IsSlot, txn_at, width_at, number, slot_numbered, rights_of, IsRightCell}
+use Rattle.bohm_board.specs.Batches.{txns_of, base_of, first_of, position, timestamp, IsIn, IsSlot}
+use Rattle.bohm_board.specs.Batches.{txn_at, width_at, number, slot_numbered, rights_of, IsRightCell}
 use Rattle.bohm_board.specs.Encoding.{filled_word}
 use Rattle.bohm_board.proofs.SlotPlaces.{first_right, outcomes_long, slots_long, slot_of_batch}
 use Rattle.bohm_board.proofs.SerialSlots.{length-own_cells, offset_inside, slot_serial}
@@ -48,8 +49,11 @@ right_at b x is =
     let before = state (base_of b) (txns_of b) i in
     let (c, own) = there (own_cells before txn) x.index (omega (arith, below, length-own_cells before txn)) in
     let from = is.txn.from in
-    let back : first_of b + i ≡ x.txn = omega arith in
-    (slot_at (first_of b + i) x.index c, slot_serial (first_of b) (base_of b) (txns_of b) i txn x.index c at own, ap (λ (t : ℕ). record { txn = t; index = x.index }) back)
+    let back : first_of b + i ≡ x.txn = omega arith in (
+      slot_at (first_of b + i) x.index c,
+      slot_serial (first_of b) (base_of b) (txns_of b) i txn x.index c at own,
+      ap (λ (t : ℕ). record { txn = t; index = x.index }) back,
+    )
 
 pub right_there : (b : Batch) (x : Slot) → IsSlot b x → (c : Cell) × IsRightCell b x c
 right_there b x is = let (y, at, e) = right_at b x is in (y.cell, ap (option_map (λ (z : RightSlot). z.cell)) at)
@@ -73,16 +77,21 @@ pub one_number : (b : Batch) (x y : Slot) → IsSlot b x → IsSlot b y → numb
 one_number b x y is also e = sym (named_number b x is) ∙ (ap (slot_numbered (rights_of b)) e ∙ named_number b y also)
 
 -- each number below the number of slots is that of a slot
-pub number_named : (b : Batch) (k : ℕ) → k < length (rights_of b).slots → IsSlot b (slot_numbered (rights_of b) k) × (number b (slot_numbered (rights_of b) k) ≡ k)
+pub number_named : (b : Batch) (k : ℕ) → k < length (rights_of b).slots
+    → IsSlot b (slot_numbered (rights_of b) k) × (number b (slot_numbered (rights_of b) k) ≡ k)
 number_named b k inside =
     let (y, at) = there (rights_of b).slots k inside in
     let own = slot_of_batch b k y at in
     let x : Slot = record { txn = first_of b + own.i; index = own.j } in
-    let here : slot_numbered (rights_of b) k ≡ x = ap (λ (o : Option RightSlot). unwrap_or (option_map (λ z. z.slot) o) (record { txn = 0; index = 0 })) at ∙ own.slot in
+    let here : slot_numbered (rights_of b) k ≡ x =
+    ap (λ (o : Option RightSlot). unwrap_or (option_map (λ z. z.slot) o) (record { txn = 0; index = 0 })) at ∙ own.slot in
     let place : position b x.txn ≡ own.i = omega arith in
     let txn : txn_at b x.txn ≡ Some own.txn = ap (λ (i : ℕ). slice_get (txns_of b) i) place ∙ own.is_at in
     let within = slice_get_within (txns_of b) own.i own.txn own.is_at in
-    let is : IsSlot b x = record { txn = record { from = omega arith; below = omega arith }; index = omega (arith, own.inside, width_there b x.txn own.txn txn) } in
+    let is : IsSlot b x = record {
+      txn = record { from = omega arith; below = omega arith };
+      index = omega (arith, own.inside, width_there b x.txn own.txn txn);
+    } in
     let same : number b x ≡ k = ap (λ (i : ℕ). offset (txns_of b) i + own.j) place ∙ sym own.place in
     subst (λ (z : Slot). IsSlot b z × (number b z ≡ k)) (sym here) (is, same)
 
@@ -91,7 +100,8 @@ pub stamped : (b : Batch) (r : Rights) (t i : ℕ) → r ≡ rights_of b → IsI
 stamped b r t i own is e = omega (arith, ap (λ (z : Rights). z.first) own, first_right b, is.from, e)
 
 -- each position below the number of positions has a timestamp
-pub stamp_inside : (b : Batch) (r : Rights) (i : ℕ) → r ≡ rights_of b → i < length (rights_of b).outcomes → IsIn b (timestamp r i) × (position b (timestamp r i) ≡ i)
+pub stamp_inside : (b : Batch) (r : Rights) (i : ℕ) → r ≡ rights_of b → i < length (rights_of b).outcomes
+    → IsIn b (timestamp r i) × (position b (timestamp r i) ≡ i)
 stamp_inside b r i own inside =
     let first : r.first ≡ first_of b = ap (λ (z : Rights). z.first) own ∙ first_right b in
     let long = outcomes_long b in

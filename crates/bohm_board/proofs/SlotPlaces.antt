@@ -1,10 +1,11 @@
 -- Every slot is one of some position, and where slots start.
-use Rattle.std.proofs.Common.{◌≡◌, ℕ, zero, suc, ◌+◌, ◌<◌, List, [], ◌∷◌, ◌++◌, length, Some, refl, ap, sym, ◌∙◌, arith, inl, inr, ◌-◌, get_or, add-one, below_more}
+use Rattle.std.proofs.Common.{◌≡◌, ℕ, zero, suc, ◌+◌, ◌<◌, List, [], ◌∷◌, ◌++◌, length, Some, refl}
+use Rattle.std.proofs.Common.{ap, sym, ◌∙◌, arith, inl, inr, ◌-◌, get_or, add-one, below_more}
 use Rattle.std.specs.Prelude.{◌⊎◌}
 use Rattle.std.specs.List.{slice_get}
 use Rattle.std.proofs.lemmas.Option.{same_Some, slice_get_within}
-use Rattle.bohm_tree.specs.declared.cell.Cell.{Cell}
-use Rattle.bohm_tree.specs.Txn.{Txn}
+use Rattle.bohm_types.specs.declared.cell.Cell.{Cell}
+use Rattle.bohm_types.specs.Txn.{Txn}
 use Rattle.bohm_txn.specs.Meaning.{Look}
 use Rattle.bohm_txn.specs.Serial.{after}
 use Rattle.bohm_board.specs.declared.batch.Batch.{Batch}
@@ -29,7 +30,8 @@ in_either (y ∷ xs) ys (suc p) x e = elim (in_either xs ys p x e) as (λ _. (sl
 
 own_slot : (t i : ℕ) (cs : List Cell) (p : ℕ) (x : RightSlot) → slice_get (slots_of t i cs) p ≡ Some x → x.slot ≡ record { txn = t; index = i + p }
 own_slot t i [] p x e = absurd cc
-own_slot t i (c ∷ cs) zero x e = ap (λ (r : RightSlot). r.slot) (sym (same_Some (slot_at t i c) x e)) ∙ ap (λ (j : ℕ). record { txn = t; index = j }) (omega arith)
+own_slot t i (c ∷ cs) zero x e = ap (λ (r : RightSlot). r.slot) (sym (same_Some (slot_at t i c) x e))
+    ∙ ap (λ (j : ℕ). record { txn = t; index = j }) (omega arith)
 own_slot t i (c ∷ cs) (suc p) x e = own_slot t (suc i) cs p x e ∙ ap (λ (j : ℕ). record { txn = t; index = j }) (omega arith)
 
 -- slot p is the j-th of the i-th transaction
@@ -44,28 +46,30 @@ pub record IsOwn (n : ℕ) (ts : List Txn) (p : ℕ) (x : RightSlot) : Type 0 wh
 
 pub slot_place : (n : ℕ) (look : Look) (ts : List Txn) (p : ℕ) (x : RightSlot) → slice_get (slots_from n look ts) p ≡ Some x → IsOwn n ts p x
 slot_place n look [] p x e = absurd cc
-slot_place n look (t ∷ ts) p x e = elim (in_either (slots_of n 0 (own_cells look t)) (slots_from (n + 1) (after look t) ts) p x e) as (λ _. IsOwn n (t ∷ ts) p x) [
-  | inl h ↦ record {
-    i = 0;
-    j = p;
-    txn = t;
-    is_at = refl;
-    inside = omega (arith, slice_get_within (slots_of n 0 (own_cells look t)) p x h, length-slots_of n 0 (own_cells look t), length-own_cells look t);
-    slot = own_slot n 0 (own_cells look t) p x h ∙ (let same : n ≡ n + 0 = omega arith in let index : 0 + p ≡ p = omega arith in λ d. record { txn = same d; index = index d });
-    place = omega arith;
-  }
-  | inr (m, q, f) ↦
-      let r = slot_place (n + 1) (after look t) ts m x f in
-      record {
-        i = suc r.i;
-        j = r.j;
-        txn = r.txn;
-        is_at = r.is_at;
-        inside = r.inside;
-        slot = r.slot ∙ (let same : (n + 1) + r.i ≡ n + suc r.i = omega arith in ap (λ (z : ℕ). record { txn = z; index = r.j }) same);
-        place = omega (arith, q, r.place, length-slots_of n 0 (own_cells look t), length-own_cells look t);
+slot_place n look (t ∷ ts) p x e = elim (in_either (slots_of n 0 (own_cells look t))
+    (slots_from (n + 1) (after look t) ts) p x e) as (λ _. IsOwn n (t ∷ ts) p x) [
+      | inl h ↦ record {
+        i = 0;
+        j = p;
+        txn = t;
+        is_at = refl;
+        inside = omega (arith, slice_get_within (slots_of n 0 (own_cells look t)) p x h, length-slots_of n 0 (own_cells look t), length-own_cells look t);
+        slot = own_slot n 0 (own_cells look t) p x h
+            ∙ (let same : n ≡ n + 0 = omega arith in let index : 0 + p ≡ p = omega arith in λ d. record { txn = same d; index = index d });
+        place = omega arith;
       }
-]
+      | inr (m, q, f) ↦
+          let r = slot_place (n + 1) (after look t) ts m x f in
+          record {
+            i = suc r.i;
+            j = r.j;
+            txn = r.txn;
+            is_at = r.is_at;
+            inside = r.inside;
+            slot = r.slot ∙ (let same : (n + 1) + r.i ≡ n + suc r.i = omega arith in ap (λ (z : ℕ). record { txn = z; index = r.j }) same);
+            place = omega (arith, q, r.place, length-slots_of n 0 (own_cells look t), length-own_cells look t);
+          }
+    ]
 
 pub slot_of_batch : (b : Batch) (p : ℕ) (x : RightSlot) → slice_get (rights_of b).slots p ≡ Some x → IsOwn (first_of b) (txns_of b) p x
 unfolding rights_of
@@ -96,5 +100,6 @@ one_start ts i xs n are e = record {
       (let none : i - i ≡ 0 = omega arith in get_or-append_right xs (n ∷ []) i i 0 are.long (omega arith) ∙ (ap (λ (z : ℕ). get_or (n ∷ []) z 0) none ∙ e));
 }
 
-pub layout_lengths : (b : Batch) (l : Layout) → IsLayoutOf (txns_of b) l → (length (rights_of b).outcomes ≡ l.positions) × (length (rights_of b).slots ≡ l.slots)
+pub layout_lengths : (b : Batch) (l : Layout) → IsLayoutOf (txns_of b) l
+    → (length (rights_of b).outcomes ≡ l.positions) × (length (rights_of b).slots ≡ l.slots)
 layout_lengths b l is = (outcomes_long b ∙ sym is.positions, slots_long b ∙ sym is.slots)

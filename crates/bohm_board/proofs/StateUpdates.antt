@@ -1,5 +1,6 @@
 -- How words in a line, and views, show a state as it changes.
-use Rattle.std.proofs.Common.{◌≡◌, ◌≢◌, ℕ, ◌+◌, ◌-◌, ◌<◌, List, ◌++◌, length, get_or, set, sym, ap, ◌∙◌, subst, arith, get_or-set_other, get_or-set_same, zero, suc, [], ◌∷◌, ext_get_or, zero-add, add_assoc, ◌≤◌, refl, ⊎_elim, Option, length-set}
+use Rattle.std.proofs.Common.{◌≡◌, ◌≢◌, ℕ, ◌+◌, ◌-◌, ◌<◌, List, ◌++◌, length, get_or, set, sym, ap, ◌∙◌, subst, arith, get_or-set_other}
+use Rattle.std.proofs.Common.{get_or-set_same, zero, suc, [], ◌∷◌, ext_get_or, zero-add, add_assoc, ◌≤◌, refl, ⊎_elim, Option, length-set}
 use mathlib.Core.Option.{some, some-injective, some-ne-none}
 use lib.ListN.{get_elem?}
 use mathlib.Core.Logic.{dite}
@@ -43,11 +44,13 @@ value_in w n m k e d = get_or-append_right w.statuses (w.presences ++ w.values) 
 pub status_put : (w : Words) (t x : ℕ) → t < length w.statuses → set (all_words w) t x ≡ all_words (record w { statuses = set w.statuses t x })
 status_put w t x h = set-append_left w.statuses (w.presences ++ w.values) t x h
 
-pub presence_put : (w : Words) (n k x : ℕ) → length w.statuses ≡ n → k < length w.presences → set (all_words w) (n + k) x ≡ all_words (record w { presences = set w.presences k x })
+pub presence_put : (w : Words) (n k x : ℕ) → length w.statuses ≡ n → k < length w.presences
+    → set (all_words w) (n + k) x ≡ all_words (record w { presences = set w.presences k x })
 presence_put w n k x e h = set-append_right w.statuses (w.presences ++ w.values) n (n + k) x e (omega arith)
     ∙ ap (λ (ys : List ℕ). w.statuses ++ ys) (ap (λ (z : ℕ). set (w.presences ++ w.values) z x) (less n k) ∙ set-append_left w.presences w.values k x h)
 
-pub value_put : (w : Words) (n m k x : ℕ) → length w.statuses ≡ n → length w.presences ≡ m → set (all_words w) (n + (m + k)) x ≡ all_words (record w { values = set w.values k x })
+pub value_put : (w : Words) (n m k x : ℕ) → length w.statuses ≡ n → length w.presences ≡ m
+    → set (all_words w) (n + (m + k)) x ≡ all_words (record w { values = set w.values k x })
 value_put w n m k x e d = set-append_right w.statuses (w.presences ++ w.values) n (n + (m + k)) x e (omega arith)
     ∙ ap (λ (ys : List ℕ). w.statuses ++ ys) (ap (λ (z : ℕ). set (w.presences ++ w.values) z x) (less n (m + k))
     ∙ (set-append_right w.presences w.values m (m + k) x d (omega arith) ∙ ap (λ (z : ℕ). w.presences ++ set w.values z x) (less m k)))
@@ -58,14 +61,18 @@ found_at (y ∷ ys) zero x d e = (omega arith, some-injective y x e)
 found_at (y ∷ ys) (suc i) x d e = let found = found_at ys i x d e in let inside = found.0 in (omega arith, found.1)
 
 -- three lists that are the words of a line, each in its place
-pub same_words : (w : Words) (ws xs ps vs : List ℕ) → ws ≡ all_words w → length xs ≡ length w.statuses → length ps ≡ length w.presences → length vs ≡ length w.values
+pub same_words : (w : Words) (ws xs ps vs : List ℕ) → ws ≡ all_words w → length xs ≡ length w.statuses → length ps ≡ length w.presences
+    → length vs ≡ length w.values
     → ((j : ℕ) → j < length xs → get_or xs j 0 ≡ get_or ws (0 + j) 0)
     → ((j : ℕ) → j < length ps → get_or ps j 0 ≡ get_or ws (length xs + j) 0)
     → ((j : ℕ) → j < length vs → get_or vs j 0 ≡ get_or ws (length xs + length ps + j) 0)
     → w ≡ record { statuses = xs; presences = ps; values = vs }
 same_words w ws xs ps vs line a b c at_a at_b at_c =
-    let ea : xs ≡ w.statuses = ext_get_or 0 xs w.statuses a (λ j h. at_a j h ∙ (ap (λ (z : List ℕ). get_or z (0 + j) 0) line ∙ (ap (λ (z : ℕ). get_or (all_words w) z 0) (zero-add j) ∙ status_in w j (omega arith)))) in
-    let eb : ps ≡ w.presences = ext_get_or 0 ps w.presences b (λ j h. at_b j h ∙ (ap (λ (z : List ℕ). get_or z (length xs + j) 0) line ∙ presence_in w (length xs) j (sym a) (omega arith))) in
+    let ea : xs ≡ w.statuses = ext_get_or 0 xs w.statuses a
+    (λ j h. at_a j h ∙ (ap (λ (z : List ℕ). get_or z (0 + j) 0) line
+    ∙ (ap (λ (z : ℕ). get_or (all_words w) z 0) (zero-add j) ∙ status_in w j (omega arith)))) in
+    let eb : ps ≡ w.presences = ext_get_or 0 ps w.presences b
+    (λ j h. at_b j h ∙ (ap (λ (z : List ℕ). get_or z (length xs + j) 0) line ∙ presence_in w (length xs) j (sym a) (omega arith))) in
     let ec : vs ≡ w.values = ext_get_or 0 vs w.values c (λ j h. at_c j h ∙ (ap (λ (z : List ℕ). get_or z (length xs + length ps + j) 0) line
     ∙ (ap (λ (z : ℕ). get_or (all_words w) z 0) (add_assoc (length xs) (length ps) j) ∙ value_in w (length xs) (length ps) j (sym a) (sym b)))) in
     λ i. record { statuses = sym ea i; presences = sym eb i; values = sym ec i }
@@ -79,7 +86,8 @@ same_shown b w s views shown = record { sized = shown.sized; positions = shown.p
 
 -- the status word of t is put
 pub status_shown : (b : Batch) (w : Words) (s : State) (views : ℕ → View) (t : ℕ) (o : Progress) → IsIn b t → AreShown b w s
-    → AreShown b (record w { statuses = set w.statuses (position b t) (progress_word o) }) (record s { positions = point_update s.positions t o; views = views })
+    → AreShown b (record w { statuses = set w.statuses (position b t) (progress_word o) })
+    (record s { positions = point_update s.positions t o; views = views })
 status_shown b w s views t o is shown =
     let n : ℕ = progress_word o in
     let ws : List ℕ = set w.statuses (position b t) n in
@@ -127,7 +135,8 @@ value_shown b w s views x n is shown =
 -- ---- views
 
 -- the view of p becomes w
-pub view_put : (d : View) (views : List View) (f : ℕ → View) (p : ℕ) (v w w' : View) → ((q : ℕ) → f q ≡ get_or views q d) → get_elem? views p ≡ some v → w ≡ w' → (q : ℕ) → point_update f p w q ≡ get_or (set views p w') q d
+pub view_put : (d : View) (views : List View) (f : ℕ → View) (p : ℕ) (v w w' : View) → ((q : ℕ) → f q ≡ get_or views q d) → get_elem? views p ≡ some v
+    → w ≡ w' → (q : ℕ) → point_update f p w q ≡ get_or (set views p w') q d
 view_put d views f p v w w' shown at e q = put_cases (λ z. z ≡ get_or (set views p w') q d) f p w q
     (λ here. e ∙ sym (ap (λ (j : ℕ). get_or (set views p w') j d) here ∙ get_or-set_same views p w' d (found_at views p v d at).0))
     (λ ne. shown q ∙ sym (get_or-set_other views p q w' d ne))
@@ -138,8 +147,11 @@ past_end (x ∷ xs) zero d l = absurd (omega arith)
 past_end (x ∷ xs) (suc i) d l = past_end xs i d (omega arith)
 
 -- a new view w is added
-pub view_added : (d : View) (views : List View) (f : ℕ → View) (w : View) → ((q : ℕ) → f q ≡ get_or views q d) → (q : ℕ) → point_update f (length views) w q ≡ get_or (views ++ w ∷ []) q d
+pub view_added : (d : View) (views : List View) (f : ℕ → View) (w : View) → ((q : ℕ) → f q ≡ get_or views q d) → (q : ℕ)
+    → point_update f (length views) w q ≡ get_or (views ++ w ∷ []) q d
 view_added d views f w shown q = put_cases (λ z. z ≡ get_or (views ++ w ∷ []) q d) f (length views) w q
-    (λ here. sym (get_or-append_right views (w ∷ []) (length views) q d refl (omega (arith, here)) ∙ (let none : q - length views ≡ 0 = omega (arith, here) in ap (λ (j : ℕ). get_or (w ∷ []) j d) none)))
+    (λ here. sym (get_or-append_right views (w ∷ []) (length views) q d refl (omega (arith, here))
+    ∙ (let none : q - length views ≡ 0 = omega (arith, here) in ap (λ (j : ℕ). get_or (w ∷ []) j d) none)))
     (λ ne. shown q ∙ ⊎_elim (λ (below : q < length views). sym (get_or_append_left views (w ∷ []) d q below))
-    (λ (past : length views ≤ q). past_end views q d past ∙ sym (past_end (views ++ w ∷ []) q d (omega (arith, length-append views (w ∷ []))))) (cases_lt q (length views)))
+    (λ (past : length views ≤ q). past_end views q d past ∙ sym (past_end (views ++ w ∷ []) q d (omega (arith, length-append views (w ∷ [])))))
+    (cases_lt q (length views)))

@@ -1,5 +1,6 @@
 -- Each step of a board is the event of its name.
-use Rattle.std.proofs.Common.{◌≡◌, ◌≢◌, ℕ, zero, suc, ◌+◌, ◌*◌, ◌/◌, ◌%◌, ◌<◌, ◌≤◌, ◌∷◌, [], ◌++◌, length, get_or, set, sym, refl, ap, ◌∙◌, subst, arith, Option, None, Some, eqb, length-set}
+use Rattle.std.proofs.Common.{◌≡◌, ◌≢◌, ℕ, zero, suc, ◌+◌, ◌*◌, ◌/◌, ◌%◌, ◌<◌, ◌≤◌, ◌∷◌, [], ◌++◌, length}
+use Rattle.std.proofs.Common.{get_or, set, sym, refl, ap, ◌∙◌, subst, arith, Option, None, Some, eqb, length-set}
 use Rattle.std.specs.Prelude.{Contains}
 use mathlib.Core.Option.{some}
 use lib.ListN.{get_elem?}
@@ -7,7 +8,7 @@ use lib.Seq.{set-get_or}
 use prog.Atomic.{either}
 use Rattle.atomic_table.specs.Table.{State as Table, Me}
 use Rattle.atomic_table.proofs.Lists.{exchanged, set_else}
-use Rattle.bohm_tree.specs.declared.cell.Cell.{Cell}
+use Rattle.bohm_types.specs.declared.cell.Cell.{Cell}
 use Rattle.bohm_txn.specs.declared.outcome.Outcome.{Outcome}
 use Rattle.bohm_txn.specs.declared.outcome.Outcome.TheVariants.{Commit, Abort}
 use Rattle.bohm_txn.specs.declared.outcome.Reason.TheVariants as reasons
@@ -18,15 +19,19 @@ use Rattle.bohm_board.specs.declared.status.Claimed.TheVariants as won
 use Rattle.bohm_board.specs.declared.knowledge.View.{View}
 use Rattle.bohm_board.specs.Batches.{position, number, rights_of, IsIn, IsSlot, IsRightCell, IsRightOutcome}
 use Rattle.bohm_board.specs.Core.{Progress, Open, Claimed, Done, State, HasWanted}
-use Rattle.bohm_board.specs.Events.{LookPresence, LookValue, Status, Claim, FillValue, FillPresence, Finish, Split, Join, MayFill, point_update, status_of_progress, with_view, next_state}
+use Rattle.bohm_board.specs.Events.{LookPresence, LookValue, Status, Claim, FillValue, FillPresence, Finish}
+use Rattle.bohm_board.specs.Events.{Split, Join, MayFill, point_update, status_of_progress, with_view, next_state}
 use Rattle.bohm_board.specs.Shown.{Shows, IsBefore, IsStep, table_after_step, presence_place, value_place}
 use Rattle.bohm_board.specs.Steps.{IsFillable}
-use Rattle.bohm_board.specs.Views.{Presence, Absent, Present, presence_of, new_view, spent_view, after_status, after_claim, after_presence_look, after_value_store, after_presence_store, after_finish, after_join, Holds, HoldsNothing, HasStored, KnowsWanted, HasFilledAll}
-use Rattle.bohm_board.specs.Encoding.{status_of, claim_of_word, status_of_claim, word_of, stmt_of, outcome_in, outcome_at, progress_word, presence_word, presence_at, filled_word, value_at, present_at}
+use Rattle.bohm_board.specs.Views.{Presence, Absent, Present, presence_of, new_view, spent_view, after_status, after_claim, after_presence_look}
+use Rattle.bohm_board.specs.Views.{after_value_store, after_presence_store, after_finish, after_join, Holds, HoldsNothing, HasStored, KnowsWanted, HasFilledAll}
+use Rattle.bohm_board.specs.Encoding.{status_of, claim_of_word, status_of_claim, word_of, stmt_of, outcome_in, outcome_at}
+use Rattle.bohm_board.specs.Encoding.{progress_word, presence_word, presence_at, filled_word, value_at, present_at}
 use Rattle.bohm_board.proofs.Evaluation.{outcome_is_right, cell_is_right}
 use Rattle.bohm_board.specs.Law.{IsLawful}
 use Rattle.bohm_board.proofs.BoardLaw.{put_cases, wanted_filled}
-use Rattle.bohm_board.proofs.StateUpdates.{found_at, status_in, status_put, presence_in, presence_put, value_in, value_put, same_shown, status_shown, presence_shown, value_shown, view_put, view_added, past_end}
+use Rattle.bohm_board.proofs.StateUpdates.{found_at, status_in, status_put, presence_in, presence_put, value_in, value_put}
+use Rattle.bohm_board.proofs.StateUpdates.{same_shown, status_shown, presence_shown, value_shown, view_put, view_added, past_end}
 use Rattle.bohm_board.proofs.SlotNumbers.{number_inside, position_inside}
 use Rattle.bohm_board.proofs.SlotPlaces.{outcomes_long}
 use Rattle.bohm_board.proofs.EventRuns.{reached_lawful}
@@ -69,10 +74,22 @@ found_word (suc (suc n)) = refl
 -- an outcome's word has the outcome
 pub outcome_back : (o : Outcome) → stmt_of o < 1000 → outcome_at (word_of o) ≡ o
 outcome_back Commit few = refl
-outcome_back (Abort reasons.Need s) few = let d : (1000 * 1 + s) / 1000 ≡ 1 = omega arith in let m : (1000 * 1 + s) % 1000 ≡ s = omega arith in λ i. outcome_in (d i) (m i)
-outcome_back (Abort reasons.Fail s) few = let d : (1000 * 2 + s) / 1000 ≡ 2 = omega arith in let m : (1000 * 2 + s) % 1000 ≡ s = omega arith in λ i. outcome_in (d i) (m i)
-outcome_back (Abort reasons.Absent s) few = let d : (1000 * 3 + s) / 1000 ≡ 3 = omega arith in let m : (1000 * 3 + s) % 1000 ≡ s = omega arith in λ i. outcome_in (d i) (m i)
-outcome_back (Abort reasons.Range s) few = let d : (1000 * 4 + s) / 1000 ≡ 4 = omega arith in let m : (1000 * 4 + s) % 1000 ≡ s = omega arith in λ i. outcome_in (d i) (m i)
+outcome_back (Abort reasons.Need s) few =
+    let d : (1000 * 1 + s) / 1000 ≡ 1 = omega arith in
+    let m : (1000 * 1 + s) % 1000 ≡ s = omega arith in
+    λ i. outcome_in (d i) (m i)
+outcome_back (Abort reasons.Fail s) few =
+    let d : (1000 * 2 + s) / 1000 ≡ 2 = omega arith in
+    let m : (1000 * 2 + s) % 1000 ≡ s = omega arith in
+    λ i. outcome_in (d i) (m i)
+outcome_back (Abort reasons.Absent s) few =
+    let d : (1000 * 3 + s) / 1000 ≡ 3 = omega arith in
+    let m : (1000 * 3 + s) % 1000 ≡ s = omega arith in
+    λ i. outcome_in (d i) (m i)
+outcome_back (Abort reasons.Range s) few =
+    let d : (1000 * 4 + s) / 1000 ≡ 4 = omega arith in
+    let m : (1000 * 4 + s) % 1000 ≡ s = omega arith in
+    λ i. outcome_in (d i) (m i)
 
 -- ---- each step is the event of its name
 
@@ -88,7 +105,12 @@ module _ (b : Batch) (t : T) (s : State) (p : ℕ) (v : View) (here : IsBefore b
 
   -- a load
   read : (i n : ℕ) (f : View → View) → n ≡ get_or t.words i 0 → Shows b (table_after_step t i n p (f v)) (with_view s p (f (s.views p)))
-  read i n f e = record { words = here.shows.words; line = ap (λ (z : ℕ). set t.words i z) e ∙ (set-get_or t.words i 0 ∙ here.shows.line); shown = same_shown b here.shows.words s (point_update s.views p (f (s.views p))) here.shows.shown; views = views_put f }
+  read i n f e = record {
+    words = here.shows.words;
+    line = ap (λ (z : ℕ). set t.words i z) e ∙ (set-get_or t.words i 0 ∙ here.shows.line);
+    shown = same_shown b here.shows.words s (point_update s.views p (f (s.views p))) here.shows.shown;
+    views = views_put f;
+  }
 
   -- ---- status words
 
@@ -98,7 +120,8 @@ module _ (b : Batch) (t : T) (s : State) (p : ℕ) (v : View) (here : IsBefore b
       let inside : position b u < length here.shows.words.statuses = omega (arith, position_inside b u is, outcomes_long b) in
       (λ d. get_or (here.shows.line d) (e d) 0) ∙ (status_in here.shows.words (position b u) inside ∙ here.shows.shown.positions u is)
 
-  put_status : (u i : ℕ) (o : Progress) (f : View → View) → IsIn b u → i ≡ position b u → Shows b (table_after_step t i (progress_word o) p (f v)) (record s { positions = point_update s.positions u o; views = point_update s.views p (f (s.views p)) })
+  put_status : (u i : ℕ) (o : Progress) (f : View → View) → IsIn b u → i ≡ position b u → Shows b (table_after_step t i (progress_word o) p (f v))
+      (record s { positions = point_update s.positions u o; views = point_update s.views p (f (s.views p)) })
   put_status u i o f is e =
       let long = here.shows.shown.sized.statuses in
       let inside : position b u < length here.shows.words.statuses = omega (arith, position_inside b u is, outcomes_long b) in record {
@@ -108,17 +131,39 @@ module _ (b : Batch) (t : T) (s : State) (p : ℕ) (v : View) (here : IsBefore b
         views = views_put f;
       }
 
-  pub status_step : (u i n : ℕ) → IsIn b u → i ≡ position b u → n ≡ get_or t.words i 0 → ¬ Holds b v u → IsStep b s (Status p u (status_of n)) (table_after_step t i n p (after_status v u (status_of n)))
-  status_step u i n is e found apart = record { allowed = (named, is, (λ h. apart (sym (ap (λ (w : View). w.held) mine) ∙ h)), ap status_of (found ∙ status_word u i is e) ∙ seen_word (s.positions u)); shows = read i n (λ w. after_status w u (status_of n)) found }
+  pub status_step : (u i n : ℕ) → IsIn b u → i ≡ position b u → n ≡ get_or t.words i 0 → ¬ Holds b v u
+      → IsStep b s (Status p u (status_of n)) (table_after_step t i n p (after_status v u (status_of n)))
+  status_step u i n is e found apart =
+      record {
+        allowed = (
+          named,
+          is,
+          (λ h. apart (sym (ap (λ (w : View). w.held) mine) ∙ h)),
+          ap status_of (found ∙ status_word u i is e) ∙ seen_word (s.positions u),
+        );
+        shows = read i n (λ w. after_status w u (status_of n)) found;
+      }
 
-  claim_shows : (u i n : ℕ) → IsIn b u → i ≡ position b u → n ≡ get_or t.words i 0 → Shows b (table_after_step t i (either (eqb n 0) 1 n) p (after_claim v u (status_of n))) (next_state s (Claim p u (claim_of_word n)))
+  claim_shows : (u i n : ℕ) → IsIn b u → i ≡ position b u → n ≡ get_or t.words i 0
+      → Shows b (table_after_step t i (either (eqb n 0) 1 n) p (after_claim v u (status_of n))) (next_state s (Claim p u (claim_of_word n)))
   claim_shows u i zero is e found = put_status u i (Claimed p) (λ w. after_claim w u seen.Open) is e
   claim_shows u i (suc zero) is e found = read i 1 (λ w. after_claim w u seen.Busy) found
-  claim_shows u i (suc (suc n)) is e found = exchanged (suc (suc n)) 0 1 (λ z. Shows b (table_after_step t i z p (after_claim v u seen.Done)) (next_state s (Claim p u won.Done)))
+  claim_shows u i (suc (suc n)) is e found = exchanged (suc (suc n)) 0 1
+      (λ z. Shows b (table_after_step t i z p (after_claim v u seen.Done)) (next_state s (Claim p u won.Done)))
       (λ none. absurd (omega arith)) (λ _. read i (suc (suc n)) (λ w. after_claim w u seen.Done) found)
 
-  pub claim_step : (u i n : ℕ) → IsIn b u → i ≡ position b u → n ≡ get_or t.words i 0 → HoldsNothing v → IsStep b s (Claim p u (claim_of_word n)) (table_after_step t i (either (eqb n 0) 1 n) p (after_claim v u (status_of n)))
-  claim_step u i n is e found free = record { allowed = (named, is, ap (λ (w : View). w.held) mine ∙ free, found_word n ∙ (ap status_of (found ∙ status_word u i is e) ∙ seen_word (s.positions u))); shows = claim_shows u i n is e found }
+  pub claim_step : (u i n : ℕ) → IsIn b u → i ≡ position b u → n ≡ get_or t.words i 0 → HoldsNothing v
+      → IsStep b s (Claim p u (claim_of_word n)) (table_after_step t i (either (eqb n 0) 1 n) p (after_claim v u (status_of n)))
+  claim_step u i n is e found free =
+      record {
+        allowed = (
+          named,
+          is,
+          ap (λ (w : View). w.held) mine ∙ free,
+          found_word n ∙ (ap status_of (found ∙ status_word u i is e) ∙ seen_word (s.positions u)),
+        );
+        shows = claim_shows u i n is e found;
+      }
 
   kept : IsLawful b s
   kept = reached_lawful b s here.reached
@@ -126,10 +171,21 @@ module _ (b : Batch) (t : T) (s : State) (p : ℕ) (v : View) (here : IsBefore b
   filled_for : (u : ℕ) → KnowsWanted b (s.views p) u → HasWanted b s u
   filled_for u = wanted_filled b s u (s.views p) (kept.each p).absent (kept.each p).present
 
-  pub finish_step : (u i : ℕ) (o : Outcome) → IsIn b u → i ≡ position b u → Holds b v u → HasFilledAll b v u → KnowsWanted b v u → IsRightOutcome b u o → IsStep b s (Finish p u o) (table_after_step t i (word_of o) p (after_finish v u))
+  pub finish_step : (u i : ℕ) (o : Outcome) → IsIn b u → i ≡ position b u → Holds b v u → HasFilledAll b v u → KnowsWanted b v u → IsRightOutcome b u o
+      → IsStep b s (Finish p u o) (table_after_step t i (word_of o) p (after_finish v u))
   finish_step u i o is e holds all knows right =
       let want = subst (λ (w : View). KnowsWanted b w u) (sym mine) knows in record {
-        allowed = (named, record { position = is; holds = ap (λ (w : View). w.held) mine ∙ holds; filled = subst (λ (w : View). HasFilledAll b w u) (sym mine) all; wanted = want; outcome = outcome_is_right b s u kept.sound is (filled_for u want) ∙ right });
+        allowed = (
+          named,
+          record {
+            position = is;
+            holds = ap (λ (w : View). w.held) mine ∙ holds;
+            filled = subst (λ (w : View). HasFilledAll b w u)
+                (sym mine) all;
+            wanted = want;
+            outcome = outcome_is_right b s u kept.sound is (filled_for u want) ∙ right;
+          },
+        );
         shows = put_status u i (Done o) (λ w. after_finish w u) is e;
       }
 
@@ -139,23 +195,37 @@ module _ (b : Batch) (t : T) (s : State) (p : ℕ) (v : View) (here : IsBefore b
   presence_is x i is e =
       let long = here.shows.shown.sized.presences in
       let inside : number b x < length here.shows.words.presences = omega (arith, number_inside b x is) in
-      (λ d. get_or (here.shows.line d) (e d) 0) ∙ (presence_in here.shows.words (length (rights_of b).outcomes) (number b x) here.shows.shown.sized.statuses inside ∙ here.shows.shown.presences x is)
+      (λ d. get_or (here.shows.line d) (e d) 0) ∙ (presence_in here.shows.words (length (rights_of b).outcomes)
+      (number b x) here.shows.shown.sized.statuses inside ∙ here.shows.shown.presences x is)
 
   pub value_is : (x : Slot) (i : ℕ) → IsSlot b x → i ≡ value_place b x → value_at (get_or t.words i 0) ≡ s.values x
   value_is x i is e =
-      ap value_at ((λ d. get_or (here.shows.line d) (e d) 0) ∙ value_in here.shows.words (length (rights_of b).outcomes) (length (rights_of b).slots) (number b x) here.shows.shown.sized.statuses here.shows.shown.sized.presences) ∙ here.shows.shown.values x is
+      ap value_at ((λ d. get_or (here.shows.line d) (e d) 0) ∙ value_in here.shows.words (length (rights_of b).outcomes) (length (rights_of b).slots)
+      (number b x) here.shows.shown.sized.statuses here.shows.shown.sized.presences) ∙ here.shows.shown.values x is
 
-  pub presence_step : (x : Slot) (i n : ℕ) → IsSlot b x → i ≡ presence_place b x → n ≡ get_or t.words i 0 → IsStep b s (LookPresence p x (presence_at n)) (table_after_step t i n p (after_presence_look v x (presence_at n)))
-  presence_step x i n is e found = record { allowed = (named, is, ap presence_at (found ∙ presence_is x i is e) ∙ seen_presence (s.presences x)); shows = read i n (λ w. after_presence_look w x (presence_at n)) found }
+  pub presence_step : (x : Slot) (i n : ℕ) → IsSlot b x → i ≡ presence_place b x → n ≡ get_or t.words i 0
+      → IsStep b s (LookPresence p x (presence_at n)) (table_after_step t i n p (after_presence_look v x (presence_at n)))
+  presence_step x i n is e found = record {
+    allowed = (named, is, ap presence_at (found ∙ presence_is x i is e) ∙ seen_presence (s.presences x));
+    shows = read i n (λ w. after_presence_look w x (presence_at n)) found;
+  }
 
-  same_view : (f : ℕ → View) → f p ≡ v → ((q : ℕ) → f q ≡ get_or t.views q (new_view (rights_of b))) → (q : ℕ) → f q ≡ get_or (set t.views p v) q (new_view (rights_of b))
-  same_view f mine_is all q = put_cases (λ w. w ≡ get_or (set t.views p v) q (new_view (rights_of b)) → f q ≡ get_or (set t.views p v) q (new_view (rights_of b))) f p v q
+  same_view : (f : ℕ → View) → f p ≡ v → ((q : ℕ) → f q ≡ get_or t.views q (new_view (rights_of b))) → (q : ℕ)
+      → f q ≡ get_or (set t.views p v) q (new_view (rights_of b))
+  same_view f mine_is all q =
+      put_cases (λ w. w ≡ get_or (set t.views p v) q (new_view (rights_of b)) → f q ≡ get_or (set t.views p v) q (new_view (rights_of b))) f p v q
       (λ e h. ap f e ∙ (mine_is ∙ h)) (λ ne h. h) (view_put (new_view (rights_of b)) t.views f p v v v all here.view refl q)
 
-  pub value_step : (x : Slot) (i n : ℕ) → IsSlot b x → i ≡ value_place b x → n ≡ get_or t.words i 0 → Contains v.present x → IsStep b s (LookValue p x (value_at n)) (table_after_step t i n p v)
+  pub value_step : (x : Slot) (i n : ℕ) → IsSlot b x → i ≡ value_place b x → n ≡ get_or t.words i 0 → Contains v.present x
+      → IsStep b s (LookValue p x (value_at n)) (table_after_step t i n p v)
   value_step x i n is e found known = record {
     allowed = (named, subst (λ (w : View). Contains w.present x) (sym mine) known, ap value_at found ∙ value_is x i is e);
-    shows = record { words = here.shows.words; line = ap (λ (z : ℕ). set t.words i z) found ∙ (set-get_or t.words i 0 ∙ here.shows.line); shown = here.shows.shown; views = same_view s.views mine here.shows.views };
+    shows = record {
+      words = here.shows.words;
+      line = ap (λ (z : ℕ). set t.words i z) found ∙ (set-get_or t.words i 0 ∙ here.shows.line);
+      shown = here.shows.shown;
+      views = same_view s.views mine here.shows.views;
+    };
   }
 
   may_fill : (x : Slot) (d : Cell) → IsSlot b x → IsFillable b v x → IsRightCell b x d → MayFill b s p x d
@@ -174,7 +244,8 @@ module _ (b : Batch) (t : T) (s : State) (p : ℕ) (v : View) (here : IsBefore b
     allowed = (named, may_fill x (present_at n) is may right, subst (λ (w : View). ¬ Contains w.stored x) (sym mine) once);
     shows = record {
       words = record here.shows.words { values = set here.shows.words.values (number b x) n };
-      line = (λ d. set (here.shows.line d) (e d) n) ∙ value_put here.shows.words (length (rights_of b).outcomes) (length (rights_of b).slots) (number b x) n here.shows.shown.sized.statuses here.shows.shown.sized.presences;
+      line = (λ d. set (here.shows.line d) (e d) n) ∙ value_put here.shows.words (length (rights_of b).outcomes) (length (rights_of b).slots)
+          (number b x) n here.shows.shown.sized.statuses here.shows.shown.sized.presences;
       shown = value_shown b here.shows.words s (point_update s.views p (after_value_store (s.views p) x)) x n is here.shows.shown;
       views = views_put (λ w. after_value_store w x);
     };
@@ -188,8 +259,10 @@ module _ (b : Batch) (t : T) (s : State) (p : ℕ) (v : View) (here : IsBefore b
         allowed = (named, may_fill x d is may right, subst (λ (w : View). HasStored w x d) (sym mine) has);
         shows = record {
           words = record here.shows.words { presences = set here.shows.words.presences (number b x) (filled_word d) };
-          line = (λ j. set (here.shows.line j) (e j) (filled_word d)) ∙ presence_put here.shows.words (length (rights_of b).outcomes) (number b x) (filled_word d) here.shows.shown.sized.statuses inside;
-          shown = presence_shown b here.shows.words s (point_update s.views p (after_presence_store (s.views p) x)) x (Some (presence_of d)) is here.shows.shown;
+          line = (λ j. set (here.shows.line j) (e j) (filled_word d))
+              ∙ presence_put here.shows.words (length (rights_of b).outcomes) (number b x) (filled_word d) here.shows.shown.sized.statuses inside;
+          shown = presence_shown b here.shows.words s (point_update s.views p (after_presence_store (s.views p) x)) x
+              (Some (presence_of d)) is here.shows.shown;
           views = views_put (λ w. after_presence_store w x);
         };
       }
@@ -205,7 +278,8 @@ module _ (b : Batch) (t : T) (s : State) (p : ℕ) (v : View) (here : IsBefore b
           words = here.shows.words;
           line = here.shows.line;
           shown = same_shown b here.shows.words s (point_update s.views (length t.views) (s.views p)) here.shows.shown;
-          views = λ q. (λ i. point_update s.views (sym long i) (mine i) q) ∙ view_added d (set t.views p v) s.views v (same_view s.views mine here.shows.views) q;
+          views = λ q. (λ i. point_update s.views (sym long i) (mine i) q)
+              ∙ view_added d (set t.views p v) s.views v (same_view s.views mine here.shows.views) q;
         };
       }
 

@@ -1,12 +1,13 @@
 -- There is an access for each declared key, and what a position wants is of an earlier one.
-use Rattle.std.proofs.Common.{◌≡◌, ℕ, ◌+◌, ◌<◌, List, [], ◌++◌, length, Bool, true, false, Option, Some, option_map, unwrap_or, ap, sym, ◌∙◌, subst, ⊎_elim, inl, inr, refl, arith}
+use Rattle.std.proofs.Common.{◌≡◌, ℕ, ◌+◌, ◌<◌, List, [], ◌++◌, length, Bool, true, false, Option, Some}
+use Rattle.std.proofs.Common.{option_map, unwrap_or, ap, sym, ◌∙◌, subst, ⊎_elim, inl, inr, refl, arith}
 use Rattle.std.specs.Prelude.{Contains, ◌⊎◌, if◌then◌else◌}
 use Rattle.std.specs.List.{slice_get}
 use Rattle.std.proofs.Math.Logic.{∥∥₁_elim}
 use Rattle.std.proofs.Props.{props}
 use Rattle.std.proofs.lemmas.List.Elements.{Contains-append_cases}
 use Rattle.std.proofs.lemmas.Option.{same_Some, slice_get_within, slice_get-get_or}
-use Rattle.bohm_tree.specs.Txn.{Txn}
+use Rattle.bohm_types.specs.Txn.{Txn}
 use Rattle.bohm_txn.specs.Sure.{is_sure}
 use Rattle.bohm_txn.proofs.ForCallers.{there}
 use Rattle.bohm_place.specs.declared.access.Access.{Access}
@@ -18,7 +19,8 @@ use Rattle.bohm_place.specs.Plans.{IsRightAccess, AreRightAccesses, IsIndexOf, k
 use Rattle.bohm_place.specs.Writers.{IsNewest}
 use Rattle.bohm_place.proofs.ForCallers.{row_paired}
 use Rattle.bohm_board.specs.declared.batch.Batch.{Batch}
-use Rattle.bohm_board.specs.Batches.{accesses_in, txns_of, first_of, plan_of, position, IsIn, IsSlot, txn_at, reads_at, writes_at, wanted_at, is_sure_at, slot_in}
+use Rattle.bohm_board.specs.Batches.{accesses_in, txns_of, first_of, plan_of, position, IsIn, IsSlot}
+use Rattle.bohm_board.specs.Batches.{txn_at, reads_at, writes_at, wanted_at, is_sure_at, slot_in}
 use Rattle.bohm_board.proofs.BoardLaw.{nothing_in}
 use Rattle.bohm_board.proofs.SlotNumbers.{txn_there, width_there}
 
@@ -40,7 +42,8 @@ pub record IsEarlier (b : Batch) (t : ℕ) (a : Access) (u : ℕ) : Type 0 where
 earlier_prop : (b : Batch) (t : ℕ) (a : Access) (u : ℕ) → IsProp (IsEarlier b t a u)
 earlier_prop b t a u = hlevel props
 
-right_earlier : (b : Batch) (t : ℕ) (k : List ℕ) (a : Access) (u : ℕ) → IsIn b t → IsRightAccess (first_of b) (txns_of b) (first_of b + position b t) k a → a.source ≡ Within u → IsEarlier b t a u
+right_earlier : (b : Batch) (t : ℕ) (k : List ℕ) (a : Access) (u : ℕ) → IsIn b t → IsRightAccess (first_of b) (txns_of b) (first_of b + position b t) k a
+    → a.source ≡ Within u → IsEarlier b t a u
 right_earlier b t k a u inside r e =
     let n = subst (λ (s : Source). IsNewest (first_of b) (txns_of b) k (first_of b + position b t) s) e r.newest in
     let w = subst (λ (s : Source). IsIndexOf (first_of b) (txns_of b) k a.index s) e r.write in
@@ -51,9 +54,16 @@ right_earlier b t k a u inside r e =
     let place : position b u ≡ w.there.place = omega arith in
     let at : txn_at b u ≡ Some w.txn = ap (λ (i : ℕ). slice_get (txns_of b) i) place ∙ w.there.is_at in
     let index = slice_get_within w.txn.writes a.index k w.declared in
-    record { below = omega arith; slot = record { txn = record { from = omega arith; below = omega arith }; index = omega (arith, width_there b u w.txn at, index) } }
+    record {
+      below = omega arith;
+      slot = record {
+        txn = record { from = omega arith; below = omega arith };
+        index = omega (arith, width_there b u w.txn at, index);
+      };
+    }
 
-among_right : (b : Batch) (t : ℕ) (keys : List (List ℕ)) (accesses : List Access) (a : Access) (u : ℕ) → IsIn b t → AreRightAccesses (first_of b) (txns_of b) (first_of b + position b t) keys accesses → Contains accesses a → a.source ≡ Within u → IsEarlier b t a u
+among_right : (b : Batch) (t : ℕ) (keys : List (List ℕ)) (accesses : List Access) (a : Access) (u : ℕ) → IsIn b t
+    → AreRightAccesses (first_of b) (txns_of b) (first_of b + position b t) keys accesses → Contains accesses a → a.source ≡ Within u → IsEarlier b t a u
 among_right b t keys accesses a u inside are in_it e =
     let j = in_it.0 in
     let at : slice_get accesses j ≡ Some a = slice_get-get_or accesses j a in_it.1 ∙ ap Some in_it.2 in
@@ -69,7 +79,9 @@ in_either false xs ys a h = ⊎_elim (λ c. inl c) (λ (c : Contains ys a). inr 
 pub sure_planned : (b : Batch) (t : ℕ) (sure : Bool) → IsIn b t → sure_at (plan_of b) (position b t) ≡ Some sure → sure ≡ is_sure_at b t
 sure_planned b t sure inside at =
     let (x, at_x) = txn_there b t inside in
-    ∥∥₁_elim b.batched.right (hlevel props) (λ plan. same_Some sure (is_sure x) (sym at ∙ plan.sure (position b t) x at_x) ∙ sym (ap (λ (o : Option Txn). unwrap_or (option_map is_sure o) false) at_x))
+    ∥∥₁_elim b.batched.right (hlevel props)
+    (λ plan. same_Some sure (is_sure x) (sym at ∙ plan.sure (position b t) x at_x)
+    ∙ sym (ap (λ (o : Option Txn). unwrap_or (option_map is_sure o) false) at_x))
 
 -- a wanted source is an earlier position, with a slot for the key
 pub wanted_earlier : (b : Batch) (t : ℕ) (a : Access) (u : ℕ) → IsIn b t → Contains (wanted_at b t) a → a.source ≡ Within u → IsEarlier b t a u

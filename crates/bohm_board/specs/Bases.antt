@@ -1,10 +1,11 @@
--- What a batch is made of: its transactions and plan, and what its keys hold before it.
+-- The data of a batch: its transactions and plan, and what its keys hold before it.
 use Rattle.std.specs.Prelude.{ℕ, ◌+◌, ◌<◌, ◌≤◌, ◌^◌, All, List, [], ◌∷◌, ◌++◌, length, map}
-use Rattle.bohm_tree.specs.declared.cell.Cell.{Cell}
-use Rattle.bohm_tree.specs.Txn.{Txn}
+use Rattle.bohm_types.specs.declared.cell.Cell.{Cell}
+use Rattle.bohm_types.specs.Txn.{Txn}
 use Rattle.bohm_txn.specs.Faulty.{IsWellFormedTxn}
 use Rattle.bohm_place.specs.Noting.{AreKeysOf}
 use Rattle.bohm_place.specs.Plans.{Planned, IsRightPlan}
+use Rattle.bohm_types.specs.Limits.{largest_batch}
 
 abbrev pub keys_of : List (List ℕ × Cell) → List (List ℕ)
 keys_of entries = map (λ e. e.0) entries
@@ -14,14 +15,14 @@ abbrev pub declared_keys : List Txn → List (List ℕ)
 declared_keys [] = []
 declared_keys (t ∷ ts) = (t.reads ++ t.writes) ++ declared_keys ts
 
--- a plan of so many transactions as a batch may have
+-- the plan is right, and its transactions are well-formed and as many as a batch may have
 pub record IsBatched (txns : List Txn) (plan : Planned) : Type 0 where
   pub some : 0 < length txns
-  pub few : length txns ≤ 4096
+  pub few : length txns ≤ largest_batch
   pub timestamps : plan.first + length txns ≤ 2 ^ 32
   pub formed : All IsWellFormedTxn txns
   pub right : ∥ IsRightPlan txns plan ∥₁
 
--- no key has two entries, and a key has one exactly where a transaction declares it
+-- a key has one entry if a transaction declares it, else none
 abbrev pub IsBase : List Txn → List (List ℕ × Cell) → Type 0
 IsBase txns entries = AreKeysOf txns (keys_of entries)

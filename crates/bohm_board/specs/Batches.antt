@@ -1,9 +1,9 @@
--- Batches: their positions, their slots, what is right in them, and what a position wants.
+-- Batches: positions, slots, right outcomes and cells, and what a position wants.
 use Rattle.std.specs.Prelude.{◌≡◌, ℕ, ◌+◌, ◌-◌, ◌<◌, ◌≤◌, List, [], ◌++◌, length, Contains, Bool, false, Option, Some, slice_get, unwrap_or, if◌then◌else◌}
 use Rattle.std.specs.Option.{option_map}
-use Rattle.bohm_tree.specs.declared.cell.Cell.{Cell}
-use Rattle.bohm_tree.specs.declared.cell.Cell.TheVariants.{Absent}
-use Rattle.bohm_tree.specs.Txn.{Txn}
+use Rattle.bohm_types.specs.declared.cell.Cell.{Cell}
+use Rattle.bohm_types.specs.declared.cell.Cell.TheVariants.{Absent}
+use Rattle.bohm_types.specs.Txn.{Txn}
 use Rattle.bohm_txn.specs.declared.outcome.Outcome.{Outcome}
 use Rattle.bohm_txn.specs.Meaning.{Look, newest}
 use Rattle.bohm_txn.specs.Sure.{is_sure}
@@ -47,7 +47,7 @@ pub record IsIn (b : Batch) (t : ℕ) : Type 0 where
 abbrev pub txn_at : Batch → ℕ → Option Txn
 txn_at b t = slice_get (txns_of b) (position b t)
 
--- how many slots the transaction with the timestamp has
+-- the number of slots of the transaction with the timestamp
 abbrev pub width_at : Batch → ℕ → ℕ
 width_at b t = unwrap_or (option_map width (txn_at b t)) 0
 
@@ -59,7 +59,7 @@ pub record IsSlot (b : Batch) (s : Slot) : Type 0 where
 abbrev pub number : Batch → Slot → ℕ
 number b s = offset (txns_of b) (position b s.txn) + s.index
 
--- ---- what is right
+-- ---- right outcomes and cells
 
 -- the outcomes and cells of the serial run over the base
 unfoldable pub rights_of : Batch → Rights
@@ -90,7 +90,7 @@ reads_at b t = reads_of (plan_of b) (position b t)
 abbrev pub writes_at : Batch → ℕ → List Access
 writes_at b t = writes_of (plan_of b) (position b t)
 
--- of one of the two sets that t declares, the accesses, and the key of index j
+-- the accesses of one of t's two declared sets, and its key of index j
 abbrev pub accesses_in : DeclaredSet → Batch → ℕ → List Access
 accesses_in set b t = planned_in set (plan_of b) (position b t)
 

@@ -1,4 +1,4 @@
--- What a closed board has.
+-- The contents of a closed board.
 use Rattle.std.specs.Prelude.{◌≡◌, ◌≢◌, ℕ, ◌<◌, ◌≤◌, slice_index, count_by, nat_lt}
 use Rattle.bohm_board.specs.declared.batch.Batch.{Batch}
 use Rattle.bohm_board.specs.declared.closed.Closed.{Closed}
@@ -18,7 +18,7 @@ status_in c t = slice_index c.columns.statuses.items (position (batch_of_closed 
 abbrev pub presence_in : Closed → Slot → ℕ
 presence_in c s = slice_index c.columns.presences.items (number (batch_of_closed c) s)
 
--- its words show a state that events of the core have led to, and that meets the board law
+-- its words show a state that events of the core lead to, and that meets the board law
 pub record IsLeft (c : Closed) : Type 0 where
   pub state : State
   pub shown : AreShown (batch_of_closed c) (words_of c.columns) state
@@ -29,7 +29,7 @@ pub record IsLeft (c : Closed) : Type 0 where
 abbrev pub IsFinished : Closed → ℕ → Type 0
 IsFinished c t = 2 ≤ status_in c t
 
--- it has none
+-- the position has no outcome
 abbrev pub IsUnfinished : Closed → ℕ → Type 0
 IsUnfinished c t = status_in c t < 2
 
@@ -41,6 +41,6 @@ IsUntaken c t = status_in c t ≡ 0
 abbrev pub HasCell : Closed → Slot → Type 0
 HasCell c s = presence_in c s ≢ 0
 
--- how many positions have no outcome
+-- the number of positions without an outcome
 abbrev pub unfinished_in : Closed → ℕ
 unfinished_in c = count_by (λ word. nat_lt word 2) c.columns.statuses.items

@@ -1,9 +1,9 @@
--- The core: what the board of a batch holds and what its passes know, with no words, steps or threads.
+-- The core: what the board of a batch holds and what its passes know, without words, steps and threads.
 use Rattle.std.specs.Prelude.{◌≡◌, ℕ, ℤ, pos, List, ◌++◌, map, zip, Contains, Option, None, Some, slice_get}
 use Rattle.std.specs.Option.{option_map}
-use Rattle.bohm_tree.specs.declared.cell.Cell.{Cell}
-use Rattle.bohm_tree.specs.declared.cell.Cell.TheVariants as cells
-use Rattle.bohm_tree.specs.Txn.{Txn}
+use Rattle.bohm_types.specs.declared.cell.Cell.{Cell}
+use Rattle.bohm_types.specs.declared.cell.Cell.TheVariants as cells
+use Rattle.bohm_types.specs.Txn.{Txn}
 use Rattle.bohm_txn.specs.declared.outcome.Outcome.{Outcome}
 use Rattle.bohm_txn.specs.Meaning.{Look, newest, body, ◌>>=◌}
 use Rattle.bohm_txn.specs.Serial.{outcome_of}
@@ -19,13 +19,13 @@ use Rattle.bohm_board.specs.Views.{Presence, Absent, Present, new_view}
 
 -- ---- states
 
--- how far a position is: claimed by this pass, or done with this outcome
+-- the progress of a position: open, claimed by this pass, or done with this outcome
 pub data Progress : Type 0 where
   Open : Progress
   Claimed : (pass : ℕ) → Progress
   Done : (outcome : Outcome) → Progress
 
--- positions have timestamps, and passes numbers
+-- positions by timestamp, and passes by number
 pub record State : Type 0 where
   pub positions : ℕ → Progress
   pub presences : Slot → Option Presence
@@ -45,7 +45,7 @@ HasWanted b s t = (a : Access) (u : ℕ) → Contains (wanted_at b t) a → a.so
 
 -- ---- Input(t), and what the transaction does over it
 
--- the cell that a slot holds: none where it isn't filled
+-- the cell of a slot: absent if it isn't filled
 abbrev pub cell_by : Option Presence → ℤ → Cell
 cell_by None z = cells.Absent
 cell_by (Some Absent) z = cells.Absent

@@ -1,8 +1,8 @@
 -- The encoding of statuses, outcomes and cells as the words of a board.
 use Rattle.std.specs.Prelude.{ℕ, ℤ, zero, suc, ◌+◌, ◌*◌, ◌/◌, ◌%◌, Option, None, Some}
 use Rattle.std.specs.Int.{cast_signed, w64}
-use Rattle.bohm_tree.specs.declared.cell.Cell.{Cell}
-use Rattle.bohm_tree.specs.declared.cell.Cell.TheVariants.{Present}
+use Rattle.bohm_types.specs.declared.cell.Cell.{Cell}
+use Rattle.bohm_types.specs.declared.cell.Cell.TheVariants.{Present}
 use Rattle.bohm_txn.specs.declared.outcome.Outcome.{Outcome}
 use Rattle.bohm_txn.specs.declared.outcome.Outcome.TheVariants.{Commit, Abort}
 use Rattle.bohm_txn.specs.declared.outcome.Reason.{Reason}
@@ -28,7 +28,7 @@ status_of_claim claimed.Mine = Open
 status_of_claim claimed.Busy = Busy
 status_of_claim claimed.Done = Done
 
--- what an exchange answers that found this word
+-- the answer of an exchange that found this word
 abbrev pub claim_of_word : ℕ → Claimed
 claim_of_word zero = claimed.Mine
 claim_of_word (suc zero) = claimed.Busy
@@ -80,7 +80,7 @@ presence_at zero = None
 presence_at (suc zero) = Some views.Absent
 presence_at (suc (suc n)) = Some views.Present
 
--- the presence word of a cell that is there
+-- the presence word of a filled slot with this cell
 abbrev pub filled_word : Cell → ℕ
 filled_word c = presence_word (Some (views.presence_of c))
 

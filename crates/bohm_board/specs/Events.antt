@@ -1,7 +1,7 @@
--- What the passes of a core do: where it is allowed, and what it changes.
+-- The events of a core: when each is allowed, and what it changes.
 use Rattle.std.specs.Prelude.{◌≡◌, ◌≢◌, ℕ, ℤ, List, [], ◌∷◌, Contains, Bool, false, ◌&&◌, ◌==◌, if◌then◌else◌, Option, Some}
-use Rattle.bohm_tree.specs.declared.cell.Cell.{Cell}
-use Rattle.bohm_tree.specs.declared.cell.Cell.TheVariants as cells
+use Rattle.bohm_types.specs.declared.cell.Cell.{Cell}
+use Rattle.bohm_types.specs.declared.cell.Cell.TheVariants as cells
 use Rattle.bohm_txn.specs.declared.outcome.Outcome.{Outcome}
 use Rattle.bohm_board.specs.declared.batch.Batch.{Batch}
 use Rattle.bohm_board.specs.declared.slot.Slot.{Slot}
@@ -12,10 +12,11 @@ use Rattle.bohm_board.specs.declared.status.Claimed.TheVariants as won
 use Rattle.bohm_board.specs.declared.knowledge.View.{View}
 use Rattle.bohm_board.specs.Batches.{IsIn, IsSlot, rights_of}
 use Rattle.bohm_board.specs.Core.{Progress, Open, Claimed, Done, State, empty_state, outcome_over, cell_over}
-use Rattle.bohm_board.specs.Views.{Presence, presence_of, new_view, spent_view, after_status, after_claim, after_presence_look, after_value_store, after_presence_store, after_finish, after_join, Holds, HoldsNothing, HasStored, KnowsWanted, HasFilledAll}
+use Rattle.bohm_board.specs.Views.{Presence, presence_of, new_view, spent_view, after_status, after_claim, after_presence_look, after_value_store}
+use Rattle.bohm_board.specs.Views.{after_presence_store, after_finish, after_join, Holds, HoldsNothing, HasStored, KnowsWanted, HasFilledAll}
 use Rattle.bohm_board.specs.Encoding.{status_of_claim}
 
--- an event of the pass p (and of q), with what it was answered or what it put
+-- an event of the pass p (and of q), with the answer or with what it stored
 pub data Event : Type 0 where
   LookPresence : (p : ℕ) (x : Slot) (answer : Option Presence) → Event
   LookValue : (p : ℕ) (x : Slot) (answer : ℤ) → Event
@@ -27,14 +28,14 @@ pub data Event : Type 0 where
   Split : (p q : ℕ) → Event
   Join : (p q : ℕ) → Event
 
--- ---- where an event is allowed
+-- ---- when an event is allowed
 
 abbrev pub status_of_progress : Progress → Seen
 status_of_progress Open = seen.Open
 status_of_progress (Claimed p) = seen.Busy
 status_of_progress (Done o) = seen.Done
 
--- the pass may fill the slot, and the cell is the one for it
+-- the pass may fill the slot, and this is its cell
 pub record MayFill (b : Batch) (s : State) (p : ℕ) (x : Slot) (c : Cell) : Type 0 where
   pub slot : IsSlot b x
   pub holds : Holds b (s.views p) x.txn
@@ -42,7 +43,7 @@ pub record MayFill (b : Batch) (s : State) (p : ℕ) (x : Slot) (c : Cell) : Typ
   pub wanted : KnowsWanted b (s.views p) x.txn
   pub cell : cell_over b s x ≡ Some c
 
--- the pass may finish the position, and the outcome is the one of it
+-- the pass may finish the position, and this is its outcome
 pub record MayFinish (b : Batch) (s : State) (p t : ℕ) (o : Outcome) : Type 0 where
   pub position : IsIn b t
   pub holds : Holds b (s.views p) t
@@ -50,11 +51,11 @@ pub record MayFinish (b : Batch) (s : State) (p t : ℕ) (o : Outcome) : Type 0 
   pub wanted : KnowsWanted b (s.views p) t
   pub outcome : outcome_over b s t ≡ Some o
 
--- the pass is one of this batch: what a join left behind does nothing more
+-- the pass belongs to this batch: one that a join consumed takes no further step
 abbrev pub IsOf : Batch → State → ℕ → Type 0
 IsOf b s p = (s.views p).right ≡ rights_of b
 
--- a fill or a finish asks that the pass holds the position and knows what it wants; a split makes the new pass q, and a join appends what q has seen
+-- a fill or a finish requires that the pass holds the position and knows what it wants; a split makes the new pass q, and a join appends what q observed
 abbrev pub IsAllowed : Batch → State → Event → Type 0
 IsAllowed b s (LookPresence p x answer) = IsOf b s p × IsSlot b x × (answer ≡ s.presences x)
 IsAllowed b s (LookValue p x answer) = IsOf b s p × Contains (s.views p).present x × (answer ≡ s.values x)
@@ -68,14 +69,14 @@ IsAllowed b s (Join p q) = IsOf b s p × (q ≢ p) × HoldsNothing (s.views p) �
 
 -- ---- what it changes
 
--- the same but at t
+-- the same except at t
 abbrev pub point_update : {A : Type 0} → (ℕ → A) → ℕ → A → ℕ → A
 point_update f t a = λ u. if u == t then a else f u
 
 abbrev pub is_slot : Slot → Slot → Bool
 is_slot x y = (y.txn == x.txn) && (y.index == x.index)
 
--- the same but at the slot x
+-- the same except at the slot x
 abbrev pub slot_update : {A : Type 0} → (Slot → A) → Slot → A → Slot → A
 slot_update f x a = λ y. if is_slot x y then a else f y
 
@@ -83,28 +84,34 @@ slot_update f x a = λ y. if is_slot x y then a else f y
 abbrev pub with_view : State → ℕ → View → State
 with_view s p v = record s { views = point_update s.views p v }
 
--- a claim that doesn't win changes what a status would
+-- a claim that doesn't win has the effect of a status read
 abbrev pub next_state : State → Event → State
 next_state s (LookPresence p x answer) = with_view s p (after_presence_look (s.views p) x answer)
 next_state s (LookValue p x answer) = s
 next_state s (Status p t answer) = with_view s p (after_status (s.views p) t answer)
-next_state s (Claim p t won.Mine) = record s { positions = point_update s.positions t (Claimed p); views = point_update s.views p (after_claim (s.views p) t seen.Open) }
+next_state s (Claim p t won.Mine) = record s {
+  positions = point_update s.positions t (Claimed p);
+  views = point_update s.views p (after_claim (s.views p) t seen.Open);
+}
 next_state s (Claim p t won.Busy) = with_view s p (after_claim (s.views p) t seen.Busy)
 next_state s (Claim p t won.Done) = with_view s p (after_claim (s.views p) t seen.Done)
 next_state s (FillValue p x z) = record s { values = slot_update s.values x z; views = point_update s.views p (after_value_store (s.views p) x) }
-next_state s (FillPresence p x c) = record s { presences = slot_update s.presences x (Some (presence_of c)); views = point_update s.views p (after_presence_store (s.views p) x) }
+next_state s (FillPresence p x c) = record s {
+  presences = slot_update s.presences x (Some (presence_of c));
+  views = point_update s.views p (after_presence_store (s.views p) x);
+}
 next_state s (Finish p t o) = record s { positions = point_update s.positions t (Done o); views = point_update s.views p (after_finish (s.views p) t) }
 next_state s (Split p q) = with_view s q (s.views p)
 next_state s (Join p q) = with_view (with_view s p (after_join (s.views p) (s.views q))) q spent_view
 
 -- ---- lists of events
 
--- each event is allowed in the state that those before it leave
+-- each event is allowed in the state after those before it
 abbrev pub IsRun : Batch → State → List Event → Type 0
 IsRun b s [] = Unit {0}
 IsRun b s (e ∷ es) = IsAllowed b s e × IsRun b (next_state s e) es
 
--- the state that the events leave
+-- the state after the events
 abbrev pub final_state : State → List Event → State
 final_state s [] = s
 final_state s (e ∷ es) = final_state (next_state s e) es

@@ -1,7 +1,7 @@
 -- The cells that a position is evaluated over, by its plan.
 use Rattle.std.specs.Prelude.{◌≡◌, ℕ, ◌+◌, List, length, Some, slice_get}
-use Rattle.bohm_tree.specs.declared.cell.Cell.{Cell}
-use Rattle.bohm_tree.specs.Txn.{Txn}
+use Rattle.bohm_types.specs.declared.cell.Cell.{Cell}
+use Rattle.bohm_types.specs.Txn.{Txn}
 use Rattle.bohm_txn.specs.Meaning.{Look, body}
 use Rattle.bohm_place.specs.declared.access.Access.{Access}
 use Rattle.bohm_place.specs.declared.access.Source.{Source}
@@ -22,13 +22,14 @@ IsCellOf b k a c = IsCellFrom b k a.index c a.source
 -- each of these cells is its key's, by the key's access
 pub record AreCellsOf (b : Batch) (keys : List (List ℕ)) (accesses : List Access) (cells : List Cell) : Type 0 where
   pub paired : length keys ≡ length cells
-  pub each : (j : ℕ) (k : List ℕ) (a : Access) (c : Cell) → slice_get keys j ≡ Some k → slice_get accesses j ≡ Some a → slice_get cells j ≡ Some c → IsCellOf b k a c
+  pub each : (j : ℕ) (k : List ℕ) (a : Access) (c : Cell) → slice_get keys j ≡ Some k → slice_get accesses j ≡ Some a → slice_get cells j ≡ Some c
+      → IsCellOf b k a c
 
--- over these two stores a transaction ends alike and leaves the same cells
+-- over these two stores a transaction has the same outcome and leaves the same cells
 pub record EndsAlike (look other : Look) (t : Txn) : Type 0 where
   pub bodies : body look t ≡ body other t
   pub cells : own_cells look t ≡ own_cells other t
 
--- from slot n on these are the right cells
+-- these are the right cells of the slots from n on
 abbrev pub AreRight : Rights → ℕ → List Cell → Type 0
 AreRight r n cells = (j : ℕ) (c : Cell) → slice_get cells j ≡ Some c → right_cell r (n + j) ≡ Some c

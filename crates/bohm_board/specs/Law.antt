@@ -1,6 +1,6 @@
 -- The board law.
 use Rattle.std.specs.Prelude.{◌≡◌, ◌≢◌, ◌⊎◌, ℕ, Contains, Some, None}
-use Rattle.bohm_tree.specs.declared.cell.Cell.TheVariants as cells
+use Rattle.bohm_types.specs.declared.cell.Cell.TheVariants as cells
 use Rattle.bohm_txn.specs.declared.outcome.Outcome.{Outcome}
 use Rattle.bohm_board.specs.declared.batch.Batch.{Batch}
 use Rattle.bohm_board.specs.declared.slot.Slot.{Slot}
@@ -9,9 +9,9 @@ use Rattle.bohm_board.specs.Batches.{IsIn, IsSlot, IsRightCell, IsRightOutcome, 
 use Rattle.bohm_board.specs.Core.{Open, Claimed, Done, State, IsFull}
 use Rattle.bohm_board.specs.Views.{Presence, Absent, Present, Holds, spent_view}
 
--- (a), (b) and (c): of what is there
+-- (a), (b) and (c): what is on the board
 pub record IsSound (b : Batch) (s : State) : Type 0 where
-  -- each presence is that of the right cell, and where that has a value, it stands there
+  -- each presence is that of the right cell, and so is the value, if there is one
   pub absent : (x : Slot) → s.presences x ≡ Some Absent → IsRightCell b x cells.Absent
   pub present : (x : Slot) → s.presences x ≡ Some Present → IsRightCell b x (cells.Present (s.values x))
   -- a Done position is one of the batch and has its right outcome, and all its slots are filled
@@ -21,7 +21,7 @@ pub record IsSound (b : Batch) (s : State) : Type 0 where
   -- no slot of an Open position has a presence
   pub untouched : (x : Slot) → s.positions x.txn ≡ Open → s.presences x ≡ None
 
--- (d), (e) and (f): of what the view of the pass p says
+-- (d), (e) and (f): what the view of the pass p says
 pub record IsTrueOf (b : Batch) (s : State) (p : ℕ) (v : View) : Type 0 where
   -- what it holds is claimed by it; what it filled is filled, and what it stored is the right value
   pub held : (t : ℕ) → Holds b v t → s.positions t ≡ Claimed p
@@ -30,10 +30,10 @@ pub record IsTrueOf (b : Batch) (s : State) (p : ℕ) (v : View) : Type 0 where
   -- what it saw Done is Done, and what it saw Busy isn't Open
   pub done : (t : ℕ) → Contains v.done t → (o : Outcome) × (s.positions t ≡ Done o)
   pub busy : (t : ℕ) → Contains v.busy t → s.positions t ≢ Open
-  -- what it knows of a slot is what its presence is
+  -- what it knows of a slot is the slot's presence
   pub absent : (x : Slot) → Contains v.absent x → s.presences x ≡ Some Absent
   pub present : (x : Slot) → Contains v.present x → s.presences x ≡ Some Present
-  -- it names the batch, or is what a join left behind
+  -- it belongs to the batch, or to a pass that a join consumed
   pub named : (v ≡ spent_view) ⊎ (v.right ≡ rights_of b)
 
 -- a position is claimed by the pass that holds it, and by no other; so no two passes hold one
@@ -42,7 +42,7 @@ pub record IsLawful (b : Batch) (s : State) : Type 0 where
   pub each : (p : ℕ) → IsTrueOf b s p (s.views p)
   pub held : (p t : ℕ) → s.positions t ≡ Claimed p → Holds b (s.views p) t
 
--- what is there for good: presences, outcomes, and the values of slots that are `Present`
+-- what never changes: presences, outcomes, and the values of slots that are `Present`
 pub record Stays (s later : State) : Type 0 where
   pub presences : (x : Slot) (presence : Presence) → s.presences x ≡ Some presence → later.presences x ≡ Some presence
   pub outcomes : (t : ℕ) (o : Outcome) → s.positions t ≡ Done o → later.positions t ≡ Done o

@@ -1,10 +1,10 @@
--- Where the slots of a batch lie.
+-- The layout of a batch's slots.
 use Rattle.std.specs.Prelude.{◌≡◌, ℕ, ◌<◌, ◌≤◌, List, length, slice_index}
-use Rattle.bohm_tree.specs.Txn.{Txn}
+use Rattle.bohm_types.specs.Txn.{Txn}
 use Rattle.bohm_board.specs.declared.layout.Layout.{Layout}
 use Rattle.bohm_board.specs.Serial.{offset}
 
--- of each position below n, how many slots there are before it
+-- for each position below n, the number of slots before it
 pub record AreStarts (txns : List Txn) (n : ℕ) (starts : List ℕ) : Type 0 where
   pub long : length starts ≡ n
   pub each : (i : ℕ) → i < n → slice_index starts i ≡ offset txns i

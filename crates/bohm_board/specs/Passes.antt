@@ -1,4 +1,4 @@
--- What a pass of a board has seen, knows and holds.
+-- What a pass of a board has observed, knows and holds.
 use Rattle.std.specs.Prelude.{◌≡◌, ℕ, [], Option}
 use Rattle.atomic_table.specs.declared.shared.Seat.{Seat}
 use Rattle.bohm_board.specs.declared.batch.Batch.{Batch}

@@ -1,29 +1,29 @@
--- What transactions that run one after another leave: outcomes and cells.
+-- The outcomes and cells of transactions that run one after another.
 use Rattle.std.specs.Prelude.{ℕ, zero, suc, ◌+◌, ℤ, List, [], ◌∷◌, ◌++◌, map, length}
-use Rattle.bohm_tree.specs.declared.cell.Cell.{Cell}
-use Rattle.bohm_tree.specs.declared.cell.Cell.TheVariants.{Absent, Present}
-use Rattle.bohm_tree.specs.Txn.{Txn}
+use Rattle.bohm_types.specs.declared.cell.Cell.{Cell}
+use Rattle.bohm_types.specs.declared.cell.Cell.TheVariants.{Absent, Present}
+use Rattle.bohm_types.specs.Txn.{Txn}
 use Rattle.bohm_txn.specs.declared.outcome.Outcome.{Outcome}
 use Rattle.bohm_txn.specs.Declares.{shows_in}
 use Rattle.bohm_txn.specs.Meaning.{Look, body}
 use Rattle.bohm_txn.specs.Serial.{after, outcome_of, shows_of}
 use Rattle.bohm_board.specs.declared.knowledge.RightSlot.{RightSlot}
 
--- n cells: the values, and absence where there are no more
+-- n cells: the values, then absence
 abbrev pub show_cells : ℕ → List ℤ → List Cell
 show_cells zero zs = []
 show_cells (suc n) [] = Absent ∷ show_cells n []
 show_cells (suc n) (z ∷ zs) = Present z ∷ show_cells n zs
 
--- a transaction's own cells: of each declared write the key's cell after it, and then of each `show` its value, or absence on an abort
+-- a transaction's own cells: for each declared write the key's cell after it, then for each `show` its value, or absence on an abort
 abbrev pub own_cells : Look → Txn → List Cell
 own_cells look t = map (after look t) t.writes ++ show_cells (shows_in t.body) (shows_of (body look t))
 
--- how many slots a transaction has
+-- the number of a transaction's slots
 abbrev pub width : Txn → ℕ
 width t = length t.writes + shows_in t.body
 
--- how many slots there are before position i
+-- the number of slots before position i
 abbrev pub offset : List Txn → ℕ → ℕ
 offset ts zero = 0
 offset [] (suc i) = 0

@@ -4,7 +4,7 @@ use Rattle.std.specs.List.{slice_index_or, slice_set}
 use mathlib.Core.Option.{some}
 use lib.ListN.{get_elem?}
 use Rattle.atomic_table.specs.Table.{State as Table}
-use Rattle.bohm_tree.specs.declared.cell.Cell.{Cell}
+use Rattle.bohm_types.specs.declared.cell.Cell.{Cell}
 use Rattle.bohm_board.specs.declared.batch.Batch.{Batch}
 use Rattle.bohm_board.specs.declared.columns.Columns.{Columns}
 use Rattle.bohm_board.specs.declared.slot.Slot.{Slot}
@@ -22,7 +22,7 @@ pub record Words : Type 0 where
   pub presences : List ℕ
   pub values : List ℕ
 
--- all of them, as they lie in a table
+-- all of them, in the order of a table
 abbrev pub all_words : Words → List ℕ
 all_words w = w.statuses ++ (w.presences ++ w.values)
 
@@ -41,14 +41,14 @@ pub record AreShown (b : Batch) (w : Words) (s : State) : Type 0 where
   pub presences : (x : Slot) → IsSlot b x → slice_index w.presences (number b x) ≡ presence_word (s.presences x)
   pub values : (x : Slot) → IsSlot b x → value_at (slice_index w.values (number b x)) ≡ s.values x
 
--- the table shows the state: the view of each pass, by its number, and a newcomer's where there is no such pass yet
+-- the table shows the state: the view of each pass, by its number, and a new pass's view if there is no such pass yet
 pub record Shows (b : Batch) (t : Table (Unit {0}) View) (s : State) : Type 0 where
   pub words : Words
   pub line : t.words ≡ all_words words
   pub shown : AreShown b words s
   pub views : (p : ℕ) → s.views p ≡ slice_index_or t.views p (new_view (rights_of b))
 
--- the rule: the words and views show a state that events of the core have led to from the empty board
+-- the rule: the words and views show a state that events of the core lead to from the empty board
 pub record IsRuled (b : Batch) (t : Table (Unit {0}) View) : Type 0 where
   pub state : State
   pub shows : Shows b t state
@@ -61,7 +61,7 @@ pub record IsBefore (b : Batch) (t : Table (Unit {0}) View) (s : State) (p : ℕ
   pub view : get_elem? t.views p ≡ some v
   pub right : v.right ≡ rights_of b
 
--- the step that leads from a table that shows the state to this one is the event: it is allowed, and the table shows what it leaves
+-- the step from a table that shows the state to this one is the event: it is allowed, and the table shows the state after it
 pub record IsStep (b : Batch) (s : State) (e : Event) (after : Table (Unit {0}) View) : Type 0 where
   pub allowed : IsAllowed b s e
   pub shows : Shows b after (next_state s e)
@@ -70,16 +70,17 @@ pub record IsStep (b : Batch) (s : State) (e : Event) (after : Table (Unit {0}) 
 abbrev pub table_after_step : Table (Unit {0}) View → ℕ → ℕ → ℕ → View → Table (Unit {0}) View
 table_after_step t i n p v = record { words = slice_set t.words i n; homes = t.homes; views = slice_set t.views p v }
 
--- where the words of a slot lie
+-- the indices of a slot's words
 abbrev pub presence_place : Batch → Slot → ℕ
 presence_place b x = length (rights_of b).outcomes + number b x
 
 abbrev pub value_place : Batch → Slot → ℕ
 value_place b x = length (rights_of b).outcomes + (length (rights_of b).slots + number b x)
 
--- of words that no table has any more: each outcome and cell that is there is right, and where a position has an outcome all its cells are there
+-- words that have left their table: each outcome and cell in them is right, and a position with an outcome has all its cells
 pub record AreSound (b : Batch) (w : Words) : Type 0 where
   pub outcomes : (t : ℕ) → IsIn b t → 2 ≤ slice_index w.statuses (position b t) → IsRightOutcome b t (outcome_at (slice_index w.statuses (position b t)))
-  pub presences : (x : Slot) (c : Cell) → IsSlot b x → IsRightCell b x c → slice_index w.presences (number b x) ≢ 0 → slice_index w.presences (number b x) ≡ filled_word c
+  pub presences : (x : Slot) (c : Cell) → IsSlot b x → IsRightCell b x c → slice_index w.presences (number b x) ≢ 0
+      → slice_index w.presences (number b x) ≡ filled_word c
   pub values : (x : Slot) → IsSlot b x → slice_index w.presences (number b x) ≡ 2 → IsRightCell b x (present_at (slice_index w.values (number b x)))
   pub whole : (x : Slot) → IsSlot b x → 2 ≤ slice_index w.statuses (position b x.txn) → slice_index w.presences (number b x) ≢ 0

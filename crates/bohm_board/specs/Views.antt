@@ -1,8 +1,8 @@
 -- What passes know, and how their views change.
 use Rattle.std.specs.Prelude.{◌≡◌, ◌≢◌, ℕ, ◌+◌, ◌<◌, ◌^◌, List, [], ◌∷◌, ◌++◌, Contains, Option, None, Some}
 use Rattle.std.specs.Option.{option_map}
-use Rattle.bohm_tree.specs.declared.cell.Cell.{Cell}
-use Rattle.bohm_tree.specs.declared.cell.Cell.TheVariants as cells
+use Rattle.bohm_types.specs.declared.cell.Cell.{Cell}
+use Rattle.bohm_types.specs.declared.cell.Cell.TheVariants as cells
 use Rattle.bohm_place.specs.declared.access.Access.{Access}
 use Rattle.bohm_place.specs.declared.access.Source.TheVariants.{Within}
 use Rattle.bohm_board.specs.declared.batch.Batch.{Batch}
@@ -13,7 +13,7 @@ use Rattle.bohm_board.specs.declared.knowledge.Rights.{Rights}
 use Rattle.bohm_board.specs.declared.knowledge.View.{View}
 use Rattle.bohm_board.specs.Batches.{wanted_at, slot_in, width_at}
 
--- what a filled slot is filled with
+-- the content of a filled slot
 pub data Presence : Type 0 where
   Absent : Presence
   Present : Presence
@@ -26,7 +26,7 @@ presence_of (cells.Present z) = Present
 abbrev pub new_view : Rights → View
 new_view r = record { right = r; done = []; busy = []; absent = []; present = []; held = None; stored = []; filled = [] }
 
--- what a join leaves behind
+-- the view of a pass that a join consumed
 abbrev pub spent_view : View
 spent_view = new_view (record { first = 0; outcomes = []; slots = [] })
 
@@ -43,7 +43,7 @@ after_claim v t Open = record v { held = Some t; stored = []; filled = [] }
 after_claim v t Busy = after_status v t Busy
 after_claim v t Done = after_status v t Done
 
--- an empty slot tells nothing that lasts
+-- an empty slot says nothing lasting
 abbrev pub after_presence_look : View → Slot → Option Presence → View
 after_presence_look v x None = v
 after_presence_look v x (Some Absent) = record v { absent = v.absent ++ x ∷ [] }
@@ -67,7 +67,7 @@ after_fill v x (cells.Present z) = after_presence_store (after_value_store v x) 
 abbrev pub after_finish : View → ℕ → View
 after_finish v t = record v { done = v.done ++ t ∷ []; held = None; stored = []; filled = [] }
 
--- of passes that hold nothing
+-- the join of passes that hold nothing
 abbrev pub after_join : View → View → View
 after_join v w = record v { done = v.done ++ w.done; busy = v.busy ++ w.busy; absent = v.absent ++ w.absent; present = v.present ++ w.present }
 
@@ -126,11 +126,11 @@ pub record Recalls (v : View) (t : ℕ) (status : Status) : Type 0 where
 
 -- ---- from one view to a later one
 
--- there are more behind
+-- the second list continues the first
 abbrev pub Continues : {A : Type 0} → List A → List A → Type 0
 Continues {A} old new = (more : List A) × (new ≡ old ++ more)
 
--- all that was seen stays seen
+-- all that was observed stays observed
 pub record Keeps (old new : View) : Type 0 where
   pub right : new.right ≡ old.right
   pub done : Continues old.done new.done
@@ -138,7 +138,7 @@ pub record Keeps (old new : View) : Type 0 where
   pub absent : Continues old.absent new.absent
   pub present : Continues old.present new.present
 
--- what a pass keeps of its view: the position that it holds, whose timestamp fits, and that of its slots it has stored the value of filled ones alone
+-- the invariant of a pass and its view: it holds this position, with its timestamp, and of its slots it has stored the values of filled ones only
 pub record IsKept (v : View) (first : ℕ) (held : Option ℕ) : Type 0 where
   pub holds : v.held ≡ option_map (λ i. first + i) held
   pub timestamp : (i : ℕ) → held ≡ Some i → first + i < 2 ^ 32

@@ -4,8 +4,8 @@ ghost use Rattle.std.specs.Prelude.{◌≡◌, ◌<◌, length, Some, IsSomeAnd,
 ghost use Rattle.std.specs.List.{IsDistinct};
 ghost use Rattle.std.specs.Str.{bytes_eq};
 ghost use Rattle.std.proofs.Props.{props};
-ghost use Rattle.bohm_tree.specs.declared.cell.Cell.TheVariants.{Absent};
-ghost use Rattle.bohm_tree.specs.Keys.{rising};
+ghost use Rattle.bohm_types.specs.declared.cell.Cell.TheVariants.{Absent};
+ghost use Rattle.bohm_types.specs.Keys.{rising};
 ghost use Rattle.bohm_txn.specs.Meaning.{newest};
 ghost use Rattle.bohm_place.specs.Noting.{AreNoted, HasKeysOf};
 ghost use Rattle.bohm_place.specs.Plans.{source_in, HasSourcesOf};
@@ -18,7 +18,7 @@ use crate::batch::base_places::note_places;
 use crate::slot::width;
 use bohm_log::{LogPart, TxnView};
 use bohm_place::{Access, DeclaredSet, Plan, Source};
-use bohm_tree::{Cell, Items, Key};
+use bohm_types::{Cell, Items, Key};
 
 // The cell of a key among entries with distinct keys; `Absent` if it has no entry.
 fn cell_of(entries: &[(Key, Cell)], key: &Key) -> Cell

@@ -1,13 +1,13 @@
 //! The encoding of statuses, outcomes and cells as the words of a board.
 
 ghost use Rattle.std.specs.Prelude.{◌≡◌, ◌<◌};
-ghost use Rattle.bohm_tree.specs.declared.cell.Cell.TheVariants.{Present};
+ghost use Rattle.bohm_types.specs.declared.cell.Cell.TheVariants.{Present};
 ghost use Rattle.bohm_board.specs.Encoding.{status_of, thousands_of, word_of, outcome_at, stmt_of};
 ghost use Rattle.bohm_board.specs.Encoding.{filled_word, present_at};
 
 use crate::status::Status;
-use bohm_tree::{Cell, Value};
 use bohm_txn::{Outcome, Reason};
+use bohm_types::{Cell, Value};
 
 pub(crate) fn status_of_word(word: u64) -> Status
     ensures { result ≡ status_of word }

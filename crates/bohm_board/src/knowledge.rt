@@ -1,8 +1,8 @@
 //! Ghost views: what passes have observed. No value of these types is made.
 
 use crate::slot::Slot;
-use bohm_tree::Cell;
 use bohm_txn::Outcome;
+use bohm_types::Cell;
 use std::collections::LinkedList;
 
 /// The cell that a slot gets.

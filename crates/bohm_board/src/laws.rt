@@ -8,7 +8,7 @@ ghost use lib.ListN.{get_elem?};
 ghost use prog.Atomic.{either};
 ghost use Rattle.std.specs.Prelude.{◌==◌};
 ghost use Rattle.atomic_table.specs.Table.{State as Table};
-ghost use Rattle.bohm_tree.specs.declared.cell.Cell.{Cell};
+ghost use Rattle.bohm_types.specs.declared.cell.Cell.{Cell};
 ghost use Rattle.bohm_txn.specs.declared.outcome.Outcome.{Outcome};
 ghost use Rattle.bohm_board.specs.declared.batch.Batch.{Batch};
 ghost use Rattle.bohm_board.specs.declared.slot.Slot.{Slot};

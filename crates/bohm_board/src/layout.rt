@@ -4,11 +4,12 @@ ghost use Rattle.std.specs.Prelude.{◌≡◌, ◌<◌, ◌≤◌, length, IfOk}
 ghost use Rattle.bohm_txn.specs.Faulty.{IsWellFormedTxn};
 ghost use Rattle.bohm_board.specs.Batches.{txns_of, number, rights_of, IsSlot};
 ghost use Rattle.bohm_board.specs.Layouts.{IsLayoutOf};
+ghost use Rattle.bohm_types.specs.Limits.{largest_batch};
 
 use crate::batch::Batch;
 use crate::slot::{Slot, width};
 use bohm_log::LogPart;
-use bohm_tree::NoMemory;
+use bohm_types::NoMemory;
 use std::alloc::Global;
 
 /// How many positions and slots there are, and how many slots before each position.
@@ -24,7 +25,7 @@ impl Layout {
 
     /// The layout of a batch of these transactions.
     pub fn new(alloc: Global, txns: &LogPart<'_>) -> Result<Layout, NoMemory>
-        requires few { length txns.now ≤ 4096 }
+        requires few { length txns.now ≤ largest_batch }
         requires formed { All IsWellFormedTxn txns.now }
         ensures { IfOk result (IsLayoutOf txns.now) }
     {

@@ -73,8 +73,10 @@ module _ {M : Type 1} {𝓤 : Ura M} {𝓛 : Logic 𝓤} {K : Type 0} {Γ : List
   held_out t d vs none some =
       fsplit t $ fpick t (λ vss. fsplit t $ feq_l t (λ ev. fsplit t $ feq_l t (λ ep. drop t $
       behind t d.at d.value
-      (λ is e. none is (subst (λ (p : Ptr). vs ≡ vstruct (of_list (ptr_val p ∷ [])) ∷ []) e (subst (λ (ps : List Val). vs ≡ vstruct (of_list (ps ++ [])) ∷ []) ep ev)))
-      (λ b o x is e may. some b o x is may (subst (λ (p : Ptr). vs ≡ vstruct (of_list (ptr_val p ∷ [])) ∷ []) e (subst (λ (ps : List Val). vs ≡ vstruct (of_list (ps ++ [])) ∷ []) ep ev))))))
+      (λ is e. none is (subst (λ (p : Ptr). vs ≡ vstruct (of_list (ptr_val p ∷ [])) ∷ []) e
+      (subst (λ (ps : List Val). vs ≡ vstruct (of_list (ps ++ [])) ∷ []) ep ev)))
+      (λ b o x is e may. some b o x is may (subst (λ (p : Ptr). vs ≡ vstruct (of_list (ptr_val p ∷ [])) ∷ []) e
+      (subst (λ (ps : List Val). vs ≡ vstruct (of_list (ps ++ [])) ∷ []) ep ev))))))
 
   pub held_in : K → (b o : ℕ) (x : Kept)
       → Step K 𝓛 (‵ (Held.own_val (record { at = block_ptr b o; value = Some x }) (one (vptr b o) ∷ [])) ∷ Γ) G (‵ (boxed (block_ptr b o) x) ∷ Γ) G
@@ -84,9 +86,12 @@ module _ {M : Type 1} {𝓤 : Ura M} {𝓛 : Logic 𝓤} {K : Type 0} {Γ : List
 
   pub held_none : K → Step K 𝓛 (‵ (Held.own_val (record { at = null_ptr; value = None }) (one null_val ∷ [])) ∷ Γ) G Γ G
   held_none t = step (λ s. let v : Val = one null_val in
-      feq_i t Ptr null_ptr null_ptr refl $ nothing t $ feq_i t (List Val) (null_val ∷ []) (null_val ∷ []) refl $ fjoin t $ feq_i t (List Val) (v ∷ []) (v ∷ []) refl $ fjoin t $
+      feq_i t Ptr null_ptr null_ptr refl $ nothing t $ feq_i t (List Val) (null_val ∷ []) (null_val ∷ []) refl $ fjoin t
+      $ feq_i t (List Val) (v ∷ []) (v ∷ []) refl $ fjoin t $
       fpack t (Valss (RawPtr ∷ [])) (within (shape held.the_type) (null_ptr, tt) (v ∷ [])) (null_val ∷ [], tt) $ fjoin t $ s)
 
   -- what is left of a handle that is let go
   pub held_gone : K → (d : Held.Denot) (vs : List Val) → (vs ≡ one (ptr_val d.at) ∷ [] → Seq K 𝓛 Γ G) → Seq K 𝓛 (‵ (Held.own_val d vs) ∷ Γ) G
-  held_gone t d vs k = fsplit t $ fpick t (λ vss. fsplit t $ feq_l t (λ ev. fsplit t $ feq_l t (λ ep. drop t $ drop t $ k (subst (λ (ps : List Val). vs ≡ vstruct (of_list (ps ++ [])) ∷ []) ep ev))))
+  held_gone t d vs k = fsplit t $ fpick t
+      (λ vss. fsplit t $ feq_l t
+      (λ ev. fsplit t $ feq_l t (λ ep. drop t $ drop t $ k (subst (λ (ps : List Val). vs ≡ vstruct (of_list (ps ++ [])) ∷ []) ep ev))))

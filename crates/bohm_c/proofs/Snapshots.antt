@@ -7,9 +7,9 @@ use Rattle.std.specs.FinMap.{entries, entries_sorted}
 use Rattle.std.specs.FinMap.Entries.{is_sorted, below_all}
 use Rattle.std.specs.Ordering.{nat_cmp, is_lt}
 use Rattle.std.proofs.lemmas.Bool.{and_parts}
-use Rattle.bohm_tree.specs.Document.{Document}
-use Rattle.bohm_tree.specs.Keys.{rises_from, rising, names_of}
-use Rattle.bohm_tree.specs.Sound.{IsDocument}
+use Rattle.bohm_types.specs.Document.{Document}
+use Rattle.bohm_types.specs.Keys.{rises_from, rising, names_of}
+use Rattle.bohm_types.specs.Sound.{IsDocument}
 use Rattle.bohm_txn.specs.Faulty.{WellFormed}
 use Rattle.bohm_txn.specs.Meaning.{Look}
 use Rattle.bohm_txn.specs.Serial.{state}
@@ -19,7 +19,7 @@ use Rattle.bohm_store.specs.Versions.{Timeline}
 use Rattle.bohm_machine.specs.Machines.{now_of, top_of}
 use Rattle.bohm_c.specs.Keeping.{IsOpening, IsSnapshot}
 use Rattle.bohm_c.specs.Reading.{snapshot_of}
-use Rattle.bohm_c.specs.declared.keeper.Keeper.{Keeper}
+use Rattle.bohm_c.specs.declared.session.Session.{Session}
 use Rattle.bohm_text.specs.Print.{print_doc}
 
 -- ---- the entries of a store rise
@@ -56,12 +56,14 @@ snapshot_formed store listed (suc t) s kind faulty = cc
 -- ---- a machine that is opened on a snapshot of the top
 
 pub opened_holds : (one_text : (d e : Document) → IsDocument d → IsDocument e → print_doc d ≡ print_doc e → d ≡ e)
-    → (m : Timeline) (text : List ℕ) (keeper : Keeper) (snapshot : IsSnapshot m (top_of m) text) → IsDocument (snapshot_of snapshot.store) → IsOpening text (top_of m) keeper → now_of keeper.machine ≡ now_of m
-opened_holds one_text m text keeper snapshot sound opening =
-    let same : opening.document ≡ snapshot_of snapshot.store = one_text opening.document (snapshot_of snapshot.store) opening.read.sound sound (opening.read.printed ∙ snapshot.printed) in
+    → (m : Timeline) (text : List ℕ) (session : Session) (snapshot : IsSnapshot m (top_of m) text) → IsDocument (snapshot_of snapshot.store)
+    → IsOpening text (top_of m) session → now_of session.machine ≡ now_of m
+opened_holds one_text m text session snapshot sound opening =
+    let same : opening.document ≡ snapshot_of snapshot.store =
+    one_text opening.document (snapshot_of snapshot.store) opening.read.sound sound (opening.read.printed ∙ snapshot.printed) in
     let look : Look = cell_in (store_of opening.document.store) in
-    let none : top_of keeper.machine - top_of m ≡ 0 = omega (arith, opening.opened.top) in
-    opening.opened.run.past (top_of keeper.machine) opening.opened.run.ordered (omega arith)
+    let none : top_of session.machine - top_of m ≡ 0 = omega (arith, opening.opened.top) in
+    opening.opened.run.past (top_of session.machine) opening.opened.run.ordered (omega arith)
     ∙ ap (state look []) none
     ∙ ap (λ (d : Document). cell_in (store_of d.store)) same
     ∙ snapshot.holds

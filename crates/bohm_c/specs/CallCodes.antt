@@ -1,15 +1,16 @@
 -- How the logic stores procedures and lists of calls.
 use Rattle.std.specs.Prelude.{◌≡◌, ℕ, zero, suc, ℤ, Bool, true, false, List, [], Option, Some, None, Result, Ok, Err, refl}
 use Rattle.std.specs.Coded.{Coded, code_by, coded×, coded_ℕ, coded_ℤ, coded_bool, coded_list, coded_option, coded_result}
-use Rattle.bohm_tree.specs.declared.cmp.Cmp.{Cmp}
-use Rattle.bohm_tree.specs.declared.cmp.Cmp.TheVariants.{Lt, Le, Eq, Ge, Gt}
-use Rattle.bohm_tree.specs.declared.edition.Edition.{Edition}
-use Rattle.bohm_tree.specs.declared.edition.Edition.TheVariants.{One, Two}
-use Rattle.bohm_tree.specs.Document.{Document}
-use Rattle.bohm_tree.specs.Procedure.{Procedure}
-use Rattle.bohm_tree.specs.Stmt.{Cond, Stmt, Bind, Need, Has, Lacks, Put, Remove, Show, Fail}
-use Rattle.bohm_tree.specs.Term.{Atom, Lit, Read, Local}
-use Rattle.bohm_tree.specs.Txn.{Txn}
+use Rattle.bohm_types.specs.declared.cmp.Cmp.{Cmp}
+use Rattle.bohm_types.specs.declared.cmp.Cmp.TheVariants.{Lt, Le, Eq, Ge, Gt}
+use Rattle.bohm_types.specs.declared.edition.Edition.{Edition}
+use Rattle.bohm_types.specs.declared.edition.Edition.TheVariants.{One, Two}
+use Rattle.bohm_types.specs.Document.{Document}
+use Rattle.bohm_types.specs.Procedure.{Procedure}
+use Rattle.bohm_types.specs.Stmt.{Cond, Stmt, Bind, Need, Has, Lacks, Put, Remove, Show, Fail}
+use Rattle.bohm_types.specs.Term.{Atom, Lit, Read, Local}
+use Rattle.bohm_types.specs.Txn.{Txn}
+use Rattle.bohm_c.specs.Listed.{Listed}
 
 abbrev Names : Type 0
 Names = List (List ℕ)
@@ -88,7 +89,8 @@ abbrev sum_code : Coded Sum
 sum_code = coded_list (coded× coded_bool atom_code)
 
 abbrev cond_code : Coded Cond
-cond_code = code_by (Sum × (Cmp × Sum)) (coded× sum_code (coded× cmp_code sum_code)) (λ c. (c.left, (c.cmp, c.right))) (λ p. record { left = p.0; cmp = p.1.0; right = p.1.1 }) (λ _. refl)
+cond_code = code_by (Sum × (Cmp × Sum)) (coded× sum_code (coded× cmp_code sum_code)) (λ c. (c.left, (c.cmp, c.right)))
+    (λ p. record { left = p.0; cmp = p.1.0; right = p.1.1 }) (λ _. refl)
 
 -- ---- statements: which one, its name, its sum, its condition
 
@@ -138,7 +140,8 @@ stmt_code = code_by Fields (coded× (coded× coded_ℕ (coded_list coded_ℕ)) (
 -- ---- what the handles keep
 
 abbrev pub procedure_code : Coded Procedure
-procedure_code = code_by ((Edition × (Names × Names)) × ((Names × Names) × List Stmt)) (coded× (coded× edition_code (coded× names_code names_code)) (coded× (coded× names_code names_code) (coded_list stmt_code)))
+procedure_code = code_by ((Edition × (Names × Names)) × ((Names × Names) × List Stmt))
+    (coded× (coded× edition_code (coded× names_code names_code)) (coded× (coded× names_code names_code) (coded_list stmt_code)))
     (λ p. ((p.edition, (p.keys, p.values)), ((p.reads, p.writes), p.body)))
     (λ q. record { edition = q.0.0; keys = q.0.1.0; values = q.0.1.1; reads = q.1.0.0; writes = q.1.0.1; body = q.1.1 }) (λ _. refl)
 
@@ -146,6 +149,10 @@ abbrev txn_code : Coded Txn
 txn_code = code_by ((Edition × List Stmt) × (Names × Names)) (coded× (coded× edition_code (coded_list stmt_code)) (coded× names_code names_code))
     (λ t. ((t.edition, t.body), (t.reads, t.writes))) (λ q. record { edition = q.0.0; reads = q.1.0; writes = q.1.1; body = q.0.1 }) (λ _. refl)
 
-abbrev pub document_code : Coded Document
-document_code = code_by (Edition × (List (List ℕ × ℤ) × List Txn)) (coded× edition_code (coded× (coded_list (coded× (coded_list coded_ℕ) coded_ℤ)) (coded_list txn_code)))
+abbrev document_code : Coded Document
+document_code = code_by (Edition × (List (List ℕ × ℤ) × List Txn))
+    (coded× edition_code (coded× (coded_list (coded× (coded_list coded_ℕ) coded_ℤ)) (coded_list txn_code)))
     (λ d. (d.edition, (d.store, d.log))) (λ q. record { edition = q.0; store = q.1.0; log = q.1.1 }) (λ _. refl)
+
+abbrev pub listed_code : Coded Listed
+listed_code = code_by (Document × Names) (coded× document_code names_code) (λ l. (l.calls, l.names)) (λ q. record { calls = q.0; names = q.1 }) (λ _. refl)

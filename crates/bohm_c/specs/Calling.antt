@@ -1,8 +1,7 @@
 -- What the calls on procedures, and on lists of their calls, say.
 use Rattle.std.specs.Prelude.{◌≡◌, ℕ, ℤ, List}
-use Rattle.bohm_tree.specs.Appending.{with_txn}
-use Rattle.bohm_tree.specs.Document.{Document}
-use Rattle.bohm_tree.specs.Procedure.{Procedure, instance}
+use Rattle.bohm_types.specs.Appending.{with_txn}
+use Rattle.bohm_types.specs.Procedure.{Procedure, instance}
 use Rattle.bohm_text.specs.Cut.{whole_lines}
 use Rattle.bohm_text.specs.ProcedureFaults.{IsFirstBadLine, IsShort}
 use Rattle.bohm_text.specs.ProcedureText.{IsProcedure, print_procedure}
@@ -13,6 +12,7 @@ use Rattle.bohm_procedures.specs.declared.fault.ProcedureFault.TheVariants as fa
 use Rattle.bohm_run.specs.FaultLine.{fault_line}
 use Rattle.bohm_run.specs.declared.fault.RunFault.{RunFault}
 use Rattle.bohm_run.specs.declared.fault.RunFault.TheVariants as runs
+use Rattle.bohm_c.specs.Listed.{Listed}
 
 -- the text is this accepted procedure's
 pub record IsPrepared (text : List ℕ) (p : Procedure) : Type 0 where
@@ -47,7 +47,7 @@ pub record IsProcedureRefusal (text line : List ℕ) : Type 0 where
   pub faulty : HasProcedureFault text fault
   pub says : line ≡ fault_line (told_as fault)
 
--- the calls could take one more, and it is the procedure's instance
-pub record IsPushed (p : Procedure) (ks : List (List ℕ)) (vs : List ℤ) (was now : Document) : Type 0 where
-  pub takes : Takes was p ks vs
-  pub grown : now ≡ with_txn was (instance p ks vs)
+-- the list could take one more call, and it is the procedure's instance; handles name what they named
+pub record IsPushed (p : Procedure) (ks : List (List ℕ)) (vs : List ℤ) (was now : Listed) : Type 0 where
+  pub takes : Takes was.calls p ks vs
+  pub grown : now ≡ record { calls = with_txn was.calls (instance p ks vs); names = was.names }

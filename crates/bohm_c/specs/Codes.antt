@@ -1,15 +1,15 @@
 -- How the logic stores what a handle keeps.
 use Rattle.std.specs.Prelude.{◌≡◌, ℕ, zero, suc, ℤ, List, Option, Some, None, Result, Ok, Err, refl}
 use Rattle.std.specs.Coded.{Coded, code_by, coded×, coded_ℕ, coded_ℤ, coded_list, coded_option, coded_result}
-use Rattle.bohm_tree.specs.declared.cell.Cell.{Cell}
-use Rattle.bohm_tree.specs.declared.cell.Cell.TheVariants.{Absent, Present}
+use Rattle.bohm_types.specs.declared.cell.Cell.{Cell}
+use Rattle.bohm_types.specs.declared.cell.Cell.TheVariants.{Absent, Present}
 use Rattle.bohm_txn.specs.declared.outcome.Reason.{Reason}
 use Rattle.bohm_txn.specs.declared.outcome.Reason.TheVariants.{Need, Fail, Absent as NoValue, Range}
 use Rattle.bohm_txn.specs.declared.outcome.Reply.{Reply}
 use Rattle.bohm_txn.specs.declared.outcome.Reply.TheVariants.{Commit, Abort}
 use Rattle.bohm_store.specs.declared.version.Version.{Version}
 use Rattle.bohm_store.specs.Versions.{Timeline}
-use Rattle.bohm_c.specs.declared.keeper.Keeper.{Keeper}
+use Rattle.bohm_c.specs.declared.session.Session.{Session}
 
 -- ---- versions
 
@@ -32,7 +32,9 @@ abbrev version_code : Coded Version
 version_code = code_by (ℕ × Cell) (coded× coded_ℕ cell_code) (λ v. (v.begin, v.cell)) (λ p. record { begin = p.0; cell = p.1 }) (λ _. refl)
 
 abbrev timeline_code : Coded Timeline
-timeline_code = code_by (ℕ × (ℕ × List (List ℕ × List Version))) (coded× coded_ℕ (coded× coded_ℕ (coded_list (coded× (coded_list coded_ℕ) (coded_list version_code))))) (λ t. (t.floor, (t.top, t.chains))) (λ p. record { floor = p.0; top = p.1.0; chains = p.1.1 }) (λ _. refl)
+timeline_code = code_by (ℕ × (ℕ × List (List ℕ × List Version)))
+    (coded× coded_ℕ (coded× coded_ℕ (coded_list (coded× (coded_list coded_ℕ) (coded_list version_code))))) (λ t. (t.floor, (t.top, t.chains)))
+    (λ p. record { floor = p.0; top = p.1.0; chains = p.1.1 }) (λ _. refl)
 
 -- ---- replies
 
@@ -74,5 +76,6 @@ reply_code = code_by (Result (List ℤ) (Reason × ℕ)) (coded_result (coded_li
 
 -- ---- what a handle keeps
 
-abbrev pub keeper_code : Coded Keeper
-keeper_code = code_by (Timeline × (List Reply × ℕ)) (coded× timeline_code (coded× (coded_list reply_code) coded_ℕ)) (λ k. (k.machine, (k.waiting, k.behind))) (λ p. record { machine = p.0; waiting = p.1.0; behind = p.1.1 }) (λ _. refl)
+abbrev pub keeper_code : Coded Session
+keeper_code = code_by (Timeline × (List Reply × ℕ)) (coded× timeline_code (coded× (coded_list reply_code) coded_ℕ)) (λ k. (k.machine, (k.waiting, k.behind)))
+    (λ p. record { machine = p.0; waiting = p.1.0; behind = p.1.1 }) (λ _. refl)

@@ -1,9 +1,9 @@
 -- What the calls on a handle say.
 use Rattle.std.specs.Prelude.{◌≡◌, ℕ, ℤ, ◌+◌, ◌<◌, ◌≤◌, Bool, true, false, List, [], length, max, min, take}
 use Rattle.std.specs.FinMap.{entries}
-use Rattle.bohm_tree.specs.Document.{Document}
-use Rattle.bohm_tree.specs.declared.cell.Cell.{Cell}
-use Rattle.bohm_tree.specs.declared.cell.Cell.TheVariants.{Absent, Present}
+use Rattle.bohm_types.specs.Document.{Document}
+use Rattle.bohm_types.specs.declared.cell.Cell.{Cell}
+use Rattle.bohm_types.specs.declared.cell.Cell.TheVariants.{Absent, Present}
 use Rattle.bohm_txn.specs.declared.outcome.Reply.{Reply}
 use Rattle.bohm_txn.specs.Faulty.{WellFormed}
 use Rattle.bohm_txn.specs.Stores.{cell_in, store_of}
@@ -14,25 +14,26 @@ use Rattle.bohm_machine.specs.Machines.{GoesOn, HasRun, floor_of, past_of, top_o
 use Rattle.bohm_machine.specs.Segments.{AreWholeBatches, IsTaken, RunsOn, IsRefused as IsUntakenBy}
 use Rattle.bohm_machine.specs.declared.fault.SegmentFault.{SegmentFault}
 use Rattle.bohm_run.specs.declared.fault.RunFault.TheVariants.{NoMemory}
-use Rattle.bohm_c.specs.declared.keeper.BohmCounts.{BohmCounts}
-use Rattle.bohm_c.specs.declared.keeper.Keeper.{Keeper}
-use Rattle.bohm_c.specs.declared.keeper.OpenFault.{OpenFault}
-use Rattle.bohm_c.specs.declared.keeper.OpenFault.TheVariants.{Text, HasLog}
+use Rattle.bohm_c.specs.declared.session.BohmCounts.{BohmCounts}
+use Rattle.bohm_c.specs.declared.session.Session.{Session}
+use Rattle.bohm_c.specs.declared.session.OpenFault.{OpenFault}
+use Rattle.bohm_c.specs.declared.session.OpenFault.TheVariants.{Text, HasLog}
 use Rattle.bohm_c.specs.Reading.{IsRead, IsRefused, snapshot_of}
+use Rattle.bohm_types.specs.Limits.{largest_batch}
 
 -- the machine of a snapshot's store, as it stands behind a timestamp, and no reply waits
-pub record IsOpened (snapshot : Document) (start : ℕ) (keeper : Keeper) : Type 0 where
+pub record IsOpened (snapshot : Document) (start : ℕ) (session : Session) : Type 0 where
   pub alone : snapshot.log ≡ []
-  pub top : top_of keeper.machine ≡ start
-  pub floor : floor_of keeper.machine ≡ start
-  pub run : HasRun (cell_in (store_of snapshot.store)) start [] keeper.machine
-  pub handed : keeper.waiting ≡ []
+  pub top : top_of session.machine ≡ start
+  pub floor : floor_of session.machine ≡ start
+  pub run : HasRun (cell_in (store_of snapshot.store)) start [] session.machine
+  pub handed : session.waiting ≡ []
 
 -- that of the snapshot that a text is
-pub record IsOpening (text : List ℕ) (start : ℕ) (keeper : Keeper) : Type 0 where
+pub record IsOpening (text : List ℕ) (start : ℕ) (session : Session) : Type 0 where
   pub document : Document
   pub read : IsRead text document
-  pub opened : IsOpened document start keeper
+  pub opened : IsOpened document start session
 
 -- why a snapshot isn't opened: it has transactions, or memory was refused
 abbrev pub IsUnopened : Document → OpenFault → Type 0
@@ -40,15 +41,15 @@ IsUnopened snapshot (Text fault) = (snapshot.log ≡ []) × (fault ≡ NoMemory)
 IsUnopened snapshot HasLog = 0 < length snapshot.log
 
 -- no reply waited, and whole batches of a segment were run, with these replies
-pub record IsRun (was now : Keeper) (segment : Document) (answered : List Reply) : Type 0 where
+pub record IsRun (was now : Session) (segment : Document) (answered : List Reply) : Type 0 where
   pub waited : was.waiting ≡ []
   pub taken : IsTaken was.machine segment
   pub goes_on : GoesOn was.machine now.machine (take (length answered) segment.log) answered
   pub runs_on : RunsOn was.machine now.machine (take (length answered) segment.log) answered
-  pub batches : 0 < length answered → AreWholeBatches segment.log 4096 (length answered)
+  pub batches : 0 < length answered → AreWholeBatches segment.log largest_batch (length answered)
 
 -- all of it was, and the text of the replies is handed out
-pub record IsRunWhole (was now : Keeper) (segment : Document) (answer : List ℕ) : Type 0 where
+pub record IsRunWhole (was now : Session) (segment : Document) (answer : List ℕ) : Type 0 where
   pub answered : List Reply
   pub run : IsRun was now segment answered
   pub whole : length answered ≡ length segment.log
@@ -56,7 +57,7 @@ pub record IsRunWhole (was now : Keeper) (segment : Document) (answer : List ℕ
   pub handed : now.waiting ≡ []
 
 -- some of it was and not all, and the text of the replies is handed out
-pub record IsRunPartly (was now : Keeper) (segment : Document) (answer : List ℕ) : Type 0 where
+pub record IsRunPartly (was now : Session) (segment : Document) (answer : List ℕ) : Type 0 where
   pub answered : List Reply
   pub run : IsRun was now segment answered
   pub part : length answered < length segment.log
@@ -64,40 +65,40 @@ pub record IsRunPartly (was now : Keeper) (segment : Document) (answer : List �
   pub handed : now.waiting ≡ []
 
 -- some of it was, and the replies wait
-pub record IsRunUntold (was now : Keeper) (segment : Document) : Type 0 where
+pub record IsRunUntold (was now : Session) (segment : Document) : Type 0 where
   pub run : IsRun was now segment now.waiting
   pub behind : now.behind ≡ top_of was.machine
 
 -- the same, of one transaction at least
-pub record IsRunKept (was now : Keeper) (segment : Document) : Type 0 where
+pub record IsRunKept (was now : Session) (segment : Document) : Type 0 where
   pub run : IsRunUntold was now segment
   pub some : 0 < length now.waiting
 
 -- these of the segment that a text is
-pub record IsDone (was now : Keeper) (text answer : List ℕ) : Type 0 where
+pub record IsDone (was now : Session) (text answer : List ℕ) : Type 0 where
   pub document : Document
   pub read : IsRead text document
   pub run : IsRunWhole was now document answer
 
-pub record IsStopped (was now : Keeper) (text answer : List ℕ) : Type 0 where
+pub record IsStopped (was now : Session) (text answer : List ℕ) : Type 0 where
   pub document : Document
   pub read : IsRead text document
   pub run : IsRunPartly was now document answer
 
-pub record IsKept (was now : Keeper) (text : List ℕ) : Type 0 where
+pub record IsKept (was now : Session) (text : List ℕ) : Type 0 where
   pub document : Document
   pub read : IsRead text document
   pub run : IsRunKept was now document
 
 -- all of it was run, and the replies wait
-pub record IsHeld (was now : Keeper) (text : List ℕ) : Type 0 where
+pub record IsHeld (was now : Session) (text : List ℕ) : Type 0 where
   pub document : Document
   pub read : IsRead text document
   pub run : IsRunUntold was now document
   pub whole : length now.waiting ≡ length document.log
 
 -- some of it was and not all, and the replies wait
-pub record IsHeldPartly (was now : Keeper) (text : List ℕ) : Type 0 where
+pub record IsHeldPartly (was now : Session) (text : List ℕ) : Type 0 where
   pub document : Document
   pub read : IsRead text document
   pub run : IsRunUntold was now document
@@ -147,14 +148,14 @@ pub record IsSnapshot (m : Timeline) (ts : ℕ) (text : List ℕ) : Type 0 where
   pub printed : text ≡ print_doc (snapshot_of store)
 
 -- these are the machine's counts
-pub record HasCounts (keeper : Keeper) (counts : BohmCounts) : Type 0 where
-  pub floor : counts.floor ≡ floor_of keeper.machine
-  pub top : counts.top ≡ top_of keeper.machine
-  pub versions : counts.versions ≡ min (total keeper.machine.chains) 18446744073709551615
-  pub waiting : counts.waiting ≡ length keeper.waiting
+pub record HasCounts (session : Session) (counts : BohmCounts) : Type 0 where
+  pub floor : counts.floor ≡ floor_of session.machine
+  pub top : counts.top ≡ top_of session.machine
+  pub versions : counts.versions ≡ min (total session.machine.chains) 18446744073709551615
+  pub waiting : counts.waiting ≡ length session.waiting
 
 -- the past from the new floor on is as it was, and so are the replies that wait
-pub record IsTrimmed (was now : Keeper) (least : ℕ) : Type 0 where
+pub record IsTrimmed (was now : Session) (least : ℕ) : Type 0 where
   pub floor : floor_of now.machine ≡ max (floor_of was.machine) least
   pub top : top_of now.machine ≡ top_of was.machine
   pub past : (ts : ℕ) → floor_of now.machine ≤ ts → past_of now.machine ts ≡ past_of was.machine ts

@@ -3,34 +3,34 @@ use base.Fml.{Fml, feq}
 use denote.RawPtr.{Ptr, null_ptr}
 use Rattle.std.specs.Prelude.{◌≡◌, Option, Some, None, Result, Ok, Err, refl}
 use Rattle.std.specs.Coded.{Coded, code_by, coded_option, coded_result}
-use Rattle.bohm_tree.specs.Document.{Document}
-use Rattle.bohm_tree.specs.Procedure.{Procedure}
-use Rattle.bohm_c.specs.CallCodes.{document_code, procedure_code}
+use Rattle.bohm_types.specs.Procedure.{Procedure}
+use Rattle.bohm_c.specs.CallCodes.{listed_code, procedure_code}
 use Rattle.bohm_c.specs.Codes.{keeper_code}
-use Rattle.bohm_c.specs.declared.keeper.Keeper.{Keeper}
+use Rattle.bohm_c.specs.Listed.{Listed}
+use Rattle.bohm_c.specs.declared.session.Session.{Session}
 use Rattle.bohm_c.specs.declared.kept.Kept.{Kept}
 use Rattle.bohm_c.specs.declared.kept.Kept.TheVariants.{Machine, Prepared, Calls}
 
 abbrev Parts : Type 0
-Parts = Result Keeper (Result Procedure Document)
+Parts = Result Session (Result Procedure Listed)
 
 abbrev parts_of : Kept → Parts
 parts_of (Machine k) = Ok k
 parts_of (Prepared p) = Err (Ok p)
-parts_of (Calls d) = Err (Err d)
+parts_of (Calls l) = Err (Err l)
 
 abbrev kept_of : Parts → Kept
 kept_of (Ok k) = Machine k
 kept_of (Err (Ok p)) = Prepared p
-kept_of (Err (Err d)) = Calls d
+kept_of (Err (Err l)) = Calls l
 
 pub kept_back : (k : Kept) → kept_of (parts_of k) ≡ k
 kept_back (Machine k) = refl
 kept_back (Prepared p) = refl
-kept_back (Calls d) = refl
+kept_back (Calls l) = refl
 
 abbrev pub kept_code : Coded (Option Kept)
-kept_code = coded_option (code_by Parts (coded_result keeper_code (coded_result procedure_code document_code)) parts_of kept_of kept_back)
+kept_code = coded_option (code_by Parts (coded_result keeper_code (coded_result procedure_code listed_code)) parts_of kept_of kept_back)
 
 -- what is behind a pointer: a box, or nothing, and then it is null
 abbrev pub owned : (Ptr → Kept → Fml) → Ptr → Option Kept → Fml

@@ -1,8 +1,8 @@
 -- What a text is read as, and why one is refused.
 use Rattle.std.specs.Prelude.{◌≡◌, ℕ, ℤ, ◌<◌, List, [], length}
-use Rattle.bohm_tree.specs.Document.{Document}
-use Rattle.bohm_tree.specs.Sound.{IsDocument}
-use Rattle.bohm_tree.specs.declared.edition.Edition.TheVariants.{One}
+use Rattle.bohm_types.specs.Document.{Document}
+use Rattle.bohm_types.specs.Sound.{IsDocument}
+use Rattle.bohm_types.specs.declared.edition.Edition.TheVariants.{One}
 use Rattle.bohm_txn.specs.Faulty.{WellFormed, IsFirstFault}
 use Rattle.bohm_txn.specs.declared.fault.CheckFault.{CheckFault}
 use Rattle.bohm_text.specs.Cut.{whole_lines}

@@ -2,15 +2,16 @@
 
 ghost use Rattle.std.specs.Prelude.{◌≡◌, ◌≢◌, ◌<◌, ◌⊎◌, ◌↔◌, length, map, None, Some};
 ghost use Rattle.std.specs.List.{Any};
-ghost use Rattle.bohm_tree.specs.Appending.{empty_document};
-ghost use Rattle.bohm_tree.specs.Name.{key_of};
-ghost use Rattle.bohm_tree.specs.declared.edition.Edition.TheVariants.{One, Two};
+ghost use Rattle.bohm_types.specs.Name.{key_of};
+ghost use Rattle.bohm_types.specs.declared.edition.Edition.TheVariants.{One, Two};
 ghost use Rattle.bohm_machine.specs.Segments.{IsRefused};
 ghost use Rattle.bohm_machine.specs.declared.fault.SegmentFault.TheVariants as segment_is;
 ghost use Rattle.bohm_procedures.specs.Accepting.{Takes};
 ghost use Rattle.bohm_c.specs.Calling.{IsPrepared, IsProcedureRefusal, IsPushed};
-ghost use Rattle.bohm_c.specs.Handles.{IsCallList, IsMachine, IsProcedure, OnCalls, OnMachine, OnProcedure};
+ghost use Rattle.bohm_c.specs.Handles.{IsCallList, IsMachine, IsProcedure};
+ghost use Rattle.bohm_c.specs.Handles.{OnCalls, OnMachine, OnProcedure};
 ghost use Rattle.bohm_c.specs.Keeping.{IsRunKept, IsRunPartly, IsRunWhole};
+ghost use Rattle.bohm_c.specs.Listed.{cleared, empty_list};
 
 use crate::call_list::{CallList, PushFault};
 use crate::handle::{BohmHandle, put_back, take_back};
@@ -20,7 +21,7 @@ use crate::seeds::draw;
 use crate::status::{
     DONE, KEPT, MISUSE, NO_KEY, NO_MEMORY, REFUSED, STOPPED, TIMESTAMPS, UNFIT, WAITING,
 };
-use bohm_tree::Edition;
+use bohm_types::Edition;
 use std::alloc::Global;
 
 /// Reads a procedure's text, whose names are hashed from the seed, and opens its handle.
@@ -68,9 +69,9 @@ pub extern "C" fn bohm_open_calls(
         ⊎ (result ≡ MISUSE) }
     ensures misuse { (result ≡ MISUSE) ↔ (calls.old.value ≢ None) }
     ensures one { result ≡ DONE → edition ≡ 1
-        → OnCalls calls.new.value (λ d. d ≡ empty_document One) }
+        → OnCalls calls.new.value (λ list. list ≡ empty_list One) }
     ensures two { result ≡ DONE → edition ≢ 1
-        → OnCalls calls.new.value (λ d. d ≡ empty_document Two) }
+        → OnCalls calls.new.value (λ list. list ≡ empty_list Two) }
     ensures edition { result ≡ DONE → (edition ≡ 1) ⊎ (edition ≡ 2) }
     ensures unfit { result ≡ UNFIT → (edition ≢ 1) × (edition ≢ 2) }
     ensures unchanged { 0 < result → calls.new.value ≡ calls.old.value }
@@ -110,7 +111,7 @@ fn push_on(calls: &mut Kept, procedure: &Kept, keys: &[&[u8]], values: &[i64]) -
     ensures no_key { result ≡ NO_KEY → Any (λ k. key_of k.now ≡ None) keys.now }
     ensures unfit { result ≡ UNFIT → OnProcedure (Some procedure.now) (λ p.
         OnCalls (Some calls.old) (λ was.
-        ¬ Takes was p (map (λ k. k.now) keys.now) values.now)) }
+        ¬ Takes was.calls p (map (λ k. k.now) keys.now) values.now)) }
     ensures unchanged { 0 < result → calls.new ≡ calls.old }
 {
     let Kept::Prepared(procedure) = procedure else {
@@ -149,7 +150,7 @@ pub extern "C" fn bohm_push(
     ensures no_key { result ≡ NO_KEY → Any (λ k. key_of k.now ≡ None) keys.now }
     ensures unfit { result ≡ UNFIT → OnProcedure procedure.old.value (λ p.
         OnCalls calls.old.value (λ was.
-        ¬ Takes was p (map (λ k. k.now) keys.now) values.now)) }
+        ¬ Takes was.calls p (map (λ k. k.now) keys.now) values.now)) }
     ensures unchanged { 0 < result → calls.new.value ≡ calls.old.value }
 {
     let Some(mut list) = take_back(alloc, calls) else {
@@ -176,15 +177,15 @@ fn run_on<'a>(machine: &mut Kept, alloc: Global, calls: &Kept, out: &mut &'a mut
         ↔ ¬ (IsMachine (Some machine.old) × IsCallList (Some calls.now)) }
     ensures done { result ≡ DONE → OnMachine (Some machine.old) (λ was.
         OnMachine (Some machine.new) (λ now.
-        OnCalls (Some calls.now) (λ log. IsRunWhole was now log out.new.now))) }
+        OnCalls (Some calls.now) (λ list. IsRunWhole was now list.calls out.new.now))) }
     ensures stopped { result ≡ STOPPED → OnMachine (Some machine.old) (λ was.
         OnMachine (Some machine.new) (λ now.
-        OnCalls (Some calls.now) (λ log. IsRunPartly was now log out.new.now))) }
+        OnCalls (Some calls.now) (λ list. IsRunPartly was now list.calls out.new.now))) }
     ensures kept { result ≡ KEPT → OnMachine (Some machine.old) (λ was.
         OnMachine (Some machine.new) (λ now.
-        OnCalls (Some calls.now) (λ log. IsRunKept was now log))) }
+        OnCalls (Some calls.now) (λ list. IsRunKept was now list.calls))) }
     ensures timestamps { result ≡ TIMESTAMPS → OnMachine (Some machine.old) (λ was.
-        OnCalls (Some calls.now) (λ log. IsRefused was.machine log segment_is.Timestamps)) }
+        OnCalls (Some calls.now) (λ list. IsRefused was.machine list.calls segment_is.Timestamps)) }
     ensures waiting { result ≡ WAITING
         → OnMachine (Some machine.old) (λ was. 0 < length was.waiting) }
     ensures unchanged { result ≢ DONE → result ≢ STOPPED → result ≢ KEPT
@@ -194,10 +195,10 @@ fn run_on<'a>(machine: &mut Kept, alloc: Global, calls: &Kept, out: &mut &'a mut
     let Kept::Calls(list) = calls else {
         return MISUSE;
     };
-    let Kept::Machine(keeper) = machine else {
+    let Kept::Machine(session) = machine else {
         return MISUSE;
     };
-    keeper.run_calls(alloc, list, out)
+    session.run_calls(alloc, list, out)
 }
 
 /// Runs the calls as a segment, and hands out the text of its replies, numbered on from the top.
@@ -217,15 +218,15 @@ pub extern "C" fn bohm_run_calls<'a>(
         ↔ ¬ (IsMachine machine.old.value × IsCallList calls.old.value) }
     ensures done { result ≡ DONE → OnMachine machine.old.value (λ was.
         OnMachine machine.new.value (λ now.
-        OnCalls calls.old.value (λ log. IsRunWhole was now log out.new.now))) }
+        OnCalls calls.old.value (λ list. IsRunWhole was now list.calls out.new.now))) }
     ensures stopped { result ≡ STOPPED → OnMachine machine.old.value (λ was.
         OnMachine machine.new.value (λ now.
-        OnCalls calls.old.value (λ log. IsRunPartly was now log out.new.now))) }
+        OnCalls calls.old.value (λ list. IsRunPartly was now list.calls out.new.now))) }
     ensures kept { result ≡ KEPT → OnMachine machine.old.value (λ was.
         OnMachine machine.new.value (λ now.
-        OnCalls calls.old.value (λ log. IsRunKept was now log))) }
+        OnCalls calls.old.value (λ list. IsRunKept was now list.calls))) }
     ensures timestamps { result ≡ TIMESTAMPS → OnMachine machine.old.value (λ was.
-        OnCalls calls.old.value (λ log. IsRefused was.machine log segment_is.Timestamps)) }
+        OnCalls calls.old.value (λ list. IsRefused was.machine list.calls segment_is.Timestamps)) }
     ensures waiting { result ≡ WAITING
         → OnMachine machine.old.value (λ was. 0 < length was.waiting) }
     ensures unchanged { result ≢ DONE → result ≢ STOPPED → result ≢ KEPT
@@ -247,13 +248,13 @@ pub extern "C" fn bohm_run_calls<'a>(
     status
 }
 
-/// Lets all calls of an open list go.
+/// Lets all calls of an open list go. Its handles of keys stay.
 #[unsafe(no_mangle)]
 pub extern "C" fn bohm_clear_calls(alloc: Global, calls: &mut BohmHandle) -> u32
     ensures status { (result ≡ DONE) ⊎ (result ≡ MISUSE) }
     ensures misuse { (result ≡ MISUSE) ↔ ¬ IsCallList calls.old.value }
     ensures done { result ≡ DONE → OnCalls calls.old.value (λ was.
-        OnCalls calls.new.value (λ now. now ≡ empty_document was.edition)) }
+        OnCalls calls.new.value (λ now. now ≡ cleared was)) }
     ensures unchanged { 0 < result → calls.new.value ≡ calls.old.value }
 {
     let Some(mut kept) = take_back(alloc, calls) else {

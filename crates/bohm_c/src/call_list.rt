@@ -1,35 +1,38 @@
 //! Lists of calls, and the room in which C's arguments are read.
 
-ghost use Rattle.std.specs.Prelude.{◌≡◌, ◌≢◌, [], map, None, Err, OnOk, OnErr};
+ghost use Rattle.std.specs.Prelude.{◌≡◌, ◌≢◌, ◌↔◌, ◌<◌, [], true, length, map, slice_index_or};
+ghost use Rattle.std.specs.Prelude.{All, None, Err, IfOk, OnOk, OnErr};
 ghost use Rattle.std.specs.List.{Any};
-ghost use Rattle.bohm_tree.specs.Appending.{empty_document};
-ghost use Rattle.bohm_tree.specs.Name.{key_of};
+ghost use Rattle.bohm_types.specs.Name.{key_of};
 ghost use Rattle.bohm_procedures.specs.Accepting.{Takes};
 ghost use Rattle.bohm_c.specs.Calling.{IsPushed};
+ghost use Rattle.bohm_c.specs.Listed.{Knows, cleared, empty_list, named_by, with_name};
 ghost use Rattle.bohm_c.specs.declared.call_list.PushFault.TheVariants as push_is;
 
 use bohm_log::DrawnSeed;
-use bohm_procedures::{Calls, Procedure};
-use bohm_tree::{Edition, Key, NoMemory, Value};
+use bohm_procedures::{Calls, KeyHandle, Procedure};
 use bohm_txn::Checked;
+use bohm_types::{Edition, Key, NoMemory, Value};
 use std::alloc::Global;
 use std::marker::Model;
 
-/// Calls, and room for the arguments of the next one.
+/// Calls, the keys that handles name by their numbers, and room for the arguments of the next call.
 #[derive(Drop)]
 pub struct CallList {
     calls: Calls,
+    handles: Vec<KeyHandle>,
     keys: Vec<Key>,
+    named: Vec<KeyHandle>,
     values: Vec<Value>,
 }
 
 impl Model for CallList {
-    ghost use Rattle.std.specs.Prelude.{◌≡◌, []};
-    ghost use Rattle.bohm_tree.specs.Document.{Document};
+    ghost use Rattle.std.specs.Prelude.{◌≡◌, [], map};
+    ghost use Rattle.bohm_c.specs.Listed.{Listed};
 
-    ghost Value = { Document };
+    ghost Value = { Listed };
 
-    ghost view = { λ c. c.calls };
+    ghost view = { λ c. record { calls = c.calls; names = map (λ h. h.key) c.handles.items } };
 
     ghost invariant = { λ c. c.calls.store ≡ [] };
 }
@@ -71,6 +74,23 @@ fn fill_keys(keys: &mut Vec<Key>, names: &[&[u8]]) -> Result<(), PushFault>
     Ok(())
 }
 
+/// The keys that these handles name.
+fn fill_named(
+    named: &mut Vec<KeyHandle>,
+    known: &[KeyHandle],
+    handles: &[u32],
+) -> Result<(), NoMemory>
+    requires known { All (λ h. h < length known.now) handles.now }
+    ensures { OnOk result (map (λ h. h.key) named.new.items
+        ≡ map (λ h. slice_index_or (map (λ k. k.key) known.now) h []) handles.now) }
+{
+    named.clear();
+    for handle in handles {
+        named.push(known[*handle as usize])?;
+    }
+    Ok(())
+}
+
 /// These numbers as values.
 fn fill_values(values: &mut Vec<Value>, numbers: &[i64]) -> Result<(), NoMemory>
     ensures { OnOk result (values.new.items ≡ numbers.now) }
@@ -83,20 +103,22 @@ fn fill_values(values: &mut Vec<Value>, numbers: &[i64]) -> Result<(), NoMemory>
 }
 
 impl CallList {
-    /// No calls, whose keys are hashed from the seed. It allocates nothing.
+    /// No calls and no handles; keys are hashed from the seed. It allocates nothing.
     pub fn new(alloc: Global, seed: DrawnSeed, edition: Edition) -> CallList
-        ensures { result ≡ empty_document edition }
+        ensures { result ≡ empty_list edition }
     {
         CallList {
             calls: Calls::new(alloc, seed, edition),
+            handles: Vec::new(alloc),
             keys: Vec::new(alloc),
+            named: Vec::new(alloc),
             values: Vec::new(alloc),
         }
     }
 
-    /// Lets all calls go. Their room is kept for others.
+    /// Lets all calls go. Their room is kept for others, and handles name what they named.
     pub fn clear(&mut self)
-        ensures { self.new ≡ empty_document self.old.edition }
+        ensures { self.new ≡ cleared self.old }
     {
         self.calls.clear();
     }
@@ -112,7 +134,7 @@ impl CallList {
             self.old self.new) }
         ensures no_key { result ≡ Err push_is.NoKey → Any (λ n. key_of n.now ≡ None) names.now }
         ensures unfit { result ≡ Err push_is.Unfit
-            → ¬ Takes self.old procedure.now (map (λ n. n.now) names.now) numbers.now }
+            → ¬ Takes self.old.calls procedure.now (map (λ n. n.now) names.now) numbers.now }
         ensures unchanged { OnErr result (self.new ≡ self.old) }
     {
         fill_keys(&mut self.keys, names)?;
@@ -126,9 +148,58 @@ impl CallList {
         Ok(())
     }
 
+    /// A new handle of a key, which names it until the list is dropped. `NoMemory` where an
+    /// allocation fails or there are 2^32 handles.
+    pub fn handle(&mut self, key: &Key) -> Result<u32, NoMemory>
+        ensures place { IfOk result (λ h. h ≡ length self.old.names) }
+        ensures ok { OnOk result (self.new ≡ with_name self.old key.now) }
+        ensures unchanged { OnErr result (self.new ≡ self.old) }
+    {
+        let Ok(number) = u32::try_from(self.handles.len()) else {
+            return Err(NoMemory);
+        };
+        let handle = self.calls.handle(key)?;
+        self.handles.push(handle)?;
+        Ok(number)
+    }
+
+    /// Whether all these are handles of the list.
+    pub fn knows(&self, handles: &[u32]) -> bool
+        ensures { (result ≡ true) ↔ Knows self.now handles.now }
+    {
+        let count = self.handles.len();
+        handles.iter().all(|handle| (*handle as usize) < count)
+    }
+
+    /// Adds a call with these arguments, whose keys are named by their handles.
+    pub fn push_named(
+        &mut self,
+        procedure: &Procedure,
+        handles: &[u32],
+        numbers: &[i64],
+    ) -> Result<(), PushFault>
+        requires known { Knows self.old handles.now }
+        ensures ok { OnOk result (IsPushed procedure.now (named_by self.old handles.now)
+            numbers.now self.old self.new) }
+        ensures keys { result ≢ Err push_is.NoKey }
+        ensures unfit { result ≡ Err push_is.Unfit → ¬ Takes self.old.calls procedure.now
+            (named_by self.old handles.now) numbers.now }
+        ensures unchanged { OnErr result (self.new ≡ self.old) }
+    {
+        fill_named(&mut self.named, self.handles.as_slice(), handles)?;
+        fill_values(&mut self.values, numbers)?;
+        let keys = self.named.as_slice();
+        let values = self.values.as_slice();
+        if !self.calls.takes_named(procedure, keys, values) {
+            return Err(PushFault::Unfit);
+        }
+        self.calls.push_named(procedure, keys, values)?;
+        Ok(())
+    }
+
     /// The log of the calls, which a machine can run.
     pub fn segment(&self) -> &Checked
-        ensures same { result.now ≡ self.now }
+        ensures same { result.now ≡ self.now.calls }
         ensures store { result.now.store ≡ [] }
     {
         self.calls.segment()

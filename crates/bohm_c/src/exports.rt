@@ -1,27 +1,29 @@
 //! The functions that C calls.
 
 ghost use Rattle.std.specs.Prelude.{◌≡◌, ◌≢◌, ◌+◌, ◌<◌, ◌≤◌, ◌⊎◌, ◌↔◌, [], length, None};
-ghost use Rattle.bohm_tree.specs.Name.{key_of};
+ghost use Rattle.bohm_types.specs.Name.{key_of};
 ghost use Rattle.bohm_text.specs.Print.{print_numbered};
 ghost use Rattle.bohm_machine.specs.Digests.{IsDigest};
 ghost use Rattle.bohm_machine.specs.Machines.{floor_of, past_of, top_of};
 ghost use Rattle.bohm_machine.specs.declared.fault.SegmentFault.TheVariants as segment_is;
 ghost use Rattle.bohm_c.specs.Handles.{IsMachine, OnMachine};
-ghost use Rattle.bohm_c.specs.Keeping.{HasCounts, HasTransactions, IsAnswer, IsDone, IsKept, IsOpening, IsReadable, IsSnapshot, IsStopped, IsTrimmed, IsUntaken, told};
+ghost use Rattle.bohm_c.specs.Keeping.{HasCounts, HasTransactions, IsAnswer, IsDone};
+ghost use Rattle.bohm_c.specs.Keeping.{IsKept, IsOpening, IsReadable, IsSnapshot};
+ghost use Rattle.bohm_c.specs.Keeping.{IsStopped, IsTrimmed, IsUntaken, told};
 ghost use Rattle.bohm_c.specs.Reading.{IsRefusal};
 
+use crate::answer::answer;
 use crate::handing::hand_over;
 use crate::handle::{BohmHandle, put_back, take_back};
-use crate::keeper::{BohmCounts, open, refuse, refuse_opening};
 use crate::kept::Kept;
 use crate::reading::read;
 use crate::seeds::draw;
+use crate::session::{BohmCounts, open, refuse, refuse_opening};
 use crate::status::{
     DONE, FUTURE, HAS_LOG, HAS_STORE, KEPT, MISUSE, NO_KEY, NO_MEMORY, REFUSED, STOPPED,
     TIMESTAMPS, TRIMMED, WAITING,
 };
-use crate::whole::answer;
-use bohm_tree::Key;
+use bohm_types::Key;
 use std::alloc::Global;
 
 /// Runs the log of a text, and hands out the text of its answer. Keys are hashed from the seed.
@@ -77,7 +79,7 @@ pub extern "C" fn bohm_open<'a>(
         return MISUSE;
     }
     match open(alloc, draw(seed), text, top) {
-        Ok(keeper) => match Box::new(alloc, Kept::Machine(keeper)) {
+        Ok(session) => match Box::new(alloc, Kept::Machine(session)) {
             Ok(kept) => {
                 put_back(machine, kept);
                 DONE
@@ -122,7 +124,7 @@ pub extern "C" fn bohm_apply<'a>(
         return MISUSE;
     };
     let status = match &mut *kept {
-        Kept::Machine(keeper) => keeper.apply(alloc, text, out),
+        Kept::Machine(session) => session.apply(alloc, text, out),
         Kept::Prepared(_) | Kept::Calls(_) => MISUSE,
     };
     put_back(machine, kept);
@@ -149,7 +151,7 @@ pub extern "C" fn bohm_replies<'a>(
         return MISUSE;
     };
     let status = match &mut *kept {
-        Kept::Machine(keeper) => keeper.replies(alloc, out),
+        Kept::Machine(session) => session.replies(alloc, out),
         Kept::Prepared(_) | Kept::Calls(_) => MISUSE,
     };
     put_back(machine, kept);
@@ -182,8 +184,8 @@ pub extern "C" fn bohm_value_at(
         return MISUSE;
     };
     let status = match &*kept {
-        Kept::Machine(keeper) => match Key::new(key) {
-            Some(key) => keeper.value_at(&key, ts, present, value),
+        Kept::Machine(session) => match Key::new(key) {
+            Some(key) => session.value_at(&key, ts, present, value),
             None => NO_KEY,
         },
         Kept::Prepared(_) | Kept::Calls(_) => MISUSE,
@@ -219,7 +221,7 @@ pub extern "C" fn bohm_store_at<'a>(
         return MISUSE;
     };
     let status = match &*kept {
-        Kept::Machine(keeper) => keeper.store_at(alloc, ts, out),
+        Kept::Machine(session) => session.store_at(alloc, ts, out),
         Kept::Prepared(_) | Kept::Calls(_) => MISUSE,
     };
     put_back(machine, kept);
@@ -254,7 +256,7 @@ pub extern "C" fn bohm_digest(
         return MISUSE;
     };
     let status = match &*kept {
-        Kept::Machine(keeper) => keeper.digest(alloc, ts, digest),
+        Kept::Machine(session) => session.digest(alloc, ts, digest),
         Kept::Prepared(_) | Kept::Calls(_) => MISUSE,
     };
     put_back(machine, kept);
@@ -276,7 +278,7 @@ pub extern "C" fn bohm_trim(alloc: Global, machine: &mut BohmHandle, floor: u32)
         return MISUSE;
     };
     let status = match &mut *kept {
-        Kept::Machine(keeper) => keeper.trim(floor),
+        Kept::Machine(session) => session.trim(floor),
         Kept::Prepared(_) | Kept::Calls(_) => MISUSE,
     };
     put_back(machine, kept);
@@ -304,9 +306,9 @@ pub extern "C" fn bohm_timestamps(
         return MISUSE;
     };
     let status = match &*kept {
-        Kept::Machine(keeper) => {
-            *floor = keeper.machine.floor();
-            *top = keeper.machine.top();
+        Kept::Machine(session) => {
+            *floor = session.machine.floor();
+            *top = session.machine.top();
             DONE
         }
         Kept::Prepared(_) | Kept::Calls(_) => MISUSE,
@@ -332,8 +334,8 @@ pub extern "C" fn bohm_counts(
         return MISUSE;
     };
     let status = match &*kept {
-        Kept::Machine(keeper) => {
-            *counts = keeper.counts();
+        Kept::Machine(session) => {
+            *counts = session.counts();
             DONE
         }
         Kept::Prepared(_) | Kept::Calls(_) => MISUSE,

@@ -5,7 +5,7 @@ ghost use Rattle.bohm_c.specs.Kept.{kept_code};
 ghost use Rattle.bohm_c.specs.declared.kept.Kept.{Kept};
 
 use crate::kept::Kept;
-use crate::loose::Loose;
+use crate::raw_box::RawBox;
 use std::alloc::Global;
 use std::marker::Model;
 use std::mem::replace;
@@ -25,26 +25,28 @@ impl Model for BohmHandle {
     ghost use Rattle.bohm_c.specs.Kept.{owned};
     ghost use Rattle.bohm_c.specs.contracts.kept.Kept.{the_row};
 
-    ghost also_owns = { λ h. owned (box_owns (ghosts.dealloc_token (record { memory = record { seal = tt } })) the_row) h.at h.value };
+    ghost also_owns = { λ h. owned
+        (box_owns (ghosts.dealloc_token (record { memory = record { seal = tt } })) the_row) h.at
+        h.value };
 }
 
 /// The pointer, whose type C doesn't know.
-fn erased(loose: Loose<Kept, Global>) -> BohmHandle
-    ensures { result.value ≡ Some loose.value }
+fn erased(raw_box: RawBox<Kept, Global>) -> BohmHandle
+    ensures { result.value ≡ Some raw_box.value }
 {
-    let Loose { at, alloc: _ } = loose;
+    let RawBox { at, alloc: _ } = raw_box;
     BohmHandle { at: at as *mut u8 }
 }
 
 /// What is behind the pointer, if it isn't null.
-fn named(alloc: Global, held: BohmHandle) -> Option<Loose<Kept, Global>>
+fn named(alloc: Global, held: BohmHandle) -> Option<RawBox<Kept, Global>>
     ensures { MatchOption result (held.value ≡ None) (λ l. held.value ≡ Some l.value) }
 {
     let BohmHandle { at } = held;
     if at.is_null() {
         None
     } else {
-        Some(Loose {
+        Some(RawBox {
             at: at as *mut Kept,
             alloc,
         })
@@ -70,16 +72,17 @@ pub fn put_back(held: &mut BohmHandle, kept: Box<Kept>)
     requires { held.old.value ≡ None }
     ensures { held.new.value ≡ Some kept.value }
 {
-    end_closed(replace(held, erased(Loose::of(kept))));
+    end_closed(replace(held, erased(RawBox::of(kept))));
 }
 
 /// Takes back what it keeps, and leaves the handle closed.
 pub fn take_back(alloc: Global, held: &mut BohmHandle) -> Option<Box<Kept>>
-    ensures value { MatchOption result (held.old.value ≡ None) (λ b. held.old.value ≡ Some b.value) }
+    ensures value { MatchOption result (held.old.value ≡ None)
+        (λ b. held.old.value ≡ Some b.value) }
     ensures closed { held.new.value ≡ None }
 {
     match named(alloc, replace(held, closed())) {
-        Some(loose) => Some(loose.into_box()),
+        Some(raw_box) => Some(raw_box.into_box()),
         None => None,
     }
 }

@@ -10,16 +10,16 @@ ghost use Rattle.bohm_c.specs.Rows.{rows_from, shows_of};
 
 use crate::call_list::CallList;
 use crate::handing::hand_over;
-use crate::keeper::{Keeper, refuse};
 use crate::reading::read;
 use crate::rows::{BohmReply, Rows, rows_of};
+use crate::session::{Session, refuse};
 use crate::status::{DONE, HAS_STORE, NO_MEMORY, REFUSED, STOPPED, TIMESTAMPS, WAITING};
 use bohm_machine::SegmentFault;
 use bohm_run::Applied;
 use bohm_txn::{Checked, Replies};
 use std::alloc::Global;
 
-impl Keeper {
+impl Session {
     /// Runs a segment, whose replies wait.
     fn hold(&mut self, alloc: Global, segment: &Checked) -> u32
         requires { self.old.waiting ≡ [] }
@@ -79,12 +79,12 @@ impl Keeper {
     pub fn run_calls_held(&mut self, alloc: Global, calls: &CallList) -> u32
         ensures status { (result ≡ DONE) ⊎ (result ≡ TIMESTAMPS) ⊎ (result ≡ WAITING)
             ⊎ (result ≡ STOPPED) }
-        ensures done { result ≡ DONE → IsRunUntold self.old self.new calls.now }
-        ensures whole { result ≡ DONE → length self.new.waiting ≡ length calls.now.log }
-        ensures stopped { result ≡ STOPPED → IsRunUntold self.old self.new calls.now }
-        ensures part { result ≡ STOPPED → length self.new.waiting < length calls.now.log }
+        ensures done { result ≡ DONE → IsRunUntold self.old self.new calls.now.calls }
+        ensures whole { result ≡ DONE → length self.new.waiting ≡ length calls.now.calls.log }
+        ensures stopped { result ≡ STOPPED → IsRunUntold self.old self.new calls.now.calls }
+        ensures part { result ≡ STOPPED → length self.new.waiting < length calls.now.calls.log }
         ensures timestamps { result ≡ TIMESTAMPS
-            → IsUntakenBy self.old.machine calls.now segment_is.Timestamps }
+            → IsUntakenBy self.old.machine calls.now.calls segment_is.Timestamps }
         ensures waiting { result ≡ WAITING → 0 < length self.old.waiting }
         ensures unchanged { 0 < result → result < STOPPED → self.new ≡ self.old }
     {

@@ -1,13 +1,13 @@
 //! What a handle can keep.
 
 use crate::call_list::CallList;
-use crate::keeper::Keeper;
+use crate::session::Session;
 use bohm_procedures::Procedure;
 
 /// A machine, a procedure or a list of calls.
 #[derive(Drop)]
 pub enum Kept {
-    Machine(Keeper),
+    Machine(Session),
     Prepared(Procedure),
     Calls(CallList),
 }

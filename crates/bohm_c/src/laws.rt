@@ -1,12 +1,12 @@
 //! Laws over the definitions alone. No call uses them.
 
 ghost use Rattle.std.specs.Prelude.{◌≡◌, ℕ, List};
-ghost use Rattle.bohm_tree.specs.Sound.{IsDocument};
+ghost use Rattle.bohm_types.specs.Sound.{IsDocument};
 ghost use Rattle.bohm_store.specs.Versions.{Timeline};
 ghost use Rattle.bohm_machine.specs.Machines.{now_of, top_of};
 ghost use Rattle.bohm_c.specs.Keeping.{IsOpening, IsSnapshot};
 ghost use Rattle.bohm_c.specs.Reading.{snapshot_of};
-ghost use Rattle.bohm_c.specs.declared.keeper.Keeper.{Keeper};
+ghost use Rattle.bohm_c.specs.declared.session.Session.{Session};
 
 use crate::status::{
     DONE, FUTURE, HAS_LOG, HAS_STORE, KEPT, MISUSE, NO_KEY, NO_MEMORY, REFUSED, STOPPED,
@@ -37,9 +37,9 @@ pub fn status_numbers()
 /// holds there: so it goes on as that one does. The names of the snapshot's keys are names, as
 /// those of every `Key` are.
 pub fn snapshot_goes_on()
-    ensures { (m : Timeline) (text : List ℕ) (keeper : Keeper)
+    ensures { (m : Timeline) (text : List ℕ) (session : Session)
         → (snapshot : IsSnapshot m (top_of m) text) → IsDocument (snapshot_of snapshot.store)
-        → IsOpening text (top_of m) keeper → now_of keeper.machine ≡ now_of m }
+        → IsOpening text (top_of m) session → now_of session.machine ≡ now_of m }
 {
     one_text();
 }

@@ -1,23 +1,24 @@
 //! The executor for C and its callers: `include/bohm.h` declares the exports.
 #![tactic(auto)]
 
+mod answer;
 mod call_exports;
 mod call_list;
 mod exports;
 mod handing;
 mod handle;
 mod holding;
-mod keeper;
 mod kept;
+mod key_exports;
 pub mod laws;
-mod loose;
 mod prepared;
+mod raw_box;
 mod reading;
 mod row_exports;
 mod rows;
 mod seeds;
+mod session;
 mod status;
-mod whole;
 
 pub use call_exports::{
     bohm_clear_calls, bohm_open_calls, bohm_prepare, bohm_push, bohm_run_calls,
@@ -27,6 +28,7 @@ pub use exports::{
     bohm_store_at, bohm_timestamps, bohm_trim, bohm_value_at,
 };
 pub use handle::BohmHandle;
-pub use keeper::BohmCounts;
+pub use key_exports::{bohm_key_handle, bohm_push_named};
 pub use row_exports::{bohm_apply_held, bohm_rows, bohm_run_calls_held};
 pub use rows::BohmReply;
+pub use session::BohmCounts;

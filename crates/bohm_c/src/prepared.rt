@@ -3,7 +3,7 @@
 ghost use Rattle.std.specs.Prelude.{◌≡◌, ◌≢◌, ◌⊎◌, IfOk, IfErr};
 ghost use Rattle.bohm_c.specs.Calling.{IsPrepared, IsProcedureRefusal, IsUnprepared, told_as};
 
-use crate::keeper::refuse;
+use crate::session::refuse;
 use crate::status::{NO_MEMORY, REFUSED};
 use bohm_log::DrawnSeed;
 use bohm_procedures::{Procedure, ProcedureFault};

@@ -10,8 +10,8 @@ ghost use Rattle.bohm_c.specs.Reading.{IsRead, IsRefused, snapshot_of};
 use bohm_log::{Doc, DrawnSeed, FixedSeed, HashSeed, Log};
 use bohm_run::{LONGEST_TEXT, RunFault};
 use bohm_text::{parse_with_seed, print_doc};
-use bohm_tree::{Edition, Key, NoMemory, Value};
 use bohm_txn::{Checked, check};
+use bohm_types::{Edition, Key, NoMemory, Value};
 use std::alloc::Global;
 
 /// The well-formed document of a text.

@@ -47,7 +47,7 @@ pub extern "C" fn bohm_apply_held<'a>(
         return MISUSE;
     };
     let status = match &mut *kept {
-        Kept::Machine(keeper) => keeper.apply_held(alloc, text, out),
+        Kept::Machine(session) => session.apply_held(alloc, text, out),
         Kept::Prepared(_) | Kept::Calls(_) => MISUSE,
     };
     put_back(machine, kept);
@@ -63,13 +63,13 @@ fn hold_on(machine: &mut Kept, alloc: Global, calls: &Kept) -> u32
         ↔ ¬ (IsMachine (Some machine.old) × IsCallList (Some calls.now)) }
     ensures ran { (result ≡ DONE) ⊎ (result ≡ STOPPED) → OnMachine (Some machine.old) (λ was.
         OnMachine (Some machine.new) (λ now.
-        OnCalls (Some calls.now) (λ log. IsRunUntold was now log))) }
+        OnCalls (Some calls.now) (λ list. IsRunUntold was now list.calls))) }
     ensures whole { result ≡ DONE → OnMachine (Some machine.new) (λ now.
-        OnCalls (Some calls.now) (λ log. length now.waiting ≡ length log.log)) }
+        OnCalls (Some calls.now) (λ list. length now.waiting ≡ length list.calls.log)) }
     ensures part { result ≡ STOPPED → OnMachine (Some machine.new) (λ now.
-        OnCalls (Some calls.now) (λ log. length now.waiting < length log.log)) }
+        OnCalls (Some calls.now) (λ list. length now.waiting < length list.calls.log)) }
     ensures timestamps { result ≡ TIMESTAMPS → OnMachine (Some machine.old) (λ was.
-        OnCalls (Some calls.now) (λ log. IsRefused was.machine log segment_is.Timestamps)) }
+        OnCalls (Some calls.now) (λ list. IsRefused was.machine list.calls segment_is.Timestamps)) }
     ensures waiting { result ≡ WAITING
         → OnMachine (Some machine.old) (λ was. 0 < length was.waiting) }
     ensures unchanged { result ≢ DONE → result ≢ STOPPED → machine.new ≡ machine.old }
@@ -77,10 +77,10 @@ fn hold_on(machine: &mut Kept, alloc: Global, calls: &Kept) -> u32
     let Kept::Calls(list) = calls else {
         return MISUSE;
     };
-    let Kept::Machine(keeper) = machine else {
+    let Kept::Machine(session) = machine else {
         return MISUSE;
     };
-    keeper.run_calls_held(alloc, list)
+    session.run_calls_held(alloc, list)
 }
 
 /// Runs calls, as `bohm_run_calls` does; their replies wait.
@@ -98,13 +98,13 @@ pub extern "C" fn bohm_run_calls_held(
         ↔ ¬ (IsMachine machine.old.value × IsCallList calls.old.value) }
     ensures ran { (result ≡ DONE) ⊎ (result ≡ STOPPED) → OnMachine machine.old.value (λ was.
         OnMachine machine.new.value (λ now.
-        OnCalls calls.old.value (λ log. IsRunUntold was now log))) }
+        OnCalls calls.old.value (λ list. IsRunUntold was now list.calls))) }
     ensures whole { result ≡ DONE → OnMachine machine.new.value (λ now.
-        OnCalls calls.old.value (λ log. length now.waiting ≡ length log.log)) }
+        OnCalls calls.old.value (λ list. length now.waiting ≡ length list.calls.log)) }
     ensures part { result ≡ STOPPED → OnMachine machine.new.value (λ now.
-        OnCalls calls.old.value (λ log. length now.waiting < length log.log)) }
+        OnCalls calls.old.value (λ list. length now.waiting < length list.calls.log)) }
     ensures timestamps { result ≡ TIMESTAMPS → OnMachine machine.old.value (λ was.
-        OnCalls calls.old.value (λ log. IsRefused was.machine log segment_is.Timestamps)) }
+        OnCalls calls.old.value (λ list. IsRefused was.machine list.calls segment_is.Timestamps)) }
     ensures waiting { result ≡ WAITING
         → OnMachine machine.old.value (λ was. 0 < length was.waiting) }
     ensures unchanged { result ≢ DONE → result ≢ STOPPED
@@ -149,7 +149,7 @@ pub extern "C" fn bohm_rows<'a>(
         return MISUSE;
     };
     let status = match &mut *kept {
-        Kept::Machine(keeper) => keeper.rows(alloc, replies, values),
+        Kept::Machine(session) => session.rows(alloc, replies, values),
         Kept::Prepared(_) | Kept::Calls(_) => MISUSE,
     };
     put_back(machine, kept);

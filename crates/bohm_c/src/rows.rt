@@ -5,8 +5,8 @@ ghost use Rattle.std.specs.List.{flat_map};
 ghost use Rattle.bohm_txn.specs.ReplyRows.{reply_shown};
 ghost use Rattle.bohm_c.specs.Rows.{outcome_of, row_of, rows_from, shows_of};
 
-use bohm_tree::{NoMemory, Value};
 use bohm_txn::{Reason, Replies, ReplyView};
+use bohm_types::{NoMemory, Value};
 use std::alloc::Global;
 
 /// How a transaction ended: 0 where it committed, or else why it aborted, and at which statement,

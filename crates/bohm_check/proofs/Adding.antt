@@ -4,8 +4,8 @@ use Rattle.std.specs.List.{slice_get}
 use Rattle.std.proofs.lemmas.List.{append_assoc, append-nil, drop_all}
 use Rattle.bohm_txn.proofs.ForCallers.{drop_at}
 use Rattle.bohm_check.specs.declared.told.Told.{Told}
-use Rattle.bohm_tree.specs.Stmt.{Stmt}
-use Rattle.bohm_tree.specs.Txn.{Txn}
+use Rattle.bohm_types.specs.Stmt.{Stmt}
+use Rattle.bohm_types.specs.Txn.{Txn}
 use Rattle.bohm_txn.specs.Faulty.{stmt_faulty}
 use Rattle.bohm_check.specs.All.{each_from, kinds_told, stmt_told, AreTold}
 use Rattle.bohm_check.proofs.Lists.{same_front, full}
@@ -17,7 +17,8 @@ module _ {A : Type 0} (tell : ℕ → A → List Told) (xs : List A) (i : ℕ) (
   added x before now at told so_far =
       let more = each_from tell (i + 1) (drop (i + 1) xs) in
       let next : each_from tell i (drop i xs) ≡ tell i x ++ more = rw (drop_at xs i x at) refl in
-      same_front 20 now (before ++ tell i x) more told ∙ ap (take 20) (append_assoc before (tell i x) more) ∙ ap (λ (ys : List Told). take 20 (before ++ ys)) (sym next) ∙ so_far
+      same_front 20 now (before ++ tell i x) more told ∙ ap (take 20) (append_assoc before (tell i x) more)
+      ∙ ap (λ (ys : List Told). take 20 (before ++ ys)) (sym next) ∙ so_far
 
   -- there are enough
   pub enough : (now : List Told) → 20 ≤ length now → take 20 (now ++ each_from tell i (drop i xs)) ≡ take 20 start → take 20 now ≡ take 20 start

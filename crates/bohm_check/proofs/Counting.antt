@@ -1,10 +1,11 @@
 -- How the lines of transactions are counted.
-use Rattle.std.proofs.Common.{◌≡◌, ℕ, zero, suc, ◌+◌, ◌-◌, ◌<◌, ◌≤◌, List, [], ◌∷◌, ◌++◌, length, map, take, drop, Some, refl, ap, sym, ◌∙◌, subst, add-one, arith}
+use Rattle.std.proofs.Common.{◌≡◌, ℕ, zero, suc, ◌+◌, ◌-◌, ◌<◌, ◌≤◌, List, [], ◌∷◌, ◌++◌, length}
+use Rattle.std.proofs.Common.{map, take, drop, Some, refl, ap, sym, ◌∙◌, subst, add-one, arith}
 use Rattle.std.specs.List.{flat_map, slice_get}
 use Rattle.std.proofs.lemmas.List.{length-append}
 use Rattle.std.proofs.lemmas.Grind.{flat_map-append}
-use Rattle.bohm_tree.specs.Txn.{Txn}
-use Rattle.bohm_tree.specs.Document.{Document}
+use Rattle.bohm_types.specs.Txn.{Txn}
+use Rattle.bohm_types.specs.Document.{Document}
 use Rattle.bohm_text.specs.Print.{txn_lines, store_words, stmt_words, doc_lines}
 use Rattle.bohm_check.specs.Lines.{opening_line}
 
@@ -12,7 +13,8 @@ length-map : {A B : Type 0} (f : A → B) (xs : List A) → length (map f xs) �
 length-map f [] = refl
 length-map f (x ∷ xs) = ap (λ n. suc n) (length-map f xs)
 
-flat_more : {A B : Type 0} (f : A → List B) (xs : List A) (i : ℕ) (x : A) → slice_get xs i ≡ Some x → length (flat_map f (take (suc i) xs)) ≡ length (flat_map f (take i xs)) + length (f x)
+flat_more : {A B : Type 0} (f : A → List B) (xs : List A) (i : ℕ) (x : A) → slice_get xs i ≡ Some x
+    → length (flat_map f (take (suc i) xs)) ≡ length (flat_map f (take i xs)) + length (f x)
 flat_more f [] i x at = absurd cc
 flat_more f (y ∷ xs) zero x at =
     let same : y ≡ x = cc in

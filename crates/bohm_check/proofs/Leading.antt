@@ -2,9 +2,9 @@
 use Rattle.std.proofs.Common.{◌≡◌, ℕ, zero, suc, ◌+◌, List, [], ◌∷◌, ◌++◌, take, Bool, true, false, Option, Some, None, refl, ap, sym, ◌∙◌, subst}
 use Rattle.std.specs.Prelude.{if◌then◌else◌}
 use Rattle.std.specs.Option.{option_map}
-use Rattle.bohm_tree.specs.Stmt.{Stmt}
-use Rattle.bohm_tree.specs.Txn.{Txn}
-use Rattle.bohm_tree.specs.Document.{Document}
+use Rattle.bohm_types.specs.Stmt.{Stmt}
+use Rattle.bohm_types.specs.Txn.{Txn}
+use Rattle.bohm_types.specs.Document.{Document}
 use Rattle.bohm_txn.specs.declared.fault.CheckFault.{CheckFault}
 use Rattle.bohm_txn.specs.declared.fault.CheckKind.{CheckKind}
 use Rattle.bohm_txn.specs.declared.fault.CheckKind.TheVariants.{Order, Unread, Unwritten, Local, Limit}
@@ -24,7 +24,8 @@ IsLed g (Some b) [] = ⊥
 IsLed g (Some b) (x ∷ xs) = x.fault ≡ g b
 
 least_led : (g : CheckKind → CheckFault) (f : CheckKind → Told) → ((kind : CheckKind) → (f kind).fault ≡ g kind) → (a b c d e : Bool)
-    → IsLed g (if a then Some Order else (if b then Some Unread else (if c then Some Unwritten else (if d then Some Local else (if e then Some Limit else None)))))
+    → IsLed g (if a then Some Order else (if b then Some Unread
+    else (if c then Some Unwritten else (if d then Some Local else (if e then Some Limit else None)))))
     (told_if a (f Order) ++ (told_if b (f Unread) ++ (told_if c (f Unwritten) ++ (told_if d (f Local) ++ told_if e (f Limit)))))
 least_led g f same true b c d e = same Order
 least_led g f same false true c d e = same Unread
@@ -34,17 +35,21 @@ least_led g f same false false false false true = same Limit
 least_led g f same false false false false false = tt
 
 kinds_led : (t s : ℕ) (p : CheckKind → Bool) (line : CheckKind → ℕ) → IsLed (λ kind. fault_of (t, (s, kind))) (least p) (kinds_told t s p line)
-kinds_led t s p line = least_led (λ kind. fault_of (t, (s, kind))) (λ kind. told_of t s kind (line kind)) (λ kind. refl) (p Order) (p Unread) (p Unwritten) (p Local) (p Limit)
+kinds_led t s p line = least_led (λ kind. fault_of (t, (s, kind))) (λ kind. told_of t s kind (line kind)) (λ kind. refl) (p Order) (p Unread) (p Unwritten)
+    (p Local) (p Limit)
 
-found_led : {B : Type 0} (g : ℕ × B → CheckFault) (n : ℕ) (o : Option B) (later : Option (ℕ × B)) (xs ys : List Told) → IsLed (λ b. g (n, b)) o xs → IsLed g later ys → IsLed g (found_or n o later) (xs ++ ys)
+found_led : {B : Type 0} (g : ℕ × B → CheckFault) (n : ℕ) (o : Option B) (later : Option (ℕ × B)) (xs ys : List Told) → IsLed (λ b. g (n, b)) o xs
+    → IsLed g later ys → IsLed g (found_or n o later) (xs ++ ys)
 found_led g n None later [] ys h k = k
 found_led g n None later (x ∷ xs) ys h k = absurd h
 found_led g n (Some b) later [] ys h k = absurd h
 found_led g n (Some b) later (x ∷ xs) ys h k = h
 
-each_led : {A B : Type 0} (g : ℕ × B → CheckFault) (find : ℕ → A → Option B) (tell : ℕ → A → List Told) → ((i : ℕ) (x : A) → IsLed (λ b. g (i + 1, b)) (find i x) (tell i x)) → (i : ℕ) (xs : List A) → IsLed g (first_from find i xs) (each_from tell i xs)
+each_led : {A B : Type 0} (g : ℕ × B → CheckFault) (find : ℕ → A → Option B) (tell : ℕ → A → List Told)
+    → ((i : ℕ) (x : A) → IsLed (λ b. g (i + 1, b)) (find i x) (tell i x)) → (i : ℕ) (xs : List A) → IsLed g (first_from find i xs) (each_from tell i xs)
 each_led g find tell h i [] = tt
-each_led g find tell h i (x ∷ xs) = found_led g (i + 1) (find i x) (first_from find (i + 1) xs) (tell i x) (each_from tell (i + 1) xs) (h i x) (each_led g find tell h (i + 1) xs)
+each_led g find tell h i (x ∷ xs) = found_led g (i + 1) (find i x) (first_from find (i + 1) xs) (tell i x) (each_from tell (i + 1) xs) (h i x)
+    (each_led g find tell h (i + 1) xs)
 
 map_led : {A B : Type 0} (g : B → CheckFault) (f : A → B) (o : Option A) (xs : List Told) → IsLed (λ a. g (f a)) o xs → IsLed g (option_map f o) xs
 map_led g f None [] h = tt
@@ -54,14 +59,18 @@ map_led g f (Some a) (x ∷ xs) h = h
 
 txn_led : (number opening : ℕ) (t : Txn) → IsLed (λ b. fault_of (number, b)) (first_in_txn t) (txn_told number opening t)
 txn_led number opening t =
-    found_led (λ (b : ℕ × CheckKind). fault_of (number, b)) 0 (least (sets_faulty t)) (first_in_body t) (kinds_told number 0 (sets_faulty t) (sets_line t opening)) (body_told t number opening 0 t.body)
+    found_led (λ (b : ℕ × CheckKind). fault_of (number, b)) 0 (least (sets_faulty t)) (first_in_body t)
+    (kinds_told number 0 (sets_faulty t) (sets_line t opening)) (body_told t number opening 0 t.body)
     (kinds_led number 0 (sets_faulty t) (sets_line t opening))
-    (each_led (λ (b : ℕ × CheckKind). fault_of (number, b)) (find_stmt t) (stmt_told t number opening) (λ i s. kinds_led number (i + 1) (stmt_faulty t (take i t.body) s) (λ kind. opening + 3 + i)) 0 t.body)
+    (each_led (λ (b : ℕ × CheckKind). fault_of (number, b)) (find_stmt t) (stmt_told t number opening)
+    (λ i s. kinds_led number (i + 1) (stmt_faulty t (take i t.body) s) (λ kind. opening + 3 + i)) 0 t.body)
 
 doc_led : (d : Document) → IsLed fault_of (first_in_doc d) (doc_told d)
 doc_led d =
-    found_led fault_of 0 (option_map (λ kind. (0, kind)) (least (whole_faulty d))) (first_in_log d.log) (kinds_told 0 0 (whole_faulty d) (whole_line d)) (log_told d 0 d.log)
-    (map_led (λ (b : ℕ × CheckKind). fault_of (0, b)) (λ kind. (0, kind)) (least (whole_faulty d)) (kinds_told 0 0 (whole_faulty d) (whole_line d)) (kinds_led 0 0 (whole_faulty d) (whole_line d)))
+    found_led fault_of 0 (option_map (λ kind. (0, kind)) (least (whole_faulty d))) (first_in_log d.log) (kinds_told 0 0 (whole_faulty d) (whole_line d))
+    (log_told d 0 d.log)
+    (map_led (λ (b : ℕ × CheckKind). fault_of (0, b)) (λ kind. (0, kind)) (least (whole_faulty d)) (kinds_told 0 0 (whole_faulty d) (whole_line d))
+    (kinds_led 0 0 (whole_faulty d) (whole_line d)))
     (each_led fault_of find_txn (λ i. txn_told (i + 1) (opening_line d i)) (λ i t. txn_led (i + 1) (opening_line d i) t) 0 d.log)
 
 -- nothing is told of a transaction without faults

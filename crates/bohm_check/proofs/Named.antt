@@ -10,10 +10,10 @@ use Rattle.std.specs.BTreeSet.{BTreeSet, IsEmpty, Updates}
 use Rattle.std.specs.Cmp.Lexicographic.{slice_cmp}
 use Rattle.std.specs.Ordering.{nat_cmp}
 use Rattle.std.proofs.lemmas.Map.Text.{is_eq-slice_cmp}
-use Rattle.bohm_tree.specs.Keys.{is_among, some_passes}
-use Rattle.bohm_tree.specs.Parts.{sums, tested, target, bound}
-use Rattle.bohm_tree.specs.Stmt.{Stmt}
-use Rattle.bohm_tree.specs.Term.{Atom, Lit, Read, Local}
+use Rattle.bohm_types.specs.Keys.{is_among, some_passes}
+use Rattle.bohm_types.specs.Parts.{sums, tested, target, bound}
+use Rattle.bohm_types.specs.Stmt.{Stmt}
+use Rattle.bohm_types.specs.Term.{Atom, Lit, Read, Local}
 use Rattle.bohm_txn.specs.Faulty.{reads_among, locals_bound, binds, is_bound, is_unread, is_unwritten, is_misnamed}
 use Rattle.bohm_check.specs.Names.{has, reads_in, locals_in, AreNamesOf, AreBoundBy}
 
@@ -45,11 +45,13 @@ module _ (body : List Stmt) (i : ℕ) (s : Stmt) (at : slice_get body i ≡ Some
   pub one_bound : (name : List ℕ) (new : BTreeSet (List ℕ)) → bound s ≡ Some name → ((k : List ℕ) → has new k ≡ (has old k || bytes_eq name k))
       → AreBoundBy (take (i + 1) body) new
   one_bound name new binds_it added k =
-      added k ∙ ap (λ b. b || bytes_eq name k) (before k) ∙ ap (λ o. is_bound (take i body) k || some_passes (λ y. bytes_eq y k) o) (sym binds_it) ∙ sym (any_more (binds k) body i s at)
+      added k ∙ ap (λ b. b || bytes_eq name k) (before k) ∙ ap (λ o. is_bound (take i body) k || some_passes (λ y. bytes_eq y k) o) (sym binds_it)
+      ∙ sym (any_more (binds k) body i s at)
 
   pub none_bound : bound s ≡ None → AreBoundBy (take (i + 1) body) old
   none_bound binds_none k =
-      before k ∙ or_false (is_bound (take i body) k) ∙ ap (λ o. is_bound (take i body) k || some_passes (λ y. bytes_eq y k) o) (sym binds_none) ∙ sym (any_more (binds k) body i s at)
+      before k ∙ or_false (is_bound (take i body) k) ∙ ap (λ o. is_bound (take i body) k || some_passes (λ y. bytes_eq y k) o) (sym binds_none)
+      ∙ sym (any_more (binds k) body i s at)
     where
       or_false : (b : Bool) → b ≡ (b || false)
       or_false true = refl

@@ -3,9 +3,9 @@ use Rattle.std.proofs.Common.{◌≡◌, ℕ, ◌+◌, List, ◌∙◌, take}
 use Rattle.std.specs.Prelude.{Option, Some, None, ◌||◌}
 use Rattle.std.specs.List.{slice_get}
 use Rattle.std.specs.Str.{bytes_eq}
-use Rattle.bohm_tree.specs.Parts.{bound}
-use Rattle.bohm_tree.specs.Stmt.{Stmt}
-use Rattle.bohm_tree.specs.Txn.{Txn}
+use Rattle.bohm_types.specs.Parts.{bound}
+use Rattle.bohm_types.specs.Stmt.{Stmt}
+use Rattle.bohm_types.specs.Txn.{Txn}
 use Rattle.bohm_check.specs.declared.scope.Scope.{Scope}
 use Rattle.bohm_check.specs.Names.{has}
 use Rattle.bohm_check.specs.Scopes.{IsScopeOf}

@@ -11,12 +11,14 @@ module _ {X : Type 0} (p : X → Bool) (xs : List X) (i : ℕ) (n total : ℕ) (
 
   pub one_more : (x : X) → slice_get xs i ≡ Some x → p x ≡ true → n + 1 + count_by p (drop (i + 1) xs) ≡ total
   one_more x at holds =
-      let step : count_by p (drop i xs) ≡ 1 + count_by p (drop (i + 1) xs) = count_next x at ∙ ap (λ (b : Bool). cond b 1 0 + count_by p (drop (i + 1) xs)) holds in
+      let step : count_by p (drop i xs) ≡ 1 + count_by p (drop (i + 1) xs) =
+      count_next x at ∙ ap (λ (b : Bool). cond b 1 0 + count_by p (drop (i + 1) xs)) holds in
       omega (arith, step, so_far)
 
   pub no_more : (x : X) → slice_get xs i ≡ Some x → p x ≡ false → n + count_by p (drop (i + 1) xs) ≡ total
   no_more x at fails =
-      let step : count_by p (drop i xs) ≡ 0 + count_by p (drop (i + 1) xs) = count_next x at ∙ ap (λ (b : Bool). cond b 1 0 + count_by p (drop (i + 1) xs)) fails in
+      let step : count_by p (drop i xs) ≡ 0 + count_by p (drop (i + 1) xs) =
+      count_next x at ∙ ap (λ (b : Bool). cond b 1 0 + count_by p (drop (i + 1) xs)) fails in
       omega (arith, step, so_far)
 
   pub counted : length xs ≤ i → n ≡ total

@@ -1,6 +1,6 @@
 -- What is told of a document's faults.
 use Rattle.std.specs.Prelude.{◌≡◌, ℕ, List, [], ◌∷◌}
-use Rattle.bohm_tree.specs.Document.{Document}
+use Rattle.bohm_types.specs.Document.{Document}
 use Rattle.bohm_txn.specs.declared.fault.CheckKind.{CheckKind}
 use Rattle.bohm_txn.specs.Faulty.{Faulty, WellFormed, IsFirstFault}
 use Rattle.bohm_check.specs.declared.told.Told.{Told}

@@ -3,12 +3,13 @@ use Rattle.std.specs.Prelude.{ℕ, ◌+◌, List, [], ◌∷◌, take, length, n
 use Rattle.std.specs.Option.{option_map}
 use Rattle.std.specs.Ordering.{nat_cmp, is_lt}
 use Rattle.std.specs.Cmp.Lexicographic.{slice_cmp}
-use Rattle.bohm_tree.specs.Keys.{rising, names_of}
-use Rattle.bohm_tree.specs.Txn.{Txn}
-use Rattle.bohm_tree.specs.Document.{Document}
+use Rattle.bohm_types.specs.Keys.{rising, names_of}
+use Rattle.bohm_types.specs.Txn.{Txn}
+use Rattle.bohm_types.specs.Document.{Document}
 use Rattle.bohm_text.specs.Print.{doc_lines}
 use Rattle.bohm_txn.specs.declared.fault.CheckKind.{CheckKind}
 use Rattle.bohm_txn.specs.declared.fault.CheckKind.TheVariants.{Order, Unread, Unwritten, Local, Limit}
+use Rattle.bohm_types.specs.Limits.{most_keys, most_stmts, most_txns}
 
 -- the `txn` line of the transaction with this index: the line behind those of the document that ends before it
 abbrev pub opening_line : Document → ℕ → ℕ
@@ -32,7 +33,7 @@ whole_line d Order = 2 + first_fall (names_of d.store)
 whole_line d Unread = 0
 whole_line d Unwritten = 0
 whole_line d Local = 0
-whole_line d Limit = opening_line d 1000000
+whole_line d Limit = opening_line d most_txns
 
 -- ---- transactions, by the line of their opening
 
@@ -42,7 +43,8 @@ unordered_line t opening = if rising t.reads then opening + 2 else opening + 1
 
 -- the first count that is too large: too many keys stand on their set's line, all else on the opening
 abbrev pub large_line : Txn → ℕ → ℕ
-large_line t opening = if not (nat_le (length t.body) 64) then opening else (if not (nat_le (length t.reads) 16) then opening + 1 else (if not (nat_le (length t.writes) 16) then opening + 2 else opening))
+large_line t opening = if not (nat_le (length t.body) most_stmts) then opening
+    else (if not (nat_le (length t.reads) most_keys) then opening + 1 else (if not (nat_le (length t.writes) most_keys) then opening + 2 else opening))
 
 abbrev pub sets_line : Txn → ℕ → CheckKind → ℕ
 sets_line t opening Order = unordered_line t opening

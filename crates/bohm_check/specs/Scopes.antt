@@ -1,6 +1,6 @@
 -- The names that a statement may use.
 use Rattle.std.specs.Prelude.{ℕ, take}
-use Rattle.bohm_tree.specs.Txn.{Txn}
+use Rattle.bohm_types.specs.Txn.{Txn}
 use Rattle.bohm_check.specs.declared.scope.Scope.{Scope}
 use Rattle.bohm_check.specs.Names.{AreNamesOf, AreBoundBy}
 

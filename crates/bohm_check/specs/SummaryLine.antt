@@ -1,7 +1,7 @@
 -- The line that says what a good log holds.
 use Rattle.std.specs.Prelude.{ℕ, List, ◌++◌, codes, decimal}
-use Rattle.bohm_tree.specs.declared.edition.Edition.{Edition}
-use Rattle.bohm_tree.specs.declared.edition.Edition.TheVariants.{One, Two}
+use Rattle.bohm_types.specs.declared.edition.Edition.{Edition}
+use Rattle.bohm_types.specs.declared.edition.Edition.TheVariants.{One, Two}
 use Rattle.bohm_check.specs.declared.summary.Summary.{Summary}
 
 abbrev pub edition_words : Edition → List ℕ

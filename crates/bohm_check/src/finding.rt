@@ -2,7 +2,7 @@
 
 ghost use Rattle.std.specs.Prelude.{◌≡◌, ◌+◌, ◌<◌, ◌≤◌, ◌++◌, ℕ, length, take, All};
 ghost use Rattle.std.specs.Prelude.{Contains, IfOk, OnOk, Some, [], slice_get};
-ghost use Rattle.bohm_tree.specs.Keys.{names_of};
+ghost use Rattle.bohm_types.specs.Keys.{names_of};
 ghost use Rattle.bohm_txn.specs.declared.fault.CheckKind.{CheckKind};
 ghost use Rattle.bohm_txn.specs.Faulty.{Faulty, whole_faulty, sets_faulty, stmt_faulty};
 ghost use Rattle.bohm_txn.specs.Faulty.{is_long};
@@ -17,10 +17,10 @@ use crate::names::{is_misnamed, is_unread, is_unwritten};
 use crate::scope::Scope;
 use crate::told::{MOST_TOLD, Told};
 use bohm_log::{Doc, LogPart, TxnView};
-use bohm_tree::{Items, Key, MOST_KEYS, MOST_STMTS, MOST_TXNS, NoMemory, Value};
 use bohm_txn::{
     CheckFault, CheckKind, are_rising, first_in_txn, is_large, is_long, is_store_rising,
 };
+use bohm_types::{Items, Key, MOST_KEYS, MOST_STMTS, MOST_TXNS, NoMemory, Value};
 use std::alloc::Global;
 
 /// A place of a document where faults are, and its line.
@@ -120,7 +120,8 @@ fn tell_body(
     number: u32,
     opening: u64,
 ) -> Result<(), NoMemory>
-    ensures { OnOk result (AreTold told.old (body_told txn.now number opening 0 txn.now.body) told.new) }
+    ensures { OnOk result
+        (AreTold told.old (body_told txn.now number opening 0 txn.now.body) told.new) }
 {
     let mut scope = Scope::of(alloc, txn)?;
     for index in 0..txn.body_len() {
@@ -268,7 +269,8 @@ fn first_fall(store: &[(Key, Value)]) -> usize
 
 /// The line of the first transaction above a log's limit.
 fn excess_line(doc: &Doc) -> Result<u64, NoMemory>
-    ensures { IfOk result (λ n. MOST_TXNS < length doc.now.log → n ≡ opening_line doc.now MOST_TXNS) }
+    ensures { IfOk result
+        (λ n. MOST_TXNS < length doc.now.log → n ≡ opening_line doc.now MOST_TXNS) }
 {
     if doc.log().len() > MOST_TXNS {
         opening_line(doc, MOST_TXNS)

@@ -3,8 +3,8 @@
 use crate::sets::{first_fall, in_order, keys_of, put_set_help};
 use crate::shown::{put_name, put_number, put_text};
 use bohm_log::{Doc, Keys, TxnView};
-use bohm_tree::{Key, MOST_KEYS, MOST_SHOWS, MOST_STMTS, MOST_TXNS, NoMemory};
 use bohm_txn::{are_rising, shows};
+use bohm_types::{Key, MOST_KEYS, MOST_SHOWS, MOST_STMTS, MOST_TXNS, NoMemory};
 use std::alloc::Global;
 
 /// The message about keys out of order in the store, the reads or the writes.

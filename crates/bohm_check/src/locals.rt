@@ -6,7 +6,7 @@ use crate::shown::{put_name, put_number, put_quoted, put_text};
 use crate::statements::Site;
 use crate::terms::{atoms_of, local_read, long_sum};
 use bohm_log::{StmtView, TxnView};
-use bohm_tree::{Key, MOST_TERMS, NoMemory};
+use bohm_types::{Key, MOST_TERMS, NoMemory};
 use std::alloc::Global;
 use std::collections::BTreeMap;
 

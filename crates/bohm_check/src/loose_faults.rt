@@ -6,7 +6,7 @@ use crate::mending::uncommented;
 use crate::mistakes::{BYTE_ORDER_MARK, Mistake};
 use crate::shown::{put_line, put_number, put_text};
 use crate::text_faults::{BadLine, put_shown, whole_lines};
-use bohm_tree::NoMemory;
+use bohm_types::NoMemory;
 use std::alloc::Global;
 
 /// What a line says: it without a byte order mark before the text, a carriage return at its end, a

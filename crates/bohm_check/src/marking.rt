@@ -1,7 +1,7 @@
 //! Names on a statement's line, with carets below them.
 
 use crate::shown::put_line;
-use bohm_tree::{Key, NoMemory};
+use bohm_types::{Key, NoMemory};
 
 /// A name on a statement's line.
 #[derive(Clone, Copy)]

@@ -2,7 +2,7 @@
 
 use crate::grammar::{Place, first_halt};
 use crate::mistakes::BYTE_ORDER_MARK;
-use bohm_tree::NoMemory;
+use bohm_types::NoMemory;
 use std::alloc::Global;
 
 /// What stands before a comment.

@@ -3,17 +3,17 @@
 ghost use Rattle.std.specs.Prelude.{◌≡◌, ◌||◌, ℕ, Bool, List, not, IfOk, OnOk};
 ghost use Rattle.std.specs.List.{list_all};
 ghost use Rattle.std.specs.Str.{bytes_eq};
-ghost use Rattle.bohm_tree.specs.Keys.{some_passes};
-ghost use Rattle.bohm_tree.specs.Parts.{sums};
-ghost use Rattle.bohm_tree.specs.Stmt.{Stmt};
-ghost use Rattle.bohm_tree.specs.Term.{Atom};
+ghost use Rattle.bohm_types.specs.Keys.{some_passes};
+ghost use Rattle.bohm_types.specs.Parts.{sums};
+ghost use Rattle.bohm_types.specs.Stmt.{Stmt};
+ghost use Rattle.bohm_types.specs.Term.{Atom};
 ghost use Rattle.bohm_log.specs.Seeing.{atom_shown};
 ghost use Rattle.bohm_txn.specs.Faulty.{is_unread, is_unwritten, is_misnamed};
 ghost use Rattle.bohm_check.specs.Names.{has, reads_in, locals_in, Computes};
 ghost use Rattle.bohm_check.specs.Names.{AreNamesOf, AreBoundBy};
 
 use bohm_log::{AtomParts, Keys, StmtParts, StmtView, SumView};
-use bohm_tree::{Key, NoMemory};
+use bohm_types::{Key, NoMemory};
 use std::alloc::Global;
 use std::collections::BTreeSet;
 

@@ -7,8 +7,8 @@ use crate::shown::{put_line, put_number, put_text};
 use crate::statements::{Site, put_long, put_unread, put_unwritten};
 use crate::told::Told;
 use bohm_log::{Doc, TxnView};
-use bohm_tree::{MOST_TXNS, NoMemory};
 use bohm_txn::{CheckFault, CheckKind};
+use bohm_types::{MOST_TXNS, NoMemory};
 use std::alloc::Global;
 
 /// The line of a fault's place, its transaction and its statement; 0 stands for none.

@@ -1,12 +1,12 @@
 //! The names that a statement of a transaction may use.
 
 ghost use Rattle.std.specs.Prelude.{◌≡◌, ◌+◌, ℕ, Some, IfOk, OnOk, slice_get};
-ghost use Rattle.bohm_tree.specs.Txn.{Txn};
+ghost use Rattle.bohm_types.specs.Txn.{Txn};
 ghost use Rattle.bohm_check.specs.Scopes.{IsScopeOf};
 
 use crate::names::{add_name, names_of};
 use bohm_log::{StmtView, TxnView};
-use bohm_tree::{Key, NoMemory};
+use bohm_types::{Key, NoMemory};
 use std::alloc::Global;
 use std::collections::BTreeSet;
 

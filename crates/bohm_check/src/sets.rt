@@ -2,7 +2,7 @@
 
 use crate::shown::{put_number, put_text};
 use bohm_log::Keys;
-use bohm_tree::{Key, MOST_KEYS, NoMemory};
+use bohm_types::{Key, MOST_KEYS, NoMemory};
 use std::alloc::Global;
 
 /// The first key that isn't above the one before it, with that one first.

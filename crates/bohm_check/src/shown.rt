@@ -3,7 +3,7 @@
 ghost use Rattle.std.specs.Prelude.{◌≡◌, ◌++◌, ◌-◌, ◌<◌, ◌≤◌, length, map, replicate, OnOk};
 ghost use Rattle.bohm_check.specs.Shown.{IsWhole, marked, printable};
 
-use bohm_tree::{Key, NoMemory};
+use bohm_types::{Key, NoMemory};
 use itoa::{Buffer, Integer};
 
 /// The most bytes of a line that are shown.

@@ -1,6 +1,6 @@
 //! How much of a word matches a kind of word.
 
-use bohm_tree::GREATEST_LITERAL;
+use bohm_types::GREATEST_LITERAL;
 
 /// The most bytes of a name.
 pub const LONGEST_NAME: usize = 32;

@@ -7,7 +7,7 @@ use crate::sets::{in_order, keys_of, put_set_help};
 use crate::shown::{put_line, put_name, put_number, put_quoted, put_text};
 use crate::terms::{atoms_of, key_read, long_sum};
 use bohm_log::{Keys, StmtView, TxnView};
-use bohm_tree::{Key, MOST_TERMS, NoMemory};
+use bohm_types::{Key, MOST_TERMS, NoMemory};
 use std::alloc::Global;
 
 /// A text, and the lines in it of a transaction and of its statement that a message is about.

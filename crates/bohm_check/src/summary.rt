@@ -6,8 +6,8 @@ ghost use Rattle.bohm_check.specs.SummaryLine.{edition_words, summary_line};
 
 use crate::shown::{put_number, put_text};
 use bohm_log::LogPart;
-use bohm_tree::{Edition, Key, NoMemory, Value};
 use bohm_txn::{Checked, sure};
+use bohm_types::{Edition, Key, NoMemory, Value};
 use std::alloc::Global;
 
 /// What a log holds, in numbers.

@@ -1,7 +1,7 @@
 //! The terms of a statement, in the order of its line.
 
 use bohm_log::{AtomParts, CondView, StmtParts, StmtView, SumView};
-use bohm_tree::{Key, NoMemory};
+use bohm_types::{Key, NoMemory};
 use std::alloc::Global;
 
 /// An atom, and the index, counted from 0, of its word on the statement's line.

@@ -6,7 +6,7 @@ use crate::mending::mended;
 use crate::mistakes::Mistake;
 use crate::shown::{put_line, put_number, put_quoted, put_text};
 use bohm_text::TextFault;
-use bohm_tree::NoMemory;
+use bohm_types::NoMemory;
 use std::alloc::Global;
 
 /// The first bad line of a text, and which lines may stand there.

@@ -10,7 +10,8 @@ use Rattle.bohm_cli.specs.Options.{bohm, given_in}
 use Rattle.bohm_cli.specs.Taken.{settings_in}
 
 -- the settings of numbers that are read so
-pub settings_read : (rows : List Row) (given : Given) → IsNumberOr defaults.cc rows (codes "cc") 1 MOST_WORKERS given.cc → IsNumberOr defaults.exec rows (codes "exec") 1 MOST_WORKERS given.exec
+pub settings_read : (rows : List Row) (given : Given) → IsNumberOr defaults.cc rows (codes "cc") 1 MOST_WORKERS given.cc
+    → IsNumberOr defaults.exec rows (codes "exec") 1 MOST_WORKERS given.exec
     → IsNumberOr defaults.parts rows (codes "parts") 1 MOST_PARTS given.parts → IsNumberOr defaults.batch rows (codes "batch") 1 LARGEST_BATCH given.batch
     → IsNumberOr defaults.keep rows (codes "keep") 0 MOST_KEPT given.keep → IsNumber rows (codes "at") 0 4294967295 given.at
     → (result : Option Given) → SomeIff result (AreInRange given) given → result ≡ Some (given_in rows)

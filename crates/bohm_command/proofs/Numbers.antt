@@ -1,5 +1,6 @@
 -- What a parse that succeeds gives an option is the number that its words have, and lies in the option's range.
-use Rattle.std.proofs.Common.{◌≡◌, ◌∙◌, ◌<◌, ◌^◌, ap, cond, ℕ, Bool, true, false, List, [], ◌∷◌, length, map, filter, Option, Some, None, refl, sym, subst, inl, inr, arith, zero, suc, codes, is_some, true≢false, le-ltb, lt-ltb}
+use Rattle.std.proofs.Common.{◌≡◌, ◌∙◌, ◌<◌, ◌^◌, ap, cond, ℕ, Bool, true, false, List, [], ◌∷◌, length, map, filter, Option, Some}
+use Rattle.std.proofs.Common.{None, refl, sym, subst, inl, inr, arith, zero, suc, codes, is_some, true≢false, le-ltb, lt-ltb}
 use Rattle.std.specs.List.{All, list_any, slice_index_or}
 use Rattle.std.specs.Str.{bytes_eq}
 use Rattle.std.specs.Str.Parse.{ExplainsUnsignedError, HasUnsignedDigitsIfOk, ParsesUnsigned, digits_value, without_leading_plus}
@@ -40,7 +41,8 @@ abbrev pub IsNumberOr : ℕ → List Row → Text → ℕ → ℕ → ℕ → Ty
 IsNumberOr default rows name least most number = (number ≡ unwrap_or (number_in rows name) default) × IsBetween least most number
 
 -- the range that is cut out of all numbers of `u32`
-pub narrowed : (p q : ValueParser) (low high : Option ℤ) (least most : ℕ) → p ≡ parser.Signed (pos 0) (pos 4294967295) → low ≡ Some (pos least) → high ≡ Some (pos most)
+pub narrowed : (p q : ValueParser) (low high : Option ℤ) (least most : ℕ) → p ≡ parser.Signed (pos 0) (pos 4294967295) → low ≡ Some (pos least)
+    → high ≡ Some (pos most)
     → least < 2 ^ 32 → most < 2 ^ 32 → NarrowsTo p low high q → q ≡ parser.Signed (pos least) (pos most)
 narrowed p q low high least most is lo hi a b h =
     let cut : NarrowsTo (parser.Signed (pos 0) (pos 4294967295)) (Some (pos least)) (Some (pos most)) q = rw (is, lo, hi) at h in
@@ -66,7 +68,8 @@ one_rule id rule [] all j d lt same = absurd (omega arith)
 one_rule id rule (x ∷ xs) all j d lt same = go (bytes_eq x.id.now id) refl (λ every i l s. one_rule id rule xs every i d l s) j lt same all
   where
     go : (b : Bool) → bytes_eq x.id.now id ≡ b
-        → (All (λ r. r ≡ rule) (rules_of id (map rule_of xs)) → (i : ℕ) → i < length xs → bytes_eq (slice_index_or xs i d).id.now id ≡ true → rule_of (slice_index_or xs i d) ≡ rule)
+        → (All (λ r. r ≡ rule) (rules_of id (map rule_of xs)) → (i : ℕ) → i < length xs → bytes_eq (slice_index_or xs i d).id.now id ≡ true
+        → rule_of (slice_index_or xs i d) ≡ rule)
         → (i : ℕ) → i < length (x ∷ xs) → bytes_eq (slice_index_or (x ∷ xs) i d).id.now id ≡ true
         → All (λ r. r ≡ rule) (cond b (rule_of x ∷ rules_of id (map rule_of xs)) (rules_of id (map rule_of xs)))
         → rule_of (slice_index_or (x ∷ xs) i d) ≡ rule
@@ -90,7 +93,8 @@ head P how (v ∷ vs) t all found = (v, sym (ap (λ o. unwrap_or o t) found), al
 
 -- an option of a command with plain settings and simple rules alone: the one rule of its id is that it takes a number,
 -- and its id is none of clap's own
-module _ (app : App) (old : Command) (m : ArgMatches) (p : IsParsedFrom old m) (is : app_of old ≡ app) (plain : app.top.is_plain ≡ true) (simple : all_simple app.top.rules ≡ true)
+module _ (app : App) (old : Command) (m : ArgMatches) (p : IsParsedFrom old m) (is : app_of old ≡ app) (plain : app.top.is_plain ≡ true)
+    (simple : all_simple app.top.rules ≡ true)
     (id : Text) (least most : ℕ) (fits : most < 2 ^ 32) (one : rules_of id app.top.rules ≡ number_rule id least most ∷ [])
     (own : list_any (λ w. bytes_eq w id) other_ids ≡ false) where
   -- a built argument of the option's id has its parser
@@ -120,7 +124,8 @@ module _ (app : App) (old : Command) (m : ArgMatches) (p : IsParsedFrom old m) (
   text t found = go (matched_of (found_of m) id) refl found
     where
       no_groups : groups_of p.built ≡ []
-      no_groups = (p.from.same_groups (simple_groups old (ap (λ (a : App). all_simple a.top.rules) is ∙ simple))).1 ∙ (plain_fields old (ap (λ (a : App). a.top.is_plain) is ∙ plain)).groups
+      no_groups = (p.from.same_groups (simple_groups old (ap (λ (a : App). all_simple a.top.rules) is ∙ simple))).1
+          ∙ (plain_fields old (ap (λ (a : App). a.top.is_plain) is ∙ plain)).groups
 
       parsed : IsParsed p.built (found_of m) (has_subcommand m)
       parsed = p.parsed (p.from.globals ∙ (plain_fields old (ap (λ (a : App). a.top.is_plain) is ∙ plain)).globals)
@@ -134,7 +139,8 @@ module _ (app : App) (old : Command) (m : ArgMatches) (p : IsParsedFrom old m) (
       ]
 
       of_entry : (x : MatchedArg) → option_map (λ s. read_as x.reading s.now) (slice_get x.vals.items 0) ≡ Some t
-          → ((e : Entry) × (e.1 ≡ x) × (bytes_eq e.0.now id ≡ true) × EntryPasses p.built e) → (v : Text) × (t ≡ without_minus v) × IsSignedIn (pos least) (pos most) v
+          → ((e : Entry) × (e.1 ≡ x) × (bytes_eq e.0.now id ≡ true) × EntryPasses p.built e)
+          → (v : Text) × (t ≡ without_minus v) × IsSignedIn (pos least) (pos most) v
       of_entry x read got =
           let e = got.0 in
           let key : e.0.now ≡ id = (bytes_eq-Decides e.0.now id).0 got.2 in
@@ -144,21 +150,28 @@ module _ (app : App) (old : Command) (m : ArgMatches) (p : IsParsedFrom old m) (
           let how : HasReading p.built e.0.now e.1.reading = elim got.3.4 [ inl g ↦ absurd (no_group e key got.3 g) | inr h ↦ h ] in
           let first = head (λ v. PassesArg p.built e.0.now v.now) e.1.reading e.1.vals.items t all here in
           let any = first.2 in
-          let reading : e.1.reading ≡ WithoutMinus = sym how.4.1 ∙ ap reading_of (its_parser how.0 how.1 how.2 how.3 (subst (λ (w : Text). bytes_eq how.1.id.now w ≡ true) key how.4.0)) in
-          let q = its_parser any.0 any.1 any.2 any.3 (subst (λ (w : Text). bytes_eq any.1.id.now w ≡ true) key any.4.0) in
-          (first.0.now, first.1 ∙ ap (λ (r : Reading). read_as r first.0.now) reading, subst (λ (w : ValueParser). Accepts any.1.ignore_case w first.0.now) q any.4.1)
+          let reading : e.1.reading ≡ WithoutMinus =
+          sym how.4.1 ∙ ap reading_of (its_parser how.0 how.1 how.2 how.3 (subst (λ (w : Text). bytes_eq how.1.id.now w ≡ true) key how.4.0)) in
+          let q = its_parser any.0 any.1 any.2 any.3 (subst (λ (w : Text). bytes_eq any.1.id.now w ≡ true) key any.4.0) in (
+            first.0.now,
+            first.1 ∙ ap (λ (r : Reading). read_as r first.0.now) reading,
+            subst (λ (w : ValueParser). Accepts any.1.ignore_case w first.0.now) q any.4.1,
+          )
 
-      go : (o : Option MatchedArg) → matched_of (found_of m) id ≡ o → one_text (found_of m) id ≡ Some t → (v : Text) × (t ≡ without_minus v) × IsSignedIn (pos least) (pos most) v
+      go : (o : Option MatchedArg) → matched_of (found_of m) id ≡ o → one_text (found_of m) id ≡ Some t
+          → (v : Text) × (t ≡ without_minus v) × IsSignedIn (pos least) (pos most) v
       go None e read =
           let bad : None ≡ Some t = rw e at read in
           absurd (true≢false (sym (ap is_some bad)))
       go (Some x) e read = of_entry x (rw e at read) (entry_by_id (EntryPasses p.built) (found_of m).entries.items id x parsed.values e)
 
   -- what `get_one` gives of the option is the number that the rows have
-  pub number : (r : Option ℕ) → (one_text (found_of m) id ≡ None → r ≡ None) → ((t : Text) → one_text (found_of m) id ≡ Some t → ReadsOne GivesU32 t r) → IsNumber (rows_of (found_of m)) id least most r
+  pub number : (r : Option ℕ) → (one_text (found_of m) id ≡ None → r ≡ None) → ((t : Text) → one_text (found_of m) id ≡ Some t → ReadsOne GivesU32 t r)
+      → IsNumber (rows_of (found_of m)) id least most r
   number r none value = go (one_text (found_of m) id) refl
     where
-      as_rows : (o : Option Text) → one_text (found_of m) id ≡ o → number_in (rows_of (found_of m)) id ≡ option_map (λ t. digits_value 10 (without_leading_plus t)) o
+      as_rows : (o : Option Text) → one_text (found_of m) id ≡ o
+          → number_in (rows_of (found_of m)) id ≡ option_map (λ t. digits_value 10 (without_leading_plus t)) o
       as_rows o e = ap (option_map (λ t. digits_value 10 (without_leading_plus t))) (sym (one_text-rows (found_of m) id) ∙ e)
 
       go : (o : Option Text) → one_text (found_of m) id ≡ o → IsNumber (rows_of (found_of m)) id least most r
@@ -171,9 +184,11 @@ module _ (app : App) (old : Command) (m : ArgMatches) (p : IsParsedFrom old m) (
 
   -- and so with a default
   pub number_or : (default given n : ℕ) (r : Option ℕ) → given ≡ default → IsBetween least most given → n ≡ unwrap_or r given
-      → (one_text (found_of m) id ≡ None → r ≡ None) → ((t : Text) → one_text (found_of m) id ≡ Some t → ReadsOne GivesU32 t r) → IsNumberOr default (rows_of (found_of m)) id least most n
+      → (one_text (found_of m) id ≡ None → r ≡ None) → ((t : Text) → one_text (found_of m) id ≡ Some t → ReadsOne GivesU32 t r)
+      → IsNumberOr default (rows_of (found_of m)) id least most n
   number_or default given n r same within is_n none value = go r (is_n ∙ ap (unwrap_or r) same) (number r none value)
     where
-      go : (o : Option ℕ) → n ≡ unwrap_or o default → IsNumber (rows_of (found_of m)) id least most o → IsNumberOr default (rows_of (found_of m)) id least most n
+      go : (o : Option ℕ) → n ≡ unwrap_or o default → IsNumber (rows_of (found_of m)) id least most o
+          → IsNumberOr default (rows_of (found_of m)) id least most n
       go None e h = (e ∙ ap (λ x. unwrap_or x default) h.0, subst (IsBetween least most) (same ∙ sym e) within)
       go (Some k) e h = (e ∙ ap (λ x. unwrap_or x default) h.0, subst (IsBetween least most) (sym e) h.1)

@@ -24,24 +24,28 @@ accounted_later b v w pairs t keeps a = ⊎_elim (λ (d : IsDone b v t). inl (st
 
 pub accounted_pushed : (b : Batch) (v : View) (pairs : Pairs) (p : ℕ × ℕ) (t : ℕ) → IsAccountedFor b v pairs t → IsAccountedFor b v (pairs ++ p ∷ []) t
 accounted_pushed b v pairs p t a = ⊎_elim (λ (d : IsDone b v t). inl d)
-    (λ (c : Contains (positions_in pairs) t). inr (subst (λ (xs : List ℕ). Contains xs t) (sym (positions_push pairs p)) (Contains-append_left (positions_in pairs) (p.0 ∷ []) t c))) a
+    (λ (c : Contains (positions_in pairs) t). inr
+    (subst (λ (xs : List ℕ). Contains xs t) (sym (positions_push pairs p)) (Contains-append_left (positions_in pairs) (p.0 ∷ []) t c))) a
 
 pub accounted_here : (b : Batch) (v : View) (pairs : Pairs) (p : ℕ × ℕ) → IsAccountedFor b v (pairs ++ p ∷ []) p.0
 accounted_here b v pairs p = inr (subst (λ (xs : List ℕ). Contains xs p.0) (sym (positions_push pairs p)) (Contains-push (positions_in pairs) p.0))
 
 -- where the same ones were seen Done
-pub accounted_as : (b : Batch) (v : View) (pairs : Pairs) (share done : List ℕ) → done ≡ v.done → All (IsAccountedFor b v pairs) share → All (λ t. Contains done t ⊎ Contains (positions_in pairs) t) share
+pub accounted_as : (b : Batch) (v : View) (pairs : Pairs) (share done : List ℕ) → done ≡ v.done → All (IsAccountedFor b v pairs) share
+    → All (λ t. Contains done t ⊎ Contains (positions_in pairs) t) share
 accounted_as b v pairs share done same all = subst (λ (xs : List ℕ). All (λ t. Contains xs t ⊎ Contains (positions_in pairs) t) share) (sym same) all
 
 -- one more of the share
-pub next : (P : ℕ → Type 0) (share : List ℕ) (n : ℕ) → ((i : ℕ) → i < n → P (get_or share i 0)) → P (get_or share n 0) → (i : ℕ) → i < n + 1 → P (get_or share i 0)
+pub next : (P : ℕ → Type 0) (share : List ℕ) (n : ℕ) → ((i : ℕ) → i < n → P (get_or share i 0)) → P (get_or share n 0) → (i : ℕ) → i < n + 1
+    → P (get_or share i 0)
 next P share n all here i l = dite (ℕ_discrete i n) (λ e. subst (λ (z : ℕ). P (get_or share z 0)) (sym e) here) (λ ne. all i (omega arith))
 
 -- ---- what was seen Busy
 
 pub busy_more : (old now new : List ℕ) (pairs : Pairs) (p : ℕ × ℕ) → now ≡ old ++ busy_in pairs → new ≡ now ++ p.1 ∷ [] → new ≡ old ++ busy_in (pairs ++ p ∷ [])
 busy_more old now new pairs p before e =
-    e ∙ (ap (λ (xs : List ℕ). xs ++ p.1 ∷ []) before ∙ (append_assoc old (busy_in pairs) (p.1 ∷ []) ∙ ap (λ (xs : List ℕ). old ++ xs) (sym (busy_push pairs p))))
+    e ∙ (ap (λ (xs : List ℕ). xs ++ p.1 ∷ []) before
+    ∙ (append_assoc old (busy_in pairs) (p.1 ∷ []) ∙ ap (λ (xs : List ℕ). old ++ xs) (sym (busy_push pairs p))))
 
 -- ---- the order
 
@@ -60,5 +64,7 @@ picked_more (x ∷ xs) (z ∷ ys) y p = ⊎_elim
     (λ (q : (x ≡ z) × IsPickedFrom xs ys). inl (q.0, picked_more xs ys y q.1))
     (λ (q : IsPickedFrom (x ∷ xs) ys). inr (picked_more (x ∷ xs) ys y q)) p
 
-pub picked_pair : (pairs : Pairs) (p : ℕ × ℕ) (ys : List ℕ) → IsPickedFrom (positions_in pairs) ys → IsPickedFrom (positions_in (pairs ++ p ∷ [])) (ys ++ p.0 ∷ [])
-picked_pair pairs p ys picked = subst (λ (xs : List ℕ). IsPickedFrom xs (ys ++ p.0 ∷ [])) (sym (positions_push pairs p)) (picked_more (positions_in pairs) ys p.0 picked)
+pub picked_pair : (pairs : Pairs) (p : ℕ × ℕ) (ys : List ℕ) → IsPickedFrom (positions_in pairs) ys
+    → IsPickedFrom (positions_in (pairs ++ p ∷ [])) (ys ++ p.0 ∷ [])
+picked_pair pairs p ys picked = subst (λ (xs : List ℕ). IsPickedFrom xs (ys ++ p.0 ∷ [])) (sym (positions_push pairs p))
+    (picked_more (positions_in pairs) ys p.0 picked)

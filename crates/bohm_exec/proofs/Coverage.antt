@@ -1,5 +1,6 @@
 -- Which positions stand in a share, and in what is set aside of it.
-use Rattle.std.proofs.Common.{◌≡◌, ℕ, zero, suc, ◌+◌, ◌-◌, ◌%◌, ◌<◌, ◌≤◌, ◌∷◌, [], List, Bool, true, false, cond, eqb, All, refl, sym, ap, ◌∙◌, subst, ⊎_elim, arith}
+use Rattle.std.proofs.Common.{◌≡◌, ℕ, zero, suc, ◌+◌, ◌-◌, ◌%◌, ◌<◌, ◌≤◌, ◌∷◌, [], List, Bool, true}
+use Rattle.std.proofs.Common.{false, cond, eqb, All, refl, sym, ap, ◌∙◌, subst, ⊎_elim, arith}
 use Rattle.std.specs.Prelude.{Contains}
 use Rattle.std.specs.List.{filter, range_with_len}
 use Rattle.std.proofs.lemmas.Bool.{eq-eqb}
@@ -39,7 +40,8 @@ in_range a n t low high =
 -- ---- shares
 
 pub share_covers : (first len workers t : ℕ) → first ≤ t → t < first + len → Contains (share first len ((t - first) % workers) workers) t
-share_covers first len workers t low high = kept (λ (z : ℕ). eqb ((z - first) % workers) ((t - first) % workers)) (range_with_len first len) t (eq-eqb _ _ refl) (in_range first len t low high)
+share_covers first len workers t low high = kept (λ (z : ℕ). eqb ((z - first) % workers) ((t - first) % workers)) (range_with_len first len) t
+    (eq-eqb _ _ refl) (in_range first len t low high)
 
 range_inside : (a n : ℕ) → All (λ t. (a ≤ t) × (t < a + n)) (range_with_len a n)
 range_inside a n = λ k d lt.
@@ -47,7 +49,8 @@ range_inside a n = λ k d lt.
     (omega (arith, at), omega (arith, at, lt, length-range_with_len a n))
 
 pub share_inside : (first len worker workers : ℕ) → All (λ t. (first ≤ t) × (t < first + len)) (share first len worker workers)
-share_inside first len worker workers = All-filter (λ (t : ℕ). eqb ((t - first) % workers) worker) (λ (t : ℕ). (first ≤ t) × (t < first + len)) (range_with_len first len) (range_inside first len)
+share_inside first len worker workers = All-filter (λ (t : ℕ). eqb ((t - first) % workers) worker) (λ (t : ℕ). (first ≤ t) × (t < first + len))
+    (range_with_len first len) (range_inside first len)
 
 -- ---- what is set aside
 

@@ -1,5 +1,6 @@
--- The stack of a pursuit, the start first, and the number that falls.
-use Rattle.std.proofs.Common.{◌≡◌, ◌≢◌, ℕ, zero, suc, ◌+◌, ◌-◌, ◌*◌, ◌<◌, ◌≤◌, Bool, true, false, cond, eqb, List, [], ◌∷◌, ◌++◌, length, get_or, sym, refl, ap, ◌∙◌, subst, ⊎_elim, Option, None, Some, arith, eq-eqb, ne_eqb, length-append, mul-le-mul_right, suc-mul}
+-- The stack of an evaluation on demand, its start first, and the number that decreases.
+use Rattle.std.proofs.Common.{◌≡◌, ◌≢◌, ℕ, zero, suc, ◌+◌, ◌-◌, ◌*◌, ◌<◌, ◌≤◌, Bool, true, false, cond, eqb, List, [], ◌∷◌, ◌++◌, length, get_or}
+use Rattle.std.proofs.Common.{sym, refl, ap, ◌∙◌, subst, ⊎_elim, Option, None, Some, arith, eq-eqb, ne_eqb, length-append, mul-le-mul_right, suc-mul}
 use Rattle.std.specs.Prelude.{Contains, MatchOption}
 use Rattle.std.specs.Option.{option_to_list}
 use Rattle.std.proofs.lemmas.List.{get_or_append_left}
@@ -40,7 +41,8 @@ at_end [] u = refl
 at_end (x ∷ xs) u = at_end xs u
 
 -- by cases on whether the element is the last
-at_push : (P : ℕ → ℕ → Type 0) (xs : List ℕ) (u i : ℕ) → i < length (xs ++ u ∷ []) → (i < length xs → P i (get_or xs i 0)) → P (length xs) u → P i (get_or (xs ++ u ∷ []) i 0)
+at_push : (P : ℕ → ℕ → Type 0) (xs : List ℕ) (u i : ℕ) → i < length (xs ++ u ∷ []) → (i < length xs → P i (get_or xs i 0)) → P (length xs) u
+    → P i (get_or (xs ++ u ∷ []) i 0)
 at_push P xs u i l left here =
     let long = length_push xs u in dite (ℕ_discrete i (length xs))
     (λ e. subst (λ (z : ℕ). P z (get_or (xs ++ u ∷ []) z 0)) (sym e) (subst (λ (z : ℕ). P (length xs) z) (sym (at_end xs u)) here))
@@ -50,7 +52,8 @@ pub starts : (b : Batch) (start : ℕ) (done : List ℕ) → IsIn b start → Is
 starts b start done is = record {
   some = omega arith;
   inside = λ i l. let z : i ≡ 0 = omega arith in subst (λ (j : ℕ). IsIn b (get_or (start ∷ []) j 0)) (sym z) is;
-  below = λ i l. let z : i ≡ 0 = omega arith in subst (λ (j : ℕ). position b (get_or (start ∷ []) j 0) + j < count_of b) (sym z) (omega (arith, is.from, is.below));
+  below = λ i l. let z : i ≡ 0 = omega arith in subst (λ (j : ℕ). position b (get_or (start ∷ []) j 0) + j < count_of b) (sym z)
+      (omega (arith, is.from, is.below));
   leads = λ i l. let z : i ≡ 0 = omega arith in subst (λ (j : ℕ). Leads b start (get_or (start ∷ []) j 0)) (sym z) itself;
   falls = λ i j l m. absurd (omega arith);
   fresh = λ i some l. absurd (omega arith);
@@ -64,7 +67,8 @@ first_of_push xs u l = get_or_append_left xs (u ∷ []) 0 0 l
 pub wants_earlier : (b : Batch) (t u : ℕ) → IsIn b t → Wants b t u → (u < t) × IsIn b u
 wants_earlier b t u is wants = let e = wanted_earlier b t wants.0 u is wants.1 wants.2 in (e.below, e.slot.txn)
 
-pub pushed : (b : Batch) (start : ℕ) (done xs : List ℕ) (u : ℕ) → IsDescent b start done xs → Wants b (top_of xs) u → ¬ Contains done u → IsDescent b start done (xs ++ u ∷ [])
+pub pushed : (b : Batch) (start : ℕ) (done xs : List ℕ) (u : ℕ) → IsDescent b start done xs → Wants b (top_of xs) u → ¬ Contains done u
+    → IsDescent b start done (xs ++ u ∷ [])
 pushed b start done xs u d wants new =
     let len = length xs in
     let long = length_push xs u in
@@ -74,7 +78,9 @@ pushed b start done xs u d wants new =
     let top_in = d.inside (len - 1) last in
     let from = top_in.from in
     let (less, is) = wants_earlier b (top_of xs) u top_in wants in
-    let lower : (i : ℕ) → i < len → u < get_or xs i 0 = λ i l. dite (ℕ_discrete i (len - 1)) (λ e. subst (λ (z : ℕ). u < get_or xs z 0) (sym e) less) (λ ne. let f = d.falls i (len - 1) (omega arith) last in omega arith) in record {
+    let lower : (i : ℕ) → i < len → u < get_or xs i 0 = λ i l. dite (ℕ_discrete i (len - 1)) (λ e. subst (λ (z : ℕ). u < get_or xs z 0) (sym e) less)
+    (λ ne. let f = d.falls i (len - 1) (omega arith) last in omega arith) in
+    record {
       some = omega arith;
       inside = λ i l. at_push (λ j z. IsIn b z) xs u i l (d.inside i) is;
       below = λ i l. at_push (λ j z. position b z + j < count_of b) xs u i l (d.below i) (omega (arith, is.from));
@@ -98,7 +104,8 @@ popped b start done ys u d some =
       below = λ i l. subst (λ (z : ℕ). position b z + i < count_of b) (same i l) (d.below i (omega arith));
       leads = λ i l. subst (λ (z : ℕ). Leads b start z) (same i l) (d.leads i (omega arith));
       falls = λ i j l m. let e = same i (omega arith) in let e' = same j m in let f = d.falls i j l (omega arith) in omega arith;
-      fresh = λ i above l c. ⊎_elim (λ (old : Contains done (get_or ys i 0)). d.fresh i above (omega arith) (subst (λ (z : ℕ). Contains done z) (sym (same i l)) old))
+      fresh = λ i above l c. ⊎_elim
+          (λ (old : Contains done (get_or ys i 0)). d.fresh i above (omega arith) (subst (λ (z : ℕ). Contains done z) (sym (same i l)) old))
           (λ (e : u ≡ get_or ys i 0).
           let f = d.falls i len l (omega arith) in
           let s = same i l in
@@ -134,7 +141,8 @@ has_push (x ∷ xs) v u ne = ap (cond (eqb x u) true) (has_push xs v u ne)
 
 has_here : (xs : List ℕ) (v : ℕ) → has (xs ++ v ∷ []) v ≡ true
 has_here [] v = ap (λ (b : Bool). cond b true false) (eq-eqb v v refl)
-has_here (x ∷ xs) v = dite (ℕ_discrete x v) (λ e. ap (λ (b : Bool). cond b true (has (xs ++ v ∷ []) v)) (eq-eqb x v e)) (λ ne. ap (λ (b : Bool). cond b true (has (xs ++ v ∷ []) v)) (ne_eqb x v ne) ∙ has_here xs v)
+has_here (x ∷ xs) v = dite (ℕ_discrete x v) (λ e. ap (λ (b : Bool). cond b true (has (xs ++ v ∷ []) v)) (eq-eqb x v e))
+    (λ ne. ap (λ (b : Bool). cond b true (has (xs ++ v ∷ []) v)) (ne_eqb x v ne) ∙ has_here xs v)
 
 has_not : (xs : List ℕ) (v : ℕ) → ¬ Contains xs v → has xs v ≡ false
 has_not [] v new = refl
@@ -145,7 +153,8 @@ undone_le : (xs : List ℕ) (v n : ℕ) → undone (xs ++ v ∷ []) n ≤ undone
 undone_le xs v zero = omega arith
 undone_le xs v (suc n) =
     let r = undone_le xs v n in dite (ℕ_discrete n v)
-    (λ e. let b : has (xs ++ v ∷ []) n ≡ true = ap (has (xs ++ v ∷ [])) e ∙ has_here xs v in let c : left_of (has (xs ++ v ∷ []) n) ≡ 0 = ap left_of b in omega arith)
+    (λ e. let b : has (xs ++ v ∷ []) n ≡ true = ap (has (xs ++ v ∷ [])) e ∙ has_here xs v in let c : left_of (has (xs ++ v ∷ []) n) ≡ 0 = ap left_of b in
+    omega arith)
     (λ ne. let c : left_of (has (xs ++ v ∷ []) n) ≡ left_of (has xs n) = ap left_of (has_push xs v n ne) in omega arith)
 
 pub undone_less : (xs : List ℕ) (v n : ℕ) → v < n → ¬ Contains xs v → undone (xs ++ v ∷ []) n < undone xs n
@@ -156,7 +165,8 @@ undone_less xs v (suc n) l new = dite (ℕ_discrete n v)
     let b : has (xs ++ v ∷ []) n ≡ true = ap (has (xs ++ v ∷ [])) e ∙ has_here xs v in
     let c : left_of (has (xs ++ v ∷ []) n) ≡ 0 = ap left_of b in
     let d : left_of (has xs n) ≡ 1 = ap left_of (ap (has xs) e ∙ has_not xs v new) in omega arith)
-    (λ ne. let r = undone_less xs v n (omega arith) new in let c : left_of (has (xs ++ v ∷ []) n) ≡ left_of (has xs n) = ap left_of (has_push xs v n ne) in omega arith)
+    (λ ne. let r = undone_less xs v n (omega arith) new in let c : left_of (has (xs ++ v ∷ []) n) ≡ left_of (has xs n) = ap left_of (has_push xs v n ne) in
+    omega arith)
 
 lower : (a b n top top' : ℕ) → a < b → top' ≤ n → a * (n + 1) + top' < b * (n + 1) + top
 lower a b n top top' l m = let more : suc a * (n + 1) ≤ b * (n + 1) = mul-le-mul_right (n + 1) l in omega (arith, suc-mul a (n + 1))
@@ -177,7 +187,8 @@ only b start done xs ys d e none =
 pub top_inside : (b : Batch) (start : ℕ) (done xs : List ℕ) → IsDescent b start done xs → IsIn b (top_of xs)
 top_inside b start done xs d = let some = d.some in d.inside (length xs - 1) (omega arith)
 
-pub pop_falls : (b : Batch) (start : ℕ) (done done' xs ys : List ℕ) (top : ℕ) → IsDescent b start done xs → xs ≡ ys ++ top_of xs ∷ [] → top ≡ top_of xs → done' ≡ done ++ top ∷ [] → 0 < length ys
+pub pop_falls : (b : Batch) (start : ℕ) (done done' xs ys : List ℕ) (top : ℕ) → IsDescent b start done xs → xs ≡ ys ++ top_of xs ∷ [] → top ≡ top_of xs
+    → done' ≡ done ++ top ∷ [] → 0 < length ys
     → (left_to_do b done' ys < left_to_do b done xs) × IsDescent b start done' ys
 pop_falls b start done done' xs ys top d e is now some =
     let n : ℕ = count_of b in
@@ -189,17 +200,21 @@ pop_falls b start done done' xs ys top d e is now some =
     let d' : IsDescent b start (done ++ u ∷ []) ys = popped b start done ys u (subst (λ (z : List ℕ). IsDescent b start done z) e d) some in
     let low' = d'.below (length ys - 1) (omega arith) in
     let inside = (d.inside (length xs - 1) last).below in
-    let fewer : undone (done ++ u ∷ []) (end_of b) < undone done (end_of b) = undone_less done u (end_of b) (omega arith) (d.fresh (length xs - 1) (omega arith) last) in
-    subst (λ (z : List ℕ). (left_to_do b z ys < left_to_do b done xs) × IsDescent b start z ys) (sym now') (lower (undone (done ++ u ∷ []) (end_of b)) (undone done (end_of b)) n (position b u) (position b (top_of ys)) fewer (omega arith), d')
+    let fewer : undone (done ++ u ∷ []) (end_of b) < undone done (end_of b) =
+    undone_less done u (end_of b) (omega arith) (d.fresh (length xs - 1) (omega arith) last) in
+    subst (λ (z : List ℕ). (left_to_do b z ys < left_to_do b done xs) × IsDescent b start z ys) (sym now')
+    (lower (undone (done ++ u ∷ []) (end_of b)) (undone done (end_of b)) n (position b u) (position b (top_of ys)) fewer (omega arith), d')
 
-pub push_falls : (b : Batch) (start : ℕ) (done done' xs xs' : List ℕ) (u : ℕ) → IsDescent b start done xs → xs' ≡ xs ++ u ∷ [] → Wants b (top_of xs) u → done' ≡ done → left_to_do b done' xs' < left_to_do b done xs
+pub push_falls : (b : Batch) (start : ℕ) (done done' xs xs' : List ℕ) (u : ℕ) → IsDescent b start done xs → xs' ≡ xs ++ u ∷ [] → Wants b (top_of xs) u
+    → done' ≡ done → left_to_do b done' xs' < left_to_do b done xs
 push_falls b start done done' xs xs' u d e wants same =
     let top_in = top_inside b start done xs d in
     let (less, is) = wants_earlier b (top_of xs) u top_in wants in
     let long : length xs' ≡ length xs + 1 = ap length e ∙ length_push xs u in
     let back : length xs' - 1 ≡ length xs = omega arith in
     let top : top_of xs' ≡ u = (λ i. get_or (e i) (back i) 0) ∙ at_end xs u in
-    let k : undone done' (end_of b) * (count_of b + 1) ≡ undone done (end_of b) * (count_of b + 1) = ap (λ (z : List ℕ). undone z (end_of b) * (count_of b + 1)) same in
+    let k : undone done' (end_of b) * (count_of b + 1) ≡ undone done (end_of b) * (count_of b + 1) =
+    ap (λ (z : List ℕ). undone z (end_of b) * (count_of b + 1)) same in
     let p : ℕ = undone done' (end_of b) * (count_of b + 1) in
     let q : ℕ = undone done (end_of b) * (count_of b + 1) in
     let k' : p ≡ q = k in

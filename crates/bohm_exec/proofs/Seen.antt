@@ -6,7 +6,7 @@ use Rattle.std.proofs.lemmas.Option.{same_Some, slice_get_within, slice_get-get_
 use Rattle.std.proofs.lemmas.List.{get_or-take}
 use mathlib.Core.Logic.{dite}
 use native.Mathlib.Decide.{ℕ_discrete}
-use Rattle.bohm_tree.specs.declared.cell.Cell.{Cell}
+use Rattle.bohm_types.specs.declared.cell.Cell.{Cell}
 use Rattle.bohm_place.specs.declared.access.Access.{Access}
 use Rattle.bohm_place.specs.declared.access.Source.{Source}
 use Rattle.bohm_place.specs.declared.access.Source.TheVariants.{Before, Within}
@@ -32,7 +32,8 @@ in_front n xs j x at =
     slice_get-get_or xs j x (omega arith) ∙ ap Some (sym (get_or-take n xs j x (omega arith)) ∙ get_or_from_slice_get (take n xs) j x x at)
 
 -- the version that a wanted access takes is earlier in the batch
-pub earlier_at : (b : Batch) (t : ℕ) (keys : DeclaredSet) (n : ℕ) (a : Access) (u : ℕ) → IsIn b t → WantsAllOf b t keys → slice_get (accesses_in keys b t) n ≡ Some a → a.source ≡ Within u → IsEarlier b t a u
+pub earlier_at : (b : Batch) (t : ℕ) (keys : DeclaredSet) (n : ℕ) (a : Access) (u : ℕ) → IsIn b t → WantsAllOf b t keys
+    → slice_get (accesses_in keys b t) n ≡ Some a → a.source ≡ Within u → IsEarlier b t a u
 earlier_at b t keys n a u is wants at source = wanted_earlier b t a u is (wants a (contains_at (accesses_in keys b t) n a at)) source
 
 before_of : (x : Source) (j : ℕ) → None ≡ slot_from x j → x ≡ Before
@@ -50,7 +51,8 @@ pub taken_before : (accesses : List Access) (n : ℕ) (e : TakesSlot accesses n 
 taken_before accesses n e = before_of e.access.source e.access.index e.taken
 
 -- the version is of the batch
-pub taken_within : (accesses : List Access) (n : ℕ) (s : Slot) (e : TakesSlot accesses n (Some s)) → (e.access.source ≡ Within s.txn) × (slot_in s.txn e.access ≡ s)
+pub taken_within : (accesses : List Access) (n : ℕ) (s : Slot) (e : TakesSlot accesses n (Some s))
+    → (e.access.source ≡ Within s.txn) × (slot_in s.txn e.access ≡ s)
 taken_within accesses n s e = within_of e.access.source e.access.index s e.taken
 
 -- ---- what is known and found of the accesses below a place
@@ -59,15 +61,18 @@ abbrev pub KnownBelow : Batch → View → List Access → ℕ → Type 0
 KnownBelow b v accesses n = (j : ℕ) (a : Access) (u : ℕ) → j < n → slice_get accesses j ≡ Some a → a.source ≡ Within u → IsKnown b v (slot_in u a)
 
 abbrev pub FoundBelow : Batch → List Access → List Cell → ℕ → Type 0
-FoundBelow b accesses cells n = (j : ℕ) (a : Access) (u : ℕ) (c : Cell) → j < n → slice_get accesses j ≡ Some a → a.source ≡ Within u → slice_get cells j ≡ Some c → IsRightCell b (slot_in u a) c
+FoundBelow b accesses cells n = (j : ℕ) (a : Access) (u : ℕ) (c : Cell) → j < n → slice_get accesses j ≡ Some a → a.source ≡ Within u
+    → slice_get cells j ≡ Some c → IsRightCell b (slot_in u a) c
 
-pub known_next : (b : Batch) (v w : View) (accesses : List Access) (n : ℕ) (a : Access) → Keeps v w → KnownBelow b v accesses n → slice_get accesses n ≡ Some a → ((u : ℕ) → a.source ≡ Within u → IsKnown b w (slot_in u a)) → KnownBelow b w accesses (n + 1)
+pub known_next : (b : Batch) (v w : View) (accesses : List Access) (n : ℕ) (a : Access) → Keeps v w → KnownBelow b v accesses n
+    → slice_get accesses n ≡ Some a → ((u : ℕ) → a.source ≡ Within u → IsKnown b w (slot_in u a)) → KnownBelow b w accesses (n + 1)
 known_next b v w accesses n a keeps below at here = λ j x u l at_j is. dite (ℕ_discrete j n)
     (λ e. let same : a ≡ x = same_Some a x (sym at ∙ (ap (slice_get accesses) (sym e) ∙ at_j)) in
     subst (λ (y : Access). y.source ≡ Within u → IsKnown b w (slot_in u y)) same (here u) is)
     (λ ne. still_known b v w (slot_in u x) keeps (below j x u (omega arith) at_j is))
 
-found_next : (b : Batch) (accesses : List Access) (old new : List Cell) (n : ℕ) (a : Access) → ((j : ℕ) → j ≢ n → slice_get new j ≡ slice_get old j) → FoundBelow b accesses old n → slice_get accesses n ≡ Some a
+found_next : (b : Batch) (accesses : List Access) (old new : List Cell) (n : ℕ) (a : Access) → ((j : ℕ) → j ≢ n → slice_get new j ≡ slice_get old j)
+    → FoundBelow b accesses old n → slice_get accesses n ≡ Some a
     → ((u : ℕ) (c : Cell) → a.source ≡ Within u → slice_get new n ≡ Some c → IsRightCell b (slot_in u a) c) → FoundBelow b accesses new (n + 1)
 found_next b accesses old new n a kept below at here = λ j x u c l at_j is cell. dite (ℕ_discrete j n)
     (λ e. let same : a ≡ x = same_Some a x (sym at ∙ (ap (slice_get accesses) (sym e) ∙ at_j)) in
@@ -81,17 +86,23 @@ same_within : (s : Source) (u w : ℕ) → s ≡ Within u → s ≡ Within w →
 same_within s u w e f = cc
 
 -- of an access whose version stands before the batch nothing is wanted
-pub known_base : (b : Batch) (v : View) (accesses : List Access) (n : ℕ) (a : Access) → Keeps v v → KnownBelow b v accesses n → slice_get accesses n ≡ Some a → a.source ≡ Before → KnownBelow b v accesses (n + 1)
+pub known_base : (b : Batch) (v : View) (accesses : List Access) (n : ℕ) (a : Access) → Keeps v v → KnownBelow b v accesses n → slice_get accesses n ≡ Some a
+    → a.source ≡ Before → KnownBelow b v accesses (n + 1)
 known_base b v accesses n a keeps below at is = known_next b v v accesses n a keeps below at (λ u other. absurd (not_both a.source u is other))
 
-pub found_base : (b : Batch) (accesses : List Access) (cells : List Cell) (n : ℕ) (a : Access) → FoundBelow b accesses cells n → slice_get accesses n ≡ Some a → a.source ≡ Before → FoundBelow b accesses cells (n + 1)
-found_base b accesses cells n a below at is = found_next b accesses cells cells n a (λ j ne. refl) below at (λ u c other _. absurd (not_both a.source u is other))
+pub found_base : (b : Batch) (accesses : List Access) (cells : List Cell) (n : ℕ) (a : Access) → FoundBelow b accesses cells n → slice_get accesses n ≡ Some a
+    → a.source ≡ Before → FoundBelow b accesses cells (n + 1)
+found_base b accesses cells n a below at is = found_next b accesses cells cells n a (λ j ne. refl) below at
+    (λ u c other _. absurd (not_both a.source u is other))
 
 -- a version of the batch was seen
-pub known_within : (b : Batch) (v w : View) (accesses : List Access) (n : ℕ) (a : Access) (u : ℕ) → Keeps v w → KnownBelow b v accesses n → slice_get accesses n ≡ Some a → a.source ≡ Within u → IsKnown b w (slot_in u a) → KnownBelow b w accesses (n + 1)
-known_within b v w accesses n a u keeps below at is here = known_next b v w accesses n a keeps below at (λ x other. subst (λ (z : ℕ). IsKnown b w (slot_in z a)) (same_within a.source u x is other) here)
+pub known_within : (b : Batch) (v w : View) (accesses : List Access) (n : ℕ) (a : Access) (u : ℕ) → Keeps v w → KnownBelow b v accesses n
+    → slice_get accesses n ≡ Some a → a.source ≡ Within u → IsKnown b w (slot_in u a) → KnownBelow b w accesses (n + 1)
+known_within b v w accesses n a u keeps below at is here =
+    known_next b v w accesses n a keeps below at (λ x other. subst (λ (z : ℕ). IsKnown b w (slot_in z a)) (same_within a.source u x is other) here)
 
-pub found_within : (b : Batch) (accesses : List Access) (cells : List Cell) (n : ℕ) (a : Access) (u : ℕ) (c : Cell) → n < length cells → FoundBelow b accesses cells n → slice_get accesses n ≡ Some a → a.source ≡ Within u → IsRightCell b (slot_in u a) c
+pub found_within : (b : Batch) (accesses : List Access) (cells : List Cell) (n : ℕ) (a : Access) (u : ℕ) (c : Cell) → n < length cells
+    → FoundBelow b accesses cells n → slice_get accesses n ≡ Some a → a.source ≡ Within u → IsRightCell b (slot_in u a) c
     → FoundBelow b accesses (set cells n c) (n + 1)
 found_within b accesses cells n a u c inside below at is right = found_next b accesses cells (set cells n c) n a (λ j ne. set_other cells n j c ne) below at
     (λ x d other cell.
@@ -104,7 +115,8 @@ knows_all b v accesses n long below = λ a u in_it is.
     let within = slice_get_within accesses j a at in
     below j a u (omega arith) at is
 
-pub are_found : (b : Batch) (accesses : List Access) (cells : List Cell) (n : ℕ) → length accesses ≡ n → FoundBelow b accesses cells n → AreFound b accesses cells
+pub are_found : (b : Batch) (accesses : List Access) (cells : List Cell) (n : ℕ) → length accesses ≡ n → FoundBelow b accesses cells n
+    → AreFound b accesses cells
 are_found b accesses cells n long below = λ j a u c at is cell.
     let within = slice_get_within accesses j a at in
     below j a u c (omega arith) at is cell

@@ -4,7 +4,7 @@ use Rattle.std.specs.Borrow.{Bor}
 use Rattle.bohm_board.specs.declared.board.Board.{Board}
 use Rattle.bohm_board.specs.Passes.{IsPassOf}
 use Rattle.bohm_exec.specs.declared.stepper.Stepper.{Stepper}
-use Rattle.bohm_exec.specs.Turns.{IsSame, Looks, seen_by}
+use Rattle.bohm_exec.specs.Steps.{IsSame, Looks, seen_by}
 use Rattle.bohm_exec.proofs.Viewed.{then_looks}
 
 pub same_then : (s y z : Stepper) → IsSame s y → IsSame y z → IsSame s z

@@ -4,9 +4,9 @@ use Rattle.std.specs.Prelude.{Contains, if◌then◌else◌}
 use Rattle.std.proofs.lemmas.List.Elements.{Contains-append_left, Contains-append_right, Contains-push, Contains-push_cases}
 use mathlib.Core.Logic.{dite}
 use native.Mathlib.Decide.{ℕ_discrete}
-use Rattle.bohm_tree.specs.declared.cell.Cell.{Cell}
-use Rattle.bohm_tree.specs.declared.cell.Cell.TheVariants.{Absent, Present}
-use Rattle.bohm_tree.specs.Txn.{Txn}
+use Rattle.bohm_types.specs.declared.cell.Cell.{Cell}
+use Rattle.bohm_types.specs.declared.cell.Cell.TheVariants.{Absent, Present}
+use Rattle.bohm_types.specs.Txn.{Txn}
 use Rattle.bohm_txn.specs.Faulty.{IsWellFormedTxn}
 use Rattle.bohm_place.specs.declared.access.Access.{Access}
 use Rattle.bohm_place.specs.declared.declared_set.DeclaredSet.{DeclaredSet}
@@ -20,7 +20,7 @@ use Rattle.bohm_board.specs.Views.{Knows, after_look, after_fill}
 use Rattle.bohm_board.proofs.ForCallers.{keeps_same, keeps_then, keeps_looked, txn_there, reads_paired, writes_paired, in_either}
 use Rattle.bohm_place.proofs.ForCallers.{formed_at, usable_at}
 use Rattle.bohm_exec.specs.Handed.{WantsAllOf, KnowsAll, slot_of}
-use Rattle.bohm_exec.specs.Turns.{LooksOnly}
+use Rattle.bohm_exec.specs.Steps.{LooksOnly}
 
 -- ---- looks
 
@@ -29,15 +29,36 @@ no_looks v = record { keeps = keeps_same v; done = refl; busy = refl; held = ref
 
 looks_on : (v w : View) (k : Slot) (answer : Option Cell) → LooksOnly v w → LooksOnly v (after_look w k answer)
 looks_on v w k None l = l
-looks_on v w k (Some Absent) l = record { keeps = keeps_then v w (after_look w k (Some Absent)) l.keeps (keeps_looked w k (Some Absent)); done = l.done; busy = l.busy; held = l.held; stored = l.stored; filled = l.filled }
-looks_on v w k (Some (Present z)) l = record { keeps = keeps_then v w (after_look w k (Some (Present z))) l.keeps (keeps_looked w k (Some (Present z))); done = l.done; busy = l.busy; held = l.held; stored = l.stored; filled = l.filled }
+looks_on v w k (Some Absent) l = record {
+  keeps = keeps_then v w (after_look w k (Some Absent)) l.keeps (keeps_looked w k (Some Absent));
+  done = l.done;
+  busy = l.busy;
+  held = l.held;
+  stored = l.stored;
+  filled = l.filled;
+}
+looks_on v w k (Some (Present z)) l = record {
+  keeps = keeps_then v w (after_look w k (Some (Present z))) l.keeps (keeps_looked w k (Some (Present z)));
+  done = l.done;
+  busy = l.busy;
+  held = l.held;
+  stored = l.stored;
+  filled = l.filled;
+}
 
 -- one more look
 pub one_look : (v w u : View) (k : Slot) (answer : Option Cell) → LooksOnly v w → u ≡ after_look w k answer → LooksOnly v u
 one_look v w u k answer l e = subst (λ (z : View). LooksOnly v z) (sym e) (looks_on v w k answer l)
 
 pub then_looks : (u v w : View) → LooksOnly u v → LooksOnly v w → LooksOnly u w
-then_looks u v w a b = record { keeps = keeps_then u v w a.keeps b.keeps; done = b.done ∙ a.done; busy = b.busy ∙ a.busy; held = b.held ∙ a.held; stored = b.stored ∙ a.stored; filled = b.filled ∙ a.filled }
+then_looks u v w a b = record {
+  keeps = keeps_then u v w a.keeps b.keeps;
+  done = b.done ∙ a.done;
+  busy = b.busy ∙ a.busy;
+  held = b.held ∙ a.held;
+  stored = b.stored ∙ a.stored;
+  filled = b.filled ∙ a.filled;
+}
 
 -- ---- what is wanted
 
@@ -102,9 +123,11 @@ wanted_stays b v w t absent present knows = λ a u in_it is.
 
 -- the slots of t below the j-th, and the j-th
 pub below_fill : (xs : List Slot) (t j : ℕ) → ((x : Slot) → Contains xs x → x.index < j) → (x : Slot) → Contains (xs ++ slot_of t j ∷ []) x → x.index < j + 1
-below_fill xs t j all x c = ⊎_elim (λ (h : Contains xs x). let l = all x h in omega arith) (λ (e : slot_of t j ≡ x). let same : j ≡ x.index = ap (λ (z : Slot). z.index) e in omega arith) (Contains-push_cases xs (slot_of t j) x c)
+below_fill xs t j all x c = ⊎_elim (λ (h : Contains xs x). let l = all x h in omega arith)
+    (λ (e : slot_of t j ≡ x). let same : j ≡ x.index = ap (λ (z : Slot). z.index) e in omega arith) (Contains-push_cases xs (slot_of t j) x c)
 
-pub all_fill : (xs : List Slot) (t n : ℕ) → ((j : ℕ) → j < n → Contains xs (slot_of t j)) → (j : ℕ) → j < n + 1 → Contains (xs ++ slot_of t n ∷ []) (slot_of t j)
+pub all_fill : (xs : List Slot) (t n : ℕ) → ((j : ℕ) → j < n → Contains xs (slot_of t j)) → (j : ℕ) → j < n + 1
+    → Contains (xs ++ slot_of t n ∷ []) (slot_of t j)
 all_fill xs t n all j l = dite (ℕ_discrete j n)
     (λ e. subst (λ (z : ℕ). Contains (xs ++ slot_of t n ∷ []) (slot_of t z)) (sym e) (Contains-push xs (slot_of t n)))
     (λ ne. Contains-append_left xs (slot_of t n ∷ []) (slot_of t j) (all j (omega arith)))

@@ -1,4 +1,4 @@
--- Of which batch an answer is, and how far a closed board is.
+-- The batch of an answer, and the progress of a closed board.
 use Rattle.std.specs.Prelude.{ℕ, ◌<◌}
 use Rattle.bohm_board.specs.declared.batch.Batch.{Batch}
 use Rattle.bohm_board.specs.declared.closed.Closed.{Closed}

@@ -1,6 +1,6 @@
 pub mod Asides
 pub mod Handed
 pub mod Moments
-pub mod Turns
+pub mod Steps
 pub mod Answers
 pub mod Shares

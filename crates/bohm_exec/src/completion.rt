@@ -14,8 +14,8 @@ use crate::finished::Finished;
 use crate::wanted::{count, slot_at};
 use bohm_board::{Closed, Slot};
 use bohm_place::DeclaredSet;
-use bohm_tree::{Cell, MOST_KEYS};
 use bohm_txn::Scratch;
+use bohm_types::{Cell, MOST_KEYS};
 
 /// Copies the cells of the accesses of a declared set that take a version of the batch, each to its
 /// key's index.

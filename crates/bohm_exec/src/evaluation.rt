@@ -1,24 +1,25 @@
 //! The evaluation of one position.
 
 ghost use Rattle.std.specs.Prelude.{◌≡◌, ◌≤◌, Some, length};
-ghost use Rattle.bohm_tree.specs.Txn.{Txn};
+ghost use Rattle.bohm_types.specs.Txn.{Txn};
 ghost use Rattle.bohm_place.specs.Plans.{keys_in};
 ghost use Rattle.bohm_board.specs.Batches.{accesses_in, IsIn, IsRightOutcome, txn_at};
 ghost use Rattle.bohm_board.specs.Inputs.{AreCellsOf};
 ghost use Rattle.bohm_exec.specs.Handed.{AreFound, IsReady, AreRightSlots, slot_cell};
+ghost use Rattle.bohm_types.specs.Limits.{most_keys};
 
 use crate::wanted::count;
 use bohm_board::Batch;
 use bohm_place::{DeclaredSet, Source};
-use bohm_tree::{Cell, MOST_KEYS};
 use bohm_txn::{Outcome, Scratch, eval};
+use bohm_types::{Cell, MOST_KEYS};
 
 /// Copies the base's cells of the accesses that take the version before the batch, each to its
 /// key's index.
 fn add_base(batch: &Batch, t: u32, set: DeclaredSet, cells: &mut [Cell])
     requires inside { IsIn batch.now t }
     requires paired { length (accesses_in set batch.now t) ≡ length cells.old }
-    requires few { length cells.old ≤ 16 }
+    requires few { length cells.old ≤ most_keys }
     requires found { AreFound batch.now (accesses_in set batch.now t) cells.old }
     ensures { (x : Txn) → txn_at batch.now t ≡ Some x →
         AreCellsOf batch.now (keys_in set x) (accesses_in set batch.now t) cells.new }

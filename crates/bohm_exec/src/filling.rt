@@ -3,8 +3,8 @@
 ghost use Rattle.std.specs.Prelude.{◌≡◌};
 ghost use Rattle.bohm_board.specs.Batches.{IsRightOutcome};
 ghost use Rattle.bohm_exec.specs.Handed.{AreRightSlots};
-ghost use Rattle.bohm_exec.specs.Turns.{HasClaimed, Turns, batch_on};
-ghost use Rattle.bohm_exec.specs.declared.turns.Turned.TheVariants.{Done};
+ghost use Rattle.bohm_exec.specs.Steps.{HasClaimed, Steps, batch_on};
+ghost use Rattle.bohm_exec.specs.declared.step.Step.TheVariants.{Done};
 
 use crate::sweeper::Sweeper;
 use bohm_board::Slot;
@@ -16,7 +16,7 @@ impl<G> Sweeper<'_, '_, G> {
         requires claimed { HasClaimed self.old.stepper t }
         requires outcome { IsRightOutcome (batch_on self.old.stepper) t outcome }
         requires all { AreRightSlots (batch_on self.old.stepper) t self.old.evaluator.scratch.now }
-        ensures turn { Turns self.old.stepper t Done self.new.stepper }
+        ensures step_on { Steps self.old.stepper t Done self.new.stepper }
         ensures stack { self.new.stack.now ≡ self.old.stack.now }
     {
         let board = self.stepper.board;

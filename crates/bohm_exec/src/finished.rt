@@ -5,8 +5,8 @@ ghost use Rattle.bohm_board.specs.Batches.{IsIn, first_of, txns_of};
 ghost use Rattle.bohm_board.specs.Closings.{batch_of_closed, IsFinished};
 
 use bohm_board::{Batch, Closed, Slot};
-use bohm_tree::Cell;
 use bohm_txn::Outcome;
+use bohm_types::Cell;
 
 /// A batch whose positions have all been evaluated: its results are the serial run's. Only
 /// `complete` makes one.

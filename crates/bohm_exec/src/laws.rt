@@ -2,8 +2,8 @@
 
 ghost use Rattle.std.specs.Prelude.{◌≡◌, ℕ, ◌+◌, ◌-◌, ◌%◌, ◌<◌, ◌≤◌, List, All, Contains, count_by};
 ghost use Rattle.std.specs.Prelude.{Some, ◌↔◌, slice_get};
-ghost use Rattle.bohm_tree.specs.declared.cell.Cell.{Cell};
-ghost use Rattle.bohm_tree.specs.Txn.{Txn};
+ghost use Rattle.bohm_types.specs.declared.cell.Cell.{Cell};
+ghost use Rattle.bohm_types.specs.Txn.{Txn};
 ghost use Rattle.bohm_txn.specs.declared.outcome.Outcome.{Outcome};
 ghost use Rattle.bohm_txn.specs.Sure.{IsSure};
 ghost use Rattle.bohm_place.specs.declared.access.Access.{Access};

@@ -12,12 +12,12 @@ mod finished;
 mod gate;
 pub mod laws;
 mod lookup;
-mod pursuit;
+mod on_demand;
 mod shares;
+mod step;
 mod stepper;
 mod sweeper;
 mod sweeping;
-mod turns;
 mod wanted;
 
 pub use aside::Aside;

@@ -4,13 +4,13 @@ ghost use Rattle.std.specs.Prelude.{◌≡◌, IfSome, IsNone};
 ghost use Rattle.bohm_board.specs.Batches.{accesses_in};
 ghost use Rattle.bohm_board.specs.Passes.{KnowsWanted};
 ghost use Rattle.bohm_exec.specs.Handed.{WantsAllOf, KnowsAll, AreFound, IsReady};
-ghost use Rattle.bohm_exec.specs.Turns.{IsMissing, IsPassFor, Looks, batch_on, seen_by};
+ghost use Rattle.bohm_exec.specs.Steps.{IsMissing, IsPassFor, Looks, batch_on, seen_by};
 
 use crate::stepper::Stepper;
 use crate::sweeper::Sweeper;
 use crate::wanted::{count, slot_at};
 use bohm_place::DeclaredSet;
-use bohm_tree::{Cell, MOST_KEYS};
+use bohm_types::{Cell, MOST_KEYS};
 
 impl Stepper<'_, '_> {
     /// Copies the cells of the accesses of a declared set that take a version of the batch, each to

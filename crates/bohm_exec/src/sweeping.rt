@@ -4,15 +4,15 @@ ghost use Rattle.std.specs.Prelude.{◌≡◌, All, IfOk, OnErr};
 ghost use Rattle.bohm_board.specs.Batches.{IsIn};
 ghost use Rattle.bohm_board.specs.Passes.{Keeps, batch_of, view};
 ghost use Rattle.bohm_exec.specs.Asides.{IsAccountedFor, IsLedToBusy, IsPickedFrom, positions_in};
-ghost use Rattle.bohm_exec.specs.Turns.{IsFree};
+ghost use Rattle.bohm_exec.specs.Steps.{IsFree};
 
 use crate::aside::Aside;
 use crate::gate::Gate;
 use crate::stepper::Stepper;
 use crate::sweeper::Sweeper;
 use bohm_board::{Board, Pass};
-use bohm_tree::NoMemory;
 use bohm_txn::Scratch;
+use bohm_types::NoMemory;
 use std::alloc::Global;
 
 /// Evaluates the positions of the share, in its order, each after all that it leads to. If another

@@ -3,6 +3,7 @@
 ghost use Rattle.std.specs.Prelude.{◌≡◌, ◌<◌, ◌≤◌, length};
 ghost use Rattle.bohm_board.specs.Batches.{accesses_in, IsIn};
 ghost use Rattle.bohm_exec.specs.Handed.{TakesSlot};
+ghost use Rattle.bohm_types.specs.Limits.{most_keys};
 
 use bohm_board::{Batch, Slot};
 use bohm_place::{DeclaredSet, Source};
@@ -11,7 +12,7 @@ use bohm_place::{DeclaredSet, Source};
 pub(crate) fn count(batch: &Batch, t: u32, set: DeclaredSet) -> usize
     requires { IsIn batch.now t }
     ensures all { result ≡ length (accesses_in set batch.now t) }
-    ensures few { result ≤ 16 }
+    ensures few { result ≤ most_keys }
 {
     set.keys(&batch.txn(t)).len()
 }

@@ -1,5 +1,6 @@
 -- Depths in bands: which band a depth is in, how many bands there are, and how deep the deepest is.
-use Rattle.std.proofs.Common.{◌≡◌, ◌∙◌, ℕ, zero, suc, ◌+◌, ◌-◌, ◌*◌, ◌/◌, ◌%◌, ◌<◌, ◌≤◌, min, List, [], ◌∷◌, length, get_or, set, take, count_by, All, true, false, sym, ap, subst, ⊎_elim, arith}
+use Rattle.std.proofs.Common.{◌≡◌, ◌∙◌, ℕ, zero, suc, ◌+◌, ◌-◌, ◌*◌, ◌/◌, ◌%◌, ◌<◌, ◌≤◌, min, List, [], ◌∷◌}
+use Rattle.std.proofs.Common.{length, get_or, set, take, count_by, All, true, false, sym, ap, subst, ⊎_elim, arith}
 use Rattle.std.proofs.Math.Nat.{mod-lt}
 use Rattle.std.proofs.lemmas.Bool.{cases_eq, cases_lt, cases_order, le-leb, lt-leb, and_from, and_left, and_right}
 use Rattle.std.proofs.lemmas.Grind.{div_ceil_times}
@@ -50,10 +51,14 @@ module _ (deepest width : ℕ) (ds : List ℕ) (each : All (IsBetween 1 deepest)
       let (least, most) = each i 0 inside in
       let wide : 0 < width = omega (arith, least, most) in
       let whole : q * width + (d - 1) % width ≡ d - 1 = div-add-mod' (d - 1) width in
-      ⊎_elim (λ (below : q < 200). below) (λ (above : 200 ≤ q). let more : 200 * width ≤ q * width = mul-le 200 width q width above (omega arith) in absurd (omega (arith, least, most))) (cases_lt q 200)
+      ⊎_elim (λ (below : q < 200). below)
+      (λ (above : 200 ≤ q). let more : 200 * width ≤ q * width = mul-le 200 width q width above (omega arith) in absurd (omega (arith, least, most)))
+      (cases_lt q 200)
 
-  pub counted : (counts : List ℕ) (i : ℕ) → i < length ds → length counts ≡ 200 → ((k : ℕ) → k < 200 → get_or counts k 0 ≡ count_by (is_in (band_at deepest width k)) (take i ds))
-      → (k : ℕ) → k < 200 → get_or (set counts ((get_or ds i 0 - 1) / width) (get_or counts ((get_or ds i 0 - 1) / width) 0 + 1)) k 0 ≡ count_by (is_in (band_at deepest width k)) (take (i + 1) ds)
+  pub counted : (counts : List ℕ) (i : ℕ) → i < length ds → length counts ≡ 200
+      → ((k : ℕ) → k < 200 → get_or counts k 0 ≡ count_by (is_in (band_at deepest width k)) (take i ds))
+      → (k : ℕ) → k < 200 → get_or (set counts ((get_or ds i 0 - 1) / width) (get_or counts ((get_or ds i 0 - 1) / width) 0 + 1)) k 0 ≡ count_by
+      (is_in (band_at deepest width k)) (take (i + 1) ds)
   counted counts i inside long before k few =
       let d : ℕ = get_or ds i 0 in
       let q : ℕ = (d - 1) / width in
@@ -62,10 +67,13 @@ module _ (deepest width : ℕ) (ds : List ℕ) (each : All (IsBetween 1 deepest)
       let there : q < length counts = omega (arith, long, band_below i inside) in
       ⊎_elim
       (λ (same : k ≡ q).
-      let here : get_or (set counts q (get_or counts q 0 + 1)) k 0 ≡ get_or counts k 0 + 1 = rw same (get_or-set_same counts q (get_or counts q 0 + 1) 0 there) in
-      here ∙ (ap (λ (n : ℕ). n + 1) (before k few) ∙ sym (count_by_more_yes (is_in (band_at deepest width k)) ds i 0 inside (in_band deepest width k d wide least most (sym same)))))
+      let here : get_or (set counts q (get_or counts q 0 + 1)) k 0 ≡ get_or counts k 0 + 1 =
+      rw same (get_or-set_same counts q (get_or counts q 0 + 1) 0 there) in
+      here ∙ (ap (λ (n : ℕ). n + 1) (before k few)
+      ∙ sym (count_by_more_yes (is_in (band_at deepest width k)) ds i 0 inside (in_band deepest width k d wide least most (sym same)))))
       (λ (apart : ¬ (k ≡ q)).
-      get_or-set_other counts q k (get_or counts q 0 + 1) 0 apart ∙ (before k few ∙ sym (count_by_more_no (is_in (band_at deepest width k)) ds i 0 inside (outside deepest width k d wide least most (λ same. apart (sym same))))))
+      get_or-set_other counts q k (get_or counts q 0 + 1) 0 apart ∙ (before k few
+      ∙ sym (count_by_more_no (is_in (band_at deepest width k)) ds i 0 inside (outside deepest width k d wide least most (λ same. apart (sym same))))))
       (cases_eq k q)
 
 -- ---- so few bands
@@ -74,7 +82,9 @@ pub few_bands : (deepest width : ℕ) → 0 < width → deepest ≤ width * 200 
 few_bands deepest width wide deep =
     let count : ℕ = deepest / width + min 1 (deepest % width) in
     let short : count * width < deepest + width = (div_ceil_times deepest width wide).1 in
-    ⊎_elim (λ (below : count < 201). let few : count ≤ 200 = omega arith in few) (λ (above : 201 ≤ count). let more : 201 * width ≤ count * width = mul-le 201 width count width above (omega arith) in absurd (omega arith)) (cases_lt count 201)
+    ⊎_elim (λ (below : count < 201). let few : count ≤ 200 = omega arith in few)
+    (λ (above : 201 ≤ count). let more : 201 * width ≤ count * width = mul-le 201 width count width above (omega arith) in absurd (omega arith))
+    (cases_lt count 201)
 
 -- ---- the deepest
 

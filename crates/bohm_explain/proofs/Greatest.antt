@@ -10,14 +10,16 @@ abbrev pub picked : (Arrow → ℕ) → (Arrow → ℕ) → (ℕ → ℕ) → Li
 picked here there number arrows p = greatest (map (λ a. number (there a)) (filter (λ a. here a == p) arrows))
 
 module _ (here there : Arrow → ℕ) where
-  pub taken : (number : ℕ → ℕ) (a : Arrow) (rest : List Arrow) (p : ℕ) → here a ≡ p → picked here there number (a ∷ rest) p ≡ max (number (there a)) (picked here there number rest p)
+  pub taken : (number : ℕ → ℕ) (a : Arrow) (rest : List Arrow) (p : ℕ) → here a ≡ p
+      → picked here there number (a ∷ rest) p ≡ max (number (there a)) (picked here there number rest p)
   taken number a rest p is = rw (eq-eqb (here a) p is) refl
 
   pub passed : (number : ℕ → ℕ) (a : Arrow) (rest : List Arrow) (p : ℕ) → here a ≢ p → picked here there number (a ∷ rest) p ≡ picked here there number rest p
   passed number a rest p isnt = rw (ne_eqb (here a) p isnt) refl
 
   -- two ways to number agree on one arrow more
-  pub agrees : (f g : ℕ → ℕ) (a : Arrow) (rest : List Arrow) (p : ℕ) → (here a ≡ p → f (there a) ≡ g (there a)) → picked here there f rest p ≡ picked here there g rest p → picked here there f (a ∷ rest) p ≡ picked here there g (a ∷ rest) p
+  pub agrees : (f g : ℕ → ℕ) (a : Arrow) (rest : List Arrow) (p : ℕ) → (here a ≡ p → f (there a) ≡ g (there a))
+      → picked here there f rest p ≡ picked here there g rest p → picked here there f (a ∷ rest) p ≡ picked here there g (a ∷ rest) p
   agrees f g a rest p same before = ⊎_elim at_p elsewhere (cases_eq (here a) p)
     where
       at_p : here a ≡ p → picked here there f (a ∷ rest) p ≡ picked here there g (a ∷ rest) p
@@ -27,7 +29,8 @@ module _ (here there : Arrow → ℕ) where
       elsewhere isnt = passed f a rest p isnt ∙ (before ∙ sym (passed g a rest p isnt))
 
   -- where no number is above m, the greatest isn't
-  no_more : (number : ℕ → ℕ) (m : ℕ) (a : Arrow) (rest : List Arrow) (p : ℕ) → number (there a) ≤ m → picked here there number rest p ≤ m → picked here there number (a ∷ rest) p ≤ m
+  no_more : (number : ℕ → ℕ) (m : ℕ) (a : Arrow) (rest : List Arrow) (p : ℕ) → number (there a) ≤ m → picked here there number rest p ≤ m
+      → picked here there number (a ∷ rest) p ≤ m
   no_more number m a rest p low before = ⊎_elim at_p elsewhere (cases_eq (here a) p)
     where
       at_p : here a ≡ p → picked here there number (a ∷ rest) p ≤ m

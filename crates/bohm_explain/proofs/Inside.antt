@@ -2,7 +2,7 @@
 use Rattle.std.proofs.Common.{◌≡◌, ℕ, zero, suc, ◌<◌, ◌≤◌, List, [], ◌∷◌, All, Bool, true, false, cond, Option, Some, None, option_map, refl, arith}
 use Rattle.std.specs.List.{filter_map, cons_option}
 use Rattle.std.proofs.lemmas.List.Elements.{All-append}
-use Rattle.bohm_tree.specs.Txn.{Txn}
+use Rattle.bohm_types.specs.Txn.{Txn}
 use Rattle.bohm_place.specs.declared.declared_set.DeclaredSet.TheVariants.{Reads, Writes}
 use Rattle.bohm_explain.specs.declared.arrow.Arrow.{Arrow}
 use Rattle.bohm_explain.specs.Heaviest.{IsInside}
@@ -28,7 +28,8 @@ below txns k (suc p) f is = by (writes_at txns k p) is (below txns k p f)
     by false e lower = let lt : f < p = lower e in omega arith
 
 module _ (txns : List Txn) (n p : ℕ) (inside : p < n) where
-  one : (k : List ℕ) (o : Option ℕ) (rest : List Arrow) → newest_before txns k p ≡ o → All (IsForward n) rest → All (IsForward n) (cons_option (option_map (λ f. record { from = f; to = p; key = k }) o) rest)
+  one : (k : List ℕ) (o : Option ℕ) (rest : List Arrow) → newest_before txns k p ≡ o → All (IsForward n) rest
+      → All (IsForward n) (cons_option (option_map (λ f. record { from = f; to = p; key = k }) o) rest)
   one k None rest is h = h
   one k (Some f) rest is h = all_cons (IsForward n) (record { from = f; to = p; key = k }) rest (below txns k p f is, inside) h
 
@@ -41,11 +42,13 @@ module _ (txns : List Txn) (n p : ℕ) (inside : p < n) where
   for_writes false = for_keys (keys_at Writes txns p)
 
   pub at_position : All (IsForward n) (arrows_at txns p)
-  at_position = All-append (IsForward n) (filter_map (arrow_of txns p) (keys_at Reads txns p)) (cond (is_sure_at txns p) [] (filter_map (arrow_of txns p) (keys_at Writes txns p))) (for_keys (keys_at Reads txns p)) (for_writes (is_sure_at txns p))
+  at_position = All-append (IsForward n) (filter_map (arrow_of txns p) (keys_at Reads txns p))
+      (cond (is_sure_at txns p) [] (filter_map (arrow_of txns p) (keys_at Writes txns p))) (for_keys (keys_at Reads txns p)) (for_writes (is_sure_at txns p))
 
 pub forward_below : (txns : List Txn) (n p : ℕ) → p ≤ n → All (IsForward n) (arrows_below txns p)
 forward_below txns n zero le = none (IsForward n)
-forward_below txns n (suc p) le = All-append (IsForward n) (arrows_below txns p) (arrows_at txns p) (forward_below txns n p (omega arith)) (at_position txns n p (omega arith))
+forward_below txns n (suc p) le = All-append (IsForward n) (arrows_below txns p) (arrows_at txns p) (forward_below txns n p (omega arith))
+    (at_position txns n p (omega arith))
 
 pub inside_below : (txns : List Txn) (n p : ℕ) → p ≤ n → All (IsInside n) (arrows_below txns p)
 inside_below txns n p le i d few =

@@ -1,5 +1,6 @@
 -- The first key on the longest chain, one heat more.
-use Rattle.std.proofs.Common.{◌≡◌, ◌≢◌, ◌∙◌, ℕ, zero, suc, ◌+◌, ◌<◌, ◌≤◌, max, List, [], ◌∷◌, ◌++◌, take, length, get_or, Bool, true, false, cond, eqb, Some, None, refl, sym, ap, arith}
+use Rattle.std.proofs.Common.{◌≡◌, ◌≢◌, ◌∙◌, ℕ, zero, suc, ◌+◌, ◌<◌, ◌≤◌, max, List, [], ◌∷◌, ◌++◌, take}
+use Rattle.std.proofs.Common.{length, get_or, Bool, true, false, cond, eqb, Some, None, refl, sym, ap, arith}
 use Rattle.std.specs.List.{find}
 use Rattle.std.proofs.lemmas.List.{take_more}
 use Rattle.std.proofs.lemmas.List.Folds.{find-append}
@@ -22,7 +23,8 @@ reached : (xs : List Heat) (n : ℕ) → 0 < n → n ≡ longest xs → (y : Hea
 reached [] n some is = absurd (omega (arith, some, is))
 reached (x ∷ xs) n some is = by (eqb x.chain n) refl (reached xs n some)
   where
-    by : (b : Bool) → eqb x.chain n ≡ b → (n ≡ longest xs → (y : Heat) × (find (λ h. eqb h.chain n) xs ≡ Some y)) → (y : Heat) × (cond b (Some x) (find (λ h. eqb h.chain n) xs) ≡ Some y)
+    by : (b : Bool) → eqb x.chain n ≡ b → (n ≡ longest xs → (y : Heat) × (find (λ h. eqb h.chain n) xs ≡ Some y))
+        → (y : Heat) × (cond b (Some x) (find (λ h. eqb h.chain n) xs) ≡ Some y)
     by true e lower = (x, refl)
     by false e lower = let apart : x.chain ≢ n = λ same. let h = rw same at e in grind (arith, h) in lower (omega (arith, apart, is))
 
@@ -37,7 +39,8 @@ module _ (xs : List Heat) (h : Heat) where
   leads lt =
       let some : eqb h.chain 0 ≡ false = grind (arith, lt) in
       let itself : eqb h.chain h.chain ≡ true = grind arith in
-      let found : find (λ g. eqb g.chain h.chain) (xs ++ h ∷ []) ≡ Some h = find-append (λ g. eqb g.chain h.chain) xs (h ∷ []) ∙ rw (above xs h.chain lt, itself) refl in
+      let found : find (λ g. eqb g.chain h.chain) (xs ++ h ∷ []) ≡ Some h =
+      find-append (λ g. eqb g.chain h.chain) xs (h ∷ []) ∙ rw (above xs h.chain lt, itself) refl in
       rw (longest_taken lt, some) found
 
   stays : h.chain ≤ longest xs → leading (xs ++ h ∷ []) ≡ leading xs
@@ -47,7 +50,8 @@ module _ (xs : List Heat) (h : Heat) where
       by zero e kept = rw (kept, e) refl
       by (suc n) e kept =
           let y = reached xs (suc n) (omega arith) (sym e) in
-          let found : find (λ g. eqb g.chain (suc n)) (xs ++ h ∷ []) ≡ find (λ g. eqb g.chain (suc n)) xs = find-append (λ g. eqb g.chain (suc n)) xs (h ∷ []) ∙ rw y.1 refl in
+          let found : find (λ g. eqb g.chain (suc n)) (xs ++ h ∷ []) ≡ find (λ g. eqb g.chain (suc n)) xs =
+          find-append (λ g. eqb g.chain (suc n)) xs (h ∷ []) ∙ rw y.1 refl in
           let some : eqb (suc n) 0 ≡ false = grind arith in
           rw (kept, e, some) found
 

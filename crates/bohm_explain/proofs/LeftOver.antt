@@ -1,5 +1,6 @@
 -- What is drawn beside the bands, and what is left for them.
-use Rattle.std.proofs.Common.{◌≡◌, ℕ, zero, suc, ◌==◌, ◌<◌, ◌≤◌, Bool, true, false, Some, List, [], ◌∷◌, ◌++◌, length, slice_index, All, length-append, if◌then◌else◌, refl, subst, arith}
+use Rattle.std.proofs.Common.{◌≡◌, ℕ, zero, suc, ◌==◌, ◌<◌, ◌≤◌, Bool, true, false, Some, List, [], ◌∷◌, ◌++◌}
+use Rattle.std.proofs.Common.{length, slice_index, All, length-append, if◌then◌else◌, refl, subst, arith}
 use Rattle.std.specs.List.{find, list_any}
 use Rattle.std.proofs.lemmas.List.Elements.{All-append}
 use Rattle.bohm_explain.specs.declared.arrow.Arrow.{Arrow}

@@ -7,7 +7,8 @@ module _ (start a b c : List ℕ) where
   three out1 out2 out3 is1 is2 is3 = one_more start (a ++ b) c out2 out3 (one_more start a b out1 out2 is1 is2) is3
 
   module _ (d e f g h i j : List ℕ) where
-    pub ten : (out1 out2 out3 out4 out5 out6 out7 out8 out9 out10 : List ℕ) → out1 ≡ start ++ a → out2 ≡ out1 ++ b → out3 ≡ out2 ++ c → out4 ≡ out3 ++ d → out5 ≡ out4 ++ e → out6 ≡ out5 ++ f → out7 ≡ out6 ++ g → out8 ≡ out7 ++ h → out9 ≡ out8 ++ i → out10 ≡ out9 ++ j
+    pub ten : (out1 out2 out3 out4 out5 out6 out7 out8 out9 out10 : List ℕ) → out1 ≡ start ++ a → out2 ≡ out1 ++ b → out3 ≡ out2 ++ c → out4 ≡ out3 ++ d
+        → out5 ≡ out4 ++ e → out6 ≡ out5 ++ f → out7 ≡ out6 ++ g → out8 ≡ out7 ++ h → out9 ≡ out8 ++ i → out10 ≡ out9 ++ j
         → out10 ≡ start ++ (a ++ b ++ c ++ d ++ e ++ f ++ g ++ h ++ i ++ j)
     ten out1 out2 out3 out4 out5 out6 out7 out8 out9 out10 is1 is2 is3 is4 is5 is6 is7 is8 is9 is10 =
         let to3 = three out1 out2 out3 is1 is2 is3 in

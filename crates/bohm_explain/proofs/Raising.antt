@@ -8,13 +8,17 @@ use Rattle.bohm_explain.specs.Heats.{Chained, chain_in, chain_of}
 use Rattle.bohm_explain.specs.Tallies.{raised}
 
 raised_twice : (t : Tally) (m n : ℕ) → raised (raised t m) n ≡ raised t (max m n)
-raised_twice t m n = let same : max (max t.chain m) n ≡ max t.chain (max m n) = omega arith in ap (λ (c : ℕ). record { writers = t.writers; readers = t.readers; chain = c }) same
+raised_twice t m n =
+    let same : max (max t.chain m) n ≡ max t.chain (max m n) = omega arith in
+    ap (λ (c : ℕ). record { writers = t.writers; readers = t.readers; chain = c }) same
 
-raised_by : (k : List ℕ) (a : Arrow) (n : ℕ) (rest : Chained) (old new : Tally) (b : Bool) → bytes_eq a.key k ≡ b → new ≡ (if b then raised old n else old) → raised new (chain_in k rest) ≡ raised old (chain_in k ((a, n) ∷ rest))
+raised_by : (k : List ℕ) (a : Arrow) (n : ℕ) (rest : Chained) (old new : Tally) (b : Bool) → bytes_eq a.key k ≡ b → new ≡ (if b then raised old n else old)
+    → raised new (chain_in k rest) ≡ raised old (chain_in k ((a, n) ∷ rest))
 raised_by k a n rest old new true e is = rw (is, e) (raised_twice old n (chain_in k rest))
 raised_by k a n rest old new false e is = rw (is, e) refl
 
-pub raised_arrow : (k : List ℕ) (a : Arrow) (n : ℕ) (rest : Chained) (old new : Tally) → new ≡ (if bytes_eq a.key k then raised old n else old) → raised new (chain_in k rest) ≡ raised old (chain_in k ((a, n) ∷ rest))
+pub raised_arrow : (k : List ℕ) (a : Arrow) (n : ℕ) (rest : Chained) (old new : Tally) → new ≡ (if bytes_eq a.key k then raised old n else old)
+    → raised new (chain_in k rest) ≡ raised old (chain_in k ((a, n) ∷ rest))
 raised_arrow k a n rest old new is = raised_by k a n rest old new (bytes_eq a.key k) refl is
 
 -- where one list has ended no arrow is left
@@ -33,4 +37,5 @@ pub chain_push : (k : List ℕ) (batches : List Chained) (batch : Chained) → c
 chain_push k [] batch = let same : max (chain_in k batch) 0 ≡ max 0 (chain_in k batch) = omega arith in same
 chain_push k (b ∷ bs) batch =
     let rest = chain_push k bs batch in
-    rw rest (let same : max (chain_in k b) (max (chain_of k bs) (chain_in k batch)) ≡ max (max (chain_in k b) (chain_of k bs)) (chain_in k batch) = omega arith in same)
+    rw rest (let same : max (chain_in k b) (max (chain_of k bs) (chain_in k batch)) ≡ max (max (chain_in k b) (chain_of k bs)) (chain_in k batch) =
+    omega arith in same)

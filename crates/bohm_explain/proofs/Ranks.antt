@@ -20,7 +20,8 @@ use Rattle.bohm_explain.specs.declared.heat.Heat.{Heat}
 use Rattle.bohm_explain.specs.Ranking.{accesses, rank_cmp, IsHotter, IsRanking}
 
 pub in_order : IsTotalOrder rank_cmp
-in_order = then_total (then_total (back_total (on_total accesses nat_cmp_total)) (back_total (on_total (λ h. h.chain) nat_cmp_total))) (on_total (λ h. h.key) nat_list_cmp_total)
+in_order = then_total (then_total (back_total (on_total accesses nat_cmp_total)) (back_total (on_total (λ h. h.chain) nat_cmp_total)))
+    (on_total (λ h. h.key) nat_list_cmp_total)
 
 pub weakly : IsStrictWeakOrder (λ x y. is_lt (rank_cmp x y))
 weakly = ranks_by in_order (λ h. h)
@@ -49,8 +50,10 @@ strictly xs sorted distinct i j d before inside =
     let h = get_or xs i d in
     let g = get_or xs j d in
     let keys : AllPairs (λ (x y : List ℕ). x ≢ y) (map (λ (h : Heat). h.key) xs) = AllPairs-from_IsDistinct bytes_eq-Decides (map (λ h. h.key) xs) distinct in
-    let apart : h.key ≢ g.key = λ same. keys i j d.key before (rw (length-map xs (λ (h : Heat). h.key)) inside) (get_or-map (λ (h : Heat). h.key) xs i d ∙ (same ∙ sym (get_or-map (λ (h : Heat). h.key) xs j d))) in
-    hotter_of (rank_cmp h g) (rank_cmp g h) (in_order.antisymm h g) (sorted_far (λ x y. is_lt (rank_cmp x y)) weakly xs sorted i j d (omega (arith, before)) inside) (λ ties. apart (same_keys h g ties))
+    let apart : h.key ≢ g.key = λ same. keys i j d.key before (rw (length-map xs (λ (h : Heat). h.key)) inside)
+    (get_or-map (λ (h : Heat). h.key) xs i d ∙ (same ∙ sym (get_or-map (λ (h : Heat). h.key) xs j d))) in
+    hotter_of (rank_cmp h g) (rank_cmp g h) (in_order.antisymm h g)
+    (sorted_far (λ x y. is_lt (rank_cmp x y)) weakly xs sorted i j d (omega (arith, before)) inside) (λ ties. apart (same_keys h g ties))
 
 pub moved_apart : (xs ys : List Heat) → IsPermutation xs ys → IsDistinct bytes_eq (map (λ h. h.key) xs) → IsDistinct bytes_eq (map (λ h. h.key) ys)
 moved_apart xs ys moved distinct = IsDistinct-IsPermutation bytes_eq nat_list_eq_equiv.symm _ _ (IsPermutation-map (λ h. h.key) xs ys moved) distinct
@@ -58,7 +61,10 @@ moved_apart xs ys moved distinct = IsDistinct-IsPermutation bytes_eq nat_list_eq
 -- ---- one list
 
 one_way : (h g : Heat) → IsHotter h g → IsHotter g h → ⊥
-one_way h g first second = let flip : rank_cmp h g ≡ Greater = in_order.antisymm h g ∙ ap ordering_reverse second in let clash : Less ≡ Greater = sym first ∙ flip in absurd cc
+one_way h g first second =
+    let flip : rank_cmp h g ≡ Greater = in_order.antisymm h g ∙ ap ordering_reverse second in
+    let clash : Less ≡ Greater = sym first ∙ flip in
+    absurd cc
 
 tail_pairs : (x : Heat) (xs : List Heat) → AllPairs IsHotter (x ∷ xs) → AllPairs IsHotter xs
 tail_pairs x xs all i j d before inside = all (suc i) (suc j) d (omega (arith, before)) (omega (arith, inside))
@@ -91,7 +97,8 @@ module _ (x y : Heat) (xs ys : List Heat) (hot : AllPairs IsHotter (x ∷ xs)) w
       absurd (one_way x x hotter hotter)
   behind same z there (inr a) = a
 
-pub one_order : (xs ys : List Heat) → AllPairs IsHotter xs → AllPairs IsHotter ys → ((z : Heat) → Contains xs z → Contains ys z) → ((z : Heat) → Contains ys z → Contains xs z) → xs ≡ ys
+pub one_order : (xs ys : List Heat) → AllPairs IsHotter xs → AllPairs IsHotter ys → ((z : Heat) → Contains xs z → Contains ys z)
+    → ((z : Heat) → Contains ys z → Contains xs z) → xs ≡ ys
 one_order [] [] hot other into from = refl
 one_order [] (y ∷ ys) hot other into from = absurd (empty y (from y (first y ys)))
 one_order (x ∷ xs) [] hot other into from = absurd (empty x (into x (first x xs)))
@@ -99,7 +106,9 @@ one_order (x ∷ xs) (y ∷ ys) hot other into from =
     let among_ys : (z : Heat) → Contains (x ∷ xs) z → (y ≡ z) ⊎ Contains ys z = λ z there. let found = into z there in split y ys z found.0 found.1 found.2 in
     let among_xs : (z : Heat) → Contains (y ∷ ys) z → (x ≡ z) ⊎ Contains xs z = λ z there. let found = from z there in split x xs z found.0 found.1 found.2 in
     let same : x ≡ y = heads x y xs ys hot other (among_ys x (first x xs)) (among_xs y (first y ys)) in
-    let rest : xs ≡ ys = one_order xs ys (tail_pairs x xs hot) (tail_pairs y ys other) (λ z there. behind x y xs ys hot same z there (among_ys z (later x xs z there))) (λ z there. behind y x ys xs other (sym same) z there (among_xs z (later y ys z there))) in
+    let rest : xs ≡ ys = one_order xs ys (tail_pairs x xs hot) (tail_pairs y ys other)
+    (λ z there. behind x y xs ys hot same z there (among_ys z (later x xs z there)))
+    (λ z there. behind y x ys xs other (sym same) z there (among_xs z (later y ys z there))) in
     λ i. same i ∷ rest i
 
 pub one_ranking : (heats ranked other : List Heat) → IsRanking heats ranked → IsRanking heats other → ranked ≡ other

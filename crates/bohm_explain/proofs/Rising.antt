@@ -1,7 +1,8 @@
 -- The arrows of a batch lead upwards, in the order of the positions that want them.
-use Rattle.std.proofs.Common.{◌≡◌, ℕ, zero, suc, ◌≤◌, List, [], ◌∷◌, ◌++◌, length, All, Bool, true, false, cond, Option, Some, None, option_map, refl, sym, subst, arith}
+use Rattle.std.proofs.Common.{◌≡◌, ℕ, zero, suc, ◌≤◌, List, [], ◌∷◌, ◌++◌, length, All, Bool, true}
+use Rattle.std.proofs.Common.{false, cond, Option, Some, None, option_map, refl, sym, subst, arith}
 use Rattle.std.specs.List.{filter_map, cons_option}
-use Rattle.bohm_tree.specs.Txn.{Txn}
+use Rattle.bohm_types.specs.Txn.{Txn}
 use Rattle.bohm_place.specs.declared.declared_set.DeclaredSet.TheVariants.{Reads, Writes}
 use Rattle.bohm_explain.specs.declared.arrow.Arrow.{Arrow}
 use Rattle.bohm_explain.specs.Heaviest.{AreChainable, IsInside, AreRising}
@@ -20,7 +21,8 @@ joined n m (a ∷ rest) ys le rises inside after =
     (rises.0, rises.1, joined a.to m rest ys most rises.2 (λ i d lt. inside (suc i) d (omega arith)) after)
 
 module _ (txns : List Txn) (p : ℕ) where
-  one : (k : List ℕ) (o : Option ℕ) (rest : List Arrow) → newest_before txns k p ≡ o → AreRising p rest → AreRising p (cons_option (option_map (λ f. record { from = f; to = p; key = k }) o) rest)
+  one : (k : List ℕ) (o : Option ℕ) (rest : List Arrow) → newest_before txns k p ≡ o → AreRising p rest
+      → AreRising p (cons_option (option_map (λ f. record { from = f; to = p; key = k }) o) rest)
   one k None rest is h = h
   one k (Some f) rest is h = (omega arith, below txns k p f is, h)
 
@@ -38,19 +40,24 @@ module _ (txns : List Txn) (p : ℕ) where
   for_writes false = for_keys (keys_at Writes txns p)
 
   pub at_position : AreRising p (arrows_at txns p)
-  at_position = joined p p (filter_map (arrow_of txns p) (keys_at Reads txns p)) (cond (is_sure_at txns p) [] (filter_map (arrow_of txns p) (keys_at Writes txns p))) (omega arith) (for_keys (keys_at Reads txns p)) (all_to (keys_at Reads txns p)) (for_writes (is_sure_at txns p))
+  at_position = joined p p (filter_map (arrow_of txns p) (keys_at Reads txns p))
+      (cond (is_sure_at txns p) [] (filter_map (arrow_of txns p) (keys_at Writes txns p))) (omega arith) (for_keys (keys_at Reads txns p))
+      (all_to (keys_at Reads txns p)) (for_writes (is_sure_at txns p))
 
 rising_below : (txns : List Txn) (p : ℕ) → AreRising zero (arrows_below txns p)
 rising_below txns zero = tt
-rising_below txns (suc p) = joined zero p (arrows_below txns p) (arrows_at txns p) (omega arith) (rising_below txns p) (inside_below txns (suc p) p (omega arith)) (at_position txns p)
+rising_below txns (suc p) = joined zero p (arrows_below txns p) (arrows_at txns p) (omega arith) (rising_below txns p)
+    (inside_below txns (suc p) p (omega arith)) (at_position txns p)
 
 pub rising : (txns : List Txn) → AreRising zero (arrows txns)
 rising txns = rising_below txns (length txns)
 
 -- with any weights that are light enough
-pub chainable : (txns : List Txn) (weights : List ℕ) (wanted : List Arrow) → length txns ≤ 4096 → length weights ≡ length txns → All (λ w. w ≤ 3072) weights → wanted ≡ arrows txns → length wanted ≤ 131072 → AreChainable weights wanted
+pub chainable : (txns : List Txn) (weights : List ℕ) (wanted : List Arrow) → length txns ≤ 4096 → length weights ≡ length txns → All (λ w. w ≤ 3072) weights
+    → wanted ≡ arrows txns → length wanted ≤ 131072 → AreChainable weights wanted
 chainable txns weights wanted few paired light is few_arrows =
-    let inside : All (IsInside (length txns)) wanted = subst (λ (as' : List Arrow). All (IsInside (length txns)) as') (sym is) (inside_below txns (length txns) (length txns) (omega arith)) in
+    let inside : All (IsInside (length txns)) wanted =
+    subst (λ (as' : List Arrow). All (IsInside (length txns)) as') (sym is) (inside_below txns (length txns) (length txns) (omega arith)) in
     record {
       inside = subst (λ (n : ℕ). All (IsInside n) wanted) (sym paired) inside;
       rising = subst (λ (as' : List Arrow). AreRising 0 as') (sym is) (rising txns);

@@ -1,5 +1,6 @@
 -- The rule of the heaviest chains: of each position its own weight, and the greatest at the other ends of its arrows.
-use Rattle.std.proofs.Common.{◌≡◌, ℕ, zero, suc, ◌+◌, ◌-◌, ◌*◌, ◌^◌, ◌<◌, ◌≤◌, List, [], ◌∷◌, ◌++◌, length, slice_index, All, ⊎_elim, refl, sym, ap, ◌∙◌, arith, zero-add, length-append}
+use Rattle.std.proofs.Common.{◌≡◌, ℕ, zero, suc, ◌+◌, ◌-◌, ◌*◌, ◌^◌, ◌<◌, ◌≤◌, List, [], ◌∷◌, ◌++◌, length}
+use Rattle.std.proofs.Common.{slice_index, All, ⊎_elim, refl, sym, ap, ◌∙◌, arith, zero-add, length-append}
 use Rattle.std.proofs.lemmas.Bool.{cases_lt}
 use Rattle.std.proofs.lemmas.Grind.{get_or_default_zero}
 use Rattle.std.proofs.Math.ListN.{get_or-append, get_or-eq_default}
@@ -11,13 +12,15 @@ use Rattle.bohm_explain.proofs.Greatest.{agrees, bounded}
 -- ---- what counts for a position
 
 -- below it, where its arrows come from
-wanted_same : (f g : ℕ → ℕ) (p n : ℕ) (arrows : List Arrow) → AreRising n arrows → ((q : ℕ) → q < p → f q ≡ g q) → greatest_wanted f arrows p ≡ greatest_wanted g arrows p
+wanted_same : (f g : ℕ → ℕ) (p n : ℕ) (arrows : List Arrow) → AreRising n arrows → ((q : ℕ) → q < p → f q ≡ g q)
+    → greatest_wanted f arrows p ≡ greatest_wanted g arrows p
 wanted_same f g p n [] rises same = refl
 wanted_same f g p n (a ∷ rest) rises same =
     agrees (λ x. x.to) (λ x. x.from) f g a rest p (λ is. same a.from (let up = rises.1 in omega (arith, up, is))) (wanted_same f g p a.to rest rises.2 same)
 
 -- above it, where they lead to
-wanting_same : (f g : ℕ → ℕ) (p n : ℕ) (arrows : List Arrow) → AreRising n arrows → ((q : ℕ) → p < q → f q ≡ g q) → greatest_wanting f arrows p ≡ greatest_wanting g arrows p
+wanting_same : (f g : ℕ → ℕ) (p n : ℕ) (arrows : List Arrow) → AreRising n arrows → ((q : ℕ) → p < q → f q ≡ g q)
+    → greatest_wanting f arrows p ≡ greatest_wanting g arrows p
 wanting_same f g p n [] rises same = refl
 wanting_same f g p n (a ∷ rest) rises same =
     agrees (λ x. x.from) (λ x. x.to) f g a rest p (λ is. same a.to (let up = rises.1 in omega (arith, up, is))) (wanting_same f g p a.to rest rises.2 same)
@@ -36,26 +39,33 @@ module _ (weights : List ℕ) (arrows : List Arrow) where
   paired_to = length_below (length weights)
 
   -- a chain stays as it was when positions are added
-  chain_more : (n p : ℕ) → (p < n → slice_index (ending_below weights arrows n) p ≡ slice_index weights p + greatest_wanted (slice_index (ending_below weights arrows p)) arrows p) → p < suc n → slice_index (ending_below weights arrows (suc n)) p ≡ slice_index weights p + greatest_wanted (slice_index (ending_below weights arrows p)) arrows p
+  chain_more : (n p : ℕ) → (p < n → slice_index (ending_below weights arrows n) p ≡ slice_index weights p + greatest_wanted
+      (slice_index (ending_below weights arrows p)) arrows p) → p < suc n
+      → slice_index (ending_below weights arrows (suc n)) p ≡ slice_index weights p + greatest_wanted (slice_index (ending_below weights arrows p)) arrows p
   chain_more n p so_far lt = ⊎_elim before last (cases_lt p n)
     where
-      before : p < n → slice_index (ending_below weights arrows (suc n)) p ≡ slice_index weights p + greatest_wanted (slice_index (ending_below weights arrows p)) arrows p
+      before : p < n → slice_index (ending_below weights arrows (suc n)) p ≡ slice_index weights p + greatest_wanted
+          (slice_index (ending_below weights arrows p)) arrows p
       before low =
           let inside : p < length (ending_below weights arrows n) = let is = length_below n in omega (arith, is, low) in
           get_or-append (ending_below weights arrows n) _ 0 p inside ∙ so_far low
 
-      last : n ≤ p → slice_index (ending_below weights arrows (suc n)) p ≡ slice_index weights p + greatest_wanted (slice_index (ending_below weights arrows p)) arrows p
+      last : n ≤ p → slice_index (ending_below weights arrows (suc n)) p ≡ slice_index weights p + greatest_wanted
+          (slice_index (ending_below weights arrows p)) arrows p
       last high =
           let same : p ≡ n = omega (arith, high, lt) in
           rw same (at_end (ending_below weights arrows n) _ n (sym (length_below n)))
 
-  chain_at : (n p : ℕ) → p < n → slice_index (ending_below weights arrows n) p ≡ slice_index weights p + greatest_wanted (slice_index (ending_below weights arrows p)) arrows p
+  chain_at : (n p : ℕ) → p < n → slice_index (ending_below weights arrows n) p ≡ slice_index weights p + greatest_wanted
+      (slice_index (ending_below weights arrows p)) arrows p
   chain_at zero p lt = absurd (omega arith)
   chain_at (suc n) p lt = chain_more n p (chain_at n p) lt
 
-  pub rule_to : (p : ℕ) → AreRising zero arrows → p < length weights → slice_index (heaviest_to weights arrows) p ≡ slice_index weights p + greatest_wanted (slice_index (heaviest_to weights arrows)) arrows p
+  pub rule_to : (p : ℕ) → AreRising zero arrows → p < length weights
+      → slice_index (heaviest_to weights arrows) p ≡ slice_index weights p + greatest_wanted (slice_index (heaviest_to weights arrows)) arrows p
   rule_to p rises inside =
-      let stay : (q : ℕ) → q < p → slice_index (ending_below weights arrows p) q ≡ slice_index (heaviest_to weights arrows) q = λ q low. chain_at p q low ∙ sym (chain_at (length weights) q (omega (arith, low, inside))) in
+      let stay : (q : ℕ) → q < p → slice_index (ending_below weights arrows p) q ≡ slice_index (heaviest_to weights arrows) q =
+      λ q low. chain_at p q low ∙ sym (chain_at (length weights) q (omega (arith, low, inside))) in
       chain_at (length weights) p inside ∙ ap (λ (m : ℕ). slice_index weights p + m) (wanted_same _ _ p zero arrows rises stay)
 
 -- ---- of the chains that begin somewhere
@@ -67,7 +77,8 @@ length_from p (w ∷ weights) arrows = let later = length_from (suc p) weights a
 in_front : (x : ℕ) (later : List ℕ) (p q : ℕ) → p < q → slice_index later (q - suc p) ≡ slice_index (x ∷ later) (q - p)
 in_front x later p q lt = let one : q - p ≡ suc (q - suc p) = omega (arith, lt) in rw one refl
 
-rule_behind : (p : ℕ) (weights : List ℕ) (arrows : List Arrow) (k : ℕ) → AreRising zero arrows → k < length weights → slice_index (beginning_from p weights arrows) k ≡ slice_index weights k + greatest_wanting (λ q. slice_index (beginning_from p weights arrows) (q - p)) arrows (p + k)
+rule_behind : (p : ℕ) (weights : List ℕ) (arrows : List Arrow) (k : ℕ) → AreRising zero arrows → k < length weights → slice_index
+    (beginning_from p weights arrows) k ≡ slice_index weights k + greatest_wanting (λ q. slice_index (beginning_from p weights arrows) (q - p)) arrows (p + k)
 rule_behind p [] arrows k rises inside = absurd (omega arith)
 rule_behind p (w ∷ weights) arrows zero rises inside =
     let here : p + zero ≡ p = omega arith in
@@ -75,13 +86,17 @@ rule_behind p (w ∷ weights) arrows zero rises inside =
 rule_behind p (w ∷ weights) arrows (suc k) rises inside =
     let later = beginning_from (suc p) weights arrows in
     let behind : suc p + k ≡ p + suc k = omega arith in
-    let rest : slice_index later k ≡ slice_index weights k + greatest_wanting (λ q. slice_index later (q - suc p)) arrows (p + suc k) = rw (← behind) (rule_behind (suc p) weights arrows k rises (omega arith)) in
+    let rest : slice_index later k ≡ slice_index weights k + greatest_wanting (λ q. slice_index later (q - suc p)) arrows (p + suc k) =
+    rw (← behind) (rule_behind (suc p) weights arrows k rises (omega arith)) in
     rest ∙ ap (λ (m : ℕ). slice_index weights k + m) (wanting_same _ _ (p + suc k) zero arrows rises (λ q lt. in_front _ later p q (omega (arith, lt))))
 
-pub rule_from : (weights : List ℕ) (arrows : List Arrow) (p : ℕ) → AreRising zero arrows → p < length weights → slice_index (heaviest_from weights arrows) p ≡ slice_index weights p + greatest_wanting (slice_index (heaviest_from weights arrows)) arrows p
+pub rule_from : (weights : List ℕ) (arrows : List Arrow) (p : ℕ) → AreRising zero arrows → p < length weights
+    → slice_index (heaviest_from weights arrows) p ≡ slice_index weights p + greatest_wanting (slice_index (heaviest_from weights arrows)) arrows p
 rule_from weights arrows p rises inside =
-    let all : slice_index (heaviest_from weights arrows) p ≡ slice_index weights p + greatest_wanting (λ q. slice_index (heaviest_from weights arrows) (q - zero)) arrows p = simp zero-add at (rule_behind zero weights arrows p rises inside) in
-    all ∙ ap (λ (m : ℕ). slice_index weights p + m) (wanting_same _ _ p zero arrows rises (λ q lt. ap (slice_index (heaviest_from weights arrows)) (omega arith)))
+    let all : slice_index (heaviest_from weights arrows) p ≡ slice_index weights p + greatest_wanting
+    (λ q. slice_index (heaviest_from weights arrows) (q - zero)) arrows p = simp zero-add at (rule_behind zero weights arrows p rises inside) in
+    all ∙ ap (λ (m : ℕ). slice_index weights p + m)
+    (wanting_same _ _ p zero arrows rises (λ q lt. ap (slice_index (heaviest_from weights arrows)) (omega arith)))
 
 -- ---- no chain weighs more than its positions together at their heaviest
 
@@ -95,7 +110,8 @@ light_end [] y most front last (suc q) = omega arith
 light_end (x ∷ xs) y most front last zero = front zero
 light_end (x ∷ xs) y most front last (suc q) = light_end xs y most (λ j. front (suc j)) last q
 
-pub light_below : (weights : List ℕ) (arrows : List Arrow) (most n : ℕ) → ((p : ℕ) → slice_index weights p ≤ most) → (p : ℕ) → slice_index (ending_below weights arrows n) p ≤ most * n
+pub light_below : (weights : List ℕ) (arrows : List Arrow) (most n : ℕ) → ((p : ℕ) → slice_index weights p ≤ most) → (p : ℕ)
+    → slice_index (ending_below weights arrows n) p ≤ most * n
 light_below weights arrows most zero light p = omega arith
 light_below weights arrows most (suc n) light p =
     let before = ending_below weights arrows n in
@@ -105,13 +121,15 @@ light_below weights arrows most (suc n) light p =
     let own = light n in
     light_end before _ (most * suc n) (λ q. let low = chains q in omega (arith, low, least)) (omega (arith, own, more, least)) p
 
-light_behind : (p : ℕ) (weights : List ℕ) (arrows : List Arrow) (most : ℕ) → ((k : ℕ) → slice_index weights k ≤ most) → (k : ℕ) → slice_index (beginning_from p weights arrows) k ≤ most * length weights
+light_behind : (p : ℕ) (weights : List ℕ) (arrows : List Arrow) (most : ℕ) → ((k : ℕ) → slice_index weights k ≤ most) → (k : ℕ)
+    → slice_index (beginning_from p weights arrows) k ≤ most * length weights
 light_behind p [] arrows most light k = omega arith
 light_behind p (w ∷ weights) arrows most light k =
     let later = beginning_from (suc p) weights arrows in
     let chains = light_behind (suc p) weights arrows most (λ j. light (suc j)) in
     let least : most * length weights + most ≡ most * suc (length weights) = omega arith in
-    let more : greatest_wanting (λ q. slice_index later (q - suc p)) arrows p ≤ most * length weights = bounded (λ a. a.from) (λ a. a.to) (λ q. slice_index later (q - suc p)) (most * length weights) arrows p (λ q. chains (q - suc p)) in
+    let more : greatest_wanting (λ q. slice_index later (q - suc p)) arrows p ≤ most * length weights =
+    bounded (λ a. a.from) (λ a. a.to) (λ q. slice_index later (q - suc p)) (most * length weights) arrows p (λ q. chains (q - suc p)) in
     let own : w ≤ most = light zero in
     light_front _ later (most * suc (length weights)) (omega (arith, own, more, least)) (λ q. let low = chains q in omega (arith, low, least)) k
 
@@ -124,7 +142,9 @@ module _ (most : ℕ) where
 
 module _ (weights : List ℕ) (arrows : List Arrow) (few : length weights ≤ 4096) (light : All (λ w. w ≤ 3072) weights) where
   pub light_to : All (λ c. c ≤ 2 ^ 24) (heaviest_to weights arrows)
-  light_to = all_light (2 ^ 24) (heaviest_to weights arrows) (λ p. let h = light_below weights arrows 3072 (length weights) (lights 3072 weights light) p in omega (arith, h))
+  light_to = all_light (2 ^ 24) (heaviest_to weights arrows)
+      (λ p. let h = light_below weights arrows 3072 (length weights) (lights 3072 weights light) p in omega (arith, h))
 
   pub light_from : All (λ c. c ≤ 2 ^ 24) (heaviest_from weights arrows)
-  light_from = all_light (2 ^ 24) (heaviest_from weights arrows) (λ p. let h = light_behind zero weights arrows 3072 (lights 3072 weights light) p in omega (arith, h))
+  light_from = all_light (2 ^ 24) (heaviest_from weights arrows)
+      (λ p. let h = light_behind zero weights arrows 3072 (lights 3072 weights light) p in omega (arith, h))

@@ -1,11 +1,12 @@
 -- The batches of a log that is cut evenly.
-use Rattle.std.proofs.Common.{◌≡◌, ℕ, zero, suc, ◌+◌, ◌-◌, ◌*◌, ◌/◌, ◌<◌, ◌≤◌, List, length, take, drop, length-drop, slice_index, refl, sym, ap, ◌∙◌, ⊎_elim, arith}
+use Rattle.std.proofs.Common.{◌≡◌, ℕ, zero, suc, ◌+◌, ◌-◌, ◌*◌, ◌/◌, ◌<◌, ◌≤◌, List, length, take}
+use Rattle.std.proofs.Common.{drop, length-drop, slice_index, refl, sym, ap, ◌∙◌, ⊎_elim, arith}
 use Rattle.std.specs.List.{sum}
 use Rattle.std.proofs.lemmas.Bool.{cases_lt}
 use Rattle.std.proofs.lemmas.Nat.{div-mul-add}
 use Rattle.std.proofs.lemmas.List.{take_all}
-use Rattle.bohm_line.specs.Cuttings.{Cutting, IsEven, ahead, txns_at}
-use Rattle.bohm_line.proofs.ForCallers.{ahead_next}
+use Rattle.bohm_place.specs.Cuttings.{Cutting, IsEven, ahead, txns_at}
+use Rattle.bohm_place.proofs.ForCallers.{ahead_next}
 use Rattle.bohm_explain.specs.Figures.{batch_at, batch_count}
 
 -- all batches before one are full
@@ -51,6 +52,8 @@ each_even c size i even total low =
     (λ outer.
     let last : length c.sizes ≡ suc i = omega (arith, low, outer) in
     let (least, most) = few size c.sizes i even last in
-    let left : length (drop (ahead c.sizes i) c.log) ≡ slice_index c.sizes i = omega (arith, length-drop (ahead c.sizes i) c.log, total, whole size c.sizes i even last, ahead_is) in
-    ap (take size) at ∙ take_all size (drop (ahead c.sizes i) c.log) (omega (arith, left, most)) ∙ sym (take_all (slice_index c.sizes i) (drop (ahead c.sizes i) c.log) (omega (arith, left))))
+    let left : length (drop (ahead c.sizes i) c.log) ≡ slice_index c.sizes i =
+    omega (arith, length-drop (ahead c.sizes i) c.log, total, whole size c.sizes i even last, ahead_is) in
+    ap (take size) at ∙ take_all size (drop (ahead c.sizes i) c.log) (omega (arith, left, most))
+    ∙ sym (take_all (slice_index c.sizes i) (drop (ahead c.sizes i) c.log) (omega (arith, left))))
     (cases_lt (i + 1) (length c.sizes))

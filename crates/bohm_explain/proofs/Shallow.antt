@@ -1,7 +1,7 @@
 -- Depths lie between 1 and the number of transactions.
 use Rattle.std.proofs.Common.{◌≡◌, ◌∙◌, ℕ, zero, suc, ◌*◌, ◌<◌, ◌≤◌, List, length, replicate, slice_index, get_or, All, arith}
 use Rattle.std.proofs.lemmas.List.{length-replicate, get_or-replicate, get_or_default}
-use Rattle.bohm_tree.specs.Txn.{Txn}
+use Rattle.bohm_types.specs.Txn.{Txn}
 use Rattle.bohm_explain.specs.Asked.{IsBetween}
 use Rattle.bohm_explain.specs.Figures.{alike, depths}
 use Rattle.bohm_explain.specs.Wanted.{arrows}
@@ -27,5 +27,6 @@ module _ (txns : List Txn) where
       let here : get_or (depths txns) k d ≡ slice_index (depths txns) k = get_or_default (depths txns) k d 0 inside in
       let one : slice_index (alike txns) k ≡ 1 = get_or-replicate {A = ℕ} (length txns) k 1 0 few in
       let rule = rule_to (alike txns) (arrows txns) k (rising txns) (omega (arith, same, few)) in
-      let most : slice_index (depths txns) k ≤ 1 * length (alike txns) = light_below (alike txns) (arrows txns) 1 (length (alike txns)) (at_most_one (length txns)) k in
+      let most : slice_index (depths txns) k ≤ 1 * length (alike txns) =
+      light_below (alike txns) (arrows txns) 1 (length (alike txns)) (at_most_one (length txns)) k in
       (omega (arith, here, one, rule), omega (arith, here, same, most))

@@ -1,5 +1,6 @@
 -- The heaviest chains arrow by arrow, as the code makes them.
-use Rattle.std.proofs.Common.{◌≡◌, ◌≢◌, ℕ, zero, suc, ◌+◌, ◌<◌, ◌≤◌, List, [], ◌∷◌, length, slice_index, slice_set, fold, max, All, ⊎_elim, refl, sym, ap, subst, ◌∙◌, arith, length-set, ext_get_or}
+use Rattle.std.proofs.Common.{◌≡◌, ◌≢◌, ℕ, zero, suc, ◌+◌, ◌<◌, ◌≤◌, List, [], ◌∷◌, length, slice_index, slice_set}
+use Rattle.std.proofs.Common.{fold, max, All, ⊎_elim, refl, sym, ap, subst, ◌∙◌, arith, length-set, ext_get_or}
 use Rattle.std.proofs.lemmas.Bool.{cases_eq}
 use Rattle.std.proofs.lemmas.List.{get_or-set_same, get_or-set_other}
 use Rattle.bohm_explain.specs.declared.arrow.Arrow.{Arrow}
@@ -34,7 +35,8 @@ module _ (weights : List ℕ) (final : ℕ → ℕ) where
     least : (p : ℕ) → slice_index weights p ≤ slice_index made p
     whole : (p : ℕ) → p < length weights → max (slice_index made p) (slice_index weights p + greatest_wanted final rest p) ≡ final p
 
-  module _ (made : List ℕ) (a : Arrow) (rest : List Arrow) (inside : IsInside (length weights) a) (up : a.from < a.to) (rises : AreRising a.to rest) (so_far : Underway made (a ∷ rest)) where
+  module _ (made : List ℕ) (a : Arrow) (rest : List Arrow) (inside : IsInside (length weights) a) (up : a.from < a.to) (rises : AreRising a.to rest)
+      (so_far : Underway made (a ∷ rest)) where
     source : slice_index made a.from ≡ final a.from
     source =
         let none = passed (λ x. x.to) (λ x. x.from) final a rest a.from (λ is. omega (arith, is, up)) ∙ none_to a.to rest a.from rises up in
@@ -49,7 +51,8 @@ module _ (weights : List ℕ) (final : ℕ → ℕ) where
     elsewhere p isnt = get_or-set_other made a.to p _ 0 isnt
 
     step_least : (p : ℕ) → slice_index weights p ≤ slice_index (lengthened weights made a) p
-    step_least p = ⊎_elim (λ is. (let least = so_far.least p in rw is (omega (arith, at_to, rw is at least)))) (λ isnt. rw (elsewhere p isnt) (so_far.least p)) (cases_eq p a.to)
+    step_least p = ⊎_elim (λ is. (let least = so_far.least p in rw is (omega (arith, at_to, rw is at least))))
+        (λ isnt. rw (elsewhere p isnt) (so_far.least p)) (cases_eq p a.to)
 
     step_whole : (p : ℕ) → p < length weights → max (slice_index (lengthened weights made a) p) (slice_index weights p + greatest_wanted final rest p) ≡ final p
     step_whole p low = ⊎_elim at_p away (cases_eq p a.to)
@@ -65,20 +68,25 @@ module _ (weights : List ℕ) (final : ℕ → ℕ) where
     step_to : Underway (lengthened weights made a) rest
     step_to = record { paired = length-set made a.to _ ∙ so_far.paired; least = step_least; whole = step_whole }
 
-  fold_to : (n : ℕ) (made : List ℕ) (rest : List Arrow) → AreRising n rest → All (IsInside (length weights)) rest → Underway made rest → (p : ℕ) → p < length weights → slice_index (fold (lengthened weights) made rest) p ≡ final p
+  fold_to : (n : ℕ) (made : List ℕ) (rest : List Arrow) → AreRising n rest → All (IsInside (length weights)) rest → Underway made rest → (p : ℕ)
+      → p < length weights → slice_index (fold (lengthened weights) made rest) p ≡ final p
   fold_to n made [] rises inside so_far p low =
       let least = so_far.least p in
       let whole : max (slice_index made p) (slice_index weights p + zero) ≡ final p = so_far.whole p low in
       omega (arith, least, whole)
   fold_to n made (a ∷ rest) rises inside so_far p low =
-      fold_to a.to (lengthened weights made a) rest rises.2 (λ i d lt. inside (suc i) d (omega arith)) (step_to made a rest (inside zero a (omega arith)) rises.1 rises.2 so_far) p low
+      fold_to a.to (lengthened weights made a) rest rises.2 (λ i d lt. inside (suc i) d (omega arith))
+      (step_to made a rest (inside zero a (omega arith)) rises.1 rises.2 so_far) p low
 
-pub made_to : (weights : List ℕ) (arrows : List Arrow) → AreRising zero arrows → All (IsInside (length weights)) arrows → (made : List ℕ) → length made ≡ length weights → made ≡ fold (lengthened weights) weights arrows → made ≡ heaviest_to weights arrows
+pub made_to : (weights : List ℕ) (arrows : List Arrow) → AreRising zero arrows → All (IsInside (length weights)) arrows → (made : List ℕ)
+    → length made ≡ length weights → made ≡ fold (lengthened weights) weights arrows → made ≡ heaviest_to weights arrows
 made_to weights arrows rises inside made long is =
     let final = slice_index (heaviest_to weights arrows) in
-    let whole : (p : ℕ) → p < length weights → max (slice_index weights p) (slice_index weights p + greatest_wanted final arrows p) ≡ final p = λ p low. let rule = rule_to weights arrows p rises low in omega (arith, rule) in
+    let whole : (p : ℕ) → p < length weights → max (slice_index weights p) (slice_index weights p + greatest_wanted final arrows p) ≡ final p =
+    λ p low. let rule = rule_to weights arrows p rises low in omega (arith, rule) in
     let start : Underway weights final weights arrows = record { paired = refl; least = λ p. omega arith; whole = whole } in
-    ext_get_or 0 made (heaviest_to weights arrows) (long ∙ sym (paired_to weights arrows)) (λ p low. ap (λ (xs : List ℕ). slice_index xs p) is ∙ fold_to weights final zero weights arrows rises inside start p (omega (arith, low, long)))
+    ext_get_or 0 made (heaviest_to weights arrows) (long ∙ sym (paired_to weights arrows))
+    (λ p low. ap (λ (xs : List ℕ). slice_index xs p) is ∙ fold_to weights final zero weights arrows rises inside start p (omega (arith, low, long)))
 
 -- ---- chains from
 
@@ -95,28 +103,34 @@ module _ (weights : List ℕ) (final : ℕ → ℕ) where
   abbrev AreFinal : ℕ → List Arrow → Type 0
   AreFinal n rest = (p : ℕ) → n ≤ p → p < length weights → final p ≡ slice_index weights p + greatest_wanting final rest p
 
-  step_from : (a : Arrow) (rest : List Arrow) → IsInside (length weights) a → final a.to ≡ slice_index weights a.to + greatest_wanting final rest a.to → AreLed rest → AreLed (a ∷ rest)
+  step_from : (a : Arrow) (rest : List Arrow) → IsInside (length weights) a → final a.to ≡ slice_index weights a.to + greatest_wanting final rest a.to
+      → AreLed rest → AreLed (a ∷ rest)
   step_from a rest inside last led p low = ⊎_elim at_p away (cases_eq p a.from)
     where
       at_from : slice_index (led_from weights (a ∷ rest)) a.from ≡ slice_index weights a.from + greatest_wanting final (a ∷ rest) a.from
       at_from =
           let own = led a.from inside.0 in
           let other = led a.to inside.1 in
-          let set = get_or-set_same (led_from weights rest) a.from (max (slice_index (led_from weights rest) a.from) (slice_index weights a.from + slice_index (led_from weights rest) a.to)) 0 (let long = length_led rest in let low = inside.0 in omega (arith, long, low)) in
-          let sum : max (slice_index (led_from weights rest) a.from) (slice_index weights a.from + slice_index (led_from weights rest) a.to) ≡ slice_index weights a.from + max (final a.to) (greatest_wanting final rest a.from) = omega (arith, own, other, last) in
+          let set = get_or-set_same (led_from weights rest) a.from
+          (max (slice_index (led_from weights rest) a.from) (slice_index weights a.from + slice_index (led_from weights rest) a.to)) 0
+          (let long = length_led rest in let low = inside.0 in omega (arith, long, low)) in
+          let sum : max (slice_index (led_from weights rest) a.from) (slice_index weights a.from + slice_index (led_from weights rest) a.to)
+          ≡ slice_index weights a.from + max (final a.to) (greatest_wanting final rest a.from) = omega (arith, own, other, last) in
           set ∙ (sum ∙ ap (λ (m : ℕ). slice_index weights a.from + m) (sym (taken (λ x. x.from) (λ x. x.to) final a rest a.from refl)))
 
       at_p : p ≡ a.from → slice_index (led_from weights (a ∷ rest)) p ≡ slice_index weights p + greatest_wanting final (a ∷ rest) p
       at_p is = subst (λ (q : ℕ). slice_index (led_from weights (a ∷ rest)) q ≡ slice_index weights q + greatest_wanting final (a ∷ rest) q) (sym is) at_from
 
       away : p ≢ a.from → slice_index (led_from weights (a ∷ rest)) p ≡ slice_index weights p + greatest_wanting final (a ∷ rest) p
-      away isnt = get_or-set_other (led_from weights rest) a.from p _ 0 isnt ∙ (led p low ∙ ap (λ (m : ℕ). slice_index weights p + m) (sym (passed (λ x. x.from) (λ x. x.to) final a rest p (λ is. isnt (sym is)))))
+      away isnt = get_or-set_other (led_from weights rest) a.from p _ 0 isnt
+          ∙ (led p low ∙ ap (λ (m : ℕ). slice_index weights p + m) (sym (passed (λ x. x.from) (λ x. x.to) final a rest p (λ is. isnt (sym is)))))
 
   kept_final : (n : ℕ) (a : Arrow) (rest : List Arrow) → AreRising n (a ∷ rest) → AreFinal n (a ∷ rest) → AreFinal a.to rest
   kept_final n a rest rises final_from p le low =
       let least = rises.0 in
       let up = rises.1 in
-      final_from p (omega (arith, least, le)) low ∙ ap (λ (m : ℕ). slice_index weights p + m) (passed (λ x. x.from) (λ x. x.to) final a rest p (λ is. omega (arith, up, is, le)))
+      final_from p (omega (arith, least, le)) low
+      ∙ ap (λ (m : ℕ). slice_index weights p + m) (passed (λ x. x.from) (λ x. x.to) final a rest p (λ is. omega (arith, up, is, le)))
 
   led_all : (n : ℕ) (rest : List Arrow) → AreRising n rest → All (IsInside (length weights)) rest → AreFinal n rest → AreLed rest
   led_all n [] rises inside final_from = λ p low. omega arith
@@ -125,12 +139,16 @@ module _ (weights : List ℕ) (final : ℕ → ℕ) where
       let later = kept_final n a rest rises final_from in
       step_from a rest here (later a.to (omega arith) here.1) (led_all a.to rest rises.2 (λ i d lt. inside (suc i) d (omega arith)) later)
 
-pub made_from : (weights : List ℕ) (arrows : List Arrow) → AreRising zero arrows → All (IsInside (length weights)) arrows → led_from weights arrows ≡ heaviest_from weights arrows
+pub made_from : (weights : List ℕ) (arrows : List Arrow) → AreRising zero arrows → All (IsInside (length weights)) arrows
+    → led_from weights arrows ≡ heaviest_from weights arrows
 made_from weights arrows rises inside =
     let final = slice_index (heaviest_from weights arrows) in
-    let rule : (p : ℕ) → p < length weights → final p ≡ slice_index weights p + greatest_wanting final arrows p = λ p low. rule_from weights arrows p rises low in
+    let rule : (p : ℕ) → p < length weights → final p ≡ slice_index weights p + greatest_wanting final arrows p =
+    λ p low. rule_from weights arrows p rises low in
     let long = length_led weights final arrows in
-    ext_get_or 0 (led_from weights arrows) (heaviest_from weights arrows) (long ∙ sym (length_from zero weights arrows)) (λ p low. let inside_p : p < length weights = omega (arith, low, long) in led_all weights final zero arrows rises inside (λ q le lt. rule q lt) p inside_p ∙ sym (rule p inside_p))
+    ext_get_or 0 (led_from weights arrows) (heaviest_from weights arrows) (long ∙ sym (length_from zero weights arrows))
+    (λ p low. let inside_p : p < length weights = omega (arith, low, long) in
+    led_all weights final zero arrows rises inside (λ q le lt. rule q lt) p inside_p ∙ sym (rule p inside_p))
 
 -- ---- one arrow more, from the last on
 
@@ -141,6 +159,9 @@ bounded_set (x ∷ xs) zero m n (suc k) h le = h (suc k)
 bounded_set (x ∷ xs) (suc i) m n zero h le = h zero
 bounded_set (x ∷ xs) (suc i) m n (suc k) h le = bounded_set xs i m n k (λ j. h (suc j)) le
 
-pub one_before : (weights hs : List ℕ) (whole rest : List Arrow) (a : Arrow) (m : ℕ) → whole ≡ a ∷ rest → hs ≡ led_from weights rest → m ≡ max (slice_index hs a.from) (slice_index weights a.from + slice_index hs a.to) → slice_set hs a.from m ≡ led_from weights whole
+pub one_before : (weights hs : List ℕ) (whole rest : List Arrow) (a : Arrow) (m : ℕ) → whole ≡ a ∷ rest → hs ≡ led_from weights rest
+    → m ≡ max (slice_index hs a.from) (slice_index weights a.from + slice_index hs a.to) → slice_set hs a.from m ≡ led_from weights whole
 one_before weights hs whole rest a m front before is =
-    ap (λ (v : ℕ). slice_set hs a.from v) is ∙ (ap (λ (g : List ℕ). slice_set g a.from (max (slice_index g a.from) (slice_index weights a.from + slice_index g a.to))) before ∙ ap (led_from weights) (sym front))
+    ap (λ (v : ℕ). slice_set hs a.from v) is
+    ∙ (ap (λ (g : List ℕ). slice_set g a.from (max (slice_index g a.from) (slice_index weights a.from + slice_index g a.to))) before
+    ∙ ap (led_from weights) (sym front))

@@ -1,10 +1,11 @@
 -- How long the listed chain is, and that each step of a drawn one has an arrow.
-use Rattle.std.proofs.Common.{◌≡◌, ◌∙◌, true≢false, ℕ, zero, suc, ◌+◌, ◌*◌, ◌==◌, ◌&&◌, ◌<◌, ◌≤◌, Bool, true, false, Option, Some, List, [], ◌∷◌, ◌++◌, length, map, max, Contains, ⊎_elim, refl, sym, ap, subst, arith}
+use Rattle.std.proofs.Common.{◌≡◌, ◌∙◌, true≢false, ℕ, zero, suc, ◌+◌, ◌*◌, ◌==◌, ◌&&◌, ◌<◌, ◌≤◌, Bool, true, false, Option}
+use Rattle.std.proofs.Common.{Some, List, [], ◌∷◌, ◌++◌, length, map, max, Contains, ⊎_elim, refl, sym, ap, subst, arith}
 use Rattle.std.specs.List.{find}
 use Rattle.std.specs.Option.{IsSomeAnd}
 use Rattle.std.proofs.lemmas.Bool.{cases_lt, eqb-true, eq-eqb}
 use Rattle.std.proofs.lemmas.List.{length-map, map-append}
-use Rattle.bohm_tree.specs.Txn.{Txn}
+use Rattle.bohm_types.specs.Txn.{Txn}
 use Rattle.bohm_place.specs.Chains.{greatest}
 use Rattle.bohm_explain.specs.declared.arrow.Arrow.{Arrow}
 use Rattle.bohm_explain.specs.declared.figures.Figures.{Figures}

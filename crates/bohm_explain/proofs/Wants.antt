@@ -1,10 +1,11 @@
 -- The arrows of a batch are the versions that its positions want on the board.
-use Rattle.std.proofs.Common.{◌≡◌, ℕ, zero, suc, ◌+◌, ◌-◌, ◌<◌, List, [], ◌∷◌, ◌++◌, length, Bool, true, false, cond, Option, Some, None, slice_get, unwrap_or, option_map, Contains, refl, sym, subst, ap, ◌∙◌, ⊎_elim, ◌⊎◌, inl, inr, arith}
+use Rattle.std.proofs.Common.{◌≡◌, ℕ, zero, suc, ◌+◌, ◌-◌, ◌<◌, List, [], ◌∷◌, ◌++◌, length, Bool, true, false, cond, Option, Some}
+use Rattle.std.proofs.Common.{None, slice_get, unwrap_or, option_map, Contains, refl, sym, subst, ap, ◌∙◌, ⊎_elim, ◌⊎◌, inl, inr, arith}
 use Rattle.std.specs.List.{filter_map, cons_option}
 use Rattle.std.proofs.lemmas.Bool.{cases_lt}
 use Rattle.std.proofs.lemmas.Option.{slice_get-get_or, slice_get_within, get_or_from_slice_get}
 use Rattle.std.proofs.lemmas.List.Elements.{Contains-append_left, Contains-append_right, Contains-append_cases}
-use Rattle.bohm_tree.specs.Txn.{Txn}
+use Rattle.bohm_types.specs.Txn.{Txn}
 use Rattle.bohm_place.specs.declared.access.Access.{Access}
 use Rattle.bohm_place.specs.declared.access.Source.{Source}
 use Rattle.bohm_place.specs.declared.access.Source.TheVariants.{Before, Within}
@@ -63,7 +64,8 @@ at_below : (txns : List Txn) (r : Arrow) (p n : ℕ) → p < n → Contains (arr
 at_below txns r p zero low c = absurd (omega (arith, low))
 at_below txns r p (suc n) low c =
     ⊎_elim (λ before. Contains-append_left (arrows_below txns n) (arrows_at txns n) r (at_below txns r p n before c))
-    (λ last. let same : p ≡ n = omega (arith, low, last) in Contains-append_right (arrows_below txns n) (arrows_at txns n) r (subst (λ (m : ℕ). Contains (arrows_at txns m) r) same c)) (cases_lt p n)
+    (λ last. let same : p ≡ n = omega (arith, low, last) in
+    Contains-append_right (arrows_below txns n) (arrows_at txns n) r (subst (λ (m : ℕ). Contains (arrows_at txns m) r) same c)) (cases_lt p n)
 
 below_at : (txns : List Txn) (r : Arrow) (n : ℕ) → Contains (arrows_below txns n) r → (p : ℕ) × (p < n) × Contains (arrows_at txns p) r
 below_at txns r zero (k, low, is) = absurd (omega (arith, low))
@@ -81,7 +83,8 @@ module _ (txns : List Txn) (plan : Planned) (right : IsRightPlan txns plan) (q :
   keys : (set : DeclaredSet) → keys_at set txns q ≡ keys_in set x
   keys set = rw at_x refl
 
-  to_arrow : (set : DeclaredSet) (u : ℕ) (a : Access) → a.source ≡ Within u → Contains (planned_in set plan q) a → IsWantedBy (arrows_in set txns q) (u - plan.first) q
+  to_arrow : (set : DeclaredSet) (u : ℕ) (a : Access) → a.source ≡ Within u → Contains (planned_in set plan q) a
+      → IsWantedBy (arrows_in set txns q) (u - plan.first) q
   to_arrow set u a within (j, low, is) =
       let ks = keys_in set x in
       let at_a : slice_get (planned_in set plan q) j ≡ Some a = slice_get-get_or (planned_in set plan q) j a low ∙ ap (λ v. Some v) is in
@@ -92,7 +95,8 @@ module _ (txns : List Txn) (plan : Planned) (right : IsRightPlan txns plan) (q :
       let gives : arrow_of txns q k ≡ Some r = arrow_by txns plan.first q k a.source newest ∙ rw within refl in
       (r, subst (λ (l : List (List ℕ)). Contains (filter_map (arrow_of txns q) l) r) (sym (keys set)) (given (arrow_of txns q) ks j k r at_k gives), refl, refl)
 
-  source_by : (k : List ℕ) (s : Source) (r : Arrow) (p : ℕ) → IsNewest plan.first txns k (plan.first + q) s → option_map (λ f. record { from = f; to = q; key = k }) (place_of plan.first s) ≡ Some r → r.from ≡ p → s ≡ Within (plan.first + p)
+  source_by : (k : List ℕ) (s : Source) (r : Arrow) (p : ℕ) → IsNewest plan.first txns k (plan.first + q) s
+      → option_map (λ f. record { from = f; to = q; key = k }) (place_of plan.first s) ≡ Some r → r.from ≡ p → s ≡ Within (plan.first + p)
   unfolding from_of
   source_by k Before r p newest gives from = absurd cc
   source_by k (Within u) r p newest gives from =
@@ -100,7 +104,8 @@ module _ (txns : List Txn) (plan : Planned) (right : IsRightPlan txns plan) (q :
       let above = behind_first txns plan.first (plan.first + q) u k (Within u) newest refl in
       ap (λ n. Within n) (omega (arith, place, above, from))
 
-  from_arrow : (set : DeclaredSet) (p : ℕ) (r : Arrow) → r.from ≡ p → Contains (arrows_in set txns q) r → (a : Access) × Contains (planned_in set plan q) a × (a.source ≡ Within (plan.first + p))
+  from_arrow : (set : DeclaredSet) (p : ℕ) (r : Arrow) → r.from ≡ p → Contains (arrows_in set txns q) r
+      → (a : Access) × Contains (planned_in set plan q) a × (a.source ≡ Within (plan.first + p))
   unfolding Given
   from_arrow set p r from c =
       let ks = keys_in set x in
@@ -121,7 +126,8 @@ ends_at txns q ks r c =
 
 ends_there : (txns : List Txn) (q : ℕ) (r : Arrow) → Contains (arrows_at txns q) r → r.to ≡ q
 ends_there txns q r c =
-    ⊎_elim (ends_at txns q (keys_at Reads txns q) r) (λ h. by (is_sure_at txns q) h) (Contains-append_cases (arrows_in Reads txns q) (cond (is_sure_at txns q) [] (arrows_in Writes txns q)) r c)
+    ⊎_elim (ends_at txns q (keys_at Reads txns q) r) (λ h. by (is_sure_at txns q) h)
+    (Contains-append_cases (arrows_in Reads txns q) (cond (is_sure_at txns q) [] (arrows_in Writes txns q)) r c)
   where
     by : (sure : Bool) → Contains (cond sure [] (arrows_in Writes txns q)) r → r.to ≡ q
     by true (k, low, is) = absurd (omega (arith, low))
@@ -133,14 +139,16 @@ module _ (b : Batch) (right : IsRightPlan (txns_of b) (plan_of b)) (t u : ℕ) (
   inside : position b t < length (txns_of b)
   inside = omega (arith, in_t.from, in_t.below)
 
-  to_unsure : (x : Txn) → slice_get (txns_of b) (position b t) ≡ Some x → (a : Access) → a.source ≡ Within u → (sure : Bool) → Contains (cond sure [] (planned_in Writes (plan_of b) (position b t))) a
+  to_unsure : (x : Txn) → slice_get (txns_of b) (position b t) ≡ Some x → (a : Access) → a.source ≡ Within u → (sure : Bool)
+      → Contains (cond sure [] (planned_in Writes (plan_of b) (position b t))) a
       → IsWantedBy (arrows_in Reads (txns_of b) (position b t) ++ cond sure [] (arrows_in Writes (txns_of b) (position b t))) (position b u) (position b t)
   to_unsure x at_x a within true (k, low, is) = absurd (omega (arith, low))
   to_unsure x at_x a within false write =
       let (r, has, from, to) = to_arrow (txns_of b) (plan_of b) right (position b t) x at_x Writes u a within write in
       (r, Contains-append_right (arrows_in Reads (txns_of b) (position b t)) (arrows_in Writes (txns_of b) (position b t)) r has, from, to)
 
-  to_either : (x : Txn) → slice_get (txns_of b) (position b t) ≡ Some x → (a : Access) → a.source ≡ Within u → (sure : Bool) → Contains (planned_in Reads (plan_of b) (position b t) ++ cond sure [] (planned_in Writes (plan_of b) (position b t))) a
+  to_either : (x : Txn) → slice_get (txns_of b) (position b t) ≡ Some x → (a : Access) → a.source ≡ Within u → (sure : Bool)
+      → Contains (planned_in Reads (plan_of b) (position b t) ++ cond sure [] (planned_in Writes (plan_of b) (position b t))) a
       → IsWantedBy (arrows_in Reads (txns_of b) (position b t) ++ cond sure [] (arrows_in Writes (txns_of b) (position b t))) (position b u) (position b t)
   to_either x at_x a within sure c =
       ⊎_elim
@@ -161,10 +169,14 @@ module _ (b : Batch) (right : IsRightPlan (txns_of b) (plan_of b)) (t u : ℕ) (
 
   from_either : (x : Txn) → slice_get (txns_of b) (position b t) ≡ Some x → (r : Arrow) → r.from ≡ position b u → (sure : Bool)
       → (Contains (arrows_in Reads (txns_of b) (position b t)) r ⊎ Contains (cond sure [] (arrows_in Writes (txns_of b) (position b t))) r)
-      → (a : Access) × Contains (planned_in Reads (plan_of b) (position b t) ++ cond sure [] (planned_in Writes (plan_of b) (position b t))) a × (a.source ≡ Within u)
+      → (a : Access) × Contains (planned_in Reads (plan_of b) (position b t) ++ cond sure [] (planned_in Writes (plan_of b) (position b t))) a
+      × (a.source ≡ Within u)
   from_either x at_x r from sure (inl c) =
-      let (a, has, is) = from_arrow (txns_of b) (plan_of b) right (position b t) x at_x Reads (position b u) r from c in
-      (a, Contains-append_left (planned_in Reads (plan_of b) (position b t)) (cond sure [] (planned_in Writes (plan_of b) (position b t))) a has, same_source a is)
+      let (a, has, is) = from_arrow (txns_of b) (plan_of b) right (position b t) x at_x Reads (position b u) r from c in (
+        a,
+        Contains-append_left (planned_in Reads (plan_of b) (position b t)) (cond sure [] (planned_in Writes (plan_of b) (position b t))) a has,
+        same_source a is,
+      )
   from_either x at_x r from true (inr (k, low, is)) = absurd (omega (arith, low))
   from_either x at_x r from false (inr c) =
       let (a, has, is) = from_arrow (txns_of b) (plan_of b) right (position b t) x at_x Writes (position b u) r from c in
@@ -176,4 +188,5 @@ module _ (b : Batch) (right : IsRightPlan (txns_of b) (plan_of b)) (t u : ℕ) (
       let (q, low, has) = below_at (txns_of b) r (length (txns_of b)) c in
       let same : q ≡ position b t = sym (ends_there (txns_of b) q r has) ∙ to in
       let here : Contains (arrows_at (txns_of b) (position b t)) r = subst (λ (m : ℕ). Contains (arrows_at (txns_of b) m) r) same has in
-      from_either x at_x r from (is_sure_at (txns_of b) (position b t)) (Contains-append_cases (arrows_in Reads (txns_of b) (position b t)) (cond (is_sure_at (txns_of b) (position b t)) [] (arrows_in Writes (txns_of b) (position b t))) r here)
+      from_either x at_x r from (is_sure_at (txns_of b) (position b t)) (Contains-append_cases (arrows_in Reads (txns_of b) (position b t))
+      (cond (is_sure_at (txns_of b) (position b t)) [] (arrows_in Writes (txns_of b) (position b t))) r here)

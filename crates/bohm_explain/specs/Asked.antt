@@ -1,6 +1,7 @@
 -- What is asked of an explanation, the ranges and the defaults.
 use Rattle.std.specs.Prelude.{ℕ, ◌≤◌, false, Option, None, IfSome}
 use Rattle.bohm_explain.specs.declared.layout.Layout.{Layout}
+use Rattle.bohm_types.specs.Limits.{largest_batch, most_txns}
 
 pub record Asked : Type 0 where
   pub batch : ℕ
@@ -13,9 +14,9 @@ IsBetween least most n = (least ≤ n) × (n ≤ most)
 
 -- each number lies in its range
 pub record AreInRange (asked : Asked) : Type 0 where
-  pub batch : IsBetween 1 4096 asked.batch
+  pub batch : IsBetween 1 largest_batch asked.batch
   pub top : asked.top ≤ 1000
-  pub picture : IfSome asked.picture (IsBetween 1 1000000)
+  pub picture : IfSome asked.picture (IsBetween 1 most_txns)
 
 abbrev pub defaults : Asked
 defaults = record { batch = 4096; top = 10; picture = None; layout = record { summary = false; json = false } }

@@ -1,6 +1,6 @@
 -- Chains of wanted versions. A chain is a list of positions of a batch, each of which but the first wants a version of the one before.
 use Rattle.std.specs.Prelude.{◌≡◌, ℕ, ◌<◌, ◌≤◌, List, [], ◌∷◌, ◌++◌, Contains, length, slice_index, sum_by}
-use Rattle.bohm_tree.specs.Txn.{Txn}
+use Rattle.bohm_types.specs.Txn.{Txn}
 use Rattle.bohm_explain.specs.declared.arrow.Arrow.{Arrow}
 use Rattle.bohm_explain.specs.Wanted.{arrows}
 

@@ -1,6 +1,6 @@
 -- The figures of a batch, and of a log that is cut into batches.
 use Rattle.std.specs.Prelude.{ℕ, zero, suc, ◌≤◌, fold, ◌+◌, ◌-◌, ◌*◌, ◌/◌, List, [], ◌∷◌, ◌++◌, length, take, drop, replicate, sum, sum_by, count_by}
-use Rattle.bohm_tree.specs.Txn.{Txn}
+use Rattle.bohm_types.specs.Txn.{Txn}
 use Rattle.bohm_txn.specs.Sure.{is_sure}
 use Rattle.bohm_place.specs.Chains.{greatest}
 use Rattle.bohm_explain.specs.declared.figures.Figures.{Figures}

@@ -2,8 +2,8 @@
 use Rattle.std.specs.Prelude.{◌≡◌, ℕ, List, map, filter, count_by, Bool, ◌||◌, All}
 use Rattle.std.specs.List.{list_any}
 use Rattle.std.specs.Str.{bytes_eq}
-use Rattle.bohm_tree.specs.Txn.{Txn}
-use Rattle.bohm_tree.specs.Keys.{is_among}
+use Rattle.bohm_types.specs.Txn.{Txn}
+use Rattle.bohm_types.specs.Keys.{is_among}
 use Rattle.bohm_place.specs.Chains.{greatest}
 use Rattle.bohm_place.specs.Shares.{AreDistinct}
 use Rattle.bohm_explain.specs.declared.arrow.Arrow.{Arrow}

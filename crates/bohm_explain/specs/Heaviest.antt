@@ -2,6 +2,7 @@
 use Rattle.std.specs.Prelude.{ℕ, zero, suc, ◌+◌, ◌-◌, ◌<◌, ◌≤◌, ◌==◌, List, [], ◌∷◌, ◌++◌, All, Bool, length, map, filter, zip, slice_index}
 use Rattle.bohm_place.specs.Chains.{greatest}
 use Rattle.bohm_explain.specs.declared.arrow.Arrow.{Arrow}
+use Rattle.bohm_types.specs.Limits.{largest_batch}
 
 -- both ends are among so many positions
 abbrev pub IsInside : ℕ → Arrow → Type 0
@@ -17,7 +18,7 @@ pub record AreChainable (weights : List ℕ) (arrows : List Arrow) : Type 0 wher
   pub inside : All (IsInside (length weights)) arrows
   pub rising : AreRising 0 arrows
   pub light : All (λ w. w ≤ 3072) weights
-  pub few : length weights ≤ 4096
+  pub few : length weights ≤ largest_batch
   pub few_arrows : length arrows ≤ 131072
 
 -- the greatest number of the positions whose versions p wants, or 0

@@ -1,6 +1,7 @@
 -- The picture of a batch, as text in Graphviz's language. Positions count from 0; transactions are drawn under their places in the log, of which
 -- `first` is that of the batch's first one.
-use Rattle.std.specs.Prelude.{ℕ, zero, suc, ◌+◌, ◌-◌, ◌*◌, ◌/◌, min, ◌==◌, nat_le, List, [], ◌∷◌, ◌++◌, length, take, flat_map, Option, Some, None, count_by, slice_index, slice_index_or, Bool, false, not, ◌&&◌, codes, decimal, if◌then◌else◌}
+use Rattle.std.specs.Prelude.{ℕ, zero, suc, ◌+◌, ◌-◌, ◌*◌, ◌/◌, min, ◌==◌, nat_le, List, [], ◌∷◌, ◌++◌, length, take, flat_map, Option}
+use Rattle.std.specs.Prelude.{Some, None, count_by, slice_index, slice_index_or, Bool, false, not, ◌&&◌, codes, decimal, if◌then◌else◌}
 use Rattle.std.specs.Int.{div_ceil}
 use Rattle.std.specs.List.{find, list_any}
 use Rattle.bohm_place.specs.Chains.{greatest}

@@ -22,7 +22,9 @@ head_line = codes "  batch  transactions      keys      sure     taken    depth 
 -- the widths say what more workers can at most be good for: the transactions over the depth, and their terms over the heaviest chain
 abbrev pub row_line : List ℕ → Totals → List ℕ
 row_line name t =
-    cell 7 name ++ cell 14 (decimal t.transactions) ++ cell 10 (decimal t.keys) ++ cell 10 (decimal t.sure) ++ cell 10 (decimal t.taken) ++ cell 9 (decimal t.depth) ++ hundredths_cell 10 (hundredths t.transactions t.depth) ++ cell 12 (decimal t.terms) ++ cell 11 (decimal t.heaviest) ++ hundredths_cell 10 (hundredths t.terms t.heaviest) ++ 10 ∷ []
+    cell 7 name ++ cell 14 (decimal t.transactions) ++ cell 10 (decimal t.keys) ++ cell 10 (decimal t.sure) ++ cell 10 (decimal t.taken) ++ cell 9
+    (decimal t.depth) ++ hundredths_cell 10 (hundredths t.transactions t.depth) ++ cell 12 (decimal t.terms) ++ cell 11
+    (decimal t.heaviest) ++ hundredths_cell 10 (hundredths t.terms t.heaviest) ++ 10 ∷ []
 
 -- a line for each batch, numbered from n on
 abbrev pub rows_from : ℕ → List Figures → List ℕ

@@ -1,6 +1,6 @@
 -- What is waited for in a batch.
 use Rattle.std.specs.Prelude.{◌≡◌, ◌≤◌, ◌^◌, List, All, length}
-use Rattle.bohm_tree.specs.Txn.{Txn}
+use Rattle.bohm_types.specs.Txn.{Txn}
 use Rattle.bohm_explain.specs.declared.waits.Waits.{Waits}
 use Rattle.bohm_explain.specs.Figures.{depths}
 use Rattle.bohm_explain.specs.Heaviest.{IsInside}

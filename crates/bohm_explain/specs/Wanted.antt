@@ -1,8 +1,8 @@
 -- Which transactions of a batch want which versions: its arrows. Positions in a batch are counted from 0.
 use Rattle.std.specs.Prelude.{ℕ, zero, suc, ◌-◌, List, [], ◌++◌, length, Bool, false, Option, Some, None, slice_get, unwrap_or, filter_map, if◌then◌else◌}
 use Rattle.std.specs.Option.{option_map}
-use Rattle.bohm_tree.specs.Txn.{Txn}
-use Rattle.bohm_tree.specs.Keys.{is_among}
+use Rattle.bohm_types.specs.Txn.{Txn}
+use Rattle.bohm_types.specs.Keys.{is_among}
 use Rattle.bohm_txn.specs.Sure.{is_sure}
 use Rattle.bohm_place.specs.declared.access.Source.{Source}
 use Rattle.bohm_place.specs.declared.access.Source.TheVariants.{Before, Within}

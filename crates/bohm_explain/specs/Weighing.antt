@@ -1,8 +1,8 @@
 -- What a transaction weighs: the terms of its body, and 1 where it has none.
 use Rattle.std.specs.Prelude.{ℕ, ◌+◌, List, length, map, max, sum_by}
-use Rattle.bohm_tree.specs.Stmt.{Stmt}
-use Rattle.bohm_tree.specs.Txn.{Txn}
-use Rattle.bohm_tree.specs.Parts.{sums}
+use Rattle.bohm_types.specs.Stmt.{Stmt}
+use Rattle.bohm_types.specs.Txn.{Txn}
+use Rattle.bohm_types.specs.Parts.{sums}
 
 abbrev pub terms_in : Stmt → ℕ
 terms_in s = sum_by length (sums s)

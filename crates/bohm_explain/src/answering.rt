@@ -3,12 +3,13 @@
 ghost use Rattle.std.specs.Prelude.{◌≤◌, length, IfNone, IfOk, IfSome};
 ghost use Rattle.bohm_place.specs.Shares.{AreWellFormed};
 ghost use Rattle.bohm_explain.specs.Printed.{IsAnswerTo, LacksBatch};
+ghost use Rattle.bohm_types.specs.Limits.{most_txns};
 
 use crate::drawing::print_picture;
 use crate::explanation::print_log;
 use crate::request::Request;
 use bohm_log::{DrawnSeed, LogPart};
-use bohm_tree::NoMemory;
+use bohm_types::NoMemory;
 use std::alloc::Global;
 
 /// The text of what is asked of a log, or `None` where that is the picture of a batch that the log
@@ -20,7 +21,7 @@ pub fn answer(
     log: &LogPart<'_>,
     request: Request,
 ) -> Result<Option<Vec<u8>>, NoMemory>
-    requires few { length log.now ≤ 1000000 }
+    requires few { length log.now ≤ most_txns }
     requires formed { AreWellFormed log.now }
     ensures answers { IfOk result (λ o. IfSome o (λ text. IsAnswerTo request log.now text.items)) }
     ensures lacking { IfOk result (λ o. IfNone o (LacksBatch request log.now)) }

@@ -5,11 +5,12 @@ ghost use Rattle.bohm_place.specs.Plans.{IsRightPlan};
 ghost use Rattle.bohm_place.specs.Shares.{AreWellFormed};
 ghost use Rattle.bohm_explain.specs.Heaviest.{IsInside};
 ghost use Rattle.bohm_explain.specs.Wanted.{arrows, arrows_in};
+ghost use Rattle.bohm_types.specs.Limits.{largest_batch, most_keys};
 
 use bohm_log::LogPart;
 use bohm_place::{DeclaredSet, Plan, Source};
-use bohm_tree::{Key, NoMemory};
 use bohm_txn::sure;
+use bohm_types::{Key, NoMemory};
 use std::alloc::Global;
 
 /// The transaction at `to` wants the version of the key that the one at `from` produces. Both are
@@ -34,7 +35,7 @@ fn put_arrows(
     requires room { plan.now.first + length txns.now ≤ 2 ^ 32 }
     requires inside { to < length txns.now }
     ensures arrows { IfOk result (λ _. out.new.items ≡ out.old.items ++ arrows_in set txns.now to) }
-    ensures few { IfOk result (λ _. length out.new.items ≤ length out.old.items + 16) }
+    ensures few { IfOk result (λ _. length out.new.items ≤ length out.old.items + most_keys) }
 {
     let first = plan.first();
     let keys = set.keys(&txns.txn(to as usize));
@@ -56,7 +57,7 @@ fn put_arrows(
 /// unless they are sure, those that their writes replace. The time grows with the number of
 /// declared keys.
 pub fn wanted(alloc: Global, plan: &Plan, txns: &LogPart<'_>) -> Result<Vec<Arrow>, NoMemory>
-    requires few { length txns.now ≤ 4096 }
+    requires few { length txns.now ≤ largest_batch }
     requires right { IsRightPlan txns.now plan.now }
     requires formed { AreWellFormed txns.now }
     requires room { plan.now.first + length txns.now ≤ 2 ^ 32 }

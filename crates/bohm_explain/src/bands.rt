@@ -3,11 +3,13 @@
 ghost use Rattle.std.specs.Prelude.{◌≡◌, ℕ, ◌*◌, ◌++◌, ◌<◌, ◌≤◌, All, IfOk, count_by, length};
 ghost use Rattle.std.specs.Prelude.{slice_index};
 ghost use Rattle.bohm_explain.specs.Asked.{IsBetween};
-ghost use Rattle.bohm_explain.specs.Picture.{band_at, band_line, band_lines, band_width, count_text, depths_text, is_in};
+ghost use Rattle.bohm_explain.specs.Picture.{band_at, band_line, band_lines, band_width};
+ghost use Rattle.bohm_explain.specs.Picture.{count_text, depths_text, is_in};
+ghost use Rattle.bohm_types.specs.Limits.{largest_batch};
 
 use crate::decimal::put_decimal;
 use crate::pieces::{put_joined, put_where};
-use bohm_tree::NoMemory;
+use bohm_types::NoMemory;
 
 /// The most transactions that are drawn one by one, and the most bands of depths.
 pub const MOST_NODES: u32 = 200;
@@ -21,7 +23,7 @@ struct Band {
 
 /// So many depths are drawn as one that at most 200 nodes are drawn.
 pub fn band_width(deepest: u32) -> u32
-    requires few { deepest ≤ 4096 }
+    requires few { deepest ≤ largest_batch }
     ensures { result ≡ band_width deepest }
 {
     deepest.div_ceil(MOST_NODES)
@@ -41,7 +43,7 @@ fn band_at(deepest: u32, width: u32, before: u32) -> Band
 
 /// How many of the depths are in each band.
 fn band_counts(deepest: u32, width: u32, depths: &[u32]) -> [u32; MOST_NODES as usize]
-    requires few { length depths.now ≤ 4096 }
+    requires few { length depths.now ≤ largest_batch }
     requires depths { All (IsBetween 1 deepest) depths.now }
     requires wide { deepest ≤ width * 200 }
     ensures length { length result ≡ 200 }
@@ -95,8 +97,8 @@ fn put_band(out: &mut Vec<u8>, before: u32, band: Band, count: u32) -> Result<()
 
 /// The bands down to the deepest, with so many of these depths in them.
 pub fn put_bands(out: &mut Vec<u8>, deepest: u32, depths: &[u32]) -> Result<(), NoMemory>
-    requires deepest { IsBetween 1 4096 deepest }
-    requires few { length depths.now ≤ 4096 }
+    requires deepest { IsBetween 1 largest_batch deepest }
+    requires few { length depths.now ≤ largest_batch }
     requires depths { All (IsBetween 1 deepest) depths.now }
     ensures { IfOk result (λ _. out.new.items ≡ out.old.items ++ band_lines deepest depths.now) }
 {

@@ -1,10 +1,13 @@
 //! A picture with a node for each band of depths, and a chain beside them.
 
-ghost use Rattle.std.specs.Prelude.{◌≡◌, ◌+◌, ◌++◌, ◌<◌, ◌≤◌, All, IfOk, length, option_copied, take};
+ghost use Rattle.std.specs.Prelude.{◌≡◌, ◌+◌, ◌++◌, ◌<◌, ◌≤◌, All};
+ghost use Rattle.std.specs.Prelude.{IfOk, length, option_copied, take};
 ghost use Rattle.bohm_place.specs.Chains.{greatest};
 ghost use Rattle.bohm_explain.specs.Asked.{IsBetween};
 ghost use Rattle.bohm_explain.specs.Heaviest.{IsInside};
-ghost use Rattle.bohm_explain.specs.Picture.{band_width, by_depth, chain_legend, leading, link_node, link_nodes, link_text, links, others};
+ghost use Rattle.bohm_explain.specs.Picture.{band_width, by_depth, chain_legend, leading};
+ghost use Rattle.bohm_explain.specs.Picture.{link_node, link_nodes, link_text, links, others};
+ghost use Rattle.bohm_types.specs.Limits.{largest_batch, most_txns};
 
 use crate::arrow::Arrow;
 use crate::bands::{MOST_NODES, band_width, put_bands};
@@ -12,12 +15,12 @@ use crate::decimal::put_decimal;
 use crate::figures::greatest;
 use crate::nodes::{Node, put_arrow, put_node};
 use crate::pieces::put_opening;
-use bohm_tree::NoMemory;
+use bohm_types::NoMemory;
 use std::alloc::Global;
 
 /// The depths of the positions that aren't drawn.
 fn others(alloc: Global, drawn: &[u32], depths: &[u32]) -> Result<Vec<u32>, NoMemory>
-    requires few { length depths.now ≤ 4096 }
+    requires few { length depths.now ≤ largest_batch }
     ensures { IfOk result (λ v. v.items ≡ others drawn.now depths.now) }
 {
     let mut others = Vec::new(alloc);
@@ -31,10 +34,10 @@ fn others(alloc: Global, drawn: &[u32], depths: &[u32]) -> Result<Vec<u32>, NoMe
 
 /// A transaction of the chain as it is drawn beside bands of this width.
 fn link_node(first: u32, width: u32, depths: &[u32], position: u32) -> Node
-    requires first { first ≤ 1000000 }
+    requires first { first ≤ most_txns }
     requires wide { 0 < width }
-    requires few { length depths.now ≤ 4096 }
-    requires depths { All (IsBetween 1 4096) depths.now }
+    requires few { length depths.now ≤ largest_batch }
+    requires depths { All (IsBetween 1 largest_batch) depths.now }
     requires inside { position < length depths.now }
     ensures { result ≡ link_node first width depths.now position }
 {
@@ -53,10 +56,10 @@ fn put_link_nodes(
     depths: &[u32],
     drawn: &[u32],
 ) -> Result<(), NoMemory>
-    requires first { first ≤ 1000000 }
+    requires first { first ≤ most_txns }
     requires wide { 0 < width }
-    requires few { length depths.now ≤ 4096 }
-    requires depths { All (IsBetween 1 4096) depths.now }
+    requires few { length depths.now ≤ largest_batch }
+    requires depths { All (IsBetween 1 largest_batch) depths.now }
     requires inside { All (λ p. p < length depths.now) drawn.now }
     ensures { IfOk result (λ _. out.new.items
         ≡ out.old.items ++ link_nodes first width depths.now drawn.now) }
@@ -84,8 +87,8 @@ fn put_link(
     from: u32,
     to: u32,
 ) -> Result<(), NoMemory>
-    requires first { first ≤ 1000000 }
-    requires inside { All (IsInside 4096) arrows.now }
+    requires first { first ≤ most_txns }
+    requires inside { All (IsInside largest_batch) arrows.now }
     ensures { IfOk result (λ _. out.new.items
         ≡ out.old.items ++ link_text first (leading arrows.now from to)) }
 {
@@ -97,8 +100,8 @@ fn put_link(
 
 /// The same from each transaction of the chain to the next.
 fn put_links(out: &mut Vec<u8>, first: u32, arrows: &[Arrow], drawn: &[u32]) -> Result<(), NoMemory>
-    requires first { first ≤ 1000000 }
-    requires inside { All (IsInside 4096) arrows.now }
+    requires first { first ≤ most_txns }
+    requires inside { All (IsInside largest_batch) arrows.now }
     ensures { IfOk result (λ _. out.new.items ≡ out.old.items ++ links first arrows.now drawn.now) }
 {
     for next in 1..drawn.len() {
@@ -131,10 +134,10 @@ pub fn put_by_depth(
     depths: &[u32],
     chain: &[u32],
 ) -> Result<(), NoMemory>
-    requires first { first ≤ 1000000 }
+    requires first { first ≤ most_txns }
     requires some { 0 < length depths.now }
-    requires few { length depths.now ≤ 4096 }
-    requires depths { All (IsBetween 1 4096) depths.now }
+    requires few { length depths.now ≤ largest_batch }
+    requires depths { All (IsBetween 1 largest_batch) depths.now }
     requires inside { All (IsInside (length depths.now)) arrows.now }
     requires chain { All (λ p. p < length depths.now) chain.now }
     ensures { IfOk result (λ _. out.new.items ≡ out.old.items

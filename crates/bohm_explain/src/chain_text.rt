@@ -4,7 +4,7 @@ ghost use Rattle.std.specs.Prelude.{◌≡◌, ◌++◌, flat_map, IfOk};
 ghost use Rattle.bohm_explain.specs.ChainText.{chain_text, more_text, spaced};
 
 use crate::decimal::put_decimal;
-use bohm_tree::NoMemory;
+use bohm_types::NoMemory;
 
 /// The most transactions that are listed.
 const MOST_LISTED: usize = 100;

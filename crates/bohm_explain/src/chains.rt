@@ -1,10 +1,11 @@
 //! The heaviest chains of wanted versions.
 
 ghost use Rattle.std.specs.Prelude.{◌≡◌, ◌≤◌, ◌^◌, All, length, IfOk};
-ghost use Rattle.bohm_explain.specs.Heaviest.{AreChainable, IsInside, heaviest_from, heaviest_to, on_longest, through};
+ghost use Rattle.bohm_explain.specs.Heaviest.{AreChainable, IsInside, heaviest_from};
+ghost use Rattle.bohm_explain.specs.Heaviest.{heaviest_to, on_longest, through};
 
 use crate::arrow::Arrow;
-use bohm_tree::NoMemory;
+use bohm_types::NoMemory;
 use std::alloc::Global;
 
 /// For each position the greatest weight of a chain of wanted versions that ends there.

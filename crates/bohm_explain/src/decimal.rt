@@ -2,7 +2,7 @@
 
 ghost use Rattle.std.specs.Prelude.{◌≡◌, ◌++◌, IfOk};
 
-use bohm_tree::NoMemory;
+use bohm_types::NoMemory;
 use itoa::{Buffer, Integer};
 
 /// A number among words.

@@ -7,6 +7,7 @@ ghost use Rattle.bohm_explain.specs.Asked.{IsBetween};
 ghost use Rattle.bohm_explain.specs.Figures.{batch_count};
 ghost use Rattle.bohm_explain.specs.Printed.{IsHeaviestChain, IsPictureIn, IsPictureOf};
 ghost use Rattle.bohm_explain.specs.Wanted.{arrows as wanted_in};
+ghost use Rattle.bohm_types.specs.Limits.{largest_batch, most_txns};
 
 use crate::arrow::Arrow;
 use crate::batches::{batch_at, batch_count};
@@ -18,8 +19,8 @@ use crate::walking::heaviest_chain;
 use crate::weights::weights;
 use bohm_log::LogPart;
 use bohm_place::{Newest, plan_alone};
-use bohm_tree::NoMemory;
 use bohm_txn::sure;
+use bohm_types::NoMemory;
 use std::alloc::Global;
 
 /// Whether each transaction is sure.
@@ -37,7 +38,7 @@ fn sure_marks(alloc: Global, txns: &LogPart<'_>) -> Result<Vec<bool>, NoMemory>
 /// The positions of one of the heaviest chains of a batch with these wanted versions.
 fn heaviest_of(alloc: Global, txns: &LogPart<'_>, arrows: &[Arrow]) -> Result<Vec<u32>, NoMemory>
     requires some { 0 < length txns.now }
-    requires few { length txns.now ≤ 4096 }
+    requires few { length txns.now ≤ largest_batch }
     requires formed { AreWellFormed txns.now }
     requires arrows { arrows.now ≡ wanted_in txns.now }
     requires few_arrows { length arrows.now ≤ 131072 }
@@ -56,9 +57,9 @@ fn draw_batch(
     first: u32,
     txns: &LogPart<'_>,
 ) -> Result<Vec<u8>, NoMemory>
-    requires first { first ≤ 1000000 }
+    requires first { first ≤ most_txns }
     requires some { 0 < length txns.now }
-    requires few { length txns.now ≤ 4096 }
+    requires few { length txns.now ≤ largest_batch }
     requires formed { AreWellFormed txns.now }
     ensures { IfOk result (λ text. IsPictureOf number first txns.now text.items) }
 {
@@ -90,8 +91,8 @@ pub fn print_picture(
     size: u32,
     number: u32,
 ) -> Result<Option<Vec<u8>>, NoMemory>
-    requires size { IsBetween 1 4096 size }
-    requires few { length log.now ≤ 1000000 }
+    requires size { IsBetween 1 largest_batch size }
+    requires few { length log.now ≤ most_txns }
     requires formed { AreWellFormed log.now }
     requires number { 1 ≤ number }
     ensures there { IfOk result (λ o. IfSome o (λ _. number ≤ batch_count size log.now)) }

@@ -1,15 +1,17 @@
 //! The explanation of a log: its figures and its hottest keys.
 
 ghost use Rattle.std.specs.Prelude.{◌≡◌, ◌++◌, ◌∷◌, [], ◌≤◌, List, length, IfOk, OnOk};
-ghost use Rattle.bohm_tree.specs.Txn.{Txn};
+ghost use Rattle.bohm_types.specs.Txn.{Txn};
 ghost use Rattle.bohm_place.specs.Plans.{IsPlannable, IsRightPlan};
 ghost use Rattle.bohm_place.specs.Shares.{AreWellFormed};
 ghost use Rattle.bohm_explain.specs.Asked.{IsBetween};
 ghost use Rattle.bohm_explain.specs.Figures.{figures_in, figures_of};
 ghost use Rattle.bohm_explain.specs.Heats.{Chained};
-ghost use Rattle.bohm_explain.specs.Printed.{IsLongestChain, IsTextOf, chained, chained_in, figures_text};
+ghost use Rattle.bohm_explain.specs.Printed.{IsLongestChain, IsTextOf, chained};
+ghost use Rattle.bohm_explain.specs.Printed.{chained_in, figures_text};
 ghost use Rattle.bohm_explain.specs.Longest.{IsLonger};
 ghost use Rattle.bohm_explain.specs.Tallies.{CanTake, IsGathered};
+ghost use Rattle.bohm_types.specs.Limits.{largest_batch, most_txns};
 
 use crate::batches::{batch_at, batch_count};
 use crate::chain_text::put_chain;
@@ -27,7 +29,7 @@ use crate::verdict::put_verdict;
 use crate::waits::waits_in;
 use bohm_log::{DrawnSeed, HashSeed, LogPart};
 use bohm_place::{Newest, Plan, plan_alone};
-use bohm_tree::NoMemory;
+use bohm_types::NoMemory;
 use std::alloc::Global;
 
 /// What is found out of a log.
@@ -49,12 +51,13 @@ fn explain_batch(
     keys: &mut Gathering,
     longest: &mut Vec<u32>,
 ) -> Result<Figures, NoMemory>
-    requires few { length txns.now ≤ 4096 }
+    requires few { length txns.now ≤ largest_batch }
     requires plannable { IsPlannable plan.now.first txns.now }
     requires right { IsRightPlan txns.now plan.now }
     requires room { CanTake (length txns.now) keys.old }
-    requires first { plan.now.first ≤ 1000000 }
-    ensures longest { OnOk result (IsLonger plan.now.first txns.now longest.old.items longest.new.items) }
+    requires first { plan.now.first ≤ most_txns }
+    ensures longest { OnOk result
+        (IsLonger plan.now.first txns.now longest.old.items longest.new.items) }
     ensures figures { IfOk result (λ f. f ≡ figures_of txns.now) }
     ensures noted { OnOk result ((log : List Txn) (batches : List Chained)
         → IsGathered log batches keys.old
@@ -76,11 +79,11 @@ fn survey_log(
     log: &LogPart<'_>,
     size: u32,
 ) -> Result<Survey, NoMemory>
-    requires size { IsBetween 1 4096 size }
-    requires few { length log.now ≤ 1000000 }
+    requires size { IsBetween 1 largest_batch size }
+    requires few { length log.now ≤ most_txns }
     requires formed { AreWellFormed log.now }
     ensures figures { IfOk result (λ s. s.figures.items ≡ figures_in size log.now) }
-    ensures few { IfOk result (λ s. length s.figures.items ≤ 1000000) }
+    ensures few { IfOk result (λ s. length s.figures.items ≤ most_txns) }
     ensures keys { IfOk result (λ s. IsGathered log.now (chained_in size log.now) s.keys) }
     ensures longest { IfOk result (λ s. IsLongestChain size log.now s.longest.items) }
 {
@@ -110,7 +113,7 @@ fn print_figures(
     top: u32,
     layout: Layout,
 ) -> Result<Vec<u8>, NoMemory>
-    requires { length figures.now ≤ 1000000 }
+    requires { length figures.now ≤ most_txns }
     ensures { IfOk result (λ text. text.items
         ≡ figures_text layout top figures.now ranked.now longest.now) }
 {
@@ -136,8 +139,8 @@ pub fn print_log(
     top: u32,
     layout: Layout,
 ) -> Result<Vec<u8>, NoMemory>
-    requires size { IsBetween 1 4096 size }
-    requires few { length log.now ≤ 1000000 }
+    requires size { IsBetween 1 largest_batch size }
+    requires few { length log.now ≤ most_txns }
     requires formed { AreWellFormed log.now }
     ensures { IfOk result (λ text. IsTextOf size top layout log.now text.items) }
 {

@@ -4,15 +4,17 @@ ghost use Rattle.std.specs.Prelude.{◌≡◌, ℕ, ◌+◌, ◌≤◌, ◌^◌,
 ghost use Rattle.bohm_txn.specs.Sure.{is_sure};
 ghost use Rattle.bohm_place.specs.Chains.{greatest};
 ghost use Rattle.bohm_place.specs.Shares.{AreWellFormed};
-ghost use Rattle.bohm_explain.specs.Figures.{alone, depths as depths_in, figures_of, plus, totals_of, AreAtMost};
+ghost use Rattle.bohm_explain.specs.Figures.{alone, depths as depths_in, figures_of};
+ghost use Rattle.bohm_explain.specs.Figures.{plus, totals_of, AreAtMost};
 ghost use Rattle.bohm_explain.specs.Wanted.{arrows as wanted_in};
+ghost use Rattle.bohm_types.specs.Limits.{largest_batch, most_txns};
 
 use crate::arrow::Arrow;
 use crate::chains::heaviest_to;
 use crate::weights::{declared, weights};
 use bohm_log::LogPart;
-use bohm_tree::NoMemory;
 use bohm_txn::sure;
+use bohm_types::NoMemory;
 use std::alloc::Global;
 
 /// What is counted of one batch.
@@ -84,7 +86,7 @@ impl Totals {
 
     /// The totals of some batches.
     pub fn of(figures: &[Figures]) -> Totals
-        requires { length figures.now ≤ 1000000 }
+        requires { length figures.now ≤ most_txns }
         ensures { result ≡ totals_of figures.now }
     {
         let mut totals = Totals {
@@ -116,7 +118,7 @@ pub fn greatest(values: &[u32]) -> u32
 
 /// The sum of these.
 fn sum_of(weights: &[u32]) -> u32
-    requires few { length weights.now ≤ 4096 }
+    requires few { length weights.now ≤ largest_batch }
     requires light { All (λ w. w ≤ 3072) weights.now }
     ensures { result ≡ sum weights.now }
 {
@@ -129,7 +131,7 @@ fn sum_of(weights: &[u32]) -> u32
 
 /// How many of the transactions are sure.
 fn count_sure(txns: &LogPart<'_>) -> u32
-    requires few { length txns.now ≤ 4096 }
+    requires few { length txns.now ≤ largest_batch }
     ensures { result ≡ count_by is_sure txns.now }
 {
     let mut count = 0;
@@ -148,7 +150,7 @@ pub fn counted(
     arrows: &[Arrow],
     depths: &[u32],
 ) -> Result<Figures, NoMemory>
-    requires few { length txns.now ≤ 4096 }
+    requires few { length txns.now ≤ largest_batch }
     requires formed { AreWellFormed txns.now }
     requires arrows { arrows.now ≡ wanted_in txns.now }
     requires few_arrows { length arrows.now ≤ 131072 }

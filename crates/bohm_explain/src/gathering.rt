@@ -2,7 +2,7 @@
 
 ghost use Rattle.std.specs.Prelude.{◌≡◌, List, [], ◌∷◌, ◌++◌, length, IfOk, OnOk};
 ghost use Rattle.std.specs.List.{zip};
-ghost use Rattle.bohm_tree.specs.Txn.{Txn};
+ghost use Rattle.bohm_types.specs.Txn.{Txn};
 ghost use Rattle.bohm_place.specs.Shares.{AreWellFormed};
 ghost use Rattle.bohm_explain.specs.Heats.{AreHeatsOf, Chained};
 ghost use Rattle.bohm_explain.specs.Tallies.{CanTake, IsGathered};
@@ -12,7 +12,7 @@ use crate::arrow::Arrow;
 use crate::heat::Heat;
 use crate::tallies::{Tally, count_all, raise_all};
 use bohm_log::{HashSeed, LogPart};
-use bohm_tree::{Key, NoMemory};
+use bohm_types::{Key, NoMemory};
 use indexmap::IndexMap;
 use std::alloc::Global;
 

@@ -1,6 +1,6 @@
 //! How often a key is accessed.
 
-use bohm_tree::Key;
+use bohm_types::Key;
 
 /// A key of a log, and how much is done with it.
 #[derive(Clone, Copy, Debug, PartialEq, Eq)]

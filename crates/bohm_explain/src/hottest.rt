@@ -5,7 +5,7 @@ ghost use Rattle.bohm_explain.specs.Hottest.{left_cell, heat_line, heat_lines, h
 
 use crate::heat::Heat;
 use crate::table::{put_blanks, put_number};
-use bohm_tree::NoMemory;
+use bohm_types::NoMemory;
 
 /// The columns end where `sure`, `taken` and `depth` do in the table.
 const HEAD: &[u8] = b"hottest keys                      writers   readers    chain\n";

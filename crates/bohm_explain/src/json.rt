@@ -1,16 +1,20 @@
 //! Figures in JSON.
 
 ghost use Rattle.std.specs.Prelude.{◌≡◌, ◌≤◌, ◌++◌, [], length, take, IfOk};
-ghost use Rattle.bohm_explain.specs.Json.{batches_json, field, figures_from, figures_item, figures_json, heat_item, heat_json, heats_from, hottest_json};
-ghost use Rattle.bohm_explain.specs.Json.{chain_json, hundredths_field, json_text, limits_json, place_item, places_from, separator};
+ghost use Rattle.bohm_explain.specs.Json.{batches_json, field, figures_from};
+ghost use Rattle.bohm_explain.specs.Json.{figures_item, figures_json, heat_item};
+ghost use Rattle.bohm_explain.specs.Json.{heat_json, heats_from, hottest_json};
+ghost use Rattle.bohm_explain.specs.Json.{chain_json, hundredths_field, json_text};
+ghost use Rattle.bohm_explain.specs.Json.{limits_json, place_item, places_from, separator};
 ghost use Rattle.bohm_explain.specs.Table.{hundredths};
+ghost use Rattle.bohm_types.specs.Limits.{most_txns};
 
 use crate::decimal::put_decimal;
 use crate::figures::{Figures, Totals};
 use crate::heat::Heat;
 use crate::table::{put_hundredths, put_quotient};
 use crate::verdict::{execution_limit, run_limit};
-use bohm_tree::NoMemory;
+use bohm_types::NoMemory;
 use itoa::Integer;
 
 /// The name of a further field.
@@ -136,7 +140,8 @@ fn put_heats(out: &mut Vec<u8>, heats: &[Heat]) -> Result<(), NoMemory>
 
 /// The first `top` of these keys, as the items of a list.
 fn put_first(out: &mut Vec<u8>, top: u32, ranked: &[Heat]) -> Result<(), NoMemory>
-    ensures { IfOk result (λ _. out.new.items ≡ out.old.items ++ heats_from 0 (take top ranked.now)) }
+    ensures { IfOk result
+        (λ _. out.new.items ≡ out.old.items ++ heats_from 0 (take top ranked.now)) }
 {
     put_heats(out, &ranked[..ranked.len().min(top as usize)])
 }
@@ -202,7 +207,7 @@ pub fn put_json(
     ranked: &[Heat],
     longest: &[u32],
 ) -> Result<(), NoMemory>
-    requires { length figures.now ≤ 1000000 }
+    requires { length figures.now ≤ most_txns }
     ensures { IfOk result (λ _. out.new.items
         ≡ out.old.items ++ json_text summary top figures.now ranked.now longest.now) }
 {

@@ -1,7 +1,8 @@
 //! Laws over the definitions alone. No call uses them.
 
-ghost use Rattle.std.specs.Prelude.{◌≡◌, ◌+◌, ◌<◌, ◌≤◌, ◌↔◌, ℕ, List, Contains, IsSomeAnd, length, map, slice_index, slice_index_or, take, true, false};
-ghost use Rattle.bohm_tree.specs.Txn.{Txn};
+ghost use Rattle.std.specs.Prelude.{◌≡◌, ◌+◌, ◌<◌, ◌≤◌, ◌↔◌, ℕ, List, Contains, IsSomeAnd};
+ghost use Rattle.std.specs.Prelude.{length, map, slice_index, slice_index_or, take, true, false};
+ghost use Rattle.bohm_types.specs.Txn.{Txn};
 ghost use Rattle.bohm_explain.specs.declared.arrow.Arrow.{Arrow};
 ghost use Rattle.bohm_explain.specs.declared.heat.Heat.{Heat};
 ghost use Rattle.std.specs.Int.{div_ceil};
@@ -11,10 +12,12 @@ ghost use Rattle.bohm_place.specs.Chains.{greatest};
 ghost use Rattle.bohm_place.specs.Plans.{IsRightPlan};
 ghost use Rattle.bohm_board.specs.declared.batch.Batch.{Batch};
 ghost use Rattle.bohm_board.specs.Batches.{IsIn, Wants, plan_of, position, txns_of};
-ghost use Rattle.bohm_line.specs.Cuttings.{Cutting, IsEven, txns_at};
-ghost use Rattle.bohm_explain.specs.Chains.{EndsAt, IsChainOf, IsGreatest, IsOn, IsWantedBy, LeadsOn, weight_of};
+ghost use Rattle.bohm_place.specs.Cuttings.{Cutting, IsEven, txns_at};
+ghost use Rattle.bohm_explain.specs.Chains.{EndsAt, IsChainOf, IsGreatest, IsOn};
+ghost use Rattle.bohm_explain.specs.Chains.{IsWantedBy, LeadsOn, weight_of};
 ghost use Rattle.bohm_explain.specs.Figures.{batch_at, batch_count, depths, figures_in};
-ghost use Rattle.bohm_explain.specs.Heaviest.{AreRising, greatest_wanted, greatest_wanting, heaviest_from, heaviest_to};
+ghost use Rattle.bohm_explain.specs.Heaviest.{AreRising, greatest_wanted, greatest_wanting};
+ghost use Rattle.bohm_explain.specs.Heaviest.{heaviest_from, heaviest_to};
 ghost use Rattle.bohm_explain.specs.Picture.{band_width, leading};
 ghost use Rattle.bohm_explain.specs.Printed.{IsLongestChain, heights, longest};
 ghost use Rattle.bohm_explain.specs.Ranking.{IsRanking};

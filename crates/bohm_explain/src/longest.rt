@@ -3,19 +3,20 @@
 ghost use Rattle.std.specs.Prelude.{◌≡◌, ◌+◌, ◌<◌, ◌≤◌, All, length, map, IfOk, OnOk};
 ghost use Rattle.bohm_explain.specs.Longest.{IsLonger, IsLongestOf};
 ghost use Rattle.bohm_explain.specs.Waiting.{AreWaits};
+ghost use Rattle.bohm_types.specs.Limits.{largest_batch, most_txns};
 
 use crate::figures::greatest;
 use crate::waits::Waits;
 use crate::walking::heaviest_chain;
 use crate::weights::alike;
 use bohm_log::LogPart;
-use bohm_tree::NoMemory;
+use bohm_types::NoMemory;
 use std::alloc::Global;
 
 /// Each of these, that much further on.
 fn placed(alloc: Global, first: u32, positions: &[u32]) -> Result<Vec<u32>, NoMemory>
-    requires first { first ≤ 1000000 }
-    requires inside { All (λ p. p < 4096) positions.now }
+    requires first { first ≤ most_txns }
+    requires inside { All (λ p. p < largest_batch) positions.now }
     ensures { IfOk result (λ v. v.items ≡ map (λ p. first + p) positions.now) }
 {
     let mut places = Vec::with_capacity(alloc, positions.len())?;
@@ -34,9 +35,9 @@ fn longest_chain(
     first: u32,
 ) -> Result<Vec<u32>, NoMemory>
     requires some { 0 < length txns.now }
-    requires few { length txns.now ≤ 4096 }
+    requires few { length txns.now ≤ largest_batch }
     requires waits { AreWaits txns.now waits.now }
-    requires first { first ≤ 1000000 }
+    requires first { first ≤ most_txns }
     ensures { IfOk result (λ v. IsLongestOf first txns.now v.items) }
 {
     let alike = alike(alloc, txns.len())?;
@@ -57,9 +58,9 @@ pub fn keep_longer(
     first: u32,
     longest: &mut Vec<u32>,
 ) -> Result<(), NoMemory>
-    requires few { length txns.now ≤ 4096 }
+    requires few { length txns.now ≤ largest_batch }
     requires waits { AreWaits txns.now waits.now }
-    requires first { first ≤ 1000000 }
+    requires first { first ≤ most_txns }
     ensures { OnOk result (IsLonger first txns.now longest.old.items longest.new.items) }
 {
     if greatest(waits.depths.as_slice()) as usize <= longest.len() {

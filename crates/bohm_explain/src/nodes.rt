@@ -3,13 +3,15 @@
 ghost use Rattle.std.specs.Prelude.{◌≡◌, ◌++◌, ◌≤◌, All, IfOk, length};
 ghost use Rattle.bohm_explain.specs.Asked.{IsBetween};
 ghost use Rattle.bohm_explain.specs.Heaviest.{IsInside};
-ghost use Rattle.bohm_explain.specs.Picture.{arrow_line, arrow_lines, by_transaction, is_bold, node_line, node_lines};
+ghost use Rattle.bohm_explain.specs.Picture.{arrow_line, arrow_lines, by_transaction};
+ghost use Rattle.bohm_explain.specs.Picture.{is_bold, node_line, node_lines};
+ghost use Rattle.bohm_types.specs.Limits.{largest_batch, most_txns};
 
 use crate::arrow::Arrow;
 use crate::decimal::put_decimal;
 use crate::figures::greatest;
 use crate::pieces::{put_columns, put_legend, put_opening, put_where};
-use bohm_tree::{Key, NoMemory};
+use bohm_types::{Key, NoMemory};
 
 /// A transaction as it is drawn.
 #[derive(Clone, Copy, Debug, PartialEq, Eq)]
@@ -43,8 +45,8 @@ fn put_nodes(
     depths: &[u32],
     longest: &[bool],
 ) -> Result<(), NoMemory>
-    requires first { first ≤ 1000000 }
-    requires few { length depths.now ≤ 4096 }
+    requires first { first ≤ most_txns }
+    requires few { length depths.now ≤ largest_batch }
     requires sure { length sure.now ≡ length depths.now }
     requires longest { length longest.now ≡ length depths.now }
     ensures { IfOk result (λ _. out.new.items
@@ -64,7 +66,7 @@ fn put_nodes(
 
 /// Whether the arrow is part of a longest chain.
 fn is_bold(arrow: Arrow, depths: &[u32], longest: &[bool]) -> bool
-    requires depths { All (IsBetween 1 4096) depths.now }
+    requires depths { All (IsBetween 1 largest_batch) depths.now }
     requires longest { length longest.now ≡ length depths.now }
     requires inside { IsInside (length depths.now) arrow }
     ensures { result ≡ is_bold depths.now longest.now arrow }
@@ -83,8 +85,8 @@ fn put_key(out: &mut Vec<u8>, key: Key) -> Result<(), NoMemory>
 }
 
 pub fn put_arrow(out: &mut Vec<u8>, first: u32, arrow: Arrow, bold: bool) -> Result<(), NoMemory>
-    requires first { first ≤ 1000000 }
-    requires inside { IsInside 4096 arrow }
+    requires first { first ≤ most_txns }
+    requires inside { IsInside largest_batch arrow }
     ensures { IfOk result (λ _. out.new.items ≡ out.old.items ++ arrow_line first bold arrow) }
 {
     out.extend_from_slice(b"  ")?;
@@ -108,9 +110,9 @@ fn put_arrows(
     depths: &[u32],
     longest: &[bool],
 ) -> Result<(), NoMemory>
-    requires first { first ≤ 1000000 }
-    requires few { length depths.now ≤ 4096 }
-    requires depths { All (IsBetween 1 4096) depths.now }
+    requires first { first ≤ most_txns }
+    requires few { length depths.now ≤ largest_batch }
+    requires depths { All (IsBetween 1 largest_batch) depths.now }
     requires longest { length longest.now ≡ length depths.now }
     requires inside { All (IsInside (length depths.now)) arrows.now }
     ensures { IfOk result (λ _. out.new.items
@@ -133,9 +135,9 @@ pub fn put_by_transaction(
     depths: &[u32],
     longest: &[bool],
 ) -> Result<(), NoMemory>
-    requires first { first ≤ 1000000 }
-    requires few { length depths.now ≤ 4096 }
-    requires depths { All (IsBetween 1 4096) depths.now }
+    requires first { first ≤ most_txns }
+    requires few { length depths.now ≤ largest_batch }
+    requires depths { All (IsBetween 1 largest_batch) depths.now }
     requires sure { length sure.now ≡ length depths.now }
     requires longest { length longest.now ≡ length depths.now }
     requires inside { All (IsInside (length depths.now)) arrows.now }

@@ -4,12 +4,13 @@ ghost use Rattle.std.specs.Prelude.{◌≡◌, ◌++◌, ◌<◌, ◌≤◌, All
 ghost use Rattle.bohm_explain.specs.Asked.{IsBetween};
 ghost use Rattle.bohm_explain.specs.Heaviest.{IsInside};
 ghost use Rattle.bohm_explain.specs.Picture.{picture_text};
+ghost use Rattle.bohm_types.specs.Limits.{largest_batch, most_txns};
 
 use crate::arrow::Arrow;
 use crate::bands::MOST_NODES;
 use crate::beside::put_by_depth;
 use crate::nodes::put_by_transaction;
-use bohm_tree::NoMemory;
+use bohm_types::NoMemory;
 use std::alloc::Global;
 
 /// Draws the batch of this number, whose first transaction has this place in the log, from what
@@ -28,9 +29,9 @@ pub fn put_picture(
     longest: &[bool],
     chain: &[u32],
 ) -> Result<(), NoMemory>
-    requires first { first ≤ 1000000 }
-    requires few { length depths.now ≤ 4096 }
-    requires depths { All (IsBetween 1 4096) depths.now }
+    requires first { first ≤ most_txns }
+    requires few { length depths.now ≤ largest_batch }
+    requires depths { All (IsBetween 1 largest_batch) depths.now }
     requires sure { length sure.now ≡ length depths.now }
     requires longest { length longest.now ≡ length depths.now }
     requires inside { All (IsInside (length depths.now)) arrows.now }

@@ -1,10 +1,12 @@
 //! Parts that both kinds of picture share.
 
 ghost use Rattle.std.specs.Prelude.{◌≡◌, ◌++◌, ◌<◌, ◌≤◌, IfOk};
-ghost use Rattle.bohm_explain.specs.Picture.{column_line, column_lines, joined, legend, opening, shown};
+ghost use Rattle.bohm_explain.specs.Picture.{column_line, column_lines};
+ghost use Rattle.bohm_explain.specs.Picture.{joined, legend, opening, shown};
+ghost use Rattle.bohm_types.specs.Limits.{largest_batch};
 
 use crate::decimal::put_decimal;
-use bohm_tree::NoMemory;
+use bohm_types::NoMemory;
 
 /// The title of a batch, in a text that is still open.
 pub fn put_opening(out: &mut Vec<u8>, batch: u32) -> Result<(), NoMemory>
@@ -38,7 +40,7 @@ pub fn put_where(out: &mut Vec<u8>, holds: bool, text: &[u8]) -> Result<(), NoMe
 
 /// Joins a node of the row to the one before it, if there is one.
 pub fn put_joined(out: &mut Vec<u8>, before: u32) -> Result<(), NoMemory>
-    requires few { before < 4096 }
+    requires few { before < largest_batch }
     ensures { IfOk result (λ _. out.new.items ≡ out.old.items ++ joined before) }
 {
     if before == 0 {
@@ -54,7 +56,7 @@ pub fn put_joined(out: &mut Vec<u8>, before: u32) -> Result<(), NoMemory>
 
 /// The head of a column, after this many others.
 fn put_column(out: &mut Vec<u8>, before: u32) -> Result<(), NoMemory>
-    requires few { before < 4096 }
+    requires few { before < largest_batch }
     ensures { IfOk result (λ _. out.new.items ≡ out.old.items ++ column_line before) }
 {
     out.extend_from_slice(b"  d")?;
@@ -66,7 +68,7 @@ fn put_column(out: &mut Vec<u8>, before: u32) -> Result<(), NoMemory>
 }
 
 pub fn put_columns(out: &mut Vec<u8>, deepest: u32) -> Result<(), NoMemory>
-    requires few { deepest ≤ 4096 }
+    requires few { deepest ≤ largest_batch }
     ensures { IfOk result (λ _. out.new.items ≡ out.old.items ++ column_lines deepest) }
 {
     for before in 0..deepest {

@@ -3,19 +3,20 @@
 ghost use Rattle.std.specs.Prelude.{◌≡◌, ◌≤◌, IfSome};
 ghost use Rattle.std.specs.Option.{SomeIff};
 ghost use Rattle.bohm_explain.specs.Asked.{Asked, AreInRange, IsBetween, defaults};
+ghost use Rattle.bohm_types.specs.Limits.{largest_batch, most_txns};
 
 use crate::layout::Layout;
 use std::marker::Model;
 
 /// The most transactions of a batch.
-pub const LARGEST_BATCH: u32 = bohm_tree::LARGEST_BATCH;
+pub const LARGEST_BATCH: u32 = bohm_types::LARGEST_BATCH;
 
 /// The most keys that are listed.
 pub const MOST_LISTED: u32 = 1000;
 
 /// The greatest number that a batch can have: a log has at most this many transactions, and a batch
 /// at least one.
-pub const LAST_BATCH: u32 = bohm_tree::MOST_TXNS as u32;
+pub const LAST_BATCH: u32 = bohm_types::MOST_TXNS as u32;
 
 /// The transactions of a batch, how many keys are listed, the hottest first, and the number of the
 /// batch whose picture is printed instead of the figures, from 1 on (`None`: the figures, so laid out).
@@ -32,18 +33,29 @@ impl Model for Request {
 
     ghost Value = { Asked };
 
-    ghost view = { λ r. record { batch = r.batch; top = r.top; picture = r.picture; layout = r.layout } };
+    ghost view = { λ r. record {
+      batch = r.batch;
+      top = r.top;
+      picture = r.picture;
+      layout = r.layout;
+    } };
 
     ghost invariant = { λ r. AreInRange
         (record { batch = r.batch; top = r.top; picture = r.picture; layout = r.layout }) };
 
-    ghost inverse = { λ a. record { batch = a.batch; top = a.top; picture = a.picture; layout = a.layout } };
+    ghost inverse = { λ a. record {
+      batch = a.batch;
+      top = a.top;
+      picture = a.picture;
+      layout = a.layout;
+    } };
 }
 
 impl Request {
     /// This request, if each number lies in its range.
     pub fn new(batch: u32, top: u32, picture: Option<u32>, layout: Layout) -> Option<Request>
-        ensures { let asked : Asked = record { batch = batch; top = top; picture = picture; layout = layout }
+        ensures { let asked : Asked =
+            record { batch = batch; top = top; picture = picture; layout = layout }
             in SomeIff result (AreInRange asked) asked }
     {
         let in_range = (1..=LARGEST_BATCH).contains(&batch)
@@ -63,7 +75,7 @@ impl Request {
     /// Transactions of a batch.
     pub fn batch(&self) -> u32
         ensures value { result ≡ self.now.batch }
-        ensures in_range { IsBetween 1 4096 result }
+        ensures in_range { IsBetween 1 largest_batch result }
     {
         self.batch
     }
@@ -79,7 +91,7 @@ impl Request {
     /// The number of the batch whose picture is printed, from 1 on; `None` are the figures.
     pub fn picture(&self) -> Option<u32>
         ensures value { result ≡ self.now.picture }
-        ensures in_range { IfSome result (IsBetween 1 1000000) }
+        ensures in_range { IfSome result (IsBetween 1 most_txns) }
     {
         self.picture
     }

@@ -1,10 +1,12 @@
 //! The table, as text.
 
 ghost use Rattle.std.specs.Prelude.{◌≡◌, ◌-◌, ◌≤◌, ◌++◌, length, replicate, IfOk};
-ghost use Rattle.bohm_explain.specs.Table.{batch_rows, cell, hundredths, hundredths_cell, row_line, rows_from, table_text};
+ghost use Rattle.bohm_explain.specs.Table.{batch_rows, cell, hundredths, hundredths_cell};
+ghost use Rattle.bohm_explain.specs.Table.{row_line, rows_from, table_text};
+ghost use Rattle.bohm_types.specs.Limits.{most_txns};
 
 use crate::figures::{Figures, Totals};
-use bohm_tree::NoMemory;
+use bohm_types::NoMemory;
 use itoa::{Buffer, Integer};
 
 const HEAD: &[u8] =
@@ -93,7 +95,7 @@ fn put_row(out: &mut Vec<u8>, name: &[u8], totals: Totals) -> Result<(), NoMemor
 
 /// A line for each batch, numbered from 1.
 fn put_rows(out: &mut Vec<u8>, figures: &[Figures]) -> Result<(), NoMemory>
-    requires { length figures.now ≤ 1000000 }
+    requires { length figures.now ≤ most_txns }
     ensures { IfOk result (λ _. out.new.items ≡ out.old.items ++ rows_from 1 figures.now) }
 {
     for (index, batch) in figures.iter().enumerate() {
@@ -109,7 +111,7 @@ fn put_rows(out: &mut Vec<u8>, figures: &[Figures]) -> Result<(), NoMemory>
 
 /// The same, which a summary leaves out.
 fn put_batches(out: &mut Vec<u8>, summary: bool, figures: &[Figures]) -> Result<(), NoMemory>
-    requires { length figures.now ≤ 1000000 }
+    requires { length figures.now ≤ most_txns }
     ensures { IfOk result (λ _. out.new.items ≡ out.old.items ++ batch_rows summary figures.now) }
 {
     if summary {
@@ -120,7 +122,7 @@ fn put_batches(out: &mut Vec<u8>, summary: bool, figures: &[Figures]) -> Result<
 
 /// A line for each batch below a head, unless a summary is asked for, and one for the log.
 pub fn put_table(out: &mut Vec<u8>, summary: bool, figures: &[Figures]) -> Result<(), NoMemory>
-    requires { length figures.now ≤ 1000000 }
+    requires { length figures.now ≤ most_txns }
     ensures { IfOk result (λ _. out.new.items ≡ out.old.items ++ table_text summary figures.now) }
 {
     out.extend_from_slice(HEAD)?;

@@ -3,15 +3,16 @@
 ghost use Rattle.std.specs.Prelude.{◌≡◌, ℕ, List, true, ◌||◌, All, length, if◌then◌else◌, OnOk};
 ghost use Rattle.std.specs.List.{list_any, zip};
 ghost use Rattle.std.specs.Str.{bytes_eq};
-ghost use Rattle.bohm_tree.specs.Keys.{is_among, rising};
+ghost use Rattle.bohm_types.specs.Keys.{is_among, rising};
 ghost use Rattle.bohm_place.specs.Shares.{AreWellFormed};
 ghost use Rattle.bohm_explain.specs.Heats.{chain_in, declares};
-ghost use Rattle.bohm_explain.specs.Tallies.{counted_in, lists, nothing, plus, raised, tally, HasRoom, HasRoomFor};
+ghost use Rattle.bohm_explain.specs.Tallies.{counted_in, lists, nothing, plus};
+ghost use Rattle.bohm_explain.specs.Tallies.{raised, tally, HasRoom, HasRoomFor};
 
 use crate::arrow::Arrow;
 use bohm_log::{HashSeed, Keys, LogPart};
 use bohm_place::DeclaredSet;
-use bohm_tree::{Key, NoMemory};
+use bohm_types::{Key, NoMemory};
 use indexmap::IndexMap;
 
 /// What is counted of a key.

@@ -1,13 +1,15 @@
 //! The last line: what limits the speed-up.
 
 ghost use Rattle.std.specs.Prelude.{◌≡◌, ◌≤◌, ◌^◌, ◌++◌, IfOk};
-ghost use Rattle.bohm_explain.specs.Verdict.{execution_limit, free_words, hundredths_up, key_words, leading, limit_words, run_limit, verdict_text, verdict_words};
+ghost use Rattle.bohm_explain.specs.Verdict.{execution_limit, free_words, hundredths_up};
+ghost use Rattle.bohm_explain.specs.Verdict.{key_words, leading, limit_words, run_limit};
+ghost use Rattle.bohm_explain.specs.Verdict.{verdict_text, verdict_words};
 
 use crate::decimal::put_decimal;
 use crate::figures::Totals;
 use crate::heat::Heat;
 use crate::table::put_hundredths;
-use bohm_tree::NoMemory;
+use bohm_types::NoMemory;
 
 /// The hottest key on the longest chain, where there is a chain.
 fn leading(ranked: &[Heat]) -> Option<Heat>

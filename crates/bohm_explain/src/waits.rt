@@ -3,13 +3,14 @@
 ghost use Rattle.std.specs.Prelude.{◌≤◌, length, IfOk};
 ghost use Rattle.bohm_place.specs.Plans.{IsPlannable, IsRightPlan};
 ghost use Rattle.bohm_explain.specs.Waiting.{AreWaits};
+ghost use Rattle.bohm_types.specs.Limits.{largest_batch};
 
 use crate::arrow::{Arrow, wanted};
 use crate::chains::{heaviest_from, heaviest_to};
 use crate::weights::alike;
 use bohm_log::LogPart;
 use bohm_place::Plan;
-use bohm_tree::NoMemory;
+use bohm_types::NoMemory;
 use std::alloc::Global;
 
 /// The wanted versions of a batch, and the chains of them.
@@ -25,7 +26,7 @@ pub struct Waits {
 /// The arrows and chains of the batch of this plan. The time grows with the number of declared
 /// keys.
 pub fn waits_in(alloc: Global, plan: &Plan, txns: &LogPart<'_>) -> Result<Waits, NoMemory>
-    requires few { length txns.now ≤ 4096 }
+    requires few { length txns.now ≤ largest_batch }
     requires plannable { IsPlannable plan.now.first txns.now }
     requires right { IsRightPlan txns.now plan.now }
     ensures { IfOk result (AreWaits txns.now) }

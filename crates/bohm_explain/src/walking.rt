@@ -1,19 +1,21 @@
 //! One of the heaviest chains, walked along its arrows.
 
-ghost use Rattle.std.specs.Prelude.{◌≡◌, ◌++◌, ◌∷◌, [], ◌<◌, ◌≤◌, ◌^◌, All, false, length, slice_index, true, IfOk};
+ghost use Rattle.std.specs.Prelude.{◌≡◌, ◌++◌, ◌∷◌, [], ◌<◌, ◌≤◌, ◌^◌, All};
+ghost use Rattle.std.specs.Prelude.{false, length, slice_index, true, IfOk};
 ghost use Rattle.bohm_place.specs.Chains.{greatest};
 ghost use Rattle.bohm_explain.specs.Chains.{EndsAt, IsChain, weight_of};
 ghost use Rattle.bohm_explain.specs.Heaviest.{AreChainable, IsInside, heaviest_to};
 ghost use Rattle.bohm_explain.specs.Walks.{goes_on};
+ghost use Rattle.bohm_types.specs.Limits.{largest_batch};
 
 use crate::arrow::Arrow;
-use bohm_tree::NoMemory;
+use bohm_types::NoMemory;
 use std::alloc::Global;
 
 /// The first position of the greatest of these.
 fn heaviest_end(heaviest: &[u32]) -> u32
     requires some { 0 < length heaviest.now }
-    requires few { length heaviest.now ≤ 4096 }
+    requires few { length heaviest.now ≤ largest_batch }
     ensures inside { result < length heaviest.now }
     ensures greatest { slice_index heaviest.now result ≡ greatest heaviest.now }
 {

@@ -4,9 +4,10 @@ ghost use Rattle.std.specs.Prelude.{◌≡◌, ◌≤◌, All, length, replicate
 ghost use Rattle.bohm_place.specs.Shares.{AreWellFormed};
 ghost use Rattle.bohm_txn.specs.Declares.{AllShort, IsUsable};
 ghost use Rattle.bohm_explain.specs.Weighing.{terms_in, weight, weights, declared_by};
+ghost use Rattle.bohm_types.specs.Limits.{largest_batch};
 
 use bohm_log::{LogPart, StmtParts, StmtView, TxnView};
-use bohm_tree::NoMemory;
+use bohm_types::NoMemory;
 use std::alloc::Global;
 
 /// The number of terms in a statement.
@@ -79,7 +80,7 @@ fn declared_by(txn: &TxnView<'_>) -> u32
 /// How many keys the transactions declare: a key that one reads and writes counts twice.
 pub fn declared(txns: &LogPart<'_>) -> u32
     requires formed { AreWellFormed txns.now }
-    requires few { length txns.now ≤ 4096 }
+    requires few { length txns.now ≤ largest_batch }
     ensures { result ≡ sum_by declared_by txns.now }
 {
     let mut keys = 0;

@@ -1,7 +1,7 @@
 -- What the program reads, answers and refuses.
 use Rattle.std.specs.Prelude.{ℕ, List, Option, None}
 use Rattle.std.specs.Io.KnownBytes.{Appends}
-use Rattle.bohm_tree.specs.Document.{Document}
+use Rattle.bohm_types.specs.Document.{Document}
 use Rattle.bohm_run.specs.Bytes.{Sends}
 use Rattle.bohm_run.specs.Given.{Given}
 use Rattle.bohm_run.specs.Headline.{IsBeforeWriting, ReadsDocument, ReadsLog, Refuses}

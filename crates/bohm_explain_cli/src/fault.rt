@@ -6,7 +6,7 @@ ghost use Rattle.bohm_explain_cli.specs.Told.{IsToldAs};
 
 use bohm_command::NoAnswer;
 use bohm_run::RunFault;
-use bohm_tree::NoMemory;
+use bohm_types::NoMemory;
 
 /// What standard error has where the log lacks the batch.
 const NO_BATCH: &str = "refused: no such batch\n";

@@ -27,5 +27,9 @@ tested_aside asides t e =
     let found = any_at (λ pairs. has_position pairs t) asides e in
     let pairs : Pairs = found.1 in
     let inside = any_at (λ p. p.0 == t) pairs found.3 in
-    let at : slice_get (positions_in pairs) inside.0 ≡ Some inside.1.0 = slice_get-map (λ (p : ℕ × ℕ). p.0) pairs inside.0 ∙ ap (λ o. option_map (λ (p : ℕ × ℕ). p.0) o) inside.2 in
-    (pairs, contains_at asides found.0 pairs found.2, subst (λ (u : ℕ). Contains (positions_in pairs) u) (eqb-true inside.1.0 t inside.3) (contains_at (positions_in pairs) inside.0 inside.1.0 at))
+    let at : slice_get (positions_in pairs) inside.0 ≡ Some inside.1.0 =
+    slice_get-map (λ (p : ℕ × ℕ). p.0) pairs inside.0 ∙ ap (λ o. option_map (λ (p : ℕ × ℕ). p.0) o) inside.2 in (
+      pairs,
+      contains_at asides found.0 pairs found.2,
+      subst (λ (u : ℕ). Contains (positions_in pairs) u) (eqb-true inside.1.0 t inside.3) (contains_at (positions_in pairs) inside.0 inside.1.0 at),
+    )

@@ -6,7 +6,7 @@ ghost use Rattle.bohm_board.specs.Batches.{IsIn};
 ghost use Rattle.bohm_board.specs.Closings.{batch_of_closed};
 ghost use Rattle.bohm_exec.specs.Answers.{batch_of_finished};
 ghost use Rattle.bohm_exec.specs.Asides.{IsSetAside};
-ghost use Rattle.bohm_exec.specs.Turns.{IsFree};
+ghost use Rattle.bohm_exec.specs.Steps.{IsFree};
 ghost use Rattle.bohm_store.specs.Nexts.{IsNext};
 ghost use Rattle.bohm_layer_trials.specs.Samples.{has_position, is_set_aside, AreSetAside};
 
@@ -16,8 +16,8 @@ use bohm_exec::{Aside, Finished, Gate, OpenGate, complete, share_of, sweep};
 use bohm_log::LogPart;
 use bohm_place::{Shards, plan};
 use bohm_store::History;
-use bohm_tree::{Cell, NoMemory, Value};
 use bohm_txn::{Outcome, Scratch, shows};
+use bohm_types::{Cell, NoMemory, Value};
 use std::alloc::Global;
 use std::process::Abort;
 use std::thread::Threads;

@@ -4,7 +4,7 @@ ghost use Rattle.std.specs.Prelude.{All};
 ghost use denote.Param.Send.{IsSync};
 ghost use Rattle.bohm_board.specs.Batches.{IsIn};
 ghost use Rattle.bohm_board.specs.Passes.{batch_of};
-ghost use Rattle.bohm_exec.specs.Turns.{IsFree};
+ghost use Rattle.bohm_exec.specs.Steps.{IsFree};
 
 use crate::boards::{assert_in, share};
 use crate::logs::{checked, repeated};

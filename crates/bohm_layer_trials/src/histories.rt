@@ -8,7 +8,7 @@ use crate::logs::checked;
 use bohm_log::LogPart;
 use bohm_store::{History, PastFault, StoreFault};
 use bohm_text::print_store;
-use bohm_tree::{Cell, Key, NoMemory, Value};
+use bohm_types::{Cell, Key, NoMemory, Value};
 use std::alloc::Global;
 use std::process::Abort;
 use std::thread::Threads;

@@ -10,8 +10,8 @@ use bohm_log::LogPart;
 use bohm_place::{
     Access, DeclaredSet, Newest, Partition, Plan, Shards, Source, plan, plan_by_number,
 };
-use bohm_tree::Key;
 use bohm_txn::Checked;
+use bohm_types::Key;
 use std::alloc::Global;
 use std::process::Abort;
 use std::sync::atomic::{AtomicU64, Ordering};

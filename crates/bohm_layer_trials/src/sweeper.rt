@@ -1,13 +1,13 @@
 //! A board and the pass that sweeps it.
 
-ghost use Rattle.bohm_exec.specs.Turns.{IsFree};
+ghost use Rattle.bohm_exec.specs.Steps.{IsFree};
 
 use crate::boards::{assert_in, finish, next_batch, sweep_these};
 use bohm_board::{Batch, Board, Claimed, Pass, Slot, Status};
 use bohm_exec::{Aside, Finished, Gate};
 use bohm_store::History;
-use bohm_tree::Cell;
 use bohm_txn::{Checked, shows};
+use bohm_types::Cell;
 use std::alloc::Global;
 use std::process::Abort;
 use std::thread::Threads;

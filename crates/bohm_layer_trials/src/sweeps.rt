@@ -1,6 +1,6 @@
 //! Worked examples of sweeps. Their answers are the serial run's, made by hand.
 
-ghost use Rattle.bohm_exec.specs.Turns.{IsFree};
+ghost use Rattle.bohm_exec.specs.Steps.{IsFree};
 ghost use denote.Param.Send.{IsSync};
 
 use crate::boards::{cell, outcome, present, shown, sweep_these};
@@ -8,8 +8,8 @@ use crate::logs::{checked, repeated};
 use crate::sweeper::{Sweeper, joined, seen};
 use bohm_board::{Board, Pass, Status};
 use bohm_exec::{Aside, Finished, Gate, OpenGate, Point, share_of};
-use bohm_tree::Cell;
 use bohm_txn::{Checked, Outcome, Reason};
+use bohm_types::Cell;
 use std::alloc::Global;
 use std::process::Abort;
 use std::sync::atomic::{AtomicU64, Ordering};

@@ -2,11 +2,14 @@
 use Rattle.std.proofs.Common.{◌≡◌, ℕ, ◌≤◌, true, List, [], ◌∷◌, map, length, refl, ap, sym, subst, ◌∙◌, arith}
 use Rattle.std.specs.Prelude.{ℤ}
 use Rattle.std.proofs.lemmas.List.{length-map}
-use Rattle.bohm_tree.specs.Procedure.{stands_for}
+use Rattle.bohm_types.specs.Procedure.{stands_for}
 use Rattle.bohm_log.specs.declared.template.DeclaredName.{DeclaredName}
 use Rattle.bohm_log.specs.declared.template.BodyColumns.{BodyColumns}
 use Rattle.bohm_log.specs.Parts.{Parts}
-use Rattle.bohm_log.specs.Calling.{names_in, declared_name, argument_of, parts_in, AreDeclared, IsOwn, IsTemplate, IsCalled}
+use Rattle.bohm_log.specs.Calling.{names_in, declared_name, argument_of, parts_in, AreDeclared, IsOwn, IsTemplate, IsCalled, Stays, term_to, row_to}
+use Rattle.bohm_log.specs.declared.row.TermRow.{TermRow}
+use Rattle.bohm_log.specs.declared.row.StmtRow.{StmtRow}
+use Rattle.std.specs.List.{range_with_len}
 
 names_again : (params names : List (List ℕ)) → names_in (map (declared_name params) names) ≡ names
 names_again params [] = refl
@@ -31,13 +34,15 @@ arguments_are params args declared h = ap (map (argument_of args)) h ∙ argumen
 pub called_with : (params args : List (List ℕ)) (body : BodyColumns) (xs locals : List ℕ) (vs : List ℤ) (q : Parts)
     → IsTemplate params body locals → xs ≡ locals
     → IsCalled (map (argument_of args) body.reads.items) (map (argument_of args) body.writes.items) (parts_in body) xs vs q
-    → IsCalled (map (stands_for params args) (names_in body.reads.items)) (map (stands_for params args) (names_in body.writes.items)) (parts_in body) locals vs q
+    → IsCalled (map (stands_for params args) (names_in body.reads.items)) (map (stands_for params args) (names_in body.writes.items))
+    (parts_in body) locals vs q
 called_with params args body xs locals vs q t same called =
     let r : map (argument_of args) body.reads.items ≡ map (stands_for params args) (names_in body.reads.items) =
     arguments_are params args body.reads.items t.reads in
     let w : map (argument_of args) body.writes.items ≡ map (stands_for params args) (names_in body.writes.items) =
     arguments_are params args body.writes.items t.writes in
-    subst (λ (ys : List ℕ). IsCalled (map (stands_for params args) (names_in body.reads.items)) (map (stands_for params args) (names_in body.writes.items)) (parts_in body) ys vs q) same
+    subst (λ (ys : List ℕ). IsCalled (map (stands_for params args) (names_in body.reads.items)) (map (stands_for params args) (names_in body.writes.items))
+    (parts_in body) ys vs q) same
     (subst (λ (ks : List (List ℕ)). IsCalled (map (stands_for params args) (names_in body.reads.items)) ks (parts_in body) xs vs q) w
     (subst (λ (ks : List (List ℕ)). IsCalled ks (map (argument_of args) body.writes.items) (parts_in body) xs vs q) r called))
 
@@ -57,13 +62,29 @@ parts_made params body p r w others large terms rows =
     let writes : names_in body.writes.items ≡ p.writes = names_declared params p.writes body.writes.items w in
     λ j. record { reads = reads j; writes = writes j; others = others j; large = large j; terms = terms j; rows = rows j }
 
+-- terms and statements that stay as they are, in slices
+pub stays_made : (body : BodyColumns) (terms : List TermRow) (rows : List StmtRow) (reads writes : ℕ) → terms ≡ body.terms.items → rows ≡ body.rows.items
+    → reads ≡ length body.reads.items → writes ≡ length body.writes.items → map (term_to (range_with_len 0 reads)) terms ≡ terms
+    → map (row_to (range_with_len 0 reads) (range_with_len 0 writes)) rows ≡ rows
+    → Stays body (range_with_len 0 (length body.reads.items)) (range_with_len 0 (length body.writes.items))
+stays_made body terms rows reads writes t s r w ht hr = record {
+  terms = subst (λ (xs : List TermRow). map (term_to (range_with_len 0 (length body.reads.items))) xs ≡ xs) t
+      (subst (λ n. map (term_to (range_with_len 0 n)) terms ≡ terms) r ht);
+  rows = subst (λ (xs : List StmtRow). map (row_to (range_with_len 0 (length body.reads.items)) (range_with_len 0 (length body.writes.items))) xs ≡ xs) s
+      (subst (λ m. map (row_to (range_with_len 0 (length body.reads.items)) (range_with_len 0 m)) rows ≡ rows) w
+      (subst (λ n. map (row_to (range_with_len 0 n) (range_with_len 0 writes)) rows ≡ rows) r hr));
+}
+
 -- a template made of an own instance's parts
 pub template_made : (params : List (List ℕ)) (body : BodyColumns) (p : Parts) (locals : List ℕ) → parts_in body ≡ p → IsOwn p locals
     → body.reads.items ≡ map (declared_name params) p.reads → body.writes.items ≡ map (declared_name params) p.writes
-    → (body.same_sets ≡ true → p.reads ≡ p.writes) → IsTemplate params body locals
-template_made params body p locals same own r w alike = record {
+    → (body.same_sets ≡ true → p.reads ≡ p.writes)
+    → (body.stays ≡ true → Stays body (range_with_len 0 (length body.reads.items)) (range_with_len 0 (length body.writes.items)))
+    → IsTemplate params body locals
+template_made params body p locals same own r w alike stays = record {
   own = subst (λ (x : Parts). IsOwn x locals) (sym same) own;
   reads = are_declared params p.reads body.reads.items r;
   writes = are_declared params p.writes body.writes.items w;
   alike = λ is. r ∙ ap (map (declared_name params)) (alike is) ∙ sym w;
+  stays = stays;
 }

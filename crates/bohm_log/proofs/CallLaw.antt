@@ -1,37 +1,34 @@
 -- What a call makes of a procedure's columns is the instance.
 use Rattle.std.proofs.Common.{◌≡◌, ℕ, zero, suc, ◌+◌, ◌-◌, ◌<◌, ◌≤◌, Bool, true, false, List, [], ◌∷◌, ◌++◌, length}
-use Rattle.std.proofs.Common.{get_or, take, drop, map, Option, Some, None, refl, ap, sym, ◌∙◌, subst, arith}
-use Rattle.std.proofs.Common.{append_assoc, length-append, append-nil}
+use Rattle.std.proofs.Common.{get_or, take, drop, map, Some, None, refl, ap, sym, ◌∙◌, subst, arith}
+use Rattle.std.proofs.Common.{append_assoc, length-append}
 use Rattle.std.specs.Prelude.{ℤ, nat_lt, ◌^◌, if◌then◌else◌, slice_get, slice_index_or}
-use Rattle.std.specs.List.{All, AllByRecursion, between, list_any}
-use Rattle.std.specs.Str.{bytes_eq}
+use Rattle.std.specs.List.{All, AllByRecursion, between}
 use Rattle.std.specs.Int.RustNames.{unsigned_abs}
-use Rattle.std.proofs.lemmas.List.{length-map, take-map, drop-map, map-append, get_or_append_left, get_or-map, get_or-append_right, drop_at, take-append-le, take_all}
+use Rattle.std.proofs.lemmas.List.{length-map, take-map, drop-map, map-append, get_or_append_left}
+use Rattle.std.proofs.lemmas.List.{get_or-map, get_or-append_right, drop_at, take-append-le, take_all}
 use Rattle.std.proofs.lemmas.List.Elements.{All-from_recursion, recursion_from_All, All-append, All-map, All-weaker, All-take, All-drop, All-same}
 use Rattle.std.proofs.lemmas.Option.{get_or_from_slice_get, slice_get_within}
-use Rattle.bohm_tree.specs.declared.edition.Edition.{Edition}
-use Rattle.bohm_tree.specs.declared.cmp.Cmp.{Cmp}
-use Rattle.bohm_tree.specs.Keys.{IsAmong, is_among}
-use Rattle.bohm_tree.specs.Term.{Atom}
-use Rattle.bohm_tree.specs.Term as atoms
-use Rattle.bohm_tree.specs.Stmt.{Stmt}
-use Rattle.bohm_tree.specs.Stmt as stmts
-use Rattle.bohm_tree.specs.Txn.{Txn}
+use Rattle.bohm_types.specs.declared.edition.Edition.{Edition}
+use Rattle.bohm_types.specs.Keys.{IsAmong, is_among}
+use Rattle.bohm_types.specs.Term.{Atom}
+use Rattle.bohm_types.specs.Term as atoms
+use Rattle.bohm_types.specs.Stmt.{Stmt}
+use Rattle.bohm_types.specs.Stmt as stmts
 use Rattle.bohm_log.specs.declared.row.AtomKind.{AtomKind}
 use Rattle.bohm_log.specs.declared.row.AtomKind.TheVariants.{Small, Large, Read, Unread, Local}
 use Rattle.bohm_log.specs.declared.row.TermRow.{TermRow}
 use Rattle.bohm_log.specs.declared.row.Action.{Action}
 use Rattle.bohm_log.specs.declared.row.Action.TheVariants.{Bind, Need, Has, Lacks, Put, PutWhen, Remove, Show, Fail}
 use Rattle.bohm_log.specs.declared.row.StmtRow.{StmtRow}
-use Rattle.bohm_log.specs.Parts.{Parts, name_at, names_at, atom_at, term_of, sum_between, key_at, named_by, stmt_made}
-use Rattle.bohm_log.specs.Parts.{stmt_of, txn_of, IsApart, OtherIn, KeyIn, PlaceIn, TermIn, NameIn, RowIn, IsWithin}
-use Rattle.bohm_tree.specs.Accesses.{OnSomeKey, AtomReads, SumReads, StmtReads, StmtWrites}
-use Rattle.bohm_tree.specs.KeySets.{key_set}
-use Rattle.bohm_tree.specs.Substitution.{atom_with, term_with, sum_with, guard_with, stmt_with}
-use Rattle.bohm_tree.specs.Procedure.{Procedure, stands_for, is_minus, sum_by, sum_of, lets, instance}
+use Rattle.bohm_log.specs.Parts.{Parts, name_at, names_at, atom_at, term_of, sum_between, named_by, stmt_made}
+use Rattle.bohm_log.specs.Parts.{stmt_of, txn_of, OtherIn, PlaceIn, TermIn, NameIn, RowIn, IsWithin}
+use Rattle.bohm_types.specs.Accesses.{AtomReads, SumReads, StmtReads, StmtWrites}
+use Rattle.bohm_types.specs.Substitution.{atom_with, sum_with, stmt_with}
+use Rattle.bohm_types.specs.Procedure.{stands_for, is_minus, sum_of, lets, instance}
 use Rattle.bohm_log.specs.Calling.{procedure_of, IsOwn, ArePlaces, term_by, term_to, name_by, row_to, literal_term}
-use Rattle.bohm_log.specs.Calling.{literal_large, sum_terms, sum_large, value_terms, value_large, let_large, let_terms}
-use Rattle.bohm_log.specs.Calling.{let_row, let_rows, IsCalled}
+use Rattle.bohm_log.specs.Calling.{literal_large, value_terms, value_large, let_large, let_terms}
+use Rattle.bohm_log.specs.Calling.{let_rows, IsCalled}
 use Rattle.bohm_log.proofs.Growth.{between-front}
 use Rattle.bohm_log.proofs.Lets.{same_many}
 
@@ -309,7 +306,8 @@ mapped_rest P g (suc n) (x ∷ xs) h = mapped_rest P g n xs h.1
 rows_rest : (p : Parts) (values : List ℕ) → IsOwn p values → AllByRecursion (RowIn p) (drop (length values) p.rows)
 rows_rest p values t = recursion_from_All (RowIn p) (drop (length values) p.rows) (All-drop (RowIn p) (length values) p.rows t.within.rows)
 
-moved : (f : List ℕ → List ℕ) (p : Parts) (values : List ℕ) (vs : List ℤ) (q : Parts) → IsOwn p values → (h : IsCalled (map f p.reads) (map f p.writes) p values vs q)
+moved : (f : List ℕ → List ℕ) (p : Parts) (values : List ℕ) (vs : List ℤ) (q : Parts) → IsOwn p values
+    → (h : IsCalled (map f p.reads) (map f p.writes) p values vs q)
     → IsMoved f p q h.read_places h.write_places
 moved f p values vs q t h = record {
   few_reads = t.few_reads;
@@ -344,7 +342,8 @@ called_txn e keys p values ks vs q t h =
     ∙ (λ j. firsts j ++ rest j) in
     λ j. record { edition = e; reads = h.same_reads j; writes = h.same_writes j; body = body j }
 
-pub called_within : (p : Parts) (values : List ℕ) (f : List ℕ → List ℕ) (vs : List ℤ) (q : Parts) → IsOwn p values → IsCalled (map f p.reads) (map f p.writes) p values vs q → IsWithin q
+pub called_within : (p : Parts) (values : List ℕ) (f : List ℕ → List ℕ) (vs : List ℤ) (q : Parts) → IsOwn p values
+    → IsCalled (map f p.reads) (map f p.writes) p values vs q → IsWithin q
 called_within p values f vs q t h =
     let m : IsMoved f p q h.read_places h.write_places = moved f p values vs q t h in
     let named : AllByRecursion (λ i. i < length q.others) values = subst (λ (xs : List (List ℕ)). AllByRecursion (λ i. i < length xs) values)

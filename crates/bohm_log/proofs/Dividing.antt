@@ -44,5 +44,6 @@ pub same_sets : (c : Shared) (heads : List Head) → map (named_sets c.names) (m
 same_sets c [] = refl
 same_sets c (h ∷ hs) = ap (λ ys. named_sets c.names (sets_at c.ids h) ∷ ys) (same_sets c hs)
 
-pub numbers : (t : Table) (heads : List Head) → IsPart t heads → Numbers (record { names = t.names.now; sets = map (sets_at t.ids.now) heads }) (map (txn_at (shared_seen t)) heads)
+pub numbers : (t : Table) (heads : List Head) → IsPart t heads
+    → Numbers (record { names = t.names.now; sets = map (sets_at t.ids.now) heads }) (map (txn_at (shared_seen t)) heads)
 numbers t heads h = record { apart = h.apart; same = same_sets (shared_seen t) heads }

@@ -1,12 +1,12 @@
--- Documents hold values of the tree's types alone.
+-- Documents hold only values that the program's types can hold.
 use Rattle.std.proofs.Common.{◌≡◌, ℕ, Bool, true, false, List, [], ◌∷◌, refl}
 use Rattle.std.specs.Prelude.{ℤ, ◌&&◌, IsTrue}
 use Rattle.std.specs.List.{AllByRecursion, list_all}
-use Rattle.bohm_tree.specs.declared.edition.Edition.{Edition}
-use Rattle.bohm_tree.specs.declared.edition.Edition.TheVariants.{One, Two}
-use Rattle.bohm_tree.specs.Document.{Document, same_edition, in_edition}
-use Rattle.bohm_tree.specs.Sound.{IsEntry, IsTxn, IsDocument}
-use Rattle.bohm_tree.specs.Txn.{Txn}
+use Rattle.bohm_types.specs.declared.edition.Edition.{Edition}
+use Rattle.bohm_types.specs.declared.edition.Edition.TheVariants.{One, Two}
+use Rattle.bohm_types.specs.Document.{same_edition, in_edition}
+use Rattle.bohm_types.specs.Sound.{IsEntry, IsTxn, IsDocument}
+use Rattle.bohm_types.specs.Txn.{Txn}
 use Rattle.bohm_log.specs.SoundLogs.{AreTxns}
 
 both : (a b : Bool) → (a && b) ≡ true → (a ≡ true) × (b ≡ true)

@@ -1,5 +1,6 @@
 -- What stays where parts grow.
-use Rattle.std.proofs.Common.{◌≡◌, ℕ, ◌-◌, ◌<◌, ◌≤◌, Bool, true, false, List, [], ◌∷◌, ◌++◌, length, get_or, drop, map, refl, ap, sym, ◌∙◌, subst, arith, length-append, append-nil}
+use Rattle.std.proofs.Common.{◌≡◌, ℕ, ◌-◌, ◌<◌, ◌≤◌, Bool, true, false, List, [], ◌∷◌, ◌++◌, length, get_or}
+use Rattle.std.proofs.Common.{drop, map, refl, ap, sym, ◌∙◌, subst, arith, length-append, append-nil}
 use Rattle.std.specs.List.{All, AllByRecursion, between}
 use Rattle.std.proofs.lemmas.List.{take-append-le, drop-append-le, get_or_append_left, length-drop}
 use Rattle.std.proofs.lemmas.List.Elements.{All-take, All-drop, recursion_from_All}
@@ -9,7 +10,8 @@ use Rattle.bohm_log.specs.declared.row.TermRow.{TermRow}
 use Rattle.bohm_log.specs.declared.row.Action.{Action}
 use Rattle.bohm_log.specs.declared.row.Action.TheVariants.{Bind, Need, Has, Lacks, Put, PutWhen, Remove, Show, Fail}
 use Rattle.bohm_log.specs.declared.row.StmtRow.{StmtRow}
-use Rattle.bohm_log.specs.Parts.{Parts, atom_at, term_of, sum_between, name_at, key_at, named_by, stmt_made, stmt_of, IsApart, OtherIn, KeyIn, PlaceIn, TermIn, NameIn, RowIn, IsWithin, Begins, Grows}
+use Rattle.bohm_log.specs.Parts.{Parts, atom_at, term_of, sum_between, name_at, key_at, named_by, stmt_made, stmt_of}
+use Rattle.bohm_log.specs.Parts.{IsApart, OtherIn, KeyIn, PlaceIn, TermIn, NameIn, RowIn, IsWithin, Begins, Grows}
 
 -- ---- lists
 
@@ -80,7 +82,8 @@ TermIn-grows p q g t h = PlaceIn-grows p q g t.kind t.place h
 pub sum_grows : (p q : Parts) → Grows p q → All (TermIn p) p.terms → (i j : ℕ) → i ≤ j → j ≤ length p.terms → sum_between q i j ≡ sum_between p i j
 sum_grows p q g h i j rises within =
     ap (map (term_of q)) (between-begins p.terms q.terms i j g.terms within rises)
-    ∙ map-all (term_of q) (term_of p) (TermIn p) (term_grows p q g) (between i j p.terms) (All-take (TermIn p) (j - i) (drop i p.terms) (All-drop (TermIn p) i p.terms h))
+    ∙ map-all (term_of q) (term_of p) (TermIn p) (term_grows p q g) (between i j p.terms)
+    (All-take (TermIn p) (j - i) (drop i p.terms) (All-drop (TermIn p) i p.terms h))
 
 -- ---- statements
 

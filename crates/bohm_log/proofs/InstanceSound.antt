@@ -1,26 +1,24 @@
--- Every instance of names and values is a transaction of the tree, and a procedure of one is sound.
-use Rattle.std.proofs.Common.{◌≡◌, ℕ, zero, suc, ◌≤◌, ◌<◌, ◌+◌, ◌-◌, ◌^◌, Bool, true, false, List, [], ◌∷◌, ◌++◌}
-use Rattle.std.proofs.Common.{length, map, drop, Option, Some, None, refl, sym, ap, ◌∙◌, subst, arith}
-use Rattle.std.specs.Prelude.{ℤ, pos, negsuc, ◌&&◌, ◌==◌, not, nat_lt, if◌then◌else◌}
+-- Every instance for names and values is a sound transaction, and so is the procedure of a sound one.
+use Rattle.std.proofs.Common.{◌≡◌, ℕ, zero, suc, ◌<◌, ◌-◌, ◌^◌, Bool, true, false, List, [], ◌∷◌}
+use Rattle.std.proofs.Common.{length, map, drop, Option, Some, None, refl, arith}
+use Rattle.std.specs.Prelude.{ℤ, pos, negsuc, nat_lt, if◌then◌else◌}
 use Rattle.std.specs.List.{AllByRecursion}
-use Rattle.std.specs.Str.{bytes_eq}
 use Rattle.std.specs.Ordering.{nat_cmp}
 use Rattle.std.specs.Cmp.Lexicographic.{slice_cmp}
-use Rattle.std.specs.declared.cmp.Ordering.{Ordering}
 use Rattle.std.specs.declared.cmp.Ordering.TheVariants.{Less, Equal, Greater}
 use Rattle.std.proofs.lemmas.Bool.Decides.{nat_tests}
-use Rattle.bohm_tree.specs.Shape.{is_term}
-use Rattle.bohm_tree.specs.Sound.{IsName, IsAtom, IsTerm, IsSum, IsCond, IsGuard, IsStmt, IsNumber, IsTxn}
-use Rattle.bohm_tree.specs.Term.{Atom, Lit, Read, Local}
-use Rattle.bohm_tree.specs.Stmt.{Cond, Stmt, Bind, Need, Has, Lacks, Put, Remove, Show, Fail}
+use Rattle.bohm_types.specs.Shape.{is_term}
+use Rattle.bohm_types.specs.Sound.{IsName, IsAtom, IsTerm, IsSum, IsGuard, IsStmt, IsNumber, IsTxn}
+use Rattle.bohm_types.specs.Term.{Atom, Lit, Read, Local}
+use Rattle.bohm_types.specs.Stmt.{Cond, Stmt, Bind, Need, Has, Lacks, Put, Remove, Show, Fail}
 use Rattle.bohm_log.specs.SoundLogs.{IsSoundProcedure}
 use Rattle.bohm_log.proofs.SoundDrafts.{each_append}
-use Rattle.bohm_tree.specs.Substitution.{atom_with, term_with, sum_with, guard_with, stmt_with}
-use Rattle.bohm_tree.specs.KeySets.{inserted_by, inserted, key_set}
-use Rattle.bohm_tree.specs.Procedure.{Procedure, argument_or, stands_for, is_minus, sum_by, sum_of, lets, instance, procedure_with}
-use Rattle.bohm_tree.specs.Txn.{Txn}
+use Rattle.bohm_types.specs.Substitution.{atom_with, term_with, sum_with, guard_with, stmt_with}
+use Rattle.bohm_types.specs.KeySets.{inserted_by, inserted, key_set}
+use Rattle.bohm_types.specs.Procedure.{Procedure, argument_or, stands_for, is_minus, sum_of, lets, instance, procedure_with}
+use Rattle.bohm_types.specs.Txn.{Txn}
 use Rattle.std.specs.Int.RustNames.{unsigned_abs}
-use Rattle.bohm_tree.specs.Keys.{place}
+use Rattle.bohm_types.specs.Keys.{place}
 use Rattle.std.specs.Prelude.{slice_index_or}
 
 -- the function makes names of names

@@ -1,19 +1,13 @@
--- What is there of the values' statements, and what is still to come.
-use Rattle.std.proofs.Common.{◌≡◌, ℕ, suc, ◌+◌, ◌<◌, ◌≤◌, Bool, true, false, List, [], ◌∷◌, ◌++◌, length, get_or, drop}
-use Rattle.std.proofs.Common.{refl, ap, sym, ◌∙◌, subst, arith, add-one, drop-cons, append_assoc, length-append}
+-- What a call adds for its values: what is there, and what is still to come.
+use Rattle.std.proofs.Common.{◌≡◌, ℕ, suc, ◌+◌, ◌<◌, ◌≤◌, true, false, List, [], ◌∷◌, ◌++◌, length, get_or, drop}
+use Rattle.std.proofs.Common.{refl, ap, sym, ◌∙◌, arith, add-one, drop-cons, append_assoc, append-nil}
 use Rattle.std.specs.Prelude.{ℤ, nat_lt, ◌^◌, ◌-◌, if◌then◌else◌}
+use Rattle.std.proofs.lemmas.List.{drop_all}
 use Rattle.std.specs.Int.RustNames.{unsigned_abs}
 use Rattle.bohm_log.specs.declared.row.TermRow.{TermRow}
 use Rattle.bohm_log.specs.declared.row.StmtRow.{StmtRow}
-use Rattle.bohm_tree.specs.Procedure.{is_minus}
-use Rattle.bohm_log.specs.Calling.{literal_term, literal_large, sum_terms, value_terms, value_large, let_large, let_terms, let_row, let_rows}
-
--- with the values from a place on
-pub record LetsLeft (large large_now : List ℕ) (terms terms_now : List TermRow) (rows rows_now : List StmtRow) (places : List ℕ) (vs : List ℤ)
-    (i : ℕ) : Type 0 where
-  pub larges : large_now ++ let_large (drop i vs) ≡ large ++ let_large vs
-  pub all_terms : terms_now ++ let_terms (length large_now) (drop i vs) ≡ terms ++ let_terms (length large) vs
-  pub all_rows : rows_now ++ let_rows (length terms_now) (drop i places) (drop i vs) ≡ rows ++ let_rows (length terms) places vs
+use Rattle.bohm_types.specs.Procedure.{is_minus}
+use Rattle.bohm_log.specs.Calling.{literal_term, value_terms, value_large, let_large, let_terms, let_row, let_rows}
 
 split_at : {A : Type 0} (xs : List A) (i : ℕ) (x : A) → i < length xs → x ≡ get_or xs i x → drop i xs ≡ x ∷ drop (i + 1) xs
 split_at xs i x h is = rw add-one (drop-cons xs i x h ∙ ap (λ y. y ∷ drop (suc i) xs) (sym is))
@@ -29,29 +23,45 @@ same_many many other v =
       | false ↦ refl
     ]
 
-pub lets_next : (large now next : List ℕ) (terms terms_now terms_next : List TermRow) (rows rows_now rows_next : List StmtRow) (places : List ℕ)
-    (vs : List ℤ) (i place : ℕ) (v : ℤ)
-    → LetsLeft large now terms terms_now rows rows_now places vs i → i < length vs → v ≡ get_or vs i v → i < length places → place ≡ get_or places i place
-    → next ≡ now ++ value_large v → terms_next ≡ terms_now ++ value_terms (length now) v
-    → rows_next ≡ rows_now ++ let_row place (length terms_now) (length terms_next) ∷ []
-    → LetsLeft large next terms terms_next rows rows_next places vs (i + 1)
-lets_next large now next terms terms_now terms_next rows rows_now rows_next places vs i place v h in_values is in_places place_is e t r =
-    let vs_split : drop i vs ≡ v ∷ drop (i + 1) vs = split_at vs i v in_values is in
-    let places_split : drop i places ≡ place ∷ drop (i + 1) places = split_at places i place in_places place_is in
-    let many : length next ≡ length now + length (value_large v) = ap length e ∙ length-append now (value_large v) in
-    let longer : length terms_next ≡ length terms_now + length (value_terms 0 v) = ap length t
-    ∙ length-append terms_now (value_terms (length now) v) ∙ ap (λ n. length terms_now + n) (same_many (length now) 0 v) in
-    record {
-      larges = ap (λ xs. xs ++ let_large (drop (i + 1) vs)) e ∙ append_assoc now (value_large v) (let_large (drop (i + 1) vs))
-          ∙ ap (λ (ws : List ℤ). now ++ let_large ws) (sym vs_split) ∙ h.larges;
-      all_terms = (λ j. t j ++ let_terms (many j) (drop (i + 1) vs))
-          ∙ append_assoc terms_now (value_terms (length now) v) (let_terms (length now + length (value_large v)) (drop (i + 1) vs))
-          ∙ ap (λ (ws : List ℤ). terms_now ++ let_terms (length now) ws) (sym vs_split) ∙ h.all_terms;
-      all_rows =
-          ap (λ xs. xs ++ let_rows (length terms_next) (drop (i + 1) places) (drop (i + 1) vs)) r
-          ∙ append_assoc rows_now (let_row place (length terms_now) (length terms_next) ∷ [])
-          (let_rows (length terms_next) (drop (i + 1) places) (drop (i + 1) vs))
-          ∙ (λ j. rows_now ++ let_row place (length terms_now) (longer j) ∷ let_rows (longer j) (drop (i + 1) places) (drop (i + 1) vs))
-          ∙ (λ j. rows_now ++ let_rows (length terms_now) (sym places_split j) (sym vs_split j))
-          ∙ h.all_rows;
-    }
+-- ---- with one value more
+
+pub large_next : (old now next : List ℕ) (vs : List ℤ) (i : ℕ) (v : ℤ) → i < length vs → v ≡ get_or vs i v
+    → now ++ let_large (drop i vs) ≡ old ++ let_large vs → next ≡ now ++ value_large v → next ++ let_large (drop (i + 1) vs) ≡ old ++ let_large vs
+large_next old now next vs i v inside is h e =
+    ap (λ xs. xs ++ let_large (drop (i + 1) vs)) e ∙ append_assoc now (value_large v) (let_large (drop (i + 1) vs))
+    ∙ ap (λ (ws : List ℤ). now ++ let_large ws) (sym (split_at vs i v inside is)) ∙ h
+
+pub terms_next : (old now next : List TermRow) (large many more : ℕ) (vs : List ℤ) (i : ℕ) (v : ℤ) → i < length vs → v ≡ get_or vs i v
+    → now ++ let_terms many (drop i vs) ≡ old ++ let_terms large vs → next ≡ now ++ value_terms many v → more ≡ many + length (value_large v)
+    → next ++ let_terms more (drop (i + 1) vs) ≡ old ++ let_terms large vs
+terms_next old now next large many more vs i v inside is h e m =
+    (λ j. e j ++ let_terms (m j) (drop (i + 1) vs))
+    ∙ append_assoc now (value_terms many v) (let_terms (many + length (value_large v)) (drop (i + 1) vs))
+    ∙ ap (λ (ws : List ℤ). now ++ let_terms many ws) (sym (split_at vs i v inside is)) ∙ h
+
+pub rows_next : (old now next : List StmtRow) (first start end : ℕ) (places : List ℕ) (vs : List ℤ) (i place : ℕ) (v : ℤ)
+    → i < length vs → v ≡ get_or vs i v → i < length places → place ≡ get_or places i place
+    → now ++ let_rows start (drop i places) (drop i vs) ≡ old ++ let_rows first places vs
+    → next ≡ now ++ let_row place start end ∷ [] → end ≡ start + length (value_terms 0 v)
+    → next ++ let_rows end (drop (i + 1) places) (drop (i + 1) vs) ≡ old ++ let_rows first places vs
+rows_next old now next first start end places vs i place v inside is in_places place_is h r longer =
+    ap (λ xs. xs ++ let_rows end (drop (i + 1) places) (drop (i + 1) vs)) r
+    ∙ append_assoc now (let_row place start end ∷ []) (let_rows end (drop (i + 1) places) (drop (i + 1) vs))
+    ∙ (λ j. now ++ let_row place start (longer j) ∷ let_rows (longer j) (drop (i + 1) places) (drop (i + 1) vs))
+    ∙ (λ j. now ++ let_rows start (sym (split_at places i place in_places place_is) j) (sym (split_at vs i v inside is) j))
+    ∙ h
+
+-- ---- with all values
+
+pub large_all : (old now : List ℕ) (vs : List ℤ) (i : ℕ) → length vs ≤ i → now ++ let_large (drop i vs) ≡ old ++ let_large vs → now ≡ old ++ let_large vs
+large_all old now vs i past h = sym (append-nil now) ∙ ap (λ (ws : List ℤ). now ++ let_large ws) (sym (drop_all i vs past)) ∙ h
+
+pub terms_all : (old now : List TermRow) (large many : ℕ) (vs : List ℤ) (i : ℕ) → length vs ≤ i
+    → now ++ let_terms many (drop i vs) ≡ old ++ let_terms large vs → now ≡ old ++ let_terms large vs
+terms_all old now large many vs i past h = sym (append-nil now) ∙ ap (λ (ws : List ℤ). now ++ let_terms many ws) (sym (drop_all i vs past)) ∙ h
+
+pub rows_all : (old now : List StmtRow) (first start : ℕ) (places : List ℕ) (vs : List ℤ) (i : ℕ) → length places ≡ length vs → length vs ≤ i
+    → now ++ let_rows start (drop i places) (drop i vs) ≡ old ++ let_rows first places vs → now ≡ old ++ let_rows first places vs
+rows_all old now first start places vs i same past h =
+    let none : drop i places ≡ [] = drop_all i places (omega (arith, same, past)) in
+    sym (append-nil now) ∙ ap (λ (ps : List ℕ). now ++ let_rows start ps (drop i vs)) (sym none) ∙ h

@@ -7,12 +7,14 @@ mod Widening
 mod Viewing
 mod Dividing
 mod Placing
+mod Settling
 mod Lets
 mod CallLaw
 mod Locals
 mod Arguments
 mod Appending
 mod SoundDrafts
+mod Counting
 mod InstanceSound
 mod Documents
 pub mod ForCallers

@@ -4,31 +4,33 @@ use Rattle.std.specs.Prelude.{slice_get}
 use Rattle.std.specs.List.{AllByRecursion, IsDistinct}
 use Rattle.std.specs.Str.{bytes_eq}
 use Rattle.std.proofs.lemmas.List.{map-append, take_more, length-map, drop-map}
-use Rattle.std.proofs.lemmas.List.Elements.{All-push, All-same, All-nil}
+use Rattle.std.proofs.lemmas.List.Elements.{All-push, All-same}
 use Rattle.std.proofs.lemmas.Option.{get_or_from_slice_get, slice_get_within}
-use Rattle.bohm_tree.specs.declared.edition.Edition.{Edition}
-use Rattle.bohm_tree.specs.Keys.{IsAmong}
-use Rattle.bohm_tree.specs.Stmt.{Stmt}
-use Rattle.bohm_tree.specs.Txn.{Txn}
-use Rattle.bohm_log.specs.Parts.{Parts, Begins, IsWithin, name_at, names_at, stmt_of, txn_of}
+use Rattle.bohm_types.specs.declared.edition.Edition.{Edition}
+use Rattle.bohm_types.specs.Keys.{IsAmong}
+use Rattle.bohm_types.specs.Stmt.{Stmt}
+use Rattle.bohm_types.specs.Txn.{Txn}
+use Rattle.bohm_log.specs.Parts.{Parts, Begins, IsWithin, name_at, stmt_of, txn_of}
 use Rattle.bohm_log.specs.Columns.{AllNamed}
-use Rattle.bohm_tree.specs.Accesses.{StmtReads, StmtWrites}
+use Rattle.bohm_types.specs.Accesses.{StmtReads, StmtWrites}
 use Rattle.bohm_log.specs.Locals.{ArePlacesOf}
-use Rattle.bohm_tree.specs.Procedure.{Procedure, procedure_with}
+use Rattle.bohm_types.specs.Procedure.{procedure_with}
 use Rattle.bohm_log.specs.Calling.{procedure_of, IsOwn}
 use Rattle.bohm_log.proofs.Widening.{Begins-trans, named_more, same_names}
 use Rattle.bohm_log.proofs.Standing.{with_others, others_grow}
 use Rattle.bohm_log.proofs.Drafts.{within_steady, body_steady}
 
-pub place_next : (a b c names : List (List ℕ)) (places new : List ℕ) (i id : ℕ) (k : List ℕ) → Begins a b × ArePlacesOf b (take i names) places
-    → i < length names → k ≡ get_or names i k → Begins b c → slice_get c id ≡ Some k → new ≡ places ++ id ∷ []
-    → Begins a c × ArePlacesOf c (take (i + 1) names) new
-place_next a b c names places new i id k h inside is more at e =
-    let stay : AllNamed c places = named_more b c places more h.1.named in
+pub place_next : (a b c names : List (List ℕ)) (places new : List ℕ) (i id : ℕ) (k : List ℕ)
+    → Begins a b × (length b ≤ length a + i) × ArePlacesOf b (take i names) places → i < length names → k ≡ get_or names i k → Begins b c
+    → length c ≤ length b + 1 → slice_get c id ≡ Some k → new ≡ places ++ id ∷ []
+    → Begins a c × (length c ≤ length a + (i + 1)) × ArePlacesOf c (take (i + 1) names) new
+place_next a b c names places new i id k h inside is more longer at e =
+    let stay : AllNamed c places = named_more b c places more h.2.named in
     let here : id < length c = slice_get_within c id k at in
     let name : name_at c id ≡ k = get_or_from_slice_get c id k [] at in
-    let front : map (name_at c) places ≡ take i names = same_names b c places more h.1.named ∙ h.1.same in (
+    let front : map (name_at c) places ≡ take i names = same_names b c places more h.2.named ∙ h.2.same in (
       Begins-trans a b c h.0 more,
+      omega (arith, h.1, longer),
       record {
         named = All-same (λ n. n < length c) new (places ++ id ∷ []) e (All-push (λ n. n < length c) places id stay here);
         same =

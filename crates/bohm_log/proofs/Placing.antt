@@ -1,21 +1,26 @@
 -- A key's place among rising keys, and where the keys that names stand for are.
 use Rattle.std.proofs.Common.{◌≡◌, ℕ, zero, suc, ◌+◌, ◌-◌, ◌<◌, ◌≤◌, true, false, Bool, List, [], ◌∷◌, ◌++◌, length}
-use Rattle.std.proofs.Common.{get_or, take, drop, map, Option, Some, None, refl, ap, sym, ◌∙◌, subst, arith, add-one}
+use Rattle.std.proofs.Common.{get_or, take, drop, map, Some, refl, ap, sym, ◌∙◌, subst, arith, add-one}
 use Rattle.std.proofs.Common.{drop-cons, append_assoc, length-append, below_more}
 use Rattle.std.specs.Prelude.{slice_get, slice_index_or, ◌||◌}
-use Rattle.std.specs.List.{insert, list_any}
+use Rattle.std.specs.List.{insert, range_with_len}
 use Rattle.std.specs.Str.{bytes_eq}
 use Rattle.std.specs.Ordering.{nat_cmp, is_eq}
-use Rattle.std.specs.declared.cmp.Ordering.{Ordering}
 use Rattle.std.specs.declared.cmp.Ordering.TheVariants.{Less, Equal, Greater}
-use Rattle.std.specs.Cmp.Lexicographic.{slice_cmp, nat_list_cmp_total}
+use Rattle.std.specs.Cmp.Lexicographic.{slice_cmp}
 use Rattle.std.proofs.lemmas.List.{drop_all, take_all, take_more, take-append-drop, length-map, get_or_append_left, get_or-append_right, get_or_default}
+use Rattle.std.proofs.lemmas.List.{map-append, take-map, drop-map, get_or-map}
+use Rattle.std.proofs.lemmas.List.Elements.{All-append, All-push, All-cons, All-take, All-drop, All-get_or}
+use Rattle.std.proofs.lemmas.List.FromFn.{get_or-range_with_len, map-range_with_len_more}
+use Rattle.std.proofs.lemmas.Option.{get_or_from_slice_get, slice_get-get_or}
 use Rattle.std.proofs.lemmas.Bool.{or_right}
-use Rattle.bohm_log.specs.Parts.{IsApart}
+use Rattle.bohm_log.specs.Calling.{ArePlaces}
+use Rattle.bohm_log.specs.Columns.{AllNamed}
+use Rattle.bohm_log.specs.Parts.{IsApart, name_at, names_at}
 use Rattle.std.proofs.lemmas.Slice.Eq.{bytes_eq-Decides}
 use Rattle.std.proofs.lemmas.Map.Text.{is_eq-slice_cmp}
-use Rattle.bohm_tree.specs.Keys.{is_among, IsAmong}
-use Rattle.bohm_tree.specs.KeySets.{inserted_by, inserted, key_set}
+use Rattle.bohm_types.specs.Keys.{is_among}
+use Rattle.bohm_types.specs.KeySets.{inserted_by, inserted, key_set}
 
 -- ---- into its place
 
@@ -74,6 +79,104 @@ own_further keys i k x inside first second less own =
     ap key_set here ∙ ap (inserted k) own ∙ ap (inserted k) there
     ∙ ap (λ o. inserted_by o k x (drop (i + 1 + 1) keys) (inserted k (drop (i + 1 + 1) keys))) less
     ∙ ap (λ (ks : List (List ℕ)). k ∷ ks) (sym there) ∙ sym here
+
+pub own_further_at : (keys : List (List ℕ)) (i : ℕ) (k x : List ℕ) → i + 1 < length keys → slice_get keys i ≡ Some k → slice_get keys (i + 1) ≡ Some x
+    → slice_cmp nat_cmp k x ≡ Less → key_set (drop (i + 1) keys) ≡ drop (i + 1) keys → key_set (drop i keys) ≡ drop i keys
+own_further_at keys i k x inside first second less own =
+    own_further keys i k x inside (sym (get_or_from_slice_get keys i k k first)) (sym (get_or_from_slice_get keys (i + 1) x x second)) less own
+
+-- ---- numbers of rising names
+
+-- the name with the number at a place
+pub name_read : (names : List (List ℕ)) (sorted : List ℕ) (i n : ℕ) (x : List ℕ) → AllNamed names sorted → i < length sorted → n ≡ get_or sorted i n
+    → x ≡ get_or names n x → x ≡ get_or (names_at names sorted) i x
+name_read names sorted i n x named inside number is =
+    let within : n < length names = subst (λ m. m < length names) (sym number) (All-get_or (λ m. m < length names) sorted i n inside named) in
+    is ∙ sym (get_or_default names n [] x within) ∙ ap (name_at names) number ∙ sym (get_or-map (name_at names) sorted i n x inside)
+
+inserted_name : (names : List (List ℕ)) (sorted : List ℕ) (i id : ℕ) → names_at names (insert sorted i id) ≡ insert (names_at names sorted) i (name_at names id)
+inserted_name names sorted i id =
+    map-append (name_at names) (take i sorted) (id ∷ drop i sorted)
+    ∙ (λ j. sym (take-map (name_at names) i sorted) j ++ name_at names id ∷ sym (drop-map (name_at names) i sorted) j)
+
+pub still_named : (names : List (List ℕ)) (sorted : List ℕ) (i id : ℕ) → id < length names → AllNamed names sorted → AllNamed names (insert sorted i id)
+still_named names sorted i id inside named =
+    All-append (λ m. m < length names) (take i sorted) (id ∷ drop i sorted) (All-take (λ m. m < length names) i sorted named)
+    (All-cons (λ m. m < length names) id (drop i sorted) inside (All-drop (λ m. m < length names) i sorted named))
+
+-- the names before a place are below another one
+abbrev pub BelowUpTo : List (List ℕ) → List ℕ → ℕ → ℕ → Type 0
+BelowUpTo names sorted id i = inserted (name_at names id) (names_at names sorted)
+    ≡ take i (names_at names sorted) ++ inserted (name_at names id) (drop i (names_at names sorted))
+
+pub number_before : (names : List (List ℕ)) (sorted : List ℕ) (id i n : ℕ) (k x : List ℕ) → id < length names → k ≡ get_or names id k → AllNamed names sorted
+    → i < length sorted → n ≡ get_or sorted i n → x ≡ get_or names n x → slice_cmp nat_cmp k x ≡ Less → BelowUpTo names sorted id i
+    → names_at names (insert sorted i id) ≡ inserted (name_at names id) (names_at names sorted)
+number_before names sorted id i n k x inside is named within number there less e =
+    let same : k ≡ name_at names id = is ∙ sym (get_or_default names id [] k inside) in
+    inserted_name names sorted i id
+    ∙ inserted_before (name_at names id) (names_at names sorted) i x (omega (arith, within, length-map sorted (name_at names)))
+    (name_read names sorted i n x named within number there) (ap (λ (y : List ℕ). slice_cmp nat_cmp y x) (sym same) ∙ less) e
+
+pub number_at : (names : List (List ℕ)) (sorted : List ℕ) (id i n : ℕ) (k x : List ℕ) → id < length names → k ≡ get_or names id k → AllNamed names sorted
+    → i < length sorted → n ≡ get_or sorted i n → x ≡ get_or names n x → slice_cmp nat_cmp k x ≡ Equal → BelowUpTo names sorted id i
+    → names_at names sorted ≡ inserted (name_at names id) (names_at names sorted)
+number_at names sorted id i n k x inside is named within number there equal e =
+    let same : k ≡ name_at names id = is ∙ sym (get_or_default names id [] k inside) in
+    inserted_at (name_at names id) (names_at names sorted) i x (omega (arith, within, length-map sorted (name_at names)))
+    (name_read names sorted i n x named within number there) (ap (λ (y : List ℕ). slice_cmp nat_cmp y x) (sym same) ∙ equal) e
+
+pub number_after : (names : List (List ℕ)) (sorted : List ℕ) (id i n : ℕ) (k x : List ℕ) → id < length names → k ≡ get_or names id k → AllNamed names sorted
+    → i < length sorted → n ≡ get_or sorted i n → x ≡ get_or names n x → slice_cmp nat_cmp k x ≡ Greater → BelowUpTo names sorted id i
+    → BelowUpTo names sorted id (i + 1)
+number_after names sorted id i n k x inside is named within number there greater e =
+    let same : k ≡ name_at names id = is ∙ sym (get_or_default names id [] k inside) in
+    inserted_after (name_at names id) (names_at names sorted) i x (omega (arith, within, length-map sorted (name_at names)))
+    (name_read names sorted i n x named within number there) (ap (λ (y : List ℕ). slice_cmp nat_cmp y x) (sym same) ∙ greater) e
+
+pub number_last : (names : List (List ℕ)) (sorted : List ℕ) (id i : ℕ) → length sorted ≤ i → BelowUpTo names sorted id i
+    → names_at names (sorted ++ id ∷ []) ≡ inserted (name_at names id) (names_at names sorted)
+number_last names sorted id i past e =
+    map-append (name_at names) sorted (id ∷ [])
+    ∙ inserted_last (name_at names id) (names_at names sorted) i (omega (arith, past, length-map sorted (name_at names))) e
+
+pub named_last : (names : List (List ℕ)) (sorted : List ℕ) (id : ℕ) → id < length names → AllNamed names sorted → AllNamed names (sorted ++ id ∷ [])
+named_last names sorted id inside named = All-push (λ m. m < length names) sorted id named inside
+
+-- the numbers from a place on, once that before it is there too
+pub sorted_next : (names : List (List ℕ)) (ids sorted new : List ℕ) (i j id : ℕ) → j ≡ i + 1 → i < length ids → id ≡ get_or ids i id
+    → names_at names sorted ≡ key_set (names_at names (drop j ids)) → names_at names new ≡ inserted (name_at names id) (names_at names sorted)
+    → names_at names new ≡ key_set (names_at names (drop i ids))
+sorted_next names ids sorted new i j id next inside is so e =
+    let there : drop i ids ≡ id ∷ drop j ids = drop-cons ids i id inside
+    ∙ (λ m. sym is m ∷ drop (suc_is m) ids) in
+    e ∙ ap (inserted (name_at names id)) so ∙ ap (λ (ns : List ℕ). key_set (names_at names ns)) (sym there)
+  where
+    suc_is : suc i ≡ j
+    suc_is = omega (arith, next)
+
+-- ---- places in order
+
+map_itself : (xs : List ℕ) → map (λ i. i) xs ≡ xs
+map_itself [] = refl
+map_itself (x ∷ xs) = ap (λ (ys : List ℕ). x ∷ ys) (map_itself xs)
+
+pub range_more : (a n j : ℕ) → a + n ≡ j → range_with_len a (n + 1) ≡ range_with_len a n ++ j ∷ []
+range_more a n j e =
+    sym (map_itself (range_with_len a (n + 1))) ∙ map-range_with_len_more (λ i. i) a n j e
+    ∙ ap (λ (xs : List ℕ). xs ++ j ∷ []) (map_itself (range_with_len a n))
+
+pub place_stays : (n i : ℕ) → i < n → slice_index_or (range_with_len 0 n) i 0 ≡ i
+place_stays n i h = get_or-range_with_len 0 n i 0 h ∙ zero_more
+  where
+    zero_more : 0 + i ≡ i
+    zero_more = omega arith
+
+-- keys that are their own set are at their own places
+pub own_places : (keys : List (List ℕ)) → ArePlaces keys keys (range_with_len 0 (length keys))
+own_places keys = record {
+  each = λ i h. ap (slice_get keys) (place_stays (length keys) i h) ∙ slice_get-get_or keys i [] h;
+}
 
 -- ---- where they are
 

@@ -9,7 +9,7 @@ use Rattle.std.proofs.lemmas.Bool.{or_right}
 use Rattle.std.proofs.lemmas.Option.{slice_get-get_or, same_Some}
 use Rattle.std.specs.Cmp.Lexicographic.{pointwise}
 use Rattle.std.proofs.lemmas.Slice.Eq.{bytes_eq-Decides, slice_eq-Decides}
-use Rattle.bohm_tree.specs.Keys.{place}
+use Rattle.bohm_types.specs.Keys.{place}
 use Rattle.bohm_log.specs.Interning.{with_name}
 use Rattle.bohm_log.specs.Parts.{IsApart}
 

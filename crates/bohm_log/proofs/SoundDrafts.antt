@@ -2,11 +2,11 @@
 use Rattle.std.proofs.Common.{◌≡◌, ℕ, ◌+◌, ◌<◌, Bool, List, [], ◌∷◌, ◌++◌, length, get_or, take, refl, ap, sym, ◌∙◌, subst}
 use Rattle.std.proofs.lemmas.List.{take_more}
 use Rattle.std.specs.List.{AllByRecursion}
-use Rattle.bohm_tree.specs.Term.{Atom}
-use Rattle.bohm_tree.specs.Stmt.{Stmt}
-use Rattle.bohm_tree.specs.Txn.{Txn}
-use Rattle.bohm_tree.specs.Sound.{IsName, IsTerm, IsSum, IsStmt, IsTxn}
-use Rattle.bohm_tree.specs.declared.edition.Edition.{Edition}
+use Rattle.bohm_types.specs.Term.{Atom}
+use Rattle.bohm_types.specs.Stmt.{Stmt}
+use Rattle.bohm_types.specs.Txn.{Txn}
+use Rattle.bohm_types.specs.Sound.{IsName, IsTerm, IsSum, IsStmt, IsTxn}
+use Rattle.bohm_types.specs.declared.edition.Edition.{Edition}
 use Rattle.bohm_log.specs.Drafting.{Drafted, fresh, with_read, with_write, with_term, with_sum, with_stmt}
 use Rattle.bohm_log.specs.SoundLogs.{IsSoundDraft, AreTxns}
 

@@ -1,25 +1,29 @@
 -- The statements that sums make.
 use Rattle.std.proofs.Common.{◌≡◌, ℕ, ◌≤◌, Bool, List, [], ◌∷◌, Some, None, length, refl, ap, sym, subst, ◌∙◌, arith}
 use Rattle.std.specs.List.{AllByRecursion}
-use Rattle.bohm_tree.specs.Sound.{IsName, IsSum, IsStmt}
-use Rattle.bohm_tree.specs.Term.{Atom}
-use Rattle.bohm_tree.specs.declared.cmp.Cmp.{Cmp}
-use Rattle.bohm_tree.specs.Stmt as stmts
+use Rattle.bohm_types.specs.Sound.{IsName, IsSum, IsStmt}
+use Rattle.bohm_types.specs.Term.{Atom}
+use Rattle.bohm_types.specs.declared.cmp.Cmp.{Cmp}
+use Rattle.bohm_types.specs.Stmt as stmts
 use Rattle.bohm_log.specs.declared.row.Action.{Action}
 use Rattle.bohm_log.specs.declared.row.Action.TheVariants as actions
-use Rattle.bohm_tree.specs.declared.edition.Edition.{Edition}
+use Rattle.bohm_types.specs.declared.edition.Edition.{Edition}
 use Rattle.bohm_log.specs.declared.row.Pending.{Pending}
 use Rattle.bohm_log.specs.declared.row.Step.{Step}
 use Rattle.bohm_log.specs.declared.row.Step.TheVariants.{Whole, Left, Right}
-use Rattle.bohm_tree.specs.Txn.{Txn}
+use Rattle.bohm_types.specs.Txn.{Txn}
 use Rattle.bohm_log.specs.Parts.{Parts, sum_between, stmt_made, txn_of}
-use Rattle.bohm_log.specs.Drafting.{Drafted, drafted_of, done_at, from_at, first_end, second_end, with_stmt, made_of, opened, put_of, need_of, AddsRow, IsDrafted}
+use Rattle.bohm_log.specs.Drafting.{Drafted, drafted_of, done_at, from_at, first_end, second_end, with_stmt, made_of}
+use Rattle.bohm_log.specs.Drafting.{opened, put_of, need_of, AddsRow, IsDrafted, IsBetween}
+use Rattle.bohm_log.specs.Sizes.{stmt_terms, open_terms}
 use Rattle.bohm_log.proofs.Drafts.{sum_done, added, added_within}
 
 -- ---- the sums that a statement takes
 
 taken : (x : Txn) (p : Parts) (action : Action) (name : List ℕ) (s f n t : ℕ) (step : Step) → t ≡ length p.terms
-    → stmt_made action name (sum_between p s (first_end f t step)) (sum_between p (first_end f t step) (second_end n t step)) (sum_between p (second_end n t step) t) ≡ made_of (record { txn = x; done = done_at p s f n step; latest = sum_between p (from_at s f n step) (length p.terms) }) action name
+    → stmt_made action name (sum_between p s (first_end f t step)) (sum_between p (first_end f t step) (second_end n t step))
+    (sum_between p (second_end n t step) t) ≡ made_of
+    (record { txn = x; done = done_at p s f n step; latest = sum_between p (from_at s f n step) (length p.terms) }) action name
 taken x p action name s f n t Whole end = rw (end, sum_done p (length p.terms) refl) refl
 taken x p action name s f n t Left end = rw (end, sum_done p (length p.terms) refl) refl
 taken x p action name s f n t Right end = rw end refl
@@ -101,3 +105,36 @@ put_when_sound d k c two is done sum = go d.done two done
     go (x ∷ []) two h = absurd (omega (arith, two))
     go (x ∷ y ∷ []) two h = (is, h.0, (h.1.0, sum))
     go (x ∷ y ∷ z ∷ xs) two h = absurd (omega (arith, two))
+
+-- ---- their terms are all that were read
+
+pub none_counted : (d : Drafted) → IsBetween d → 0 ≡ open_terms d
+none_counted d none = rw (none.done, none.latest) refl
+
+pub bind_counted : (d : Drafted) (name : List ℕ) → d.done ≡ [] → stmt_terms (made_of d actions.Bind name) ≡ open_terms d
+bind_counted d name none = rw none (omega arith)
+
+pub show_counted : (d : Drafted) → d.done ≡ [] → stmt_terms (made_of d actions.Show []) ≡ open_terms d
+show_counted d none = rw none (omega arith)
+
+pub put_counted : (d : Drafted) (k : List ℕ) → d.done ≡ [] → stmt_terms (made_of d actions.Put k) ≡ open_terms d
+put_counted d k none = rw none (omega arith)
+
+pub need_counted : (d : Drafted) (c : Cmp) → length d.done ≡ 1 → stmt_terms (made_of d (actions.Need c) []) ≡ open_terms d
+need_counted d c one = go d.done one
+  where
+    go : (xs : List (List (Bool × Atom))) → length xs ≡ 1
+        → stmt_terms (made_of (record d { done = xs }) (actions.Need c) []) ≡ open_terms (record d { done = xs })
+    go [] one = absurd (omega (arith, one))
+    go (x ∷ []) one = omega arith
+    go (x ∷ y ∷ xs) one = absurd (omega (arith, one))
+
+pub put_when_counted : (d : Drafted) (k : List ℕ) (c : Cmp) → length d.done ≡ 2 → stmt_terms (made_of d (actions.PutWhen c) k) ≡ open_terms d
+put_when_counted d k c two = go d.done two
+  where
+    go : (xs : List (List (Bool × Atom))) → length xs ≡ 2
+        → stmt_terms (made_of (record d { done = xs }) (actions.PutWhen c) k) ≡ open_terms (record d { done = xs })
+    go [] two = absurd (omega (arith, two))
+    go (x ∷ []) two = absurd (omega (arith, two))
+    go (x ∷ y ∷ []) two = omega arith
+    go (x ∷ y ∷ z ∷ xs) two = absurd (omega (arith, two))

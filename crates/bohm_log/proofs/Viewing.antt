@@ -11,10 +11,12 @@ mapped_at f xs i x h is =
     let within : i < length (map f xs) = omega (arith, length-map xs f) in
     slice_get-get_or (map f xs) i (f x) within ∙ ap Some (get_or-map f xs i x (f x) h ∙ ap f (sym is))
 
-pub read_at : (names : List (List ℕ)) (ids : List ℕ) (i : ℕ) (k : List ℕ) → i < length ids → get_or ids i 0 < length names → k ≡ get_or names (get_or ids i 0) k → slice_get (map (name_at names) ids) i ≡ Some k
+pub read_at : (names : List (List ℕ)) (ids : List ℕ) (i : ℕ) (k : List ℕ) → i < length ids → get_or ids i 0 < length names
+    → k ≡ get_or names (get_or ids i 0) k → slice_get (map (name_at names) ids) i ≡ Some k
 read_at names ids i k h named is =
     let within : i < length (map (name_at names) ids) = omega (arith, length-map ids (name_at names)) in
-    slice_get-get_or (map (name_at names) ids) i [] within ∙ ap Some (get_or-map (name_at names) ids i 0 [] h ∙ get_or_default names (get_or ids i 0) [] k named ∙ sym is)
+    slice_get-get_or (map (name_at names) ids) i [] within
+    ∙ ap Some (get_or-map (name_at names) ids i 0 [] h ∙ get_or_default names (get_or ids i 0) [] k named ∙ sym is)
 
 pub mapped_get : {A B : Type 0} (f : A → B) (xs : List A) (i : ℕ) (x : A) → slice_get xs i ≡ Some x → slice_get (map f xs) i ≡ Some (f x)
 mapped_get f xs i x e =

@@ -1,10 +1,10 @@
--- How a procedure lies in memory, and what a call makes of it.
-use Rattle.std.specs.Prelude.{◌≡◌, ℕ, ℤ, pos, negsuc, ◌+◌, ◌-◌, ◌^◌, ◌<◌, ◌≤◌, List, [], ◌∷◌, ◌++◌, map, length, drop}
-use Rattle.std.specs.Prelude.{Bool, true, false, Option, Some, None, nat_lt, if◌then◌else◌}
-use Rattle.std.specs.List.{All, AllByRecursion, IsDistinct, slice_index_or, slice_get}
+-- A procedure in memory, and the instance that a call makes of it.
+use Rattle.std.specs.Prelude.{◌≡◌, ℕ, ℤ, ◌+◌, ◌-◌, ◌^◌, ◌<◌, ◌≤◌, List, [], ◌∷◌, ◌++◌, map, length, drop}
+use Rattle.std.specs.Prelude.{Bool, true, false, Some, nat_lt, if◌then◌else◌}
+use Rattle.std.specs.List.{AllByRecursion, IsDistinct, slice_index_or, slice_get, range_with_len}
 use Rattle.std.specs.Str.{bytes_eq}
-use Rattle.bohm_tree.specs.declared.edition.Edition.{Edition}
-use Rattle.bohm_tree.specs.Keys.{IsAmong, place}
+use Rattle.bohm_types.specs.declared.edition.Edition.{Edition}
+use Rattle.bohm_types.specs.Keys.{IsAmong, place}
 use Rattle.bohm_log.specs.declared.row.AtomKind.{AtomKind}
 use Rattle.bohm_log.specs.declared.row.AtomKind.TheVariants.{Small, Large, Read, Unread, Local}
 use Rattle.bohm_log.specs.declared.row.TermRow.{TermRow}
@@ -13,19 +13,20 @@ use Rattle.bohm_log.specs.declared.row.Action.TheVariants.{Bind, Need, Has, Lack
 use Rattle.bohm_log.specs.declared.row.StmtRow.{StmtRow}
 use Rattle.bohm_log.specs.declared.template.BodyColumns.{BodyColumns}
 use Rattle.bohm_log.specs.declared.template.DeclaredName.{DeclaredName}
-use Rattle.bohm_log.specs.Parts.{Parts, IsWithin, names_at, name_at, stmt_of}
+use Rattle.bohm_log.specs.Parts.{Parts, IsWithin, names_at, stmt_of}
 use Rattle.bohm_log.specs.Columns.{AllNamed}
-use Rattle.bohm_tree.specs.Accesses.{StmtReads, StmtWrites}
-use Rattle.bohm_tree.specs.KeySets.{key_set}
-use Rattle.bohm_tree.specs.Procedure.{Procedure, argument_or, is_minus}
+use Rattle.bohm_types.specs.Accesses.{StmtReads, StmtWrites}
+use Rattle.bohm_types.specs.KeySets.{key_set}
+use Rattle.bohm_types.specs.Procedure.{Procedure, argument_or, is_minus}
 use Rattle.std.specs.Int.RustNames.{unsigned_abs}
+use Rattle.bohm_types.specs.Limits.{most_keys}
 
 -- ---- a procedure
 
 abbrev pub names_in : List DeclaredName → List (List ℕ)
 names_in names = map (λ n. n.name) names
 
--- the name, and which of the parameters it is
+-- the name, with the parameter that it is
 abbrev pub declared_name : List (List ℕ) → List ℕ → DeclaredName
 declared_name params name = record { name = name; param = place params name }
 
@@ -54,7 +55,7 @@ procedure_of e keys values p = record {
   body = map (stmt_of p) (drop (length values) p.rows);
 }
 
--- each name has the place of its parameter
+-- each name has the index of its parameter
 abbrev pub AreDeclared : List (List ℕ) → List DeclaredName → Type 0
 AreDeclared params names = names ≡ map (declared_name params) (names_in names)
 
@@ -64,20 +65,14 @@ pub record IsOwn (p : Parts) (locals : List ℕ) : Type 0 where
   pub apart : IsDistinct bytes_eq p.others
   pub values : AllNamed p.others locals
   pub lets : length locals ≤ length p.rows
-  pub few_reads : length p.reads ≤ 16
-  pub few_writes : length p.writes ≤ 16
+  pub few_reads : length p.reads ≤ most_keys
+  pub few_writes : length p.writes ≤ most_keys
   pub reads : AllByRecursion (StmtReads (IsAmong p.reads)) (map (stmt_of p) p.rows)
   pub writes : AllByRecursion (StmtWrites (IsAmong p.writes)) (map (stmt_of p) p.rows)
 
-pub record IsTemplate (params : List (List ℕ)) (body : BodyColumns) (locals : List ℕ) : Type 0 where
-  pub own : IsOwn (parts_in body) locals
-  pub reads : AreDeclared params body.reads.items
-  pub writes : AreDeclared params body.writes.items
-  pub alike : body.same_sets ≡ true → body.reads.items ≡ body.writes.items
-
 -- ---- other keys
 
--- at each place of a key, its place in the set
+-- by the index of each key, its index in the set
 pub record ArePlaces (keys set : List (List ℕ)) (to : List ℕ) : Type 0 where
   pub each : (i : ℕ) → i < length keys → slice_get set (slice_index_or to i 0) ≡ Some (slice_index_or keys i [])
 
@@ -105,9 +100,21 @@ name_by r w Fail i = i
 abbrev pub row_to : List ℕ → List ℕ → StmtRow → StmtRow
 row_to r w s = record s { name = name_by r w s.action s.name }
 
+-- terms and statements are as they were, where the keys stand at these places
+pub record Stays (body : BodyColumns) (reads writes : List ℕ) : Type 0 where
+  pub terms : map (term_to reads) body.terms.items ≡ body.terms.items
+  pub rows : map (row_to reads writes) body.rows.items ≡ body.rows.items
+
+pub record IsTemplate (params : List (List ℕ)) (body : BodyColumns) (locals : List ℕ) : Type 0 where
+  pub own : IsOwn (parts_in body) locals
+  pub reads : AreDeclared params body.reads.items
+  pub writes : AreDeclared params body.writes.items
+  pub alike : body.same_sets ≡ true → body.reads.items ≡ body.writes.items
+  pub stays : body.stays ≡ true → Stays body (range_with_len 0 (length body.reads.items)) (range_with_len 0 (length body.writes.items))
+
 -- ---- values
 
--- the term of a literal, where so many large ones are there
+-- the term of a literal, after this many large ones
 abbrev pub literal_term : ℕ → Bool → ℕ → TermRow
 literal_term many minus n = if nat_lt n (2 ^ 32) then (record { kind = Small; minus = minus; place = n }) else
     (record { kind = Large; minus = minus; place = many })
@@ -146,7 +153,7 @@ let_rows start (i ∷ is) (v ∷ vs) = let_row i start (start + length (value_te
 
 -- ---- a call
 
--- q is what a call makes of the parts, where the declared names stand for these keys: the values' terms stand behind the body's, and their statements before its
+-- q is the parts' instance for these keys and values: the values' terms follow the body's, and their statements precede the body's
 pub record IsCalled (reads writes : List (List ℕ)) (p : Parts) (values : List ℕ) (vs : List ℤ) (q : Parts) : Type 0 where
   pub same_reads : q.reads ≡ key_set reads
   pub same_writes : q.writes ≡ key_set writes

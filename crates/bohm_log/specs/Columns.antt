@@ -2,15 +2,15 @@
 use Rattle.std.specs.Prelude.{◌≡◌, ℕ, ◌<◌, ◌≤◌, List, [], ◌++◌, length}
 use Rattle.std.specs.List.{All, between, IsDistinct}
 use Rattle.std.specs.Str.{bytes_eq}
-use Rattle.bohm_tree.specs.declared.edition.Edition.{Edition}
-use Rattle.bohm_tree.specs.Txn.{Txn}
+use Rattle.bohm_types.specs.declared.edition.Edition.{Edition}
+use Rattle.bohm_types.specs.Txn.{Txn}
 use Rattle.bohm_log.specs.declared.row.TermRow.{TermRow}
 use Rattle.bohm_log.specs.declared.row.StmtRow.{StmtRow}
 use Rattle.bohm_log.specs.declared.table.Head.{Head}
 use Rattle.bohm_log.specs.declared.columns.Columns.{Columns}
 use Rattle.bohm_log.specs.Parts.{Parts, Begins, IsWithin, names_at, txn_of}
 
--- what all transactions of a log share
+-- the columns of all transactions of a log
 pub record Shared : Type 0 where
   pub names : List (List ℕ)
   pub ids : List ℕ
@@ -25,7 +25,7 @@ shared_of c = record { names = c.names; ids = c.ids.items; others = c.others.ite
 abbrev pub nothing_shared : Shared
 nothing_shared = record { names = []; ids = []; others = []; large = []; terms = []; rows = [] }
 
--- the parts of the columns at a head
+-- the parts that a head selects from the columns
 abbrev pub parts_at : Shared → Head → Parts
 parts_at c h = record {
   reads = names_at c.names (between h.ids h.reads c.ids);
@@ -39,11 +39,11 @@ parts_at c h = record {
 abbrev pub txn_at : Shared → Head → Txn
 txn_at c h = txn_of h.edition (parts_at c h)
 
--- each number is that of a name
+-- each number is a name's
 abbrev pub AllNamed : List (List ℕ) → List ℕ → Type 0
 AllNamed names ids = All (λ i. i < length names) ids
 
--- the head's ranges lie in the columns
+-- the head's ranges are within the columns
 pub record Spans (c : Shared) (h : Head) : Type 0 where
   pub reads : h.ids ≤ h.reads
   pub writes : h.reads ≤ h.writes
@@ -57,19 +57,19 @@ pub record Spans (c : Shared) (h : Head) : Type 0 where
   pub rows_rise : h.rows ≤ h.rows_end
   pub rows : h.rows_end ≤ length c.rows
 
--- a head's transaction lies in the columns
+-- a head's transaction is within the columns
 pub record HeadIn (c : Shared) (h : Head) : Type 0 where
   pub spans : Spans c h
   pub within : IsWithin (parts_at c h)
-  -- equal names stand at one place
+  -- names are distinct
   pub apart : IsDistinct bytes_eq (parts_at c h).others
 
--- each head lies in the columns, and each number is that of a name
+-- each head is within the columns, and each number is a name's
 pub record IsLogged (c : Shared) (heads : List Head) : Type 0 where
   pub each : All (HeadIn c) heads
   pub ids : AllNamed c.names c.ids
 
--- columns that went on
+-- the columns d extend the columns c
 pub record Widens (c d : Shared) : Type 0 where
   pub names : Begins c.names d.names
   pub ids : Begins c.ids d.ids
@@ -78,14 +78,14 @@ pub record Widens (c d : Shared) : Type 0 where
   pub terms : Begins c.terms d.terms
   pub rows : Begins c.rows d.rows
 
--- ---- names to numbers
+-- ---- numbering names
 
--- numbers came for some names
+-- the columns d extend c, and their numbers are still those of names
 pub record Interns (c d : Shared) : Type 0 where
   pub widens : Widens c d
   pub ids : AllNamed c.names c.ids → AllNamed d.names d.ids
 
--- the numbers that came stand for these names
+-- the numbers of these names were appended
 pub record NumbersCome (c d : Shared) (names : List (List ℕ)) : Type 0 where
   pub interns : Interns c d
   pub more : List ℕ
@@ -93,7 +93,7 @@ pub record NumbersCome (c d : Shared) (names : List (List ℕ)) : Type 0 where
   pub named : AllNamed d.names more
   pub same : names_at d.names more ≡ names
 
--- the numbers of these names stand from an offset on
+-- the numbers of these names start at an offset
 pub record NumbersStand (c : Shared) (from : ℕ) (names : List (List ℕ)) : Type 0 where
   pub before : List ℕ
   pub numbers : List ℕ
@@ -103,7 +103,7 @@ pub record NumbersStand (c : Shared) (from : ℕ) (names : List (List ℕ)) : Ty
   pub named : AllNamed c.names numbers
   pub same : names_at c.names numbers ≡ names
 
--- the numbers of these names stand from an offset on, and none behind them
+-- the numbers of these names start at an offset and end the column
 pub record NumbersEnd (c : Shared) (from : ℕ) (names : List (List ℕ)) : Type 0 where
   pub before : List ℕ
   pub numbers : List ℕ
@@ -112,13 +112,13 @@ pub record NumbersEnd (c : Shared) (from : ℕ) (names : List (List ℕ)) : Type
   pub named : AllNamed c.names numbers
   pub same : names_at c.names numbers ≡ names
 
--- a list came at the end of a column, between these offsets
+-- the column has the list between these offsets
 pub record Lands {A : Type 0} (column part : List A) (from to : ℕ) : Type 0 where
   pub rise : from ≤ to
   pub end : to ≤ length column
   pub same : between from to column ≡ part
 
--- the numbers of reads and writes came, between these offsets
+-- the numbers of reads and of writes are between these offsets
 pub record Sets (d : Shared) (ids reads writes : ℕ) (the_reads the_writes : List (List ℕ)) : Type 0 where
   pub rise_reads : ids ≤ reads
   pub rise_writes : reads ≤ writes
@@ -126,12 +126,12 @@ pub record Sets (d : Shared) (ids reads writes : ℕ) (the_reads the_writes : Li
   pub reads_are : names_at d.names (between ids reads d.ids) ≡ the_reads
   pub writes_are : names_at d.names (between reads writes d.ids) ≡ the_writes
 
--- reads and writes came, and their numbers stand between these offsets
+-- the numbers of reads and writes were added, between these offsets
 pub record SetsCome (c d : Shared) (ids reads writes : ℕ) (the_reads the_writes : List (List ℕ)) : Type 0 where
   pub interns : Interns c d
   pub sets : Sets d ids reads writes the_reads the_writes
 
--- a transaction's parts came
+-- a transaction's parts were appended
 pub record Appends (c d : Shared) (h : Head) (e : Edition) (p : Parts) : Type 0 where
   pub edition : h.edition ≡ e
   pub interns : Interns c d

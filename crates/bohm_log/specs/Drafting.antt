@@ -1,22 +1,22 @@
--- The parts of the transaction that is being read.
+-- The parts of the transaction being read.
 use Rattle.std.specs.Prelude.{◌≡◌, ℕ, ◌≤◌, ◌<◌, ◌^◌, List, [], ◌∷◌, ◌++◌, length, Bool, Option, Some, None}
 use Rattle.std.specs.List.{slice_index_or}
-use Rattle.bohm_tree.specs.declared.cmp.Cmp.{Cmp}
-use Rattle.bohm_tree.specs.Stmt.{Stmt, Put, Need}
-use Rattle.bohm_tree.specs.declared.edition.Edition.{Edition}
-use Rattle.bohm_tree.specs.Txn.{Txn}
+use Rattle.bohm_types.specs.declared.cmp.Cmp.{Cmp}
+use Rattle.bohm_types.specs.Stmt.{Stmt, Put, Need}
+use Rattle.bohm_types.specs.declared.edition.Edition.{Edition}
+use Rattle.bohm_types.specs.Txn.{Txn}
 use Rattle.bohm_log.specs.declared.row.Action.{Action}
 use Rattle.bohm_log.specs.declared.row.Action.TheVariants as actions
 use Rattle.bohm_log.specs.declared.row.StmtRow.{StmtRow}
 use Rattle.bohm_log.specs.declared.row.Step.{Step}
 use Rattle.bohm_log.specs.declared.row.Step.TheVariants.{Whole, Left, Right}
 use Rattle.bohm_log.specs.declared.row.Pending.{Pending}
-use Rattle.bohm_tree.specs.Term.{Atom}
+use Rattle.bohm_types.specs.Term.{Atom}
 use Rattle.bohm_log.specs.declared.row.TermRow.{TermRow}
-use Rattle.bohm_log.specs.declared.sheet.Sheet.{Sheet}
+use Rattle.bohm_log.specs.declared.draft_columns.DraftColumns.{DraftColumns}
 use Rattle.bohm_log.specs.Parts.{Parts, TermIn, KeyIn, NameIn, Grows, IsWithin, key_at, named_by, term_of, sum_between, stmt_made, txn_of}
 
-abbrev pub parts_of : {S H : Type 0} → Sheet S H → Parts
+abbrev pub parts_of : {S H : Type 0} → DraftColumns S H → Parts
 parts_of s = record {
   reads = s.reads.items;
   writes = s.writes.items;
@@ -29,18 +29,18 @@ parts_of s = record {
 abbrev pub no_parts : Parts
 no_parts = record { reads = []; writes = []; others = []; large = []; terms = []; rows = [] }
 
--- names and literals may come, and the rest stays
+-- names and literals may be added, and the rest is unchanged
 pub record NamesGrow (p q : Parts) : Type 0 where
   pub grows : Grows p q
   pub terms : q.terms ≡ p.terms
   pub rows : q.rows ≡ p.rows
 
--- the term stands for this atom
+-- the term encodes this atom
 pub record Stands (p : Parts) (t : TermRow) (minus : Bool) (atom : Atom) : Type 0 where
   pub within : TermIn p t
   pub same : term_of p t ≡ (minus, atom)
 
--- one term came
+-- one term was added
 pub record AddsTerm (p q : Parts) (minus : Bool) (atom : Atom) : Type 0 where
   pub grows : Grows p q
   pub rows : q.rows ≡ p.rows
@@ -54,7 +54,7 @@ with_one_read p k = record { reads = p.reads ++ k ∷ []; writes = p.writes; oth
 abbrev pub with_one_write : Parts → List ℕ → Parts
 with_one_write p k = record { reads = p.reads; writes = p.writes ++ k ∷ []; others = p.others; large = p.large; terms = p.terms; rows = p.rows }
 
--- the key stands at this place, among declared keys or else among the other names
+-- the key has this index among declared keys, or else among the other names
 pub record KeyStands (keys others : List (List ℕ)) (declared : Bool) (i : ℕ) (name : List ℕ) : Type 0 where
   pub within : KeyIn keys others declared i
   pub same : key_at keys others declared i ≡ name
@@ -71,7 +71,7 @@ IsNamed actions.Remove = Unit {0}
 IsNamed actions.Show = ⊥
 IsNamed actions.Fail = ⊥
 
--- the declared keys among which the statement's name is sought
+-- the declared keys in which the statement's name is looked up
 abbrev pub keys_of : Action → List (List ℕ) → List (List ℕ) → List (List ℕ)
 keys_of actions.Bind reads writes = []
 keys_of (actions.Need c) reads writes = []
@@ -107,7 +107,7 @@ IsWriting actions.Remove = Unit {0}
 IsWriting actions.Show = ⊥
 IsWriting actions.Fail = ⊥
 
--- the place stands for this name
+-- the index is this name's
 pub record NameStands (p : Parts) (action : Action) (declared : Bool) (i : ℕ) (name : List ℕ) : Type 0 where
   pub within : NameIn p action declared i
   pub same : named_by p action declared i ≡ name
@@ -115,7 +115,7 @@ pub record NameStands (p : Parts) (action : Action) (declared : Bool) (i : ℕ) 
 abbrev pub with_row : Parts → StmtRow → Parts
 with_row q r = record { reads = q.reads; writes = q.writes; others = q.others; large = q.large; terms = q.terms; rows = q.rows ++ r ∷ [] }
 
--- one statement came
+-- one statement was added
 pub record AddsRow (p q : Parts) (action : Action) (name : List ℕ) (start first second third : ℕ) : Type 0 where
   pub mid : Parts
   pub grows : NamesGrow p mid
@@ -124,15 +124,15 @@ pub record AddsRow (p q : Parts) (action : Action) (name : List ℕ) (start firs
   pub names : NameStands mid action declared place name
   pub made : q ≡ with_row mid (record { action = action; declared = declared; name = place; start = start; first = first; second = second; third = third })
 
--- ---- what a draft shows
+-- ---- the contract view of a draft
 
--- a transaction so far, the sums of its open statement that are done, and the one that is read
+-- a transaction so far, the finished sums of its open statement, and the sum being read
 pub record Drafted : Type 0 where
   pub txn : Txn
   pub done : List (List (Bool × Atom))
   pub latest : List (Bool × Atom)
 
--- nothing of the body was read
+-- nothing of the body has been read
 pub record IsBare (d : Drafted) : Type 0 where
   pub body : d.txn.body ≡ []
   pub done : d.done ≡ []
@@ -147,19 +147,19 @@ pub record IsBetween (d : Drafted) : Type 0 where
 abbrev pub fresh : Edition → Drafted
 fresh e = record { txn = record { edition = e; reads = []; writes = []; body = [] }; done = []; latest = [] }
 
--- one more key to be read
+-- one more declared read
 abbrev pub with_read : Drafted → List ℕ → Drafted
 with_read d k = record d { txn = record d.txn { reads = d.txn.reads ++ k ∷ [] } }
 
--- one more key to be written
+-- one more declared write
 abbrev pub with_write : Drafted → List ℕ → Drafted
 with_write d k = record d { txn = record d.txn { writes = d.txn.writes ++ k ∷ [] } }
 
--- one more term of the sum that is read
+-- one more term of the sum being read
 abbrev pub with_term : Drafted → Bool → Atom → Drafted
 with_term d minus atom = record d { latest = d.latest ++ (minus, atom) ∷ [] }
 
--- the sum that is read is done, and another one begins
+-- the sum being read is finished, and another one begins
 abbrev pub with_sum : Drafted → Drafted
 with_sum d = record d { done = d.done ++ d.latest ∷ []; latest = [] }
 
@@ -167,11 +167,11 @@ with_sum d = record d { done = d.done ++ d.latest ∷ []; latest = [] }
 abbrev pub with_stmt : Drafted → Stmt → Drafted
 with_stmt d s = record { txn = record d.txn { body = d.txn.body ++ s ∷ [] }; done = []; latest = [] }
 
--- the sum of this number of the statement that is read, with the sum that is read
+-- the open statement's sum with this number, or the sum being read
 abbrev pub sum_of : Drafted → ℕ → List (Bool × Atom)
 sum_of d i = slice_index_or (d.done ++ d.latest ∷ []) i []
 
--- the statement that has these sums
+-- the statement with the draft's sums
 abbrev pub made_of : Drafted → Action → List ℕ → Stmt
 made_of d action name = stmt_made action name (sum_of d 0) (sum_of d 1) (sum_of d 2)
 
@@ -184,9 +184,9 @@ put_of d k (Some c) = Put k (slice_index_or d.done 0 []) (Some (record { left = 
 abbrev pub need_of : Drafted → Cmp → Stmt
 need_of d c = Need (record { left = slice_index_or d.done 0 []; cmp = c; right = d.latest })
 
--- ---- how it lies in memory
+-- ---- a draft in memory
 
--- the sums that are done: those before the one that is read
+-- the finished sums: those before the one being read
 abbrev pub done_at : Parts → ℕ → ℕ → ℕ → Step → List (List (Bool × Atom))
 done_at p start first second Whole = []
 done_at p start first second Left = sum_between p start first ∷ []
@@ -195,7 +195,7 @@ done_at p start first second Right = sum_between p start first ∷ sum_between p
 abbrev pub done_in : Parts → Pending → List (List (Bool × Atom))
 done_in p o = done_at p o.start o.first o.second o.step
 
--- where the sum that is read begins
+-- where the sum being read begins
 abbrev pub from_at : ℕ → ℕ → ℕ → Step → ℕ
 from_at start first second Whole = start
 from_at start first second Left = first
@@ -204,7 +204,7 @@ from_at start first second Right = second
 abbrev pub latest_from : Pending → ℕ
 latest_from o = from_at o.start o.first o.second o.step
 
--- where the first sum and the second end, where the last term ends at `end`
+-- where the first sum and the second end, if the last term ends at `end`
 abbrev pub first_end : ℕ → ℕ → Step → ℕ
 first_end first end Whole = end
 first_end first end Left = first
@@ -215,7 +215,7 @@ second_end second end Whole = end
 second_end second end Left = end
 second_end second end Right = second
 
--- the statement whose sum that is read ends at `end`, and the next one begins there
+-- the open statement when the sum being read ends at `end`, where the next one begins
 abbrev pub next_sum : ℕ → ℕ → ℕ → ℕ → Step → Pending
 next_sum end start first second Whole = record { start = start; first = end; second = end; step = Left }
 next_sum end start first second Left = record { start = start; first = first; second = end; step = Right }
@@ -228,12 +228,12 @@ drafted_of e p o = record { txn = txn_of e p; done = done_in p o; latest = sum_b
 abbrev pub opened : ℕ → Pending
 opened t = record { start = t; first = t; second = t; step = Whole }
 
--- places lie within the lists, and offsets rise
+-- indices are within the lists, and offsets ascend
 pub record IsDrafted (p : Parts) (o : Pending) : Type 0 where
   pub within : IsWithin p
   pub begins : o.start ≤ o.first
   pub rises : o.first ≤ o.second
   pub ends : o.second ≤ length p.terms
   pub few : length p.terms < 2 ^ 32
-  -- no terms stand before the first statement
+  -- there are no terms before the first statement
   pub bare : length p.rows ≡ 0 → o.start ≡ 0

@@ -6,7 +6,9 @@ pub mod Partial
 pub mod Numbering
 pub mod Seeing
 pub mod Calling
-pub mod CallBuffers
+pub mod CallPlaces
+pub mod Handles
 pub mod Slices
 pub mod Locals
 pub mod SoundLogs
+pub mod Sizes

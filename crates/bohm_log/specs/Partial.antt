@@ -6,7 +6,7 @@ use Rattle.bohm_log.specs.declared.table.Head.{Head}
 use Rattle.bohm_log.specs.declared.table.Table.{Table}
 use Rattle.bohm_log.specs.Columns.{Shared, IsLogged}
 
--- the columns that the slices are
+-- the columns that the slices make up
 abbrev pub shared_seen : Table → Shared
 shared_seen t = record { names = t.names.now; ids = t.ids.now; others = t.others.now; large = t.large.now; terms = t.terms.now; rows = t.rows.now }
 

@@ -1,19 +1,20 @@
--- A transaction's parts, and the transaction that they are.
+-- A transaction's parts, and the transaction that they represent.
 use Rattle.std.specs.Prelude.{◌≡◌, ℕ, ◌<◌, ◌≤◌, List, [], ◌++◌, map, length, Bool, true, false, Some, None}
 use Rattle.std.specs.List.{All, between, slice_index_or, list_any}
 use Rattle.std.specs.Str.{bytes_eq}
-use Rattle.bohm_tree.specs.Term.{Atom}
-use Rattle.bohm_tree.specs.Term as atoms
-use Rattle.bohm_tree.specs.Stmt.{Stmt}
-use Rattle.bohm_tree.specs.Stmt as stmts
-use Rattle.bohm_tree.specs.declared.edition.Edition.{Edition}
-use Rattle.bohm_tree.specs.Txn.{Txn}
+use Rattle.bohm_types.specs.Term.{Atom}
+use Rattle.bohm_types.specs.Term as atoms
+use Rattle.bohm_types.specs.Stmt.{Stmt}
+use Rattle.bohm_types.specs.Stmt as stmts
+use Rattle.bohm_types.specs.declared.edition.Edition.{Edition}
+use Rattle.bohm_types.specs.Txn.{Txn}
 use Rattle.bohm_log.specs.declared.row.AtomKind.{AtomKind}
 use Rattle.bohm_log.specs.declared.row.AtomKind.TheVariants.{Small, Large, Read, Unread, Local}
 use Rattle.bohm_log.specs.declared.row.TermRow.{TermRow}
 use Rattle.bohm_log.specs.declared.row.Action.{Action}
 use Rattle.bohm_log.specs.declared.row.Action.TheVariants.{Bind, Need, Has, Lacks, Put, PutWhen, Remove, Show, Fail}
 use Rattle.bohm_log.specs.declared.row.StmtRow.{StmtRow}
+use Rattle.bohm_types.specs.Limits.{most_keys}
 
 -- the lists of one transaction
 pub record Parts : Type 0 where
@@ -24,7 +25,7 @@ pub record Parts : Type 0 where
   pub terms : List TermRow
   pub rows : List StmtRow
 
--- the name at a place
+-- the name at an index
 abbrev pub name_at : List (List ℕ) → ℕ → List ℕ
 name_at names i = slice_index_or names i []
 
@@ -32,7 +33,7 @@ name_at names i = slice_index_or names i []
 abbrev pub names_at : List (List ℕ) → List ℕ → List (List ℕ)
 names_at names ids = map (name_at names) ids
 
--- the atom that a place stands for
+-- the atom that an index denotes
 abbrev pub atom_at : Parts → AtomKind → ℕ → Atom
 atom_at p Small i = atoms.Lit i
 atom_at p Large i = atoms.Lit (slice_index_or p.large i 0)
@@ -47,12 +48,12 @@ term_of p t = (t.minus, atom_at p t.kind t.place)
 abbrev pub sum_between : Parts → ℕ → ℕ → List (Bool × Atom)
 sum_between p i j = map (term_of p) (between i j p.terms)
 
--- the key at a place among declared keys, or else among the other names
+-- the key at an index of the declared keys, or else of the other names
 abbrev pub key_at : List (List ℕ) → List (List ℕ) → Bool → ℕ → List ℕ
 key_at keys others true i = name_at keys i
 key_at keys others false i = name_at others i
 
--- the name that a statement's place stands for
+-- the name that a statement's index denotes
 abbrev pub named_by : Parts → Action → Bool → ℕ → List ℕ
 named_by p Bind declared i = name_at p.others i
 named_by p (Need c) declared i = []
@@ -64,7 +65,7 @@ named_by p Remove declared i = key_at p.writes p.others declared i
 named_by p Show declared i = []
 named_by p Fail declared i = []
 
--- the statement with this name and these sums, one behind the other
+-- the statement with this name and these sums, in order
 abbrev pub stmt_made : Action → List ℕ → List (Bool × Atom) → List (Bool × Atom) → List (Bool × Atom) → Stmt
 stmt_made Bind x a b c = stmts.Bind x a
 stmt_made (Need cmp) x a b c = stmts.Need (record { left = a; cmp = cmp; right = b })
@@ -76,26 +77,27 @@ stmt_made Remove x a b c = stmts.Remove x
 stmt_made Show x a b c = stmts.Show a
 stmt_made Fail x a b c = stmts.Fail
 
--- the statement of a row: its sums lie one behind the other
+-- the statement of a row, whose sums are consecutive
 abbrev pub stmt_of : Parts → StmtRow → Stmt
-stmt_of p r = stmt_made r.action (named_by p r.action r.declared r.name) (sum_between p r.start r.first) (sum_between p r.first r.second) (sum_between p r.second r.third)
+stmt_of p r = stmt_made r.action (named_by p r.action r.declared r.name) (sum_between p r.start r.first) (sum_between p r.first r.second)
+    (sum_between p r.second r.third)
 
--- the transaction that the lists are
+-- the transaction that the lists represent
 abbrev pub txn_of : Edition → Parts → Txn
 txn_of e p = record { edition = e; reads = p.reads; writes = p.writes; body = map (stmt_of p) p.rows }
 
--- ---- places within the lists
+-- ---- indices within the lists
 
--- a key that is none of a few declared keys
+-- the key is none of the declared keys, if these are at most 16
 abbrev pub IsApart : List (List ℕ) → List ℕ → Type 0
-IsApart keys k = length keys ≤ 16 → list_any (λ x. bytes_eq x k) keys ≡ false
+IsApart keys k = length keys ≤ most_keys → list_any (λ x. bytes_eq x k) keys ≡ false
 
--- a place among the other names, whose name is none of the declared keys
+-- an index of the other names, whose name is none of the declared keys
 pub record OtherIn (keys others : List (List ℕ)) (i : ℕ) : Type 0 where
   pub within : i < length others
   pub apart : IsApart keys (name_at others i)
 
--- the place lies in its list
+-- the index is within its list
 abbrev pub PlaceIn : Parts → AtomKind → ℕ → Type 0
 PlaceIn p Small i = Unit {0}
 PlaceIn p Large i = i < length p.large
@@ -121,7 +123,7 @@ NameIn p Remove declared i = KeyIn p.writes p.others declared i
 NameIn p Show declared i = Unit {0}
 NameIn p Fail declared i = Unit {0}
 
--- the sums lie within the terms, and the name in its list
+-- the sums are within the terms, and the name's index is within its list
 pub record RowIn (p : Parts) (r : StmtRow) : Type 0 where
   pub first : r.start ≤ r.first
   pub second : r.first ≤ r.second
@@ -129,18 +131,18 @@ pub record RowIn (p : Parts) (r : StmtRow) : Type 0 where
   pub end : r.third ≤ length p.terms
   pub name : NameIn p r.action r.declared r.name
 
--- all places and offsets lie within the lists
+-- all indices and offsets are within the lists
 pub record IsWithin (p : Parts) : Type 0 where
   pub terms : All (TermIn p) p.terms
   pub rows : All (RowIn p) p.rows
 
 -- ---- parts that grow
 
--- a list that went on
+-- the first list is a prefix of the second
 abbrev pub Begins : {A : Type 0} → List A → List A → Type 0
 Begins {A = A} xs ys = (more : List A) × (ys ≡ xs ++ more)
 
--- what a body names and does grows, over the same declared keys
+-- the body's names, terms and statements are extended, with the same declared keys
 pub record Grows (p q : Parts) : Type 0 where
   pub reads : q.reads ≡ p.reads
   pub writes : q.writes ≡ p.writes

@@ -2,12 +2,12 @@
 use Rattle.std.specs.Prelude.{◌≤◌, ℕ, Bool, length, Option, Some, None}
 use Rattle.std.specs.List.{IsDistinct}
 use Rattle.std.specs.Str.{bytes_eq}
-use Rattle.bohm_tree.specs.Term.{Atom}
-use Rattle.bohm_tree.specs.Term as atoms
-use Rattle.bohm_tree.specs.Stmt.{Cond, Stmt}
-use Rattle.bohm_tree.specs.Stmt as stmts
-use Rattle.bohm_tree.specs.Txn.{Txn}
-use Rattle.bohm_log.specs.declared.seen.Seen.{Seen}
+use Rattle.bohm_types.specs.Term.{Atom}
+use Rattle.bohm_types.specs.Term as atoms
+use Rattle.bohm_types.specs.Stmt.{Cond, Stmt}
+use Rattle.bohm_types.specs.Stmt as stmts
+use Rattle.bohm_types.specs.Txn.{Txn}
+use Rattle.bohm_log.specs.declared.slices.TxnSlices.{TxnSlices}
 use Rattle.bohm_log.specs.declared.sum.TermParts.{TermParts}
 use Rattle.bohm_log.specs.declared.sum.AtomParts.{AtomParts}
 use Rattle.bohm_log.specs.declared.sum.AtomParts.TheVariants.{Lit, Read, Local}
@@ -18,8 +18,8 @@ use Rattle.bohm_log.specs.Parts.{Parts, IsWithin, RowIn, names_at, txn_of}
 use Rattle.bohm_log.specs.declared.row.StmtRow.{StmtRow}
 use Rattle.bohm_log.specs.Columns.{AllNamed}
 
--- the lists that the slices are
-abbrev pub parts_seen : Seen → Parts
+-- the slices as lists
+abbrev pub parts_seen : TxnSlices → Parts
 parts_seen s = record {
   reads = names_at s.names.now s.reads.now;
   writes = names_at s.names.now s.writes.now;
@@ -29,23 +29,23 @@ parts_seen s = record {
   rows = s.rows.now;
 }
 
-abbrev pub txn_seen : Seen → Txn
+abbrev pub txn_seen : TxnSlices → Txn
 txn_seen s = txn_of s.edition (parts_seen s)
 
-pub record IsSeen (s : Seen) : Type 0 where
+pub record IsSeen (s : TxnSlices) : Type 0 where
   pub reads : AllNamed s.names.now s.reads.now
   pub writes : AllNamed s.names.now s.writes.now
   pub within : IsWithin (parts_seen s)
-  -- equal names stand at one place
+  -- names are distinct
   pub apart : IsDistinct bytes_eq s.others.now
 
--- the statement's places lie in the parts
-pub record IsSeenRow (s : Seen) (r : StmtRow) : Type 0 where
+-- the statement's indices are within the parts
+pub record IsSeenRow (s : TxnSlices) (r : StmtRow) : Type 0 where
   pub seen : IsSeen s
   pub row : RowIn (parts_seen s) r
 
--- the sum's terms lie in the parts
-pub record IsSeenSum (s : Seen) (start end : ℕ) : Type 0 where
+-- the sum's terms are within the parts
+pub record IsSeenSum (s : TxnSlices) (start end : ℕ) : Type 0 where
   pub seen : IsSeen s
   pub rises : start ≤ end
   pub within : end ≤ length s.terms.now
@@ -67,7 +67,7 @@ abbrev pub guard_shown : Option CondView → Option Cond
 guard_shown None = None
 guard_shown (Some c) = Some (cond_shown c)
 
--- the statement that these parts make
+-- the statement that these parts make up
 abbrev pub stmt_shown : StmtParts → Stmt
 stmt_shown (Bind x sum) = stmts.Bind x sum
 stmt_shown (Need c) = stmts.Need (cond_shown c)

@@ -1,155 +1,39 @@
-//! Builds the instance of a call from a procedure's columns.
+//! Builds the instance of a call from a procedure's columns, at the ends of a log's columns.
 
 ghost use Rattle.std.specs.Prelude.{◌≡◌, ◌<◌, ◌≤◌, ◌+◌, ◌++◌, true, drop, map, length, OnOk, IfOk};
-ghost use Rattle.bohm_tree.specs.KeySets.{inserted, key_set};
-ghost use Rattle.bohm_tree.specs.Procedure.{is_minus};
-ghost use Rattle.bohm_log.specs.Calling.{literal_term, literal_large, value_terms, value_large};
-ghost use Rattle.bohm_log.specs.Calling.{let_large, let_terms, let_rows, parts_in, IsCalled};
-ghost use Rattle.bohm_log.specs.CallBuffers.{parts_called, HasSets};
-ghost use Rattle.std.specs.Prelude.{slice_index_or};
-ghost use Rattle.bohm_log.specs.Calling.{argument_of, ArePlaces, term_to, name_by, row_to};
+ghost use Rattle.std.specs.Prelude.{IfSome, IfNone, slice_index_or};
+ghost use Rattle.std.specs.List.{range_with_len};
+ghost use Rattle.bohm_types.specs.Procedure.{is_minus};
+ghost use Rattle.bohm_log.specs.Calling.{value_terms, value_large};
+ghost use Rattle.bohm_log.specs.Calling.{let_large, let_terms, let_rows, Stays};
+ghost use Rattle.bohm_log.specs.Calling.{argument_of, term_to, name_by, row_to};
+ghost use Rattle.bohm_log.specs.CallPlaces.{IsMove};
+ghost use Rattle.bohm_log.specs.Columns.{Lands};
+ghost use Rattle.bohm_log.specs.Handles.{keys_named};
+ghost use Rattle.bohm_log.specs.Parts.{Begins};
 
+use crate::call_places::Moves;
+use crate::columns::offset;
 use crate::fault::LogFault;
+use crate::key_handle::KeyHandle;
 use crate::row::{Action, AtomKind, StmtRow, TermRow};
-use crate::sheet::places::place_in;
 use crate::template::{BodyColumns, DeclaredName};
-use bohm_tree::{Key, Value};
-use std::alloc::Global;
-use std::cmp::Ordering;
+use bohm_types::{GREATEST_LITERAL, Value};
 
-/// The key that a declared name stands for: a parameter's argument, or else itself.
-fn argument(name: &DeclaredName, args: &[Key]) -> Key
-    ensures { result ≡ argument_of args.now name.now }
+/// The end of the literals that a term's index can be.
+const SMALL_END: u64 = 1 << 32;
+
+/// The handle that a declared name stands for, if it is a parameter.
+#[inline(always)]
+pub(crate) fn handle_of<'a>(name: &DeclaredName, args: &'a [KeyHandle]) -> Option<&'a KeyHandle>
+    ensures some { IfSome result
+        (λ h. h.now.key ≡ argument_of (keys_named args.now) name.now) }
+    ensures none { IfNone result (argument_of (keys_named args.now) name.now ≡ name.now.name) }
 {
     match name.param {
-        Some(i) => match args.get(i) {
-            Some(key) => *key,
-            None => name.name,
-        },
-        None => name.name,
+        Some(i) => args.get(i),
+        None => None,
     }
-}
-
-/// The keys that declared names stand for, in their order.
-fn resolve(keys: &mut Vec<Key>, names: &[DeclaredName], args: &[Key]) -> Result<(), LogFault>
-    ensures { OnOk result (keys.new.items ≡ map (argument_of args.now) names.now) }
-{
-    keys.clear();
-    for name in names {
-        keys.push(argument(name, args))?;
-    }
-    Ok(())
-}
-
-/// Puts a key in its place among rising ones, if it isn't among them.
-fn insert_key(keys: &mut Vec<Key>, key: Key) -> Result<(), LogFault>
-    ensures { OnOk result (keys.new.items ≡ inserted key keys.old.items) }
-{
-    for i in 0..keys.len() {
-        match key.cmp(&keys[i]) {
-            Ordering::Less => {
-                keys.insert(i, key)?;
-                return Ok(());
-            }
-            Ordering::Equal => return Ok(()),
-            Ordering::Greater => {}
-        }
-    }
-    keys.push(key)?;
-    Ok(())
-}
-
-/// The distinct ones of some keys, in ascending order.
-fn fill_set(set: &mut Vec<Key>, keys: &[Key]) -> Result<(), LogFault>
-    ensures { OnOk result (set.new.items ≡ key_set keys.now) }
-{
-    set.clear();
-    for done in 0..keys.len() {
-        insert_key(set, keys[keys.len() - 1 - done])?;
-    }
-    Ok(())
-}
-
-/// Where each of some keys stands in their set.
-fn find_places(places: &mut Vec<u32>, set: &[Key], keys: &[Key]) -> Result<(), LogFault>
-    requires few { length keys.now ≤ 16 }
-    requires set { set.now ≡ key_set keys.now }
-    ensures { OnOk result (ArePlaces keys.now set.now places.new.items) }
-{
-    places.clear();
-    for key in keys {
-        let place = match place_in(set, key) {
-            Some(place) => place,
-            None => 0,
-        };
-        places.push(place)?;
-    }
-    Ok(())
-}
-
-/// Whether the key at a place is below the next one, if there is one.
-#[tactic(auto, using(crate::proofs::Placing::own_further, crate::proofs::Placing::own_last))]
-fn is_below_next(keys: &[Key], i: usize) -> bool
-    requires { i < length keys.now }
-    ensures { result ≡ true → key_set (drop (i + 1) keys.now) ≡ drop (i + 1) keys.now
-        → key_set (drop i keys.now) ≡ drop i keys.now }
-{
-    match keys.get(i + 1) {
-        Some(next) => match keys[i].cmp(next) {
-            Ordering::Less => true,
-            Ordering::Equal | Ordering::Greater => false,
-        },
-        None => true,
-    }
-}
-
-/// Whether each key is below the next.
-fn are_rising(keys: &[Key]) -> bool
-    ensures { result ≡ true → key_set keys.now ≡ keys.now }
-{
-    for done in 0..keys.len() {
-        if !is_below_next(keys, keys.len() - 1 - done) {
-            return false;
-        }
-    }
-    true
-}
-
-/// The places of keys that are their own set.
-fn count_places(places: &mut Vec<u32>, keys: &[Key]) -> Result<(), LogFault>
-    requires { length keys.now ≤ 16 }
-    ensures { OnOk result (ArePlaces keys.now keys.now places.new.items) }
-{
-    places.clear();
-    for i in 0..keys.len() {
-        places.push(i as u32)?;
-    }
-    Ok(())
-}
-
-/// The set of some keys, and where each of them stands in it.
-fn settle(set: &mut Vec<Key>, places: &mut Vec<u32>, keys: &[Key]) -> Result<(), LogFault>
-    requires { length keys.now ≤ 16 }
-    ensures set { OnOk result (set.new.items ≡ key_set keys.now) }
-    ensures places { OnOk result (ArePlaces keys.now set.new.items places.new.items) }
-{
-    if are_rising(keys) {
-        copy_from(set, keys)?;
-        count_places(places, keys)?;
-        return Ok(());
-    }
-    fill_set(set, keys)?;
-    find_places(places, set.as_slice(), keys)?;
-    Ok(())
-}
-
-/// Makes a list the copy of another one.
-fn copy_from<T: Copy>(copy: &mut Vec<T>, items: &[T]) -> Result<(), LogFault>
-    ensures { OnOk result (copy.new.items ≡ items.now) }
-{
-    copy.clear();
-    copy.extend_from_slice(items)?;
-    Ok(())
 }
 
 #[inline(always)]
@@ -207,61 +91,100 @@ fn row_to(reads: &[u32], writes: &[u32], row: &StmtRow) -> StmtRow
     }
 }
 
-/// Terms over other keys.
+/// Adds terms over other keys.
+#[tactic(auto, using(crate::proofs::Widening::begins_by))]
 fn relocate_terms(
-    moved: &mut Vec<TermRow>,
+    column: &mut Vec<TermRow>,
     terms: &[TermRow],
     places: &[u32],
 ) -> Result<(), LogFault>
-    ensures { OnOk result (moved.new.items ≡ map (term_to places.now) terms.now) }
+    ensures begins { Begins column.old.items column.new.items }
+    ensures ok { OnOk result
+        (column.new.items ≡ column.old.items ++ map (term_to places.now) terms.now) }
 {
-    moved.clear();
     for term in terms {
-        moved.push(term_to(places, term))?;
+        column.push(term_to(places, term))?;
     }
     Ok(())
 }
 
-/// Statements over other keys, after those that are there.
+/// Adds statements over other keys.
+#[tactic(auto, using(crate::proofs::Widening::begins_by))]
 fn relocate_rows(
-    moved: &mut Vec<StmtRow>,
+    column: &mut Vec<StmtRow>,
     rows: &[StmtRow],
     reads: &[u32],
     writes: &[u32],
 ) -> Result<(), LogFault>
-    ensures { OnOk result
-        (moved.new.items ≡ moved.old.items ++ map (row_to reads.now writes.now) rows.now) }
+    ensures begins { Begins column.old.items column.new.items }
+    ensures ok { OnOk result
+        (column.new.items ≡ column.old.items ++ map (row_to reads.now writes.now) rows.now) }
 {
     for row in rows {
-        moved.push(row_to(reads, writes, row))?;
+        column.push(row_to(reads, writes, row))?;
     }
     Ok(())
 }
 
-/// The term of a literal. A large one comes after the large ones.
-fn literal(large: &mut Vec<u64>, minus: bool, number: u64) -> Result<TermRow, LogFault>
-    ensures term { IfOk result
-        (λ t. t ≡ literal_term (length large.old.items) minus number) }
-    ensures large { OnOk result (large.new.items ≡ large.old.items ++ literal_large number) }
+/// Whether a term is as it was where each of so many keys is at its own place.
+#[inline(always)]
+#[tactic(auto, using(crate::proofs::Placing::place_stays))]
+fn term_stays(term: &TermRow, reads: usize) -> bool
+    ensures { result ≡ true → term_to (range_with_len 0 reads) term.now ≡ term.now }
 {
-    match u32::try_from(number) {
-        Ok(place) => Ok(TermRow {
-            kind: AtomKind::Small,
-            minus,
-            place,
-        }),
-        Err(_) => match u32::try_from(large.len()) {
-            Ok(place) => {
-                large.push(number)?;
-                Ok(TermRow {
-                    kind: AtomKind::Large,
-                    minus,
-                    place,
-                })
-            }
-            Err(_) => Err(LogFault::Full),
-        },
+    match term.kind {
+        AtomKind::Read => (term.place as usize) < reads,
+        AtomKind::Unread => false,
+        AtomKind::Small | AtomKind::Large | AtomKind::Local => true,
     }
+}
+
+/// Whether a statement is as it was where each of so many keys is at its own place.
+#[tactic(auto, using(crate::proofs::Placing::place_stays))]
+fn row_stays(row: &StmtRow, reads: usize, writes: usize) -> bool
+    ensures { result ≡ true
+        → row_to (range_with_len 0 reads) (range_with_len 0 writes) row.now ≡ row.now }
+{
+    match row.action {
+        Action::Has | Action::Lacks => (row.name as usize) < reads,
+        Action::Put | Action::PutWhen(_) | Action::Remove => (row.name as usize) < writes,
+        Action::Bind | Action::Need(_) | Action::Show | Action::Fail => true,
+    }
+}
+
+/// Whether terms are as they were where each of so many keys is at its own place.
+fn terms_stay(terms: &[TermRow], reads: usize) -> bool
+    ensures { result ≡ true → map (term_to (range_with_len 0 reads)) terms.now ≡ terms.now }
+{
+    for term in terms {
+        if !term_stays(term, reads) {
+            return false;
+        }
+    }
+    true
+}
+
+/// Whether statements are as they were where each of so many keys is at its own place.
+fn rows_stay(rows: &[StmtRow], reads: usize, writes: usize) -> bool
+    ensures { result ≡ true
+        → map (row_to (range_with_len 0 reads) (range_with_len 0 writes)) rows.now ≡ rows.now }
+{
+    for row in rows {
+        if !row_stays(row, reads, writes) {
+            return false;
+        }
+    }
+    true
+}
+
+/// Whether terms and statements are as they were where each of so many keys is at its own place.
+pub(crate) fn body_stays(terms: &[TermRow], rows: &[StmtRow], reads: usize, writes: usize) -> bool
+    ensures terms { result ≡ true
+        → map (term_to (range_with_len 0 reads)) terms.now ≡ terms.now }
+    ensures rows { result ≡ true
+        → map (row_to (range_with_len 0 reads) (range_with_len 0 writes)) rows.now ≡ rows.now }
+{
+    terms_stay(terms, reads) && rows_stay(rows, reads, writes)
 }
 
 /// Whether a value is below 0.
@@ -271,61 +194,176 @@ fn is_minus(number: i64) -> bool
     number < 0
 }
 
-/// The terms of a value, after the others.
-fn add_value(large: &mut Vec<u64>, terms: &mut Vec<TermRow>, value: Value) -> Result<(), LogFault>
+/// Adds the literal of a value, if it is a large one. The least value has the greatest literal.
+#[inline(always)]
+#[tactic(auto, using(crate::proofs::Widening::begins_by))]
+fn add_large_value(column: &mut Vec<u64>, value: Value) -> Result<(), LogFault>
+    ensures begins { Begins column.old.items column.new.items }
+    ensures ok { OnOk result (column.new.items ≡ column.old.items ++ value_large value) }
+{
+    let size = value.get().unsigned_abs();
+    if size < SMALL_END {
+        return Ok(());
+    }
+    if size > GREATEST_LITERAL {
+        column.push(GREATEST_LITERAL)?;
+    } else {
+        column.push(size)?;
+    }
+    Ok(())
+}
+
+/// Adds the large literals of values.
+#[tactic(auto, using(crate::proofs::Lets::large_next, crate::proofs::Lets::large_all))]
+fn add_large_values(column: &mut Vec<u64>, values: &[Value]) -> Result<(), LogFault>
+    ensures begins { Begins column.old.items column.new.items }
+    ensures ok { OnOk result (column.new.items ≡ column.old.items ++ let_large values.now) }
+{
+    for i in 0..values.len() {
+        add_large_value(column, values[i])?;
+    }
+    Ok(())
+}
+
+/// Adds a body's large literals, and those of values.
+pub(crate) fn add_large(
+    column: &mut Vec<u64>,
+    large: &[u64],
+    values: &[Value],
+) -> Result<(u32, u32), LogFault>
+    ensures begins { Begins column.old.items column.new.items }
+    ensures ok { IfOk result
+        (λ r. Lands column.new.items (large.now ++ let_large values.now) r.0 r.1) }
+{
+    let from = offset(column.len())?;
+    if !large.is_empty() {
+        column.extend_from_slice(large)?;
+    }
+    add_large_values(column, values)?;
+    let to = offset(column.len())?;
+    Ok((from, to))
+}
+
+/// Adds the terms of a value, where there are so many large literals. It returns how many there
+/// are with the value's own.
+#[inline(always)]
+#[tactic(auto, using(crate::proofs::Widening::begins_by))]
+fn add_value(column: &mut Vec<TermRow>, many: usize, value: Value) -> Result<usize, LogFault>
+    ensures begins { Begins column.old.items column.new.items }
     ensures terms { OnOk result
-        (terms.new.items ≡ terms.old.items ++ value_terms (length large.old.items) value) }
-    ensures large { OnOk result (large.new.items ≡ large.old.items ++ value_large value) }
+        (column.new.items ≡ column.old.items ++ value_terms many value) }
+    ensures many { IfOk result (λ n. n ≡ many + length (value_large value)) }
 {
     let minus = is_minus(value.get());
     let size = value.get().unsigned_abs();
-    if size < 9223372036854775808 {
-        let term = literal(large, minus, size)?;
-        terms.push(term)?;
-        Ok(())
-    } else {
-        let most = literal(large, minus, 9223372036854775807)?;
-        terms.push(most)?;
-        terms.push(TermRow {
+    if size < SMALL_END {
+        column.push(TermRow {
+            kind: AtomKind::Small,
+            minus,
+            place: size as u32,
+        })?;
+        return Ok(many);
+    }
+    let place = offset(many)?;
+    column.push(TermRow {
+        kind: AtomKind::Large,
+        minus,
+        place,
+    })?;
+    if size > GREATEST_LITERAL {
+        column.push(TermRow {
             kind: AtomKind::Small,
             minus,
             place: 1,
         })?;
-        Ok(())
     }
+    Ok(many + 1)
 }
 
-fn offset(length: usize) -> Result<u32, LogFault>
-    ensures { IfOk result (λ n. n ≡ length) }
+/// Adds the terms of values, where there are so many large literals before theirs.
+#[tactic(auto, using(crate::proofs::Lets::terms_next, crate::proofs::Lets::terms_all))]
+fn add_values(column: &mut Vec<TermRow>, large: usize, values: &[Value]) -> Result<(), LogFault>
+    ensures begins { Begins column.old.items column.new.items }
+    ensures ok { OnOk result
+        (column.new.items ≡ column.old.items ++ let_terms large values.now) }
 {
-    if length <= u32::MAX as usize {
-        Ok(length as u32)
+    let mut many = large;
+    for i in 0..values.len() {
+        many = add_value(column, many, values[i])?;
+    }
+    Ok(())
+}
+
+/// Adds a body's terms over other keys.
+#[tactic(auto, using(crate::proofs::Widening::begins_by))]
+fn copy_terms(
+    column: &mut Vec<TermRow>,
+    body: &BodyColumns,
+    moves: &Moves<'_>,
+) -> Result<(), LogFault>
+    requires { IsMove body.now moves.now }
+    ensures begins { Begins column.old.items column.new.items }
+    ensures ok { OnOk result (column.new.items
+        ≡ column.old.items ++ map (term_to moves.now.reads.now) body.now.terms.items) }
+{
+    if moves.stays {
+        column.extend_from_slice(body.terms.as_slice())?;
+        return Ok(());
+    }
+    relocate_terms(column, body.terms.as_slice(), moves.reads)
+}
+
+/// Adds a body's terms over other keys, and those of values.
+pub(crate) fn add_terms(
+    column: &mut Vec<TermRow>,
+    body: &BodyColumns,
+    moves: &Moves<'_>,
+    values: &[Value],
+) -> Result<(u32, u32), LogFault>
+    requires { IsMove body.now moves.now }
+    ensures begins { Begins column.old.items column.new.items }
+    ensures ok { IfOk result (λ r. Lands column.new.items
+        (map (term_to moves.now.reads.now) body.now.terms.items
+        ++ let_terms (length body.now.large.items) values.now) r.0 r.1) }
+{
+    let from = offset(column.len())?;
+    copy_terms(column, body, moves)?;
+    add_values(column, body.large.len(), values)?;
+    let to = offset(column.len())?;
+    Ok((from, to))
+}
+
+/// How many terms a value has.
+#[inline(always)]
+fn terms_len(value: Value) -> usize
+    ensures length { result ≡ length (value_terms 0 value) }
+    ensures few { result ≤ 2 }
+{
+    if value.get().unsigned_abs() > GREATEST_LITERAL {
+        2
     } else {
-        Err(LogFault::Full)
+        1
     }
 }
 
-/// The statements that bind values to the names at these places.
+/// Adds the statements that bind values to the names at these places. Their terms begin at an
+/// offset.
+#[tactic(auto, using(crate::proofs::Lets::rows_next, crate::proofs::Lets::rows_all))]
 fn add_lets(
-    large: &mut Vec<u64>,
-    terms: &mut Vec<TermRow>,
-    rows: &mut Vec<StmtRow>,
+    column: &mut Vec<StmtRow>,
+    first: usize,
     places: &[u32],
     values: &[Value],
 ) -> Result<(), LogFault>
     requires { length values.now ≡ length places.now }
-    ensures large { OnOk result (large.new.items ≡ large.old.items ++ let_large values.now) }
-    ensures terms { OnOk result
-        (terms.new.items ≡ terms.old.items ++ let_terms (length large.old.items) values.now) }
-    ensures rows { OnOk result
-        (rows.new.items
-        ≡ rows.old.items ++ let_rows (length terms.old.items) places.now values.now) }
+    ensures begins { Begins column.old.items column.new.items }
+    ensures ok { OnOk result
+        (column.new.items ≡ column.old.items ++ let_rows first places.now values.now) }
 {
+    let mut start = offset(first)?;
     for i in 0..values.len() {
-        let start = offset(terms.len())?;
-        add_value(large, terms, values[i])?;
-        let end = offset(terms.len())?;
-        rows.push(StmtRow {
+        let end = offset(start as usize + terms_len(values[i]))?;
+        column.push(StmtRow {
             action: Action::Bind,
             declared: false,
             name: places[i],
@@ -334,109 +372,54 @@ fn add_lets(
             second: end,
             third: end,
         })?;
+        start = end;
     }
     Ok(())
 }
 
-/// What a call makes, in buffers that are used again for the next one.
-#[derive(Drop)]
-pub struct CallBuffer {
-    /// The keys that the procedure's names stand for, in its order.
-    pub read_keys: Vec<Key>,
-    pub write_keys: Vec<Key>,
-    pub reads: Vec<Key>,
-    pub writes: Vec<Key>,
-    pub read_places: Vec<u32>,
-    pub write_places: Vec<u32>,
-    pub large: Vec<u64>,
-    pub terms: Vec<TermRow>,
-    pub rows: Vec<StmtRow>,
+/// Adds a body's statements over other keys, without so many at its start.
+#[tactic(auto, using(crate::proofs::Widening::begins_by))]
+fn copy_rows(
+    column: &mut Vec<StmtRow>,
+    body: &BodyColumns,
+    moves: &Moves<'_>,
+    lets: usize,
+) -> Result<(), LogFault>
+    requires moved { IsMove body.now moves.now }
+    requires lets { lets ≤ length body.now.rows.items }
+    ensures begins { Begins column.old.items column.new.items }
+    ensures ok { OnOk result (column.new.items ≡ column.old.items
+        ++ map (row_to moves.now.reads.now moves.now.writes.now) (drop lets body.now.rows.items)) }
+{
+    let rows = &body.rows.as_slice()[lets..];
+    if moves.stays {
+        column.extend_from_slice(rows)?;
+        return Ok(());
+    }
+    relocate_rows(column, rows, moves.reads, moves.writes)
 }
 
-impl CallBuffer {
-    /// Empty buffers. It allocates nothing.
-    pub fn new(alloc: Global) -> CallBuffer {
-        CallBuffer {
-            read_keys: Vec::new(alloc),
-            write_keys: Vec::new(alloc),
-            reads: Vec::new(alloc),
-            writes: Vec::new(alloc),
-            read_places: Vec::new(alloc),
-            write_places: Vec::new(alloc),
-            large: Vec::new(alloc),
-            terms: Vec::new(alloc),
-            rows: Vec::new(alloc),
-        }
-    }
-
-    /// The sets of a call, and where the procedure's names stand in them. What a procedure reads
-    /// and writes in the same order is settled once.
-    fn fill_sets(&mut self, body: &BodyColumns, args: &[Key]) -> Result<(), LogFault>
-        requires reads { length body.now.reads.items ≤ 16 }
-        requires writes { length body.now.writes.items ≤ 16 }
-        requires alike { body.now.same_sets ≡ true → body.now.reads.items ≡ body.now.writes.items }
-        ensures { OnOk result (HasSets args.now body.now self.new) }
-    {
-        resolve(&mut self.read_keys, body.reads.as_slice(), args)?;
-        settle(
-            &mut self.reads,
-            &mut self.read_places,
-            self.read_keys.as_slice(),
-        )?;
-        if body.same_sets {
-            copy_from(&mut self.writes, self.reads.as_slice())?;
-            copy_from(&mut self.write_places, self.read_places.as_slice())?;
-            return Ok(());
-        }
-        resolve(&mut self.write_keys, body.writes.as_slice(), args)?;
-        settle(
-            &mut self.writes,
-            &mut self.write_places,
-            self.write_keys.as_slice(),
-        )?;
-        Ok(())
-    }
-
-    /// The columns of a call.
-    pub(crate) fn fill(
-        &mut self,
-        body: &BodyColumns,
-        places: &[u32],
-        args: &[Key],
-        values: &[Value],
-    ) -> Result<(), LogFault>
-        requires reads { length body.now.reads.items ≤ 16 }
-        requires writes { length body.now.writes.items ≤ 16 }
-        requires alike { body.now.same_sets ≡ true → body.now.reads.items ≡ body.now.writes.items }
-        requires lets { length places.now ≤ length body.now.rows.items }
-        requires values { length values.now ≡ length places.now }
-        ensures { OnOk result
-            (IsCalled (map (argument_of args.now) body.now.reads.items)
-            (map (argument_of args.now) body.now.writes.items) (parts_in body.now) places.now
-            values.now (parts_called (parts_in body.now) self.new)) }
-    {
-        self.fill_sets(body, args)?;
-        relocate_terms(
-            &mut self.terms,
-            body.terms.as_slice(),
-            self.read_places.as_slice(),
-        )?;
-        self.large.clear();
-        self.large.extend_from_slice(body.large.as_slice())?;
-        self.rows.clear();
-        add_lets(
-            &mut self.large,
-            &mut self.terms,
-            &mut self.rows,
-            places,
-            values,
-        )?;
-        relocate_rows(
-            &mut self.rows,
-            &body.rows.as_slice()[places.len()..],
-            self.read_places.as_slice(),
-            self.write_places.as_slice(),
-        )?;
-        Ok(())
-    }
+/// Adds statements that bind values to the names at these places, and then a body's, over other
+/// keys, without as many at its start.
+pub(crate) fn add_rows(
+    column: &mut Vec<StmtRow>,
+    body: &BodyColumns,
+    moves: &Moves<'_>,
+    places: &[u32],
+    values: &[Value],
+) -> Result<(u32, u32), LogFault>
+    requires moved { IsMove body.now moves.now }
+    requires lets { length places.now ≤ length body.now.rows.items }
+    requires values { length values.now ≡ length places.now }
+    ensures begins { Begins column.old.items column.new.items }
+    ensures ok { IfOk result (λ r. Lands column.new.items
+        (let_rows (length body.now.terms.items) places.now values.now
+        ++ map (row_to moves.now.reads.now moves.now.writes.now)
+        (drop (length places.now) body.now.rows.items)) r.0 r.1) }
+{
+    let from = offset(column.len())?;
+    add_lets(column, body.terms.len(), places, values)?;
+    copy_rows(column, body, moves, places.len())?;
+    let to = offset(column.len())?;
+    Ok((from, to))
 }

@@ -13,14 +13,14 @@ ghost use Rattle.bohm_log.specs.Columns.{SetsCome, Appends, nothing_shared};
 ghost use Rattle.bohm_log.specs.Partial.{shared_seen};
 ghost use Rattle.bohm_log.specs.Slices.{parts_by};
 
+use crate::draft_columns::DraftColumns;
+use crate::draft_columns::places::place_in;
 use crate::fault::LogFault;
-use crate::name_hints::NameHints;
+use crate::name_hints::{NameHints, at_number};
 use crate::names::Names;
 use crate::row::{StmtRow, TermRow};
-use crate::sheet::Sheet;
-use crate::sheet::places::place_in;
 use crate::table::{Head, Table};
-use bohm_tree::{Edition, Key};
+use bohm_types::{Edition, Key};
 use std::alloc::Global;
 use std::hash::BuildHasher;
 
@@ -43,7 +43,8 @@ pub struct Columns<S: BuildHasher> {
 }
 
 /// The offset after this many entries. A column with more than 2^32 - 1 is `Full`.
-fn offset(length: usize) -> Result<u32, LogFault>
+#[inline(always)]
+pub(crate) fn offset(length: usize) -> Result<u32, LogFault>
     ensures { IfOk result (λ n. n ≡ length) }
 {
     if length <= u32::MAX as usize {
@@ -55,7 +56,7 @@ fn offset(length: usize) -> Result<u32, LogFault>
 
 /// Adds a list at a column's end, between the offsets that it returns.
 #[tactic(auto, using(crate::proofs::Widening::landed))]
-fn add_all<T: Copy>(column: &mut Vec<T>, part: &[T]) -> Result<(u32, u32), LogFault>
+pub(crate) fn add_all<T: Copy>(column: &mut Vec<T>, part: &[T]) -> Result<(u32, u32), LogFault>
     ensures begins { Begins column.old.items column.new.items }
     ensures ok { IfOk result (λ r. Lands column.new.items part.now r.0 r.1) }
 {
@@ -84,7 +85,24 @@ impl<S: BuildHasher> Columns<S> {
     }
 }
 
+/// Makes room for this many more entries. Where there is no memory for it, the column grows as it
+/// is filled.
+pub(crate) fn make_room<T>(column: &mut Vec<T>, more: usize)
+    ensures { column.new.items ≡ column.old.items }
+{
+    let _ = column.reserve(more);
+}
+
 impl<S: BuildHasher> Columns<S> {
+    /// Makes room for what a text of this many bytes usually holds.
+    pub fn make_room(&mut self, bytes: usize)
+        ensures { shared_of self.new ≡ shared_of self.old }
+    {
+        make_room(&mut self.ids, bytes / 24);
+        make_room(&mut self.terms, bytes / 8);
+        make_room(&mut self.rows, bytes / 32);
+    }
+
     pub fn table(&self) -> Table<'_>
         ensures same { shared_seen result ≡ shared_of self.now }
         ensures apart { IsDistinct bytes_eq self.now.names }
@@ -120,7 +138,7 @@ pub(crate) fn are_same(one: &[Key], other: &[Key]) -> bool
 }
 
 /// Adds the entries of a column from this offset on once more.
-fn repeat_end(column: &mut Vec<u32>, from: usize) -> Result<(), LogFault>
+pub(crate) fn repeat_end(column: &mut Vec<u32>, from: usize) -> Result<(), LogFault>
     requires { from ≤ length column.old.items }
     ensures ok { OnOk result (column.new.items ≡ column.old.items ++ drop from column.old.items) }
     ensures err { OnErr result (column.new.items ≡ column.old.items) }
@@ -129,25 +147,44 @@ fn repeat_end(column: &mut Vec<u32>, from: usize) -> Result<(), LogFault>
     Ok(())
 }
 
-/// The number of a name, which is added if it is new. It is hashed only if it isn't where it was
-/// found last.
-#[inline(always)]
+/// The number of a name, which is added if it is new. It is hashed only if it isn't the one that
+/// was noted last.
+#[inline(never)]
 #[tactic(auto, using(crate::proofs::Seeking::named_already))]
-fn number_of<S: BuildHasher + Drop>(
+fn number_anew<S: BuildHasher + Drop>(
     names: &mut Names<S>,
     hints: &mut NameHints,
-    name: Key,
+    name: &Key,
 ) -> Result<u32, LogFault>
-    ensures names { OnOk result (names.new ≡ with_name names.old name) }
-    ensures named { IfOk result (λ id. slice_get names.new id ≡ Some name) }
+    ensures names { OnOk result (names.new ≡ with_name names.old name.now) }
+    ensures named { IfOk result (λ id. slice_get names.new id ≡ Some name.now) }
     ensures err { OnErr result (names.new ≡ names.old) }
 {
-    if let Some(number) = hints.number(names.as_slice(), &name) {
+    if let Some(number) = at_number(names.as_slice(), hints.noted(name), name) {
         return Ok(number);
     }
-    let number = names.id(name)?;
-    hints.note(&name, number);
+    let number = names.id(*name)?;
+    hints.note(name, number);
     Ok(number)
+}
+
+/// The number of a name, which is added if it is new. It is searched for only if it isn't this one.
+#[inline(always)]
+#[tactic(auto, using(crate::proofs::Seeking::named_already))]
+pub(crate) fn number_of<S: BuildHasher + Drop>(
+    names: &mut Names<S>,
+    hints: &mut NameHints,
+    name: &Key,
+    hint: u32,
+) -> Result<u32, LogFault>
+    ensures names { OnOk result (names.new ≡ with_name names.old name.now) }
+    ensures named { IfOk result (λ id. slice_get names.new id ≡ Some name.now) }
+    ensures err { OnErr result (names.new ≡ names.old) }
+{
+    if let Some(number) = at_number(names.as_slice(), hint, name) {
+        return Ok(number);
+    }
+    number_anew(names, hints, name)
 }
 
 impl<S: BuildHasher + Drop> Columns<S> {
@@ -167,13 +204,14 @@ impl<S: BuildHasher + Drop> Columns<S> {
         empty(&mut self.rows);
     }
 
-    /// Adds the number of a name.
-    fn add_name(&mut self, name: Key) -> Result<(), LogFault>
+    /// Adds the number of a name, which may be this one.
+    #[inline(always)]
+    pub(crate) fn add_name(&mut self, name: &Key, hint: u32) -> Result<(), LogFault>
         ensures ok { OnOk result
-            (NumbersCome (shared_of self.old) (shared_of self.new) (name ∷ [])) }
+            (NumbersCome (shared_of self.old) (shared_of self.new) (name.now ∷ [])) }
         ensures err { OnErr result (Interns (shared_of self.old) (shared_of self.new)) }
     {
-        let id = number_of(&mut self.names, &mut self.hints, name)?;
+        let id = number_of(&mut self.names, &mut self.hints, name, hint)?;
         self.ids.push(id)?;
         Ok(())
     }
@@ -184,7 +222,8 @@ impl<S: BuildHasher + Drop> Columns<S> {
         ensures err { OnErr result (Interns (shared_of self.old) (shared_of self.new)) }
     {
         for name in names {
-            self.add_name(*name)?;
+            let hint = self.hints.noted(name);
+            self.add_name(name, hint)?;
         }
         Ok(())
     }
@@ -203,7 +242,10 @@ impl<S: BuildHasher + Drop> Columns<S> {
                 self.ids.push(id)?;
                 Ok(())
             }
-            None => self.add_name(name),
+            None => {
+                let hint = self.hints.noted(&name);
+                self.add_name(&name, hint)
+            }
         }
     }
 
@@ -253,7 +295,7 @@ impl<S: BuildHasher + Drop> Columns<S> {
     }
 
     /// Adds a transaction's parts.
-    pub fn append(&mut self, edition: Edition, sheet: &Sheet<S>) -> Result<Head, LogFault>
+    pub fn append(&mut self, edition: Edition, sheet: &DraftColumns<S>) -> Result<Head, LogFault>
         ensures apart { IsDistinct bytes_eq (parts_of sheet.now).others }
         ensures ok { IfOk result
             (λ h. Appends (shared_of self.old) (shared_of self.new) h edition

@@ -7,7 +7,7 @@ ghost use Rattle.bohm_log.specs.Columns.{AllNamed};
 ghost use Rattle.bohm_log.specs.Numbering.{sets_at, IsNumbered};
 
 use crate::table::Head;
-use bohm_tree::Key;
+use bohm_types::Key;
 use std::marker::Model;
 
 /// The names of a log's keys and, for each transaction of a part of it, the numbers of the keys

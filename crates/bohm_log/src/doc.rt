@@ -1,20 +1,22 @@
 //! Documents: a store and a log.
 
-ghost use Rattle.std.specs.Prelude.{◌≡◌, length, OnOk, OnErr};
+ghost use Rattle.std.specs.Prelude.{◌≡◌, length, IfOk, OnOk, OnErr};
 ghost use Rattle.std.specs.List.{list_all};
-ghost use Rattle.bohm_tree.specs.Document.{in_edition};
-ghost use Rattle.bohm_tree.specs.Appending.{empty_document, with_txn};
-ghost use Rattle.bohm_tree.specs.Procedure.{instance};
-ghost use Rattle.bohm_tree.specs.Sound.{IsDocument};
+ghost use Rattle.bohm_types.specs.Document.{in_edition};
+ghost use Rattle.bohm_types.specs.Appending.{empty_document, with_txn};
+ghost use Rattle.bohm_types.specs.Procedure.{instance};
+ghost use Rattle.bohm_types.specs.Sound.{IsDocument};
+ghost use Rattle.bohm_log.specs.Handles.{keys_named};
 
-use crate::calling::CallBuffer;
+use crate::call_buffer::CallBuffer;
 use crate::fault::LogFault;
 use crate::hash_seed::HashSeed;
+use crate::key_handle::KeyHandle;
 use crate::log::Log;
 use crate::part::LogPart;
 use crate::soundness::are_entries;
 use crate::template::Template;
-use bohm_tree::{Edition, Items, Key, Value};
+use bohm_types::{Edition, Items, Key, Value};
 use std::alloc::Global;
 use std::marker::Model;
 
@@ -27,10 +29,10 @@ pub struct Doc {
 }
 
 impl Model for Doc {
-    ghost use Rattle.bohm_tree.specs.Document.{Document, in_edition};
+    ghost use Rattle.bohm_types.specs.Document.{Document, in_edition};
     ghost use Rattle.std.specs.Prelude.{IsTrue};
     ghost use Rattle.std.specs.List.{list_all, AllByRecursion};
-    ghost use Rattle.bohm_tree.specs.Sound.{IsEntry};
+    ghost use Rattle.bohm_types.specs.Sound.{IsEntry};
 
     ghost Value = { Document };
 
@@ -52,7 +54,7 @@ fn are_in(edition: Edition, log: &LogPart<'_>) -> bool
 }
 
 impl Doc {
-    ghost use Rattle.bohm_tree.specs.Document.{document_of};
+    ghost use Rattle.bohm_types.specs.Document.{document_of};
 
     /// The document, if all its transactions are of its edition. Its time grows with the number of
     /// transactions.
@@ -98,6 +100,32 @@ impl Doc {
         ensures err { OnErr result (self.new ≡ self.old) }
     {
         self.log.push_call(template, buffer, keys, values)
+    }
+
+    /// The same, for the keys of these handles.
+    pub fn push_named(
+        &mut self,
+        template: &Template,
+        buffer: &mut CallBuffer,
+        keys: &[KeyHandle],
+        values: &[Value],
+    ) -> Result<(), LogFault>
+        requires values { length values.now ≡ length template.now.values }
+        requires edition { template.now.edition ≡ self.old.edition }
+        ensures ok { OnOk result
+            (self.new ≡ with_txn self.old
+            (instance template.now (keys_named keys.now) values.now)) }
+        ensures err { OnErr result (self.new ≡ self.old) }
+    {
+        self.log.push_named(template, buffer, keys, values)
+    }
+
+    /// The handle of a key, which gets a number if it has none. The document stays as it is.
+    pub fn handle(&mut self, key: &Key) -> Result<KeyHandle, LogFault>
+        ensures key { IfOk result (λ h. h.key ≡ key.now) }
+        ensures same { self.new ≡ self.old }
+    {
+        self.log.handle(key)
     }
 
     /// Removes the store and all transactions. Room is kept for others.

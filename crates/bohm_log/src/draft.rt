@@ -1,38 +1,43 @@
 //! The transaction being read.
 
-ghost use Rattle.std.specs.Prelude.{◌≡◌, ◌<◌, [], true, false, IfOk, OnOk, OnErr, length};
-ghost use Rattle.std.specs.Prelude.{Some, None, ◌||◌, IfErr, IfSome, IsSome, slice_get};
+ghost use Rattle.std.specs.Prelude.{◌≡◌, ◌≢◌, ◌<◌, ◌≤◌, ◌-◌, ◌^◌, []};
+ghost use Rattle.std.specs.Prelude.{true, false, IfOk, OnOk, OnErr};
+ghost use Rattle.std.specs.Prelude.{Some, None, Err, ◌||◌, IfErr};
+ghost use Rattle.std.specs.Prelude.{IfSome, IsSome, slice_get, length};
 ghost use Rattle.std.specs.List.{AllByRecursion};
-ghost use Rattle.bohm_tree.specs.Keys.{is_among};
-ghost use Rattle.bohm_tree.specs.Name.{is_name};
-ghost use Rattle.bohm_tree.specs.Term.{Lit, Read, Local};
-ghost use Rattle.bohm_tree.specs.Sound.{IsTerm, IsSum, IsStmt, IsTxn};
-ghost use Rattle.bohm_tree.specs.Stmt as stmts;
+ghost use Rattle.bohm_types.specs.Keys.{is_among};
+ghost use Rattle.bohm_types.specs.Name.{is_name};
+ghost use Rattle.bohm_types.specs.Term.{Lit, Read, Local};
+ghost use Rattle.bohm_types.specs.Sound.{IsTerm, IsSum, IsStmt, IsTxn};
+ghost use Rattle.bohm_types.specs.Stmt as stmts;
+ghost use Rattle.bohm_log.specs.declared.fault.LogFault.TheVariants.{Full};
 ghost use Rattle.bohm_log.specs.declared.fault.SumFault.TheVariants as faults;
 ghost use Rattle.bohm_log.specs.Drafting.{fresh, with_read, with_write, with_term, with_sum};
 ghost use Rattle.bohm_log.specs.Drafting.{with_stmt, made_of, put_of, need_of, parts_of, IsBare};
 ghost use Rattle.bohm_log.specs.Drafting.{IsBetween, IsNamed, IsNameless, IsWriting};
 ghost use Rattle.bohm_log.specs.Parts.{txn_of, IsWithin};
 ghost use Rattle.bohm_log.specs.Seeing.{atom_shown};
+ghost use Rattle.bohm_log.specs.Sizes.{size_of, stmt_terms, open_terms, IsCounted};
 
+use crate::draft_columns::DraftColumns;
 use crate::fault::{LogFault, SumFault};
 use crate::literal::Literal;
 use crate::row::{Action, Pending, Step};
-use crate::sheet::Sheet;
 use crate::sum::AtomParts;
-use bohm_tree::{Cmp, Edition, Key};
+use bohm_types::{Cmp, Edition, Key};
 use std::alloc::Global;
 use std::hash::{BuildHasher, BuildHasherDefault, FoldHasher};
 use std::marker::Model;
 
 /// A transaction so far. Its memory is reused for the next one. The declared keys are read before
 /// the body, and the sums of a statement term by term before the statement itself, in the order in
-/// which they stand in it. After an `Err` it shows what it showed before; names that came stay in
-/// memory.
+/// which they stand in it. After an `Err` it shows what it showed before; of the names and literals
+/// that came no more stay in memory than it has terms and statements. `Full` comes only where these
+/// together are 2^32 - 1 or more.
 #[derive(Drop)]
 pub struct Draft<S: BuildHasher = BuildHasherDefault<FoldHasher>> {
     edition: Edition,
-    sheet: Sheet<S>,
+    sheet: DraftColumns<S>,
     pending: Pending,
 }
 
@@ -44,9 +49,11 @@ impl<S: BuildHasher> Model for Draft<S> {
     ghost view = { λ d. drafted_of d.edition (parts_of d.sheet) d.pending };
 
     ghost use Rattle.bohm_log.specs.SoundLogs.{IsSoundDraft};
+    ghost use Rattle.bohm_log.specs.Sizes.{IsCounted};
 
     ghost invariant = { λ d. IsDrafted (parts_of d.sheet) d.pending
-        × IsSoundDraft (drafted_of d.edition (parts_of d.sheet) d.pending) };
+        × IsSoundDraft (drafted_of d.edition (parts_of d.sheet) d.pending)
+        × IsCounted (parts_of d.sheet) (drafted_of d.edition (parts_of d.sheet) d.pending) };
 }
 
 impl<S: BuildHasher> Draft<S> {
@@ -56,7 +63,7 @@ impl<S: BuildHasher> Draft<S> {
     {
         Draft {
             edition,
-            sheet: Sheet::new(alloc, hasher),
+            sheet: DraftColumns::new(alloc, hasher),
             pending: Pending::at(0),
         }
     }
@@ -75,6 +82,7 @@ impl<S: BuildHasher> Draft<S> {
         requires { IsBare self.old }
         ensures ok { OnOk result (self.new ≡ with_read self.old key) }
         ensures err { OnErr result (self.new ≡ self.old) }
+        ensures never_full { result ≢ Err Full }
     {
         key.has_name();
         self.sheet.add_read(key)?;
@@ -86,6 +94,7 @@ impl<S: BuildHasher> Draft<S> {
         requires { IsBare self.old }
         ensures ok { OnOk result (self.new ≡ with_write self.old key) }
         ensures err { OnErr result (self.new ≡ self.old) }
+        ensures never_full { result ≢ Err Full }
     {
         key.has_name();
         self.sheet.add_write(key)?;
@@ -108,6 +117,7 @@ impl<S: BuildHasher> Draft<S> {
         ensures terms { OnOk result (0 < length self.old.latest) }
         ensures empty { IfErr result (λ e. self.old.latest ≡ []) }
         ensures err { OnErr result (self.new ≡ self.old) }
+        ensures never_full { result ≢ Err (faults.Log Full) }
     {
         if !self.has_terms() {
             return Err(SumFault::Empty);
@@ -126,7 +136,7 @@ impl<S: BuildHasher> Draft<S> {
     }
 
     /// Its edition and its columns.
-    pub(crate) fn parts(&self) -> (Edition, &Sheet<S>)
+    pub(crate) fn parts(&self) -> (Edition, &DraftColumns<S>)
         ensures same { txn_of result.0 (parts_of result.1.now) ≡ self.now.txn }
         ensures within { IsWithin (parts_of result.1.now) }
         ensures sound { IsTxn self.now.txn.edition self.now.txn }
@@ -135,12 +145,13 @@ impl<S: BuildHasher> Draft<S> {
     }
 
     /// The same, of a draft that is done with.
-    pub(crate) fn into_parts(self) -> (Edition, Sheet<S>)
+    pub(crate) fn into_parts(self) -> (Edition, DraftColumns<S>)
     where
         S: Drop,
         ensures same { txn_of result.0 (parts_of result.1) ≡ self.txn }
         ensures within { IsWithin (parts_of result.1) }
         ensures sound { IsTxn self.txn.edition self.txn }
+        ensures counted { IsCounted (parts_of result.1) self }
     {
         let Draft { edition, sheet, .. } = self;
         (edition, sheet)
@@ -154,6 +165,7 @@ impl<S: BuildHasher + Drop> Draft<S> {
         requires { IsTerm (minus, atom_shown atom) }
         ensures ok { OnOk result (self.new ≡ with_term self.old minus (atom_shown atom)) }
         ensures err { OnErr result (self.new ≡ self.old) }
+        ensures full { result ≡ Err Full → 2 ^ 32 - 1 ≤ size_of self.old }
     {
         if self.sheet.terms.len() >= u32::MAX as usize {
             return Err(LogFault::Full);
@@ -171,6 +183,7 @@ impl<S: BuildHasher + Drop> Draft<S> {
         ensures name { IfOk result (λ done. done ≡ true → is_name word.now ≡ true) }
         ensures none { IfOk result (λ done. done ≡ false → self.new ≡ self.old) }
         ensures err { OnErr result (self.new ≡ self.old) }
+        ensures full { result ≡ Err Full → 2 ^ 32 - 1 ≤ size_of self.old }
     {
         if self.sheet.terms.len() >= u32::MAX as usize {
             return Err(LogFault::Full);
@@ -196,6 +209,7 @@ impl<S: BuildHasher + Drop> Draft<S> {
     pub fn literal(&mut self, literal: Literal) -> Result<(), LogFault>
         ensures ok { OnOk result (self.new ≡ with_term self.old literal.0 literal.1) }
         ensures err { OnErr result (self.new ≡ self.old) }
+        ensures full { result ≡ Err Full → 2 ^ 32 - 1 ≤ size_of self.old }
     {
         let (minus, number) = literal.parts();
         self.add_term(minus, AtomParts::Lit(number))
@@ -205,6 +219,7 @@ impl<S: BuildHasher + Drop> Draft<S> {
     pub fn key(&mut self, minus: bool, name: Key) -> Result<(), LogFault>
         ensures ok { OnOk result (self.new ≡ with_term self.old minus (Read name)) }
         ensures err { OnErr result (self.new ≡ self.old) }
+        ensures full { result ≡ Err Full → 2 ^ 32 - 1 ≤ size_of self.old }
     {
         name.has_name();
         self.add_term(minus, AtomParts::Read(name))
@@ -214,6 +229,7 @@ impl<S: BuildHasher + Drop> Draft<S> {
     pub fn local(&mut self, minus: bool, name: Key) -> Result<(), LogFault>
         ensures ok { OnOk result (self.new ≡ with_term self.old minus (Local name)) }
         ensures err { OnErr result (self.new ≡ self.old) }
+        ensures full { result ≡ Err Full → 2 ^ 32 - 1 ≤ size_of self.old }
     {
         name.has_name();
         self.add_term(minus, AtomParts::Local(name))
@@ -226,8 +242,10 @@ impl<S: BuildHasher + Drop> Draft<S> {
     fn end_named(&mut self, action: Action, name: Key) -> Result<(), LogFault>
         requires named { IsNamed action }
         requires sound { IsStmt (made_of self.old action name) }
+        requires counted { stmt_terms (made_of self.old action name) ≡ open_terms self.old }
         ensures ok { OnOk result (self.new ≡ with_stmt self.old (made_of self.old action name)) }
         ensures err { OnErr result (self.new ≡ self.old) }
+        ensures full { result ≡ Err Full → 2 ^ 32 - 1 ≤ size_of self.old }
     {
         let end = self.sheet.terms.len() as u32;
         let (first, second) = self.pending.ends(end);
@@ -242,9 +260,11 @@ impl<S: BuildHasher + Drop> Draft<S> {
         requires writes { IsWriting action }
         requires place { slice_get self.old.txn.writes place ≡ Some name.now }
         requires sound { IsStmt (made_of self.old action name.now) }
+        requires counted { stmt_terms (made_of self.old action name.now) ≡ open_terms self.old }
         ensures ok { OnOk result
             (self.new ≡ with_stmt self.old (made_of self.old action name.now)) }
         ensures err { OnErr result (self.new ≡ self.old) }
+        ensures never_full { result ≢ Err Full }
     {
         let end = self.sheet.terms.len() as u32;
         let (first, second) = self.pending.ends(end);
@@ -263,8 +283,10 @@ impl<S: BuildHasher + Drop> Draft<S> {
     fn end_nameless(&mut self, action: Action) -> Result<(), LogFault>
         requires nameless { IsNameless action }
         requires sound { IsStmt (made_of self.old action []) }
+        requires counted { stmt_terms (made_of self.old action []) ≡ open_terms self.old }
         ensures ok { OnOk result (self.new ≡ with_stmt self.old (made_of self.old action [])) }
         ensures err { OnErr result (self.new ≡ self.old) }
+        ensures never_full { result ≢ Err Full }
     {
         let end = self.sheet.terms.len() as u32;
         let (first, second) = self.pending.ends(end);
@@ -275,7 +297,7 @@ impl<S: BuildHasher + Drop> Draft<S> {
     }
 
     /// `let $name = SUM`
-    #[tactic(auto, using(crate::proofs::Statements::bind_made, crate::proofs::Statements::bind_sound))]
+    #[tactic(auto, using(crate::proofs::Statements::bind_made, crate::proofs::Statements::bind_sound, crate::proofs::Statements::bind_counted))]
     pub fn bind(&mut self, name: Key) -> Result<(), SumFault>
         requires { self.old.done ≡ [] }
         ensures ok { OnOk result
@@ -283,6 +305,7 @@ impl<S: BuildHasher + Drop> Draft<S> {
         ensures terms { OnOk result (0 < length self.old.latest) }
         ensures empty { IfErr result (λ e. e ≡ faults.Empty → self.old.latest ≡ []) }
         ensures err { OnErr result (self.new ≡ self.old) }
+        ensures full { result ≡ Err (faults.Log Full) → 2 ^ 32 - 1 ≤ size_of self.old }
     {
         name.has_name();
         if !self.has_terms() {
@@ -293,13 +316,14 @@ impl<S: BuildHasher + Drop> Draft<S> {
     }
 
     /// `need SUM CMP SUM`
-    #[tactic(auto, using(crate::proofs::Statements::need_made, crate::proofs::Statements::need_sound))]
+    #[tactic(auto, using(crate::proofs::Statements::need_made, crate::proofs::Statements::need_sound, crate::proofs::Statements::need_counted))]
     pub fn need(&mut self, cmp: Cmp) -> Result<(), SumFault>
         requires { length self.old.done ≡ 1 }
         ensures ok { OnOk result (self.new ≡ with_stmt self.old (need_of self.old cmp)) }
         ensures terms { OnOk result (0 < length self.old.latest) }
         ensures empty { IfErr result (λ e. e ≡ faults.Empty → self.old.latest ≡ []) }
         ensures err { OnErr result (self.new ≡ self.old) }
+        ensures never_full { result ≢ Err (faults.Log Full) }
     {
         if !self.has_terms() {
             return Err(SumFault::Empty);
@@ -309,33 +333,38 @@ impl<S: BuildHasher + Drop> Draft<S> {
     }
 
     /// `need has KEY`
+    #[tactic(auto, using(crate::proofs::Statements::none_counted))]
     pub fn has(&mut self, key: Key) -> Result<(), LogFault>
         requires { IsBetween self.old }
         ensures ok { OnOk result (self.new ≡ with_stmt self.old (stmts.Has key)) }
         ensures err { OnErr result (self.new ≡ self.old) }
+        ensures full { result ≡ Err Full → 2 ^ 32 - 1 ≤ size_of self.old }
     {
         key.has_name();
         self.end_named(Action::Has, key)
     }
 
     /// `need no KEY`
+    #[tactic(auto, using(crate::proofs::Statements::none_counted))]
     pub fn lacks(&mut self, key: Key) -> Result<(), LogFault>
         requires { IsBetween self.old }
         ensures ok { OnOk result (self.new ≡ with_stmt self.old (stmts.Lacks key)) }
         ensures err { OnErr result (self.new ≡ self.old) }
+        ensures full { result ≡ Err Full → 2 ^ 32 - 1 ≤ size_of self.old }
     {
         key.has_name();
         self.end_named(Action::Lacks, key)
     }
 
     /// `set KEY = SUM`
-    #[tactic(auto, using(crate::proofs::Statements::put_made, crate::proofs::Statements::put_sound))]
+    #[tactic(auto, using(crate::proofs::Statements::put_made, crate::proofs::Statements::put_sound, crate::proofs::Statements::put_counted))]
     pub fn put(&mut self, key: Key) -> Result<(), SumFault>
         requires { self.old.done ≡ [] }
         ensures ok { OnOk result (self.new ≡ with_stmt self.old (put_of self.old key None)) }
         ensures terms { OnOk result (0 < length self.old.latest) }
         ensures empty { IfErr result (λ e. e ≡ faults.Empty → self.old.latest ≡ []) }
         ensures err { OnErr result (self.new ≡ self.old) }
+        ensures full { result ≡ Err (faults.Log Full) → 2 ^ 32 - 1 ≤ size_of self.old }
     {
         key.has_name();
         if !self.has_terms() {
@@ -346,7 +375,7 @@ impl<S: BuildHasher + Drop> Draft<S> {
     }
 
     /// `set KEY = SUM when SUM CMP SUM`
-    #[tactic(auto, using(crate::proofs::Statements::put_when_made, crate::proofs::Statements::put_when_sound))]
+    #[tactic(auto, using(crate::proofs::Statements::put_when_made, crate::proofs::Statements::put_when_sound, crate::proofs::Statements::put_when_counted))]
     pub fn put_when(&mut self, key: Key, cmp: Cmp) -> Result<(), SumFault>
         requires { length self.old.done ≡ 2 }
         ensures ok { OnOk result
@@ -354,6 +383,7 @@ impl<S: BuildHasher + Drop> Draft<S> {
         ensures terms { OnOk result (0 < length self.old.latest) }
         ensures empty { IfErr result (λ e. e ≡ faults.Empty → self.old.latest ≡ []) }
         ensures err { OnErr result (self.new ≡ self.old) }
+        ensures full { result ≡ Err (faults.Log Full) → 2 ^ 32 - 1 ≤ size_of self.old }
     {
         key.has_name();
         if !self.has_terms() {
@@ -364,7 +394,7 @@ impl<S: BuildHasher + Drop> Draft<S> {
     }
 
     /// `set KEY = SUM`, of the declared write at a place.
-    #[tactic(auto, using(crate::proofs::Statements::put_made, crate::proofs::Statements::put_sound))]
+    #[tactic(auto, using(crate::proofs::Statements::put_made, crate::proofs::Statements::put_sound, crate::proofs::Statements::put_counted))]
     pub fn put_at(&mut self, place: u32, key: &[u8]) -> Result<(), SumFault>
         requires done { self.old.done ≡ [] }
         requires place { slice_get self.old.txn.writes place ≡ Some key.now }
@@ -373,6 +403,7 @@ impl<S: BuildHasher + Drop> Draft<S> {
         ensures terms { OnOk result (0 < length self.old.latest) }
         ensures empty { IfErr result (λ e. e ≡ faults.Empty → self.old.latest ≡ []) }
         ensures err { OnErr result (self.new ≡ self.old) }
+        ensures never_full { result ≢ Err (faults.Log Full) }
     {
         if !self.has_terms() {
             return Err(SumFault::Empty);
@@ -382,7 +413,7 @@ impl<S: BuildHasher + Drop> Draft<S> {
     }
 
     /// `set KEY = SUM when SUM CMP SUM`, of the declared write at a place.
-    #[tactic(auto, using(crate::proofs::Statements::put_when_made, crate::proofs::Statements::put_when_sound))]
+    #[tactic(auto, using(crate::proofs::Statements::put_when_made, crate::proofs::Statements::put_when_sound, crate::proofs::Statements::put_when_counted))]
     pub fn put_when_at(&mut self, place: u32, key: &[u8], cmp: Cmp) -> Result<(), SumFault>
         requires done { length self.old.done ≡ 2 }
         requires place { slice_get self.old.txn.writes place ≡ Some key.now }
@@ -392,6 +423,7 @@ impl<S: BuildHasher + Drop> Draft<S> {
         ensures terms { OnOk result (0 < length self.old.latest) }
         ensures empty { IfErr result (λ e. e ≡ faults.Empty → self.old.latest ≡ []) }
         ensures err { OnErr result (self.new ≡ self.old) }
+        ensures never_full { result ≢ Err (faults.Log Full) }
     {
         if !self.has_terms() {
             return Err(SumFault::Empty);
@@ -401,23 +433,26 @@ impl<S: BuildHasher + Drop> Draft<S> {
     }
 
     /// `drop KEY`
+    #[tactic(auto, using(crate::proofs::Statements::none_counted))]
     pub fn remove(&mut self, key: Key) -> Result<(), LogFault>
         requires { IsBetween self.old }
         ensures ok { OnOk result (self.new ≡ with_stmt self.old (stmts.Remove key)) }
         ensures err { OnErr result (self.new ≡ self.old) }
+        ensures full { result ≡ Err Full → 2 ^ 32 - 1 ≤ size_of self.old }
     {
         key.has_name();
         self.end_named(Action::Remove, key)
     }
 
     /// `show SUM`
-    #[tactic(auto, using(crate::proofs::Statements::show_made, crate::proofs::Statements::show_sound))]
+    #[tactic(auto, using(crate::proofs::Statements::show_made, crate::proofs::Statements::show_sound, crate::proofs::Statements::show_counted))]
     pub fn show(&mut self) -> Result<(), SumFault>
         requires { self.old.done ≡ [] }
         ensures ok { OnOk result (self.new ≡ with_stmt self.old (stmts.Show self.old.latest)) }
         ensures terms { OnOk result (0 < length self.old.latest) }
         ensures empty { IfErr result (λ e. e ≡ faults.Empty → self.old.latest ≡ []) }
         ensures err { OnErr result (self.new ≡ self.old) }
+        ensures never_full { result ≢ Err (faults.Log Full) }
     {
         if !self.has_terms() {
             return Err(SumFault::Empty);
@@ -427,10 +462,12 @@ impl<S: BuildHasher + Drop> Draft<S> {
     }
 
     /// `fail`
+    #[tactic(auto, using(crate::proofs::Statements::none_counted))]
     pub fn fail(&mut self) -> Result<(), LogFault>
         requires { IsBetween self.old }
         ensures ok { OnOk result (self.new ≡ with_stmt self.old stmts.Fail) }
         ensures err { OnErr result (self.new ≡ self.old) }
+        ensures never_full { result ≢ Err Full }
     {
         self.end_nameless(Action::Fail)
     }

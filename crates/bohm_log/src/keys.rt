@@ -1,11 +1,11 @@
 //! The keys of one declared set.
 
 ghost use Rattle.std.specs.Prelude.{◌≡◌, ◌<◌, length, IfSome, Some, slice_get};
-ghost use Rattle.bohm_tree.specs.Keys.{place};
+ghost use Rattle.bohm_types.specs.Keys.{place};
 ghost use Rattle.bohm_log.specs.Parts.{names_at};
 ghost use Rattle.bohm_log.specs.Columns.{AllNamed};
 
-use bohm_tree::Key;
+use bohm_types::Key;
 use std::marker::Model;
 
 /// Keys that a transaction declares to read, or to write, which contracts see as a list of them.

@@ -2,23 +2,27 @@
 //! size; views show each transaction as a `Txn` of the definitions.
 #![tactic(auto)]
 
+mod call_buffer;
+mod call_columns;
+mod call_places;
 mod calling;
 mod columns;
 mod declared;
 mod doc;
 mod draft;
+mod draft_columns;
 mod fault;
 mod hash_seed;
+mod indexed;
+mod key_handle;
 mod keys;
 mod literal;
 mod log;
 mod name_hints;
 mod names;
 mod part;
-mod placed;
 mod row;
-mod seen;
-mod sheet;
+mod slices;
 mod soundness;
 mod stmt;
 mod sum;
@@ -26,18 +30,19 @@ mod table;
 mod template;
 mod view;
 
-pub use calling::CallBuffer;
+pub use call_buffer::CallBuffer;
 pub use declared::DeclaredKeys;
 pub use doc::Doc;
 pub use draft::Draft;
 pub use fault::{LogFault, SumFault};
 pub use hash_seed::{DrawnSeed, FixedSeed, HashSeed};
+pub use indexed::IndexedTxn;
+pub use key_handle::KeyHandle;
 pub use keys::Keys;
 pub use literal::Literal;
 pub use log::Log;
 pub use names::Names;
 pub use part::LogPart;
-pub use placed::PlacedTxn;
 pub use row::{Action, AtomKind, StmtRow, TermRow};
 pub use stmt::{CondView, StmtParts, StmtView};
 pub use sum::{AtomParts, SumView, TermParts};

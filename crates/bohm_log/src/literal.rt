@@ -1,11 +1,11 @@
 //! Literals.
 
 ghost use Rattle.std.specs.Prelude.{◌≡◌, false};
-ghost use Rattle.bohm_tree.specs.Shape.{term_of};
-ghost use Rattle.bohm_tree.specs.Sound.{IsTerm};
-ghost use Rattle.bohm_tree.specs.Term.{Lit};
+ghost use Rattle.bohm_types.specs.Shape.{term_of};
+ghost use Rattle.bohm_types.specs.Sound.{IsTerm};
+ghost use Rattle.bohm_types.specs.Term.{Lit};
 
-use bohm_tree::GREATEST_LITERAL;
+use bohm_types::GREATEST_LITERAL;
 use std::marker::Model;
 
 /// A number of at most 2^63 - 1 and its sign; 0 has no minus, so each has one text. Contracts see
@@ -18,8 +18,8 @@ pub struct Literal {
 
 impl Model for Literal {
     ghost use Rattle.std.specs.Prelude.{Bool};
-    ghost use Rattle.bohm_tree.specs.Sound.{IsTerm};
-    ghost use Rattle.bohm_tree.specs.Term.{Atom, Lit};
+    ghost use Rattle.bohm_types.specs.Sound.{IsTerm};
+    ghost use Rattle.bohm_types.specs.Term.{Atom, Lit};
 
     ghost Value = { Bool × Atom };
 
@@ -32,7 +32,7 @@ impl Literal {
     /// The literal of this number and sign, if there is one: none is above 2^63 - 1, and 0 has no
     /// minus.
     #[inline(always)]
-    #[tactic(auto, unfolding(bohm_tree::specs::Shape::term_of))]
+    #[tactic(auto, unfolding(bohm_types::specs::Shape::term_of))]
     pub fn new(minus: bool, number: u64) -> Option<Literal>
         ensures { result ≡ term_of minus (Lit number) }
     {
@@ -56,7 +56,7 @@ impl Literal {
 /// A 32-bit number, which is added.
 impl From<u32> for Literal {
     ghost use Rattle.std.specs.Prelude.{◌≡◌, false};
-    ghost use Rattle.bohm_tree.specs.Term.{Lit};
+    ghost use Rattle.bohm_types.specs.Term.{Lit};
 
     ghost from_gives = { λ number literal. literal ≡ (false, Lit number) };
 

@@ -1,21 +1,27 @@
 //! A log of transactions in columns.
 
-ghost use Rattle.std.specs.Prelude.{◌≡◌, ◌++◌, [], ◌∷◌, OnOk, OnErr, length};
-ghost use Rattle.bohm_tree.specs.Procedure.{instance};
+ghost use Rattle.std.specs.Prelude.{◌≡◌, ◌++◌, [], ◌∷◌, IfOk, OnOk, OnErr, length};
+ghost use Rattle.bohm_types.specs.Procedure.{instance};
+ghost use Rattle.bohm_log.specs.Handles.{keys_named};
 ghost use Rattle.bohm_log.specs.SoundLogs.{AreTxns};
 
-use crate::calling::CallBuffer;
-use crate::columns::{Columns, empty};
+use crate::call_buffer::CallBuffer;
+use crate::call_places::CallPlaces;
+use crate::columns::{Columns, empty, make_room};
 use crate::draft::Draft;
 use crate::fault::LogFault;
+use crate::key_handle::KeyHandle;
 use crate::part::LogPart;
-use crate::soundness::{are_names, are_values};
+use crate::soundness::{are_named, are_values};
 use crate::table::Head;
 use crate::template::Template;
-use bohm_tree::{Key, Value};
+use bohm_types::{Key, Value};
 use std::alloc::Global;
 use std::hash::{BuildHasher, BuildHasherDefault, FoldHasher};
 use std::marker::Model;
+
+/// The longest text, in bytes, for which room is made at once.
+const MOST_ROOM: usize = 1 << 20;
 
 /// Transactions in order, which contracts see as a list of them.
 #[derive(Drop)]
@@ -26,7 +32,7 @@ pub struct Log<S: BuildHasher = BuildHasherDefault<FoldHasher>> {
 
 impl<S: BuildHasher> Model for Log<S> {
     ghost use Rattle.std.specs.Prelude.{List, map};
-    ghost use Rattle.bohm_tree.specs.Txn.{Txn};
+    ghost use Rattle.bohm_types.specs.Txn.{Txn};
 
     ghost Value = { List Txn };
 
@@ -51,6 +57,18 @@ impl<S: BuildHasher> Log<S> {
         }
     }
 
+    /// No transactions, and room for those that a text of this many bytes usually has, so that
+    /// columns needn't be moved as they grow. Where there is no memory for it, they grow.
+    pub fn with_room(alloc: Global, hasher: S, bytes: usize) -> Log<S>
+        ensures { result ≡ [] }
+    {
+        let mut log = Log::new(alloc, hasher);
+        let bytes = bytes.min(MOST_ROOM);
+        make_room(&mut log.heads, bytes / 96);
+        log.columns.make_room(bytes);
+        log
+    }
+
     /// Adds the transaction that was read. An `Err` leaves the transactions as they were; names and
     /// whatever else of this one came stay in the columns. The time grows with what the transaction
     /// holds, and not with the log, but where a column grows.
@@ -68,7 +86,6 @@ impl<S: BuildHasher> Log<S> {
 
     /// Adds the instance of a procedure. An `Err` leaves the transactions as they were; names and
     /// whatever else of this one came stay in the columns.
-    #[tactic(auto, using(crate::proofs::Viewing::mapped_length))]
     pub fn push_call(
         &mut self,
         template: &Template,
@@ -83,21 +100,74 @@ impl<S: BuildHasher> Log<S> {
             (self.new ≡ self.old ++ instance template.now keys.now values.now ∷ []) }
         ensures err { OnErr result (self.new ≡ self.old) }
     {
-        are_names(keys);
+        self.columns.fill_handles(&mut buffer.handles, keys)?;
+        self.add_call(
+            template,
+            &mut buffer.places,
+            buffer.handles.as_slice(),
+            values,
+        )
+    }
+
+    /// Adds the instance of a procedure for the keys of these handles, none of which is hashed
+    /// where its number is its key's. An `Err` leaves the transactions as they were; names and
+    /// whatever else of this one came stay in the columns.
+    pub fn push_named(
+        &mut self,
+        template: &Template,
+        buffer: &mut CallBuffer,
+        keys: &[KeyHandle],
+        values: &[Value],
+    ) -> Result<(), LogFault>
+    where
+        S: Drop,
+        requires values { length values.now ≡ length template.now.values }
+        ensures ok { OnOk result
+            (self.new ≡ self.old
+            ++ instance template.now (keys_named keys.now) values.now ∷ []) }
+        ensures err { OnErr result (self.new ≡ self.old) }
+    {
+        self.add_call(template, &mut buffer.places, keys, values)
+    }
+
+    #[tactic(auto, using(crate::proofs::Viewing::mapped_length))]
+    fn add_call(
+        &mut self,
+        template: &Template,
+        places: &mut CallPlaces,
+        args: &[KeyHandle],
+        values: &[Value],
+    ) -> Result<(), LogFault>
+    where
+        S: Drop,
+        requires values { length values.now ≡ length template.now.values }
+        ensures ok { OnOk result
+            (self.new ≡ self.old
+            ++ instance template.now (keys_named args.now) values.now ∷ []) }
+        ensures err { OnErr result (self.new ≡ self.old) }
+    {
+        are_named(args);
         are_values(values);
-        let body = &template.body;
-        buffer.fill(body, template.values.as_slice(), keys, values)?;
-        let head = self.columns.append_parts(
+        let head = self.columns.append_call(
             template.edition,
-            buffer.reads.as_slice(),
-            buffer.writes.as_slice(),
-            body.others.as_slice(),
-            buffer.large.as_slice(),
-            buffer.terms.as_slice(),
-            buffer.rows.as_slice(),
+            &template.body,
+            template.values.as_slice(),
+            places,
+            args,
+            values,
         )?;
         self.heads.push(head)?;
         Ok(())
+    }
+
+    /// The handle of a key, which gets a number if it has none. The transactions stay as they are.
+    pub fn handle(&mut self, key: &Key) -> Result<KeyHandle, LogFault>
+    where
+        S: Drop,
+        ensures key { IfOk result (λ h. h.key ≡ key.now) }
+        ensures same { self.new ≡ self.old }
+    {
+        self.columns.handle(key)
     }
 
     /// Removes all transactions. Their room is kept for others, and their keys' numbers too, where

@@ -2,7 +2,7 @@
 
 ghost use Rattle.std.specs.Prelude.{◌≡◌, IfSome, Some, slice_get};
 
-use bohm_tree::Key;
+use bohm_types::Key;
 use std::alloc::Global;
 
 /// How many numbers there are at first, and at most. Both are powers of 2.
@@ -26,6 +26,15 @@ fn slot_of(name: &Key, count: usize) -> usize {
     (name.mixed() >> 48) as usize & (count - 1)
 }
 
+/// The number, if it is this name's among these.
+#[inline(always)]
+pub(crate) fn at_number(names: &[Key], number: u32, name: &Key) -> Option<u32>
+    ensures { IfSome result (λ i. slice_get names.now i ≡ Some name.now) }
+{
+    let there = names.get(number as usize)?;
+    if *there == *name { Some(number) } else { None }
+}
+
 impl NameHints {
     /// No numbers. It allocates nothing.
     pub fn new(alloc: Global) -> NameHints {
@@ -34,14 +43,13 @@ impl NameHints {
         }
     }
 
-    /// The number of a name among these, if it is the one that was noted last for the name's hash.
+    /// The number that was noted last for a name's hash, or else 0.
     #[inline(always)]
-    pub fn number(&self, names: &[Key], name: &Key) -> Option<u32>
-        ensures { IfSome result (λ i. slice_get names.now i ≡ Some name.now) }
-    {
-        let number = *self.numbers.get(slot_of(name, self.numbers.len()))?;
-        let there = names.get(number as usize)?;
-        if *there == *name { Some(number) } else { None }
+    pub fn noted(&self, name: &Key) -> u32 {
+        match self.numbers.get(slot_of(name, self.numbers.len())) {
+            Some(number) => *number,
+            None => 0,
+        }
     }
 
     /// Notes the number of a name. Room is made for as many names as there are, up to 65,536: where

@@ -1,6 +1,6 @@
 //! Distinct names, numbered.
 
-ghost use Rattle.std.specs.Prelude.{◌≡◌, ◌<◌, ◌≤◌, ◌^◌, [], Some, None, IfOk};
+ghost use Rattle.std.specs.Prelude.{◌≡◌, ◌<◌, ◌≤◌, ◌+◌, ◌^◌, [], Some, None, IfOk, take};
 ghost use Rattle.std.specs.Prelude.{IfErr, OnOk, OnErr, length, slice_get, position};
 ghost use Rattle.bohm_log.specs.declared.fault.LogFault.TheVariants as faults;
 ghost use Rattle.std.specs.Str.{bytes_eq};
@@ -9,7 +9,7 @@ ghost use Rattle.bohm_log.specs.Interning.{with_name};
 ghost use Rattle.bohm_log.specs.Parts.{Begins};
 
 use crate::fault::LogFault;
-use bohm_tree::Key;
+use bohm_types::Key;
 use indexmap::IndexSet;
 use std::alloc::Global;
 use std::hash::{BuildHasher, BuildHasherDefault, FoldHasher};
@@ -73,6 +73,7 @@ impl<S: BuildHasher> Names<S> {
         ensures names { OnOk result (self.new ≡ with_name self.old name) }
         ensures named { IfOk result (λ id. slice_get self.new id ≡ Some name) }
         ensures kept { Begins self.old self.new }
+        ensures longer { length self.new ≤ length self.old + 1 }
         ensures err { OnErr result (self.new ≡ self.old) }
         ensures full { IfErr result (λ e. e ≡ faults.Full → length self.old ≡ 2 ^ 32) }
         ensures new { IfErr result
@@ -102,6 +103,13 @@ impl<S: BuildHasher> Names<S> {
         ensures { slice_get self.now id ≡ Some result.now }
     {
         &self.set.as_slice()[id as usize]
+    }
+
+    /// Keeps the names with the first numbers, and removes the others.
+    pub(crate) fn truncate(&mut self, count: usize)
+        ensures { self.new ≡ take count self.old }
+    {
+        self.set.truncate(count);
     }
 
     /// Removes all names. Capacity for a few is kept.

@@ -19,7 +19,7 @@ pub struct LogPart<'a> {
 
 impl<'a> Model for LogPart<'a> {
     ghost use Rattle.std.specs.Prelude.{List, map};
-    ghost use Rattle.bohm_tree.specs.Txn.{Txn};
+    ghost use Rattle.bohm_types.specs.Txn.{Txn};
 
     ghost Value = { List Txn };
 

@@ -3,7 +3,7 @@
 ghost use Rattle.std.specs.Prelude.{◌≡◌};
 ghost use Rattle.bohm_log.specs.Drafting.{opened, first_end, second_end, latest_from, next_sum};
 
-use bohm_tree::Cmp;
+use bohm_types::Cmp;
 
 /// What a term's index refers to.
 #[derive(Clone, Copy, Debug, PartialEq, Eq)]
@@ -98,7 +98,8 @@ impl Pending {
 
     /// The statement once the sum being read has ended at this offset, where the next one begins.
     pub fn next(&self, end: u32) -> Pending
-        ensures { result ≡ next_sum end self.now.start self.now.first self.now.second self.now.step }
+        ensures { result ≡ next_sum end self.now.start self.now.first self.now.second
+            self.now.step }
     {
         match self.step {
             Step::Whole => Pending {

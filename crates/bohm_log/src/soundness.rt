@@ -1,10 +1,12 @@
 //! Laws of slices of keys and values, for callers that keep them. Their loops have no effect.
 
 ghost use Rattle.std.specs.List.{AllByRecursion};
-ghost use Rattle.bohm_tree.specs.Sound.{IsNumber, IsEntry};
+ghost use Rattle.bohm_types.specs.Sound.{IsNumber, IsEntry};
+ghost use Rattle.bohm_log.specs.Handles.{keys_named};
 ghost use Rattle.bohm_log.specs.SoundLogs.{AreNames};
 
-use bohm_tree::{Key, Value};
+use crate::key_handle::KeyHandle;
+use bohm_types::{Key, Value};
 
 /// Keys are names.
 pub fn are_names(keys: &[Key])
@@ -12,6 +14,15 @@ pub fn are_names(keys: &[Key])
 {
     for key in keys {
         key.has_name();
+    }
+}
+
+/// The keys of handles are names.
+pub fn are_named(handles: &[KeyHandle])
+    ensures { AreNames (keys_named handles.now) }
+{
+    for handle in handles {
+        handle.key.has_name();
     }
 }
 

@@ -1,15 +1,15 @@
 //! A statement as a view of the columns.
 
 ghost use Rattle.std.specs.Prelude.{◌≡◌, ◌<◌, length, map, Some, slice_get};
-ghost use Rattle.bohm_tree.specs.Parts.{tested, target, bound, is_show};
+ghost use Rattle.bohm_types.specs.Parts.{tested, target, bound, is_show};
 ghost use Rattle.bohm_log.specs.Parts.{KeyIn, RowIn, key_at, names_at, stmt_of};
 ghost use Rattle.bohm_log.specs.Columns.{AllNamed};
 ghost use Rattle.bohm_log.specs.Seeing.{parts_seen, stmt_shown, IsSeen};
 
 use crate::row::{Action, StmtRow};
-use crate::seen::Seen;
+use crate::slices::TxnSlices;
 use crate::sum::{SumView, sum_at};
-use bohm_tree::{Cmp, Key};
+use bohm_types::{Cmp, Key};
 use std::marker::Model;
 
 /// A comparison of two sums.
@@ -51,12 +51,12 @@ pub enum StmtParts<'a> {
 /// A statement, which contracts see as a `Stmt` of the definitions.
 #[derive(Drop)]
 pub struct StmtView<'a> {
-    pub(crate) seen: &'a Seen<'a>,
+    pub(crate) seen: &'a TxnSlices<'a>,
     pub(crate) row: StmtRow,
 }
 
 impl<'a> Model for StmtView<'a> {
-    ghost use Rattle.bohm_tree.specs.Stmt.{Stmt};
+    ghost use Rattle.bohm_types.specs.Stmt.{Stmt};
 
     ghost Value = { Stmt };
 
@@ -69,7 +69,7 @@ impl<'a> Model for StmtView<'a> {
 }
 
 /// The key at an index among the declared keys, or else among the other names.
-fn key_by(seen: &Seen, keys: &[u32], declared: bool, place: u32) -> Key
+fn key_by(seen: &TxnSlices, keys: &[u32], declared: bool, place: u32) -> Key
     requires named { AllNamed seen.now.names.now keys.now }
     requires within { KeyIn
         (names_at seen.now.names.now keys.now) seen.now.others.now declared place }
@@ -84,7 +84,7 @@ fn key_by(seen: &Seen, keys: &[u32], declared: bool, place: u32) -> Key
 }
 
 /// The parts of the statement of a row.
-fn parts_by<'a>(seen: &'a Seen<'a>, row: StmtRow) -> StmtParts<'a>
+fn parts_by<'a>(seen: &'a TxnSlices<'a>, row: StmtRow) -> StmtParts<'a>
     requires seen { IsSeen seen.now }
     requires row { RowIn (parts_seen seen.now) row }
     ensures { stmt_shown result ≡ stmt_of (parts_seen seen.now) row }
@@ -178,7 +178,7 @@ impl<'a> StmtView<'a> {
 
 /// A statement of the slices.
 #[tactic(auto, using(crate::proofs::Viewing::mapped_at, crate::proofs::Viewing::row_in))]
-pub fn stmt_by<'a>(seen: &'a Seen<'a>, index: usize) -> StmtView<'a>
+pub fn stmt_by<'a>(seen: &'a TxnSlices<'a>, index: usize) -> StmtView<'a>
     requires inside { index < length seen.now.rows.now }
     requires seen { IsSeen seen.now }
     ensures { slice_get (map (stmt_of (parts_seen seen.now)) seen.now.rows.now) index

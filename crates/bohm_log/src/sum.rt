@@ -5,8 +5,8 @@ ghost use Rattle.bohm_log.specs.Parts.{term_of, sum_between, TermIn};
 ghost use Rattle.bohm_log.specs.Seeing.{parts_seen, term_shown, IsSeen};
 
 use crate::row::{AtomKind, TermRow};
-use crate::seen::Seen;
-use bohm_tree::Key;
+use crate::slices::TxnSlices;
+use bohm_types::Key;
 use std::marker::Model;
 
 /// What a term adds or subtracts.
@@ -29,14 +29,14 @@ pub struct TermParts {
 /// A sum, which contracts see as the list of its terms.
 #[derive(Drop)]
 pub struct SumView<'a> {
-    pub(crate) seen: &'a Seen<'a>,
+    pub(crate) seen: &'a TxnSlices<'a>,
     pub(crate) start: u32,
     pub(crate) end: u32,
 }
 
 impl<'a> Model for SumView<'a> {
     ghost use Rattle.std.specs.Prelude.{Bool, List};
-    ghost use Rattle.bohm_tree.specs.Term.{Atom};
+    ghost use Rattle.bohm_types.specs.Term.{Atom};
 
     ghost Value = { List (Bool × Atom) };
 
@@ -49,7 +49,7 @@ impl<'a> Model for SumView<'a> {
 }
 
 /// The sum of the terms between two offsets.
-pub fn sum_at<'a>(seen: &'a Seen<'a>, start: u32, end: u32) -> SumView<'a>
+pub fn sum_at<'a>(seen: &'a TxnSlices<'a>, start: u32, end: u32) -> SumView<'a>
     requires seen { IsSeen seen.now }
     requires rises { start ≤ end }
     requires end { end ≤ length seen.now.terms.now }
@@ -59,7 +59,7 @@ pub fn sum_at<'a>(seen: &'a Seen<'a>, start: u32, end: u32) -> SumView<'a>
 }
 
 /// A term with the atom that its index refers to.
-fn term_parts(seen: &Seen, term: TermRow) -> TermParts
+fn term_parts(seen: &TxnSlices, term: TermRow) -> TermParts
     requires within { TermIn (parts_seen seen.now) term }
     requires seen { IsSeen seen.now }
     ensures { term_shown result ≡ term_of (parts_seen seen.now) term }

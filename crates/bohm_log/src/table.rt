@@ -5,9 +5,9 @@ ghost use Rattle.bohm_log.specs.Columns.{txn_at, HeadIn, AllNamed};
 ghost use Rattle.bohm_log.specs.Partial.{shared_seen};
 
 use crate::row::{StmtRow, TermRow};
-use crate::seen::Seen;
+use crate::slices::TxnSlices;
 use crate::view::TxnView;
-use bohm_tree::{Edition, Key};
+use bohm_types::{Edition, Key};
 
 /// The columns that all transactions of a log share.
 #[derive(Clone, Copy)]
@@ -44,7 +44,7 @@ pub fn txn_by<'a>(table: Table<'a>, head: &Head) -> TxnView<'a>
     ensures { result ≡ txn_at (shared_seen table.entry) head.now }
 {
     TxnView {
-        seen: Seen {
+        seen: TxnSlices {
             edition: head.edition,
             names: table.names,
             reads: &table.ids[head.ids as usize..head.reads as usize],

@@ -1,22 +1,26 @@
 //! Procedures in columns.
 
-ghost use Rattle.std.specs.Prelude.{◌≡◌, ◌≤◌, length, map, take, IfOk, OnOk};
+ghost use Rattle.std.specs.Prelude.{◌≡◌, ◌≢◌, ◌≤◌, ◌+◌, ◌^◌, Err, length, map, take, IfOk, OnOk};
 ghost use Rattle.std.specs.List.{AllByRecursion};
-ghost use Rattle.bohm_tree.specs.Keys.{IsAmong};
-ghost use Rattle.bohm_tree.specs.Accesses.{StmtReads, StmtWrites};
+ghost use Rattle.bohm_types.specs.Keys.{IsAmong};
+ghost use Rattle.bohm_types.specs.Accesses.{StmtReads, StmtWrites};
 ghost use Rattle.bohm_log.specs.Calling.{declared_name};
 ghost use Rattle.bohm_log.specs.Locals.{ArePlacesOf};
 ghost use Rattle.bohm_log.specs.Parts.{Begins};
-ghost use Rattle.bohm_tree.specs.Procedure.{procedure_with};
+ghost use Rattle.bohm_log.specs.Sizes.{size_of};
+ghost use Rattle.bohm_log.specs.declared.fault.LogFault.TheVariants.{Full};
+ghost use Rattle.bohm_types.specs.Procedure.{procedure_with};
+ghost use Rattle.bohm_types.specs.Limits.{most_keys};
 
+use crate::calling::body_stays;
 use crate::columns::are_same;
 use crate::draft::Draft;
+use crate::draft_columns::DraftColumns;
 use crate::fault::LogFault;
 use crate::names::Names;
 use crate::row::{StmtRow, TermRow};
-use crate::sheet::Sheet;
 use crate::soundness::are_names;
-use bohm_tree::{Edition, Key};
+use bohm_types::{Edition, Key};
 use std::alloc::Global;
 use std::hash::BuildHasher;
 use std::marker::Model;
@@ -35,6 +39,9 @@ pub struct BodyColumns {
     pub writes: Vec<DeclaredName>,
     /// Set only where the writes are the reads, in the same order.
     pub same_sets: bool,
+    /// Set only where terms and statements are as they are in a call whose keys rise in the
+    /// procedure's order.
+    pub stays: bool,
     pub others: Vec<Key>,
     pub large: Vec<u64>,
     pub terms: Vec<TermRow>,
@@ -52,7 +59,7 @@ pub struct Template {
 }
 
 impl Model for Template {
-    ghost use Rattle.bohm_tree.specs.Procedure.{Procedure};
+    ghost use Rattle.bohm_types.specs.Procedure.{Procedure};
 
     ghost Value = { Procedure };
 
@@ -74,6 +81,7 @@ fn place_names<S: BuildHasher + Drop>(
 ) -> Result<(), LogFault>
     ensures grows { OnOk result (Begins others.old others.new) }
     ensures places { OnOk result (ArePlacesOf others.new names.now places.new.items) }
+    ensures full { result ≡ Err Full → 2 ^ 32 ≤ length others.old + length names.now }
 {
     places.clear();
     for name in names {
@@ -89,7 +97,8 @@ fn declared_names(
     names: &[Key],
     params: &[Key],
 ) -> Result<Vec<DeclaredName>, LogFault>
-    ensures { IfOk result (λ v. v.items ≡ map (declared_name params.now) names.now) }
+    ensures ok { IfOk result (λ v. v.items ≡ map (declared_name params.now) names.now) }
+    ensures never_full { result ≢ Err Full }
 {
     let mut declared = Vec::new(alloc);
     for name in names {
@@ -124,7 +133,8 @@ impl Template {
         self.edition
     }
 
-    /// The procedure whose own instance was read: first a statement for each value.
+    /// The procedure whose own instance was read: first a statement for each value. `Full` comes
+    /// only where its terms, its statements and the values are 2^32 or more.
     pub fn new<S: BuildHasher + Drop>(
         alloc: Global,
         draft: Draft<S>,
@@ -132,14 +142,15 @@ impl Template {
         values: &[Key],
     ) -> Result<Template, LogFault>
         requires lets { length values.now ≤ length draft.txn.body }
-        requires few_reads { length draft.txn.reads ≤ 16 }
-        requires few_writes { length draft.txn.writes ≤ 16 }
+        requires few_reads { length draft.txn.reads ≤ most_keys }
+        requires few_writes { length draft.txn.writes ≤ most_keys }
         requires reads { AllByRecursion (StmtReads (IsAmong draft.txn.reads)) draft.txn.body }
         requires writes { AllByRecursion (StmtWrites (IsAmong draft.txn.writes)) draft.txn.body }
-        ensures { IfOk result (λ t. t ≡ procedure_with draft.txn keys.items values.now) }
+        ensures ok { IfOk result (λ t. t ≡ procedure_with draft.txn keys.items values.now) }
+        ensures full { result ≡ Err Full → 2 ^ 32 ≤ size_of draft + length values.now }
     {
         let (edition, sheet) = draft.into_parts();
-        let Sheet {
+        let DraftColumns {
             reads,
             writes,
             mut others,
@@ -154,6 +165,7 @@ impl Template {
         let same_sets = are_same(&reads, &writes);
         let reads = declared_names(alloc, reads.as_slice(), keys.as_slice())?;
         let writes = declared_names(alloc, writes.as_slice(), keys.as_slice())?;
+        let stays = body_stays(terms.as_slice(), rows.as_slice(), reads.len(), writes.len());
         are_names(keys.as_slice());
         are_names(values);
         Ok(Template {
@@ -164,6 +176,7 @@ impl Template {
                 reads,
                 writes,
                 same_sets,
+                stays,
                 others: names,
                 large,
                 terms,

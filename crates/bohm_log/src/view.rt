@@ -3,21 +3,21 @@
 ghost use Rattle.std.specs.Prelude.{◌≡◌, ◌<◌, length, Some, slice_get};
 ghost use Rattle.bohm_log.specs.Parts.{txn_of};
 
+use crate::indexed::IndexedTxn;
 use crate::keys::Keys;
-use crate::placed::PlacedTxn;
-use crate::seen::Seen;
+use crate::slices::TxnSlices;
 use crate::stmt::{StmtView, stmt_by};
-use bohm_tree::Edition;
+use bohm_types::Edition;
 use std::marker::Model;
 
 /// A transaction, which contracts see as a `Txn` of the definitions.
 #[derive(Drop)]
 pub struct TxnView<'a> {
-    pub(crate) seen: Seen<'a>,
+    pub(crate) seen: TxnSlices<'a>,
 }
 
 impl<'a> Model for TxnView<'a> {
-    ghost use Rattle.bohm_tree.specs.Txn.{Txn};
+    ghost use Rattle.bohm_types.specs.Txn.{Txn};
 
     ghost Value = { Txn };
 
@@ -30,10 +30,10 @@ impl<'a> Model for TxnView<'a> {
 
 impl<'a> TxnView<'a> {
     /// The transaction with indices instead of names.
-    pub fn placed(&self) -> PlacedTxn<'a>
+    pub fn placed(&self) -> IndexedTxn<'a>
         ensures { txn_of self.now.edition result ≡ self.now }
     {
-        PlacedTxn { seen: self.seen }
+        IndexedTxn { seen: self.seen }
     }
 
     /// The keys that it declares to read.

@@ -2,7 +2,7 @@
 use Rattle.std.proofs.Common.{◌≡◌, ℕ, zero, suc, ◌+◌, ◌-◌, ◌<◌, ◌≤◌, ◌^◌, ◌++◌, List, [], length, length-append, take, refl, ap, sym, ◌∙◌, arith, ⊎_elim}
 use Rattle.std.proofs.lemmas.List.{length-take}
 use Rattle.std.proofs.lemmas.Bool.{cases_lt}
-use Rattle.bohm_tree.specs.Txn.{Txn}
+use Rattle.bohm_types.specs.Txn.{Txn}
 use Rattle.bohm_txn.specs.declared.outcome.Reply.{Reply}
 use Rattle.bohm_txn.specs.Meaning.{Look}
 use Rattle.bohm_txn.specs.Serial.{state, replies}
@@ -19,7 +19,8 @@ at_top look start log m h =
     let all : top_of m - start ≡ length log = omega (arith, h.top) in
     h.past (top_of m) h.ordered (omega arith) ∙ ap (state look log) all
 
-pub has_run_on : (look : Look) (start : ℕ) (log txns : List Txn) (was now : Timeline) (a : List Reply) → GoesOn was now txns a → HasRun look start log was → HasRun look start (log ++ txns) now
+pub has_run_on : (look : Look) (start : ℕ) (log txns : List Txn) (was now : Timeline) (a : List Reply) → GoesOn was now txns a → HasRun look start log was
+    → HasRun look start (log ++ txns) now
 has_run_on look start log txns was now a g h =
     let len : length (log ++ txns) ≡ length log + length txns = length-append log txns in
     let there = at_top look start log was h in
@@ -28,14 +29,18 @@ has_run_on look start log txns was now a g h =
       floor = omega (arith, h.floor, g.floor);
       ordered = omega (arith, h.ordered, g.floor, g.top);
       past = λ ts above below. ⊎_elim
-          (λ (c : ts < top_of was). g.earlier ts (omega (arith, above, g.floor)) (omega (arith, c)) ∙ h.past ts (omega (arith, above, g.floor)) (omega (arith, c)) ∙ sym (state-front look log txns (ts - start) (omega (arith, c, h.top))))
-          (λ (c : top_of was ≤ ts). g.later ts c below ∙ ap (λ (l : Look). state l txns (ts - top_of was)) there ∙ sym (state-append look log txns (ts - start) (ts - top_of was) (omega (arith, c, h.top, h.floor))))
+          (λ (c : ts < top_of was). g.earlier ts (omega (arith, above, g.floor)) (omega (arith, c))
+          ∙ h.past ts (omega (arith, above, g.floor)) (omega (arith, c)) ∙ sym (state-front look log txns (ts - start) (omega (arith, c, h.top))))
+          (λ (c : top_of was ≤ ts). g.later ts c below ∙ ap (λ (l : Look). state l txns (ts - top_of was)) there
+          ∙ sym (state-append look log txns (ts - start) (ts - top_of was) (omega (arith, c, h.top, h.floor))))
           (cases_lt ts (top_of was));
     }
 
-pub answers_on : (look : Look) (start : ℕ) (log txns : List Txn) (was now : Timeline) (a : List Reply) → GoesOn was now txns a → HasRun look start log was → replies look log ++ a ≡ replies look (log ++ txns)
+pub answers_on : (look : Look) (start : ℕ) (log txns : List Txn) (was now : Timeline) (a : List Reply) → GoesOn was now txns a → HasRun look start log was
+    → replies look log ++ a ≡ replies look (log ++ txns)
 answers_on look start log txns was now a g h =
-    ap (λ (b : List Reply). replies look log ++ b) (g.replies ∙ ap (λ (l : Look). replies l txns) (at_top look start log was h)) ∙ sym (replies-append look log txns)
+    ap (λ (b : List Reply). replies look log ++ b) (g.replies ∙ ap (λ (l : Look). replies l txns) (at_top look start log was h))
+    ∙ sym (replies-append look log txns)
 
 pub ran_on : (was now : Timeline) (txns : List Txn) (a : List Reply) → GoesOn was now txns a → RunsOn was now txns a
 ran_on was now txns a g = record {
@@ -46,7 +51,8 @@ ran_on was now txns a g = record {
 -- ---- from the history to the machine
 
 -- a history that keeps all its past goes on as its machine
-went : (keep : ℕ) (was now : Timeline) (txns : List Txn) (a : List Reply) → was.floor ≤ was.top → now.top ≤ keep → IsApplied was now txns keep a → GoesOn was now txns a
+went : (keep : ℕ) (was now : Timeline) (txns : List Txn) (a : List Reply) → was.floor ≤ was.top → now.top ≤ keep → IsApplied was now txns keep a
+    → GoesOn was now txns a
 went keep was now txns a ordered low h =
     let floor : now.floor ≡ was.floor = h.floor ∙ floor_stays was keep (length txns) (omega (arith, h.top, low)) in
     record {
@@ -77,7 +83,8 @@ restored m look start top floor past = record {
 }
 
 -- to let go what is below a floor keeps what was run
-pub trimmed : (look : Look) (start : ℕ) (log : List Txn) (was now : Timeline) → floor_of was ≤ floor_of now → floor_of now ≤ top_of now → top_of now ≡ top_of was → ((ts : ℕ) → floor_of now ≤ ts → past_of now ts ≡ past_of was ts) → HasRun look start log was → HasRun look start log now
+pub trimmed : (look : Look) (start : ℕ) (log : List Txn) (was now : Timeline) → floor_of was ≤ floor_of now → floor_of now ≤ top_of now
+    → top_of now ≡ top_of was → ((ts : ℕ) → floor_of now ≤ ts → past_of now ts ≡ past_of was ts) → HasRun look start log was → HasRun look start log now
 trimmed look start log was now above ordered top past h = record {
   top = top ∙ h.top;
   floor = omega (arith, h.floor, above);
@@ -86,7 +93,8 @@ trimmed look start log was now above ordered top past h = record {
 }
 
 -- a machine whose timestamps don't pass the last one goes on by the transactions that its history went on by
-pub goes_on : (m : Timeline) (n : ℕ) (was now : Timeline) (log : List Txn) (a : List Reply) → m ≡ was → floor_of m ≤ top_of m → top_of m + length log < 2 ^ 32 → IsApplied was now (take n log) 4294967295 a → GoesOn m now (take n log) a
+pub goes_on : (m : Timeline) (n : ℕ) (was now : Timeline) (log : List Txn) (a : List Reply) → m ≡ was → floor_of m ≤ top_of m → top_of m + length log < 2 ^ 32
+    → IsApplied was now (take n log) 4294967295 a → GoesOn m now (take n log) a
 goes_on m n was now log a is ordered low h =
     let below : was.floor ≤ was.top = rw is at ordered in
     let room : was.top + length log < 2 ^ 32 = rw is at low in

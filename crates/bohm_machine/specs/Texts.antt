@@ -1,6 +1,6 @@
 -- The texts that a machine's segments answer.
 use Rattle.std.specs.Prelude.{◌≡◌, ℕ, ◌+◌, List, [], ◌∷◌, ◌++◌, length}
-use Rattle.bohm_tree.specs.Txn.{Txn}
+use Rattle.bohm_types.specs.Txn.{Txn}
 use Rattle.bohm_txn.specs.declared.outcome.Reply.{Reply}
 use Rattle.bohm_text.specs.Print.{print_numbered}
 use Rattle.bohm_store.specs.Versions.{Timeline}

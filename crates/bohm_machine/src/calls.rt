@@ -3,6 +3,7 @@
 ghost use Rattle.std.specs.Prelude.{◌≡◌, ◌<◌, length, take, true, is_ok, IfOk, IfErr, OnOk, OnErr};
 ghost use Rattle.bohm_machine.specs.Machines.{GoesOn};
 ghost use Rattle.bohm_machine.specs.Segments.{AreWholeBatches, IsRefused, IsTaken, RunsOn};
+ghost use Rattle.bohm_types.specs.Limits.{largest_batch};
 
 use crate::fault::SegmentFault;
 use crate::machine::Machine;
@@ -28,7 +29,7 @@ impl Machine {
         ensures runs_on { IfOk result
             (λ a. RunsOn self.old self.new (take (length a.replies) calls.now.log) a.replies) }
         ensures batches { IfOk result
-            (λ a. 0 < length a.replies → AreWholeBatches calls.now.log 4096 (length a.replies)) }
+            (λ a. 0 < length a.replies → AreWholeBatches calls.now.log largest_batch (length a.replies)) }
         ensures whole { IfOk result
             (λ a. is_ok a.end ≡ true → length a.replies ≡ length calls.now.log) }
     {

@@ -2,7 +2,7 @@
 
 ghost use Rattle.std.specs.Prelude.{◌≡◌, ◌≤◌, ◌++◌, ℕ, ℤ, List, []};
 ghost use Rattle.std.specs.FinMap.{entries};
-ghost use Rattle.bohm_tree.specs.Txn.{Txn};
+ghost use Rattle.bohm_types.specs.Txn.{Txn};
 ghost use Rattle.bohm_txn.specs.declared.outcome.Reply.{Reply};
 ghost use Rattle.bohm_txn.specs.Meaning.{Look};
 ghost use Rattle.bohm_txn.specs.Serial.{replies};

@@ -1,26 +1,28 @@
 //! A machine that log segments are applied to.
 
-ghost use Rattle.std.specs.Prelude.{◌≡◌, ℕ, ◌<◌, ◌≤◌, ◌↔◌, List, [], length, max, min, take, true, is_ok};
+ghost use Rattle.std.specs.Prelude.{◌≡◌, ℕ, ◌<◌, ◌≤◌, ◌↔◌, List, []};
+ghost use Rattle.std.specs.Prelude.{length, max, min, take, true, is_ok};
 ghost use Rattle.std.specs.Prelude.{Err, Ok, IfOk, IfErr, OnOk, OnErr};
 ghost use Rattle.std.specs.FinMap.{entries};
 ghost use Rattle.std.specs.List.{IsDistinct};
 ghost use Rattle.std.specs.Map.{keys_of};
 ghost use Rattle.std.specs.Str.{bytes_eq};
-ghost use Rattle.bohm_tree.specs.Keys.{rising, names_of};
+ghost use Rattle.bohm_types.specs.Keys.{rising, names_of};
 ghost use Rattle.bohm_txn.specs.Stores.{cell_in, store_of};
 ghost use Rattle.bohm_store.specs.Versions.{kept_versions, total, versions};
 ghost use Rattle.bohm_store.specs.declared.fault.PastFault.TheVariants as past_is;
 ghost use Rattle.bohm_store.specs.declared.fault.StoreFault.TheVariants as store_is;
 ghost use Rattle.bohm_machine.specs.Machines.{GoesOn, HasRun, floor_of, past_of, top_of};
 ghost use Rattle.bohm_machine.specs.Segments.{AreWholeBatches, IsRefused, IsTaken, RunsOn};
+ghost use Rattle.bohm_types.specs.Limits.{largest_batch};
 
 use crate::fault::SegmentFault;
 use bohm_exec::OpenGate;
 use bohm_log::DrawnSeed;
 use bohm_run::{Applied, ByteSum, Cuts, Kept, LARGEST_BATCH, SerialExecutor, Settings, apply};
 use bohm_store::{History, PastFault, StoreFault};
-use bohm_tree::{Cell, Key, NoMemory, Value};
 use bohm_txn::{Checked, Replies};
+use bohm_types::{Cell, Key, NoMemory, Value};
 use std::alloc::Global;
 use std::marker::Model;
 use std::sync::Wait;
@@ -180,7 +182,7 @@ impl Machine {
         ensures runs_on { IfOk result
             (λ a. RunsOn self.old self.new (take (length a.replies) segment.now.log) a.replies) }
         ensures batches { IfOk result
-            (λ a. 0 < length a.replies → AreWholeBatches segment.now.log 4096 (length a.replies)) }
+            (λ a. 0 < length a.replies → AreWholeBatches segment.now.log largest_batch (length a.replies)) }
         ensures whole { IfOk result
             (λ a. is_ok a.end ≡ true → length a.replies ≡ length segment.now.log) }
     {

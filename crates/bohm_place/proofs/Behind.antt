@@ -1,6 +1,6 @@
 -- What planning comes to, by one worker or by several: the rows of the plan, and the chains behind the batch.
 use Rattle.std.proofs.Common.{◌≡◌, ℕ, ◌+◌, ◌^◌, ◌<◌, ◌≤◌, ◌++◌, List, length, All, true, refl, arith}
-use Rattle.bohm_tree.specs.Txn.{Txn}
+use Rattle.bohm_types.specs.Txn.{Txn}
 use Rattle.bohm_place.specs.declared.row.Row.{Row}
 use Rattle.bohm_place.specs.Chains.{Keyed, placeholders_in, chain_in}
 use Rattle.bohm_place.specs.Writers.{writers}
@@ -18,17 +18,25 @@ pub are_rows : (first : ℕ) (txns : List Txn) (rows : List Row) → 0 < first �
 are_rows first txns rows above room e = rw e (record { few = omega (arith, length-rows_from 0 txns, room, above); laid = laid-rows_from 0 txns })
 
 -- the begins before the batch are below its timestamps
-pub early : (part : List ℕ → ℕ) (first : ℕ) (shards given : List Keyed) → given ≡ shards → ((k : List ℕ) → All (λ b. b < first) (chain_in part shards k)) → (k : List ℕ) → Below first (placeholders_in part given k)
+pub early : (part : List ℕ → ℕ) (first : ℕ) (shards given : List Keyed) → given ≡ shards → ((k : List ℕ) → All (λ b. b < first) (chain_in part shards k))
+    → (k : List ℕ) → Below first (placeholders_in part given k)
 early part first shards given same earlier k = rw same (below_all first (placeholders_in part shards k) (earlier k))
 
-module _ (part : List ℕ → ℕ) (first : ℕ) (txns : List Txn) (shards given left : List Keyed) (same : given ≡ shards) (k : List ℕ) (behind : placeholders_in part left k ≡ placeholders_in part given k ++ placeholders_made first txns k) where
+module _ (part : List ℕ → ℕ) (first : ℕ) (txns : List Txn) (shards given left : List Keyed) (same : given ≡ shards) (k : List ℕ)
+    (behind : placeholders_in part left k ≡ placeholders_in part given k ++ placeholders_made first txns k) where
   -- a chain goes on by the key's writers in the batch
   pub chain_on : AreWellFormed txns → chain_in part left k ≡ chain_in part shards k ++ writers first txns k
-  chain_on formed = rw (behind, begins-append (placeholders_in part given k) (placeholders_made first txns k), begins-made first txns k (writes_distinct txns formed), same) refl
+  chain_on formed = rw (
+    behind,
+    begins-append (placeholders_in part given k) (placeholders_made first txns k),
+    begins-made first txns k (writes_distinct txns formed),
+    same,
+  ) refl
 
   -- and stays below the timestamps behind the batch
   pub chain_below : ((q : List ℕ) → All (λ b. b < first) (chain_in part shards q)) → All (λ b. b < first + length txns) (chain_in part left k)
   chain_below earlier =
       let before = placeholders_in part given k in
       let after = placeholders_in part left k in
-      all_below (first + length txns) after (hand_below true first (first + length txns) before after txns k (omega arith) (early part first shards given same earlier k) behind)
+      all_below (first + length txns) after (hand_below true first (first + length txns) before after txns k (omega arith)
+      (early part first shards given same earlier k) behind)

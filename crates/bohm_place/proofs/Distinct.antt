@@ -1,7 +1,7 @@
 -- Rising keys are distinct.
 use Rattle.std.proofs.Common.{◌≡◌, ℕ, true, List, [], ◌∷◌}
 use Rattle.std.proofs.lemmas.Bool.{both_ways, false_from_ne_true}
-use Rattle.bohm_tree.specs.Keys.{is_among, rising}
+use Rattle.bohm_types.specs.Keys.{is_among, rising}
 use Rattle.bohm_txn.proofs.ForCallers.{AllApart, rising_apart}
 use Rattle.bohm_place.specs.Shares.{AreDistinct}
 

@@ -12,3 +12,5 @@ pub use Rattle.bohm_place.proofs.Noted.{row_paired, sources_same, sources_twice,
 pub use Rattle.bohm_place.proofs.NotedSets.{AreNotedBelow, none_noted, next_passed, next_noted, next_row, entered, few_keys}
 -- the keys of a batch by number, and what transactions declare by number
 pub use Rattle.bohm_place.proofs.Gathering.{few_at, few_sets, one_number, set_at, sets_long, there_is}
+-- the timestamps that a cutting gives its batches
+pub use Rattle.bohm_place.proofs.Sizes.{ahead_next}

@@ -1,5 +1,6 @@
 -- Numbers that are gathered once each, and their places.
-use Rattle.std.proofs.Common.{◌≡◌, ℕ, zero, suc, ◌+◌, ◌<◌, ◌≤◌, Bool, true, false, List, [], ◌∷◌, ◌++◌, length, get_or, slice_get, slice_set, Some, refl, ap, sym, ◌∙◌, subst, inl, inr, ⊎_elim, arith, nat_lt}
+use Rattle.std.proofs.Common.{◌≡◌, ℕ, zero, suc, ◌+◌, ◌<◌, ◌≤◌, Bool, true, false, List, [], ◌∷◌, ◌++◌, length, get_or}
+use Rattle.std.proofs.Common.{slice_get, slice_set, Some, refl, ap, sym, ◌∙◌, subst, inl, inr, ⊎_elim, arith, nat_lt}
 use Rattle.std.specs.Prelude.{◌⊎◌, ◌||◌, ◌==◌, if◌then◌else◌}
 use Rattle.std.specs.List.{All, list_any, IsDistinct}
 use Rattle.std.specs.Option.{option_map}
@@ -18,8 +19,8 @@ use Rattle.bohm_txn.proofs.ForCallers.{same_key, there}
 use Rattle.bohm_log.specs.Parts.{name_at, names_at}
 use Rattle.bohm_log.specs.Columns.{AllNamed}
 use Rattle.bohm_log.specs.Numbering.{Numbered, Numbers, named_sets, declared_sets}
-use Rattle.bohm_tree.specs.Txn.{Txn}
-use Rattle.bohm_tree.specs.Keys.{is_among}
+use Rattle.bohm_types.specs.Txn.{Txn}
+use Rattle.bohm_types.specs.Keys.{is_among}
 use Rattle.bohm_place.specs.Gathering.{AreFew, AreGathered, ArePlaced, has_key, numbers_in, with_number, with_numbers}
 use Rattle.bohm_place.proofs.Lists.{set_same, set_other}
 use Rattle.bohm_place.proofs.NewestCell.{usable_at}
@@ -66,13 +67,15 @@ stands_past ns ps p n placed at_n past =
 
 -- ---- one more number
 
-last_or_before : {A : Type 0} (xs : List A) (y : A) (p : ℕ) (x : A) → slice_get (xs ++ y ∷ []) p ≡ Some x → (slice_get xs p ≡ Some x) ⊎ ((p ≡ length xs) × (y ≡ x))
+last_or_before : {A : Type 0} (xs : List A) (y : A) (p : ℕ) (x : A) → slice_get (xs ++ y ∷ []) p ≡ Some x
+    → (slice_get xs p ≡ Some x) ⊎ ((p ≡ length xs) × (y ≡ x))
 last_or_before [] y zero x at = inr (refl, same_Some y x at)
 last_or_before [] y (suc p) x at = absurd cc
 last_or_before (z ∷ xs) y zero x at = inl at
 last_or_before (z ∷ xs) y (suc p) x at = ⊎_elim (λ h. inl h) (λ h. inr (ap suc h.0, h.1)) (last_or_before xs y p x at)
 
-pub placed_more : (ns ps : List ℕ) (n : ℕ) → list_any (λ m. m == n) ns ≡ false → n < length ps → ArePlaced ns ps → ArePlaced (ns ++ n ∷ []) (slice_set ps n (length ns))
+pub placed_more : (ns ps : List ℕ) (n : ℕ) → list_any (λ m. m == n) ns ≡ false → n < length ps → ArePlaced ns ps
+    → ArePlaced (ns ++ n ∷ []) (slice_set ps n (length ns))
 placed_more ns ps n missing inside placed p m at = ⊎_elim
     (λ before.
     let other : ¬ (m ≡ n) = λ e. (let here : list_any (λ x. x == n) ns ≡ true = found ns p n (before ∙ ap (λ x. Some x) e) in cc) in
@@ -137,7 +140,8 @@ with_numbers-append ns (x ∷ xs) ys = with_numbers-append (with_number ns x) xs
 
 pub all_with_numbers : (P : ℕ → Type 0) (ns more : List ℕ) → All P ns → All P more → All P (with_numbers ns more)
 all_with_numbers P ns [] all rest = all
-all_with_numbers P ns (n ∷ more) all rest = all_with_numbers P (with_number ns n) more (all_with_number P ns n all (rest 0 n (omega arith))) (λ i d l. rest (suc i) d (omega arith))
+all_with_numbers P ns (n ∷ more) all rest = all_with_numbers P (with_number ns n) more (all_with_number P ns n all (rest 0 n (omega arith)))
+    (λ i d l. rest (suc i) d (omega arith))
 
 or_assoc : (a b c : Bool) → ((a || b) || c) ≡ (a || (b || c))
 or_assoc true b c = refl
@@ -149,7 +153,8 @@ or_nothing false = refl
 
 any_with_numbers : (f : ℕ → Bool) (ns more : List ℕ) → list_any f (with_numbers ns more) ≡ (list_any f ns || list_any f more)
 any_with_numbers f ns [] = or_nothing (list_any f ns)
-any_with_numbers f ns (n ∷ more) = any_with_numbers f (with_number ns n) more ∙ ap (λ b. b || list_any f more) (any_with_number f ns n) ∙ or_assoc (list_any f ns) (f n) (list_any f more)
+any_with_numbers f ns (n ∷ more) = any_with_numbers f (with_number ns n) more ∙ ap (λ b. b || list_any f more) (any_with_number f ns n)
+    ∙ or_assoc (list_any f ns) (f n) (list_any f more)
 
 -- ---- the keys with the numbers
 
@@ -157,7 +162,8 @@ among_named : (names : List (List ℕ)) (ns : List ℕ) (key : List ℕ) → is_
 among_named names [] key = refl
 among_named names (n ∷ ns) key = ap (λ b. bytes_eq (name_at names n) key || b) (among_named names ns key)
 
-among_sets : (names : List (List ℕ)) (sets : List (List ℕ × List ℕ)) (key : List ℕ) → list_any (λ n. bytes_eq (name_at names n) key) (numbers_in sets) ≡ list_any (has_key names key) sets
+among_sets : (names : List (List ℕ)) (sets : List (List ℕ × List ℕ)) (key : List ℕ)
+    → list_any (λ n. bytes_eq (name_at names n) key) (numbers_in sets) ≡ list_any (has_key names key) sets
 among_sets names [] key = refl
 among_sets names (s ∷ ss) key =
     let f : ℕ → Bool = λ n. bytes_eq (name_at names n) key in
@@ -165,7 +171,8 @@ among_sets names (s ∷ ss) key =
     ∙ ap (λ b. b || list_any f (numbers_in ss)) (list_any-append f s.0 s.1)
     ∙ (λ i. (sym (among_named names s.0 key) i || sym (among_named names s.1 key) i) || among_sets names ss key i)
 
-pub keys_gathered : (names : List (List ℕ)) (sets : List (List ℕ × List ℕ)) (key : List ℕ) → is_among (names_at names (with_numbers [] (numbers_in sets))) key ≡ list_any (has_key names key) sets
+pub keys_gathered : (names : List (List ℕ)) (sets : List (List ℕ × List ℕ)) (key : List ℕ)
+    → is_among (names_at names (with_numbers [] (numbers_in sets))) key ≡ list_any (has_key names key) sets
 keys_gathered names sets key =
     let f : ℕ → Bool = λ n. bytes_eq (name_at names n) key in
     among_named names (with_numbers [] (numbers_in sets)) key ∙ any_with_numbers f [] (numbers_in sets) ∙ among_sets names sets key
@@ -180,20 +187,23 @@ one_number names m n apart low_m low_n same =
     (cases_lt m n)
 
 -- so the keys with distinct numbers are apart
-pub keys_apart : (names : List (List ℕ)) (ns ps : List ℕ) → IsDistinct bytes_eq names → AllNamed names ns → ArePlaced ns ps → IsDistinct bytes_eq (names_at names ns)
+pub keys_apart : (names : List (List ℕ)) (ns ps : List ℕ) → IsDistinct bytes_eq names → AllNamed names ns → ArePlaced ns ps
+    → IsDistinct bytes_eq (names_at names ns)
 keys_apart names ns ps apart named placed = IsDistinct-from_apart bytes_eq (names_at names ns) (λ i j d low high.
     let long = length-map ns (name_at names) in
     let in_i : i < length ns = omega arith in
     let in_j : j < length ns = omega arith in
     false_from_ne_true (bytes_eq (get_or (names_at names ns) i d) (get_or (names_at names ns) j d)) (λ e.
-    let same : name_at names (get_or ns i 0) ≡ name_at names (get_or ns j 0) = sym (get_or-map (name_at names) ns i 0 d in_i) ∙ same_key _ _ e ∙ get_or-map (name_at names) ns j 0 d in_j in
+    let same : name_at names (get_or ns i 0) ≡ name_at names (get_or ns j 0) =
+    sym (get_or-map (name_at names) ns i 0 d in_i) ∙ same_key _ _ e ∙ get_or-map (name_at names) ns j 0 d in_j in
     let one = one_number names (get_or ns i 0) (get_or ns j 0) apart (named i 0 in_i) (named j 0 in_j) same in
     let here = placed i (get_or ns i 0) (slice_get-get_or ns i 0 in_i) in
     let there = placed j (get_or ns j 0) (slice_get-get_or ns j 0 in_j) in
     let equal : i ≡ j = same_Some i j (sym here ∙ ap (slice_get ps) one ∙ there) in
     omega arith))
 
-pub gathered : (k : Numbered) (ns ps : List ℕ) → IsDistinct bytes_eq k.names → AllNamed k.names ns → ArePlaced ns ps → ns ≡ with_numbers [] (numbers_in k.sets) → AreGathered k (record { numbers = ns; places = ps })
+pub gathered : (k : Numbered) (ns ps : List ℕ) → IsDistinct bytes_eq k.names → AllNamed k.names ns → ArePlaced ns ps
+    → ns ≡ with_numbers [] (numbers_in k.sets) → AreGathered k (record { numbers = ns; places = ps })
 gathered k ns ps apart named placed all = record {
   named = named;
   apart = keys_apart k.names ns ps apart named placed;
@@ -210,7 +220,8 @@ pub sets_long : (k : Numbered) (txns : List Txn) → Numbers k txns → length k
 sets_long k txns is = sym (length-map k.sets (named_sets k.names)) ∙ ap length is.same ∙ length-map txns declared_sets
 
 -- the sets of a transaction by number
-pub set_at : (k : Numbered) (txns : List Txn) (i : ℕ) (s : List ℕ × List ℕ) (x : Txn) → Numbers k txns → slice_get k.sets i ≡ Some s → slice_get txns i ≡ Some x → named_sets k.names s ≡ declared_sets x
+pub set_at : (k : Numbered) (txns : List Txn) (i : ℕ) (s : List ℕ × List ℕ) (x : Txn) → Numbers k txns → slice_get k.sets i ≡ Some s
+    → slice_get txns i ≡ Some x → named_sets k.names s ≡ declared_sets x
 set_at k txns i s x is at_s at_x = same_Some (named_sets k.names s) (declared_sets x) (
     sym (slice_get-map (named_sets k.names) k.sets i ∙ ap (option_map (named_sets k.names)) at_s)
     ∙ ap (λ (ys : List (List (List ℕ) × List (List ℕ))). slice_get ys i) is.same

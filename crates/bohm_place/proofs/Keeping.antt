@@ -4,7 +4,8 @@ use Rattle.std.proofs.lemmas.List.Elements.{All-tail}
 use Rattle.bohm_place.specs.declared.placeholder.Placeholder.{Placeholder}
 use Rattle.bohm_place.specs.Chains.{begins, RisesFrom, kept, kept_items}
 
-begins-kept_by : (floor : ℕ) (v w : Placeholder) (ws : List Placeholder) (b : Bool) → nat_le w.begin floor ≡ b → begins (kept_items floor (w ∷ ws)) ≡ kept floor (begins (w ∷ ws)) → begins (kept_items floor (v ∷ w ∷ ws)) ≡ kept floor (begins (v ∷ w ∷ ws))
+begins-kept_by : (floor : ℕ) (v w : Placeholder) (ws : List Placeholder) (b : Bool) → nat_le w.begin floor ≡ b
+    → begins (kept_items floor (w ∷ ws)) ≡ kept floor (begins (w ∷ ws)) → begins (kept_items floor (v ∷ w ∷ ws)) ≡ kept floor (begins (v ∷ w ∷ ws))
 begins-kept_by floor v w ws true e h = rw e h
 begins-kept_by floor v w ws false e h = rw e refl
 
@@ -13,7 +14,8 @@ begins-kept floor [] = refl
 begins-kept floor (v ∷ []) = refl
 begins-kept floor (v ∷ w ∷ ws) = begins-kept_by floor v w ws (nat_le w.begin floor) refl (begins-kept floor (w ∷ ws))
 
-kept_twice_by : (floor : ℕ) (v w : Placeholder) (ws : List Placeholder) (b : Bool) → nat_le w.begin floor ≡ b → kept_items floor (kept_items floor (w ∷ ws)) ≡ kept_items floor (w ∷ ws) → kept_items floor (kept_items floor (v ∷ w ∷ ws)) ≡ kept_items floor (v ∷ w ∷ ws)
+kept_twice_by : (floor : ℕ) (v w : Placeholder) (ws : List Placeholder) (b : Bool) → nat_le w.begin floor ≡ b → kept_items floor
+    (kept_items floor (w ∷ ws)) ≡ kept_items floor (w ∷ ws) → kept_items floor (kept_items floor (v ∷ w ∷ ws)) ≡ kept_items floor (v ∷ w ∷ ws)
 kept_twice_by floor v w ws true e h = rw e h
 kept_twice_by floor v w ws false e h = rw (e, e) refl
 
@@ -27,7 +29,8 @@ kept_short floor [] h = refl
 kept_short floor (v ∷ []) h = refl
 kept_short floor (v ∷ w ∷ ws) h = absurd (omega arith)
 
-RisesFrom-kept_by : (n floor b c : ℕ) (cs : List ℕ) (t : Bool) → nat_le c floor ≡ t → RisesFrom n (b ∷ c ∷ cs) → (RisesFrom n (c ∷ cs) → RisesFrom n (kept floor (c ∷ cs))) → RisesFrom n (kept floor (b ∷ c ∷ cs))
+RisesFrom-kept_by : (n floor b c : ℕ) (cs : List ℕ) (t : Bool) → nat_le c floor ≡ t → RisesFrom n (b ∷ c ∷ cs)
+    → (RisesFrom n (c ∷ cs) → RisesFrom n (kept floor (c ∷ cs))) → RisesFrom n (kept floor (b ∷ c ∷ cs))
 RisesFrom-kept_by n floor b c cs true e h more = rw e (more (omega (arith, h.0, h.1.0), h.1.1))
 RisesFrom-kept_by n floor b c cs false e h more = rw e h
 
@@ -38,7 +41,8 @@ RisesFrom-kept n floor (b ∷ c ∷ cs) h = RisesFrom-kept_by n floor b c cs (na
 
 -- ---- what holds of each begin holds of those that are kept
 
-All-kept_by : (P : ℕ → Type 0) (floor b c : ℕ) (cs : List ℕ) (t : Bool) → nat_le c floor ≡ t → All P (b ∷ c ∷ cs) → All P (kept floor (c ∷ cs)) → All P (kept floor (b ∷ c ∷ cs))
+All-kept_by : (P : ℕ → Type 0) (floor b c : ℕ) (cs : List ℕ) (t : Bool) → nat_le c floor ≡ t → All P (b ∷ c ∷ cs) → All P (kept floor (c ∷ cs))
+    → All P (kept floor (b ∷ c ∷ cs))
 All-kept_by P floor b c cs true e h more = rw e more
 All-kept_by P floor b c cs false e h more = rw e h
 

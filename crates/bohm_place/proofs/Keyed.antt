@@ -5,7 +5,7 @@ use Rattle.std.specs.Str.{bytes_eq}
 use Rattle.std.proofs.lemmas.Bool.{or_left, or_right}
 use Rattle.std.proofs.lemmas.List.Folds.{list_any-append}
 use Rattle.std.proofs.lemmas.Map.Made.{lookup-map_values}
-use Rattle.bohm_tree.specs.Keys.{is_among, IsAmong}
+use Rattle.bohm_types.specs.Keys.{is_among, IsAmong}
 use Rattle.bohm_txn.proofs.ForCallers.{among_first, key_itself}
 use Rattle.bohm_place.specs.declared.placeholder.Placeholder.{Placeholder}
 use Rattle.bohm_place.specs.declared.chain.Chain.{Chain}

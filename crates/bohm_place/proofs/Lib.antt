@@ -19,4 +19,6 @@ mod OneWorker
 mod Behind
 mod Numbers
 mod Gathering
+mod Sizes
+mod Plans
 pub mod ForCallers

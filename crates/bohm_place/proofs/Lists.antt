@@ -1,5 +1,6 @@
 -- Lists by places.
-use Rattle.std.proofs.Common.{◌≡◌, ◌≢◌, ℕ, zero, suc, ◌+◌, ◌<◌, List, [], ◌∷◌, ◌++◌, length, take, drop, slice_get, slice_set, set, get_or, Some, refl, ap, ◌∙◌, arith, length-set}
+use Rattle.std.proofs.Common.{◌≡◌, ◌≢◌, ℕ, zero, suc, ◌+◌, ◌<◌, List, [], ◌∷◌, ◌++◌, length, take, drop}
+use Rattle.std.proofs.Common.{slice_get, slice_set, set, get_or, Some, refl, ap, ◌∙◌, arith, length-set}
 use Rattle.std.proofs.lemmas.Option.{slice_get-get_or}
 use Rattle.std.proofs.lemmas.List.{get_or-set_same}
 
@@ -15,7 +16,9 @@ get_drop (suc s) n [] = refl
 get_drop (suc s) n (x ∷ xs) = let e : suc (s + n) ≡ (suc s + n) = omega arith in get_drop s n xs ∙ ap (slice_get (x ∷ xs)) e
 
 pub set_same : {Q : Type 0} (qs : List Q) (p : ℕ) (q : Q) → p < length qs → slice_get (slice_set qs p q) p ≡ Some q
-set_same qs p q h = let l : p < length (set qs p q) = omega (arith, length-set qs p q) in slice_get-get_or (set qs p q) p q l ∙ ap (λ x. Some x) (get_or-set_same qs p q q h)
+set_same qs p q h =
+    let l : p < length (set qs p q) = omega (arith, length-set qs p q) in
+    slice_get-get_or (set qs p q) p q l ∙ ap (λ x. Some x) (get_or-set_same qs p q q h)
 
 pub set_other : {Q : Type 0} (qs : List Q) (p j : ℕ) (q : Q) → j ≢ p → slice_get (slice_set qs p q) j ≡ slice_get qs j
 set_other [] p j q apart = refl
@@ -29,7 +32,8 @@ first_of [] h = absurd (omega arith)
 first_of (x ∷ xs) h = x
 
 -- what holds of each element at its place, after a push
-pub each_pushed : {A : Type 0} (P : ℕ → A → Type 0) (xs : List A) (x : A) → ((w : ℕ) (d : A) → w < length xs → P w (get_or xs w d)) → P (length xs) x → (w : ℕ) (d : A) → w < length xs + 1 → P w (get_or (xs ++ x ∷ []) w d)
+pub each_pushed : {A : Type 0} (P : ℕ → A → Type 0) (xs : List A) (x : A) → ((w : ℕ) (d : A) → w < length xs → P w (get_or xs w d)) → P (length xs) x
+    → (w : ℕ) (d : A) → w < length xs + 1 → P w (get_or (xs ++ x ∷ []) w d)
 each_pushed P [] x h p zero d lt = p
 each_pushed P [] x h p (suc w) d lt = absurd (omega arith)
 each_pushed P (y ∷ ys) x h p zero d lt = h 0 d (omega arith)

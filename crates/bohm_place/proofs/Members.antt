@@ -37,9 +37,11 @@ tops_past : (floor n b : ℕ) (bs : List ℕ) → floor ≤ n → RisesFrom n bs
 tops_past floor n b [] le r = tt
 tops_past floor n b (c ∷ cs) le r = ((λ low. absurd (omega (arith, r.0))), tops_past floor c b cs (omega (arith, r.0)) r.1)
 
-to_by : (floor x c b : ℕ) (cs : List ℕ) (t : Bool) → nat_le c floor ≡ t → x < c → Stays floor (x ∷ c ∷ cs) b → (Stays floor (c ∷ cs) b → Mem b (kept floor (c ∷ cs))) → Mem b (kept floor (x ∷ c ∷ cs))
+to_by : (floor x c b : ℕ) (cs : List ℕ) (t : Bool) → nat_le c floor ≡ t → x < c → Stays floor (x ∷ c ∷ cs) b
+    → (Stays floor (c ∷ cs) b → Mem b (kept floor (c ∷ cs))) → Mem b (kept floor (x ∷ c ∷ cs))
 to_by floor x c b cs true e lt (inl same, inl above) more = absurd (grind (arith, nat_tests))
-to_by floor x c b cs true e lt (inl same, inr (low, tops)) more = absurd (let le : c ≤ floor = grind (arith, nat_tests) in let past = tops.1.0 le in omega arith)
+to_by floor x c b cs true e lt (inl same, inr (low, tops)) more =
+    absurd (let le : c ≤ floor = grind (arith, nat_tests) in let past = tops.1.0 le in omega arith)
 to_by floor x c b cs true e lt (inr m, inl above) more = rw e (more (m, inl above))
 to_by floor x c b cs true e lt (inr m, inr (low, tops)) more = rw e (more (m, inr (low, tops.1)))
 to_by floor x c b cs false e lt (m, d) more = rw e m
@@ -52,7 +54,8 @@ to floor n b (x ∷ c ∷ cs) r s = to_by floor x c b cs (nat_le c floor) refl r
 alone : (floor x b : ℕ) (cs : List ℕ) → x ≡ b → (x ≤ floor → Tops floor b cs) → Stays floor (x ∷ cs) b
 alone floor x b cs same tops = (inl same, ⊎_elim (λ lt. inl (omega arith)) (λ le. inr (omega arith, ((λ low. omega arith), tops le))) (cases_lt floor x))
 
-from_by : (floor x c b : ℕ) (cs : List ℕ) (t : Bool) → nat_le c floor ≡ t → x < c → RisesFrom c cs → Mem b (kept floor (x ∷ c ∷ cs)) → (Mem b (kept floor (c ∷ cs)) → Stays floor (c ∷ cs) b) → Stays floor (x ∷ c ∷ cs) b
+from_by : (floor x c b : ℕ) (cs : List ℕ) (t : Bool) → nat_le c floor ≡ t → x < c → RisesFrom c cs → Mem b (kept floor (x ∷ c ∷ cs))
+    → (Mem b (kept floor (c ∷ cs)) → Stays floor (c ∷ cs) b) → Stays floor (x ∷ c ∷ cs) b
 from_by floor x c b cs true e lt r m more =
     let s = more (rw e at m) in
     let above = mem_above x b (c ∷ cs) (lt, r) s.0 in
@@ -72,6 +75,8 @@ from floor n b (x ∷ c ∷ cs) r m = from_by floor x c b cs (nat_le c floor) re
 
 pub kept_contains : (floor n b : ℕ) (bs : List ℕ) → RisesFrom n bs → IsKept floor bs b ↔ Contains (kept floor bs) b
 kept_contains floor n b bs r = (
-  λ s. contains_of (kept floor bs) b (to floor n b bs r (mem_of bs b s.0.0 s.0.1 s.0.2, ⊎_elim inl (λ (low, tops). inr (low, recursion_from_All (λ c. c ≤ floor → c ≤ b) bs tops)) s.1)),
-  λ h. (let s = from floor n b bs r (mem_of (kept floor bs) b h.0 h.1 h.2) in (contains_of bs b s.0, ⊎_elim inl (λ (low, tops). inr (low, All-from_recursion (λ c. c ≤ floor → c ≤ b) bs tops)) s.1)),
+  λ s. contains_of (kept floor bs) b (to floor n b bs r
+      (mem_of bs b s.0.0 s.0.1 s.0.2, ⊎_elim inl (λ (low, tops). inr (low, recursion_from_All (λ c. c ≤ floor → c ≤ b) bs tops)) s.1)),
+  λ h. (let s = from floor n b bs r (mem_of (kept floor bs) b h.0 h.1 h.2) in
+      (contains_of bs b s.0, ⊎_elim inl (λ (low, tops). inr (low, All-from_recursion (λ c. c ≤ floor → c ≤ b) bs tops)) s.1)),
 )

@@ -1,10 +1,11 @@
 -- Accesses in one list, transaction by transaction.
-use Rattle.std.proofs.Common.{◌≡◌, ℕ, zero, suc, ◌+◌, ◌<◌, ◌≤◌, ◌%◌, true, List, [], ◌∷◌, ◌++◌, length, map, take, drop, slice_get, Some, refl, sym, ap, ◌∙◌, subst, arith, if◌then◌else◌, nat_lt, append_assoc, append-nil, length-append}
+use Rattle.std.proofs.Common.{◌≡◌, ℕ, zero, suc, ◌+◌, ◌<◌, ◌≤◌, ◌%◌, true, List, [], ◌∷◌, ◌++◌, length, map, take, drop, slice_get}
+use Rattle.std.proofs.Common.{Some, refl, sym, ap, ◌∙◌, subst, arith, if◌then◌else◌, nat_lt, append_assoc, append-nil, length-append}
 use Rattle.std.proofs.lemmas.Bool.Decides.{nat_tests}
 use Rattle.std.proofs.lemmas.Option.{same_Some, slice_get-map, slice_get_within}
 use Rattle.std.proofs.lemmas.List.{drop_at, map-append, length-map, take_at}
 use Rattle.std.proofs.lemmas.Simd.{map-map}
-use Rattle.bohm_tree.specs.Txn.{Txn}
+use Rattle.bohm_types.specs.Txn.{Txn}
 use Rattle.bohm_txn.specs.Sure.{is_sure}
 use Rattle.bohm_place.specs.declared.access.Access.{Access}
 use Rattle.bohm_place.specs.declared.access.Source.TheVariants.{Before}
@@ -14,7 +15,8 @@ use Rattle.bohm_place.specs.declared.placeholder.Placeholder.{Placeholder}
 use Rattle.bohm_place.specs.declared.row.Row.{Row}
 use Rattle.bohm_place.specs.Chains.{Keyed, placeholders_in, none}
 use Rattle.bohm_place.specs.Shares.{found_by, rows_from, newest_ahead, ahead_of}
-use Rattle.bohm_place.specs.Plans.{Accesses, Planned, access_of, accesses_of, reads_of, writes_of, AreLaidFrom, planned_in, AreRightAccesses, IsRightPlan, HasNoPlaces, IsPlanned}
+use Rattle.bohm_place.specs.Plans.{Accesses, Planned, access_of, accesses_of, reads_of, writes_of, AreLaidFrom}
+use Rattle.bohm_place.specs.Plans.{planned_in, AreRightAccesses, IsRightPlan, HasNoPlaces, IsPlanned}
 use Rattle.bohm_place.proofs.Placed.{Below}
 use Rattle.bohm_place.proofs.Found.{found_same}
 use Rattle.bohm_place.proofs.Right.{right_access, index_before, newest_ahead-base}
@@ -22,21 +24,26 @@ use Rattle.bohm_place.proofs.Right.{right_access, index_before, newest_ahead-bas
 -- what f says of each access, transaction by transaction
 abbrev pub nested : (List Txn → List ℕ → Placeholder) → List Txn → List Txn → List Accesses
 nested f done [] = []
-nested f done (t ∷ ts) = record { reads = map access_of (map (f done) t.reads); writes = map access_of (map (f done) t.writes); sure = is_sure t } ∷ nested f (done ++ t ∷ []) ts
+nested f done (t ∷ ts) = record { reads = map access_of (map (f done) t.reads); writes = map access_of (map (f done) t.writes); sure = is_sure t } ∷ nested f
+    (done ++ t ∷ []) ts
 
 front : {A : Type 0} (n m : ℕ) (pre xs ys : List A) → n ≡ length pre → m ≡ length xs → take m (drop n (pre ++ (xs ++ ys))) ≡ xs
 front n m pre xs ys e f = ap (take m) (drop_at pre (xs ++ ys) n (sym e)) ∙ take_at xs ys m (sym f)
 
 row_nested : (f : List ℕ → Placeholder) (pre rest : List Placeholder) (start : ℕ) (t : Txn) → start ≡ length pre
-    → accesses_of (pre ++ (map f (t.reads ++ t.writes) ++ rest)) (record { start = start; reads = length t.reads; writes = length t.writes; sure = is_sure t }) ≡ record { reads = map access_of (map f t.reads); writes = map access_of (map f t.writes); sure = is_sure t }
+    → accesses_of (pre ++ (map f (t.reads ++ t.writes) ++ rest))
+    (record { start = start; reads = length t.reads; writes = length t.writes; sure = is_sure t })
+    ≡ record { reads = map access_of (map f t.reads); writes = map access_of (map f t.writes); sure = is_sure t }
 row_nested f pre rest start t e =
     let rs = map f t.reads in
     let ws = map f t.writes in
     let parts : pre ++ (map f (t.reads ++ t.writes) ++ rest) ≡ pre ++ (rs ++ (ws ++ rest)) = rw (map-append f t.reads t.writes, append_assoc) refl in
     let behind : pre ++ (rs ++ (ws ++ rest)) ≡ (pre ++ rs) ++ (ws ++ rest) = sym (append_assoc pre rs (ws ++ rest)) in
-    let reads : take (length t.reads) (drop start (pre ++ (map f (t.reads ++ t.writes) ++ rest))) ≡ rs = rw parts (front start (length t.reads) pre rs (ws ++ rest) e (sym (length-map t.reads f))) in
+    let reads : take (length t.reads) (drop start (pre ++ (map f (t.reads ++ t.writes) ++ rest))) ≡ rs =
+    rw parts (front start (length t.reads) pre rs (ws ++ rest) e (sym (length-map t.reads f))) in
     let middle : start + length t.reads ≡ length (pre ++ rs) = omega (arith, length-append pre rs, length-map t.reads f) in
-    let writes : take (length t.writes) (drop (start + length t.reads) (pre ++ (map f (t.reads ++ t.writes) ++ rest))) ≡ ws = rw (parts, behind) (front (start + length t.reads) (length t.writes) (pre ++ rs) ws rest middle (sym (length-map t.writes f))) in
+    let writes : take (length t.writes) (drop (start + length t.reads) (pre ++ (map f (t.reads ++ t.writes) ++ rest))) ≡ ws =
+    rw (parts, behind) (front (start + length t.reads) (length t.writes) (pre ++ rs) ws rest middle (sym (length-map t.writes f))) in
     λ i. record { reads = map access_of (reads i); writes = map access_of (writes i); sure = is_sure t }
 
 rows_nested : (f : List Txn → List ℕ → Placeholder) (done ts : List Txn) (pre : List Placeholder) (start : ℕ) → start ≡ length pre
@@ -46,9 +53,11 @@ rows_nested f done (t ∷ ts) pre start e =
     let here = map (f done) (t.reads ++ t.writes) in
     let rest = found_by (λ _. true) f (done ++ t ∷ []) ts in
     let whole : pre ++ (here ++ rest) ≡ (pre ++ here) ++ rest = sym (append_assoc pre here rest) in
-    let long : (start + length t.reads) + length t.writes ≡ length (pre ++ here) = omega (arith, length-append pre here, length-map (t.reads ++ t.writes) (f done), length-append t.reads t.writes) in
+    let long : (start + length t.reads) + length t.writes ≡ length (pre ++ here) =
+    omega (arith, length-append pre here, length-map (t.reads ++ t.writes) (f done), length-append t.reads t.writes) in
     let more = rows_nested f (done ++ t ∷ []) ts (pre ++ here) ((start + length t.reads) + length t.writes) long in
-    let more' : map (accesses_of (pre ++ (here ++ rest))) (rows_from ((start + length t.reads) + length t.writes) ts) ≡ nested f (done ++ t ∷ []) ts = rw whole more in
+    let more' : map (accesses_of (pre ++ (here ++ rest))) (rows_from ((start + length t.reads) + length t.writes) ts) ≡ nested f (done ++ t ∷ []) ts =
+    rw whole more in
     λ i. row_nested (f done) pre rest start t e i ∷ more' i
 
 -- the rows of a plan that was found in one list
@@ -68,12 +77,14 @@ laid-rows_from start [] = tt
 laid-rows_from start (t ∷ ts) = (omega arith, laid-rows_from ((start + length t.reads) + length t.writes) ts)
 
 nested_at : (f : List Txn → List ℕ → Placeholder) (done ts : List Txn) (i : ℕ) (t : Txn) → slice_get ts i ≡ Some t
-    → slice_get (nested f done ts) i ≡ Some (record { reads = map access_of (map (f (done ++ take i ts)) t.reads); writes = map access_of (map (f (done ++ take i ts)) t.writes); sure = is_sure t })
+    → slice_get (nested f done ts) i ≡ Some (record
+    { reads = map access_of (map (f (done ++ take i ts)) t.reads); writes = map access_of (map (f (done ++ take i ts)) t.writes); sure = is_sure t })
 nested_at f done [] i t e = absurd cc
 nested_at f done (x ∷ ts) zero t e = let same : x ≡ t = same_Some x t e in rw (append-nil done, same) refl
 nested_at f done (x ∷ ts) (suc i) t e = let more = nested_at f (done ++ x ∷ []) ts i t e in rw append_assoc at more
 
-right_row : (first : ℕ) (ts : List Txn) (i : ℕ) (keys : List (List ℕ)) → 0 < first → i ≤ length ts → AreRightAccesses first ts (first + i) keys (map access_of (map (ahead_of first (take i ts)) keys))
+right_row : (first : ℕ) (ts : List Txn) (i : ℕ) (keys : List (List ℕ)) → 0 < first → i ≤ length ts
+    → AreRightAccesses first ts (first + i) keys (map access_of (map (ahead_of first (take i ts)) keys))
 right_row first ts i keys above inside = record {
   paired = sym (length-map (map (ahead_of first (take i ts)) keys) access_of ∙ length-map keys (ahead_of first (take i ts)));
   each = λ j k a e h.
@@ -102,13 +113,16 @@ right_plan first ts p above start rows = record {
 
 -- ---- accesses of the version before the batch
 
-in_row : (P : Access → Type 0) (f : List ℕ → Placeholder) → ((k : List ℕ) → P (access_of (f k))) → (keys : List (List ℕ)) (j : ℕ) (a : Access) → slice_get (map access_of (map f keys)) j ≡ Some a → P a
+in_row : (P : Access → Type 0) (f : List ℕ → Placeholder) → ((k : List ℕ) → P (access_of (f k))) → (keys : List (List ℕ)) (j : ℕ) (a : Access)
+    → slice_get (map access_of (map f keys)) j ≡ Some a → P a
 in_row P f each [] j a e = absurd cc
 in_row P f each (k ∷ keys) zero a e = subst P (same_Some (access_of (f k)) a e) (each k)
 in_row P f each (k ∷ keys) (suc j) a e = in_row P f each keys j a e
 
 -- each access is what f says of a key
-in_nested : (P : Access → Type 0) (f : List Txn → List ℕ → Placeholder) → ((done : List Txn) (k : List ℕ) → P (access_of (f done k))) → (set : DeclaredSet) (first : ℕ) (keys : List (List ℕ)) (done ts : List Txn) (i j : ℕ) (a : Access) → slice_get (planned_in set (record { first = first; rows = nested f done ts; keys = keys }) i) j ≡ Some a → P a
+in_nested : (P : Access → Type 0) (f : List Txn → List ℕ → Placeholder) → ((done : List Txn) (k : List ℕ) → P (access_of (f done k))) → (set : DeclaredSet)
+    (first : ℕ) (keys : List (List ℕ)) (done ts : List Txn) (i j : ℕ) (a : Access)
+    → slice_get (planned_in set (record { first = first; rows = nested f done ts; keys = keys }) i) j ≡ Some a → P a
 in_nested P f each Reads first keys done [] i j a e = absurd cc
 in_nested P f each Writes first keys done [] i j a e = absurd cc
 in_nested P f each Reads first keys done (t ∷ ts) zero j a e = in_row P (f done) (each done) t.reads j a e
@@ -125,27 +139,33 @@ no_places first ts p above rows set i j a e =
 -- ---- one worker or several
 
 -- the rows of the plan, where they are laid out one behind another
-pub rows_found : (first : ℕ) (ts : List Txn) (found : List Placeholder) (rows : List Row) → found ≡ found_by (λ _. true) (ahead_of first) [] ts → rows ≡ rows_from 0 ts → map (accesses_of found) rows ≡ nested (ahead_of first) [] ts
+pub rows_found : (first : ℕ) (ts : List Txn) (found : List Placeholder) (rows : List Row) → found ≡ found_by (λ _. true) (ahead_of first) [] ts
+    → rows ≡ rows_from 0 ts → map (accesses_of found) rows ≡ nested (ahead_of first) [] ts
 rows_found first ts found rows e laid = rw (e, laid) (found_nested (ahead_of first) ts)
 
 whole_by : (m n : ℕ) (v w : Placeholder) → m < n → v ≡ w → (if nat_lt m n then v else none) ≡ w
 whole_by m n v w lt e = let t : nat_lt m n ≡ true = grind (arith, nat_tests) in rw t e
 
 -- what all workers found together, of which f says the same as g
-pub found_whole : (part : List ℕ → ℕ) (n : ℕ) (f g : List Txn → List ℕ → Placeholder) (ts : List Txn) → 0 < n → ((done : List Txn) (k : List ℕ) → f done k ≡ g done k)
+pub found_whole : (part : List ℕ → ℕ) (n : ℕ) (f g : List Txn → List ℕ → Placeholder) (ts : List Txn) → 0 < n
+    → ((done : List Txn) (k : List ℕ) → f done k ≡ g done k)
     → found_by (λ k. nat_lt (part k % n) n) f [] ts ≡ found_by (λ _. true) g [] ts
 found_whole part n f g ts some same =
     found_same (λ k. nat_lt (part k % n) n) (λ _. true) f g (λ done k. whole_by (part k % n) n (f done k) (g done k) (omega arith) (same done k)) [] ts
 
 -- the same where chains stood before the batch
-pub rows_whole : (part : List ℕ → ℕ) (n first : ℕ) (ts : List Txn) (given : List Keyed) (found : List Placeholder) (rows : List Row) → 0 < n → 0 < first → ((k : List ℕ) → Below first (placeholders_in part given k))
-    → found ≡ found_by (λ k. nat_lt (part k % n) n) (newest_ahead first (placeholders_in part given)) [] ts → rows ≡ rows_from 0 ts → map (accesses_of found) rows ≡ nested (ahead_of first) [] ts
+pub rows_whole : (part : List ℕ → ℕ) (n first : ℕ) (ts : List Txn) (given : List Keyed) (found : List Placeholder) (rows : List Row) → 0 < n → 0 < first
+    → ((k : List ℕ) → Below first (placeholders_in part given k))
+    → found ≡ found_by (λ k. nat_lt (part k % n) n) (newest_ahead first (placeholders_in part given)) [] ts → rows ≡ rows_from 0 ts
+    → map (accesses_of found) rows ≡ nested (ahead_of first) [] ts
 rows_whole part n first ts given found rows some above low e laid =
     let base = placeholders_in part given in
-    rows_found first ts found rows (e ∙ found_whole part n (newest_ahead first base) (ahead_of first) ts some (λ done k. newest_ahead-base first base done k above (low k))) laid
+    rows_found first ts found rows (e ∙ found_whole part n (newest_ahead first base) (ahead_of first) ts some
+    (λ done k. newest_ahead-base first base done k above (low k))) laid
 
 -- the plan that was found in one list, where each transaction was told what is ahead
-pub planned : (first : ℕ) (ts : List Txn) (found : List Placeholder) (rows : List Row) (p : Planned) → 0 < first → found ≡ found_by (λ _. true) (ahead_of first) [] ts → rows ≡ rows_from 0 ts → p.first ≡ first → p.rows ≡ map (accesses_of found) rows → p.keys ≡ [] → IsPlanned first ts p
+pub planned : (first : ℕ) (ts : List Txn) (found : List Placeholder) (rows : List Row) (p : Planned) → 0 < first → found ≡ found_by (λ _. true)
+    (ahead_of first) [] ts → rows ≡ rows_from 0 ts → p.first ≡ first → p.rows ≡ map (accesses_of found) rows → p.keys ≡ [] → IsPlanned first ts p
 planned first ts found rows p above e laid start is unkeyed =
     let whole : p.rows ≡ nested (ahead_of first) [] ts = is ∙ rows_found first ts found rows e laid in
     record { first = start; right = right_plan first ts p above start whole; unplaced = no_places first ts p above whole; unkeyed = unkeyed }

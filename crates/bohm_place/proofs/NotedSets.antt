@@ -3,8 +3,8 @@ use Rattle.std.proofs.Common.{◌≡◌, ℕ, ◌+◌, ◌<◌, ◌≤◌, true,
 use Rattle.std.proofs.lemmas.Bool.{cases_lt, or_left, or_right}
 use Rattle.std.proofs.lemmas.List.Folds.{list_any_at}
 use Rattle.std.proofs.lemmas.Option.{same_Some, slice_get_within, get_or_from_slice_get}
-use Rattle.bohm_tree.specs.Txn.{Txn}
-use Rattle.bohm_tree.specs.Keys.{IsAmong, is_among}
+use Rattle.bohm_types.specs.Txn.{Txn}
+use Rattle.bohm_types.specs.Keys.{IsAmong, is_among}
 use Rattle.bohm_txn.specs.Faulty.{IsWellFormedTxn}
 use Rattle.bohm_place.specs.declared.access.Access.{Access}
 use Rattle.bohm_place.specs.declared.access.Source.TheVariants.{Before, Within}
@@ -19,10 +19,16 @@ use Rattle.bohm_place.proofs.Noted.{sources_same, sources_twice, right_noted}
 
 module _ {K : Type 0} (p : Planned) (set : DeclaredSet) (i : ℕ) (keys base : List K) where
   pub none_noted : IsSetNoted p p set i keys base 0
-  none_noted = record { sources = sources_same p; right = λ txns right. right; each = λ other m n a at. inl at; done = λ n a low at before. absurd (omega arith) }
+  none_noted = record {
+    sources = sources_same p;
+    right = λ txns right. right;
+    each = λ other m n a at. inl at;
+    done = λ n a low at before. absurd (omega arith);
+  }
 
   -- at an access whose source is of the batch nothing is noted
-  pub next_passed : (q : Planned) (n u : ℕ) (b : Access) → IsSetNoted p q set i keys base n → slice_get (planned_in set q i) n ≡ Some b → b.source ≡ Within u → IsSetNoted p q set i keys base (n + 1)
+  pub next_passed : (q : Planned) (n u : ℕ) (b : Access) → IsSetNoted p q set i keys base n → slice_get (planned_in set q i) n ≡ Some b → b.source ≡ Within u
+      → IsSetNoted p q set i keys base (n + 1)
   next_passed q n u b noted at within = record { sources = noted.sources; right = noted.right; each = noted.each; done = done }
     where
       done : (m : ℕ) (a : Access) → m < n + 1 → slice_get (planned_in set q i) m ≡ Some a → a.source ≡ Before → HasPlace base keys m a
@@ -36,7 +42,8 @@ module _ {K : Type 0} (p : Planned) (set : DeclaredSet) (i : ℕ) (keys base : L
           (cases_lt m n)
 
   -- at another one the place is
-  pub next_noted : (q r : Planned) (n place : ℕ) (k : K) → IsSetNoted p q set i keys base n → IsNoted q r set i n place → source_in set q i n ≡ Some Before → slice_get keys n ≡ Some k → slice_get base place ≡ Some k → IsSetNoted p r set i keys base (n + 1)
+  pub next_noted : (q r : Planned) (n place : ℕ) (k : K) → IsSetNoted p q set i keys base n → IsNoted q r set i n place → source_in set q i n ≡ Some Before
+      → slice_get keys n ≡ Some k → slice_get base place ≡ Some k → IsSetNoted p r set i keys base (n + 1)
   next_noted q r n place k noted now before at_key at_place = record {
     sources = sources_twice p q r noted.sources now.sources;
     right = λ txns right. right_noted txns q r set i n place now before (noted.right txns right);
@@ -64,7 +71,8 @@ module _ {K : Type 0} (p : Planned) (set : DeclaredSet) (i : ℕ) (keys base : L
 
 -- the rows below n have the places of their keys
 abbrev pub AreNotedBelow : List Txn → Planned → List (List ℕ) → ℕ → Type 0
-AreNotedBelow txns p base count = (set : DeclaredSet) (i n : ℕ) (x : Txn) (a : Access) → i < count → slice_get txns i ≡ Some x → slice_get (planned_in set p i) n ≡ Some a → a.source ≡ Before → HasPlace base (keys_in set x) n a
+AreNotedBelow txns p base count = (set : DeclaredSet) (i n : ℕ) (x : Txn) (a : Access) → i < count → slice_get txns i ≡ Some x
+    → slice_get (planned_in set p i) n ≡ Some a → a.source ≡ Before → HasPlace base (keys_in set x) n a
 
 other_set : ¬ (Reads ≡ Writes)
 other_set e = absurd cc
@@ -80,7 +88,8 @@ next_row txns p q r base i x at noted reads writes set m n y a low at_y at_a bef
     subst (λ (z : Txn). HasPlace base (keys_in set z) n a) same (new set n a at_i before))
     (cases_lt m i)
   where
-    old : (set : DeclaredSet) (m n : ℕ) (y : Txn) (a : Access) → m < i → slice_get txns m ≡ Some y → slice_get (planned_in set r m) n ≡ Some a → a.source ≡ Before → HasPlace base (keys_in set y) n a
+    old : (set : DeclaredSet) (m n : ℕ) (y : Txn) (a : Access) → m < i → slice_get txns m ≡ Some y → slice_get (planned_in set r m) n ≡ Some a
+        → a.source ≡ Before → HasPlace base (keys_in set y) n a
     old set m n y a earlier at_y at_a before = ⊎_elim
         (λ in_q. ⊎_elim
         (λ in_p. noted set m n y a earlier at_y in_p before)
@@ -101,8 +110,10 @@ declares_in : (set : DeclaredSet) (x : Txn) (k : List ℕ) → IsAmong (keys_in 
 declares_in Reads x k h = or_left (is_among x.reads k) (is_among x.writes k) h
 declares_in Writes x k h = or_right (is_among x.reads k) (is_among x.writes k) h
 
-pub entered : (txns : List Txn) (keys : List (List ℕ)) (set : DeclaredSet) (i : ℕ) (x : Txn) → AreKeysOf txns keys → slice_get txns i ≡ Some x → (k : List ℕ) → IsAmong (keys_in set x) k → IsAmong keys k
-entered txns keys set i x are at k h = are.each k ∙ list_any_at (declares_key k) txns i x (slice_get_within txns i x at) (rw (get_or_from_slice_get txns i x x at) (declares_in set x k h))
+pub entered : (txns : List Txn) (keys : List (List ℕ)) (set : DeclaredSet) (i : ℕ) (x : Txn) → AreKeysOf txns keys → slice_get txns i ≡ Some x → (k : List ℕ)
+    → IsAmong (keys_in set x) k → IsAmong keys k
+entered txns keys set i x are at k h = are.each k
+    ∙ list_any_at (declares_key k) txns i x (slice_get_within txns i x at) (rw (get_or_from_slice_get txns i x x at) (declares_in set x k h))
 
 pub few_keys : (txns : List Txn) (set : DeclaredSet) (i : ℕ) (x : Txn) → All IsWellFormedTxn txns → slice_get txns i ≡ Some x → length (keys_in set x) ≤ 16
 few_keys txns Reads i x formed at = (usable_at txns formed i x at).few_reads

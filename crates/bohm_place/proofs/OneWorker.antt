@@ -1,7 +1,7 @@
 -- What one worker finds that has all parts.
 use Rattle.std.proofs.Common.{◌≡◌, ℕ, ◌%◌, true, List, [], refl, arith}
 use Rattle.std.proofs.lemmas.Nat.{mod_below}
-use Rattle.bohm_tree.specs.Txn.{Txn}
+use Rattle.bohm_types.specs.Txn.{Txn}
 use Rattle.bohm_place.specs.declared.placeholder.Placeholder.{Placeholder}
 use Rattle.bohm_place.specs.Shares.{keys_of, found_by}
 use Rattle.bohm_place.proofs.Found.{found_same}

@@ -1,12 +1,13 @@
 -- Placeholders in the hands of workers.
-use Rattle.std.proofs.Common.{◌≡◌, ◌≢◌, ℕ, zero, suc, ◌+◌, ◌<◌, ◌≤◌, ◌&&◌, ◌||◌, Bool, true, false, List, [], ◌∷◌, ◌++◌, length, map, take, get_or, slice_get, slice_set, Option, Some, None, unwrap_or, option_map, refl, sym, ap, ◌∙◌, inl, inr, ◌⊎◌, arith, if◌then◌else◌, All, append-nil}
+use Rattle.std.proofs.Common.{◌≡◌, ◌≢◌, ℕ, zero, suc, ◌+◌, ◌<◌, ◌≤◌, ◌&&◌, ◌||◌, Bool, true, false, List, [], ◌∷◌, ◌++◌, length, map, take, get_or, slice_get}
+use Rattle.std.proofs.Common.{slice_set, Option, Some, None, unwrap_or, option_map, refl, sym, ap, ◌∙◌, inl, inr, ◌⊎◌, arith, if◌then◌else◌, All, append-nil}
 use Rattle.std.specs.Str.{bytes_eq}
 use Rattle.std.specs.List.{AllByRecursion}
 use Rattle.std.proofs.lemmas.Bool.{cases_eq}
 use Rattle.std.proofs.lemmas.List.{take_more, append_assoc, map_more}
 use Rattle.std.proofs.lemmas.Option.{same_Some}
 use Rattle.std.proofs.lemmas.List.Elements.{All-from_recursion, All-map, All-head, All-tail}
-use Rattle.bohm_tree.specs.Keys.{is_among}
+use Rattle.bohm_types.specs.Keys.{is_among}
 use Rattle.bohm_txn.proofs.ForCallers.{none_before, same_key}
 use Rattle.bohm_place.specs.declared.placeholder.Placeholder.{Placeholder}
 use Rattle.bohm_place.specs.Chains.{Keyed, placeholders, placeholders_in, chain, begins, kept, AreEmpty, AreKept}
@@ -15,9 +16,11 @@ use Rattle.bohm_place.proofs.Lists.{set_same, set_other}
 use Rattle.bohm_place.proofs.Distinct.{apart-AreDistinct}
 
 module _ (part : List ℕ → ℕ) where
-  placed_by : (qs : List Keyed) (old new : Keyed) (key k : List ℕ) (n w : ℕ) (next : Placeholder) → part key < length qs → slice_get qs (part key) ≡ Some old → keys_of part n w key ≡ true → (b : Bool) → bytes_eq key k ≡ b
+  placed_by : (qs : List Keyed) (old new : Keyed) (key k : List ℕ) (n w : ℕ) (next : Placeholder) → part key < length qs → slice_get qs (part key) ≡ Some old
+      → keys_of part n w key ≡ true → (b : Bool) → bytes_eq key k ≡ b
       → placeholders new k ≡ (if b then placeholders old k ++ next ∷ [] else placeholders old k) → (part k ≡ part key) ⊎ (part k ≢ part key)
-      → placeholders_in part (slice_set qs (part key) new) k ≡ (if (b && keys_of part n w k) then placeholders_in part qs k ++ next ∷ [] else placeholders_in part qs k)
+      → placeholders_in part (slice_set qs (part key) new) k
+      ≡ (if (b && keys_of part n w k) then placeholders_in part qs k ++ next ∷ [] else placeholders_in part qs k)
   placed_by qs old new key k n w next inside at mine true e is (inl s) =
       let g : slice_get (slice_set qs (part key) new) (part k) ≡ Some new = rw s (set_same qs (part key) new inside) in
       let o : slice_get qs (part k) ≡ Some old = rw s at in
@@ -30,12 +33,16 @@ module _ (part : List ℕ → ℕ) where
       rw (g, o) is
   placed_by qs old new key k n w next inside at mine false e is (inr s) = rw (set_other qs (part key) (part k) new s) refl
 
-  pub placed : (qs : List Keyed) (old new : Keyed) (key k : List ℕ) (n w : ℕ) (next : Placeholder) → part key < length qs → slice_get qs (part key) ≡ Some old → keys_of part n w key ≡ true
+  pub placed : (qs : List Keyed) (old new : Keyed) (key k : List ℕ) (n w : ℕ) (next : Placeholder) → part key < length qs → slice_get qs (part key) ≡ Some old
+      → keys_of part n w key ≡ true
       → placeholders new k ≡ (if bytes_eq key k then placeholders old k ++ next ∷ [] else placeholders old k)
-      → placeholders_in part (slice_set qs (part key) new) k ≡ (if (bytes_eq key k && keys_of part n w k) then placeholders_in part qs k ++ next ∷ [] else placeholders_in part qs k)
-  placed qs old new key k n w next inside at mine is = placed_by qs old new key k n w next inside at mine (bytes_eq key k) refl is (cases_eq (part k) (part key))
+      → placeholders_in part (slice_set qs (part key) new) k
+      ≡ (if (bytes_eq key k && keys_of part n w k) then placeholders_in part qs k ++ next ∷ [] else placeholders_in part qs k)
+  placed qs old new key k n w next inside at mine is =
+      placed_by qs old new key k n w next inside at mine (bytes_eq key k) refl is (cases_eq (part k) (part key))
 
-  foreign_by : (qs : List Keyed) (old new : Keyed) (key k : List ℕ) (next : Placeholder) (i : ℕ) → part key < length qs → slice_get qs (part key) ≡ Some old → (b : Bool) → bytes_eq key k ≡ b
+  foreign_by : (qs : List Keyed) (old new : Keyed) (key k : List ℕ) (next : Placeholder) (i : ℕ) → part key < length qs → slice_get qs (part key) ≡ Some old
+      → (b : Bool) → bytes_eq key k ≡ b
       → placeholders new k ≡ (if b then placeholders old k ++ next ∷ [] else placeholders old k) → part k ≢ i → (i ≡ part key) ⊎ (i ≢ part key)
       → placeholders_in (λ _. i) (slice_set qs (part key) new) k ≡ placeholders_in (λ _. i) qs k
   foreign_by qs old new key k next i inside at true e is apart (inl s) = absurd (apart (ap part (sym (same_key key k e)) ∙ sym s))
@@ -51,7 +58,8 @@ module _ (part : List ℕ → ℕ) where
       → placeholders_in (λ _. i) (slice_set qs (part key) new) k ≡ placeholders_in (λ _. i) qs k
   foreign qs old new key k next i inside at is apart = foreign_by qs old new key k next i inside at (bytes_eq key k) refl is apart (cases_eq i (part key))
 
-skipped : (u index : ℕ) (w : List ℕ) (ws : List (List ℕ)) (k : List ℕ) (b : Bool) → bytes_eq w k ≡ b → (b || is_among ws k) ≡ false → (is_among ws k ≡ false → placeholders_written u (index + 1) ws k ≡ []) → placeholders_written u index (w ∷ ws) k ≡ []
+skipped : (u index : ℕ) (w : List ℕ) (ws : List (List ℕ)) (k : List ℕ) (b : Bool) → bytes_eq w k ≡ b → (b || is_among ws k) ≡ false
+    → (is_among ws k ≡ false → placeholders_written u (index + 1) ws k ≡ []) → placeholders_written u index (w ∷ ws) k ≡ []
 skipped u index w ws k true e absent more = absurd cc
 skipped u index w ws k false e absent more = rw e (more absent)
 
@@ -59,11 +67,13 @@ written_none : (u index : ℕ) (ws : List (List ℕ)) (k : List ℕ) → is_amon
 written_none u index [] k absent = refl
 written_none u index (w ∷ ws) k absent = skipped u index w ws k (bytes_eq w k) refl absent (written_none u (index + 1) ws k)
 
-pub written_more : (u index : ℕ) (ws : List (List ℕ)) (w k : List ℕ) (at : ℕ) → at ≡ index + length ws → placeholders_written u index (ws ++ w ∷ []) k ≡ placeholders_written u index ws k ++ (if bytes_eq w k then record { begin = u; index = at } ∷ [] else [])
+pub written_more : (u index : ℕ) (ws : List (List ℕ)) (w k : List ℕ) (at : ℕ) → at ≡ index + length ws → placeholders_written u index
+    (ws ++ w ∷ []) k ≡ placeholders_written u index ws k ++ (if bytes_eq w k then record { begin = u; index = at } ∷ [] else [])
 written_more u index [] w k at e = let s : at ≡ index = omega arith in rw s (append-nil _)
 written_more u index (x ∷ ws) w k at e = rw (written_more u (index + 1) ws w k at (omega arith), append_assoc) refl
 
-step_by : (m e : Bool) (base hand new ws : List Placeholder) (next : Placeholder) → hand ≡ (if m then base ++ ws else base) → new ≡ (if (e && m) then hand ++ next ∷ [] else hand) → new ≡ (if m then base ++ (ws ++ (if e then next ∷ [] else [])) else base)
+step_by : (m e : Bool) (base hand new ws : List Placeholder) (next : Placeholder) → hand ≡ (if m then base ++ ws else base)
+    → new ≡ (if (e && m) then hand ++ next ∷ [] else hand) → new ≡ (if m then base ++ (ws ++ (if e then next ∷ [] else [])) else base)
 step_by true true base hand new ws next h n = rw (n, h, append_assoc) refl
 step_by true false base hand new ws next h n = rw (n, h, append-nil ws) refl
 step_by false true base hand new ws next h n = n ∙ h
@@ -75,16 +85,19 @@ pub write_placed : (m : Bool) (base hand new : List Placeholder) (u i : ℕ) (ke
     → new ≡ (if (bytes_eq (get_or keys i d) k && m) then hand ++ record { begin = u; index = i } ∷ [] else hand)
     → new ≡ (if m then base ++ placeholders_written u 0 (take (i + 1) keys) k else base)
 write_placed m base hand new u i keys k d inside len h n =
-    let more : placeholders_written u 0 (take (i + 1) keys) k ≡ placeholders_written u 0 (take i keys) k ++ (if bytes_eq (get_or keys i d) k then record { begin = u; index = i } ∷ [] else [])
+    let more : placeholders_written u 0 (take (i + 1) keys) k ≡ placeholders_written u 0
+    (take i keys) k ++ (if bytes_eq (get_or keys i d) k then record { begin = u; index = i } ∷ [] else [])
     = ap (λ ws. placeholders_written u 0 ws k) (take_more keys i d inside) ∙ written_more u 0 (take i keys) (get_or keys i d) k i (omega arith) in
     rw more (step_by m (bytes_eq (get_or keys i d) k) base hand new (placeholders_written u 0 (take i keys) k) record { begin = u; index = i } h n)
 
 -- the key of the next write has none yet of the transaction
-pub not_yet_written : (u i : ℕ) (keys : List (List ℕ)) (d : List ℕ) → i < length keys → AreDistinct keys → placeholders_written u 0 (take i keys) (get_or keys i d) ≡ []
+pub not_yet_written : (u i : ℕ) (keys : List (List ℕ)) (d : List ℕ) → i < length keys → AreDistinct keys
+    → placeholders_written u 0 (take i keys) (get_or keys i d) ≡ []
 not_yet_written u i keys d inside distinct = written_none u 0 (take i keys) (get_or keys i d) (none_before keys i d inside (apart-AreDistinct keys distinct))
 
 -- and its chain is as it was before the transaction
-pub not_yet_placed : (m : Bool) (base hand : List Placeholder) (u i : ℕ) (keys : List (List ℕ)) (d : List ℕ) → i < length keys → AreDistinct keys → hand ≡ (if m then base ++ placeholders_written u 0 (take i keys) (get_or keys i d) else base) → hand ≡ base
+pub not_yet_placed : (m : Bool) (base hand : List Placeholder) (u i : ℕ) (keys : List (List ℕ)) (d : List ℕ) → i < length keys → AreDistinct keys
+    → hand ≡ (if m then base ++ placeholders_written u 0 (take i keys) (get_or keys i d) else base) → hand ≡ base
 not_yet_placed true base hand u i keys d inside distinct h = h ∙ ap (λ ws. base ++ ws) (not_yet_written u i keys d inside distinct) ∙ append-nil base
 not_yet_placed false base hand u i keys d inside distinct h = h
 
@@ -121,7 +134,8 @@ KeptParts floor None (Some q) = ⊥
 KeptParts floor (Some p) None = ⊥
 KeptParts floor (Some p) (Some q) = (k : List ℕ) → chain q k ≡ kept floor (chain p k)
 
-in_kept : (floor : ℕ) (o r : Option Keyed) (k : List ℕ) → KeptParts floor o r → begins (unwrap_or (option_map (λ p. placeholders p k) r) []) ≡ kept floor (begins (unwrap_or (option_map (λ p. placeholders p k) o) []))
+in_kept : (floor : ℕ) (o r : Option Keyed) (k : List ℕ) → KeptParts floor o r
+    → begins (unwrap_or (option_map (λ p. placeholders p k) r) []) ≡ kept floor (begins (unwrap_or (option_map (λ p. placeholders p k) o) []))
 in_kept floor None None k h = refl
 in_kept floor (Some p) (Some q) k h = h k
 in_kept floor None (Some q) k h = absurd h
@@ -130,7 +144,8 @@ in_kept floor (Some p) None k h = absurd h
 pub AreKept-parts : (floor : ℕ) (parts left : List Keyed) → ((i : ℕ) → KeptParts floor (slice_get parts i) (slice_get left i)) → AreKept floor parts left
 AreKept-parts floor parts left h part k = in_kept floor (slice_get parts (part k)) (slice_get left (part k)) k (h (part k))
 
-pub trimmed_here : (floor : ℕ) (o r : Option Keyed) (p q : Keyed) → o ≡ Some p → r ≡ Some q → ((k : List ℕ) → chain q k ≡ kept floor (chain p k)) → KeptParts floor o r
+pub trimmed_here : (floor : ℕ) (o r : Option Keyed) (p q : Keyed) → o ≡ Some p → r ≡ Some q → ((k : List ℕ) → chain q k ≡ kept floor (chain p k))
+    → KeptParts floor o r
 trimmed_here floor o r p q e f h = rw (e, f) h
 
 pub trimmed_past : (floor : ℕ) (o r : Option Keyed) → o ≡ None → r ≡ None → KeptParts floor o r
@@ -138,5 +153,6 @@ trimmed_past floor o r e f = rw (e, f) tt
 
 -- ---- what the writes of a transaction find
 
-pub found_write : {A : Type 0} (F : A → Placeholder) (before now new : List Placeholder) (v : Placeholder) (keys : List A) (i : ℕ) (key : A) → i < length keys → get_or keys i key ≡ key → now ≡ before ++ map F (take i keys) → new ≡ now ++ v ∷ [] → v ≡ F key → new ≡ before ++ map F (take (i + 1) keys)
+pub found_write : {A : Type 0} (F : A → Placeholder) (before now new : List Placeholder) (v : Placeholder) (keys : List A) (i : ℕ) (key : A) → i < length keys
+    → get_or keys i key ≡ key → now ≡ before ++ map F (take i keys) → new ≡ now ++ v ∷ [] → v ≡ F key → new ≡ before ++ map F (take (i + 1) keys)
 found_write F before now new v keys i key inside at is n f = rw (map_more F keys i key inside, at, n, is, f, append_assoc) refl

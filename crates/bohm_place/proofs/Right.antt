@@ -1,13 +1,14 @@
 -- The newest placeholder that the transactions ahead make of a key is the right source.
-use Rattle.std.proofs.Common.{◌≡◌, ℕ, suc, ◌+◌, ◌<◌, ◌≤◌, ◌==◌, ◌||◌, Bool, true, false, List, [], ◌∷◌, length, take, slice_get, Some, refl, sym, ap, ◌∙◌, subst, inl, inr, ◌⊎◌, ⊎_elim, arith, if◌then◌else◌, nat_lt, add-zero}
+use Rattle.std.proofs.Common.{◌≡◌, ℕ, suc, ◌+◌, ◌<◌, ◌≤◌, ◌==◌, ◌||◌, Bool, true, false, List, [], ◌∷◌, length, take, slice_get}
+use Rattle.std.proofs.Common.{Some, refl, sym, ap, ◌∙◌, subst, inl, inr, ◌⊎◌, ⊎_elim, arith, if◌then◌else◌, nat_lt, add-zero}
 use Rattle.std.specs.List.{AllByRecursion}
 use Rattle.std.specs.Str.{bytes_eq}
 use Rattle.std.proofs.lemmas.Bool.Decides.{nat_tests}
 use Rattle.std.proofs.lemmas.Bool.{cases_lt, false≢true}
 use Rattle.std.proofs.lemmas.Option.{same_Some, slice_get_within}
 use Rattle.std.proofs.lemmas.List.{length-take, length-take-le}
-use Rattle.bohm_tree.specs.Txn.{Txn}
-use Rattle.bohm_tree.specs.Keys.{is_among}
+use Rattle.bohm_types.specs.Txn.{Txn}
+use Rattle.bohm_types.specs.Keys.{is_among}
 use Rattle.bohm_txn.proofs.ForCallers.{same_key, among_at}
 use Rattle.bohm_place.specs.declared.placeholder.Placeholder.{Placeholder}
 use Rattle.bohm_place.specs.declared.access.Source.TheVariants.{Before, Within}
@@ -34,14 +35,17 @@ last_written_by v u index w ws k true e more =
     let own : Placeholder = record { begin = u; index = index } in
     let here : last_or v (placeholders_written u index (w ∷ ws) k) ≡ last_or own (placeholders_written u (index + 1) ws k) = rw e refl in
     ⊎_elim
-    (λ (same, absent). let at : index ≡ index + 0 = omega arith in inr (0, (here ∙ same ∙ ap (λ (i : ℕ). record { begin = u; index = i }) at, ap (λ (x : List ℕ). Some x) (same_key w k e))))
-    (λ (j, (same, at)). let next : (index + 1) + j ≡ index + suc j = omega arith in inr (suc j, (here ∙ same ∙ ap (λ (i : ℕ). record { begin = u; index = i }) next, at)))
+    (λ (same, absent). let at : index ≡ index + 0 = omega arith in
+    inr (0, (here ∙ same ∙ ap (λ (i : ℕ). record { begin = u; index = i }) at, ap (λ (x : List ℕ). Some x) (same_key w k e))))
+    (λ (j, (same, at)). let next : (index + 1) + j ≡ index + suc j = omega arith in
+    inr (suc j, (here ∙ same ∙ ap (λ (i : ℕ). record { begin = u; index = i }) next, at)))
     (more own)
 last_written_by v u index w ws k false e more =
     let here : last_or v (placeholders_written u index (w ∷ ws) k) ≡ last_or v (placeholders_written u (index + 1) ws k) = rw e refl in
     ⊎_elim
     (λ (same, absent). inl (here ∙ same, rw e absent))
-    (λ (j, (same, at)). let next : (index + 1) + j ≡ index + suc j = omega arith in inr (suc j, (here ∙ same ∙ ap (λ (i : ℕ). record { begin = u; index = i }) next, at)))
+    (λ (j, (same, at)). let next : (index + 1) + j ≡ index + suc j = omega arith in
+    inr (suc j, (here ∙ same ∙ ap (λ (i : ℕ). record { begin = u; index = i }) next, at)))
     (more v)
 
 last_written : (v : Placeholder) (u index : ℕ) (ws : List (List ℕ)) (k : List ℕ) → LastWritten v u index ws k (last_or v (placeholders_written u index ws k))
@@ -67,7 +71,8 @@ record IsLast (first : ℕ) (all : List Txn) (k : List ℕ) (n : ℕ) (v : Place
 abbrev LastBelow : ℕ → List Txn → List ℕ → ℕ → Placeholder → Type 0
 LastBelow first all k n v = ((v ≡ none) × NoneFrom all k 0 n) ⊎ IsLast first all k n v
 
-skip : (all : List Txn) (k : List ℕ) (p n : ℕ) (x : Txn) → slice_get all n ≡ Some x → is_among x.writes k ≡ false → NoneFrom all k p n → NoneFrom all k p (n + 1)
+skip : (all : List Txn) (k : List ℕ) (p n : ℕ) (x : Txn) → slice_get all n ≡ Some x → is_among x.writes k ≡ false → NoneFrom all k p n
+    → NoneFrom all k p (n + 1)
 skip all k p n x at absent h m y low high is has = ⊎_elim (λ lt. h m y low lt is has) (λ ge. clash y (same m ge is high) has) (cases_lt m n)
   where
     same : (m : ℕ) → n ≤ m → slice_get all m ≡ Some y → m < n + 1 → x ≡ y
@@ -76,7 +81,8 @@ skip all k p n x at absent h m y low high is has = ⊎_elim (λ lt. h m y low lt
     clash : (y : Txn) → x ≡ y → is_among y.writes k ≡ true → ⊥
     clash y e has = let h = subst (λ (z : Txn). is_among z.writes k ≡ true) (sym e) has in false≢true (sym absent ∙ h)
 
-step_by : (first : ℕ) (all : List Txn) (k : List ℕ) (n : ℕ) (x : Txn) (v r : Placeholder) → slice_get all n ≡ Some x → LastBelow first all k n v → LastWritten v (first + n) 0 x.writes k r → LastBelow first all k (n + 1) r
+step_by : (first : ℕ) (all : List Txn) (k : List ℕ) (n : ℕ) (x : Txn) (v r : Placeholder) → slice_get all n ≡ Some x → LastBelow first all k n v
+    → LastWritten v (first + n) 0 x.writes k r → LastBelow first all k (n + 1) r
 step_by first all k n x v r at (inl (is, empty)) (inl (same, absent)) = inl (same ∙ is, skip all k 0 n x at absent empty)
 step_by first all k n x v r at (inr l) (inl (same, absent)) = inr (record {
   place = l.place;
@@ -99,21 +105,27 @@ step_by first all k n x v r at before (inr (j, (same, is))) =
       none_after = λ m y low high e has. absurd (omega arith);
     })
 
-last_made : (first : ℕ) (all ts : List Txn) (k : List ℕ) (n : ℕ) (v : Placeholder) → ((u : ℕ) (x : Txn) → slice_get ts u ≡ Some x → slice_get all (n + u) ≡ Some x) → LastBelow first all k n v → LastBelow first all k (n + length ts) (last_or v (placeholders_made (first + n) ts k))
+last_made : (first : ℕ) (all ts : List Txn) (k : List ℕ) (n : ℕ) (v : Placeholder)
+    → ((u : ℕ) (x : Txn) → slice_get ts u ≡ Some x → slice_get all (n + u) ≡ Some x) → LastBelow first all k n v
+    → LastBelow first all k (n + length ts) (last_or v (placeholders_made (first + n) ts k))
 last_made first all [] k n v same before = rw add-zero before
 last_made first all (t ∷ ts) k n v same before =
     let at : slice_get all n ≡ Some t = rw add-zero at (same 0 t refl) in
     let next = step_by first all k n t v (last_or v (placeholders_written (first + n) 0 t.writes k)) at before (last_written v (first + n) 0 t.writes k) in
-    let more = last_made first all ts k (n + 1) (last_or v (placeholders_written (first + n) 0 t.writes k)) (λ u x e. let here : (n + 1) + u ≡ n + suc u = omega arith in rw here (same (suc u) x e)) next in
+    let more = last_made first all ts k (n + 1) (last_or v (placeholders_written (first + n) 0 t.writes k))
+    (λ u x e. let here : (n + 1) + u ≡ n + suc u = omega arith in rw here (same (suc u) x e)) next in
     let long : (n + 1) + length ts ≡ n + length (t ∷ ts) = omega arith in
     let begin : first + (n + 1) ≡ (first + n) + 1 = omega arith in
-    let parts : last_or v (placeholders_made (first + n) (t ∷ ts) k) ≡ last_or (last_or v (placeholders_written (first + n) 0 t.writes k)) (placeholders_made ((first + n) + 1) ts k) = last_or-append v (placeholders_written (first + n) 0 t.writes k) (placeholders_made ((first + n) + 1) ts k) in
+    let parts : last_or v (placeholders_made (first + n) (t ∷ ts) k) ≡ last_or (last_or v (placeholders_written (first + n) 0 t.writes k))
+    (placeholders_made ((first + n) + 1) ts k) =
+    last_or-append v (placeholders_written (first + n) 0 t.writes k) (placeholders_made ((first + n) + 1) ts k) in
     rw (parts, ← long, ← begin) more
 
 in_take : {A : Type 0} (xs : List A) (t u : ℕ) (x : A) → slice_get (take t xs) u ≡ Some x → slice_get xs u ≡ Some x
 in_take xs t u x e = sym (get_take t u xs (omega (arith, slice_get_within (take t xs) u x e, length-take t xs))) ∙ e
 
-newest_made : (first : ℕ) (all : List Txn) (k : List ℕ) (i : ℕ) → i ≤ length all → LastBelow first all k i (last_or none (placeholders_made first (take i all) k))
+newest_made : (first : ℕ) (all : List Txn) (k : List ℕ) (i : ℕ) → i ≤ length all
+    → LastBelow first all k i (last_or none (placeholders_made first (take i all) k))
 newest_made first all k i inside =
     let start : LastBelow first all k 0 none = inl (refl, λ m x low high e has. absurd (omega arith)) in
     let r = last_made first all (take i all) k 0 none (λ u x e. let here : 0 + u ≡ u = omega arith in rw here (in_take all i u x e)) start in
@@ -123,7 +135,8 @@ newest_made first all k i inside =
 
 -- ---- the right access
 
-right_by : (first : ℕ) (all : List Txn) (k : List ℕ) (i : ℕ) (v : Placeholder) → 0 < first → LastBelow first all k i v → IsRightAccess first all (first + i) k (access_of v)
+right_by : (first : ℕ) (all : List Txn) (k : List ℕ) (i : ℕ) (v : Placeholder) → 0 < first → LastBelow first all k i v
+    → IsRightAccess first all (first + i) k (access_of v)
 right_by first all k i v above (inl (is, empty)) = rw is (record {
   newest = λ u low w. empty w.there.place w.txn (omega arith) (let t = w.there.timestamp in omega arith) w.there.is_at w.declared;
   write = tt;
@@ -136,14 +149,17 @@ right_by first all k i v above (inr l) =
       newest = record {
         below = omega (arith, l.begin, l.below);
         holds = record { txn = l.txn; there = there; declared = among_at l.txn.writes v.index k l.declared };
-        none_between = λ u low high w. l.none_after w.there.place w.txn (let t = w.there.timestamp in omega (arith, l.begin)) (let t = w.there.timestamp in omega arith) w.there.is_at w.declared;
+        none_between = λ u low high w. l.none_after w.there.place w.txn (let t = w.there.timestamp in omega (arith, l.begin))
+            (let t = w.there.timestamp in omega arith) w.there.is_at w.declared;
       };
       write = record { txn = l.txn; there = there; declared = l.declared };
     })
 
 -- what is found ahead of place i is the right source of the transaction there
-pub right_access : (first : ℕ) (all : List Txn) (k : List ℕ) (i : ℕ) → 0 < first → i ≤ length all → IsRightAccess first all (first + i) k (access_of (last_or none (placeholders_made first (take i all) k)))
-right_access first all k i above inside = right_by first all k i (last_or none (placeholders_made first (take i all) k)) above (newest_made first all k i inside)
+pub right_access : (first : ℕ) (all : List Txn) (k : List ℕ) (i : ℕ) → 0 < first → i ≤ length all
+    → IsRightAccess first all (first + i) k (access_of (last_or none (placeholders_made first (take i all) k)))
+right_access first all k i above inside = right_by first all k i (last_or none (placeholders_made first (take i all) k)) above
+    (newest_made first all k i inside)
 
 -- ---- chains before the batch don't matter
 
@@ -163,11 +179,16 @@ last_above first v (w ∷ ws) le h = last_above first w ws h.0 h.1
 
 within_by : (first : ℕ) (v : Placeholder) (vs : List Placeholder) → v.begin < first → Above first vs → within first (last_or v vs) ≡ last_or none vs
 within_by first v [] lt h = let e : nat_lt v.begin first ≡ true = grind (arith, nat_tests) in rw e refl
-within_by first v (w ∷ ws) lt h = let le = last_above first w ws h.0 h.1 in let e : nat_lt (last_or w ws).begin first ≡ false = grind (arith, nat_tests) in rw e refl
+within_by first v (w ∷ ws) lt h =
+    let le = last_above first w ws h.0 h.1 in
+    let e : nat_lt (last_or w ws).begin first ≡ false = grind (arith, nat_tests) in
+    rw e refl
 
-pub newest_ahead-base : (first : ℕ) (base : List ℕ → List Placeholder) (ahead : List Txn) (k : List ℕ) → 0 < first → Below first (base k) → newest_ahead first base ahead k ≡ last_or none (placeholders_made first ahead k)
+pub newest_ahead-base : (first : ℕ) (base : List ℕ → List Placeholder) (ahead : List Txn) (k : List ℕ) → 0 < first → Below first (base k)
+    → newest_ahead first base ahead k ≡ last_or none (placeholders_made first ahead k)
 newest_ahead-base first base ahead k above low =
-    ap (within first) (last_or-append none (base k) (placeholders_made first ahead k)) ∙ within_by first (last_or none (base k)) (placeholders_made first ahead k) (last_below first none (base k) above low) (made_above first ahead k)
+    ap (within first) (last_or-append none (base k) (placeholders_made first ahead k))
+    ∙ within_by first (last_or none (base k)) (placeholders_made first ahead k) (last_below first none (base k) above low) (made_above first ahead k)
 
 -- ---- no placeholder
 
@@ -183,8 +204,10 @@ index_by first [] above h e = refl
 index_by first (v ∷ vs) above h e = absurd (omega (arith, last_above first v vs h.0 h.1, e))
 
 -- where the transactions ahead make no placeholder of the key, its access has the index 0
-pub index_before : (first : ℕ) (ahead : List Txn) (k : List ℕ) → 0 < first → (access_of (last_or none (placeholders_made first ahead k))).source ≡ Before → (last_or none (placeholders_made first ahead k)).index ≡ 0
-index_before first ahead k above before = index_by first (placeholders_made first ahead k) above (made_above first ahead k) (begin_before (last_or none (placeholders_made first ahead k)) before)
+pub index_before : (first : ℕ) (ahead : List Txn) (k : List ℕ) → 0 < first → (access_of (last_or none (placeholders_made first ahead k))).source ≡ Before
+    → (last_or none (placeholders_made first ahead k)).index ≡ 0
+index_before first ahead k above before = index_by first (placeholders_made first ahead k) above (made_above first ahead k)
+    (begin_before (last_or none (placeholders_made first ahead k)) before)
 
 -- ---- the begins that a batch adds to a chain
 
@@ -197,10 +220,13 @@ begins-written_by u index w ws k true e absent more =
     rw (e, rest) refl
 begins-written_by u index w ws k false e absent more = rw e more
 
-begins-written : (u index : ℕ) (ws : List (List ℕ)) (k : List ℕ) → AreDistinct ws → begins (placeholders_written u index ws k) ≡ (if is_among ws k then u ∷ [] else [])
+begins-written : (u index : ℕ) (ws : List (List ℕ)) (k : List ℕ) → AreDistinct ws
+    → begins (placeholders_written u index ws k) ≡ (if is_among ws k then u ∷ [] else [])
 begins-written u index [] k d = refl
 begins-written u index (w ∷ ws) k d = begins-written_by u index w ws k (bytes_eq w k) refl d.0 (begins-written u (index + 1) ws k d.1)
 
-pub begins-made : (u : ℕ) (xs : List Txn) (k : List ℕ) → ((i : ℕ) (x : Txn) → slice_get xs i ≡ Some x → AreDistinct x.writes) → begins (placeholders_made u xs k) ≡ writers u xs k
+pub begins-made : (u : ℕ) (xs : List Txn) (k : List ℕ) → ((i : ℕ) (x : Txn) → slice_get xs i ≡ Some x → AreDistinct x.writes)
+    → begins (placeholders_made u xs k) ≡ writers u xs k
 begins-made u [] k d = refl
-begins-made u (x ∷ xs) k d = begins-append (placeholders_written u 0 x.writes k) (placeholders_made (u + 1) xs k) ∙ rw (begins-written u 0 x.writes k (d 0 x refl), begins-made (u + 1) xs k (λ i. d (suc i))) refl
+begins-made u (x ∷ xs) k d = begins-append (placeholders_written u 0 x.writes k) (placeholders_made (u + 1) xs k)
+    ∙ rw (begins-written u 0 x.writes k (d 0 x refl), begins-made (u + 1) xs k (λ i. d (suc i))) refl

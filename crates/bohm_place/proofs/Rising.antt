@@ -1,6 +1,7 @@
 -- Rising begins, and the greatest of them below a timestamp.
 use Rattle.std.specs.Str.{bytes_eq}
-use Rattle.std.proofs.Common.{◌≡◌, ℕ, ◌+◌, ◌<◌, ◌≤◌, Bool, ◌&&◌, if◌then◌else◌, true, false, List, [], ◌∷◌, ◌++◌, length, filter, get_or, take, drop, refl, sym, ap, ◌∙◌, arith, nat_lt, All}
+use Rattle.std.proofs.Common.{◌≡◌, ℕ, ◌+◌, ◌<◌, ◌≤◌, Bool, ◌&&◌, if◌then◌else◌, true, false, List, [], ◌∷◌}
+use Rattle.std.proofs.Common.{◌++◌, length, filter, get_or, take, drop, refl, sym, ap, ◌∙◌, arith, nat_lt, All}
 use Rattle.std.specs.List.{AllByRecursion}
 use Rattle.std.proofs.lemmas.Bool.Decides.{nat_tests}
 use Rattle.std.proofs.lemmas.List.{append_assoc, drop_more, map-append, take-append-drop}
@@ -31,7 +32,8 @@ rises_below : (n : ℕ) (xs : List ℕ) (b : ℕ) (ys : List ℕ) → RisesFrom 
 rises_below n [] b ys h = h.0
 rises_below n (x ∷ xs) b ys h = let lt = rises_below x xs b ys h.1 in omega (arith, h.0)
 
-pub greatest_below-found : (n ts : ℕ) (xs : List ℕ) (b : ℕ) (ys : List ℕ) → RisesFrom n (xs ++ b ∷ ys) → b < ts → From ts ys → greatest_below ts (xs ++ b ∷ ys) ≡ b
+pub greatest_below-found : (n ts : ℕ) (xs : List ℕ) (b : ℕ) (ys : List ℕ) → RisesFrom n (xs ++ b ∷ ys) → b < ts → From ts ys
+    → greatest_below ts (xs ++ b ∷ ys) ≡ b
 greatest_below-found n ts [] b ys h lt above =
     let e : nat_lt b ts ≡ true = grind (arith, nat_tests) in
     let g = greatest_below-none ts ys above in
@@ -43,29 +45,39 @@ greatest_below-found n ts (x ∷ xs) b ys h lt above =
     rw (e, g) (omega arith)
 
 -- the same of a chain's placeholders, at a place behind which all begin at or above ts
-pub greatest_below-at : (ts : ℕ) (vs : List Placeholder) (w : Placeholder) (i : ℕ) (d : Placeholder) → i < length vs → RisesFrom 0 (begins (vs ++ w ∷ [])) → (get_or vs i d).begin < ts → From ts (begins (drop (i + 1) vs)) → ts ≤ w.begin
+pub greatest_below-at : (ts : ℕ) (vs : List Placeholder) (w : Placeholder) (i : ℕ) (d : Placeholder) → i < length vs → RisesFrom 0 (begins (vs ++ w ∷ []))
+    → (get_or vs i d).begin < ts → From ts (begins (drop (i + 1) vs)) → ts ≤ w.begin
     → greatest_below ts (begins (vs ++ w ∷ [])) ≡ (get_or vs i d).begin
 greatest_below-at ts vs w i d inside rises lt above last =
     let front = begins (take i vs) in
     let b = (get_or vs i d).begin in
     let back = begins (drop (i + 1) vs) in
-    let parts : begins vs ≡ front ++ (b ∷ back) = ap begins (sym (take-append-drop i vs) ∙ ap (λ us. take i vs ++ us) (drop_more vs i d inside)) ∙ begins-append (take i vs) (get_or vs i d ∷ drop (i + 1) vs) in
-    let whole : begins (vs ++ w ∷ []) ≡ front ++ (b ∷ (back ++ w.begin ∷ [])) = begins-append vs (w ∷ []) ∙ ap (λ xs. xs ++ w.begin ∷ []) parts ∙ append_assoc front (b ∷ back) (w.begin ∷ []) in
+    let parts : begins vs ≡ front ++ (b ∷ back) = ap begins (sym (take-append-drop i vs) ∙ ap (λ us. take i vs ++ us) (drop_more vs i d inside))
+    ∙ begins-append (take i vs) (get_or vs i d ∷ drop (i + 1) vs) in
+    let whole : begins (vs ++ w ∷ []) ≡ front ++ (b ∷ (back ++ w.begin ∷ [])) =
+    begins-append vs (w ∷ []) ∙ ap (λ xs. xs ++ w.begin ∷ []) parts ∙ append_assoc front (b ∷ back) (w.begin ∷ []) in
     rw whole (greatest_below-found 0 ts front b (back ++ w.begin ∷ []) (rw whole at rises) lt (each_append (λ b. ts ≤ b) back (w.begin ∷ []) above (last, tt)))
 
 -- the same of a chain of which none is below ts
-pub greatest_below-past : (ts : ℕ) (vs : List Placeholder) (w : Placeholder) → From ts (begins vs) → ts ≤ w.begin → greatest_below ts (begins (vs ++ w ∷ [])) ≡ 0
-greatest_below-past ts vs w above last = rw (begins-append vs (w ∷ [])) (greatest_below-none ts (begins vs ++ w.begin ∷ []) (each_append (λ b. ts ≤ b) (begins vs) (w.begin ∷ []) above (last, tt)))
+pub greatest_below-past : (ts : ℕ) (vs : List Placeholder) (w : Placeholder) → From ts (begins vs) → ts ≤ w.begin
+    → greatest_below ts (begins (vs ++ w ∷ [])) ≡ 0
+greatest_below-past ts vs w above last = rw (begins-append vs (w ∷ []))
+    (greatest_below-none ts (begins vs ++ w.begin ∷ []) (each_append (λ b. ts ≤ b) (begins vs) (w.begin ∷ []) above (last, tt)))
 
 -- the same of the newest one
-pub greatest_below-newest : (ts : ℕ) (vs : List Placeholder) (w : Placeholder) → RisesFrom 0 (begins (vs ++ w ∷ [])) → w.begin < ts → greatest_below ts (begins (vs ++ w ∷ [])) ≡ w.begin
-greatest_below-newest ts vs w rises lt = rw (begins-append vs (w ∷ [])) (greatest_below-found 0 ts (begins vs) w.begin [] (rw (begins-append vs (w ∷ [])) at rises) lt tt)
+pub greatest_below-newest : (ts : ℕ) (vs : List Placeholder) (w : Placeholder) → RisesFrom 0 (begins (vs ++ w ∷ [])) → w.begin < ts
+    → greatest_below ts (begins (vs ++ w ∷ [])) ≡ w.begin
+greatest_below-newest ts vs w rises lt = rw (begins-append vs (w ∷ []))
+    (greatest_below-found 0 ts (begins vs) w.begin [] (rw (begins-append vs (w ∷ [])) at rises) lt tt)
 
-rises_appended_by : (ok e : Bool) (old new : List Placeholder) (next : Placeholder) → RisesFrom 0 (begins old) → new ≡ (if (ok && e) then old ++ next ∷ [] else old) → (e ≡ true → All (λ b. b < next.begin) (begins old)) → 0 < next.begin → RisesFrom 0 (begins new)
+rises_appended_by : (ok e : Bool) (old new : List Placeholder) (next : Placeholder) → RisesFrom 0 (begins old)
+    → new ≡ (if (ok && e) then old ++ next ∷ [] else old) → (e ≡ true → All (λ b. b < next.begin) (begins old)) → 0 < next.begin → RisesFrom 0 (begins new)
 rises_appended_by true true old new next h is above lt = rw (is, begins-append old (next ∷ [])) (RisesFrom-push 0 (begins old) next.begin h (above refl) lt)
 rises_appended_by true false old new next h is above lt = rw is h
 rises_appended_by false e old new next h is above lt = rw is h
 
 -- a chain to which a placeholder is appended where the key is its own
-pub rises_appended : (ok : Bool) (key k : List ℕ) (old new : List Placeholder) (next : Placeholder) → RisesFrom 0 (begins old) → new ≡ (if (ok && bytes_eq key k) then old ++ next ∷ [] else old) → (bytes_eq key k ≡ true → All (λ b. b < next.begin) (begins old)) → 0 < next.begin → RisesFrom 0 (begins new)
+pub rises_appended : (ok : Bool) (key k : List ℕ) (old new : List Placeholder) (next : Placeholder) → RisesFrom 0 (begins old)
+    → new ≡ (if (ok && bytes_eq key k) then old ++ next ∷ [] else old) → (bytes_eq key k ≡ true → All (λ b. b < next.begin) (begins old)) → 0 < next.begin
+    → RisesFrom 0 (begins new)
 rises_appended ok key k old new next h is above lt = rises_appended_by ok (bytes_eq key k) old new next h is above lt

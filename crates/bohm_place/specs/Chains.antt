@@ -1,14 +1,15 @@
 -- Chains of begins by key.
-use Rattle.std.specs.Prelude.{◌≡◌, ℕ, ◌<◌, ◌≤◌, ◌⊎◌, All, Contains, List, [], ◌∷◌, ◌++◌, length, map, filter, max, nat_lt, nat_le, unwrap_or, Option, Some, None, slice_get, if◌then◌else◌}
+use Rattle.std.specs.Prelude.{◌≡◌, ℕ, ◌<◌, ◌≤◌, ◌⊎◌, All, Contains, List, [], ◌∷◌, ◌++◌, length, map, filter}
+use Rattle.std.specs.Prelude.{max, nat_lt, nat_le, unwrap_or, Option, Some, None, slice_get, if◌then◌else◌}
 use Rattle.std.specs.Option.{option_map}
 use Rattle.std.specs.Str.{bytes_eq}
 use Rattle.std.specs.Map.{lookup}
 use Rattle.std.specs.HashMap.{HashMap, get}
-use Rattle.bohm_tree.specs.Keys.{IsAmong}
+use Rattle.bohm_types.specs.Keys.{IsAmong}
 use Rattle.bohm_place.specs.declared.placeholder.Placeholder.{Placeholder}
 use Rattle.bohm_place.specs.declared.chain.Chain.{Chain}
 
--- what a partition's chains are seen as: the placeholders of each key, oldest first
+-- the contract view of a partition's chains: the placeholders of each key, oldest first
 abbrev pub Keyed : Type 0
 Keyed = List (List ℕ × List Placeholder)
 
@@ -22,7 +23,7 @@ begins vs = map (λ v. v.begin) vs
 abbrev pub chain : Keyed → List ℕ → List ℕ
 chain p k = begins (placeholders p k)
 
--- the same where each part of the keys has its own chains
+-- the same if each part of the keys has its own chains
 abbrev pub placeholders_in : (List ℕ → ℕ) → List Keyed → List ℕ → List Placeholder
 placeholders_in part shards k = unwrap_or (option_map (λ p. placeholders p k) (slice_get shards (part k))) []
 
@@ -57,17 +58,17 @@ kept floor (b ∷ c ∷ cs) = if nat_le c floor then kept floor (c ∷ cs) else 
 abbrev pub IsKept : ℕ → List ℕ → ℕ → Type 0
 IsKept floor bs b = Contains bs b × ((floor < b) ⊎ ((b ≤ floor) × All (λ c. c ≤ floor → c ≤ b) bs))
 
--- each part has what is kept of its chains
+-- each part has the kept begins of its chains
 abbrev pub AreKept : ℕ → List Keyed → List Keyed → Type 0
 AreKept floor parts left = (part : List ℕ → ℕ) (k : List ℕ) → chain_in part left k ≡ kept floor (chain_in part parts k)
 
--- the same of placeholders
+-- the same for placeholders
 abbrev pub kept_items : ℕ → List Placeholder → List Placeholder
 kept_items floor [] = []
 kept_items floor (v ∷ []) = v ∷ []
 kept_items floor (v ∷ w ∷ ws) = if nat_le w.begin floor then kept_items floor (w ∷ ws) else (v ∷ w ∷ ws)
 
--- stands for no placeholder
+-- represents no placeholder
 abbrev pub none : Placeholder
 none = record { begin = 0; index = 0 }
 
@@ -81,7 +82,7 @@ second [] = None
 second (v ∷ []) = None
 second (v ∷ w ∷ ws) = Some w.begin
 
--- how a chain lies in memory
+-- the placeholders of a chain in memory
 abbrev pub items : Chain → List Placeholder
 items c = c.older.items ++ c.newest ∷ []
 
@@ -95,7 +96,7 @@ items_at m k = items_of (get bytes_eq m k)
 abbrev pub table : List (List ℕ × Chain) → Keyed
 table es = map (λ e. (e.0, items e.1)) es
 
--- the chains rise, and each of more than one begin is listed
+-- the chains ascend, and each of more than one begin is listed
 pub record IsPlaces {S : Type 0} (chains : HashMap (List ℕ) Chain S) (long : List (List ℕ)) : Type 0 where
   pub rises : (k : List ℕ) → RisesFrom 0 (begins (items_at chains k))
   pub listed : (k : List ℕ) → 1 < length (items_at chains k) → IsAmong long k

@@ -6,3 +6,5 @@ pub mod Shares
 pub mod Planners
 pub mod Numbered
 pub mod Gathering
+pub mod Cuttings
+pub mod CutLogs

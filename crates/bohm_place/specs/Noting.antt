@@ -1,9 +1,9 @@
--- The keys of a batch in its plan, and the places of keys in a base.
+-- The keys of a batch in its plan, and the indices of keys in a base.
 use Rattle.std.specs.Prelude.{◌≡◌, ℕ, ◌<◌, ◌⊎◌, List, length, Bool, ◌||◌, Some, slice_get}
 use Rattle.std.specs.List.{list_any, IsDistinct}
 use Rattle.std.specs.Str.{bytes_eq}
-use Rattle.bohm_tree.specs.Txn.{Txn}
-use Rattle.bohm_tree.specs.Keys.{is_among}
+use Rattle.bohm_types.specs.Txn.{Txn}
+use Rattle.bohm_types.specs.Keys.{is_among}
 use Rattle.bohm_place.specs.declared.access.Access.{Access}
 use Rattle.bohm_place.specs.declared.access.Source.TheVariants.{Before}
 use Rattle.bohm_place.specs.declared.declared_set.DeclaredSet.{DeclaredSet}
@@ -12,33 +12,35 @@ use Rattle.bohm_place.specs.Plans.{Planned, keys_in, planned_in, HasSourcesOf, I
 abbrev pub declares_key : List ℕ → Txn → Bool
 declares_key k t = is_among t.reads k || is_among t.writes k
 
--- no key stands there twice, and a key stands there exactly where a transaction declares it
+-- the keys are distinct, and are just those that a transaction declares
 pub record AreKeysOf (txns : List Txn) (keys : List (List ℕ)) : Type 0 where
   pub apart : IsDistinct bytes_eq keys
   pub each : (k : List ℕ) → is_among keys k ≡ list_any (declares_key k) txns
 
--- ---- places in a base, of keys or of their numbers
+-- ---- indices in a base, of keys or of their numbers
 
--- the index is the place of key n in the base
+-- the access's index is that of key n in the base
 abbrev pub HasPlace : {K : Type 0} → List K → List K → ℕ → Access → Type 0
 HasPlace {K} base keys n a = (k : K) → slice_get keys n ≡ Some k → slice_get base a.index ≡ Some k
 
--- each access whose source is `Before` has the place of its key in the base
+-- each access whose source is `Before` has the index of its key in the base
 abbrev pub AreNoted : List Txn → Planned → List (List ℕ) → Type 0
-AreNoted txns p base = (set : DeclaredSet) (i n : ℕ) (x : Txn) (a : Access) → slice_get txns i ≡ Some x → slice_get (planned_in set p i) n ≡ Some a → a.source ≡ Before → HasPlace base (keys_in set x) n a
+AreNoted txns p base = (set : DeclaredSet) (i n : ℕ) (x : Txn) (a : Access) → slice_get txns i ≡ Some x → slice_get (planned_in set p i) n ≡ Some a
+    → a.source ≡ Before → HasPlace base (keys_in set x) n a
 
--- the plan has the keys of the batch, and each such access the place of its key among these
+-- the plan has the keys of the batch, and each such access the index of its key among these
 pub record HasKeysOf (txns : List Txn) (p : Planned) : Type 0 where
   pub keys : AreKeysOf txns p.keys
   pub noted : AreNoted txns p p.keys
 
--- where the plan has keys, they are those of the batch
+-- if the plan has keys, they are those of the batch
 abbrev pub MayHaveKeysOf : List Txn → Planned → Type 0
 MayHaveKeysOf txns p = 0 < length p.keys → HasKeysOf txns p
 
--- the second plan is the first with the places of the first `count` keys of the set in row i
+-- the second plan is the first with the indices of the first `count` keys of the set in row i
 pub record IsSetNoted {K : Type 0} (p q : Planned) (set : DeclaredSet) (i : ℕ) (keys base : List K) (count : ℕ) : Type 0 where
   pub sources : HasSourcesOf p q
   pub right : (txns : List Txn) → IsRightPlan txns p → IsRightPlan txns q
-  pub each : (other : DeclaredSet) (m n : ℕ) (a : Access) → slice_get (planned_in other q m) n ≡ Some a → (slice_get (planned_in other p m) n ≡ Some a) ⊎ ((other ≡ set) × (m ≡ i) × HasPlace base keys n a)
+  pub each : (other : DeclaredSet) (m n : ℕ) (a : Access) → slice_get (planned_in other q m) n ≡ Some a
+      → (slice_get (planned_in other p m) n ≡ Some a) ⊎ ((other ≡ set) × (m ≡ i) × HasPlace base keys n a)
   pub done : (n : ℕ) (a : Access) → n < count → slice_get (planned_in set q i) n ≡ Some a → a.source ≡ Before → HasPlace base keys n a

@@ -15,28 +15,28 @@ mine part_of own = keys_of (part_of own.partition.now) own.worker.count own.work
 
 -- ---- by keys
 
--- what the worker finds of the key in these parts
+-- what the worker finds for the key in these parts
 abbrev pub found_in : {P : Type 0} → (P → List ℕ → ℕ) → KeyPlanner P → List Keyed → List ℕ → Placeholder
 found_in part_of p parts = found_of (mine part_of p.keys) p.batch.first (placeholders_in (part_of p.keys.partition.now) parts)
 
--- where the key is the worker's, its chain lies below a timestamp
+-- if the key is the worker's, its chain is below a timestamp
 abbrev pub IsBelow : {P : Type 0} → (P → List ℕ → ℕ) → KeyPlanner P → ℕ → List Keyed → List ℕ → Type 0
 IsBelow part_of p ts parts k = mine part_of p.keys k ≡ true → All (λ b. b < ts) (chain_in (part_of p.keys.partition.now) parts k)
 
--- of two lists of parts, the second has the chains of the first, and behind each of the worker's the placeholders that f says of its key
+-- the second list of parts has the chains of the first, and appended to each of the worker's the placeholders that f gives for its key
 abbrev pub ArePlaced : {P : Type 0} → (P → List ℕ → ℕ) → KeyPlanner P → (List ℕ → List Placeholder) → List Keyed → List Keyed → Type 0
 ArePlaced part_of p = ArePlacedFor (part_of p.keys.partition.now) (mine part_of p.keys)
 
--- the same of one placeholder, of this key
+-- the same for one placeholder, of this key
 abbrev pub IsPlaced : {P : Type 0} → (P → List ℕ → ℕ) → KeyPlanner P → List ℕ → Placeholder → List Keyed → List Keyed → Type 0
 IsPlaced part_of p key next = ArePlacedFor (part_of p.keys.partition.now) (λ k. bytes_eq key k && mine part_of p.keys k) (λ _. next ∷ [])
 
--- ---- by the numbers of keys
+-- ---- by key numbers
 
--- what the worker finds of the key with this number in this array
+-- what the worker finds for the key with this number in this array
 abbrev pub found_of_number : {P : Type 0} → (P → List ℕ → ℕ) → NumberPlanner P → List Placeholder → ℕ → Placeholder
 found_of_number part_of p = found_at (mine part_of p.keys) p.batch.first p.declared.names
 
--- the second array has, of the worker's keys, the placeholders that ts makes by writing the keys with these numbers
+-- for the worker's keys, the second array has the placeholders of ts, which writes the keys with these numbers
 abbrev pub ArePlacedByNumber : {P : Type 0} → (P → List ℕ → ℕ) → NumberPlanner P → ℕ → List ℕ → List Placeholder → List Placeholder → Type 0
 ArePlacedByNumber part_of p ts = AreNumbersPlaced (mine part_of p.keys) p.batch.first ts p.declared.names

@@ -1,7 +1,8 @@
 -- The right plan of a batch.
-use Rattle.std.specs.Prelude.{◌≡◌, ℕ, ◌+◌, ◌<◌, ◌≤◌, ◌^◌, ◌⊎◌, Bool, List, [], ◌∷◌, length, map, take, drop, All, Option, Some, slice_get, unwrap_or, ◌==◌, if◌then◌else◌}
+use Rattle.std.specs.Prelude.{◌≡◌, ℕ, ◌+◌, ◌<◌, ◌≤◌, ◌^◌, ◌⊎◌, Bool, List, [], ◌∷◌, length, map, take}
+use Rattle.std.specs.Prelude.{drop, All, Option, Some, slice_get, unwrap_or, ◌==◌, if◌then◌else◌}
 use Rattle.std.specs.Option.{option_map}
-use Rattle.bohm_tree.specs.Txn.{Txn}
+use Rattle.bohm_types.specs.Txn.{Txn}
 use Rattle.bohm_txn.specs.Faulty.{IsWellFormedTxn}
 use Rattle.bohm_txn.specs.Sure.{is_sure}
 use Rattle.bohm_place.specs.declared.access.Access.{Access}
@@ -19,13 +20,13 @@ pub record Accesses : Type 0 where
   pub writes : List Access
   pub sure : Bool
 
--- what a plan is seen as: the first timestamp, the accesses of each transaction, and the keys that were gathered
+-- the contract view of a plan: the first timestamp, the accesses of each transaction, and the gathered keys
 pub record Planned : Type 0 where
   pub first : ℕ
   pub rows : List Accesses
   pub keys : List (List ℕ)
 
--- of the transaction at this place of the batch, counted from 0
+-- the accesses of the batch's transaction at this index
 abbrev pub reads_of : Planned → ℕ → List Access
 reads_of p i = unwrap_or (option_map (λ row. row.reads) (slice_get p.rows i)) []
 
@@ -35,7 +36,7 @@ writes_of p i = unwrap_or (option_map (λ row. row.writes) (slice_get p.rows i))
 abbrev pub sure_at : Planned → ℕ → Option Bool
 sure_at p i = option_map (λ row. row.sure) (slice_get p.rows i)
 
--- of one of the two sets that a transaction declares, the keys and their accesses
+-- the keys and accesses of one of a transaction's two declared sets
 abbrev pub keys_in : DeclaredSet → Txn → List (List ℕ)
 keys_in Reads x = x.reads
 keys_in Writes x = x.writes
@@ -62,40 +63,41 @@ pub record AreRightAccesses (first : ℕ) (txns : List Txn) (t : ℕ) (keys : Li
   pub paired : length keys ≡ length accesses
   pub each : (j : ℕ) (k : List ℕ) (a : Access) → slice_get keys j ≡ Some k → slice_get accesses j ≡ Some a → IsRightAccess first txns t k a
 
--- the source of each access is the newest writer in the batch below the accessing transaction, and it is known which transactions are sure
+-- the source of each access is the newest writer in the batch before the accessing transaction, and the sure transactions are marked
 pub record IsRightPlan (txns : List Txn) (p : Planned) : Type 0 where
   pub paired : length p.rows ≡ length txns
   pub reads : (i : ℕ) (txn : Txn) → slice_get txns i ≡ Some txn → AreRightAccesses p.first txns (p.first + i) txn.reads (reads_of p i)
   pub writes : (i : ℕ) (txn : Txn) → slice_get txns i ≡ Some txn → AreRightAccesses p.first txns (p.first + i) txn.writes (writes_of p i)
   pub sure : (i : ℕ) (txn : Txn) → slice_get txns i ≡ Some txn → sure_at p i ≡ Some (is_sure txn)
 
--- ---- places in a base
+-- ---- indices in a base
 
--- no place is noted: the index of each access whose source is `Before` is 0
+-- no index in a base is noted: that of each access whose source is `Before` is 0
 abbrev pub HasNoPlaces : Planned → Type 0
 HasNoPlaces p = (set : DeclaredSet) (i j : ℕ) (a : Access) → slice_get (planned_in set p i) j ≡ Some a → a.source ≡ Before → a.index ≡ 0
 
--- the second plan has the sources of the first, and knows the same transactions as sure
+-- the second plan has the sources and the sure transactions of the first
 pub record HasSourcesOf (p q : Planned) : Type 0 where
   pub first : q.first ≡ p.first
   pub paired : length q.rows ≡ length p.rows
   pub sources : (set : DeclaredSet) (i j : ℕ) → source_in set q i j ≡ source_in set p i j
   pub sure : (i : ℕ) → sure_at q i ≡ sure_at p i
 
--- this is the access j of the set in row i, and has the place noted
+-- this is access j of the set in row i, with the index noted
 pub record IsNote (set other : DeclaredSet) (i m j n place : ℕ) (a : Access) : Type 0 where
   pub same : other ≡ set
   pub row : m ≡ i
   pub index : n ≡ j
   pub access : a ≡ record { source = Before; index = place }
 
--- the second plan is the first with a place noted at the access j of the set in row i
+-- the second plan is the first with an index noted at access j of the set in row i
 pub record IsNoted (p q : Planned) (set : DeclaredSet) (i j place : ℕ) : Type 0 where
   pub sources : HasSourcesOf p q
   pub here : slice_get (planned_in set q i) j ≡ Some (record { source = Before; index = place })
-  pub each : (other : DeclaredSet) (m n : ℕ) (a : Access) → slice_get (planned_in other q m) n ≡ Some a → (slice_get (planned_in other p m) n ≡ Some a) ⊎ IsNote set other i m j n place a
+  pub each : (other : DeclaredSet) (m n : ℕ) (a : Access) → slice_get (planned_in other q m) n ≡ Some a
+      → (slice_get (planned_in other p m) n ≡ Some a) ⊎ IsNote set other i m j n place a
 
--- ---- what planning by the numbers of keys asks for and owes
+-- ---- the precondition and the result of planning by key numbers
 
 -- the batch can have the timestamps from `first` on, and each transaction is well-formed
 pub record IsPlannable (first : ℕ) (txns : List Txn) : Type 0 where
@@ -103,23 +105,27 @@ pub record IsPlannable (first : ℕ) (txns : List Txn) : Type 0 where
   pub room : first + length txns ≤ 2 ^ 32
   pub formed : All IsWellFormedTxn txns
 
--- the right plan of the batch that starts at this timestamp, in which no place is noted and that has no keys
+-- the right plan of the batch that starts at this timestamp, without noted indices and keys
 pub record IsPlanned (start : ℕ) (txns : List Txn) (plan : Planned) : Type 0 where
   pub first : plan.first ≡ start
   pub right : IsRightPlan txns plan
   pub unplaced : HasNoPlaces plan
   pub unkeyed : plan.keys ≡ []
 
--- ---- how a plan lies in memory
+-- ---- a plan in memory
 
--- a begin of 0 stands for no placeholder of the batch
+-- a begin of 0 represents no placeholder of the batch
 abbrev pub access_of : Placeholder → Access
 access_of v = record { source = if (v.begin == 0) then Before else Within v.begin; index = v.index }
 
 abbrev pub accesses_of : List Placeholder → Row → Accesses
-accesses_of vs row = record { reads = map access_of (take row.reads (drop row.start vs)); writes = map access_of (take row.writes (drop (row.start + row.reads) vs)); sure = row.sure }
+accesses_of vs row = record {
+  reads = map access_of (take row.reads (drop row.start vs));
+  writes = map access_of (take row.writes (drop (row.start + row.reads) vs));
+  sure = row.sure;
+}
 
--- where the accesses of a declared set lie, and how many they are
+-- the start and the number of a declared set's accesses
 abbrev pub start_in : DeclaredSet → Row → ℕ
 start_in Reads row = row.start
 start_in Writes row = row.start + row.reads
@@ -131,7 +137,7 @@ count_in Writes row = row.writes
 abbrev pub end_of : Row → ℕ
 end_of row = (row.start + row.reads) + row.writes
 
--- each row's accesses lie behind those of the rows before it, and all behind n
+-- each row's accesses follow those of the rows before it, and all follow n
 abbrev pub AreLaidFrom : ℕ → List Row → Type 0
 AreLaidFrom n [] = Unit {0}
 AreLaidFrom n (row ∷ rows) = (n ≤ row.start) × AreLaidFrom (end_of row) rows

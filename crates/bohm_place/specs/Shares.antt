@@ -1,9 +1,9 @@
--- What each planning worker does, and what comes of all together. The worker w of n has the parts p with p % n ≡ w.
+-- The results of each planning worker and of all together. Worker w of n has the parts p with p % n ≡ w.
 use Rattle.std.specs.Prelude.{◌≡◌, ◌≢◌, ℕ, ◌+◌, ◌%◌, ◌==◌, ◌<◌, Bool, true, false, List, [], ◌∷◌, ◌++◌, length, map, max, All, nat_lt, slice_get, if◌then◌else◌}
 use Rattle.std.specs.List.{zip}
 use Rattle.std.specs.Str.{bytes_eq}
-use Rattle.bohm_tree.specs.Txn.{Txn}
-use Rattle.bohm_tree.specs.Keys.{is_among}
+use Rattle.bohm_types.specs.Txn.{Txn}
+use Rattle.bohm_types.specs.Keys.{is_among}
 use Rattle.bohm_txn.specs.Faulty.{IsWellFormedTxn}
 use Rattle.bohm_txn.specs.Sure.{is_sure}
 use Rattle.bohm_place.specs.declared.placeholder.Placeholder.{Placeholder}
@@ -13,16 +13,16 @@ use Rattle.bohm_place.specs.Chains.{Keyed, placeholders_in, chain_in, none, last
 abbrev pub AreWellFormed : List Txn → Type 0
 AreWellFormed txns = All IsWellFormedTxn txns
 
--- no key stands there twice
+-- the keys are distinct
 abbrev pub AreDistinct : List (List ℕ) → Type 0
 AreDistinct [] = Unit {0}
 AreDistinct (k ∷ ks) = (is_among ks k ≡ false) × AreDistinct ks
 
--- the part of each key is one of these many
+-- the part of each key is below this count
 abbrev pub AreParts : (List ℕ → ℕ) → ℕ → Type 0
 AreParts part count = (k : List ℕ) → part k < count
 
--- the keys of the worker w of n: those whose part it has
+-- the keys of worker w of n: those whose part it has
 abbrev pub keys_of : (List ℕ → ℕ) → ℕ → ℕ → List ℕ → Bool
 keys_of part n w k = (part k % n) == w
 
@@ -30,78 +30,80 @@ keys_of part n w k = (part k % n) == w
 abbrev pub within : ℕ → Placeholder → Placeholder
 within first v = if nat_lt v.begin first then none else v
 
--- the placeholders of the key that these declared writes of u make, the first of which has this index
+-- the key's placeholders from these declared writes of u, the first of which has this index
 abbrev pub placeholders_written : ℕ → ℕ → List (List ℕ) → List ℕ → List Placeholder
 placeholders_written u index [] k = []
 placeholders_written u index (w ∷ ws) k = (if bytes_eq w k then record { begin = u; index = index } ∷ [] else []) ++ placeholders_written u (index + 1) ws k
 
--- the placeholders of the key that the transactions make, the first of which has the timestamp u
+-- the key's placeholders from transactions, the first of which has the timestamp u
 abbrev pub placeholders_made : ℕ → List Txn → List ℕ → List Placeholder
 placeholders_made u [] k = []
 placeholders_made u (t ∷ ts) k = placeholders_written u 0 t.writes k ++ placeholders_made (u + 1) ts k
 
--- what a worker finds for a key where the chains are these: the newest placeholder of the batch, none where the key isn't its own
+-- what a worker finds for a key, given the chains: the newest placeholder of the batch, none if the key isn't its own
 abbrev pub found_of : (List ℕ → Bool) → ℕ → (List ℕ → List Placeholder) → List ℕ → Placeholder
 found_of mine first chains k = if mine k then within first (last_or none (chains k)) else none
 
--- by transaction, what f says of its declared keys where it is told which transactions are ahead, the reads first; none where the key isn't the worker's
+-- by transaction, what f gives for its declared keys and the transactions ahead, the reads first; none if the key isn't the worker's
 abbrev pub found_by : (List ℕ → Bool) → (List Txn → List ℕ → Placeholder) → List Txn → List Txn → List Placeholder
 found_by mine f ahead [] = []
 found_by mine f ahead (t ∷ ts) = map (λ k. if mine k then f ahead k else none) (t.reads ++ t.writes) ++ found_by mine f (ahead ++ t ∷ []) ts
 
--- the newest placeholder of the batch, where the chains were these before it
+-- the key's newest placeholder in the batch, given the chains before it
 abbrev pub newest_ahead : ℕ → (List ℕ → List Placeholder) → List Txn → List ℕ → Placeholder
 newest_ahead first base ahead k = within first (last_or none (base k ++ placeholders_made first ahead k))
 
--- the newest placeholder of the key that the transactions ahead make
+-- the key's newest placeholder from the transactions ahead
 abbrev pub ahead_of : ℕ → List Txn → List ℕ → Placeholder
 ahead_of first ahead k = last_or none (placeholders_made first ahead k)
 
--- where the accesses of each transaction lie, the first of which lie at `start`, and whether it is sure
+-- where the accesses of each transaction are, the first of them at `start`, and whether it is sure
 abbrev pub rows_from : ℕ → List Txn → List Row
 rows_from start [] = []
-rows_from start (t ∷ ts) = record { start = start; reads = length t.reads; writes = length t.writes; sure = is_sure t } ∷ rows_from ((start + length t.reads) + length t.writes) ts
+rows_from start (t ∷ ts) = record { start = start; reads = length t.reads; writes = length t.writes; sure = is_sure t } ∷ rows_from
+    ((start + length t.reads) + length t.writes) ts
 
--- the greater numbers of both
+-- the greater numbers of the two
 abbrev pub greater_of : Placeholder → Placeholder → Placeholder
 greater_of v w = record { begin = max v.begin w.begin; index = max v.index w.index }
 
 abbrev pub greater : List Placeholder → List Placeholder → List Placeholder
 greater vs ws = map (λ p. greater_of p.0 p.1) (zip vs ws)
 
--- of two lists of parts, the second has those of the worker as the first has them
+-- the second list of parts has the worker's as the first has them
 abbrev pub HasPartsOf : ℕ → ℕ → List Keyed → List Keyed → Type 0
 HasPartsOf n w parts own = (p : ℕ) → p < length parts → ((p % n) == w) ≡ true → slice_get own p ≡ slice_get parts p
 
--- the second has the other parts as the first has them
+-- the second list of parts has the others as the first has them
 abbrev pub KeepsOthers : ℕ → ℕ → List Keyed → List Keyed → Type 0
 KeepsOthers n w parts left = (p : ℕ) → p < length parts → ((p % n) == w) ≡ false → slice_get left p ≡ slice_get parts p
 
--- of two lists of parts, each part of the second has the chains of the first, but for those of the part's own keys
+-- each part of the second list has the chains of the first, except those of the part's own keys
 abbrev pub KeepsForeign : (List ℕ → ℕ) → List Keyed → List Keyed → Type 0
 KeepsForeign part old new = (i : ℕ) (k : List ℕ) → part k ≢ i → placeholders_in (λ _. i) new k ≡ placeholders_in (λ _. i) old k
 
--- the chains of the worker's keys lie below a timestamp
+-- the chains of the worker's keys are below a timestamp
 abbrev pub AreBelow : (List ℕ → ℕ) → (List ℕ → Bool) → ℕ → List Keyed → Type 0
 AreBelow part mine ts parts = (k : List ℕ) → mine k ≡ true → All (λ b. b < ts) (chain_in part parts k)
 
--- of two lists of parts, the second has the chains of the first, and behind each that is the worker's the placeholders that f says of its key
+-- the second list of parts has the chains of the first, and appended to each of the worker's the placeholders that f gives for its key
 abbrev pub ArePlacedFor : (List ℕ → ℕ) → (List ℕ → Bool) → (List ℕ → List Placeholder) → List Keyed → List Keyed → Type 0
-ArePlacedFor part mine f old new = (k : List ℕ) → placeholders_in part new k ≡ (if mine k then placeholders_in part old k ++ f k else placeholders_in part old k)
+ArePlacedFor part mine f old new = (k : List ℕ) → placeholders_in part new k
+    ≡ (if mine k then placeholders_in part old k ++ f k else placeholders_in part old k)
 
 -- a worker can plan with these parts a batch that starts at `first`
 pub record CanPlace (part : List ℕ → ℕ) (count n w first : ℕ) (given : List Keyed) : Type 0 where
   pub parts : length given ≡ count
   pub earlier : AreBelow part (keys_of part n w) first given
 
--- what a worker owes for the parts that it was given
+-- a worker's result for the parts that it was given
 pub record IsFoundIn (part : List ℕ → ℕ) (n w first : ℕ) (txns : List Txn) (given : List Keyed) (out : List Placeholder) (left : List Keyed) : Type 0 where
   pub found : out ≡ found_by (keys_of part n w) (newest_ahead first (placeholders_in part given)) [] txns
   pub chains : ArePlacedFor part (keys_of part n w) (placeholders_made first txns) given left
   pub others : KeepsForeign part given left
   pub parts : length left ≡ length given
 
--- the same where it was given its own parts of all
+-- the same if it was given its own parts of all
 pub record IsFoundInAll (part : List ℕ → ℕ) (n w first : ℕ) (txns : List Txn) (all : List Keyed) (out : List Placeholder) (left : List Keyed) : Type 0 where
   pub found : out ≡ found_by (keys_of part n w) (newest_ahead first (placeholders_in part all)) [] txns
   pub chains : (k : List ℕ) → keys_of part n w k ≡ true → placeholders_in part left k ≡ placeholders_in part all k ++ placeholders_made first txns k

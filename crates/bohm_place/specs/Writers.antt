@@ -1,7 +1,7 @@
 -- The writers of a key, and the newest of them below a timestamp. The first of the transactions has the timestamp `first`.
 use Rattle.std.specs.Prelude.{◌≡◌, ℕ, ◌+◌, ◌-◌, ◌<◌, List, [], ◌∷◌, ◌++◌, Some, slice_get, if◌then◌else◌}
-use Rattle.bohm_tree.specs.Txn.{Txn}
-use Rattle.bohm_tree.specs.Keys.{IsAmong, is_among}
+use Rattle.bohm_types.specs.Txn.{Txn}
+use Rattle.bohm_types.specs.Keys.{IsAmong, is_among}
 use Rattle.bohm_place.specs.declared.access.Source.{Source}
 use Rattle.bohm_place.specs.declared.access.Source.TheVariants.{Before, Within}
 
@@ -28,18 +28,18 @@ abbrev pub writers : ℕ → List Txn → List ℕ → List ℕ
 writers first [] k = []
 writers first (t ∷ ts) k = (if is_among t.writes k then first ∷ [] else []) ++ writers (first + 1) ts k
 
--- u is the greatest below t of which P holds
+-- u is the greatest number below t for which P holds
 pub record IsGreatestBelow (P : ℕ → Type 0) (t u : ℕ) : Type 0 where
   pub below : u < t
   pub holds : P u
   pub none_between : (v : ℕ) → u < v → v < t → ¬ P v
 
--- the source is the newest writer of the key below t, or `Before` where there is none
+-- the source is the newest writer of the key below t, or `Before` if there is none
 abbrev pub IsNewest : ℕ → List Txn → List ℕ → ℕ → Source → Type 0
 IsNewest first txns k t Before = (v : ℕ) → v < t → ¬ Writes first txns k v
 IsNewest first txns k t (Within u) = IsGreatestBelow (Writes first txns k) t u
 
--- how many of the transactions there are up to the source
+-- the number of transactions up to the source
 abbrev pub upto : ℕ → Source → ℕ
 upto first Before = 0
 upto first (Within u) = (u + 1) - first

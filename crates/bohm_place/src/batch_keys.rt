@@ -4,9 +4,10 @@ ghost use Rattle.std.specs.Prelude.{◌≡◌, ◌+◌, ◌<◌, ◌≤◌, ◌^
 ghost use Rattle.std.specs.List.{list_any};
 ghost use Rattle.bohm_place.specs.Gathering.{with_number, with_numbers};
 ghost use Rattle.bohm_place.specs.Gathering.{AreFew, AreGathered, ArePlaced};
+ghost use Rattle.bohm_types.specs.Limits.{largest_batch};
 
 use bohm_log::DeclaredKeys;
-use bohm_tree::NoMemory;
+use bohm_types::NoMemory;
 use std::alloc::Global;
 use std::marker::Model;
 
@@ -58,7 +59,7 @@ fn add_sets(
 ) -> Result<(), NoMemory>
     requires none { numbers.old.items ≡ [] }
     requires room { length keys.now.names ≤ length places.old }
-    requires txns { length keys.now.sets ≤ 4096 }
+    requires txns { length keys.now.sets ≤ largest_batch }
     requires sets { All AreFew keys.now.sets }
     ensures { OnOk result
         (AreGathered keys.now (record { numbers = numbers.new.items; places = places.new })) }
@@ -105,7 +106,7 @@ impl BatchKeys {
     /// of declared keys, and with the log's names only when there are more than ever before: no key
     /// is hashed or compared. After an error its contents are unspecified.
     pub fn gather(&mut self, keys: &DeclaredKeys<'_>) -> Result<(), NoMemory>
-        requires txns { length keys.now.sets ≤ 4096 }
+        requires txns { length keys.now.sets ≤ largest_batch }
         requires sets { All AreFew keys.now.sets }
         ensures { OnOk result (AreGathered keys.now self.new) }
     {

@@ -6,6 +6,7 @@ ghost use Rattle.bohm_place.specs.Shares.{AreDistinct, CanPlace, IsFoundIn, Keep
 ghost use Rattle.bohm_place.specs.Shares.{found_by, newest_ahead};
 ghost use Rattle.bohm_place.specs.Shares.{placeholders_written, placeholders_made};
 ghost use Rattle.bohm_place.specs.Planners.{mine, found_in, IsBelow, IsPlaced, ArePlaced};
+ghost use Rattle.bohm_types.specs.Limits.{most_keys};
 
 use crate::partition::Partition;
 use crate::placeholder::Placeholder;
@@ -13,7 +14,7 @@ use crate::places::Places;
 use crate::unplanned::UnplannedBatch;
 use crate::worker::{Worker, WorkerKeys};
 use bohm_log::Keys;
-use bohm_tree::{Key, NoMemory};
+use bohm_types::{Key, NoMemory};
 use std::alloc::Global;
 
 /// A worker, and a list of all parts in which only its own, which no other worker has meanwhile,
@@ -103,7 +104,7 @@ impl<'a, P: Partition> KeyPlanner<'a, P> {
     ) -> Result<(), NoMemory>
         requires parts { length parts.old ≡ P.count self.now.keys.partition.now }
         requires timestamp { 0 < ts }
-        requires few { length keys.now ≤ 16 }
+        requires few { length keys.now ≤ most_keys }
         requires distinct { AreDistinct keys.now }
         requires above { (k : List ℕ) → IsBelow P.part_of self.now ts parts.old k }
         ensures found { OnOk result (found.new.items

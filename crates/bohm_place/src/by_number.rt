@@ -8,6 +8,7 @@ ghost use Rattle.bohm_log.specs.Numbering.{Numbers};
 ghost use Rattle.bohm_place.specs.Shares.{AreDistinct, keys_of, found_by, ahead_of};
 ghost use Rattle.bohm_place.specs.Numbered.{IsCovered, IsFoundByNumber};
 ghost use Rattle.bohm_place.specs.Planners.{mine, found_of_number, ArePlacedByNumber};
+ghost use Rattle.bohm_types.specs.Limits.{most_keys};
 
 use crate::newest::Newest;
 use crate::partition::Partition;
@@ -15,7 +16,7 @@ use crate::placeholder::Placeholder;
 use crate::unplanned::UnplannedBatch;
 use crate::worker::{Worker, WorkerKeys};
 use bohm_log::DeclaredKeys;
-use bohm_tree::NoMemory;
+use bohm_types::NoMemory;
 use std::alloc::Global;
 use std::mem;
 
@@ -116,7 +117,7 @@ impl<'a, P: Partition> NumberPlanner<'a, P> {
         requires covered { IsCovered self.now.declared.names newest.old }
         requires named { AllNamed self.now.declared.names numbers.now }
         requires timestamp { self.now.batch.first ≤ ts }
-        requires few { length numbers.now ≤ 16 }
+        requires few { length numbers.now ≤ most_keys }
         requires distinct { AreDistinct (names_at self.now.declared.names numbers.now) }
         ensures found { OnOk result (found.new.items ≡ found.old.items
             ++ map (found_of_number P.part_of self.now newest.old) numbers.now) }

@@ -2,12 +2,12 @@
 
 ghost use Rattle.std.specs.Prelude.{◌≡◌, ℕ, List, [], ◌∷◌, ◌++◌, ◌<◌, ◌↔◌};
 ghost use Rattle.std.specs.Prelude.{length, IfOk, OnOk, OnErr, IsTrue};
-ghost use Rattle.bohm_tree.specs.Keys.{IsAmong};
+ghost use Rattle.bohm_types.specs.Keys.{IsAmong};
 ghost use Rattle.bohm_place.specs.Chains.{items, second, begins};
 ghost use Rattle.bohm_place.specs.Chains.{kept_items, greatest_below, RisesFrom};
 
 use crate::placeholder::Placeholder;
-use bohm_tree::{Key, NoMemory};
+use bohm_types::{Key, NoMemory};
 use std::alloc::Global;
 use std::collections::VecDeque;
 

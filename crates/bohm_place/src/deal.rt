@@ -14,7 +14,7 @@ use crate::shards::empty_parts;
 use crate::unplanned::UnplannedBatch;
 use crate::worker::Worker;
 use bohm_log::{FixedSeed, HashSeed};
-use bohm_tree::NoMemory;
+use bohm_types::NoMemory;
 use std::alloc::Global;
 use std::mem;
 use std::snapshot::Snapshot;

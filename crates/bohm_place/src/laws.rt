@@ -1,7 +1,7 @@
 //! Laws over the definitions alone.
 
 ghost use Rattle.std.specs.Prelude.{◌≡◌, ℕ, ◌+◌, ◌-◌, ◌≤◌, ◌↔◌, List, length, Contains};
-ghost use Rattle.bohm_tree.specs.Txn.{Txn};
+ghost use Rattle.bohm_types.specs.Txn.{Txn};
 ghost use Rattle.bohm_txn.specs.Meaning.{Look};
 ghost use Rattle.bohm_txn.specs.Serial.{state};
 ghost use Rattle.bohm_place.specs.declared.access.Source.{Source};

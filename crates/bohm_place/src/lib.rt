@@ -1,19 +1,22 @@
-//! Planning: placeholders for the versions of a batch, and the source of each access. The design is
-//! that of BOHM: Faleiro and Abadi, "Rethinking Serializable Multiversion Concurrency Control",
-//! VLDB 2015.
+//! Planning: the batches of a log, placeholders for the versions of a batch, and the source of each
+//! access. The design is that of BOHM: Faleiro and Abadi, "Rethinking Serializable Multiversion
+//! Concurrency Control", VLDB 2015.
 #![tactic(auto)]
 
 mod access;
-mod alone;
 mod batch_keys;
 mod by_key;
 mod by_number;
+mod byte_sum;
 mod chain;
-mod crew;
+mod cut_log;
+mod cuts;
 mod deal;
 mod declared_set;
 pub mod laws;
+mod log_plan;
 mod newest;
+mod parallel;
 mod partition;
 mod placeholder;
 mod places;
@@ -22,17 +25,22 @@ mod planned;
 mod planning;
 mod row;
 mod shards;
+mod single_threaded;
 mod unplanned;
 mod worker;
 
 pub use access::{Access, Source};
-pub use alone::plan_alone;
 pub use batch_keys::BatchKeys;
-pub use crew::plan_by_number;
+pub use byte_sum::ByteSum;
+pub use cut_log::CutLog;
+pub use cuts::Cuts;
 pub use declared_set::DeclaredSet;
+pub use log_plan::plan_batches;
 pub use newest::Newest;
+pub use parallel::plan_by_number;
 pub use partition::Partition;
 pub use places::Places;
 pub use planned::{NumberedKey, Plan};
 pub use planning::plan;
 pub use shards::Shards;
+pub use single_threaded::plan_alone;

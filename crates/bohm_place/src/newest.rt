@@ -4,7 +4,7 @@ ghost use Rattle.std.specs.Prelude.{◌≡◌, ℕ, [], ◌<◌, ◌≤◌, leng
 ghost use Rattle.bohm_place.specs.Numbered.{newest_at};
 
 use crate::placeholder::Placeholder;
-use bohm_tree::NoMemory;
+use bohm_types::NoMemory;
 use std::alloc::Global;
 use std::marker::Model;
 

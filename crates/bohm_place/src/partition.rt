@@ -3,7 +3,7 @@
 ghost use Rattle.std.specs.Prelude.{◌≡◌, ℕ, List, ◌<◌};
 ghost use Rattle.std.proofs.Common.{rules};
 
-use bohm_tree::Key;
+use bohm_types::Key;
 
 /// A partition of the keys. Both answers depend only on the value and the key.
 pub trait Partition: Sync {

@@ -3,13 +3,13 @@
 ghost use Rattle.std.specs.Prelude.{◌≡◌, ℕ, List, [], ◌∷◌, ◌++◌, ◌<◌, ◌&&◌};
 ghost use Rattle.std.specs.Prelude.{All, length, is_ok, true, false, IfOk, if◌then◌else◌};
 ghost use Rattle.std.specs.Str.{bytes_eq};
-ghost use Rattle.bohm_tree.specs.Keys.{IsAmong};
+ghost use Rattle.bohm_types.specs.Keys.{IsAmong};
 ghost use Rattle.bohm_place.specs.Chains.{items_at, kept_items, last_or, none};
 
 use crate::chain::Chain;
 use crate::placeholder::Placeholder;
 use bohm_log::{FixedSeed, HashSeed};
-use bohm_tree::{Key, NoMemory};
+use bohm_types::{Key, NoMemory};
 use std::alloc::Global;
 use std::collections::HashMap;
 use std::marker::Model;

@@ -8,13 +8,14 @@ ghost use Rattle.bohm_log.specs.Parts.{names_at};
 ghost use Rattle.bohm_place.specs.Gathering.{AreGathered, ArePlaced};
 ghost use Rattle.bohm_place.specs.Noting.{AreNoted, HasKeysOf, IsSetNoted, MayHaveKeysOf};
 ghost use Rattle.bohm_place.specs.Plans.{planned_in, HasSourcesOf, IsRightPlan};
+ghost use Rattle.bohm_types.specs.Limits.{largest_batch, most_keys};
 
 use crate::access::Source;
 use crate::batch_keys::BatchKeys;
 use crate::declared_set::DeclaredSet;
 use crate::planned::{NumberedKey, Plan};
 use bohm_log::{DeclaredKeys, LogPart};
-use bohm_tree::{Key, NoMemory};
+use bohm_types::{Key, NoMemory};
 use std::alloc::Global;
 
 /// Notes the indices of the keys with these numbers, of one declared set of the transaction with
@@ -22,7 +23,7 @@ use std::alloc::Global;
 fn note_numbers(plan: &mut Plan, gathered: &BatchKeys, set: DeclaredSet, t: u32, numbers: &[u32])
     requires first { plan.old.first ≤ t }
     requires paired { length numbers.now ≡ length (planned_in set plan.old (t - plan.old.first)) }
-    requires few { length numbers.now ≤ 16 }
+    requires few { length numbers.now ≤ most_keys }
     requires there { All (Contains gathered.now.numbers) numbers.now }
     requires placed { ArePlaced gathered.now.numbers gathered.now.places }
     ensures { IsSetNoted plan.old plan.new set (t - plan.old.first)
@@ -96,7 +97,7 @@ impl Plan {
         txns: &LogPart<'_>,
         gathered: &mut BatchKeys,
     ) -> Result<Plan, NoMemory>
-        requires few { length txns.now ≤ 4096 }
+        requires few { length txns.now ≤ largest_batch }
         requires room { self.first + length txns.now ≤ 2 ^ 32 }
         requires formed { All IsWellFormedTxn txns.now }
         requires right { ∥ IsRightPlan txns.now self ∥₁ }
@@ -115,7 +116,7 @@ impl Plan {
     /// The plan with the keys of its batch, which are gathered unless it has them. An error drops
     /// the plan. The time is that of `gather_keys`, or constant if it has them.
     pub fn ensure_keys(self, alloc: Global, txns: &LogPart<'_>) -> Result<Plan, NoMemory>
-        requires few { length txns.now ≤ 4096 }
+        requires few { length txns.now ≤ largest_batch }
         requires room { self.first + length txns.now ≤ 2 ^ 32 }
         requires formed { All IsWellFormedTxn txns.now }
         requires right { ∥ IsRightPlan txns.now self ∥₁ }

@@ -7,7 +7,7 @@ use crate::access::{Access, Source};
 use crate::declared_set::DeclaredSet;
 use crate::placeholder::Placeholder;
 use crate::row::Row;
-use bohm_tree::Key;
+use bohm_types::Key;
 use std::alloc::Global;
 use std::marker::Model;
 

@@ -16,7 +16,7 @@ use crate::row::{Row, rows};
 use crate::shards::Shards;
 use crate::unplanned::UnplannedBatch;
 use bohm_log::LogPart;
-use bohm_tree::NoMemory;
+use bohm_types::NoMemory;
 use std::alloc::Global;
 use std::snapshot::Snapshot;
 use std::thread;

@@ -6,8 +6,8 @@ ghost use Rattle.bohm_place.specs.Shares.{rows_from, AreWellFormed};
 
 use crate::declared_set::DeclaredSet;
 use bohm_log::LogPart;
-use bohm_tree::NoMemory;
 use bohm_txn::sure;
+use bohm_types::NoMemory;
 use std::alloc::Global;
 
 /// The accesses of one transaction in a list of all: its reads from `start` on, followed by its

@@ -5,7 +5,7 @@ ghost use Rattle.bohm_place.specs.Chains.{AreEmpty, AreKept};
 
 use crate::places::Places;
 use bohm_log::{DrawnSeed, FixedSeed, HashSeed};
-use bohm_tree::NoMemory;
+use bohm_types::NoMemory;
 use std::alloc::Global;
 use std::marker::Model;
 

@@ -2,8 +2,8 @@
 
 use crate::making::{fault, no_calls, print, procedure, push};
 use bohm_procedures::{Calls, Procedure, ProcedureFault};
-use bohm_tree::{Edition, Key, Value};
 use bohm_txn::{CheckFault, CheckKind};
+use bohm_types::{Edition, Key, Value};
 use std::alloc::Global;
 use std::process::Abort;
 

@@ -1,16 +1,21 @@
--- A procedure's own instance is checked alone.
+-- A procedure's own instance is checked alone; handles are as many as their keys.
 use Rattle.std.proofs.Common.{◌≡◌, ℕ, ◌<◌, Bool, true, false, List, [], ◌∷◌, ◌++◌, length, Some, None, Ok, Err, refl, sym, ap, ◌∙◌, subst, arith, ◌≤◌}
 use Rattle.std.specs.Prelude.{ℤ, Option, Result, OnOk, OnErr, is_err}
 use Rattle.std.specs.List.{list_all}
 use Rattle.std.proofs.lemmas.Option.{same_Some}
-use Rattle.bohm_tree.specs.declared.edition.Edition.{Edition}
-use Rattle.bohm_tree.specs.declared.edition.Edition.TheVariants.{One, Two}
-use Rattle.bohm_tree.specs.Txn.{Txn}
-use Rattle.bohm_tree.specs.Document.{Document, same_edition, in_edition, document_of}
+use Rattle.bohm_types.specs.declared.edition.Edition.{Edition}
+use Rattle.bohm_types.specs.declared.edition.Edition.TheVariants.{One, Two}
+use Rattle.bohm_types.specs.Txn.{Txn}
+use Rattle.bohm_log.specs.declared.key_handle.KeyHandle.{KeyHandle}
+use Rattle.bohm_log.specs.Handles.{keys_named}
+use Rattle.bohm_types.specs.Document.{Document, same_edition, in_edition, document_of}
 use Rattle.bohm_txn.specs.Faulty.{alone}
 use Rattle.bohm_text.specs.ProcedureReading.{let_zero}
 use Rattle.bohm_procedures.specs.Accepting.{BeginsWithLets}
 use Rattle.std.proofs.lemmas.List.{length-map, length-take}
+
+pub named_length : (handles : List KeyHandle) → length (keys_named handles) ≡ length handles
+named_length handles = length-map handles (λ (h : KeyHandle). h.key)
 
 same_self : (e : Edition) → same_edition e e ≡ true
 same_self One = refl

@@ -7,19 +7,19 @@ use Rattle.std.specs.List.{list_any, list_all, fold, IsDistinct}
 use Rattle.std.specs.Str.{bytes_eq}
 use Rattle.std.proofs.lemmas.Bool.{and_parts, false_from_ne_true}
 use Rattle.std.proofs.lemmas.Bool.Decides.{nat_tests}
-use Rattle.bohm_tree.specs.Keys.{is_among, IsAmong, some_passes, rising}
-use Rattle.bohm_tree.specs.Parts.{sums, tested, target, bound, is_show}
-use Rattle.bohm_tree.specs.Term.{Atom, Lit, Read, Local}
-use Rattle.bohm_tree.specs.Stmt.{Cond, Stmt, Bind}
-use Rattle.bohm_tree.specs.Txn.{Txn}
-use Rattle.bohm_tree.specs.Document.{Document}
+use Rattle.bohm_types.specs.Keys.{is_among, IsAmong, some_passes, rising}
+use Rattle.bohm_types.specs.Parts.{sums, tested, target, bound, is_show}
+use Rattle.bohm_types.specs.Term.{Atom, Lit, Read, Local}
+use Rattle.bohm_types.specs.Stmt.{Cond, Stmt, Bind}
+use Rattle.bohm_types.specs.Txn.{Txn}
+use Rattle.bohm_types.specs.Document.{Document}
 use Rattle.bohm_txn.specs.declared.fault.CheckKind.{CheckKind}
 use Rattle.bohm_txn.specs.declared.fault.CheckKind.TheVariants.{Order, Unread, Unwritten, Local as LocalFault, Limit}
 use Rattle.bohm_txn.specs.Faulty.{is_bound, binds, is_unread, is_unwritten, is_misnamed, is_long, stmt_faulty}
 use Rattle.bohm_txn.specs.Faulty.{sets_faulty, txn_faulty, faulty, passes_at, alone, WellFormed, IsWellFormedTxn}
-use Rattle.bohm_tree.specs.Substitution.{stmt_with}
-use Rattle.bohm_tree.specs.KeySets.{key_set}
-use Rattle.bohm_tree.specs.Procedure.{Procedure, stands_for, is_minus, sum_by, sum_of, lets, instance, procedure_with}
+use Rattle.bohm_types.specs.Substitution.{stmt_with}
+use Rattle.bohm_types.specs.KeySets.{key_set}
+use Rattle.bohm_types.specs.Procedure.{Procedure, stands_for, is_minus, sum_by, sum_of, lets, instance, procedure_with}
 use Rattle.std.proofs.lemmas.List.{take-append-drop}
 use Rattle.bohm_text.specs.ProcedureReading.{let_zero}
 use Rattle.bohm_procedures.specs.Accepting.{own, IsAccepted, BeginsWithLets}

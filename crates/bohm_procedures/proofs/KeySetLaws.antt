@@ -9,9 +9,9 @@ use Rattle.std.specs.declared.cmp.Ordering.TheVariants.{Less, Equal, Greater}
 use Rattle.std.specs.Cmp.Lexicographic.{slice_cmp, nat_list_cmp_total}
 use Rattle.std.proofs.lemmas.Bool.{and_parts}
 use Rattle.std.proofs.lemmas.Map.Text.{is_eq-slice_cmp}
-use Rattle.bohm_tree.specs.Keys.{rising, rises_from, is_among, IsAmong}
+use Rattle.bohm_types.specs.Keys.{rising, rises_from, is_among, IsAmong}
 use Rattle.bohm_txn.proofs.ForCallers.{same_key, key_itself, among_first, among_then, less}
-use Rattle.bohm_tree.specs.KeySets.{inserted_by, inserted, key_set}
+use Rattle.bohm_types.specs.KeySets.{inserted_by, inserted, key_set}
 
 -- ---- they rise
 

@@ -10,12 +10,12 @@ use Rattle.std.proofs.lemmas.Bool.{and_parts}
 use Rattle.std.proofs.lemmas.Iterator.Adapters.{position_from-zero}
 use Rattle.std.proofs.lemmas.List.Quantifiers.{position-Some}
 use Rattle.std.proofs.lemmas.List.{get_or_default}
-use Rattle.bohm_tree.specs.Keys.{rising, rises_from, place}
-use Rattle.bohm_tree.specs.Term.{Atom, Lit, Read, Local}
-use Rattle.bohm_tree.specs.Stmt.{Cond, Stmt, Bind, Need, Has, Lacks, Put, Remove, Show, Fail}
-use Rattle.bohm_tree.specs.KeySets.{inserted_by, inserted, key_set}
-use Rattle.bohm_tree.specs.Substitution.{atom_with, term_with, sum_with, cond_with, guard_with, stmt_with}
-use Rattle.bohm_tree.specs.Procedure.{Procedure, argument_or, stands_for, sum_of, lets, instance}
+use Rattle.bohm_types.specs.Keys.{rising, rises_from, place}
+use Rattle.bohm_types.specs.Term.{Atom, Lit, Read, Local}
+use Rattle.bohm_types.specs.Stmt.{Cond, Stmt, Bind, Need, Has, Lacks, Put, Remove, Show, Fail}
+use Rattle.bohm_types.specs.KeySets.{inserted_by, inserted, key_set}
+use Rattle.bohm_types.specs.Substitution.{atom_with, term_with, sum_with, cond_with, guard_with, stmt_with}
+use Rattle.bohm_types.specs.Procedure.{Procedure, argument_or, stands_for, sum_of, lets, instance}
 use Rattle.bohm_txn.proofs.ForCallers.{same_key, less}
 use Rattle.bohm_text.specs.ProcedureReading.{let_zero}
 use Rattle.bohm_procedures.specs.Accepting.{own}

@@ -4,12 +4,12 @@ use Rattle.std.specs.Prelude.{◌||◌, ◌&&◌, not, nat_le}
 use Rattle.std.specs.List.{list_any, list_all}
 use Rattle.std.specs.Option.{option_map}
 use Rattle.std.proofs.lemmas.Bool.{and_parts}
-use Rattle.bohm_tree.specs.Keys.{is_among, IsAmong, some_passes}
-use Rattle.bohm_tree.specs.Parts.{sums, guard_sums, tested, target, bound, is_show}
-use Rattle.bohm_tree.specs.Term.{Atom, Lit, Read, Local}
-use Rattle.bohm_tree.specs.Stmt.{Cond, Stmt, Bind, Need, Has, Lacks, Put, Remove, Show, Fail}
+use Rattle.bohm_types.specs.Keys.{is_among, IsAmong, some_passes}
+use Rattle.bohm_types.specs.Parts.{sums, guard_sums, tested, target, bound, is_show}
+use Rattle.bohm_types.specs.Term.{Atom, Lit, Read, Local}
+use Rattle.bohm_types.specs.Stmt.{Cond, Stmt, Bind, Need, Has, Lacks, Put, Remove, Show, Fail}
 use Rattle.bohm_txn.specs.Faulty.{reads_among, locals_bound, is_bound, is_unread, is_unwritten, is_misnamed, is_long}
-use Rattle.bohm_tree.specs.Substitution.{atom_with, term_with, sum_with, cond_with, guard_with, stmt_with}
+use Rattle.bohm_types.specs.Substitution.{atom_with, term_with, sum_with, cond_with, guard_with, stmt_with}
 
 -- ---- its parts
 

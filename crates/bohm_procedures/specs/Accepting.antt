@@ -1,12 +1,13 @@
 -- Which procedures are accepted, and which calls a list takes.
 use Rattle.std.specs.Prelude.{◌≡◌, ◌<◌, ℕ, ℤ, List, ◌++◌, map, length, take}
-use Rattle.bohm_tree.specs.Procedure.{Procedure}
-use Rattle.bohm_tree.specs.Txn.{Txn}
-use Rattle.bohm_tree.specs.Document.{Document}
+use Rattle.bohm_types.specs.Procedure.{Procedure}
+use Rattle.bohm_types.specs.Txn.{Txn}
+use Rattle.bohm_types.specs.Document.{Document}
 use Rattle.bohm_txn.specs.Faulty.{IsWellFormedTxn, IsFirstFault, alone}
 use Rattle.bohm_txn.specs.declared.fault.CheckFault.{CheckFault}
 use Rattle.bohm_text.specs.ProcedureReading.{let_zero}
 use Rattle.bohm_text.specs.ProcedureText.{IsProcedure, print_procedure}
+use Rattle.bohm_types.specs.Limits.{most_txns}
 
 -- each parameter stands for itself, and each value is 0: sets and body as they were written
 abbrev pub own : Procedure → Txn
@@ -32,4 +33,4 @@ pub record Takes (calls : Document) (p : Procedure) (ks : List (List ℕ)) (vs :
   pub keys : length ks ≡ length p.keys
   pub values : length vs ≡ length p.values
   pub edition : p.edition ≡ calls.edition
-  pub few : length calls.log < 1000000
+  pub few : length calls.log < most_txns

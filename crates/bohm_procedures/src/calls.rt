@@ -1,16 +1,18 @@
 //! Lists of calls.
 
-ghost use Rattle.std.specs.Prelude.{◌≡◌, ◌↔◌, true, IfOk, OnOk, OnErr, length};
-ghost use Rattle.bohm_tree.specs.Appending.{empty_document, with_txn};
-ghost use Rattle.bohm_tree.specs.Procedure.{instance};
+ghost use Rattle.std.specs.Prelude.{◌≡◌, ◌↔◌, true, IfOk, OnOk, OnErr, length, nat_lt};
+ghost use Rattle.bohm_types.specs.Appending.{empty_document, with_txn};
+ghost use Rattle.bohm_types.specs.Limits.{most_txns};
+ghost use Rattle.bohm_types.specs.Procedure.{instance};
+ghost use Rattle.bohm_log.specs.Handles.{keys_named};
 ghost use Rattle.bohm_text.specs.Print.{print_doc};
 ghost use Rattle.bohm_procedures.specs.Accepting.{Takes};
 
 use crate::procedure::Procedure;
-use bohm_log::{CallBuffer, DrawnSeed, HashSeed};
+use bohm_log::{CallBuffer, DrawnSeed, HashSeed, KeyHandle};
 use bohm_text::print_doc;
-use bohm_tree::{Edition, Key, MOST_TXNS, NoMemory, Value};
 use bohm_txn::Checked;
+use bohm_types::{Edition, Key, MOST_TXNS, NoMemory, Value};
 use std::alloc::Global;
 use std::marker::Model;
 
@@ -23,7 +25,7 @@ pub struct Calls {
 }
 
 impl Model for Calls {
-    ghost use Rattle.bohm_tree.specs.Document.{Document};
+    ghost use Rattle.bohm_types.specs.Document.{Document};
 
     ghost Value = { Document };
 
@@ -41,6 +43,12 @@ impl Calls {
         }
     }
 
+    fn has_room(&self) -> bool
+        ensures { result ≡ nat_lt (length self.now.log) most_txns }
+    {
+        self.len() < MOST_TXNS
+    }
+
     /// Whether a call can be added: the numbers of arguments are those of the procedure's
     /// parameters, its edition is that of the calls, and there are fewer than 1,000,000 of them.
     pub fn takes(&self, procedure: &Procedure, keys: &[Key], values: &[Value]) -> bool
@@ -49,7 +57,7 @@ impl Calls {
         keys.len() == procedure.keys()
             && values.len() == procedure.values()
             && procedure.edition() == self.segment.edition()
-            && self.len() < MOST_TXNS
+            && self.has_room()
     }
 
     /// Adds the instance of a procedure. `NoMemory` where an allocation fails or 32 bits of a
@@ -76,6 +84,51 @@ impl Calls {
             Ok(()) => Ok(()),
             Err(_) => Err(NoMemory),
         }
+    }
+
+    /// The handle of a key, by which `push_named` finds the key's number. A key that no call named
+    /// gets a number. `NoMemory` where an allocation fails or no number of 32 bits is left. The
+    /// calls stay as they are.
+    ///
+    /// A handle stays good when calls are added and removed, and for other lists of calls: where
+    /// the number isn't the key's, the key is looked up again.
+    pub fn handle(&mut self, key: &Key) -> Result<KeyHandle, NoMemory>
+        ensures key { IfOk result (λ h. h.key ≡ key.now) }
+        ensures same { self.new ≡ self.old }
+    {
+        self.segment.handle(key).map_err(|_| NoMemory)
+    }
+
+    /// Whether a call by handles can be added: `takes`, of their keys.
+    #[tactic(auto, using(crate::proofs::Calling::named_length))]
+    pub fn takes_named(&self, procedure: &Procedure, keys: &[KeyHandle], values: &[Value]) -> bool
+        ensures { (result ≡ true)
+            ↔ Takes self.now procedure.now (keys_named keys.now) values.now }
+    {
+        keys.len() == procedure.keys()
+            && values.len() == procedure.values()
+            && procedure.edition() == self.segment.edition()
+            && self.has_room()
+    }
+
+    /// Adds the instance of a procedure for the keys of these handles: `push`, which hashes none of
+    /// the keys whose handles this list made, as long as it keeps their numbers.
+    pub fn push_named(
+        &mut self,
+        procedure: &Procedure,
+        keys: &[KeyHandle],
+        values: &[Value],
+    ) -> Result<(), NoMemory>
+        requires { Takes self.old procedure.now (keys_named keys.now) values.now }
+        ensures ok { OnOk result
+            (self.new ≡ with_txn self.old
+            (instance procedure.now (keys_named keys.now) values.now)) }
+        ensures err { OnErr result (self.new ≡ self.old) }
+    {
+        let template = procedure.template();
+        self.segment
+            .push_named(template, &mut self.buffer, keys, values)
+            .map_err(|_| NoMemory)
     }
 
     /// Removes all calls. Their room is kept for others: for four times as many, or for some

@@ -13,6 +13,6 @@ pub enum ProcedureFault {
     /// The check's fault of the procedure's own instance. Its statements count from the `let` of
     /// the first value on.
     Check(CheckFault),
-    /// An allocation failed.
+    /// An allocation failed, or 32 bits of a column are full, which takes more than 4 GiB of text.
     NoMemory,
 }

@@ -1,11 +1,11 @@
 //! Laws of procedures. No call uses them.
 
 ghost use Rattle.std.specs.Prelude.{◌≡◌, ℕ, ℤ, pos, List, length, map, true};
-ghost use Rattle.bohm_tree.specs.Keys.{rising};
+ghost use Rattle.bohm_types.specs.Keys.{rising};
 ghost use Rattle.std.specs.List.{AllByRecursion};
-ghost use Rattle.bohm_tree.specs.Sound.{IsName, IsNumber, IsTxn};
+ghost use Rattle.bohm_types.specs.Sound.{IsName, IsNumber, IsTxn};
 ghost use Rattle.bohm_txn.specs.Faulty.{IsWellFormedTxn};
-ghost use Rattle.bohm_tree.specs.Procedure.{Procedure, instance};
+ghost use Rattle.bohm_types.specs.Procedure.{Procedure, instance};
 ghost use Rattle.bohm_procedures.specs.Accepting.{IsAccepted, own};
 ghost use Rattle.bohm_text.specs.ProcedureText.{IsProcedure};
 

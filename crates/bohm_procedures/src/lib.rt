@@ -6,6 +6,7 @@ mod fault;
 pub mod laws;
 mod procedure;
 
+pub use bohm_log::KeyHandle;
 pub use calls::Calls;
 pub use fault::ProcedureFault;
 pub use procedure::Procedure;

@@ -1,7 +1,7 @@
 //! Procedures that were accepted.
 
 ghost use Rattle.std.specs.Prelude.{◌≡◌, ◌≢◌, ℕ, Err, IfOk, length};
-ghost use Rattle.bohm_tree.specs.Procedure.{procedure_with};
+ghost use Rattle.bohm_types.specs.Procedure.{procedure_with};
 ghost use Rattle.bohm_text.specs.Cut.{whole_lines};
 ghost use Rattle.bohm_text.specs.ProcedureFaults.{IsFirstBadLine, IsShort};
 ghost use Rattle.bohm_text.specs.ProcedureText.{IsProcedure, print_procedure};
@@ -13,8 +13,8 @@ ghost use Rattle.bohm_procedures.specs.declared.fault.ProcedureFault.TheVariants
 use crate::fault::ProcedureFault;
 use bohm_log::{Doc, Draft, DrawnSeed, HashSeed, Log, Template};
 use bohm_text::{ProcedureReader, TextFault, parse_procedure};
-use bohm_tree::{Edition, Key, NoMemory};
 use bohm_txn::{CheckFault, check};
+use bohm_types::{Edition, Key, NoMemory};
 use std::alloc::Global;
 use std::marker::Model;
 
@@ -28,7 +28,7 @@ pub struct Procedure {
 
 impl Model for Procedure {
     ghost use Rattle.std.specs.Prelude.{◌≡◌};
-    ghost use Rattle.bohm_tree.specs.Procedure.{Procedure};
+    ghost use Rattle.bohm_types.specs.Procedure.{Procedure};
     ghost use Rattle.bohm_text.specs.ProcedureText.{print_procedure};
     ghost use Rattle.bohm_procedures.specs.Accepting.{IsAccepted};
 
@@ -42,7 +42,7 @@ impl Model for Procedure {
 impl Procedure {
     /// The procedure of this text, if its own instance is well formed. The faults: the first bad
     /// line, else `Short`, else the check's first fault of the own instance. `NoMemory` also where
-    /// 32 bits of a column are full.
+    /// 32 bits of a column are full, which takes more than 4 GiB of text.
     ///
     /// Its time grows with the length of the text, and with the number of parameters times that of
     /// the parameters and declared names. It keeps the text. Its names are hashed from the seed.

@@ -1,9 +1,10 @@
 -- The first window, and all that stands behind it.
-use Rattle.std.proofs.Common.{◌≡◌, ◌⊎◌, inl, inr, ℕ, ◌+◌, ◌<◌, ◌≤◌, Bool, true, false, List, [], ◌∷◌, ◌++◌, length, refl, ap, sym, subst, ◌∙◌, arith, append_assoc, append-nil, length-append}
+use Rattle.std.proofs.Common.{◌≡◌, ◌⊎◌, inl, inr, ℕ, ◌+◌, ◌<◌, ◌≤◌, Bool, true, false, List, [], ◌∷◌, ◌++◌}
+use Rattle.std.proofs.Common.{length, refl, ap, sym, subst, ◌∙◌, arith, append_assoc, append-nil, length-append}
 use Rattle.std.specs.Prelude.{Option}
 use Rattle.std.specs.Io.KnownBytes.{Consumes, IsAtEnd}
-use Rattle.bohm_tree.specs.Document.{Document}
-use Rattle.bohm_tree.specs.Txn.{Txn}
+use Rattle.bohm_types.specs.Document.{Document}
+use Rattle.bohm_types.specs.Txn.{Txn}
 use Rattle.bohm_text.specs.Print.{print_doc}
 use Rattle.bohm_text.specs.Cut.{whole_lines}
 use Rattle.bohm_text.specs.Windows.{with_log}
@@ -16,10 +17,12 @@ use Rattle.bohm_reading.specs.declared.source.Piece.{Piece}
 use Rattle.bohm_reading.specs.declared.reading.Source.{Source}
 use Rattle.bohm_reading.specs.Pieces.{IsPiece}
 use Rattle.bohm_reading.specs.Waves.{RefusesText}
-use Rattle.bohm_reading.specs.Reading.{IsTooLong, IsSourceFault, Drains, ReadsOn, RefusesAll, RefusesOn, FirstRefused, ReadsTextOf, ReadsBeginning, ReadsRefused, RefusesReading}
+use Rattle.bohm_reading.specs.Reading.{IsTooLong, IsSourceFault, Drains, ReadsOn, RefusesAll, RefusesOn}
+use Rattle.bohm_reading.specs.Reading.{FirstRefused, ReadsTextOf, ReadsBeginning, ReadsRefused, RefusesReading}
 use Rattle.bohm_reading.proofs.ReadingLaws.{Consumes-none, Consumes-more}
 
-refused_as : (u v : Option (List ℕ)) (text : List ℕ) → Consumes u v text → IsAtEnd v → length text ≤ 67108864 → (fault : ReadingFault) → RefusesText text fault → RefusesReading u v fault
+refused_as : (u v : Option (List ℕ)) (text : List ℕ) → Consumes u v text → IsAtEnd v → length text ≤ 67108864 → (fault : ReadingFault)
+    → RefusesText text fault → RefusesReading u v fault
 refused_as u v text read at_end short Read is = tt
 refused_as u v text read at_end short NoMemory is = tt
 refused_as u v text read at_end short TooLong is = absurd is
@@ -27,7 +30,8 @@ refused_as u v text read at_end short (Line n) is = record { text = text; read =
 refused_as u v text read at_end short Short is = record { text = text; read = read; at_end = at_end; short = short; is = is }
 
 -- nothing was begun with
-pub source_first : (u v : Option (List ℕ)) (fault : ReadingFault) → IsSourceFault fault → (fault ≡ TooLong → (more : List ℕ) × (67108864 < 0 + length more) × Consumes u v more) → RefusesReading u v fault
+pub source_first : (u v : Option (List ℕ)) (fault : ReadingFault) → IsSourceFault fault
+    → (fault ≡ TooLong → (more : List ℕ) × (67108864 < 0 + length more) × Consumes u v more) → RefusesReading u v fault
 source_first u v Read is long = tt
 source_first u v NoMemory is long = tt
 source_first u v TooLong is long = let h = long refl in record { more = h.0; long = h.1; read = h.2 }
@@ -44,13 +48,17 @@ module _ (u v : Option (List ℕ)) (begun : List ℕ) (none : begun ≡ []) (p :
   pub first_last : (fault : ReadingFault) → FirstRefused p.text.items p.ended fault → p.ended ≡ true → RefusesReading u v fault
   first_last fault refused ended =
       let last = is.last ended in
-      refused_as u v is.more is.read last.at_end (omega (arith, is.total, is.short)) fault (subst (λ (t : List ℕ). RefusesText t fault) whole (refused p.rest.items (λ e. absurd cc) (λ e. last.none)))
+      refused_as u v is.more is.read last.at_end (omega (arith, is.total, is.short)) fault
+      (subst (λ (t : List ℕ). RefusesText t fault) whole (refused p.rest.items (λ e. absurd cc) (λ e. last.none)))
 
-  pub first_drained : (y : Option (List ℕ)) (fault result : ReadingFault) → FirstRefused p.text.items p.ended fault → p.ended ≡ false → Drains v y p.total fault result → RefusesReading u y result
+  pub first_drained : (y : Option (List ℕ)) (fault result : ReadingFault) → FirstRefused p.text.items p.ended fault → p.ended ≡ false
+      → Drains v y p.total fault result → RefusesReading u y result
   first_drained y fault result refused going (inl h) =
       let inner = is.inner going in
-      let told : RefusesText (is.more ++ h.1.more) fault = subst (λ (t : List ℕ). RefusesText t fault) (behind h.1.more) (refused (p.rest.items ++ h.1.more) (λ e. (inner.whole, longer p.rest.items h.1.more inner.next)) (λ e. absurd cc)) in
-      subst (RefusesReading u y) (sym h.0) (refused_as u y (is.more ++ h.1.more) (Consumes-more u v y is.more h.1.more is.read h.1.read) h.1.at_end (omega (arith, length-append is.more h.1.more, is.total, h.1.short)) fault told)
+      let told : RefusesText (is.more ++ h.1.more) fault = subst (λ (t : List ℕ). RefusesText t fault) (behind h.1.more)
+      (refused (p.rest.items ++ h.1.more) (λ e. (inner.whole, longer p.rest.items h.1.more inner.next)) (λ e. absurd cc)) in
+      subst (RefusesReading u y) (sym h.0) (refused_as u y (is.more ++ h.1.more) (Consumes-more u v y is.more h.1.more is.read h.1.read) h.1.at_end
+      (omega (arith, length-append is.more h.1.more, is.total, h.1.short)) fault told)
   first_drained y fault result refused going (inr (inl h)) = rw h tt
   first_drained y fault result refused going (inr (inr h)) = rw h.0 record {
     more = is.more ++ h.1.more;
@@ -59,7 +67,8 @@ module _ (u v : Option (List ℕ)) (begun : List ℕ) (none : begun ≡ []) (p :
   }
 
   -- the first window is a document's text
-  pub beginning : (first : FirstWindow) (lines : ℕ) (s : Source) → IsTextOf p.text.items lines (document_of_first first) → s.rest.items ≡ p.rest.items → s.total ≡ p.total → s.lines ≡ lines → s.ended ≡ p.ended → ReadsBeginning u v first s
+  pub beginning : (first : FirstWindow) (lines : ℕ) (s : Source) → IsTextOf p.text.items lines (document_of_first first) → s.rest.items ≡ p.rest.items
+      → s.total ≡ p.total → s.lines ≡ lines → s.ended ≡ p.ended → ReadsBeginning u v first s
   beginning first lines s h rest total count ended = record {
     more = is.more;
     read = is.read;
@@ -67,7 +76,16 @@ module _ (u v : Option (List ℕ)) (begun : List ℕ) (none : begun ≡ []) (p :
     is = record {
       sound = h.sound;
       lines = count ∙ (h.lines ∙ ap (λ (t : List ℕ). length (whole_lines t)) (sym h.print));
-      total = omega (arith, total, is.total, ap length whole, length-append p.text.items p.rest.items, ap length rest, ap length h.print, length-append (print_doc (document_of_first first)) s.rest.items);
+      total = omega (
+        arith,
+        total,
+        is.total,
+        ap length whole,
+        length-append p.text.items p.rest.items,
+        ap length rest,
+        ap length h.print,
+        length-append (print_doc (document_of_first first)) s.rest.items,
+      );
       short = omega (arith, total, is.short);
       next = λ e. rw rest (is.inner (sym ended ∙ e)).next;
       last = λ e. let end = is.last (sym ended ∙ e) in record { none = rest ∙ end.none; at_end = end.at_end };
@@ -84,7 +102,8 @@ module _ (u v y : Option (List ℕ)) (first : FirstWindow) (s : Source) (begun :
   all_behind more = sym (append_assoc (print_doc d) s.rest.items more) ∙ ap (λ (t : List ℕ). t ++ more) begun.same
 
   later : (fault : ReadingFault) → RefusesAll v y d s.rest.items fault → RefusesReading u y fault
-  later fault h = refused_as u y (begun.more ++ h.more) (Consumes-more u v y begun.more h.more begun.read h.read) h.at_end (omega (arith, ap length (all_behind h.more), h.short)) fault (subst (λ (t : List ℕ). RefusesText t fault) (all_behind h.more) h.is)
+  later fault h = refused_as u y (begun.more ++ h.more) (Consumes-more u v y begun.more h.more begun.read h.read) h.at_end
+      (omega (arith, ap length (all_behind h.more), h.short)) fault (subst (λ (t : List ℕ). RefusesText t fault) (all_behind h.more) h.is)
 
   pub later_refused : (fault : ReadingFault) → RefusesOn v y d s.rest.items (length (print_doc d ++ s.rest.items)) fault → RefusesReading u y fault
   later_refused Read h = tt

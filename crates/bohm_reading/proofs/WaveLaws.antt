@@ -1,11 +1,12 @@
 -- Windows one after another.
-use Rattle.std.proofs.Common.{◌≡◌, ◌⊎◌, inl, inr, ℕ, zero, suc, ◌+◌, ◌<◌, ◌≤◌, Bool, true, false, List, [], ◌∷◌, ◌++◌, map, length, Result, Ok, Err, refl, ap, sym, subst, ◌∙◌, arith, append_assoc, append-nil, length-append, slice_index_or}
+use Rattle.std.proofs.Common.{◌≡◌, ◌⊎◌, inl, inr, ℕ, zero, suc, ◌+◌, ◌<◌, ◌≤◌, Bool, true, false, List, [], ◌∷◌, ◌++◌, map, length}
+use Rattle.std.proofs.Common.{Result, Ok, Err, refl, ap, sym, subst, ◌∙◌, arith, append_assoc, append-nil, length-append, slice_index_or}
 use Rattle.std.specs.List.{flat_map}
 use Rattle.std.proofs.lemmas.Grind.{flat_map-append}
 use Rattle.std.proofs.lemmas.List.{map-append}
-use Rattle.bohm_tree.specs.declared.edition.Edition.{Edition}
-use Rattle.bohm_tree.specs.Document.{Document}
-use Rattle.bohm_tree.specs.Txn.{Txn}
+use Rattle.bohm_types.specs.declared.edition.Edition.{Edition}
+use Rattle.bohm_types.specs.Document.{Document}
+use Rattle.bohm_types.specs.Txn.{Txn}
 use Rattle.bohm_text.specs.declared.windows.Chunk.{Chunk}
 use Rattle.bohm_text.specs.declared.fault.WindowFault.{WindowFault}
 use Rattle.bohm_text.specs.declared.fault.WindowFault.TheVariants as windows
@@ -18,15 +19,20 @@ use Rattle.bohm_reading.specs.declared.fault.ReadingFault.{ReadingFault}
 use Rattle.bohm_reading.specs.declared.fault.ReadingFault.TheVariants.{Read, TooLong, Line, Short, NoMemory}
 use Rattle.bohm_reading.specs.declared.parsing.Parsed.{Parsed}
 use Rattle.bohm_reading.specs.declared.parsing.Window.{Window}
-use Rattle.bohm_reading.specs.Waves.{IsParsed, AreParsed, AreRead, windows_of, bytes_of, AreInOrder, logs_of, TakesChunk, TakesWave, IsBadAt, IsOpenAt, RefusesWindow, RefusesText, RefusesWave}
+use Rattle.bohm_reading.specs.Waves.{IsParsed, AreParsed, AreRead, windows_of, bytes_of, AreInOrder, logs_of}
+use Rattle.bohm_reading.specs.Waves.{TakesChunk, TakesWave, IsBadAt, IsOpenAt, RefusesWindow, RefusesText, RefusesWave}
 
 -- ---- side by side
 
-pub each_parsed : (e : Edition) (ws : List Window) (ps : List Parsed) → length ps ≡ length ws → ((i : ℕ) (d : Window) (f : Parsed) → i < length ws → IsParsed e (slice_index_or ws i d) (slice_index_or ps i f)) → AreParsed e ws ps
+pub each_parsed : (e : Edition) (ws : List Window) (ps : List Parsed) → length ps ≡ length ws
+    → ((i : ℕ) (d : Window) (f : Parsed) → i < length ws → IsParsed e (slice_index_or ws i d) (slice_index_or ps i f)) → AreParsed e ws ps
 each_parsed e [] [] same each = tt
 each_parsed e [] (p ∷ ps) same each = absurd (omega (arith, same))
 each_parsed e (w ∷ ws) [] same each = absurd (omega (arith, same))
-each_parsed e (w ∷ ws) (p ∷ ps) same each = (each 0 w p (omega arith), each_parsed e ws ps (omega (arith, same)) (λ i d f low. each (suc i) d f (omega (arith, low))))
+each_parsed e (w ∷ ws) (p ∷ ps) same each = (
+  each 0 w p (omega arith),
+  each_parsed e ws ps (omega (arith, same)) (λ i d f low. each (suc i) d f (omega (arith, low))),
+)
 
 -- the windows come back with what was read of them
 pub came_back : (e : Edition) (ws : List Window) (ps : List Parsed) → AreParsed e ws ps → (windows_of ps ≡ ws) × AreRead e ps
@@ -59,17 +65,24 @@ wave_none was e lines = record {
   short = omega arith;
 }
 
-pub wave_more : (was mid now : List Chunk) (e : Edition) (ws w : List ℕ) (a b c : ℕ) → TakesWave was mid e ws a b → TakesChunk mid now e w b c → TakesWave was now e (ws ++ w) a c
+pub wave_more : (was mid now : List Chunk) (e : Edition) (ws w : List ℕ) (a b c : ℕ) → TakesWave was mid e ws a b → TakesChunk mid now e w b c
+    → TakesWave was now e (ws ++ w) a c
 wave_more was mid now e ws w a b c before one =
-    let joined : logs_of (before.chunks ++ one.chunk ∷ []) ≡ logs_of before.chunks ++ one.chunk.log = flat_map-append (λ (k : Chunk). k.log) before.chunks (one.chunk ∷ []) ∙ ap (λ (log : List Txn). logs_of before.chunks ++ log) (append-nil one.chunk.log) in
+    let joined : logs_of (before.chunks ++ one.chunk ∷ []) ≡ logs_of before.chunks ++ one.chunk.log = flat_map-append (λ (k : Chunk). k.log) before.chunks
+    (one.chunk ∷ []) ∙ ap (λ (log : List Txn). logs_of before.chunks ++ log) (append-nil one.chunk.log) in
     record {
       chunks = before.chunks ++ one.chunk ∷ [];
       added = one.added ∙ (ap (λ (k : List Chunk). k ++ one.chunk ∷ []) before.added ∙ append_assoc was before.chunks (one.chunk ∷ []));
       placed = λ bytes d same so_far.
           let there = before.placed bytes d same so_far in
-          let next = chunk_placed (bytes ++ ws) b (with_log d (logs_of before.chunks)) w one.chunk there (subst (λ (f : Edition). IsChunkOf f w one.chunk) (sym same) one.is) in
-          let log : (d.log ++ logs_of before.chunks) ++ one.chunk.log ≡ d.log ++ logs_of (before.chunks ++ one.chunk ∷ []) = append_assoc d.log (logs_of before.chunks) one.chunk.log ∙ ap (λ (l : List Txn). d.log ++ l) (sym joined) in
-          subst (λ (l : List Txn). IsTextOf (bytes ++ (ws ++ w)) c (record d { log = l })) log (subst (λ (n : ℕ). IsTextOf (bytes ++ (ws ++ w)) n (with_log (with_log d (logs_of before.chunks)) one.chunk.log)) (sym one.lines) (subst (λ (t : List ℕ). IsTextOf t (b + one.chunk.lines) (with_log (with_log d (logs_of before.chunks)) one.chunk.log)) (append_assoc bytes ws w) next));
+          let next = chunk_placed (bytes ++ ws) b (with_log d (logs_of before.chunks)) w one.chunk there
+          (subst (λ (f : Edition). IsChunkOf f w one.chunk) (sym same) one.is) in
+          let log : (d.log ++ logs_of before.chunks) ++ one.chunk.log ≡ d.log ++ logs_of (before.chunks ++ one.chunk ∷ []) =
+          append_assoc d.log (logs_of before.chunks) one.chunk.log ∙ ap (λ (l : List Txn). d.log ++ l) (sym joined) in
+          subst (λ (l : List Txn). IsTextOf (bytes ++ (ws ++ w)) c (record d { log = l })) log
+          (subst (λ (n : ℕ). IsTextOf (bytes ++ (ws ++ w)) n (with_log (with_log d (logs_of before.chunks)) one.chunk.log)) (sym one.lines)
+          (subst (λ (t : List ℕ). IsTextOf t (b + one.chunk.lines) (with_log (with_log d (logs_of before.chunks)) one.chunk.log))
+          (append_assoc bytes ws w) next));
       short = omega (arith, before.short, one.lines, one.is.lines, lines_short w, length-append ws w);
     }
 
@@ -77,13 +90,18 @@ order_at : (ys : List Window) (ws : List Window) (tail : List ℕ) → AreInOrde
 order_at [] ws tail order = order
 order_at (y ∷ ys) ws tail order = order_at ys ws tail order.3
 
-bad_told : (bytes window rest : List ℕ) (b n : ℕ) (d : Document) → IsTextOf bytes b d → IsWindow window → IsBadAt d.edition window b n → IsFirstBadLine (whole_lines (bytes ++ (window ++ rest))) n
-bad_told bytes window rest b n d so_far begins h = subst (λ (m : ℕ). IsFirstBadLine (whole_lines (bytes ++ (window ++ rest))) m) (sym h.same) (bad_placed bytes b d window rest h.line so_far begins h.bad)
+bad_told : (bytes window rest : List ℕ) (b n : ℕ) (d : Document) → IsTextOf bytes b d → IsWindow window → IsBadAt d.edition window b n
+    → IsFirstBadLine (whole_lines (bytes ++ (window ++ rest))) n
+bad_told bytes window rest b n d so_far begins h =
+    subst (λ (m : ℕ). IsFirstBadLine (whole_lines (bytes ++ (window ++ rest))) m) (sym h.same) (bad_placed bytes b d window rest h.line so_far begins h.bad)
 
-open_told : (bytes window rest : List ℕ) (b n : ℕ) (d : Document) → IsTextOf bytes b d → IsWindow window → IsWhole window → IsWindow rest → IsOpenAt d.edition window b n → IsFirstBadLine (whole_lines (bytes ++ (window ++ rest))) n
-open_told bytes window rest b n d so_far begins whole next h = subst (λ (m : ℕ). IsFirstBadLine (whole_lines (bytes ++ (window ++ rest))) m) (sym h.same) (open_placed bytes b d window rest h.lines so_far begins whole h.opened next)
+open_told : (bytes window rest : List ℕ) (b n : ℕ) (d : Document) → IsTextOf bytes b d → IsWindow window → IsWhole window → IsWindow rest
+    → IsOpenAt d.edition window b n → IsFirstBadLine (whole_lines (bytes ++ (window ++ rest))) n
+open_told bytes window rest b n d so_far begins whole next h = subst (λ (m : ℕ). IsFirstBadLine (whole_lines (bytes ++ (window ++ rest))) m) (sym h.same)
+    (open_placed bytes b d window rest h.lines so_far begins whole h.opened next)
 
-told : (w : Window) (ws : List Window) (tail bytes : List ℕ) (b : ℕ) (d : Document) → IsTextOf bytes b d → AreInOrder (w ∷ ws) tail → (fault : ReadingFault) → RefusesWindow d.edition w.text.items w.last b fault → RefusesText (bytes ++ (w.text.items ++ (bytes_of ws ++ tail))) fault
+told : (w : Window) (ws : List Window) (tail bytes : List ℕ) (b : ℕ) (d : Document) → IsTextOf bytes b d → AreInOrder (w ∷ ws) tail → (fault : ReadingFault)
+    → RefusesWindow d.edition w.text.items w.last b fault → RefusesText (bytes ++ (w.text.items ++ (bytes_of ws ++ tail))) fault
 told w ws tail bytes b d so_far order (Line n) refused =
     elim refused [
       | inl h ↦ bad_told bytes w.text.items (bytes_of ws ++ tail) b n d so_far order.0 h
@@ -96,10 +114,13 @@ told w ws tail bytes b d so_far order Read refused = absurd refused
 told w ws tail bytes b d so_far order TooLong refused = absurd refused
 told w ws tail bytes b d so_far order NoMemory refused = tt
 
-pub fault_at : (was mid : List Chunk) (e : Edition) (ys ws : List Window) (w : Window) (a b : ℕ) (fault : ReadingFault) → TakesWave was mid e (bytes_of ys) a b → RefusesWindow e w.text.items w.last b fault → RefusesWave e (ys ++ w ∷ ws) a fault
+pub fault_at : (was mid : List Chunk) (e : Edition) (ys ws : List Window) (w : Window) (a b : ℕ) (fault : ReadingFault)
+    → TakesWave was mid e (bytes_of ys) a b → RefusesWindow e w.text.items w.last b fault → RefusesWave e (ys ++ w ∷ ws) a fault
 fault_at was mid e ys ws w a b fault before refused = λ bytes d tail same so_far order.
-    let all : bytes ++ (bytes_of (ys ++ w ∷ ws) ++ tail) ≡ (bytes ++ bytes_of ys) ++ (w.text.items ++ (bytes_of ws ++ tail)) = simp (flat_map-append, append_assoc) in
-    rw all (told w ws tail (bytes ++ bytes_of ys) b (with_log d (logs_of before.chunks)) (before.placed bytes d same so_far) (order_at ys (w ∷ ws) tail order) fault (subst (λ (f : Edition). RefusesWindow f w.text.items w.last b fault) (sym same) refused))
+    let all : bytes ++ (bytes_of (ys ++ w ∷ ws) ++ tail) ≡ (bytes ++ bytes_of ys) ++ (w.text.items ++ (bytes_of ws ++ tail)) =
+    simp (flat_map-append, append_assoc) in
+    rw all (told w ws tail (bytes ++ bytes_of ys) b (with_log d (logs_of before.chunks)) (before.placed bytes d same so_far)
+    (order_at ys (w ∷ ws) tail order) fault (subst (λ (f : Edition). RefusesWindow f w.text.items w.last b fault) (sym same) refused))
 
 -- ---- in the midst of a wave
 
@@ -114,13 +135,26 @@ module _ (e : Edition) (wave ys : List Parsed) (p : Parsed) (ps : List Parsed) (
   pub windows_at : windows_of wave ≡ windows_of ys ++ p.window ∷ windows_of ps
   windows_at = ap windows_of (sym whole) ∙ map-append (λ (q : Parsed). q.window) ys (p ∷ ps)
 
-  pub short_at : (a b most : ℕ) → b ≤ a + length (bytes_of (windows_of ys)) → a + length (bytes_of (windows_of wave)) ≤ most → b + length p.window.text.items ≤ most
+  pub short_at : (a b most : ℕ) → b ≤ a + length (bytes_of (windows_of ys)) → a + length (bytes_of (windows_of wave)) ≤ most
+      → b + length p.window.text.items ≤ most
   short_at a b most before all =
-      let same : bytes_of (windows_of wave) ≡ bytes_of (windows_of ys) ++ (p.window.text.items ++ bytes_of (windows_of ps)) = ap bytes_of windows_at ∙ flat_map-append (λ (w : Window). w.text.items) (windows_of ys) (p.window ∷ windows_of ps) in
-      omega (arith, before, all, ap length same, length-append (bytes_of (windows_of ys)) (p.window.text.items ++ bytes_of (windows_of ps)), length-append p.window.text.items (bytes_of (windows_of ps)))
+      let same : bytes_of (windows_of wave) ≡ bytes_of (windows_of ys) ++ (p.window.text.items ++ bytes_of (windows_of ps)) =
+      ap bytes_of windows_at ∙ flat_map-append (λ (w : Window). w.text.items) (windows_of ys) (p.window ∷ windows_of ps) in
+      omega (
+        arith,
+        before,
+        all,
+        ap length same,
+        length-append (bytes_of (windows_of ys)) (p.window.text.items ++ bytes_of (windows_of ps)),
+        length-append p.window.text.items (bytes_of (windows_of ps)),
+      )
 
-  pub refused_at : (was mid : List Chunk) (a b : ℕ) (fault : ReadingFault) → TakesWave was mid e (bytes_of (windows_of ys)) a b → RefusesWindow e p.window.text.items p.window.last b fault → RefusesWave e (windows_of wave) a fault
-  refused_at was mid a b fault before refused = subst (λ (ws : List Window). RefusesWave e ws a fault) (sym windows_at) (fault_at was mid e (windows_of ys) (windows_of ps) p.window a b fault before refused)
+  pub refused_at : (was mid : List Chunk) (a b : ℕ) (fault : ReadingFault) → TakesWave was mid e (bytes_of (windows_of ys)) a b
+      → RefusesWindow e p.window.text.items p.window.last b fault → RefusesWave e (windows_of wave) a fault
+  refused_at was mid a b fault before refused = subst (λ (ws : List Window). RefusesWave e ws a fault) (sym windows_at)
+      (fault_at was mid e (windows_of ys) (windows_of ps) p.window a b fault before refused)
 
 pub bytes_push : (ys : List Parsed) (p : Parsed) → bytes_of (windows_of (ys ++ p ∷ [])) ≡ bytes_of (windows_of ys) ++ p.window.text.items
-bytes_push ys p = ap bytes_of (map-append (λ (q : Parsed). q.window) ys (p ∷ [])) ∙ (flat_map-append (λ (w : Window). w.text.items) (windows_of ys) (p.window ∷ []) ∙ ap (λ (b : List ℕ). bytes_of (windows_of ys) ++ b) (append-nil p.window.text.items))
+bytes_push ys p = ap bytes_of (map-append (λ (q : Parsed). q.window) ys (p ∷ []))
+    ∙ (flat_map-append (λ (w : Window). w.text.items) (windows_of ys) (p.window ∷ [])
+    ∙ ap (λ (b : List ℕ). bytes_of (windows_of ys) ++ b) (append-nil p.window.text.items))

@@ -1,9 +1,9 @@
 -- A document from a reader, in windows.
 use Rattle.std.specs.Prelude.{◌≡◌, ◌⊎◌, ℕ, ◌+◌, ◌-◌, ◌<◌, ◌≤◌, List, [], ◌++◌, cond, Bool, true, false, length, Option}
 use Rattle.std.specs.Io.KnownBytes.{Consumes, IsAtEnd}
-use Rattle.bohm_tree.specs.Document.{Document}
-use Rattle.bohm_tree.specs.Sound.{IsDocument}
-use Rattle.bohm_tree.specs.Txn.{Txn}
+use Rattle.bohm_types.specs.Document.{Document}
+use Rattle.bohm_types.specs.Sound.{IsDocument}
+use Rattle.bohm_types.specs.Txn.{Txn}
 use Rattle.bohm_text.specs.declared.windows.Chunk.{Chunk}
 use Rattle.bohm_text.specs.Cut.{whole_lines}
 use Rattle.bohm_text.specs.Print.{print_doc}
@@ -15,7 +15,7 @@ use Rattle.bohm_reading.specs.declared.fault.ReadingFault.{ReadingFault}
 use Rattle.bohm_reading.specs.declared.fault.ReadingFault.TheVariants.{Read, TooLong, Line, Short, NoMemory}
 use Rattle.bohm_reading.specs.declared.reading.Source.{Source}
 use Rattle.bohm_reading.specs.declared.wave.Wave.{Wave}
-use Rattle.bohm_tree.specs.declared.edition.Edition.{Edition}
+use Rattle.bohm_types.specs.declared.edition.Edition.{Edition}
 use Rattle.bohm_reading.specs.Pieces.{IsLast}
 use Rattle.bohm_reading.specs.Waves.{bytes_of, AreInOrder, logs_of, RefusesText}
 
@@ -46,7 +46,8 @@ pub record IsDrained (unread unread' : Option (List ℕ)) (before : ℕ) : Type 
   pub short : before + length more ≤ 67108864
 
 abbrev pub Drains : Option (List ℕ) → Option (List ℕ) → ℕ → ReadingFault → ReadingFault → Type 0
-Drains unread unread' before fault result = ((result ≡ fault) × IsDrained unread unread' before) ⊎ ((result ≡ Read) ⊎ ((result ≡ TooLong) × IsTooLong unread unread' before))
+Drains unread unread' before fault result = ((result ≡ fault) × IsDrained unread unread' before)
+    ⊎ ((result ≡ Read) ⊎ ((result ≡ TooLong) × IsTooLong unread unread' before))
 
 -- so many bytes came
 pub record IsCounted (unread unread' : Option (List ℕ)) (before : ℕ) (now : ℕ) : Type 0 where
@@ -100,7 +101,8 @@ RefusesOn unread unread' d rest before (Line n) = RefusesAll unread unread' d re
 RefusesOn unread unread' d rest before Short = RefusesAll unread unread' d rest Short
 
 -- chunks came, and this is read behind them
-pub record IsReadOn (unread unread' : Option (List ℕ)) (d : Document) (first : List ℕ) (chunks : List Chunk) (count : ℕ) (rest : List ℕ) (bytes : ℕ) (ended : Bool) : Type 0 where
+pub record IsReadOn (unread unread' : Option (List ℕ)) (d : Document) (first : List ℕ) (chunks : List Chunk) (count : ℕ) (rest : List ℕ) (bytes : ℕ)
+    (ended : Bool) : Type 0 where
   pub more : List ℕ
   pub read : Consumes unread unread' more
   pub is : IsReading unread' (with_log d (logs_of chunks)) count rest bytes ended

@@ -1,9 +1,9 @@
 -- Windows that follow one another, and what was read of them.
 use Rattle.std.specs.Prelude.{◌≡◌, ◌⊎◌, ℕ, ◌+◌, ◌≤◌, List, [], ◌∷◌, ◌++◌, Bool, true, false, map, length}
 use Rattle.std.specs.List.{flat_map}
-use Rattle.bohm_tree.specs.declared.edition.Edition.{Edition}
-use Rattle.bohm_tree.specs.Document.{Document}
-use Rattle.bohm_tree.specs.Txn.{Txn}
+use Rattle.bohm_types.specs.declared.edition.Edition.{Edition}
+use Rattle.bohm_types.specs.Document.{Document}
+use Rattle.bohm_types.specs.Txn.{Txn}
 use Rattle.bohm_text.specs.declared.windows.Chunk.{Chunk}
 use Rattle.bohm_text.specs.Cut.{whole_lines}
 use Rattle.bohm_text.specs.Faults.{IsFirstBadLine, IsShort}
@@ -39,7 +39,8 @@ bytes_of ws = flat_map (λ w. w.text.items) ws
 -- each begins with the line `txn`, and stands before the next one or at the end; so much stands behind them
 abbrev pub AreInOrder : List Window → List ℕ → Type 0
 AreInOrder [] tail = Unit {0}
-AreInOrder (w ∷ ws) tail = IsWindow w.text.items × (w.last ≡ false → IsWhole w.text.items × IsWindow (bytes_of ws ++ tail)) × (w.last ≡ true → bytes_of ws ++ tail ≡ []) × AreInOrder ws tail
+AreInOrder (w ∷ ws) tail = IsWindow w.text.items × (w.last ≡ false → IsWhole w.text.items × IsWindow (bytes_of ws ++ tail))
+    × (w.last ≡ true → bytes_of ws ++ tail ≡ []) × AreInOrder ws tail
 
 -- the transactions of chunks
 abbrev pub logs_of : List Chunk → List Txn
@@ -91,4 +92,5 @@ RefusesText text NoMemory = Unit {0}
 
 -- of windows that follow one another behind a document of this edition one is refused
 abbrev pub RefusesWave : Edition → List Window → ℕ → ReadingFault → Type 0
-RefusesWave e windows before fault = (bytes : List ℕ) (d : Document) (tail : List ℕ) → d.edition ≡ e → IsTextOf bytes before d → AreInOrder windows tail → RefusesText (bytes ++ (bytes_of windows ++ tail)) fault
+RefusesWave e windows before fault = (bytes : List ℕ) (d : Document) (tail : List ℕ) → d.edition ≡ e → IsTextOf bytes before d → AreInOrder windows tail
+    → RefusesText (bytes ++ (bytes_of windows ++ tail)) fault

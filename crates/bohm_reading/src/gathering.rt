@@ -1,13 +1,14 @@
 //! Collects chunks in the order of their windows.
 
 ghost use Rattle.std.specs.Prelude.{◌≡◌, ◌+◌, ◌≤◌, length, IfOk, IfErr, Err};
-ghost use Rattle.bohm_reading.specs.Waves.{AreRead, bytes_of, windows_of, TakesChunk, TakesWave, RefusesWindow, RefusesWave};
+ghost use Rattle.bohm_reading.specs.Waves.{AreRead, bytes_of, windows_of, TakesChunk};
+ghost use Rattle.bohm_reading.specs.Waves.{TakesWave, RefusesWindow, RefusesWave};
 ghost use Rattle.bohm_text.specs.Windowing.{ReadsWindow};
 
 use crate::fault::ReadingFault;
 use crate::parsing::{Parsed, Window};
 use bohm_text::{Chunk, WindowFault};
-use bohm_tree::Edition;
+use bohm_types::Edition;
 
 /// Why a window after this many lines is refused.
 fn refusal(edition: Edition, lines: u64, window: &Window, fault: WindowFault) -> ReadingFault

@@ -6,7 +6,7 @@ ghost use Rattle.bohm_reading.specs.Waves.{IsParsed, AreParsed};
 
 use bohm_log::DrawnSeed;
 use bohm_text::{Chunk, WindowFault, parse_window};
-use bohm_tree::{Edition, NoMemory};
+use bohm_types::{Edition, NoMemory};
 use std::alloc::Global;
 use std::thread;
 use std::thread::Threads;

@@ -13,7 +13,7 @@ use crate::source::{Piece, next_piece};
 use crate::wave::{Wave, next_wave};
 use bohm_log::DrawnSeed;
 use bohm_text::{Chunk, FirstWindow, WindowFault, parse_first_window};
-use bohm_tree::Edition;
+use bohm_types::Edition;
 use std::alloc::Global;
 use std::io::Read;
 use std::mem;

@@ -1,13 +1,14 @@
 //! The bytes of a text, window by window.
 
-ghost use Rattle.std.specs.Prelude.{◌≡◌, ◌+◌, ◌++◌, ◌<◌, ◌≤◌, ℕ, List, [], length, take, drop, IfOk, IfErr, Err};
+ghost use Rattle.std.specs.Prelude.{◌≡◌, ◌+◌, ◌++◌, ◌<◌, ◌≤◌, ℕ, List, []};
+ghost use Rattle.std.specs.Prelude.{length, take, drop, IfOk, IfErr, Err};
 ghost use Rattle.std.specs.Io.KnownBytes.{Consumes};
 ghost use Rattle.bohm_reading.specs.Pieces.{IsPiece};
 ghost use Rattle.bohm_reading.specs.Reading.{IsSourceFault};
 
 use crate::cutting::{OPENING, cut_at};
 use crate::fault::ReadingFault;
-use bohm_tree::NoMemory;
+use bohm_types::NoMemory;
 use std::alloc::Global;
 use std::io::Read;
 

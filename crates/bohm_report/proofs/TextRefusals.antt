@@ -25,7 +25,8 @@ module _ (unread unread' : Option (List ℕ)) (text : List ℕ) (read : ReadsAll
   run_refuses NoMemory is given = tt
 
 -- of the fault that it is made
-pub told_refuses : (unread unread' : Option (List ℕ)) (text : List ℕ) (refusal : Refusal) (fault : RunFault) → ReadsAll unread unread' text → check.Refuses text refusal
+pub told_refuses : (unread unread' : Option (List ℕ)) (text : List ℕ) (refusal : Refusal) (fault : RunFault) → ReadsAll unread unread' text
+    → check.Refuses text refusal
     → fault ≡ fault_of refusal → (given : Given) → Refuses given unread unread' None None fault
 told_refuses unread unread' text refusal fault read is made given =
     subst (λ (e : RunFault). Refuses given unread unread' None None e) (sym made) (run_refuses unread unread' text read refusal is given)

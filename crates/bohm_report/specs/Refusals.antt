@@ -1,7 +1,7 @@
 -- Why a text is refused.
 use Rattle.std.specs.Prelude.{◌≡◌, ℕ, List}
-use Rattle.bohm_tree.specs.Document.{Document}
-use Rattle.bohm_tree.specs.Sound.{IsDocument}
+use Rattle.bohm_types.specs.Document.{Document}
+use Rattle.bohm_types.specs.Sound.{IsDocument}
 use Rattle.bohm_text.specs.Cut.{whole_lines}
 use Rattle.bohm_text.specs.Faults.{IsFirstBadLine, IsShort}
 use Rattle.bohm_text.specs.Print.{print_doc}

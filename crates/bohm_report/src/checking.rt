@@ -1,7 +1,7 @@
 //! Checks a text and reports its faults.
 
 ghost use Rattle.std.specs.Prelude.{◌≡◌, OnOk, IfOk, IfErr};
-ghost use Rattle.bohm_tree.specs.Sound.{IsDocument};
+ghost use Rattle.bohm_types.specs.Sound.{IsDocument};
 ghost use Rattle.bohm_text.specs.Print.{print_doc};
 ghost use Rattle.bohm_txn.specs.Faulty.{WellFormed};
 ghost use Rattle.bohm_report.specs.Refusals.{RefusesDocument, RefusesText, Refuses};

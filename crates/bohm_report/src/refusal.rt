@@ -1,8 +1,8 @@
 //! Why a log is refused.
 
 use bohm_text::TextFault;
-use bohm_tree::NoMemory;
 use bohm_txn::CheckFault;
+use bohm_types::NoMemory;
 
 /// Why a text isn't a log that can be run.
 #[derive(Clone, Copy, Debug, PartialEq, Eq)]

@@ -17,8 +17,10 @@ use Rattle.bohm_run.specs.declared.fault.RunFault.TheVariants.{Read, TooLong, Te
 use Rattle.bohm_run.proofs.Walks.{store_then}
 
 -- the text of the replies, and then that of the store of a timestamp
-pub answer_text : (keep : ℕ) (u v : Option (List ℕ)) (s : RunState) (run : IsLogRun keep u v s) (ts : ℕ) (entered : List (List ℕ × ℤ)) (text : List ℕ) → s.progress.history.floor ≤ ts → ts ≤ s.progress.history.top
-    → cell_in (store_of entered) ≡ past s.progress.history ts → entered ≡ entries (store_of entered) → text ≡ s.text.items ++ print_store entered → text ≡ answer_of run.document ts
+pub answer_text : (keep : ℕ) (u v : Option (List ℕ)) (s : RunState) (run : IsLogRun keep u v s) (ts : ℕ) (entered : List (List ℕ × ℤ)) (text : List ℕ)
+    → s.progress.history.floor ≤ ts → ts ≤ s.progress.history.top
+    → cell_in (store_of entered) ≡ past s.progress.history ts → entered ≡ entries (store_of entered) → text ≡ s.text.items ++ print_store entered
+    → text ≡ answer_of run.document ts
 answer_text keep u v s run ts entered text kept there cells own wrote =
     let stored : entered ≡ entries (store_after (store_of run.document.store) (take ts run.document.log)) =
     store_then (store_of run.document.store) run.document.log ts entered (omega (arith, there, run.history.top)) (cells ∙ run.history.past ts kept there) own in
@@ -59,4 +61,9 @@ module _ (given : Given) (u v w w' : Option (List ℕ)) (s : RunState) (run : Is
     unwritten Trimmed h = absurd h
     unwritten Future h = absurd h
     unwritten NoMemory h = absurd h
-    unwritten (Write sent) h = record { document = run.document; read = run.read; readable = readable; wrote = subst (λ (b : List ℕ). Sends w w' b sent) same h }
+    unwritten (Write sent) h = record {
+      document = run.document;
+      read = run.read;
+      readable = readable;
+      wrote = subst (λ (b : List ℕ). Sends w w' b sent) same h;
+    }

@@ -2,8 +2,8 @@
 use Rattle.std.proofs.Common.{◌≡◌, ℕ, suc, ◌<◌, List, [], ◌∷◌, ◌++◌, length, Ok, refl, ap, sym, subst, ◌∙◌, arith}
 use Rattle.std.specs.Prelude.{Result, IfOk, map, slice_index_or}
 use Rattle.std.specs.List.{flat_map}
-use Rattle.bohm_tree.specs.Txn.{Txn}
-use Rattle.bohm_tree.specs.declared.memory.NoMemory.{NoMemory}
+use Rattle.bohm_types.specs.Txn.{Txn}
+use Rattle.bohm_types.specs.declared.memory.NoMemory.{NoMemory}
 use Rattle.bohm_text.specs.declared.windows.Chunk.{Chunk}
 use Rattle.bohm_reading.specs.Waves.{logs_of}
 use Rattle.bohm_run.specs.declared.checked_chunk.CheckedChunk.{CheckedChunk}
@@ -38,7 +38,8 @@ abbrev pub results_of : List CheckedChunk → List (Result CheckedChunk NoMemory
 results_of cs = map Ok cs
 
 each_same : (ps : List CountedChunk) (cs : List CheckedChunk) → length (results_of cs) ≡ length ps
-    → ((i : ℕ) (d : CountedChunk) (e : Result CheckedChunk NoMemory) → i < length ps → IfOk (slice_index_or (results_of cs) i e) (IsCheckedOf (slice_index_or ps i d)))
+    → ((i : ℕ) (d : CountedChunk) (e : Result CheckedChunk NoMemory) → i < length ps
+    → IfOk (slice_index_or (results_of cs) i e) (IsCheckedOf (slice_index_or ps i d)))
     → (placed cs ≡ counted_places ps) × ArePrepared cs
 each_same [] [] same each = (refl, tt)
 each_same [] (c ∷ cs) same each = absurd (omega (arith, same))
@@ -61,7 +62,8 @@ logs_counted : (ps : List CountedChunk) → flat_map (λ (p : ℕ × List Txn). 
 logs_counted [] = refl
 logs_counted (p ∷ ps) = ap (λ (l : List Txn). p.chunk.log ++ l) (logs_counted ps)
 
-pub wave_prepared : (count : ℕ) (chunks : List Chunk) (ps : List CountedChunk) (cs : List CheckedChunk) (after : ℕ) → map (λ (c : CountedChunk). c.chunk) ps ≡ chunks → AreBehind count (counted_places ps) → after ≡ count_behind count (counted_places ps)
+pub wave_prepared : (count : ℕ) (chunks : List Chunk) (ps : List CountedChunk) (cs : List CheckedChunk) (after : ℕ)
+    → map (λ (c : CountedChunk). c.chunk) ps ≡ chunks → AreBehind count (counted_places ps) → after ≡ count_behind count (counted_places ps)
     → (placed cs ≡ counted_places ps) × ArePrepared cs → IsWavePrepared count chunks cs after
 wave_prepared count chunks ps cs after own behind is checked = let same = checked.0 in record {
   txns = ap (λ (ps : List (ℕ × List Txn)). flat_map (λ (p : ℕ × List Txn). p.1) ps) same ∙ (logs_counted ps ∙ ap logs_of own);

@@ -1,9 +1,10 @@
 -- Chunk after chunk is the whole log.
-use Rattle.std.proofs.Common.{◌≡◌, ◌⊎◌, inl, inr, ⊎_elim, ℕ, ◌+◌, ◌≤◌, ◌<◌, ◌++◌, List, [], ◌∷◌, length, length-append, append_assoc, append-nil, refl, ap, sym, subst, ◌∙◌, arith}
+use Rattle.std.proofs.Common.{◌≡◌, ◌⊎◌, inl, inr, ⊎_elim, ℕ, ◌+◌, ◌≤◌, ◌<◌, ◌++◌, List, [], ◌∷◌, length}
+use Rattle.std.proofs.Common.{length-append, append_assoc, append-nil, refl, ap, sym, subst, ◌∙◌, arith}
 use Rattle.std.specs.Prelude.{Option, Some, None, true, false, is_some}
 use Rattle.std.proofs.lemmas.Bool.{cases_lt}
-use Rattle.bohm_tree.specs.Document.{Document}
-use Rattle.bohm_tree.specs.Txn.{Txn}
+use Rattle.bohm_types.specs.Document.{Document}
+use Rattle.bohm_types.specs.Txn.{Txn}
 use Rattle.bohm_txn.specs.declared.fault.CheckFault.{CheckFault}
 use Rattle.bohm_txn.specs.declared.outcome.Reply.{Reply}
 use Rattle.bohm_txn.specs.Chunked.{IsCheckedTo, IsCountOf}
@@ -37,7 +38,8 @@ count_on n count more (inl e) = ⊎_elim
 count_on n count more (inr both) = inr (omega (arith, both.0), omega (arith, both.1))
 
 -- with these there are more transactions than a log may have
-pub too_many : (d : Document) (txns : List Txn) (count : ℕ) → 1000000 < count + length txns → IsCountOf (length d.log) count → length (d.log ++ txns) ≤ 1000000 → ⊥
+pub too_many : (d : Document) (txns : List Txn) (count : ℕ) → 1000000 < count + length txns → IsCountOf (length d.log) count
+    → length (d.log ++ txns) ≤ 1000000 → ⊥
 too_many d txns count many (inl e) short = omega (arith, many, e, short, length-append d.log txns)
 too_many d txns count many (inr both) short = omega (arith, both.0, short, length-append d.log txns)
 
@@ -51,15 +53,19 @@ pub no_some : (o : Option CheckFault) → is_some o ≡ false → o ≡ None
 no_some None e = refl
 no_some (Some f) e = absurd cc
 
-module _ (txns : List Txn) (was now : RunState) (same : now.in_store ≡ was.in_store) (keeps : now.executor.keep ≡ was.executor.keep) (count : now.count ≡ count_with was.count (length txns)) where
+module _ (txns : List Txn) (was now : RunState) (same : now.in_store ≡ was.in_store) (keeps : now.executor.keep ≡ was.executor.keep)
+    (count : now.count ≡ count_with was.count (length txns)) where
   all_counted : (d : Document) → IsCountOf (length d.log) was.count → IsCountOf (length (d.log ++ txns)) now.count
   all_counted d so_far =
-      let on : IsCountOf (length d.log + length txns) now.count = subst (λ (m : ℕ). IsCountOf (length d.log + length txns) m) (sym count) (count_on (length d.log) was.count (length txns) so_far) in
+      let on : IsCountOf (length d.log + length txns) now.count =
+      subst (λ (m : ℕ). IsCountOf (length d.log + length txns) m) (sym count) (count_on (length d.log) was.count (length txns) so_far) in
       subst (λ (n : ℕ). IsCountOf n now.count) (sym (length-append d.log txns)) on
 
   -- a chunk without a fault was run
-  pub chunk_ran : was.fault ≡ None → now.fault ≡ None → was.count + length txns ≤ 1000000 → IsFaultBehind was.count txns None → was.progress.history.top ≡ was.count
-      → IsPartRun was.progress.history now.progress.history txns was.executor.keep (was.progress.history.top + 1) was.text.items now.text.items → RunsChunk txns was now
+  pub chunk_ran : was.fault ≡ None → now.fault ≡ None → was.count + length txns ≤ 1000000 → IsFaultBehind was.count txns None
+      → was.progress.history.top ≡ was.count
+      → IsPartRun was.progress.history now.progress.history txns was.executor.keep (was.progress.history.top + 1) was.text.items now.text.items
+      → RunsChunk txns was now
   chunk_ran clean still few checked top part = record {
     in_store = same;
     keep = keeps;
@@ -73,7 +79,8 @@ module _ (txns : List Txn) (was now : RunState) (same : now.in_store ≡ was.in_
           let before = so_far.run clean front in
           let long : length before.answered ≡ was.count = ap length before.applied.replies ∙ (length-replies (past opened opened.top) d.log ∙ sym here) in
           let place : 1 + length before.answered ≡ was.progress.history.top + 1 = omega (arith, long, top) in
-          let applied = went_on opened was.progress.history now.progress.history d.log txns was.executor.keep before.answered part.answered ordered before.applied part.applied in
+          let applied = went_on opened was.progress.history now.progress.history d.log txns was.executor.keep before.answered part.answered ordered
+          before.applied part.applied in
           record {
             answered = before.answered ++ part.answered;
             applied = subst (λ (k : ℕ). IsApplied opened now.progress.history (d.log ++ txns) k (before.answered ++ part.answered)) (sym keeps) applied;
@@ -85,7 +92,8 @@ module _ (txns : List Txn) (was now : RunState) (same : now.in_store ≡ was.in_
   }
 
   -- where a fault was found, or there are too many transactions, nothing is owed of the history
-  pub chunk_skipped : ((d : Document) → IsCountOf (length d.log) was.count → IsCheckedTo d was.fault → IsCheckedTo (with_log d txns) now.fault) → (now.fault ≡ None → 1000000 < now.count) → RunsChunk txns was now
+  pub chunk_skipped : ((d : Document) → IsCountOf (length d.log) was.count → IsCheckedTo d was.fault → IsCheckedTo (with_log d txns) now.fault)
+      → (now.fault ≡ None → 1000000 < now.count) → RunsChunk txns was now
   chunk_skipped checked over = record {
     in_store = same;
     keep = keeps;
@@ -113,7 +121,8 @@ runs_on xs ys was mid now one two = record {
   keep = two.keep ∙ one.keep;
   level = λ low. two.level (one.level low);
   runs = λ opened d ordered so_far.
-      subst (λ (log : List Txn). IsRunTo opened (record d { log = log }) now) (append_assoc d.log xs ys) (two.runs opened (with_log d xs) ordered (one.runs opened d ordered so_far));
+      subst (λ (log : List Txn). IsRunTo opened (record d { log = log }) now) (append_assoc d.log xs ys)
+      (two.runs opened (with_log d xs) ordered (one.runs opened d ordered so_far));
 }
 
 pub txns_more : (cs : List CheckedChunk) (c : CheckedChunk) → txns_of (cs ++ c ∷ []) ≡ txns_of cs ++ c.log

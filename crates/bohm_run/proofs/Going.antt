@@ -2,12 +2,12 @@
 use Rattle.std.proofs.Common.{◌≡◌, ℕ, zero, suc, [], ◌∷◌, ◌+◌, ◌-◌, ◌<◌, ◌≤◌, ◌++◌, List, length, length-append, take, max, refl, ap, sym, ◌∙◌, arith, ⊎_elim}
 use Rattle.std.proofs.lemmas.Bool.{cases_lt}
 use Rattle.std.proofs.lemmas.List.{length-take}
-use Rattle.bohm_tree.specs.Txn.{Txn}
+use Rattle.bohm_types.specs.Txn.{Txn}
 use Rattle.bohm_txn.specs.declared.outcome.Reply.{Reply}
 use Rattle.bohm_txn.specs.Meaning.{Look}
 use Rattle.bohm_txn.specs.Serial.{state, replies}
 use Rattle.bohm_txn.proofs.ForCallers.{state-append, state-front, replies-append}
-use Rattle.bohm_tree.specs.declared.cell.Cell.TheVariants.{Absent}
+use Rattle.bohm_types.specs.declared.cell.Cell.TheVariants.{Absent}
 use Rattle.bohm_store.specs.Versions.{Timeline, past, cell_at}
 use Rattle.bohm_store.specs.Nexts.{IsSame, IsSettledKept}
 use Rattle.bohm_run.specs.Runs.{floor_after, IsApplied, IsStillPast, RanSome}
@@ -22,7 +22,8 @@ floor_high was keep zero = omega arith
 floor_high was keep (suc n) = omega arith
 
 -- the floor behind both
-floors : (was mid now : Timeline) (keep m n : ℕ) → mid.floor ≡ floor_after was keep m → mid.top ≡ was.top + m → now.floor ≡ floor_after mid keep n → now.floor ≡ floor_after was keep (m + n)
+floors : (was mid now : Timeline) (keep m n : ℕ) → mid.floor ≡ floor_after was keep m → mid.top ≡ was.top + m → now.floor ≡ floor_after mid keep n
+    → now.floor ≡ floor_after was keep (m + n)
 floors was mid now keep zero zero first top second = second ∙ first
 floors was mid now keep zero (suc n) first top second =
     let f : mid.floor ≡ was.floor = first in
@@ -37,7 +38,8 @@ floors was mid now keep (suc m) (suc n) first top second =
     let goal : now.floor ≡ max was.floor ((was.top + suc (m + suc n)) - keep) = omega (arith, f, top, s) in
     rw e goal
 
-pub went_on : (was mid now : Timeline) (xs ys : List Txn) (keep : ℕ) (a b : List Reply) → was.floor ≤ was.top → IsApplied was mid xs keep a → IsApplied mid now ys keep b → IsApplied was now (xs ++ ys) keep (a ++ b)
+pub went_on : (was mid now : Timeline) (xs ys : List Txn) (keep : ℕ) (a b : List Reply) → was.floor ≤ was.top → IsApplied was mid xs keep a
+    → IsApplied mid now ys keep b → IsApplied was now (xs ++ ys) keep (a ++ b)
 went_on was mid now xs ys keep a b ordered h g =
     let look : Look = past was was.top in
     let len : length (xs ++ ys) ≡ length xs + length ys = length-append xs ys in
@@ -51,17 +53,21 @@ went_on was mid now xs ys keep a b ordered h g =
       floor = rw len (floors was mid now keep (length xs) (length ys) h.floor h.top g.floor);
       earlier = λ ts above below. g.earlier ts above (omega (arith, h.top, below)) ∙ h.earlier ts (omega (arith, sunk, above)) below;
       later = λ ts above from below. ⊎_elim
-          (λ (c : ts < mid.top). g.earlier ts above (omega (arith, c)) ∙ h.later ts (omega (arith, sunk, above)) from (omega (arith, c)) ∙ sym (state-front look xs ys (ts - was.top) (omega (arith, c, h.top, from))))
-          (λ (c : mid.top ≤ ts). g.later ts above c below ∙ ap (λ (l : Look). state l ys (ts - mid.top)) there ∙ sym (state-append look xs ys (ts - was.top) (ts - mid.top) (omega (arith, c, h.top, from))))
+          (λ (c : ts < mid.top). g.earlier ts above (omega (arith, c)) ∙ h.later ts (omega (arith, sunk, above)) from (omega (arith, c))
+          ∙ sym (state-front look xs ys (ts - was.top) (omega (arith, c, h.top, from))))
+          (λ (c : mid.top ≤ ts). g.later ts above c below ∙ ap (λ (l : Look). state l ys (ts - mid.top)) there
+          ∙ sym (state-append look xs ys (ts - was.top) (ts - mid.top) (omega (arith, c, h.top, from))))
           (cases_lt ts mid.top);
     }
 
-floor_behind : (was : Timeline) (txns : List Txn) (keep floor : ℕ) → 0 < length txns → floor ≡ max was.floor ((was.top + length txns) - keep) → floor ≡ floor_after was keep (length txns)
+floor_behind : (was : Timeline) (txns : List Txn) (keep floor : ℕ) → 0 < length txns → floor ≡ max was.floor ((was.top + length txns) - keep)
+    → floor ≡ floor_after was keep (length txns)
 floor_behind was [] keep floor some f = absurd (omega (arith, some))
 floor_behind was (x ∷ xs) keep floor some f = f
 
 -- to settle transactions, trimmed so far below their end, goes on by them
-pub settled_on : (was now : Timeline) (txns : List Txn) (keep : ℕ) → 0 < length txns → IsSettledKept was now txns ((was.top + length txns) - keep) → IsApplied was now txns keep (replies (past was was.top) txns)
+pub settled_on : (was now : Timeline) (txns : List Txn) (keep : ℕ) → 0 < length txns → IsSettledKept was now txns ((was.top + length txns) - keep)
+    → IsApplied was now txns keep (replies (past was was.top) txns)
 settled_on was now txns keep some h = record {
   replies = refl;
   top = h.top;
@@ -87,7 +93,8 @@ stayed_past was mid now txns keep a ordered still h =
     }
 
 -- so it does where nothing that is seen changes
-pub stayed : (was mid now : Timeline) (txns : List Txn) (keep : ℕ) (a : List Reply) → IsSame mid now → IsApplied was mid txns keep a → IsApplied was now txns keep a
+pub stayed : (was mid now : Timeline) (txns : List Txn) (keep : ℕ) (a : List Reply) → IsSame mid now → IsApplied was mid txns keep a
+    → IsApplied was now txns keep a
 stayed was mid now txns keep a same h =
     let alike : (ts : ℕ) → past now ts ≡ past mid ts = λ ts i k. cell_at ts (same.versions k i) Absent in
     record {

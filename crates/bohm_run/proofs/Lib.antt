@@ -1,3 +1,4 @@
+mod Moves
 mod Sending
 mod Refusals
 mod Going

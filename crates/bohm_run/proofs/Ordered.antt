@@ -1,27 +1,16 @@
 -- Transactions that run one after another.
-use Rattle.std.proofs.Common.{◌≡◌, ◌∙◌, ℕ, ◌+◌, ◌-◌, ◌≤◌, List, [], ◌∷◌, ◌++◌, length, take, Some, Ok, Err, refl, sym, ap, arith}
-use Rattle.std.specs.Prelude.{ℤ}
+use Rattle.std.proofs.Common.{◌≡◌, ◌∙◌, ℕ, ◌+◌, ◌-◌, ◌≤◌, List, [], ◌∷◌, ◌++◌, length, take, Some, Ok, Err, ap, arith}
 use Rattle.std.specs.List.{slice_get}
 use Rattle.std.proofs.lemmas.List.{take_more}
 use Rattle.std.proofs.lemmas.Option.{get_or_from_slice_get, slice_get_within}
-use Rattle.bohm_tree.specs.Txn.{Txn}
-use Rattle.bohm_txn.specs.declared.outcome.Outcome.{Outcome}
+use Rattle.bohm_types.specs.Txn.{Txn}
 use Rattle.bohm_txn.specs.declared.outcome.Reply.{Reply}
-use Rattle.bohm_txn.specs.Meaning.{Ended, body}
-use Rattle.bohm_txn.specs.Serial.{outcome_of, reply_of, shows_of}
+use Rattle.bohm_txn.specs.Meaning.{body}
+use Rattle.bohm_txn.specs.Serial.{reply_of}
 use Rattle.bohm_store.specs.Nexts.{IsSettledKept}
 use Rattle.bohm_store.specs.Versions.{Timeline, past}
-use Rattle.bohm_run.specs.Replies.{reply_with}
 use Rattle.bohm_run.specs.Runs.{IsApplied}
 use Rattle.bohm_run.proofs.Going.{settled_on, went_on}
-
-by_parts : (e : Ended) → reply_of e ≡ reply_with (outcome_of e) (shows_of e)
-by_parts (Ok run) = refl
-by_parts (Err fault) = refl
-
--- the reply to a transaction is that of its outcome and its shows
-pub replied : (e : Ended) (o : Outcome) (zs : List ℤ) → outcome_of e ≡ o → shows_of e ≡ zs → reply_with o zs ≡ reply_of e
-replied e o zs outcome shows = sym (by_parts e ∙ (λ i. reply_with (outcome i) (shows i)))
 
 -- of a list the first ones, and then the next one
 next_taken : (txns : List Txn) (i : ℕ) (t : Txn) → slice_get txns i ≡ Some t → take (i + 1) txns ≡ take i txns ++ t ∷ []

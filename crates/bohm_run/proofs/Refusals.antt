@@ -13,13 +13,15 @@ use Rattle.bohm_run.specs.declared.fault.RunFault.TheVariants.{Read, TooLong, Te
 use Rattle.bohm_run.specs.Refusing.{refusal_of}
 
 pub text_refused : (given : Given) (unread unread' : Option (List ℕ)) (text : List ℕ) (fault : TextFault) → ReadsAll unread unread' text
-    → ((n : ℕ) → fault ≡ texts.Line n → IsFirstBadLine (whole_lines text) n) → (fault ≡ texts.Short → IsShort text) → Refuses given unread unread' None None (refusal_of fault)
+    → ((n : ℕ) → fault ≡ texts.Line n → IsFirstBadLine (whole_lines text) n) → (fault ≡ texts.Short → IsShort text)
+    → Refuses given unread unread' None None (refusal_of fault)
 text_refused given unread unread' text (texts.Line n) read line short = record { text = text; read = read; is = line n refl }
 text_refused given unread unread' text texts.Short read line short = record { text = text; read = read; is = short refl }
 text_refused given unread unread' text texts.NoMemory read line short = tt
 
 -- a refusal before the writing says nothing of what was written
-pub before_writing : (given : Given) (unread unread' w w' v v' : Option (List ℕ)) (fault : RunFault) → IsBeforeWriting fault → Refuses given unread unread' w w' fault → Refuses given unread unread' v v' fault
+pub before_writing : (given : Given) (unread unread' w w' v v' : Option (List ℕ)) (fault : RunFault) → IsBeforeWriting fault
+    → Refuses given unread unread' w w' fault → Refuses given unread unread' v v' fault
 before_writing given unread unread' w w' v v' Read early h = tt
 before_writing given unread unread' w w' v v' TooLong early h = h
 before_writing given unread unread' w w' v v' (Text (texts.Line n)) early h = h

@@ -1,11 +1,12 @@
 -- The replies of a batch, one transaction after another.
-use Rattle.std.proofs.Common.{◌≡◌, ℕ, ◌+◌, ◌<◌, ◌≤◌, List, [], ◌∷◌, ◌++◌, length, take, drop, get_or, Some, None, Ok, Err, refl, sym, ap, ◌∙◌, add-one, append_assoc, arith, ⊎_elim}
+use Rattle.std.proofs.Common.{◌≡◌, ℕ, ◌+◌, ◌<◌, ◌≤◌, List, [], ◌∷◌, ◌++◌, length, take, drop, get_or, Some}
+use Rattle.std.proofs.Common.{None, Ok, Err, refl, sym, ap, ◌∙◌, add-one, append_assoc, arith, ⊎_elim}
 use Rattle.std.specs.Prelude.{ℤ, Option, Result, OnErr}
 use Rattle.std.specs.List.{slice_get}
 use Rattle.std.proofs.lemmas.List.{take_all, take_more}
 use Rattle.std.proofs.lemmas.Option.{get_or_from_slice_get, slice_get_cases, slice_get_within}
-use Rattle.bohm_tree.specs.declared.cell.Cell.TheVariants.{Absent, Present}
-use Rattle.bohm_tree.specs.Txn.{Txn}
+use Rattle.bohm_types.specs.declared.cell.Cell.TheVariants.{Absent, Present}
+use Rattle.bohm_types.specs.Txn.{Txn}
 use Rattle.bohm_txn.specs.declared.outcome.Reply.{Reply}
 use Rattle.bohm_txn.specs.Declares.{shows_in}
 use Rattle.bohm_txn.specs.Meaning.{Look, Ended, body}
@@ -33,7 +34,8 @@ show_more zs i z e =
 -- none is left
 pub show_ended : (zs : List ℤ) (i : ℕ) → shown zs i ≡ Absent → take i zs ≡ take (i + 1) zs
 show_ended zs i e = ⊎_elim
-    (λ (found : (z : ℤ) × (i < length zs) × (slice_get zs i ≡ Some z) × (get_or zs i z ≡ z)). absurd (some_there found.0 (sym found.2 ∙ none_shown (slice_get zs i) e)))
+    (λ (found : (z : ℤ) × (i < length zs) × (slice_get zs i ≡ Some z) × (get_or zs i z ≡ z)). absurd
+    (some_there found.0 (sym found.2 ∙ none_shown (slice_get zs i) e)))
     (λ (past : (length zs ≤ i) × (slice_get zs i ≡ None)). take_all i zs past.0 ∙ sym (take_all (i + 1) zs (omega (arith, past.0))))
     ((slice_get_cases zs i).1)
   where
@@ -50,7 +52,8 @@ shows_few look t = elim (body look t) as (λ (e : Ended). body look t ≡ e → 
 -- ---- the replies
 
 -- one transaction more
-pub reply_step : (base : Look) (txns : List Txn) (i : ℕ) (x : Txn) (r : Reply) (out whole : List Reply) → slice_get txns i ≡ Some x → reply_of (body (state base txns i) x) ≡ r
+pub reply_step : (base : Look) (txns : List Txn) (i : ℕ) (x : Txn) (r : Reply) (out whole : List Reply) → slice_get txns i ≡ Some x
+    → reply_of (body (state base txns i) x) ≡ r
     → out ++ replies (state base txns i) (drop i txns) ≡ whole → (out ++ r ∷ []) ++ replies (state base txns (i + 1)) (drop (i + 1) txns) ≡ whole
 reply_step base txns i x r out whole here is h =
     let after_it : state base txns (i + 1) ≡ after (state base txns i) x = rw add-one (next base txns i x here) in
@@ -58,7 +61,8 @@ reply_step base txns i x r out whole here is h =
     rw (after_it, append_assoc, sym is) more
 
 -- the list goes on
-pub longer : (old mid new : List Reply) (r : Reply) → ((more : List Reply) × (mid ≡ old ++ more)) → new ≡ mid ++ r ∷ [] → (more : List Reply) × (new ≡ old ++ more)
+pub longer : (old mid new : List Reply) (r : Reply) → ((more : List Reply) × (mid ≡ old ++ more)) → new ≡ mid ++ r ∷ []
+    → (more : List Reply) × (new ≡ old ++ more)
 longer old mid new r (more, before) now = (more ++ r ∷ [], now ∙ (ap (λ (rs : List Reply). rs ++ r ∷ []) before ∙ append_assoc old more (r ∷ [])))
 
 -- ---- what is so whatever was answered

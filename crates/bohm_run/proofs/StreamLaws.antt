@@ -1,13 +1,14 @@
 -- Wave after wave, read and run.
-use Rattle.std.proofs.Common.{◌≡◌, ◌⊎◌, inl, inr, ℕ, ℤ, ◌+◌, ◌≤◌, ◌++◌, List, [], ◌∷◌, Bool, true, false, length, length-append, refl, append_assoc, append-nil, ap, sym, subst, ◌∙◌, arith, take}
+use Rattle.std.proofs.Common.{◌≡◌, ◌⊎◌, inl, inr, ℕ, ℤ, ◌+◌, ◌≤◌, ◌++◌, List, [], ◌∷◌, Bool, true, false, length}
+use Rattle.std.proofs.Common.{length-append, refl, append_assoc, append-nil, ap, sym, subst, ◌∙◌, arith, take}
 use Rattle.std.specs.Prelude.{Option, Some, None, not}
 use Rattle.std.specs.FinMap.{entries}
 use Rattle.std.proofs.Math.Seq.{take-length}
 use Rattle.std.proofs.lemmas.Grind.{flat_map-append}
-use Rattle.bohm_tree.specs.Document.{Document}
-use Rattle.bohm_tree.specs.Keys.{rising, names_of}
-use Rattle.bohm_tree.specs.Txn.{Txn}
-use Rattle.bohm_tree.specs.declared.edition.Edition.{Edition}
+use Rattle.bohm_types.specs.Document.{Document}
+use Rattle.bohm_types.specs.Keys.{rising, names_of}
+use Rattle.bohm_types.specs.Txn.{Txn}
+use Rattle.bohm_types.specs.declared.edition.Edition.{Edition}
 use Rattle.bohm_txn.specs.Chunked.{IsCheckedTo, IsCountOf, store_fault}
 use Rattle.bohm_txn.specs.Faulty.{WellFormed, IsFirstFault}
 use Rattle.bohm_txn.specs.Stores.{cell_in, store_of}
@@ -41,7 +42,8 @@ use Rattle.bohm_run.proofs.Walks.{whole_run}
 
 -- ---- wave after wave
 
-pub begin : (e : Edition) (log : List Txn) (u : Option (List ℕ)) (s : Source) (state : RunState) (pending : List Txn) → pending ≡ log → RunsBehindTo e log u u s s pending state state
+pub begin : (e : Edition) (log : List Txn) (u : Option (List ℕ)) (s : Source) (state : RunState) (pending : List Txn) → pending ≡ log
+    → RunsBehindTo e log u u s s pending state state
 begin e log u s state pending one = λ d begun. record {
   behind = [];
   ran = [];
@@ -50,11 +52,14 @@ begin e log u s state pending one = λ d begun. record {
   runs = runs_none state;
 }
 
-module _ (e : Edition) (log : List Txn) (u v : Option (List ℕ)) (s mid : Source) (pending : List Txn) (was state : RunState) (so_far : RunsBehindTo e log u v s mid pending was state) where
-  pub go_on : (x : Option (List ℕ)) (now : Source) (chunks : List Chunk) (next : List Txn) (after : RunState) → next ≡ logs_of chunks → RunsChunk pending state after → ReadsWave e v x mid now chunks → RunsBehindTo e log u x s now next was after
+module _ (e : Edition) (log : List Txn) (u v : Option (List ℕ)) (s mid : Source) (pending : List Txn) (was state : RunState)
+    (so_far : RunsBehindTo e log u v s mid pending was state) where
+  pub go_on : (x : Option (List ℕ)) (now : Source) (chunks : List Chunk) (next : List Txn) (after : RunState) → next ≡ logs_of chunks
+      → RunsChunk pending state after → ReadsWave e v x mid now chunks → RunsBehindTo e log u x s now next was after
   go_on x now chunks next after is ran read = λ d begun.
       let there = so_far d begun in
-      let behind : logs_of there.behind ++ next ≡ logs_of (there.behind ++ chunks) = ap (λ (l : List Txn). logs_of there.behind ++ l) is ∙ sym (flat_map-append (λ (k : Chunk). k.log) there.behind chunks) in
+      let behind : logs_of there.behind ++ next ≡ logs_of (there.behind ++ chunks) =
+      ap (λ (l : List Txn). logs_of there.behind ++ l) is ∙ sym (flat_map-append (λ (k : Chunk). k.log) there.behind chunks) in
       record {
         behind = there.behind ++ chunks;
         ran = there.ran ++ pending;
@@ -81,7 +86,8 @@ module _ (e : Edition) (log : List Txn) (u v : Option (List ℕ)) (s mid : Sourc
 all_read : (u v : Option (List ℕ)) (d : Document) → ReadsTextOf u v d → ReadsAll u v (print_doc d)
 all_read u v d h = record { read = h.read; at_end = h.at_end; short = h.short }
 
-pub reading_refused : (given : Given) (u v : Option (List ℕ)) (fault : ReadingFault) → RefusesReading u v fault → Refuses given u v None None (reading_refusal_of fault)
+pub reading_refused : (given : Given) (u v : Option (List ℕ)) (fault : ReadingFault) → RefusesReading u v fault
+    → Refuses given u v None None (reading_refusal_of fault)
 reading_refused given u v reading.Read h = tt
 reading_refused given u v reading.NoMemory h = tt
 reading_refused given u v reading.TooLong h = record { bytes = h.more; long = omega (arith, h.long); read = h.read }
@@ -104,10 +110,12 @@ module _ (u v y : Option (List ℕ)) (first : FirstWindow) (s : Source) (begun :
   is_begun : IsBegun first.edition first.chunk.log v s d
   is_begun = record { edition = refl; log = refl; is = begun.is }
 
-  pub log_refused : (given : Given) (fault : ReadingFault) → RefusesLog first.edition first.chunk.log v y s fault → Refuses given u y None None (reading_refusal_of fault)
+  pub log_refused : (given : Given) (fault : ReadingFault) → RefusesLog first.edition first.chunk.log v y s fault
+      → Refuses given u y None None (reading_refusal_of fault)
   log_refused given fault h = reading_refused given u y fault (later_refused u v y first s begun fault (h d is_begun))
 
-  module _ (keep : ℕ) (start now : RunState) (started : IsStarted keep first.store.items start) (ran : RunsBehind first.edition first.chunk.log v y s start now) where
+  module _ (keep : ℕ) (start now : RunState) (started : IsStarted keep first.store.items start)
+      (ran : RunsBehind first.edition first.chunk.log v y s start now) where
     streams : StreamsOn v y d s.rest.items start now
     streams = ran d is_begun
 
@@ -139,7 +147,8 @@ module _ (u v y : Option (List ℕ)) (first : FirstWindow) (s : Source) (begun :
     in_store : now.in_store ≡ store_fault whole.store
     in_store = streams.runs.in_store ∙ started.in_store
 
-    pub log_faulty : (given : Given) (fault : CheckFault) → ((c : Document) → now.in_store ≡ store_fault c.store → IsCountOf (length c.log) now.count → IsCheckedTo c now.fault → IsFirstFault c fault) → Refuses given u y None None (Check fault)
+    pub log_faulty : (given : Given) (fault : CheckFault) → ((c : Document) → now.in_store ≡ store_fault c.store → IsCountOf (length c.log) now.count
+        → IsCheckedTo c now.fault → IsFirstFault c fault) → Refuses given u y None None (Check fault)
     log_faulty given fault h = record {
       document = whole;
       sound = read.sound;
@@ -147,17 +156,21 @@ module _ (u v y : Option (List ℕ)) (first : FirstWindow) (s : Source) (begun :
       is = h whole in_store run_to.counted run_to.checked;
     }
 
-    pub log_run : ((c : Document) → now.in_store ≡ store_fault c.store → IsCountOf (length c.log) now.count → IsCheckedTo c now.fault → WellFormed c) → now.fault ≡ None → IsLogRun keep u y now
+    pub log_run : ((c : Document) → now.in_store ≡ store_fault c.store → IsCountOf (length c.log) now.count → IsCheckedTo c now.fault → WellFormed c)
+        → now.fault ≡ None → IsLogRun keep u y now
     log_run h clean =
         let formed : WellFormed whole = h whole in_store run_to.counted run_to.checked in
         let few : length whole.log ≤ 1000000 = few_txns whole formed in
         let run = run_to.run clean few in
         let sound : start.in_store ≡ None = started.in_store ∙ no_store_fault_of whole formed in
         let opened : past start.progress.history 0 ≡ cell_in (store_of whole.store) = started.past sound in
-        let long : length run.answered ≡ length whole.log = ap length run.applied.replies ∙ length-replies (past start.progress.history start.progress.history.top) whole.log in
+        let long : length run.answered ≡ length whole.log =
+        ap length run.applied.replies ∙ length-replies (past start.progress.history start.progress.history.top) whole.log in
         let front : take (length run.answered) whole.log ≡ whole.log = ap (λ (n : ℕ). take n whole.log) long ∙ take-length whole.log in
-        let applied : IsApplied start.progress.history now.progress.history whole.log keep run.answered = subst (λ (k : ℕ). IsApplied start.progress.history now.progress.history whole.log k run.answered) kept run.applied in
-        let result = whole_run (cell_in (store_of whole.store)) start.progress.history now.progress.history whole.log keep run.answered started.floor started.top opened (rw front applied) long in
+        let applied : IsApplied start.progress.history now.progress.history whole.log keep run.answered =
+        subst (λ (k : ℕ). IsApplied start.progress.history now.progress.history whole.log k run.answered) kept run.applied in
+        let result = whole_run (cell_in (store_of whole.store)) start.progress.history now.progress.history whole.log keep run.answered started.floor
+        started.top opened (rw front applied) long in
         record {
           document = whole;
           read = record { sound = read.sound; well_formed = formed; read = all_read u y whole read };

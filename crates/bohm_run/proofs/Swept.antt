@@ -22,16 +22,19 @@ use Rattle.bohm_run.specs.Sweeps.{IsShareSwept, AreAllSwept}
 -- ---- one share
 
 -- a share is inside the batch
-pub inside : (b : Batch) (w : Worker) (first len : ℕ) (xs : List ℕ) → first ≡ first_of b → len ≡ length (txns_of b) → xs ≡ share first len w.number w.count → All (IsIn b) xs
+pub inside : (b : Batch) (w : Worker) (first len : ℕ) (xs : List ℕ) → first ≡ first_of b → len ≡ length (txns_of b) → xs ≡ share first len w.number w.count
+    → All (IsIn b) xs
 inside b w first len xs from long is = subst (All (IsIn b)) (sym is) (λ k d low.
     let here = share_inside first len w.number w.count k d low in
     record { from = omega (arith, from, here.0); below = omega (arith, from, long, here.1) })
 
 -- and so is what was set aside of it
 pub inside_again : (b : Batch) (xs ys : List ℕ) → IsPickedFrom xs ys → All (IsIn b) ys → All (IsIn b) xs
-inside_again b xs ys picked all = λ k d low. All-contains (IsIn b) ys (get_or xs k d) all (picked_contains xs ys (get_or xs k d) picked (All-contains_itself xs k d low))
+inside_again b xs ys picked all = λ k d low. All-contains (IsIn b) ys (get_or xs k d) all
+    (picked_contains xs ys (get_or xs k d) picked (All-contains_itself xs k d low))
 
-pub swept_once : (b : Batch) (w : Worker) (v : View) (pairs : Pairs) (first len : ℕ) (xs : List ℕ) → first ≡ first_of b → len ≡ length (txns_of b) → xs ≡ share first len w.number w.count → All (IsAccountedFor b v pairs) xs → IsShareSwept b w v pairs
+pub swept_once : (b : Batch) (w : Worker) (v : View) (pairs : Pairs) (first len : ℕ) (xs : List ℕ) → first ≡ first_of b → len ≡ length (txns_of b)
+    → xs ≡ share first len w.number w.count → All (IsAccountedFor b v pairs) xs → IsShareSwept b w v pairs
 swept_once b w v pairs first len xs from long is all = λ t within mine.
     let number : (t - first) % w.count ≡ w.number = ap (λ (z : ℕ). (t - z) % w.count) from ∙ mine in
     let covered = share_covers first len w.count t (omega (arith, from, within.from)) (omega (arith, from, long, within.below)) in
@@ -39,7 +42,8 @@ swept_once b w v pairs first len xs from long is all = λ t within mine.
     All-contains (IsAccountedFor b v pairs) xs t all here
 
 -- what was set aside is swept once more
-pub swept_again : (b : Batch) (w : Worker) (u v : View) (first again : Pairs) → Keeps u v → IsShareSwept b w u first → All (IsAccountedFor b v again) (positions_in first) → IsShareSwept b w v again
+pub swept_again : (b : Batch) (w : Worker) (u v : View) (first again : Pairs) → Keeps u v → IsShareSwept b w u first
+    → All (IsAccountedFor b v again) (positions_in first) → IsShareSwept b w v again
 swept_again b w u v first again keeps once all = λ t within mine. ⊎_elim
     (λ (d : IsDone b u t). inl (still_done b u v t keeps d))
     (λ (c : Contains (positions_in first) t). All-contains (IsAccountedFor b v again) (positions_in first) t all c)
@@ -58,7 +62,8 @@ set_aside_last : (asides : List Pairs) (pairs : Pairs) (t : ℕ) → Contains (p
 set_aside_last asides pairs t m = (pairs, Contains-push asides pairs, m)
 
 -- one worker more: its pass is joined
-pub swept_more : (b : Batch) (w : Worker) (u v : View) (asides : List Pairs) (pairs : Pairs) → AreSwept b w.count w.number u asides → IsShareSwept b w v pairs → AreSwept b w.count (w.number + 1) (after_join u v) (asides ++ pairs ∷ [])
+pub swept_more : (b : Batch) (w : Worker) (u v : View) (asides : List Pairs) (pairs : Pairs) → AreSwept b w.count w.number u asides → IsShareSwept b w v pairs
+    → AreSwept b w.count (w.number + 1) (after_join u v) (asides ++ pairs ∷ [])
 swept_more b w u v asides pairs before this = λ t within low. dite (ℕ_discrete (position b t % w.count) w.number)
     (λ mine. ⊎_elim
     (λ (d : IsDone b v t). inl (joined_done b u v t d))
@@ -70,11 +75,13 @@ swept_more b w u v asides pairs before this = λ t within low. dite (ℕ_discret
     (before t within (omega (arith, low, other))))
 
 -- all workers
-pub swept_all : (b : Batch) (workers n : ℕ) (v : View) (asides : List Pairs) → 0 < workers → n ≡ workers → AreSwept b workers n v asides → AreAllSwept b v asides
+pub swept_all : (b : Batch) (workers n : ℕ) (v : View) (asides : List Pairs) → 0 < workers → n ≡ workers → AreSwept b workers n v asides
+    → AreAllSwept b v asides
 swept_all b workers n v asides some all swept = λ t within. swept t within (omega (arith, mod_below (position b t) workers some, all))
 
 -- what has no outcome was set aside
-pub left_aside : (closed : Closed) (b : Batch) (v : View) (asides : List Pairs) → batch_of_closed closed ≡ b → AreAllSwept b v asides → ((t : ℕ) → IsDone b v t → IsFinished closed t)
+pub left_aside : (closed : Closed) (b : Batch) (v : View) (asides : List Pairs) → batch_of_closed closed ≡ b → AreAllSwept b v asides
+    → ((t : ℕ) → IsDone b v t → IsFinished closed t)
     → (t : ℕ) → IsIn (batch_of_closed closed) t → IsUnfinished closed t → IsSetAside asides t
 left_aside closed b v asides is all done t within left = ⊎_elim
     (λ (d : IsDone b v t). absurd (let finished = done t d in omega (arith, finished, left)))

@@ -1,4 +1,4 @@
--- What faults in reading and in writing say.
+-- The meaning of faults in reading and in writing.
 use Rattle.std.specs.Prelude.{ℕ, ◌≤◌, List, length, take, Option}
 use Rattle.std.specs.Io.KnownBytes.{Consumes, IsAtEnd, Appends}
 use Rattle.bohm_run.specs.declared.fault.RunFault.{RunFault}
@@ -15,7 +15,7 @@ IsReadFault Future = ⊥
 IsReadFault NoMemory = Unit {0}
 IsReadFault (Write sent) = ⊥
 
--- the first bytes were written, as many as the fault says
+-- the first bytes were written, as many as `sent`
 pub record Sends (written written' : Option (List ℕ)) (bytes : List ℕ) (sent : ℕ) : Type 0 where
   pub within : sent ≤ length bytes
   pub wrote : Appends written written' (take sent bytes)
@@ -31,7 +31,7 @@ IsWriteFault written written' bytes Future = ⊥
 IsWriteFault written written' bytes NoMemory = ⊥
 IsWriteFault written written' bytes (Write sent) = Sends written written' bytes sent
 
--- all that the reader had was read, and it is this text, which is not too long
+-- all that the reader had was read: this text, which is not too long
 pub record ReadsAll (unread unread' : Option (List ℕ)) (text : List ℕ) : Type 0 where
   pub read : Consumes unread unread' text
   pub at_end : IsAtEnd unread'

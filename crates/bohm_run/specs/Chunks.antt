@@ -1,7 +1,7 @@
 -- A log that is checked and run chunk after chunk.
 use Rattle.std.specs.Prelude.{◌≡◌, ℤ, ℕ, ◌+◌, ◌≤◌, List, [], ◌++◌, length, Option, None}
-use Rattle.bohm_tree.specs.Document.{Document}
-use Rattle.bohm_tree.specs.Txn.{Txn}
+use Rattle.bohm_types.specs.Document.{Document}
+use Rattle.bohm_types.specs.Txn.{Txn}
 use Rattle.bohm_txn.specs.declared.outcome.Reply.{Reply}
 use Rattle.bohm_txn.specs.Chunked.{store_fault, IsCheckedTo, IsCountOf}
 use Rattle.bohm_txn.specs.Stores.{cell_in, store_of}
@@ -12,8 +12,9 @@ use Rattle.bohm_run.specs.declared.checked_chunk.CheckedChunk.{CheckedChunk}
 use Rattle.bohm_run.specs.declared.chunks.RunState.{RunState}
 use Rattle.bohm_run.specs.CheckedWaves.{placed, txns_of, count_behind, AreBehind, ArePrepared}
 use Rattle.bohm_run.specs.Runs.{IsApplied}
+use Rattle.bohm_types.specs.Limits.{most_txns}
 
--- transactions were run, and the text of their replies came, numbered from the first timestamp on
+-- transactions were run, and the text of their replies was appended, numbered from the first timestamp
 pub record IsPartRun (was now : Timeline) (txns : List Txn) (keep first : ℕ) (text text' : List ℕ) : Type 0 where
   pub answered : List Reply
   pub applied : IsApplied was now txns keep answered
@@ -25,7 +26,7 @@ pub record IsRun (opened : Timeline) (keep : ℕ) (log : List Txn) (history : Ti
   pub applied : IsApplied opened history log keep answered
   pub wrote : text ≡ print_numbered 1 answered
 
--- nothing ran yet, and so many timestamps are to stay readable
+-- nothing has run yet, and this many timestamps are to stay readable
 pub record IsStarted (keep : ℕ) (store : List (List ℕ × ℤ)) (s : RunState) : Type 0 where
   pub keeps : s.executor.keep ≡ keep
   pub top : s.progress.history.top ≡ 0
@@ -36,17 +37,17 @@ pub record IsStarted (keep : ℕ) (store : List (List ℕ × ℤ)) (s : RunState
   pub in_store : s.in_store ≡ store_fault store
   pub fault : s.fault ≡ s.in_store
 
--- where there is no fault and there aren't too many transactions, all of them were run
+-- if there is no fault and there aren't too many transactions, all of them were run
 abbrev pub IsLevel : RunState → Type 0
-IsLevel s = s.fault ≡ None → s.count ≤ 1000000 → s.progress.history.top ≡ s.count
+IsLevel s = s.fault ≡ None → s.count ≤ most_txns → s.progress.history.top ≡ s.count
 
--- the document so far was checked, and its log was run where it has no fault and not too many transactions
+-- the document so far was checked, and its log was run if it has no fault and not too many transactions
 pub record IsRunTo (opened : Timeline) (d : Document) (s : RunState) : Type 0 where
   pub counted : IsCountOf (length d.log) s.count
   pub checked : IsCheckedTo d s.fault
-  pub run : s.fault ≡ None → length d.log ≤ 1000000 → IsRun opened s.executor.keep d.log s.progress.history s.text.items
+  pub run : s.fault ≡ None → length d.log ≤ most_txns → IsRun opened s.executor.keep d.log s.progress.history s.text.items
 
--- whatever was run before from an opened history, was run on by these transactions
+-- whatever was run before from an opened history was continued by these transactions
 pub record RunsChunk (txns : List Txn) (was now : RunState) : Type 0 where
   pub in_store : now.in_store ≡ was.in_store
   pub keep : now.executor.keep ≡ was.executor.keep
@@ -59,7 +60,7 @@ pub record AreNext (s : RunState) (chunks : List CheckedChunk) : Type 0 where
   pub behind : AreBehind s.count (placed chunks)
   pub prepared : ArePrepared chunks
 
--- they were run
+-- these chunks were run
 pub record RunsWave (chunks : List CheckedChunk) (was now : RunState) : Type 0 where
   pub runs : RunsChunk (txns_of chunks) was now
   pub count : now.count ≡ count_behind was.count (placed chunks)

@@ -34,11 +34,11 @@ fault_words Future = codes "refused: future"
 fault_words NoMemory = codes "refused: memory"
 fault_words (Write sent) = codes "refused: write" ++ spaced_decimal sent
 
--- with its newline byte
+-- the line with its newline byte
 abbrev pub fault_line : RunFault → List ℕ
 fault_line f = fault_words f ++ 10 ∷ []
 
--- what a writer holds grew by a beginning of these bytes
+-- first bytes of these were appended to what a writer holds
 pub record AppendsFront (written written' : Option (List ℕ)) (bytes : List ℕ) : Type 0 where
   pub front : List ℕ
   pub rest : List ℕ

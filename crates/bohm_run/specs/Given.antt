@@ -1,5 +1,6 @@
 -- Settings, their ranges and their defaults.
 use Rattle.std.specs.Prelude.{ℕ, ◌≤◌, Option, None}
+use Rattle.bohm_types.specs.Limits.{largest_batch}
 
 pub record Given : Type 0 where
   pub cc : ℕ
@@ -17,7 +18,7 @@ pub record AreInRange (given : Given) : Type 0 where
   pub cc : IsBetween 1 16 given.cc
   pub exec : IsBetween 1 16 given.exec
   pub parts : IsBetween 1 64 given.parts
-  pub batch : IsBetween 1 4096 given.batch
+  pub batch : IsBetween 1 largest_batch given.batch
   pub keep : given.keep ≤ 4096
 
 abbrev pub defaults : Given

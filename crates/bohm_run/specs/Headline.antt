@@ -2,8 +2,8 @@
 use Rattle.std.specs.Prelude.{ℕ, ◌-◌, ◌<◌, ◌≤◌, List, length, take, Option, unwrap_or}
 use Rattle.std.specs.FinMap.{entries}
 use Rattle.std.specs.Io.KnownBytes.{Consumes, Appends}
-use Rattle.bohm_tree.specs.Document.{Document}
-use Rattle.bohm_tree.specs.Sound.{IsDocument}
+use Rattle.bohm_types.specs.Document.{Document}
+use Rattle.bohm_types.specs.Sound.{IsDocument}
 use Rattle.bohm_txn.specs.Faulty.{WellFormed, IsFirstFault}
 use Rattle.bohm_txn.specs.Serial.{replies}
 use Rattle.bohm_txn.specs.Stores.{store_of, store_after, cell_in}
@@ -20,12 +20,12 @@ use Rattle.bohm_run.specs.declared.fault.RunFault.TheVariants.{Read, TooLong, Te
 abbrev pub time_of : Given → Document → ℕ
 time_of given d = unwrap_or given.at (length d.log)
 
--- that timestamp is none above the log's length, and none below the final floor
+-- that timestamp is not above the log's length, and not below the final floor
 pub record IsReadable (given : Given) (d : Document) : Type 0 where
   pub there : time_of given d ≤ length d.log
   pub kept : length d.log - given.keep ≤ time_of given d
 
--- the text of the serial run's replies and of the store that the transactions up to a timestamp leave
+-- the text of the serial run's replies, and of the store after the transactions up to a timestamp
 abbrev pub answer_of : Document → ℕ → List ℕ
 answer_of d ts =
     let start = store_of d.store in
@@ -51,19 +51,19 @@ pub record StopsWriting (given : Given) (unread unread' written written' : Optio
   pub readable : IsReadable given document
   pub wrote : Sends written written' (answer_of document (time_of given document)) sent
 
--- a well-formed document was read to the reader's end, of which this holds
+-- a well-formed document with this property was read to the reader's end
 pub record ReadsLog (unread unread' : Option (List ℕ)) (P : Document → Type 0) : Type 0 where
   pub document : Document
   pub read : ReadsDocument unread unread' document
   pub is : P document
 
--- more bytes came than a text may have
+-- the reader had more bytes than a text may have
 pub record ReadsTooMuch (unread unread' : Option (List ℕ)) : Type 0 where
   pub bytes : List ℕ
   pub long : 67108864 < length bytes
   pub read : Consumes unread unread' bytes
 
--- all that was read is of this kind
+-- all that was read has this property
 pub record ReadsText (unread unread' : Option (List ℕ)) (P : List ℕ → Type 0) : Type 0 where
   pub text : List ℕ
   pub read : ReadsAll unread unread' text
@@ -76,7 +76,7 @@ pub record ReadsFaulty (unread unread' : Option (List ℕ)) (P : Document → Ty
   pub read : ReadsAll unread unread' (print_doc document)
   pub is : P document
 
--- what each refusal says
+-- the meaning of each refusal
 abbrev pub Refuses : Given → Option (List ℕ) → Option (List ℕ) → Option (List ℕ) → Option (List ℕ) → RunFault → Type 0
 Refuses given unread unread' written written' Read = Unit {0}
 Refuses given unread unread' written written' TooLong = ReadsTooMuch unread unread'

@@ -14,3 +14,5 @@ pub mod CheckedWaves
 pub mod Reading
 pub mod Chunks
 pub mod Streaming
+pub mod Lines
+pub mod Planning

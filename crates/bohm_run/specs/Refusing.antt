@@ -6,7 +6,7 @@ use Rattle.bohm_reading.specs.declared.fault.ReadingFault.TheVariants as reading
 use Rattle.bohm_run.specs.declared.fault.RunFault.{RunFault}
 use Rattle.bohm_run.specs.declared.fault.RunFault.TheVariants.{Read, TooLong, Text, NoMemory}
 
--- want of memory is no fault of the text
+-- an allocation failure is no fault of the text
 abbrev pub refusal_of : TextFault → RunFault
 refusal_of (texts.Line n) = Text (texts.Line n)
 refusal_of texts.Short = Text texts.Short

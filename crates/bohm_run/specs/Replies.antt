@@ -1,10 +1,7 @@
--- What batches and their transactions answer.
+-- The replies of batches and their transactions.
 use Rattle.std.specs.Prelude.{◌≡◌, ℕ, ℤ, List, [], ◌∷◌, ◌++◌, Some}
-use Rattle.bohm_tree.specs.Txn.{Txn}
-use Rattle.bohm_txn.specs.declared.outcome.Outcome.{Outcome}
-use Rattle.bohm_txn.specs.declared.outcome.Outcome.TheVariants.{Commit, Abort}
+use Rattle.bohm_types.specs.Txn.{Txn}
 use Rattle.bohm_txn.specs.declared.outcome.Reply.{Reply}
-use Rattle.bohm_txn.specs.declared.outcome.Reply.TheVariants as replies_are
 use Rattle.bohm_txn.specs.Meaning.{body}
 use Rattle.bohm_txn.specs.Serial.{replies, reply_of, shows_of}
 use Rattle.bohm_board.specs.declared.batch.Batch.{Batch}
@@ -14,16 +11,11 @@ use Rattle.bohm_exec.specs.Answers.{batch_of_finished}
 use Rattle.bohm_exec.specs.Moments.{state_before}
 use Rattle.bohm_store.specs.Versions.{Timeline, past}
 
--- the reply to a transaction that ended so, and shows these values where it commits
-abbrev pub reply_with : Outcome → List ℤ → Reply
-reply_with Commit shows = replies_are.Commit shows
-reply_with (Abort reason stmt) shows = replies_are.Abort reason stmt
-
--- what a finished batch answers over its base
+-- the replies of a finished batch over its base
 abbrev pub replies_of : Finished → List Reply
 replies_of f = replies (base_of (batch_of_finished f)) (txns_of (batch_of_finished f))
 
--- what its transactions answer behind the top of a history
+-- the replies of its transactions after the top of a history
 abbrev pub replies_behind : Timeline → Finished → List Reply
 replies_behind t f = replies (past t t.top) (txns_of (batch_of_finished f))
 
@@ -32,6 +24,6 @@ replies_behind t f = replies (past t t.top) (txns_of (batch_of_finished f))
 abbrev pub AreSerialShows : Batch → ℕ → List ℤ → Type 0
 AreSerialShows b t zs = (x : Txn) → txn_at b t ≡ Some x → shows_of (body (state_before b t) x) ≡ zs
 
--- its reply stands behind the others
+-- its reply follows the others
 abbrev pub IsReplied : Batch → ℕ → List Reply → List Reply → Type 0
 IsReplied b t was now = (x : Txn) → txn_at b t ≡ Some x → now ≡ was ++ reply_of (body (state_before b t) x) ∷ []

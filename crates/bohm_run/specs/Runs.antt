@@ -1,18 +1,18 @@
--- What running a log upon a history comes to.
+-- The result of running a log on a history.
 use Rattle.std.specs.Prelude.{◌≡◌, ℕ, zero, suc, ◌+◌, ◌-◌, ◌≤◌, List, length, max, take, Bool, true}
-use Rattle.bohm_tree.specs.Txn.{Txn}
+use Rattle.bohm_types.specs.Txn.{Txn}
 use Rattle.bohm_txn.specs.declared.outcome.Reply.{Reply}
 use Rattle.bohm_txn.specs.Meaning.{Look}
 use Rattle.bohm_txn.specs.Serial.{state, replies}
 use Rattle.bohm_store.specs.Versions.{Timeline, past}
-use Rattle.bohm_line.specs.Cuttings.{Cutting, ahead}
+use Rattle.bohm_place.specs.Cuttings.{Cutting, ahead}
 
--- the floor behind so many transactions: that many timestamps below the top stay readable, and the floor never goes down
+-- the floor after a number of transactions: `keep` timestamps below the top stay readable, and the floor never falls
 abbrev pub floor_after : Timeline → ℕ → ℕ → ℕ
 floor_after was keep zero = was.floor
 floor_after was keep (suc n) = max was.floor ((was.top + suc n) - keep)
 
--- the history went on by these transactions, one after another, and these are their replies
+-- the history was continued by these transactions, one after another, and these are their replies
 pub record IsApplied (was now : Timeline) (txns : List Txn) (keep : ℕ) (answered : List Reply) : Type 0 where
   pub replies : answered ≡ replies (past was was.top) txns
   pub top : now.top ≡ was.top + length txns
@@ -24,17 +24,17 @@ pub record IsApplied (was now : Timeline) (txns : List Txn) (keep : ℕ) (answer
 abbrev pub RanSome : Timeline → Timeline → List Txn → ℕ → Type 0
 RanSome was now txns keep = (n : ℕ) × (answered : List Reply) × IsApplied was now (take n txns) keep answered
 
--- from the floor to the top a history has the past that it had
+-- from the floor to the top the history's past is unchanged
 pub record IsStillPast (was now : Timeline) : Type 0 where
   pub top : now.top ≡ was.top
   pub floor : now.floor ≡ was.floor
   pub past : (ts : ℕ) → was.floor ≤ ts → ts ≤ was.top → past now ts ≡ past was ts
 
--- these transactions behind the top of a history, in batches of these sizes
+-- these transactions after the top of a history, in batches of these sizes
 abbrev pub cutting_behind : Timeline → List Txn → List ℕ → Cutting
 cutting_behind t txns sizes = record { first = t.top + 1; log = txns; sizes = sizes }
 
--- so many transactions are whole batches
+-- this many transactions are whole batches
 abbrev pub IsEndOfBatch : List ℕ → ℕ → Type 0
 IsEndOfBatch sizes n = (batches : ℕ) × (n ≡ ahead sizes batches)
 
@@ -44,7 +44,7 @@ pub record IsHistoryOf (start : Look) (log : List Txn) (keep : ℕ) (t : Timelin
   pub floor : t.floor ≡ length log - keep
   pub past : (ts : ℕ) → t.floor ≤ ts → ts ≤ t.top → past t ts ≡ state start log ts
 
--- a walk over a cut log settled whole batches from its first on, and all of them where it ended well
+-- a walk over a cut log settled whole batches from the first on, and all of them if it succeeded
 pub record IsWalked (was now : Timeline) (c : Cutting) (keep : ℕ) (answered : List Reply) (ended : Bool) : Type 0 where
   pub applied : IsApplied was now (take (length answered) c.log) keep answered
   pub batches : IsEndOfBatch c.sizes (length answered)

@@ -1,10 +1,10 @@
--- What the executing side of a cut log starts from.
+-- The initial state of the executing side of a cut log.
 use Rattle.std.specs.Prelude.{◌≡◌, ◌+◌, ◌≤◌, List, []}
-use Rattle.bohm_line.specs.Cuttings.{Cutting}
-use Rattle.bohm_line.specs.declared.line.note.PlanNote.{PlanNote}
+use Rattle.bohm_place.specs.Cuttings.{Cutting}
+use Rattle.bohm_run.specs.declared.plan_queue.note.PlanNote.{PlanNote}
 use Rattle.bohm_run.specs.declared.executing.Progress.{Progress}
 
--- nothing was taken and answered yet, and the log starts behind the history's top
+-- nothing has been taken or answered, and the log starts after the history's top
 pub record CanExecute (line log : Cutting) (taken : List PlanNote) (progress : Progress) : Type 0 where
   pub cutting : line ≡ log
   pub first : log.first ≡ progress.history.top + 1

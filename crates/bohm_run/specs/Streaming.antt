@@ -1,9 +1,9 @@
 -- A log that is run as it is read.
 use Rattle.std.specs.Prelude.{◌≡◌, ℕ, ◌≤◌, List, [], ◌++◌, Bool, length, Option, None}
-use Rattle.bohm_tree.specs.Document.{Document}
-use Rattle.bohm_tree.specs.Sound.{IsDocument}
-use Rattle.bohm_tree.specs.Txn.{Txn}
-use Rattle.bohm_tree.specs.declared.edition.Edition.{Edition}
+use Rattle.bohm_types.specs.Document.{Document}
+use Rattle.bohm_types.specs.Sound.{IsDocument}
+use Rattle.bohm_types.specs.Txn.{Txn}
+use Rattle.bohm_types.specs.declared.edition.Edition.{Edition}
 use Rattle.bohm_txn.specs.Faulty.{WellFormed}
 use Rattle.bohm_txn.specs.Stores.{cell_in, store_of}
 use Rattle.bohm_store.specs.Versions.{Timeline, past}
@@ -19,19 +19,19 @@ use Rattle.bohm_run.specs.Chunks.{RunsChunk}
 use Rattle.bohm_run.specs.Headline.{ReadsDocument}
 use Rattle.bohm_run.specs.Runs.{IsHistoryOf}
 
--- a document of this edition and log was read, and this stands behind it
+-- a document of this edition and log was read, and this source follows it
 pub record IsBegun (e : Edition) (txns : List Txn) (unread : Option (List ℕ)) (s : Source) (d : Document) : Type 0 where
   pub edition : d.edition ≡ e
   pub log : d.log ≡ txns
   pub is : IsReading unread d s.lines s.rest.items s.total s.ended
 
--- behind a document transactions were read to the end, and all of its log was run
+-- transactions after a document were read to the end, and the whole log was run
 pub record StreamsOn (unread unread' : Option (List ℕ)) (d : Document) (rest : List ℕ) (was now : RunState) : Type 0 where
   pub log : List Txn
   pub read : ReadsOn unread unread' d rest log
   pub runs : RunsChunk (d.log ++ log) was now
 
--- chunks were read behind a document, and all transactions but the last ones were run
+-- chunks after a document were read, and all transactions but the last ones were run
 pub record StreamsTo (unread unread' : Option (List ℕ)) (d : Document) (first : List ℕ) (s : Source) (pending : List Txn) (was now : RunState) : Type 0 where
   pub behind : List Chunk
   pub ran : List Txn
@@ -39,7 +39,7 @@ pub record StreamsTo (unread unread' : Option (List ℕ)) (d : Document) (first 
   pub all : ran ++ pending ≡ d.log ++ logs_of behind
   pub runs : RunsChunk ran was now
 
--- whatever document was begun with
+-- the same, whichever document was read before
 abbrev pub RunsBehind : Edition → List Txn → Option (List ℕ) → Option (List ℕ) → Source → RunState → RunState → Type 0
 RunsBehind e log unread unread' s was now = (d : Document) → IsBegun e log unread s d → StreamsOn unread unread' d s.rest.items was now
 
@@ -47,7 +47,8 @@ abbrev pub RunsBehindTo : Edition → List Txn → Option (List ℕ) → Option 
 RunsBehindTo e log unread unread' s s' pending was now = (d : Document) → IsBegun e log unread s d → StreamsTo unread unread' d s.rest.items s' pending was now
 
 abbrev pub RefusesLog : Edition → List Txn → Option (List ℕ) → Option (List ℕ) → Source → ReadingFault → Type 0
-RefusesLog e log unread unread' s fault = (d : Document) → IsBegun e log unread s d → RefusesOn unread unread' d s.rest.items (length (print_doc d ++ s.rest.items)) fault
+RefusesLog e log unread unread' s fault = (d : Document) → IsBegun e log unread s d
+    → RefusesOn unread unread' d s.rest.items (length (print_doc d ++ s.rest.items)) fault
 
 -- a well-formed document was read to the reader's end and run from its store on
 pub record IsLogRun (keep : ℕ) (unread unread' : Option (List ℕ)) (s : RunState) : Type 0 where

@@ -4,13 +4,13 @@ use Rattle.bohm_run.specs.Given.{Given}
 use Rattle.bohm_run.specs.declared.fault.RunFault.{RunFault}
 use Rattle.bohm_run.specs.declared.fault.RunFault.TheVariants.{Read, TooLong, Text, Check, Trimmed, Future, NoMemory, Write}
 
--- behind so many transactions the timestamp is the one that is asked for, and it is kept
+-- after this many transactions the timestamp is the requested one, and it is readable
 pub record IsReadableAt (given : Given) (count ts : ℕ) : Type 0 where
   pub time : ts ≡ unwrap_or given.at count
   pub there : ts ≤ count
   pub kept : count - given.keep ≤ ts
 
--- a fault of the timestamp that is asked for, behind so many transactions
+-- a fault of the requested timestamp, after this many transactions
 abbrev pub IsUnreadable : Given → ℕ → RunFault → Type 0
 IsUnreadable given count Read = ⊥
 IsUnreadable given count TooLong = ⊥

@@ -2,7 +2,8 @@
 
 ghost use Rattle.std.specs.Prelude.{◌≡◌, ◌<◌, ◌≤◌, ℕ, List, Option, None, IfOk, OnOk, IfErr};
 ghost use Rattle.bohm_run.specs.Given.{Given};
-ghost use Rattle.bohm_run.specs.Headline.{answer_of, Answers, Refuses, ReadsDocument, IsBeforeWriting};
+ghost use Rattle.bohm_run.specs.Headline.{answer_of, Answers, Refuses};
+ghost use Rattle.bohm_run.specs.Headline.{ReadsDocument, IsBeforeWriting};
 ghost use Rattle.bohm_run.specs.Streaming.{IsLogRun};
 ghost use Rattle.bohm_run.specs.Times.{IsReadableAt, IsUnreadable};
 ghost use Rattle.bohm_store.specs.Versions.{past};
@@ -17,8 +18,8 @@ use crate::streaming::run_log;
 use bohm_log::DrawnSeed;
 use bohm_store::History;
 use bohm_text::{parse_with_seed, put_store};
-use bohm_tree::{Key, MOST_TXNS, NoMemory, Value};
 use bohm_txn::{Checked, check};
+use bohm_types::{Key, MOST_TXNS, NoMemory, Value};
 use std::alloc::Global;
 use std::io::{Read, Write};
 use std::random::RandomSource;

@@ -5,24 +5,25 @@ ghost use Rattle.std.specs.Prelude.{IfOk};
 ghost use Rattle.std.specs.List.{sum};
 ghost use denote.Param.Send.{IsSend, IsSync};
 ghost use Rattle.bohm_txn.specs.Faulty.{IsWellFormedTxn};
-ghost use Rattle.bohm_line.specs.CutLogs.{cutting_of};
-ghost use Rattle.bohm_line.specs.Planning.{CanPlan};
+ghost use Rattle.bohm_place.specs.CutLogs.{cutting_of};
+ghost use Rattle.bohm_run.specs.Planning.{CanPlan};
 ghost use Rattle.bohm_run.specs.Progresses.{IsWalkOf};
 ghost use Rattle.bohm_run.specs.Runs.{cutting_behind, IsApplied, IsEndOfBatch};
 ghost use Rattle.bohm_run.specs.Sides.{CanExecute};
 ghost use Rattle.bohm_run.specs.Sweeps.{workers_of};
 
 use crate::executing::{Executor, Progress};
-use crate::workers::Crew;
+use crate::plan_queue::{Line, PlanReceiver, PlanSender, plan_line};
+use crate::planning_side::plan_ahead;
+use crate::retention::Kept;
+use crate::worker_counts::{Executors, Planners};
+use crate::workers::ScratchPool;
 use bohm_exec::{Gate, Point};
-use bohm_line::{
-    CutLog, Cuts, Executors, Kept, Line, PlanReceiver, PlanSender, Planners, plan_ahead, plan_line,
-};
 use bohm_log::LogPart;
-use bohm_place::{Newest, Partition};
+use bohm_place::{CutLog, Cuts, Newest, Partition};
 use bohm_store::{History, Seats};
-use bohm_tree::NoMemory;
 use bohm_txn::Replies;
+use bohm_types::NoMemory;
 use std::alloc::Global;
 use std::marker::Brand;
 use std::sync::Wait;
@@ -56,7 +57,7 @@ fn set_up<L: Line, P: Partition>(
     partition: &P,
 ) -> Result<Sides<L>, NoMemory>
     ensures keep { IfOk result (λ s. s.executor.keep ≡ keep) }
-    ensures executors { IfOk result (λ s. workers_of s.executor.crew ≡ executors) }
+    ensures executors { IfOk result (λ s. workers_of s.executor.pool ≡ executors) }
     ensures planners { IfOk result
         (λ s. length s.newest.items ≡ min planners (P.count partition.now)) }
     ensures some { IfOk result (λ s. 0 < length s.newest.items) }
@@ -66,12 +67,12 @@ fn set_up<L: Line, P: Partition>(
     ensures unsent { IfOk result (λ s. s.sender.notes ≡ []) }
     ensures untaken { IfOk result (λ s. s.receiver.notes ≡ []) }
 {
-    let crew = Crew::new(alloc, executors)?;
+    let pool = ScratchPool::new(alloc, executors)?;
     let newest = Newest::several(alloc, planners.count().min(partition.parts()))?;
     let (sender, receiver) = plan_line::<L>(alloc)?;
     Ok(Sides {
         executor: Executor {
-            crew,
+            pool,
             seats: Seats::new(alloc),
             keep: keep.timestamps(),
         },

@@ -6,7 +6,7 @@ ghost use Rattle.bohm_run.specs.Bytes.{IsReadFault, IsWriteFault};
 
 use crate::fault::RunFault;
 use bohm_reading::LONGEST_TEXT;
-use bohm_tree::NoMemory;
+use bohm_types::NoMemory;
 use std::alloc::Global;
 use std::io::{Read, Write};
 

@@ -4,12 +4,11 @@ ghost use Rattle.std.specs.Prelude.{◌≡◌, IfOk};
 ghost use Rattle.bohm_run.specs.Preparing.{count_with, IsPrepared};
 
 use crate::settings::Settings;
-use bohm_line::{CutLog, Cuts, plan_batches};
 use bohm_log::{HashSeed, Log, LogPart};
-use bohm_place::Plan;
+use bohm_place::{CutLog, Cuts, Plan, plan_batches};
 use bohm_text::Chunk;
-use bohm_tree::{MOST_TXNS, NoMemory};
 use bohm_txn::{CheckFault, check_more};
+use bohm_types::{MOST_TXNS, NoMemory};
 use std::alloc::Global;
 
 /// What is known of transactions that stand behind so many others without a fault.

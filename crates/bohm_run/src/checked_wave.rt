@@ -2,12 +2,13 @@
 
 ghost use Rattle.std.specs.Prelude.{◌≡◌, ℕ, ◌<◌, IfOk, Ok, length, map, slice_index_or};
 ghost use Rattle.bohm_run.specs.Preparing.{IsPrepared};
-ghost use Rattle.bohm_run.specs.CheckedWaves.{counted_places, count_behind, AreBehind, IsWavePrepared};
+ghost use Rattle.bohm_run.specs.CheckedWaves.{counted_places, count_behind};
+ghost use Rattle.bohm_run.specs.CheckedWaves.{AreBehind, IsWavePrepared};
 
 use crate::checked_chunk::{CheckedChunk, counted};
 use crate::settings::Settings;
 use bohm_text::Chunk;
-use bohm_tree::NoMemory;
+use bohm_types::NoMemory;
 use std::alloc::Global;
 use std::thread;
 use std::thread::Threads;

@@ -6,24 +6,24 @@ ghost use Rattle.bohm_txn.specs.Faulty.{IsWellFormedTxn};
 ghost use Rattle.bohm_txn.specs.Chunked.{store_fault};
 ghost use Rattle.bohm_txn.specs.Stores.{cell_in, store_of};
 ghost use Rattle.bohm_store.specs.Versions.{past};
-ghost use Rattle.bohm_line.specs.Cuttings.{ArePlans};
+ghost use Rattle.bohm_place.specs.Cuttings.{ArePlans};
 ghost use Rattle.bohm_run.specs.Runs.{cutting_behind};
 ghost use Rattle.bohm_run.specs.Preparing.{count_with, IsPrepared};
-ghost use Rattle.bohm_run.specs.Chunks.{AreNext, IsLevel, IsPartRun, IsStarted, RunsChunk, RunsWave};
+ghost use Rattle.bohm_run.specs.Chunks.{AreNext, IsLevel, IsPartRun};
+ghost use Rattle.bohm_run.specs.Chunks.{IsStarted, RunsChunk, RunsWave};
 
 use crate::checked_chunk::{CheckedChunk, Prepared, counted};
 use crate::executing::{Executor, Progress};
 use crate::serial_executor::SerialExecutor;
 use crate::settings::Settings;
-use crate::workers::Crew;
+use crate::workers::ScratchPool;
 use bohm_exec::OpenGate;
-use bohm_line::{CutLog, Cuts};
 use bohm_log::{DrawnSeed, LogPart};
-use bohm_place::Plan;
+use bohm_place::{CutLog, Cuts, Plan};
 use bohm_store::{History, Seats};
 use bohm_text::put_replies;
-use bohm_tree::{Key, MOST_TXNS, NoMemory, Value};
 use bohm_txn::{CheckFault, Replies, check_more, check_store};
+use bohm_types::{Key, MOST_TXNS, NoMemory, Value};
 use std::alloc::Global;
 use std::thread::Threads;
 
@@ -80,7 +80,7 @@ impl RunState {
             },
             text: Vec::new(alloc),
             executor: Executor {
-                crew: Crew::new(alloc, settings.exec())?,
+                pool: ScratchPool::new(alloc, settings.exec())?,
                 seats: Seats::new(alloc),
                 keep: settings.keep().timestamps(),
             },

@@ -4,21 +4,22 @@ ghost use Rattle.std.specs.Prelude.{◌≡◌, ◌+◌, ◌<◌, ◌≤◌, ◌^
 ghost use Rattle.bohm_txn.specs.Faulty.{IsWellFormedTxn};
 ghost use Rattle.bohm_place.specs.Noting.{MayHaveKeysOf};
 ghost use Rattle.bohm_place.specs.Plans.{IsRightPlan};
-ghost use Rattle.bohm_line.specs.CutLogs.{cutting_of};
-ghost use Rattle.bohm_line.specs.Cuttings.{ArePlans};
-ghost use Rattle.bohm_line.specs.Lines.{IsWholeLine};
+ghost use Rattle.bohm_place.specs.CutLogs.{cutting_of};
+ghost use Rattle.bohm_place.specs.Cuttings.{ArePlans};
+ghost use Rattle.bohm_run.specs.Lines.{IsWholeLine};
 ghost use Rattle.bohm_run.specs.Progresses.{GoesOn, IsWalkOf, StaysPut};
 ghost use Rattle.bohm_run.specs.Sides.{CanExecute};
+ghost use Rattle.bohm_types.specs.Limits.{largest_batch};
 
+use crate::plan_queue::{Line, PlanReceiver};
 use crate::replies::settle_batch;
-use crate::workers::{Crew, finish_batch};
+use crate::workers::{ScratchPool, finish_batch};
 use bohm_exec::Gate;
-use bohm_line::{CutLog, Line, PlanReceiver};
 use bohm_log::LogPart;
-use bohm_place::Plan;
+use bohm_place::{CutLog, Plan};
 use bohm_store::{History, Seats};
-use bohm_tree::NoMemory;
 use bohm_txn::Replies;
+use bohm_types::NoMemory;
 use std::alloc::Global;
 use std::sync::Wait;
 use std::thread::Threads;
@@ -34,7 +35,7 @@ pub(crate) struct Progress {
 /// timestamps below a batch's end stay readable.
 #[derive(Drop)]
 pub(crate) struct Executor {
-    pub(crate) crew: Crew,
+    pub(crate) pool: ScratchPool,
     pub(crate) seats: Seats,
     pub(crate) keep: u32,
 }
@@ -51,7 +52,7 @@ impl Executor {
         gate: &G,
     ) -> Result<(), NoMemory>
         requires some { 0 < length txns.now }
-        requires few { length txns.now ≤ 4096 }
+        requires few { length txns.now ≤ largest_batch }
         requires timestamps { progress.old.history.top + 1 + length txns.now ≤ 2 ^ 32 }
         requires formed { All IsWellFormedTxn txns.now }
         requires first { plan.first ≡ progress.old.history.top + 1 }
@@ -64,7 +65,7 @@ impl Executor {
         let batch = progress
             .history
             .batch_with(alloc, &mut self.seats, txns, plan)?;
-        let finished = finish_batch(rt, alloc, batch, &mut self.crew, gate)?;
+        let finished = finish_batch(rt, alloc, batch, &mut self.pool, gate)?;
         settle_batch(
             alloc,
             &mut progress.history,

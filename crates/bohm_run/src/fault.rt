@@ -6,8 +6,8 @@ ghost use Rattle.bohm_run.specs.Refusing.{refusal_of, reading_refusal_of};
 
 use bohm_reading::ReadingFault;
 use bohm_text::TextFault;
-use bohm_tree::NoMemory;
 use bohm_txn::CheckFault;
+use bohm_types::NoMemory;
 use thiserror::Error;
 
 /// A refused run. Before every fault but the last one nothing was written.

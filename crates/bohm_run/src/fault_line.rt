@@ -2,12 +2,13 @@
 
 ghost use Rattle.std.specs.Prelude.{◌≡◌, ◌++◌, IfOk, OnErr, OnOk};
 ghost use Rattle.std.specs.Io.KnownBytes.{Appends};
-ghost use Rattle.bohm_run.specs.FaultLine.{AppendsFront, check_words, fault_line, fault_words, kind_word, spaced_decimal};
+ghost use Rattle.bohm_run.specs.FaultLine.{AppendsFront, check_words, fault_line};
+ghost use Rattle.bohm_run.specs.FaultLine.{fault_words, kind_word, spaced_decimal};
 
 use crate::fault::RunFault;
 use bohm_text::TextFault;
-use bohm_tree::NoMemory;
 use bohm_txn::{CheckFault, CheckKind};
+use bohm_types::NoMemory;
 use itoa::Buffer;
 use std::alloc::Global;
 use std::io::{self, ErrorKind, Write};

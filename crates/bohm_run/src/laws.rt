@@ -1,7 +1,7 @@
 //! Laws over the definitions alone. No call uses them.
 
 ghost use Rattle.std.specs.Prelude.{ℕ, ◌≤◌, ◌++◌, List};
-ghost use Rattle.bohm_tree.specs.Txn.{Txn};
+ghost use Rattle.bohm_types.specs.Txn.{Txn};
 ghost use Rattle.bohm_txn.specs.declared.outcome.Reply.{Reply};
 ghost use Rattle.bohm_store.specs.Versions.{Timeline};
 ghost use Rattle.bohm_run.specs.Runs.{IsApplied};

@@ -14,22 +14,27 @@ mod fault;
 mod fault_line;
 pub mod laws;
 mod log_reader;
+mod plan_queue;
+mod planning_side;
 mod replies;
+mod retention;
 mod running;
 mod serial_executor;
 mod settings;
 mod streaming;
+mod worker_counts;
 mod workers;
 
 pub use answering::{read_log, run_text, run_text_in_windows};
 pub use applying::{Applied, apply};
-pub use bohm_line::{
-    ByteSum, Cuts, Executors, Kept, Line, PlanNote, PlanReceiver, PlanSender, Planners, plan_line,
-};
+pub use bohm_place::{ByteSum, Cuts};
 pub use bohm_reading::LONGEST_TEXT;
 pub use bytes::{read_all, write_all};
 pub use fault::RunFault;
 pub use fault_line::{print_fault, write_bytes, write_fault};
+pub use plan_queue::{Line, PlanNote, PlanReceiver, PlanSender, plan_line};
+pub use retention::Kept;
 pub use running::{Answer, run};
 pub use serial_executor::SerialExecutor;
 pub use settings::{LARGEST_BATCH, MOST_KEPT, MOST_PARTS, MOST_WORKERS, Settings};
+pub use worker_counts::{Executors, Planners};

@@ -11,7 +11,7 @@ use crate::settings::Settings;
 use bohm_log::DrawnSeed;
 use bohm_reading::{ReadingFault, Source, read_wave};
 use bohm_text::Chunk;
-use bohm_tree::{Edition, NoMemory};
+use bohm_types::{Edition, NoMemory};
 use std::alloc::Global;
 use std::io::Read;
 use std::thread::Threads;

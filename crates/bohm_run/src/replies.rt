@@ -9,8 +9,8 @@ ghost use Rattle.bohm_run.specs.Replies.{AreSerialShows, IsReplied, replies_behi
 
 use bohm_exec::Finished;
 use bohm_store::{History, Seats};
-use bohm_tree::{Cell, NoMemory, Value};
 use bohm_txn::{Outcome, Replies, shows};
+use bohm_types::{Cell, NoMemory, Value};
 use std::alloc::Global;
 
 /// Puts the values that the transaction with a timestamp shows in place of those in the list: none

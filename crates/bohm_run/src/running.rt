@@ -7,13 +7,14 @@ ghost use Rattle.bohm_txn.specs.Stores.{cell_in, store_of};
 ghost use Rattle.bohm_run.specs.Runs.{IsHistoryOf};
 
 use crate::applying::{Applied, apply};
+use crate::retention::Kept;
+use crate::worker_counts::{Executors, Planners};
 use bohm_exec::Gate;
-use bohm_line::{Cuts, Executors, Kept, Planners};
 use bohm_log::DrawnSeed;
-use bohm_place::Partition;
+use bohm_place::{Cuts, Partition};
 use bohm_store::History;
-use bohm_tree::NoMemory;
 use bohm_txn::{Checked, Replies};
+use bohm_types::NoMemory;
 use std::alloc::Global;
 use std::random::RandomSource;
 use std::sync::Wait;

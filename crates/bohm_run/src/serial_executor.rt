@@ -1,6 +1,7 @@
 //! Execution on one thread, in log order.
 
-ghost use Rattle.std.specs.Prelude.{◌≡◌, ◌⊎◌, ◌+◌, ◌-◌, ◌<◌, ◌≤◌, ◌^◌, ◌++◌, ◌∷◌, [], List, All, length, take, true, is_ok, OnOk, OnErr};
+ghost use Rattle.std.specs.Prelude.{◌≡◌, ◌⊎◌, ◌+◌, ◌-◌, ◌<◌, ◌≤◌, ◌^◌, ◌++◌, ◌∷◌, []};
+ghost use Rattle.std.specs.Prelude.{List, All, length, take, true, is_ok, OnOk, OnErr};
 ghost use Rattle.std.specs.List.{sum};
 ghost use Rattle.bohm_txn.specs.declared.outcome.Reply.{Reply};
 ghost use Rattle.bohm_txn.specs.Faulty.{IsWellFormedTxn};
@@ -8,18 +9,17 @@ ghost use Rattle.bohm_txn.specs.Meaning.{body};
 ghost use Rattle.bohm_txn.specs.Serial.{replies, reply_of};
 ghost use Rattle.bohm_store.specs.Nexts.{IsSame, IsSettledKept};
 ghost use Rattle.bohm_store.specs.Versions.{past};
-ghost use Rattle.bohm_line.specs.CutLogs.{cutting_of};
+ghost use Rattle.bohm_place.specs.CutLogs.{cutting_of};
 ghost use Rattle.bohm_run.specs.Chunks.{IsPartRun};
-ghost use Rattle.bohm_run.specs.Replies.{reply_with};
 ghost use Rattle.bohm_run.specs.Runs.{IsApplied, IsEndOfBatch, IsStillPast, IsWalked, RanSome};
 
 use crate::applying::Applied;
-use bohm_line::{CutLog, Cuts};
 use bohm_log::{LogPart, TxnView};
+use bohm_place::{CutLog, Cuts};
 use bohm_store::{History, Seats, Workspace};
 use bohm_text::put_replies;
-use bohm_tree::{MOST_TXNS, NoMemory, Value};
-use bohm_txn::{Outcome, Replies, Scratch};
+use bohm_txn::{Replies, Scratch};
+use bohm_types::{MOST_TXNS, NoMemory, Value};
 use std::alloc::Global;
 
 /// Runs transactions in log order on the caller's thread. It claims nothing from others, so it plans
@@ -29,17 +29,6 @@ pub struct SerialExecutor {
     seats: Seats,
     workspace: Workspace,
     scratch: Scratch,
-}
-
-/// Adds the reply to a transaction that ended so. An error leaves the replies as they were.
-fn push_reply(replies: &mut Replies, outcome: Outcome, shows: &[Value]) -> Result<(), NoMemory>
-    ensures ok { OnOk result (replies.new ≡ replies.old ++ reply_with outcome shows.now ∷ []) }
-    ensures err { OnErr result (replies.new ≡ replies.old) }
-{
-    match outcome {
-        Outcome::Commit => replies.push_commit(shows),
-        Outcome::Abort { reason, stmt } => replies.push_abort(reason, stmt),
-    }
 }
 
 impl SerialExecutor {
@@ -77,7 +66,7 @@ impl SerialExecutor {
             &mut self.workspace,
             &mut self.scratch,
         )?;
-        push_reply(replies, outcome, self.scratch.shows())?;
+        replies.push(outcome, self.scratch.shows())?;
         Ok(())
     }
 

@@ -3,8 +3,10 @@
 ghost use Rattle.std.specs.Prelude.{◌≡◌, ◌≤◌};
 ghost use Rattle.std.specs.Option.{SomeIff};
 ghost use Rattle.bohm_run.specs.Given.{Given, AreInRange, IsBetween, defaults};
+ghost use Rattle.bohm_types.specs.Limits.{largest_batch};
 
-use bohm_line::{Executors, Kept, Planners};
+use crate::retention::Kept;
+use crate::worker_counts::{Executors, Planners};
 use std::marker::Model;
 
 /// The most planning workers, and the most executing workers.
@@ -14,7 +16,7 @@ pub const MOST_WORKERS: u32 = 16;
 pub const MOST_PARTS: u32 = 64;
 
 /// The most transactions of a batch.
-pub const LARGEST_BATCH: u32 = bohm_line::LARGEST_BATCH;
+pub const LARGEST_BATCH: u32 = bohm_types::LARGEST_BATCH;
 
 /// The most timestamps below the last batch's end that stay readable.
 pub const MOST_KEPT: u32 = 4096;
@@ -37,11 +39,33 @@ impl Model for Settings {
 
     ghost Value = { Given };
 
-    ghost view = { λ s. record { cc = s.cc; exec = s.exec; parts = s.parts; batch = s.batch; keep = s.keep; at = s.at } };
+    ghost view = { λ s. record {
+      cc = s.cc;
+      exec = s.exec;
+      parts = s.parts;
+      batch = s.batch;
+      keep = s.keep;
+      at = s.at;
+    } };
 
-    ghost invariant = { λ s. AreInRange (record { cc = s.cc; exec = s.exec; parts = s.parts; batch = s.batch; keep = s.keep; at = s.at }) };
+    ghost invariant = { λ s. AreInRange
+        (record {
+          cc = s.cc;
+          exec = s.exec;
+          parts = s.parts;
+          batch = s.batch;
+          keep = s.keep;
+          at = s.at;
+        }) };
 
-    ghost inverse = { λ g. record { cc = g.cc; exec = g.exec; parts = g.parts; batch = g.batch; keep = g.keep; at = g.at } };
+    ghost inverse = { λ g. record {
+      cc = g.cc;
+      exec = g.exec;
+      parts = g.parts;
+      batch = g.batch;
+      keep = g.keep;
+      at = g.at;
+    } };
 }
 
 impl Settings {
@@ -103,7 +127,7 @@ impl Settings {
     /// Transactions of a batch.
     pub fn batch(&self) -> u32
         ensures value { result ≡ self.now.batch }
-        ensures in_range { IsBetween 1 4096 result }
+        ensures in_range { IsBetween 1 largest_batch result }
     {
         self.batch
     }

@@ -18,8 +18,8 @@ use crate::settings::Settings;
 use bohm_log::DrawnSeed;
 use bohm_reading::{ReadingFault, read_first};
 use bohm_text::{Chunk, FirstWindow};
-use bohm_tree::NoMemory;
 use bohm_txn::check_end;
+use bohm_types::NoMemory;
 use std::alloc::Global;
 use std::io::Read;
 use std::mem;
@@ -111,7 +111,8 @@ pub(crate) fn run_log<R: Read, T: Threads + Sync + RandomSource>(
     settings: Settings,
     size: usize,
 ) -> Result<RunState, RunFault>
-    ensures ok { IfOk result (IsLogRun settings.keep (R.remaining reader.old) (R.remaining reader.new)) }
+    ensures ok { IfOk result
+        (IsLogRun settings.keep (R.remaining reader.old) (R.remaining reader.new)) }
     ensures err { IfErr result
         (λ e. (given : Given)
         → Refuses given (R.remaining reader.old) (R.remaining reader.new) None None e) }

@@ -6,15 +6,15 @@ ghost use Rattle.bohm_board.specs.Passes.{IsPassOf, HoldsNothing, batch_of, view
 ghost use Rattle.bohm_exec.specs.Answers.{batch_of_finished};
 ghost use Rattle.bohm_run.specs.Sweeps.{workers_of, IsReady, IsSwept, AreAllSwept};
 
-mod crew;
 mod job;
+mod scratch_pool;
 
 use bohm_board::{Batch, Board, Pass};
 use bohm_exec::{Aside, Finished, Gate, complete};
-use bohm_tree::NoMemory;
-pub use crew::Crew;
+use bohm_types::NoMemory;
 use job::{Job, Swept, work};
 pub(crate) use job::{Worker, sweep_share};
+pub use scratch_pool::ScratchPool;
 use std::alloc::Global;
 use std::thread;
 use std::thread::Threads;
@@ -24,19 +24,19 @@ fn deal(
     alloc: Global,
     board: &Board,
     mut pass: Pass,
-    crew: &mut Crew,
+    pool: &mut ScratchPool,
     workers: u32,
 ) -> Result<(Pass, Vec<Job>), NoMemory>
     requires own { IsPassOf board.now pass }
     requires free { HoldsNothing (view pass) }
-    requires scratches { workers ≤ vec_len crew.old.scratches }
+    requires scratches { workers ≤ vec_len pool.old.scratches }
     ensures own { IfOk result (λ r. IsPassOf board.now r.0) }
     ensures free { IfOk result (λ r. HoldsNothing (view r.0)) }
     ensures count { IfOk result (λ r. length r.1.items ≡ workers) }
     ensures ready { IfOk result (λ r. All (IsReady board.now) r.1.items) }
     ensures workers { IfOk result (λ r. (w : ℕ) (d : _) → w < workers
         → (slice_index_or r.1.items w d).worker ≡ record { number = w; count = workers }) }
-    ensures crew { workers_of crew.new ≡ workers_of crew.old }
+    ensures pool { workers_of pool.new ≡ workers_of pool.old }
 {
     let mut jobs = Vec::with_capacity(alloc, workers as usize)?;
     for number in 0..workers {
@@ -48,7 +48,7 @@ fn deal(
                 count: workers,
             },
             pass: own,
-            scratch: crew.take(),
+            scratch: pool.take(),
         })?;
     }
     Ok((pass, jobs))
@@ -84,7 +84,7 @@ fn gather(
     board: &Board,
     mut pass: Pass,
     swept: Vec<Swept>,
-    crew: &mut Crew,
+    pool: &mut ScratchPool,
 ) -> Result<(Pass, Vec<Aside>), NoMemory>
     requires own { IsPassOf board.now pass }
     requires free { HoldsNothing (view pass) }
@@ -94,18 +94,18 @@ fn gather(
     ensures own { IfOk result (λ r. IsPassOf board.now r.0) }
     ensures free { IfOk result (λ r. HoldsNothing (view r.0)) }
     ensures all { IfOk result (λ r. AreAllSwept (batch_of board.now) (view r.0) r.1.items) }
-    ensures crew { workers_of crew.new ≡ workers_of crew.old }
+    ensures pool { workers_of pool.new ≡ workers_of pool.old }
 {
     let mut asides = Vec::with_capacity(alloc, swept.len())?;
     for one in swept {
-        crew.give_back(one.scratch)?;
+        pool.give_back(one.scratch)?;
         pass = board.join(pass, one.pass);
         asides.push(one.aside?)?;
     }
     Ok((pass, asides))
 }
 
-/// Executes a batch by a crew of workers, or by as many as it has transactions where those are
+/// Executes a batch by a pool of workers, or by as many as it has transactions where those are
 /// fewer. Each sweeps its share of the positions in a thread of its own, and then once more what it
 /// deferred; a single one takes no thread. What is left then is evaluated in log order.
 ///
@@ -115,18 +115,18 @@ pub fn finish_batch<'a, G: Gate, R: Threads + Sync>(
     rt: &R,
     alloc: Global,
     batch: Batch<'a>,
-    crew: &mut Crew,
+    pool: &mut ScratchPool,
     gate: &G,
 ) -> Result<Finished<'a>, NoMemory>
     ensures batch { IfOk result (λ f. batch_of_finished f ≡ batch.entry) }
-    ensures crew { workers_of crew.new ≡ workers_of crew.old }
+    ensures pool { workers_of pool.new ≡ workers_of pool.old }
 {
-    let workers = crew.workers().min(batch.len());
-    crew.fill(alloc, workers)?;
+    let workers = pool.workers().min(batch.len());
+    pool.fill(alloc, workers)?;
     let (board, pass) = Board::open(alloc, batch)?;
-    let (pass, jobs) = deal(alloc, &board, pass, crew, workers)?;
+    let (pass, jobs) = deal(alloc, &board, pass, pool, workers)?;
     let swept = sweep_all(rt, alloc, &board, jobs, gate)?;
-    let (pass, asides) = gather(alloc, &board, pass, swept, crew)?;
+    let (pass, asides) = gather(alloc, &board, pass, swept, pool)?;
     let closed = board.close(pass);
-    Ok(complete(closed, &asides, &mut crew.last))
+    Ok(complete(closed, &asides, &mut pool.last))
 }

@@ -5,14 +5,13 @@ ghost use Rattle.std.specs.FinMap.{entries};
 ghost use Rattle.bohm_txn.specs.Faulty.{IsWellFormedTxn};
 ghost use Rattle.bohm_txn.specs.Meaning.{body};
 ghost use Rattle.bohm_txn.specs.Serial.{replies, reply_of, writes_of};
-ghost use Rattle.bohm_serial.specs.Steps.{reply_with};
 ghost use Rattle.bohm_txn.specs.Stores.{store_of, store_after, cell_in, put_all};
 ghost use Rattle.std.specs.List.{zip};
 
 use crate::store::Store;
 use bohm_log::{Keys, LogPart, TxnView};
-use bohm_tree::{Cell, Items, Key, NoMemory, Value};
-use bohm_txn::{Checked, Outcome, Replies, Scratch, eval};
+use bohm_txn::{Checked, Replies, Scratch, eval};
+use bohm_types::{Cell, Items, Key, NoMemory, Value};
 use std::alloc::Global;
 
 /// The result of a run: the replies in log order, and the entries of the final store, sorted by
@@ -43,16 +42,6 @@ fn put_cells(store: &mut Store, keys: &Keys<'_>, cells: &[Cell]) -> Result<(), N
         store.put(keys.key(place), cells[place])?;
     }
     Ok(())
-}
-
-/// Adds the reply of a transaction with this outcome.
-fn push_reply(replies: &mut Replies, outcome: Outcome, shows: &[Value]) -> Result<(), NoMemory>
-    ensures { OnOk result (replies.new ≡ replies.old ++ reply_with outcome shows.now ∷ []) }
-{
-    match outcome {
-        Outcome::Commit => replies.push_commit(shows),
-        Outcome::Abort { reason, stmt } => replies.push_abort(reason, stmt),
-    }
 }
 
 /// The cells over which a transaction runs, and memory to run it in.
@@ -96,7 +85,7 @@ fn execute(
         &mut desk.scratch,
     );
     put_cells(store, &writes, desk.scratch.cells())?;
-    push_reply(replies, outcome, desk.scratch.shows())
+    replies.push(outcome, desk.scratch.shows())
 }
 
 /// Runs the transactions, one after another.

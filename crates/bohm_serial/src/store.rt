@@ -4,10 +4,10 @@ ghost use Rattle.std.specs.Prelude.{◌≡◌, true, IfOk, OnErr, OnOk};
 ghost use Rattle.std.specs.FinMap.{entries};
 ghost use Rattle.std.specs.HashMap.{IsUnique};
 ghost use Rattle.std.specs.Str.{bytes_eq};
-ghost use Rattle.bohm_tree.specs.Keys.{rising, names_of};
+ghost use Rattle.bohm_types.specs.Keys.{rising, names_of};
 ghost use Rattle.bohm_txn.specs.Stores.{store_of, cell_in, put};
 
-use bohm_tree::{Cell, Key, NoMemory, Value};
+use bohm_types::{Cell, Key, NoMemory, Value};
 use std::alloc::Global;
 use std::collections::HashMap;
 use std::marker::Model;

@@ -1,14 +1,14 @@
 -- One transaction more: the numbers of its keys, what they hold, and the versions that it adds.
-use Rattle.std.proofs.Common.{◌≡◌, ◌∙◌, ℕ, ◌+◌, ◌<◌, List, [], ◌∷◌, ◌++◌, All, length, map, take, get_or, Some, refl, sym, ap, subst, arith}
+use Rattle.std.proofs.Common.{◌≡◌, ◌∙◌, ℕ, ◌+◌, ◌<◌, List, [], ◌∷◌, ◌++◌, All, length, map, take, get_or, Some, refl, sym, ap, subst, arith, zero, suc}
 use Rattle.std.proofs.Common.{append-nil, length-append}
 use Rattle.std.specs.List.{IsDistinct, slice_get}
 use Rattle.std.specs.Str.{bytes_eq}
-use Rattle.std.proofs.lemmas.List.{get_or_append_left, map-append, take_more}
+use Rattle.std.proofs.lemmas.List.{get_or_append_left, length-map, map-append, take_more}
 use Rattle.std.proofs.lemmas.List.Elements.{All-head, All-tail, All-nil, All-cons, All-push, All-weaker}
 use Rattle.std.proofs.lemmas.Option.{get_or_from_slice_get, slice_get_within}
-use Rattle.bohm_tree.specs.declared.cell.Cell.{Cell}
-use Rattle.bohm_tree.specs.declared.cell.Cell.TheVariants.{Absent}
-use Rattle.bohm_tree.specs.Txn.{Txn}
+use Rattle.bohm_types.specs.declared.cell.Cell.{Cell}
+use Rattle.bohm_types.specs.declared.cell.Cell.TheVariants.{Absent}
+use Rattle.bohm_types.specs.Txn.{Txn}
 use Rattle.bohm_log.specs.Parts.{Begins, name_at}
 use Rattle.bohm_txn.specs.Faulty.{IsWellFormedTxn}
 use Rattle.bohm_txn.specs.Meaning.{Look}
@@ -80,6 +80,28 @@ writes_named : (names : List (List ℕ)) (u : ℕ) (look : Look) (ns : List ℕ)
 writes_named names u look [] = refl
 writes_named names u look (n ∷ ns) =
     ap (λ (ws : List KeyedVersion). record { begin = u; key = name_at names n; cell = look (name_at names n) } ∷ ws) (writes_named names u look ns)
+
+-- as many as numbers
+pub writes_long : (u : ℕ) (ns : List ℕ) (cs : List Cell) → length ns ≡ length cs → length (writes_by u ns cs) ≡ length ns
+writes_long u [] cs same = refl
+writes_long u (n ∷ ns) [] same = absurd (omega (arith, same))
+writes_long u (n ∷ ns) (c ∷ cs) same = ap suc (writes_long u ns cs (omega (arith, same)))
+
+-- the one at a place
+pub write_at : (u : ℕ) (ns : List ℕ) (cs : List Cell) (i : ℕ) (c : Cell) (d : NumberedWrite) → i < length ns → length ns ≡ length cs
+    → c ≡ get_or cs i c → record { number = get_or ns i 0; version = record { begin = u; cell = c } } ≡ get_or (writes_by u ns cs) i d
+write_at u [] cs i c d low same is = absurd (omega (arith, low))
+write_at u (n ∷ ns) [] i c d low same is = absurd (omega (arith, same))
+write_at u (n ∷ ns) (e ∷ es) zero c d low same is = λ j. record { number = n; version = record { begin = u; cell = is j } }
+write_at u (n ∷ ns) (e ∷ es) (suc i) c d low same is = write_at u ns es i c d (omega (arith, low)) (omega (arith, same)) is
+
+pub numbers_long : (names : List (List ℕ)) (ns : List ℕ) (keys : List (List ℕ)) → AreNumbersOf names ns keys → length ns ≡ length keys
+numbers_long names ns keys are = sym (length-map ns (name_at names)) ∙ ap length are.named
+
+-- a number and a cell for each key
+pub numbers_paired : (names : List (List ℕ)) (ns : List ℕ) (keys : List (List ℕ)) (look : Look) (cs : List Cell) → AreNumbersOf names ns keys
+    → map look keys ≡ cs → length ns ≡ length cs
+numbers_paired names ns keys look cs are leaves = numbers_long names ns keys are ∙ sym (length-map keys look) ∙ ap length leaves
 
 -- the cells that a transaction leaves, at the numbers of its declared writes
 pub txn_written : (names : List (List ℕ)) (u : ℕ) (look : Look) (t : Txn) (ns : List ℕ) (cs : List Cell) → AreNumbersOf names ns t.writes

@@ -1,12 +1,13 @@
 -- How many versions a history has at most.
-use Rattle.std.proofs.Common.{◌≡◌, ℕ, ◌+◌, ◌<◌, ◌≤◌, ◌||◌, Bool, true, false, List, [], ◌∷◌, length, length-append, refl, ap, ◌∙◌, arith, if◌then◌else◌, nat_le, ⊎_elim}
+use Rattle.std.proofs.Common.{◌≡◌, ℕ, ◌+◌, ◌<◌, ◌≤◌, ◌||◌, Bool, true, false, List, [], ◌∷◌, length}
+use Rattle.std.proofs.Common.{length-append, refl, ap, ◌∙◌, arith, if◌then◌else◌, nat_le, ⊎_elim}
 use Rattle.std.proofs.lemmas.Bool.{cases_lt}
 use Rattle.std.specs.List.{AllByRecursion, IsDistinct}
 use Rattle.std.specs.Map.{keys_of, remove_entry}
 use Rattle.std.specs.Str.{bytes_eq}
 use Rattle.std.specs.Cmp.Lexicographic.{nat_list_eq_equiv}
-use Rattle.bohm_tree.specs.Txn.{Txn}
-use Rattle.bohm_tree.specs.Keys.{is_among}
+use Rattle.bohm_types.specs.Txn.{Txn}
+use Rattle.bohm_types.specs.Keys.{is_among}
 use Rattle.bohm_txn.specs.Meaning.{Look}
 use Rattle.bohm_txn.specs.Serial.{after}
 use Rattle.bohm_txn.proofs.ForCallers.{key_itself}
@@ -30,7 +31,8 @@ kept_no_more floor (v ∷ w ∷ ws) = kept_by floor v w ws (nat_le w.begin floor
 
 -- ---- the same names
 
-pub named_no_more : (f g : ℕ → List Version) (n : ℕ) (names : List (List ℕ)) → ((m : ℕ) → length (f m) ≤ length (g m)) → total (named f n names) ≤ total (named g n names)
+pub named_no_more : (f g : ℕ → List Version) (n : ℕ) (names : List (List ℕ)) → ((m : ℕ) → length (f m) ≤ length (g m))
+    → total (named f n names) ≤ total (named g n names)
 named_no_more f g n [] h = omega arith
 named_no_more f g n (k ∷ names) h = omega (arith, h n, named_no_more f g (n + 1) names h)
 
@@ -57,7 +59,8 @@ abbrev one_if : Bool → ℕ
 one_if true = 1
 one_if false = 0
 
-none_equal : (w k : List ℕ) (ks : List (List ℕ)) → bytes_eq w k ≡ true → AllByRecursion (λ y. bytes_eq k y ≡ false) ks → sum_of (λ y. one_if (bytes_eq w y)) ks ≡ 0
+none_equal : (w k : List ℕ) (ks : List (List ℕ)) → bytes_eq w k ≡ true → AllByRecursion (λ y. bytes_eq k y ≡ false) ks
+    → sum_of (λ y. one_if (bytes_eq w y)) ks ≡ 0
 none_equal w k [] e h = refl
 none_equal w k (y ∷ ks) e h =
     let apart : bytes_eq w y ≡ false = nat_list_eq_equiv.congr w k y e ∙ h.0 in
@@ -99,8 +102,10 @@ produced_at_most u look [] ks d = omega (arith, sum_zero ks)
 produced_at_most u look (t ∷ ts) ks d =
     omega (
       arith,
-      sum_low (λ k. length (produced_versions u look (t ∷ ts) k)) (λ k. one_if (is_among t.writes k) + length (produced_versions (u + 1) (after look t) ts k)) ks
-          (λ k. (let long = length-append (if is_among t.writes k then record { begin = u; cell = after look t k } ∷ [] else []) (produced_versions (u + 1) (after look t) ts k) in
+      sum_low (λ k. length (produced_versions u look (t ∷ ts) k))
+          (λ k. one_if (is_among t.writes k) + length (produced_versions (u + 1) (after look t) ts k)) ks
+          (λ k. (let long = length-append (if is_among t.writes k then record { begin = u; cell = after look t k } ∷ [] else [])
+          (produced_versions (u + 1) (after look t) ts k) in
           omega (arith, long, one_long (is_among t.writes k) record { begin = u; cell = after look t k }))),
       sum_both (λ k. one_if (is_among t.writes k)) (λ k. length (produced_versions (u + 1) (after look t) ts k)) ks,
       among_at_most t.writes ks d,
@@ -113,7 +118,8 @@ abbrev Keyed : Type 0
 Keyed = List (List ℕ × List Version)
 
 rest_by : (e : List ℕ × List Version) (es fs : Keyed) (extra : List ℕ → ℕ) (k : List ℕ) (b : Bool) → bytes_eq e.0 k ≡ b → IsDistinct bytes_eq (keys_of (e ∷ es))
-    → length (versions_in (e ∷ es) k) ≤ length (versions_in fs k) + extra k → length (versions_in es k) ≤ length (if bytes_eq e.0 k then [] else versions_in fs k) + extra k
+    → length (versions_in (e ∷ es) k) ≤ length (versions_in fs k) + extra k
+    → length (versions_in es k) ≤ length (if bytes_eq e.0 k then [] else versions_in fs k) + extra k
 rest_by e es fs extra k true is d few =
     let none : length (versions_in es k) ≡ 0 = ap (λ (vs : List Version). length vs) (gone e es k d (nat_list_eq_equiv.symm k e.0 ∙ is)) in
     omega (arith, none)
@@ -145,7 +151,8 @@ grown_count was now txns d e few =
       produced_at_most (was.top + 1) (past was was.top) txns (keys_of now.chains) e,
     )
 
-settled_few : (was now : Timeline) (txns : List Txn) (low : ℕ) → IsSettledKept was now txns low → (k : List ℕ) → length (versions now k) ≤ length (grown_versions was txns k)
+settled_few : (was now : Timeline) (txns : List Txn) (low : ℕ) → IsSettledKept was now txns low → (k : List ℕ)
+    → length (versions now k) ≤ length (grown_versions was txns k)
 settled_few was now txns low h k = ⊎_elim
     (λ (lt : was.floor < low). (let is = h.versions lt k in rw is (kept_no_more low (grown_versions was txns k))))
     (λ (le : low ≤ was.floor). (let is = h.unchanged le k in rw is (omega arith)))

@@ -13,7 +13,7 @@ use Rattle.bohm_store.specs.declared.held.Held.TheVariants.{Never, Absent, Prese
 use Rattle.bohm_store.specs.declared.older.Older.{Older}
 use Rattle.bohm_store.specs.Held.{held_cell, held_versions, held_at}
 use Rattle.bohm_store.specs.Numbered.{IsNumbered, older_of, ends_of}
-use Rattle.bohm_tree.specs.declared.cell.Cell.TheVariants as cells
+use Rattle.bohm_types.specs.declared.cell.Cell.TheVariants as cells
 
 -- at most one is held
 pub held_single : (v : Held) → later_begins (held_versions v) ≡ []

@@ -7,7 +7,7 @@ use Rattle.std.proofs.lemmas.List.Quantifiers.{position-Some}
 use Rattle.std.proofs.lemmas.Option.{get_or_from_slice_get, slice_get_within}
 use Rattle.std.specs.Str.{bytes_eq}
 use Rattle.std.specs.Cmp.Lexicographic.{nat_list_eq_equiv}
-use Rattle.bohm_tree.specs.Keys.{is_among}
+use Rattle.bohm_types.specs.Keys.{is_among}
 use Rattle.bohm_log.specs.Parts.{name_at}
 use Rattle.bohm_txn.proofs.ForCallers.{among_then, key_itself, same_key}
 use Rattle.bohm_store.specs.declared.version.Version.{Version}

@@ -12,7 +12,7 @@ use Rattle.std.proofs.lemmas.Map.Keys.{apart_from_distinct}
 use Rattle.std.proofs.lemmas.Bool.{cases_lt}
 use Rattle.bohm_log.specs.Parts.{Begins, name_at}
 use Rattle.bohm_txn.proofs.ForCallers.{same_key, key_itself}
-use Rattle.bohm_tree.specs.Keys.{is_among}
+use Rattle.bohm_types.specs.Keys.{is_among}
 use Rattle.bohm_store.proofs.Names.{among_place}
 use Rattle.bohm_store.specs.Chains.{Climb, versions_of_writes}
 use Rattle.bohm_store.specs.declared.numbered_write.NumberedWrite.{NumberedWrite}

@@ -1,5 +1,6 @@
 -- The history of a starting store by numbers.
-use Rattle.std.proofs.Common.{◌≡◌, ℕ, suc, ◌+◌, ◌<◌, ◌≤◌, ◌∙◌, Bool, true, false, List, [], ◌∷◌, ◌++◌, length, map, take, get_or, refl, sym, ap, ⊎_elim, arith, nat_le}
+use Rattle.std.proofs.Common.{◌≡◌, ℕ, suc, ◌+◌, ◌<◌, ◌≤◌, ◌∙◌, Bool, true, false, List, [], ◌∷◌}
+use Rattle.std.proofs.Common.{◌++◌, length, map, take, get_or, refl, sym, ap, ⊎_elim, arith, nat_le}
 use Rattle.std.specs.Prelude.{ℤ, pos}
 use Rattle.std.specs.Map.{lookup}
 use Rattle.std.specs.Str.{bytes_eq}
@@ -8,9 +9,9 @@ use Rattle.std.proofs.lemmas.Bool.Decides.{nat_tests}
 use Rattle.std.specs.List.{list_any}
 use Rattle.std.proofs.lemmas.List.{get_or-map, get_or_past, length-map, map_more, take-map}
 use Rattle.std.proofs.lemmas.List.Elements.{All-nil, All-cons}
-use Rattle.bohm_tree.specs.declared.cell.Cell.TheVariants as cells
-use Rattle.bohm_tree.specs.declared.cell.Cell.{Cell}
-use Rattle.bohm_tree.specs.Keys.{is_among, names_of, rising}
+use Rattle.bohm_types.specs.declared.cell.Cell.TheVariants as cells
+use Rattle.bohm_types.specs.declared.cell.Cell.{Cell}
+use Rattle.bohm_types.specs.Keys.{is_among, names_of, rising}
 use Rattle.bohm_log.specs.Interning.{with_name}
 use Rattle.bohm_txn.specs.Stores.{cell_in, cell_of, store_of}
 use Rattle.bohm_txn.proofs.ForCallers.{get-store_of, none_before, rising_apart}
@@ -30,15 +31,21 @@ first_held e = Present 0 e.1
 
 -- what is held since the start has no other version
 started : (ts : ℕ) (v : Held) (e : List ℕ × ℤ) → v ≡ first_held e → UpTo ts (held_versions v) × Rises (held_versions v)
-started ts v e is = rw is (All-cons (λ (w : Version). w.begin ≤ ts) (record { begin = 0; cell = cells.Present e.1 }) [] (omega arith) (All-nil (λ (w : Version). w.begin ≤ ts)), (All-nil (λ (w : Version). 0 < w.begin), tt))
+started ts v e is = rw is (
+  All-cons (λ (w : Version). w.begin ≤ ts) (record { begin = 0; cell = cells.Present e.1 }) [] (omega arith)
+      (All-nil (λ (w : Version). w.begin ≤ ts)),
+  (All-nil (λ (w : Version). 0 < w.begin), tt),
+)
 
 started_at : (ts : ℕ) (es : List (List ℕ × ℤ)) (n : ℕ) → UpTo ts (held_at (map first_held es) n) × Rises (held_at (map first_held es) n)
 started_at ts es n = ⊎_elim
     (λ lt. let d : List ℕ × ℤ = ([], pos 0) in started ts (get_or (map first_held es) n Never) (get_or es n d) (get_or-map first_held es n d Never lt))
-    (λ le. (let past : get_or (map first_held es) n Never ≡ Never = get_or_past (map first_held es) n Never (omega (arith, length-map es first_held)) in rw past (All-nil (λ (w : Version). w.begin ≤ ts), tt)))
+    (λ le. (let past : get_or (map first_held es) n Never ≡ Never = get_or_past (map first_held es) n Never (omega (arith, length-map es first_held)) in
+    rw past (All-nil (λ (w : Version). w.begin ≤ ts), tt)))
     (cases_lt n (length es))
 
-pub opened : (ts : ℕ) (es : List (List ℕ × ℤ)) (items : List Held) → items ≡ map first_held es → IsNumbered (record { floor = ts; top = ts; newest = items; older = [] })
+pub opened : (ts : ℕ) (es : List (List ℕ × ℤ)) (items : List Held) → items ≡ map first_held es
+    → IsNumbered (record { floor = ts; top = ts; newest = items; older = [] })
 opened ts es items is = rw is (record {
   ordered = omega arith;
   low = λ n. (started_at ts es n).0;
@@ -68,19 +75,24 @@ named_entries f from (e ∷ es) k at =
     (named_entries f (from + 1) es k (λ i d lt. (let next : (from + 1) + i ≡ from + suc i = omega arith in rw next (at (suc i) d (omega arith)))))
 
 -- as many versions as keys, where each has one
-counted : (f : ℕ → List Version) (from : ℕ) (es : List (List ℕ × ℤ)) → ((i : ℕ) (d : List ℕ × ℤ) → i < length es → f (from + i) ≡ record { begin = 0; cell = cells.Present (get_or es i d).1 } ∷ []) → total (named f from (names_of es)) ≡ length es
+counted : (f : ℕ → List Version) (from : ℕ) (es : List (List ℕ × ℤ)) → ((i : ℕ) (d : List ℕ × ℤ) → i < length es
+    → f (from + i) ≡ record { begin = 0; cell = cells.Present (get_or es i d).1 } ∷ []) → total (named f from (names_of es)) ≡ length es
 counted f from [] at = refl
 counted f from (e ∷ es) at =
     let here : from + 0 ≡ from = omega arith in
     let one : length (f from) ≡ 1 = ap length (rw here at (at 0 e (omega arith))) in
-    let rest : total (named f (from + 1) (names_of es)) ≡ length es = counted f (from + 1) es (λ i d lt. (let next : (from + 1) + i ≡ from + suc i = omega arith in rw next (at (suc i) d (omega arith)))) in
+    let rest : total (named f (from + 1) (names_of es)) ≡ length es =
+    counted f (from + 1) es (λ i d lt. (let next : (from + 1) + i ≡ from + suc i = omega arith in rw next (at (suc i) d (omega arith)))) in
     omega (arith, one, rest)
 
-pub opened_count : (es : List (List ℕ × ℤ)) (items : List Held) → items ≡ map first_held es → total (named (λ n. [] ++ held_at items n) 0 (names_of es)) ≡ length es
+pub opened_count : (es : List (List ℕ × ℤ)) (items : List Held) → items ≡ map first_held es
+    → total (named (λ n. [] ++ held_at items n) 0 (names_of es)) ≡ length es
 opened_count es items is =
-    counted (λ n. [] ++ held_at items n) 0 es (λ i d lt. (let e : 0 + i ≡ i = omega arith in rw (e, is) (ap held_versions (get_or-map first_held es i d Never lt))))
+    counted (λ n. [] ++ held_at items n) 0 es
+    (λ i d lt. (let e : 0 + i ≡ i = omega arith in rw (e, is) (ap held_versions (get_or-map first_held es i d Never lt))))
 
-pub opened_versions : (es : List (List ℕ × ℤ)) (items : List Held) (k : List ℕ) → items ≡ map first_held es → versions_in (named (λ n. [] ++ held_at items n) 0 (names_of es)) k ≡ starting_versions (cell_in (store_of es) k)
+pub opened_versions : (es : List (List ℕ × ℤ)) (items : List Held) (k : List ℕ) → items ≡ map first_held es
+    → versions_in (named (λ n. [] ++ held_at items n) 0 (names_of es)) k ≡ starting_versions (cell_in (store_of es) k)
 opened_versions es items k is =
     named_entries (λ n. [] ++ held_at items n) 0 es k
     (λ i d lt. (let e : 0 + i ≡ i = omega arith in rw (e, is) (ap held_versions (get_or-map first_held es i d Never lt))))

@@ -3,7 +3,7 @@ use Rattle.std.proofs.Common.{◌≡◌, ℕ, zero, suc, ◌-◌, ◌<◌, ◌�
 use Rattle.std.proofs.Common.{arith, if◌then◌else◌, nat_le}
 use Rattle.std.proofs.lemmas.Bool.Decides.{nat_tests}
 use Rattle.std.proofs.lemmas.List.Elements.{All-head, All-tail}
-use Rattle.bohm_tree.specs.declared.cell.Cell.{Cell}
+use Rattle.bohm_types.specs.declared.cell.Cell.{Cell}
 use Rattle.bohm_store.specs.declared.version.Version.{Version}
 use Rattle.bohm_store.specs.Versions.{cell_at, kept_versions}
 use Rattle.bohm_store.specs.Chains.{Above, UpTo}

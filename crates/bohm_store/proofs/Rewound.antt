@@ -1,11 +1,12 @@
 -- What stays of versions where those that begin above a timestamp go.
-use Rattle.std.proofs.Common.{◌≡◌, ℕ, suc, ◌+◌, ◌-◌, ◌<◌, ◌≤◌, ◌==◌, ◌∙◌, Bool, true, false, List, [], ◌∷◌, ◌++◌, All, length, get_or, map, refl, sym, ap, arith}
+use Rattle.std.proofs.Common.{◌≡◌, ℕ, suc, ◌+◌, ◌-◌, ◌<◌, ◌≤◌, ◌==◌, ◌∙◌, Bool, true, false, List}
+use Rattle.std.proofs.Common.{[], ◌∷◌, ◌++◌, All, length, get_or, map, refl, sym, ap, arith}
 use Rattle.std.proofs.Common.{if◌then◌else◌, nat_le, nat_lt, ⊎_elim}
 use Rattle.std.proofs.lemmas.Bool.{cases_lt}
 use Rattle.std.proofs.lemmas.Bool.Decides.{nat_tests}
 use Rattle.std.proofs.Math.ListN.{get_or-eq_default}
 use Rattle.std.proofs.lemmas.List.Elements.{All-head, All-tail, All-nil, All-cons, All-weaker}
-use Rattle.bohm_tree.specs.declared.cell.Cell.{Cell}
+use Rattle.bohm_types.specs.declared.cell.Cell.{Cell}
 use Rattle.bohm_store.specs.declared.version.Version.{Version}
 use Rattle.bohm_store.specs.declared.older.Older.{Older}
 use Rattle.bohm_store.specs.Versions.{Rises, cell_at, versions_to}
@@ -104,7 +105,8 @@ later_above : (ts : ℕ) (v : Version) (rest : List Version) (end : ℕ) (es : L
 later_above ts v [] end es e lt rises = absurd cc
 later_above ts v (w ∷ ws) end es e lt rises =
     let b : w.begin ≡ end = cc in
-    All-cons (λ v. ts < v.begin) w ws (omega (arith, b, lt)) (All-weaker (λ x. w.begin < x.begin) (λ x. ts < x.begin) (λ x above. omega (arith, b, lt)) ws rises.0)
+    All-cons (λ v. ts < v.begin) w ws (omega (arith, b, lt))
+    (All-weaker (λ x. w.begin < x.begin) (λ x. ts < x.begin) (λ x above. omega (arith, b, lt)) ws rises.0)
 
 -- one that ended in time began before
 began : (ts : ℕ) (v : Version) (rest : List Version) (end : ℕ) (es : List ℕ) → later_begins (v ∷ rest) ≡ end ∷ es → end ≤ ts → Rises (v ∷ rest)

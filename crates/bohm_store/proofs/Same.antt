@@ -1,8 +1,8 @@
 -- A history whose keys are more than before, or have more room, and which else is the same.
 use Rattle.std.proofs.Common.{◌≡◌, ℕ, ◌+◌, ◌-◌, ◌≤◌, ◌∙◌, List, [], ◌++◌, length, take, drop, refl, sym, ap, arith, max}
 use Rattle.std.proofs.lemmas.List.{length-take-le, take-append-drop}
-use Rattle.bohm_tree.specs.declared.cell.Cell.TheVariants.{Absent}
-use Rattle.bohm_tree.specs.Txn.{Txn}
+use Rattle.bohm_types.specs.declared.cell.Cell.TheVariants.{Absent}
+use Rattle.bohm_types.specs.Txn.{Txn}
 use Rattle.bohm_txn.specs.Meaning.{Look}
 use Rattle.bohm_txn.specs.Serial.{after, state}
 use Rattle.bohm_log.specs.Parts.{Begins}

@@ -5,8 +5,8 @@ use Rattle.std.specs.Map.{lookup, keys_of}
 use Rattle.std.specs.List.{AllByRecursion, IsDistinct}
 use Rattle.std.specs.Str.{bytes_eq}
 use Rattle.std.specs.Cmp.Lexicographic.{nat_list_eq_equiv}
-use Rattle.bohm_tree.specs.declared.cell.Cell.{Cell}
-use Rattle.bohm_tree.specs.declared.cell.Cell.TheVariants.{Absent, Present}
+use Rattle.bohm_types.specs.declared.cell.Cell.{Cell}
+use Rattle.bohm_types.specs.declared.cell.Cell.TheVariants.{Absent, Present}
 use Rattle.bohm_txn.specs.Meaning.{number_in}
 use Rattle.bohm_txn.specs.Stores.{cell_of, cell_in, store_of}
 use Rattle.bohm_store.specs.declared.version.Version.{Version}

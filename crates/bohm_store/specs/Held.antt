@@ -1,7 +1,7 @@
--- What the key with a number holds, as versions.
+-- The newest version of each key, by its number.
 use Rattle.std.specs.Prelude.{ℕ, List, [], ◌∷◌, slice_index_or}
-use Rattle.bohm_tree.specs.declared.cell.Cell.{Cell}
-use Rattle.bohm_tree.specs.declared.cell.Cell.TheVariants as cells
+use Rattle.bohm_types.specs.declared.cell.Cell.{Cell}
+use Rattle.bohm_types.specs.declared.cell.Cell.TheVariants as cells
 use Rattle.bohm_store.specs.declared.version.Version.{Version}
 use Rattle.bohm_store.specs.declared.held.Held.{Held}
 use Rattle.bohm_store.specs.declared.held.Held.TheVariants.{Never, Absent, Present}
@@ -17,6 +17,6 @@ held_cell Never = cells.Absent
 held_cell (Absent begin) = cells.Absent
 held_cell (Present begin z) = cells.Present z
 
--- of the key with this number
+-- those of the key with this number
 abbrev pub held_at : List Held → ℕ → List Version
 held_at now n = held_versions (slice_index_or now n Never)

@@ -7,14 +7,14 @@ use Rattle.bohm_store.specs.declared.held.Held.{Held}
 use Rattle.bohm_store.specs.declared.older.Older.{Older}
 use Rattle.bohm_store.specs.Held.{held_at, held_versions}
 
--- what it is seen as
+-- its contract view
 pub record Numbered : Type 0 where
   pub floor : ℕ
   pub top : ℕ
   pub newest : List Held
   pub older : List Older
 
--- ---- older versions, in the order in which others took their place
+-- ---- superseded versions, in the order in which they were superseded
 
 abbrev pub version_of : Older → Version
 version_of o = record { begin = o.begin; cell = o.cell }
@@ -24,7 +24,7 @@ abbrev pub older_of : List Older → ℕ → List Version
 older_of [] n = []
 older_of (o ∷ os) n = (if (o.number == n) then version_of o ∷ [] else []) ++ older_of os n
 
--- where the versions begin that took their place
+-- the begins of the versions that superseded them
 abbrev pub ends_of : List Older → ℕ → List ℕ
 ends_of [] n = []
 ends_of (o ∷ os) n = (if (o.number == n) then o.end ∷ [] else []) ++ ends_of os n
@@ -34,7 +34,7 @@ abbrev pub EndsRise : ℕ → List Older → Type 0
 EndsRise top [] = Unit {0}
 EndsRise top (o ∷ os) = (o.end ≤ top) × All (λ p. o.end ≤ p.end) os × EndsRise top os
 
--- where these versions of the key with this number end, before what is held, the next one begins
+-- each of these versions of the key with this number ends where the next one begins, the last where the held one begins
 abbrev pub IsLinked : List Older → ℕ → List Version → Type 0
 IsLinked os n held = later_begins (older_of os n ++ held) ≡ ends_of os n
 
@@ -43,7 +43,7 @@ abbrev pub IsNotDue : ℕ → List Older → Type 0
 IsNotDue floor [] = Unit {0}
 IsNotDue floor (o ∷ os) = floor < o.end
 
--- of the key with this number the first older version that ended above ts, or the present one
+-- for the key with this number the first older version that ended above ts, or the present one
 abbrev pub first_after : ℕ → List Older → ℕ → List Version → List Version
 first_after ts [] n now = now
 first_after ts (o ∷ os) n now = if ((o.number == n) && nat_lt ts o.end) then version_of o ∷ [] else first_after ts os n now
@@ -59,11 +59,11 @@ ended_by ts (o ∷ os) = if nat_le o.end ts then o ∷ ended_by ts os else []
 
 -- ---- all versions
 
--- of the key with this number, oldest first
+-- the versions of the key with this number, oldest first
 abbrev pub versions_at : Numbered → ℕ → List Version
 versions_at h n = older_of h.older n ++ held_at h.newest n
 
--- the versions of each number rise up to the top, and each older one ended where the next one begins, above the floor
+-- the versions of each number ascend up to the top, and each older one ended where the next one begins, above the floor
 pub record IsNumbered (h : Numbered) : Type 0 where
   pub ordered : h.floor ≤ h.top
   pub low : (n : ℕ) → UpTo h.top (versions_at h n)
@@ -72,16 +72,16 @@ pub record IsNumbered (h : Numbered) : Type 0 where
   pub climbs : EndsRise h.top h.older
   pub due : All (λ o. h.floor < o.end) h.older
 
--- each of these keys with what f says of its number, the first of which is n
+-- each of these keys with what f gives for its number, of which the first is n
 abbrev pub named : (ℕ → List Version) → ℕ → List (List ℕ) → List (List ℕ × List Version)
 named f n [] = []
 named f n (k ∷ ks) = (k, f n) ∷ named f (n + 1) ks
 
--- the same history by the keys, of which each has its place in the names as its number
+-- the same history by key; a key's number is its index in the names
 abbrev pub timeline : List (List ℕ) → Numbered → Timeline
 timeline names h = record { floor = h.floor; top = h.top; chains = named (versions_at h) 0 names }
 
--- how many of them are held
+-- the number of them that are held
 abbrev pub filled : List Held → ℕ
 filled [] = 0
 filled (v ∷ vs) = length (held_versions v) + filled vs

@@ -1,11 +1,11 @@
--- The versions of each key, and the stores of the past that they say.
+-- The versions of each key, and the past stores that they determine.
 use Rattle.std.specs.Prelude.{◌≡◌, ℕ, ◌+◌, ◌≤◌, ◌<◌, ◌⊎◌, List, [], ◌∷◌, ◌++◌, Contains, All, if◌then◌else◌, nat_le, length, unwrap_or}
 use Rattle.std.specs.Str.{bytes_eq}
 use Rattle.std.specs.Map.{lookup}
-use Rattle.bohm_tree.specs.declared.cell.Cell.{Cell}
-use Rattle.bohm_tree.specs.declared.cell.Cell.TheVariants.{Absent}
-use Rattle.bohm_tree.specs.Txn.{Txn}
-use Rattle.bohm_tree.specs.Keys.{is_among}
+use Rattle.bohm_types.specs.declared.cell.Cell.{Cell}
+use Rattle.bohm_types.specs.declared.cell.Cell.TheVariants.{Absent}
+use Rattle.bohm_types.specs.Txn.{Txn}
+use Rattle.bohm_types.specs.Keys.{is_among}
 use Rattle.bohm_txn.specs.Meaning.{Look}
 use Rattle.bohm_txn.specs.Serial.{after}
 use Rattle.bohm_store.specs.declared.version.Version.{Version}
@@ -17,7 +17,7 @@ abbrev pub Rises : List Version → Type 0
 Rises [] = Unit {0}
 Rises (v ∷ vs) = All (λ w. v.begin < w.begin) vs × Rises vs
 
--- of the versions that begin at or below ts it begins last
+-- it is the latest of the versions that begin at or below ts
 pub record IsNewestAt (ts : ℕ) (vs : List Version) (v : Version) : Type 0 where
   pub there : Contains vs v
   pub low : v.begin ≤ ts
@@ -32,11 +32,11 @@ abbrev pub cell_at : ℕ → List Version → Cell → Cell
 cell_at ts [] before = before
 cell_at ts (v ∷ vs) before = cell_at ts vs (if nat_le v.begin ts then v.cell else before)
 
--- the version stays: it begins above the floor, or is the newest one at or below it
+-- the version is kept: it begins above the floor, or is the newest one at or below it
 abbrev pub IsKept : ℕ → List Version → Version → Type 0
 IsKept floor vs v = (Contains vs v × (floor < v.begin)) ⊎ IsNewestAt floor vs v
 
--- those that stay, of versions that rise
+-- the kept ones, of ascending versions
 abbrev pub kept_versions : ℕ → List Version → List Version
 kept_versions floor [] = []
 kept_versions floor (v ∷ []) = v ∷ []
@@ -55,7 +55,7 @@ pub record KeyedVersion : Type 0 where
   pub key : List ℕ
   pub cell : Cell
 
--- what a history is seen as: a floor, a top, and by key its versions
+-- the contract view of a history: a floor, a top, and its versions by key
 pub record Timeline : Type 0 where
   pub floor : ℕ
   pub top : ℕ
@@ -72,18 +72,18 @@ versions t k = versions_in t.chains k
 abbrev pub past : Timeline → ℕ → Look
 past t ts = λ k. cell_at ts (versions t k) Absent
 
--- how many versions there are
+-- the number of versions
 abbrev pub total : List (List ℕ × List Version) → ℕ
 total [] = 0
 total (e ∷ es) = length e.1 + total es
 
--- the versions that transactions give a key, the first of which is at u and sees this look: one for each that declares to write it, aborted ones included
+-- the versions that transactions give a key, the first of which is at u and sees this look: one for each that declares to write it, even if aborted
 abbrev pub produced_versions : ℕ → Look → List Txn → List ℕ → List Version
 produced_versions u look [] k = []
 produced_versions u look (t ∷ ts) k =
     (if is_among t.writes k then record { begin = u; cell = after look t k } ∷ [] else []) ++ produced_versions (u + 1) (after look t) ts k
 
--- how many writes the transactions declare
+-- the number of declared writes
 abbrev pub declared_writes : List Txn → ℕ
 declared_writes [] = 0
 declared_writes (t ∷ ts) = length t.writes + declared_writes ts

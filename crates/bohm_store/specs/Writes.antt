@@ -1,7 +1,7 @@
 -- The list of the writes of transactions that run one after another, by keys and by the numbers of keys.
 use Rattle.std.specs.Prelude.{◌≡◌, ℕ, ◌+◌, ◌<◌, ◌≤◌, ◌==◌, All, List, [], ◌∷◌, ◌++◌, length, map, Some, if◌then◌else◌}
-use Rattle.bohm_tree.specs.declared.cell.Cell.{Cell}
-use Rattle.bohm_tree.specs.Txn.{Txn}
+use Rattle.bohm_types.specs.declared.cell.Cell.{Cell}
+use Rattle.bohm_types.specs.Txn.{Txn}
 use Rattle.bohm_txn.specs.Meaning.{Look}
 use Rattle.bohm_txn.specs.Serial.{after}
 use Rattle.bohm_log.specs.Parts.{name_at}
@@ -10,20 +10,21 @@ use Rattle.bohm_board.specs.Batches.{base_of, first_of, txn_at, txns_of}
 use Rattle.bohm_store.specs.declared.version.Version.{Version}
 use Rattle.bohm_store.specs.declared.numbered_write.NumberedWrite.{NumberedWrite}
 use Rattle.bohm_store.specs.Versions.{KeyedVersion}
+use Rattle.bohm_types.specs.Limits.{most_keys}
 
--- of the transaction at u, which leaves this look
+-- the writes of the transaction at u, which leaves this look
 abbrev pub txn_writes : ℕ → Look → List (List ℕ) → List KeyedVersion
 txn_writes u look [] = []
 txn_writes u look (k ∷ ks) = record { begin = u; key = k; cell = look k } ∷ txn_writes u look ks
 
--- of all, the first of which is at u and sees this look
+-- the writes of transactions, the first of which is at u and sees this look
 abbrev pub all_txn_writes : ℕ → Look → List Txn → List KeyedVersion
 all_txn_writes u look [] = []
 all_txn_writes u look (t ∷ ts) = txn_writes u (after look t) t.writes ++ all_txn_writes (u + 1) (after look t) ts
 
 -- the transaction with the timestamp t declares to write these keys
 abbrev pub IsTxnWriting : Batch → ℕ → List (List ℕ) → Type 0
-IsTxnWriting b t keys = (x : Txn) × (txn_at b t ≡ Some x) × (x.writes ≡ keys) × (length keys ≤ 16)
+IsTxnWriting b t keys = (x : Txn) × (txn_at b t ≡ Some x) × (x.writes ≡ keys) × (length keys ≤ most_keys)
 
 -- ---- by the numbers of keys
 
@@ -31,7 +32,7 @@ IsTxnWriting b t keys = (x : Txn) × (txn_at b t ≡ Some x) × (x.writes ≡ ke
 abbrev pub named_write : List (List ℕ) → NumberedWrite → KeyedVersion
 named_write names w = record { begin = w.version.begin; key = name_at names w.number; cell = w.version.cell }
 
--- the versions that they make of the key with a number
+-- the versions that they give the key with a number
 abbrev pub versions_by : List NumberedWrite → ℕ → List Version
 versions_by [] n = []
 versions_by (w ∷ ws) n = (if (w.number == n) then w.version ∷ [] else []) ++ versions_by ws n
@@ -41,11 +42,11 @@ abbrev pub ClimbTo : ℕ → ℕ → List NumberedWrite → Type 0
 ClimbTo n top [] = n ≤ top
 ClimbTo n top (w ∷ ws) = (n ≤ w.version.begin) × ClimbTo w.version.begin top ws
 
--- the number of each is that of one of these many keys
+-- each number is below this count of keys
 abbrev pub AreBelow : ℕ → List NumberedWrite → Type 0
 AreBelow count ws = All (λ w. w.number < count) ws
 
--- by these names the keys have these numbers
+-- under these names the keys have these numbers
 pub record AreNumbersOf (names : List (List ℕ)) (numbers : List ℕ) (keys : List (List ℕ)) : Type 0 where
   pub below : All (λ n. n < length names) numbers
   pub named : map (name_at names) numbers ≡ keys
@@ -56,12 +57,12 @@ writes_by u [] cells = []
 writes_by u (n ∷ ns) [] = []
 writes_by u (n ∷ ns) (c ∷ cs) = record { number = n; version = record { begin = u; cell = c } } ∷ writes_by u ns cs
 
--- by these names they are the writes of the transaction at u, which sees this look
+-- under these names they are the writes of the transaction at u, which sees this look
 pub record AreTxnWrites (names : List (List ℕ)) (u : ℕ) (look : Look) (t : Txn) (ws : List NumberedWrite) : Type 0 where
   pub below : AreBelow (length names) ws
   pub listed : map (named_write names) ws ≡ txn_writes u (after look t) t.writes
 
--- by these names they are the writes of the batch, in log order
+-- under these names they are the writes of the batch, in log order
 pub record AreWritesOf (names : List (List ℕ)) (b : Batch) (ws : List NumberedWrite) : Type 0 where
   pub below : AreBelow (length names) ws
   pub listed : map (named_write names) ws ≡ all_txn_writes (first_of b) (base_of b) (txns_of b)

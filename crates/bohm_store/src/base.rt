@@ -1,7 +1,7 @@
 //! What keys hold at the top, and held before.
 
-ghost use Rattle.std.specs.Prelude.{◌≡◌, map, IfOk, OnOk};
-ghost use Rattle.bohm_tree.specs.declared.cell.Cell.TheVariants.{Absent};
+ghost use Rattle.std.specs.Prelude.{◌≡◌, ◌≤◌, [], length, map, IfOk};
+ghost use Rattle.bohm_types.specs.declared.cell.Cell.TheVariants.{Absent};
 ghost use Rattle.bohm_store.specs.Versions.{IsCellAt, cell_at, past, versions};
 ghost use Rattle.bohm_store.specs.Numbered.{timeline, versions_at};
 
@@ -10,7 +10,8 @@ use crate::numbering::is_numbered;
 use crate::seats::Hints;
 use bohm_log::{HashSeed, Keys, Names};
 use bohm_place::NumberedKey;
-use bohm_tree::{Cell, Key, NoMemory};
+use bohm_txn::Scratch;
+use bohm_types::{Cell, Key, NoMemory};
 use std::alloc::Global;
 
 /// What a key held after the transaction with a timestamp. Its time is that of one look-up, and
@@ -72,36 +73,35 @@ pub fn base_of(
     Ok(base)
 }
 
-/// What keys hold at the top, in place of what stood in the list.
-pub fn cells_by(
+/// Hands a scratch what a transaction's declared reads hold at the top.
+pub fn push_reads(
     names: &Names<HashSeed>,
     numbered: &NumberedHistory,
     hints: &mut Hints,
     keys: &Keys<'_>,
-    cells: &mut Vec<Cell>,
-) -> Result<(), NoMemory>
-    ensures { OnOk result (cells.new.items
-        ≡ map (past (timeline names.now numbered.now) numbered.now.top) keys.now) }
+    scratch: &mut Scratch,
+)
+    requires few { length keys.now ≤ 16 }
+    requires none { scratch.old.seen ≡ [] }
+    ensures seen { scratch.new.seen
+        ≡ map (past (timeline names.now numbered.now) numbered.now.top) keys.now }
+    ensures cells { scratch.new.cells ≡ scratch.old.cells }
 {
-    cells.clear();
     for i in 0..keys.len() {
-        cells.push(cell_by(names, numbered, hints, keys.number(i), keys.key(i)))?;
+        scratch.push_read(cell_by(names, numbered, hints, keys.number(i), keys.key(i)));
     }
-    Ok(())
 }
 
-/// What the keys with these numbers hold at the top, in place of what stood in the list.
-pub fn cells_numbered(
-    numbered: &NumberedHistory,
-    numbers: &[u32],
-    cells: &mut Vec<Cell>,
-) -> Result<(), NoMemory>
-    ensures { OnOk result (cells.new.items
-        ≡ map (λ n. cell_at numbered.now.top (versions_at numbered.now n) Absent) numbers.now) }
+/// Hands a scratch what the keys with these numbers hold at the top.
+pub fn push_cells(numbered: &NumberedHistory, numbers: &[u32], scratch: &mut Scratch)
+    requires few { length numbers.now ≤ 16 }
+    requires none { scratch.old.cells ≡ [] }
+    ensures cells { scratch.new.cells
+        ≡ map (λ n. cell_at numbered.now.top (versions_at numbered.now n) Absent) numbers.now }
+    ensures seen { scratch.new.seen ≡ scratch.old.seen }
+    ensures shows { scratch.new.shows ≡ scratch.old.shows }
 {
-    cells.clear();
     for number in numbers {
-        cells.push(numbered.cell(*number))?;
+        scratch.push_cell(numbered.cell(*number));
     }
-    Ok(())
 }

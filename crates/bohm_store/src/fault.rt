@@ -1,6 +1,6 @@
 //! Why a timestamp can't be read.
 
-use bohm_tree::NoMemory;
+use bohm_types::NoMemory;
 
 /// Why a timestamp has no cell.
 #[derive(Clone, Copy, Debug, PartialEq, Eq)]

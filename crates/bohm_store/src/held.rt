@@ -1,13 +1,13 @@
 //! The newest version of a key.
 
 ghost use Rattle.std.specs.Prelude.{◌≡◌, ◌≤◌, ℕ, [], ◌∷◌, length, option_to_list, slice_index_or};
-ghost use Rattle.bohm_tree.specs.declared.cell.Cell.TheVariants as cells;
+ghost use Rattle.bohm_types.specs.declared.cell.Cell.TheVariants as cells;
 ghost use Rattle.bohm_store.specs.Versions.{cell_at, versions_to};
 ghost use Rattle.bohm_store.specs.Held.{held_at, held_cell, held_versions};
 ghost use Rattle.bohm_store.specs.declared.held.Held.TheVariants.{Never};
 
 use crate::version::Version;
-use bohm_tree::{Cell, Value};
+use bohm_types::{Cell, Value};
 
 /// What a key holds, and since which timestamp. It takes 16 bytes.
 #[derive(Clone, Copy, Debug)]

@@ -4,7 +4,7 @@ ghost use Rattle.std.specs.Prelude.{◌≡◌, ◌≤◌, ℕ, List, [], length,
 ghost use Rattle.std.specs.List.{IsDistinct};
 ghost use Rattle.std.specs.Map.{keys_of};
 ghost use Rattle.std.specs.Str.{bytes_eq};
-ghost use Rattle.bohm_tree.specs.Keys.{rising, names_of};
+ghost use Rattle.bohm_types.specs.Keys.{rising, names_of};
 ghost use Rattle.bohm_txn.specs.Stores.{cell_in, store_of};
 ghost use Rattle.bohm_store.specs.Versions.{past, total, versions};
 ghost use Rattle.bohm_store.specs.Chains.{starting_versions};
@@ -18,7 +18,7 @@ mod trim;
 
 use crate::numbered::NumberedHistory;
 use bohm_log::{DrawnSeed, FixedSeed, HashSeed, Names};
-use bohm_tree::{Key, NoMemory, Value};
+use bohm_types::{Key, NoMemory, Value};
 use std::alloc::Global;
 use std::marker::Model;
 

@@ -2,7 +2,7 @@
 
 ghost use Rattle.std.specs.Prelude.{◌≡◌, ◌++◌, ◌∷◌, ◌<◌, ◌≤◌, ◌==◌, ℕ, [], IfOk, OnOk, length};
 ghost use Rattle.std.specs.Prelude.{if◌then◌else◌};
-ghost use Rattle.bohm_tree.specs.declared.cell.Cell.TheVariants as cells;
+ghost use Rattle.bohm_types.specs.declared.cell.Cell.TheVariants as cells;
 ghost use Rattle.bohm_store.specs.Chains.{cell_entry, timeline_entries_at};
 ghost use Rattle.bohm_store.specs.Versions.{cell_at};
 ghost use Rattle.bohm_store.specs.Held.{held_at, held_versions};
@@ -10,7 +10,7 @@ ghost use Rattle.bohm_store.specs.Numbered.{EndsRise, filled, first_after, named
 
 use crate::held::Held;
 use crate::older::{Older, OlderVersions};
-use bohm_tree::{Cell, Key, NoMemory, Value};
+use bohm_types::{Cell, Key, NoMemory, Value};
 use std::alloc::Global;
 
 // Puts an older version in place of what its key holds, where there is room for the key.

@@ -1,28 +1,30 @@
 //! The versions of all keys, by the numbers of the keys.
 
-ghost use Rattle.std.specs.Prelude.{◌≡◌, ◌+◌, ◌++◌, ◌<◌, ◌≤◌, ◌^◌, ◌∷◌, ℕ, List, [], length, max, min, true, OnOk, OnErr, IfOk};
+ghost use Rattle.std.specs.Prelude.{◌≡◌, ◌+◌, ◌++◌, ◌<◌, ◌≤◌, ◌^◌, ◌∷◌, ℕ, List};
+ghost use Rattle.std.specs.Prelude.{[], length, max, min, true, OnOk, OnErr, IfOk};
 ghost use Rattle.std.specs.FinMap.{entries};
 ghost use Rattle.std.specs.List.{IsDistinct};
 ghost use Rattle.std.specs.Str.{bytes_eq};
-ghost use Rattle.bohm_tree.specs.Keys.{rising, names_of};
-ghost use Rattle.bohm_tree.specs.declared.cell.Cell.TheVariants as cells;
+ghost use Rattle.bohm_types.specs.Keys.{rising, names_of};
+ghost use Rattle.bohm_types.specs.declared.cell.Cell.TheVariants as cells;
 ghost use Rattle.bohm_txn.specs.Faulty.{IsWellFormedTxn};
 ghost use Rattle.bohm_txn.specs.Stores.{cell_in, store_of};
 ghost use Rattle.bohm_board.specs.Batches.{txns_of};
-ghost use Rattle.bohm_store.specs.Versions.{IsCellAt, Rises, cell_at, kept_versions, past, total, versions, versions_to};
+ghost use Rattle.bohm_store.specs.Versions.{IsCellAt, Rises, cell_at, kept_versions};
+ghost use Rattle.bohm_store.specs.Versions.{past, total, versions, versions_to};
 ghost use Rattle.bohm_store.specs.Chains.{starting_versions};
 ghost use Rattle.bohm_store.specs.Nexts.{IsNext, IsSettled, IsSettledKept};
-ghost use Rattle.bohm_store.specs.Writes.{AreTxnWrites, AreWritesOf};
+ghost use Rattle.bohm_store.specs.Writes.{AreTxnWrites, AreWritesOf, writes_by};
 ghost use Rattle.bohm_store.specs.Numbered.{timeline, versions_at};
 
 use crate::held::{Held, forget_after, held_of};
 use crate::listing::{count_held, present_at, rewind};
 use crate::numbered_write::NumberedWrite;
 use crate::older::{OlderVersions, add, cell_before, cut_off, trim};
-use crate::replacing::replace_all;
+use crate::replacing::{replace_all, replace_each};
 use bohm_board::Batch;
 use bohm_log::TxnView;
-use bohm_tree::{Cell, Key, NoMemory, Value};
+use bohm_types::{Cell, Key, NoMemory, Value};
 use std::alloc::Global;
 use std::marker::Model;
 
@@ -267,21 +269,30 @@ impl NumberedHistory {
         }
     }
 
-    /// Adds the versions of the transaction that follows the top, by the list of its writes, and keeps
-    /// its end alone. It allocates nothing. Its time grows with the number of the writes.
-    pub fn advance_newest(&mut self, names: &[Key], txn: &TxnView<'_>, writes: &[NumberedWrite])
+    /// Adds the versions of the transaction that follows the top, by the numbers of its writes and the
+    /// cells that it leaves, and keeps its end alone. It allocates nothing. Its time grows with the
+    /// number of the writes.
+    pub fn advance_newest(
+        &mut self,
+        names: &[Key],
+        txn: &TxnView<'_>,
+        numbers: &[u32],
+        cells: &[Cell],
+    )
         requires names { IsDistinct bytes_eq names.now }
         requires long { length names.now ≤ length self.old.newest }
         requires well { IsWellFormedTxn txn.now }
         requires timestamp { self.old.top + 1 < 2 ^ 32 }
+        requires paired { length numbers.now ≡ length cells.now }
         requires writes { AreTxnWrites names.now (self.old.top + 1)
-            (past (timeline names.now self.old) self.old.top) txn.now writes.now }
+            (past (timeline names.now self.old) self.old.top) txn.now
+            (writes_by (self.old.top + 1) numbers.now cells.now) }
         ensures long { length self.new.newest ≡ length self.old.newest }
         ensures settled { IsSettledKept (timeline names.now self.old) (timeline names.now self.new)
             (txn.now ∷ []) (self.old.top + 1) }
     {
         self.older.clear();
-        replace_all(self.newest.as_mut_slice(), writes);
+        replace_each(self.newest.as_mut_slice(), self.top + 1, numbers, cells);
         self.top += 1;
         self.floor = self.top;
     }

@@ -5,14 +5,15 @@ ghost use Rattle.bohm_log.specs.Parts.{Begins};
 ghost use Rattle.bohm_board.specs.Batches.{IsIn};
 ghost use Rattle.bohm_exec.specs.Answers.{batch_of_finished};
 ghost use Rattle.bohm_exec.specs.Moments.{state_after};
-ghost use Rattle.bohm_store.specs.Writes.{AreBelow, AreWritesOf, IsTxnWriting, named_write, txn_writes};
+ghost use Rattle.bohm_store.specs.Writes.{AreBelow, AreWritesOf, IsTxnWriting};
+ghost use Rattle.bohm_store.specs.Writes.{named_write, txn_writes};
 
 use crate::numbering::number_of;
 use crate::seats::Hints;
 use crate::version::Version;
 use bohm_exec::Finished;
 use bohm_log::{HashSeed, Keys, Names};
-use bohm_tree::NoMemory;
+use bohm_types::NoMemory;
 use std::alloc::Global;
 
 /// A version of the key with a number.

@@ -6,7 +6,7 @@ ghost use Rattle.bohm_store.specs.Writes.{AreNumbersOf};
 
 use crate::seats::Hints;
 use bohm_log::{HashSeed, Keys, Names};
-use bohm_tree::{Key, NoMemory};
+use bohm_types::{Key, NoMemory};
 
 /// Whether this number is that of a key.
 pub fn is_numbered(names: &[Key], number: u32, key: &Key) -> bool

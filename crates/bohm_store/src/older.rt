@@ -1,20 +1,22 @@
 //! Superseded versions, in a queue.
 
-ghost use Rattle.std.specs.Prelude.{◌≡◌, ◌≢◌, ◌+◌, ◌<◌, ◌≤◌, ◌==◌, ◌++◌, ◌∷◌, [], ℕ, List, All, length};
+ghost use Rattle.std.specs.Prelude.{◌≡◌, ◌≢◌, ◌+◌, ◌<◌, ◌≤◌, ◌==◌, ◌++◌};
+ghost use Rattle.std.specs.Prelude.{◌∷◌, [], ℕ, List, All, length};
 ghost use Rattle.std.specs.Prelude.{if◌then◌else◌, get_or, MatchOption, OnErr, OnOk};
 ghost use Rattle.bohm_store.specs.Writes.{AreBelow, ClimbTo, versions_by};
-ghost use Rattle.bohm_tree.specs.declared.cell.Cell.TheVariants as cells;
+ghost use Rattle.bohm_types.specs.declared.cell.Cell.TheVariants as cells;
 ghost use Rattle.bohm_store.specs.declared.version.Version.{Version};
 ghost use Rattle.bohm_store.specs.declared.older.Older.{Older};
 ghost use Rattle.bohm_store.specs.Versions.{cell_at, kept_versions};
 ghost use Rattle.bohm_store.specs.Chains.{later_begins};
 ghost use Rattle.bohm_store.specs.Held.{held_at, held_versions};
-ghost use Rattle.bohm_store.specs.Numbered.{IsEndedBy, EndsRise, IsLinked, IsNotDue, ended_by, ends_of, first_after, older_of, version_of};
+ghost use Rattle.bohm_store.specs.Numbered.{IsEndedBy, EndsRise, IsLinked, IsNotDue, ended_by};
+ghost use Rattle.bohm_store.specs.Numbered.{ends_of, first_after, older_of, version_of};
 
 use crate::held::Held;
 use crate::numbered_write::NumberedWrite;
 use crate::version::Version;
-use bohm_tree::{Cell, NoMemory};
+use bohm_types::{Cell, NoMemory};
 use std::alloc::Global;
 use std::collections::VecDeque;
 use std::marker::Model;
@@ -127,13 +129,33 @@ impl OlderVersions {
         self.queue.clear();
     }
 
+    // Makes room for so many more. A queue that has none is given room for a quarter more of what it
+    // holds, and not as much again: it may be most of what a machine keeps.
+    fn reserve_queue(&mut self, more: usize) -> Result<(), NoMemory>
+        ensures items { self.new.items ≡ self.old.items }
+        ensures room { OnOk result (more ≤ self.new.room) }
+        ensures places { self.new.places ≡ self.old.places }
+    {
+        if more <= self.queue.capacity() - self.queue.len() {
+            return Ok(());
+        }
+        if self
+            .queue
+            .reserve_exact(more.max(self.queue.len() / 4))
+            .is_err()
+        {
+            self.queue.reserve_exact(more)?;
+        }
+        Ok(())
+    }
+
     // Makes room for so many more, and a place for the keys with numbers below a count.
     fn reserve(&mut self, keys: usize, more: usize) -> Result<(), NoMemory>
         ensures items { self.new.items ≡ self.old.items }
         ensures room { OnOk result (more ≤ self.new.room) }
         ensures places { OnOk result (keys ≤ self.new.places) }
     {
-        self.queue.reserve(more)?;
+        self.reserve_queue(more)?;
         if self.latest.len() < keys {
             self.latest.resize(keys, 0)?;
         }

@@ -1,6 +1,6 @@
 //! Hints: the numbers of a log's keys in the history.
 
-use bohm_tree::NoMemory;
+use bohm_types::NoMemory;
 use std::alloc::Global;
 
 /// The number that each key of a log had in a history when it was last seen, by the number of the

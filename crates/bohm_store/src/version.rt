@@ -2,7 +2,7 @@
 
 ghost use Rattle.std.specs.Prelude.{◌≡◌, nat_le, if◌then◌else◌};
 
-use bohm_tree::Cell;
+use bohm_types::Cell;
 
 /// What a key holds from the transaction with a timestamp on, up to the next version of the key. A
 /// version that begins at 0 is of the starting store.

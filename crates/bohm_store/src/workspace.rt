@@ -5,19 +5,15 @@ ghost use Rattle.bohm_store.specs.Writes.{writes_by};
 
 use crate::numbered_write::NumberedWrite;
 use crate::version::Version;
-use bohm_tree::{Cell, NoMemory};
+use bohm_types::{Cell, NoMemory};
 use std::alloc::Global;
 
-/// What a transaction is handed and leaves, in lists that are used again for the next one.
+/// What is listed of a transaction, in lists that are used again for the next one.
 #[derive(Drop)]
 pub struct Workspace {
-    /// What its declared reads hold.
-    pub(crate) reads: Vec<Cell>,
-    /// What its declared writes hold before it.
-    pub(crate) earlier: Vec<Cell>,
     /// The numbers of its declared writes.
     pub(crate) numbers: Vec<u32>,
-    /// The versions that it adds.
+    /// The versions that it adds, where earlier ones stay.
     pub(crate) writes: Vec<NumberedWrite>,
 }
 
@@ -25,8 +21,6 @@ impl Workspace {
     /// It allocates nothing.
     pub fn new(alloc: Global) -> Workspace {
         Workspace {
-            reads: Vec::new(alloc),
-            earlier: Vec::new(alloc),
             numbers: Vec::new(alloc),
             writes: Vec::new(alloc),
         }

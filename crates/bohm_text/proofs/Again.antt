@@ -1,5 +1,6 @@
 -- What is spelled so is read again.
-use Rattle.std.proofs.Common.{◌≡◌, ℕ, zero, suc, ◌+◌, ◌-◌, ◌*◌, ◌/◌, ◌%◌, ◌^◌, ◌<◌, ◌≤◌, Bool, true, false, cond, List, [], ◌∷◌, ◌++◌, length, get_or, Some, None, refl, ap, sym, subst, ◌∙◌, arith, inl, inr}
+use Rattle.std.proofs.Common.{◌≡◌, ℕ, zero, suc, ◌+◌, ◌-◌, ◌*◌, ◌/◌, ◌%◌, ◌^◌, ◌<◌, ◌≤◌, Bool, true, false, cond, List}
+use Rattle.std.proofs.Common.{[], ◌∷◌, ◌++◌, length, get_or, Some, None, refl, ap, sym, subst, ◌∙◌, arith, inl, inr}
 use Rattle.std.specs.Prelude.{ℤ, pos, negsuc, ◌⊎◌, ◌&&◌, ◌==◌, nat_le, codes}
 use Rattle.std.specs.Option.{option_map}
 use Rattle.std.specs.List.{flat_map, list_all, AllByRecursion}
@@ -11,14 +12,16 @@ use Rattle.std.proofs.lemmas.Bool.{eqb-true}
 use Rattle.std.proofs.lemmas.Bool.Decides.{nat_tests}
 use Rattle.std.proofs.lemmas.Str.Parse.{digit_from_value}
 use Rattle.std.proofs.lemmas.Fmt.{decimal_by_steps, decimal_is_IsNumeral, first_decimal, decimal_digit}
-use Rattle.bohm_tree.specs.Name.{is_name, is_name_byte, key_of}
-use Rattle.bohm_tree.specs.Shape.{is_term, term_of}
-use Rattle.bohm_tree.specs.Term.{Atom, Lit, Read, Local}
-use Rattle.bohm_tree.specs.declared.cmp.Cmp.TheVariants.{Lt, Le, Eq, Ge, Gt}
-use Rattle.bohm_tree.specs.Stmt.{Cond, Stmt, Bind, Need, Has, Lacks, Put, Remove, Show, Fail}
+use Rattle.bohm_types.specs.Name.{is_name, is_name_byte, key_of}
+use Rattle.bohm_types.specs.Shape.{is_term, term_of}
+use Rattle.bohm_types.specs.Term.{Atom, Lit, Read, Local}
+use Rattle.bohm_types.specs.declared.cmp.Cmp.TheVariants.{Lt, Le, Eq, Ge, Gt}
+use Rattle.bohm_types.specs.Stmt.{Cond, Stmt, Bind, Need, Has, Lacks, Put, Remove, Show, Fail}
 use Rattle.bohm_text.specs.Print.{Words, atom_word, first_word, further_words, sum_words, cmp_word, cond_words, stmt_words, store_words}
-use Rattle.bohm_text.specs.Reading.{◌>>=◌, digits_of, whole_of, lit_of, number_of, atom_of, first_of, sign_of, further_of, cmp_of, stop_of, Ending, End, When, Compared, terms_of, sum_from, last_sum, keys_of, cond_of, bind_of, put_of, presence_of, need_of, remove_of, fail_of, stmt_of, entry_of}
-use Rattle.bohm_tree.specs.Sound.{IsAtom, IsTerm, IsSum, IsCond, IsStmt, IsNumber, IsEntry}
+use Rattle.bohm_text.specs.Reading.{◌>>=◌, digits_of, whole_of, lit_of, number_of, atom_of, first_of, sign_of, further_of}
+use Rattle.bohm_text.specs.Reading.{cmp_of, stop_of, Ending, End, When, Compared, terms_of, sum_from, last_sum, keys_of}
+use Rattle.bohm_text.specs.Reading.{cond_of, bind_of, put_of, presence_of, need_of, remove_of, fail_of, stmt_of, entry_of}
+use Rattle.bohm_types.specs.Sound.{IsAtom, IsTerm, IsSum, IsCond, IsStmt, IsNumber, IsEntry}
 use Rattle.bohm_text.proofs.Digits.{digits_of-cons, digits_of-nil}
 use Rattle.bohm_text.proofs.Takes.{ending_words}
 
@@ -29,7 +32,8 @@ digits_push : (limit m c : ℕ) (ds : List ℕ) → digits_of limit m (ds ++ c �
 unfolding digits_of
 digits_push limit m c [] = refl
 digits_push limit m c (d ∷ ds) =
-    elim (is_ascii_digit d && nat_le (m * 10 + (d - 48)) limit) as (λ t. cond t (digits_of limit (m * 10 + (d - 48)) (ds ++ c ∷ [])) None ≡ (cond t (digits_of limit (m * 10 + (d - 48)) ds) None >>= λ k. digits_of limit k (c ∷ []))) [
+    elim (is_ascii_digit d && nat_le (m * 10 + (d - 48)) limit) as (λ t. cond t (digits_of limit (m * 10 + (d - 48)) (ds ++ c ∷ [])) None
+    ≡ (cond t (digits_of limit (m * 10 + (d - 48)) ds) None >>= λ k. digits_of limit k (c ∷ []))) [
       | true ↦ digits_push limit (m * 10 + (d - 48)) c ds
       | false ↦ refl
     ]
@@ -61,8 +65,10 @@ whole_is limit (c ∷ cs) some (inl h) = let other : c == 48 ≡ false = grind (
 whole_is limit (c ∷ cs) some (inr h) = subst (λ (v : List ℕ). whole_of limit v ≡ digits_of limit 0 v) (sym h) refl
 
 pub whole_again : (limit n : ℕ) → n < 2 ^ 64 → n ≤ limit → whole_of limit (decimal n) ≡ Some n
-whole_again limit zero small within = whole_is limit (decimal 0) (decimal_is_IsNumeral 0 small).0.0 (inr (decimal_digit 0 (omega arith))) ∙ digits_again limit 0 small within
-whole_again limit (suc n) small within = whole_is limit (decimal (suc n)) (decimal_is_IsNumeral (suc n) small).0.0 (inl (first_decimal (suc n) (omega arith) small)) ∙ digits_again limit (suc n) small within
+whole_again limit zero small within = whole_is limit (decimal 0) (decimal_is_IsNumeral 0 small).0.0 (inr (decimal_digit 0 (omega arith)))
+    ∙ digits_again limit 0 small within
+whole_again limit (suc n) small within = whole_is limit (decimal (suc n)) (decimal_is_IsNumeral (suc n) small).0.0
+    (inl (first_decimal (suc n) (omega arith) small)) ∙ digits_again limit (suc n) small within
 
 lit_atom : (w : List ℕ) (n : ℕ) → IsNumeral 10 w → lit_of w ≡ Some n → atom_of w ≡ Some (Lit n)
 unfolding atom_of
@@ -113,7 +119,8 @@ plain_first : (w : List ℕ) (a : Atom) → atom_of w ≡ Some a → first_of w 
 unfolding first_of
 plain_first [] a e = absurd (nothing a e)
 plain_first (c ∷ cs) a e =
-    let P : Bool → Type 0 = λ (t : Bool). c == 45 ≡ t → cond t (atom_of cs >>= λ x. term_of true x) (atom_of (c ∷ cs) >>= λ x. term_of false x) ≡ term_of false a in
+    let P : Bool → Type 0 = λ (t : Bool). c == 45 ≡ t
+    → cond t (atom_of cs >>= λ x. term_of true x) (atom_of (c ∷ cs) >>= λ x. term_of false x) ≡ term_of false a in
     elim (c == 45) as P [
       | true ↦ λ h. absurd (not_minus cs a (subst (λ (d : ℕ). atom_of (d ∷ cs) ≡ Some a) (eqb-true c 45 h) e))
       | false ↦ λ h. rw e refl
@@ -149,7 +156,8 @@ ending_again (Compared Ge (w ∷ ws)) = refl
 ending_again (Compared Gt []) = refl
 ending_again (Compared Gt (w ∷ ws)) = refl
 
-pub terms_again : (ts : List (Bool × Atom)) (end : Ending) → AllByRecursion IsTerm ts → terms_of (flat_map further_words ts ++ ending_words end) ≡ Some (ts, end)
+pub terms_again : (ts : List (Bool × Atom)) (end : Ending) → AllByRecursion IsTerm ts
+    → terms_of (flat_map further_words ts ++ ending_words end) ≡ Some (ts, end)
 unfolding terms_of
 terms_again [] end sound = ending_again end
 terms_again (t ∷ ts) end sound = rw (sign_again t.0, further_again t.0 t.1 sound.0.0 sound.0.1, terms_again ts end sound.1) refl

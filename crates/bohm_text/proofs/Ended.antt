@@ -5,9 +5,9 @@ use Rattle.std.specs.Option.{option_map}
 use Rattle.std.specs.Result.{IsErrAnd}
 use Rattle.std.proofs.lemmas.List.{length-append}
 use Rattle.std.proofs.lemmas.Option.{same_Some}
-use Rattle.bohm_tree.specs.declared.cmp.Cmp.{Cmp}
-use Rattle.bohm_tree.specs.Stmt.{Cond}
-use Rattle.bohm_tree.specs.Term.{Atom}
+use Rattle.bohm_types.specs.declared.cmp.Cmp.{Cmp}
+use Rattle.bohm_types.specs.Stmt.{Cond}
+use Rattle.bohm_types.specs.Term.{Atom}
 use Rattle.bohm_log.specs.declared.fault.SumFault.{SumFault}
 use Rattle.bohm_log.specs.declared.fault.SumFault.TheVariants.{Empty, Log}
 use Rattle.bohm_log.specs.Drafting.{Drafted, with_sum}

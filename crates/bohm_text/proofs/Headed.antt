@@ -1,7 +1,7 @@
 -- Lines that are read behind a head line.
 use Rattle.std.proofs.Common.{◌≡◌, ℕ, zero, suc, ◌+◌, ◌≤◌, List, [], ◌∷◌, ◌++◌, length, Some, refl, ap, sym, ◌∙◌, arith, append_assoc}
-use Rattle.bohm_tree.specs.declared.edition.Edition.{Edition}
-use Rattle.bohm_tree.specs.declared.edition.Edition.TheVariants.{One, Two}
+use Rattle.bohm_types.specs.declared.edition.Edition.{Edition}
+use Rattle.bohm_types.specs.declared.edition.Edition.TheVariants.{One, Two}
 use Rattle.bohm_text.specs.Cut.{whole_lines}
 use Rattle.bohm_text.specs.Step.{Nothing, begun, head_of, step}
 use Rattle.bohm_text.specs.Windows.{head_line, headed}
@@ -16,11 +16,13 @@ head_read Two = refl
 
 -- the head line was read
 pub read_head : (e : Edition) (text : List ℕ) → IsReadTo (headed e text) 1 text (begun e)
-read_head e text = read_more (headed e text) 0 (headed e text) Nothing (read_none (headed e text)) (head_line e) text (headed_lines e text) (append_assoc (head_line e) (10 ∷ []) text) (begun e) (step-head (head_line e) e (head_read e))
+read_head e text = read_more (headed e text) 0 (headed e text) Nothing (read_none (headed e text)) (head_line e) text (headed_lines e text)
+    (append_assoc (head_line e) (10 ∷ []) text) (begun e) (step-head (head_line e) e (head_read e))
 
 -- a text is its rest behind its head line
 pub is_headed : (e : Edition) (text head others : List ℕ) → text ≡ head ++ 10 ∷ others → head_of head ≡ Some e → headed e others ≡ text
-is_headed e text head others bytes is = append_assoc (head_line e) (10 ∷ []) others ∙ (ap (λ (line : List ℕ). line ++ 10 ∷ others) (sym (head_takes head e is)) ∙ sym bytes)
+is_headed e text head others bytes is = append_assoc (head_line e) (10 ∷ []) others
+    ∙ (ap (λ (line : List ℕ). line ++ 10 ∷ others) (sym (head_takes head e is)) ∙ sym bytes)
 
 pub lines_behind : (e : Edition) (text : List ℕ) (count : ℕ) → length (whole_lines (headed e text)) ≡ count + 1 → count ≡ length (whole_lines text)
 lines_behind e text count same = omega (arith, ap length (headed_lines e text), same)

@@ -3,13 +3,14 @@ use Rattle.std.proofs.Common.{◌≡◌, ℕ, List, [], ◌∷◌, Some, None, r
 use Rattle.std.specs.Prelude.{Option}
 use Rattle.std.specs.Option.{option_map}
 use Rattle.std.proofs.lemmas.List.{append-nil}
-use Rattle.bohm_tree.specs.Name.{key_of}
+use Rattle.bohm_types.specs.Name.{key_of}
 use Rattle.bohm_log.specs.Drafting.{Drafted, with_read, with_write}
 use Rattle.bohm_text.specs.Print.{Words}
 use Rattle.bohm_text.specs.Reading.{◌>>=◌, keys_of}
 use Rattle.bohm_text.specs.Taking.{with_reads, with_writes}
 
-keys_of-cons : (words rest : Words) (word key : List ℕ) → words ≡ word ∷ rest → key_of word ≡ Some key → keys_of words ≡ (keys_of rest >>= λ keys. Some (key ∷ keys))
+keys_of-cons : (words rest : Words) (word key : List ℕ) → words ≡ word ∷ rest → key_of word ≡ Some key
+    → keys_of words ≡ (keys_of rest >>= λ keys. Some (key ∷ keys))
 unfolding keys_of
 keys_of-cons words rest word key e k = rw (e, k) refl
 
@@ -26,13 +27,15 @@ map-none f None e = refl
 map-none f (Some x) e = absurd cc
 
 -- a set that keys are added to, one by one or all at once
-module _ (one : Drafted → List ℕ → Drafted) (all : Drafted → Words → Drafted) (steps : (d : Drafted) (key : List ℕ) (keys : Words) → all d (key ∷ keys) ≡ all (one d key) keys) (stays : (d : Drafted) → all d [] ≡ d) where
+module _ (one : Drafted → List ℕ → Drafted) (all : Drafted → Words → Drafted)
+    (steps : (d : Drafted) (key : List ℕ) (keys : Words) → all d (key ∷ keys) ≡ all (one d key) keys) (stays : (d : Drafted) → all d [] ≡ d) where
   regroup : (d : Drafted) (key : List ℕ) (read : Option Words) → option_map (all d) (read >>= λ keys. Some (key ∷ keys)) ≡ option_map (all (one d key)) read
   regroup d key None = refl
   regroup d key (Some keys) = ap Some (steps d key keys)
 
   module _ (before now : Drafted) (old words : Words) (so_far : option_map (all now) (keys_of words) ≡ option_map (all before) (keys_of old)) where
-    pub keys_more : (rest : Words) (word key : List ℕ) → words ≡ word ∷ rest → key_of word ≡ Some key → option_map (all (one now key)) (keys_of rest) ≡ option_map (all before) (keys_of old)
+    pub keys_more : (rest : Words) (word key : List ℕ) → words ≡ word ∷ rest → key_of word ≡ Some key
+        → option_map (all (one now key)) (keys_of rest) ≡ option_map (all before) (keys_of old)
     keys_more rest word key e k = sym (regroup now key (keys_of rest)) ∙ (sym (ap (option_map (all now)) (keys_of-cons words rest word key e k)) ∙ so_far)
 
     pub keys_bad : (rest : Words) (word : List ℕ) → words ≡ word ∷ rest → key_of word ≡ None → keys_of old ≡ None

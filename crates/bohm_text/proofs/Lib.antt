@@ -16,6 +16,7 @@ mod StepTakes
 mod StepAgain
 mod Lines
 mod Searches
+mod Fronts
 mod TextLaws
 mod TidyLaws
 mod Behind

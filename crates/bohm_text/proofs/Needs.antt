@@ -3,9 +3,9 @@ use Rattle.std.proofs.Common.{◌≡◌, ℕ, Bool, true, false, cond, List, [],
 use Rattle.std.specs.Prelude.{Option, ◌||◌, codes}
 use Rattle.std.specs.Option.{option_map}
 use Rattle.std.specs.Str.{bytes_eq}
-use Rattle.bohm_tree.specs.Term.{Atom}
-use Rattle.bohm_tree.specs.Stmt.{Has, Lacks, Need}
-use Rattle.bohm_tree.specs.Name.{key_of}
+use Rattle.bohm_types.specs.Term.{Atom}
+use Rattle.bohm_types.specs.Stmt.{Has, Lacks, Need}
+use Rattle.bohm_types.specs.Name.{key_of}
 use Rattle.bohm_text.specs.declared.stops.Stop.{Stop}
 use Rattle.bohm_text.specs.declared.stops.Stop.TheVariants as stops
 use Rattle.bohm_text.specs.Print.{Words}

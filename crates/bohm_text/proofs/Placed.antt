@@ -2,8 +2,8 @@
 use Rattle.std.proofs.Common.{◌≡◌, ℕ, suc, ◌+◌, ◌-◌, ◌≤◌, take, List, [], ◌∷◌, ◌++◌, length, refl, ap, sym, subst, ◌∙◌, arith, append_assoc, length-append, Err}
 use Rattle.std.proofs.lemmas.List.{append-nil, take-append-le}
 use Rattle.std.specs.Prelude.{codes, ◌==◌, Bool, true, false, cond}
-use Rattle.bohm_tree.specs.declared.edition.Edition.{Edition}
-use Rattle.bohm_tree.specs.Document.{Document}
+use Rattle.bohm_types.specs.declared.edition.Edition.{Edition}
+use Rattle.bohm_types.specs.Document.{Document}
 use Rattle.bohm_text.specs.declared.windows.Chunk.{Chunk}
 use Rattle.bohm_text.specs.Print.{text_of, print_doc}
 use Rattle.bohm_text.specs.Cut.{onto_first, whole_lines}
@@ -20,10 +20,12 @@ use Rattle.bohm_text.specs.declared.fault.TextFault.TheVariants as texts
 use Rattle.bohm_text.specs.declared.fault.WindowFault.{WindowFault}
 use Rattle.bohm_text.specs.declared.fault.WindowFault.TheVariants.{Line, Open, NoMemory}
 
-pub chunk_placed : (bytes : List ℕ) (lines : ℕ) (d : Document) (window : List ℕ) (chunk : Chunk) → IsTextOf bytes lines d → IsChunkOf d.edition window chunk → IsTextOf (bytes ++ window) (lines + chunk.lines) (with_log d chunk.log)
+pub chunk_placed : (bytes : List ℕ) (lines : ℕ) (d : Document) (window : List ℕ) (chunk : Chunk) → IsTextOf bytes lines d → IsChunkOf d.edition window chunk
+    → IsTextOf (bytes ++ window) (lines + chunk.lines) (with_log d chunk.log)
 chunk_placed bytes lines d window chunk so_far is =
     let both = window_found d so_far.sound chunk.log window is.sound is.print in
-    let all : whole_lines (bytes ++ window) ≡ text_lines d ++ whole_lines window = ap (λ (b : List ℕ). whole_lines (b ++ window)) (sym so_far.print) ∙ lines_on d so_far.sound window in
+    let all : whole_lines (bytes ++ window) ≡ text_lines d ++ whole_lines window =
+    ap (λ (b : List ℕ). whole_lines (b ++ window)) (sym so_far.print) ∙ lines_on d so_far.sound window in
     let before : whole_lines bytes ≡ text_lines d = ap whole_lines (sym so_far.print) ∙ lines_of d so_far.sound in
     record {
       sound = both.0;
@@ -31,13 +33,18 @@ chunk_placed bytes lines d window chunk so_far is =
       lines = omega (arith, so_far.lines, is.lines, ap length all, ap length before, length-append (text_lines d) (whole_lines window));
     }
 
-pub bad_placed : (bytes : List ℕ) (lines : ℕ) (d : Document) (window rest : List ℕ) (n : ℕ) → IsTextOf bytes lines d → IsWindow window → IsBadWindow d.edition window n → IsFirstBadLine (whole_lines (bytes ++ (window ++ rest))) (lines + n)
+pub bad_placed : (bytes : List ℕ) (lines : ℕ) (d : Document) (window rest : List ℕ) (n : ℕ) → IsTextOf bytes lines d → IsWindow window
+    → IsBadWindow d.edition window n → IsFirstBadLine (whole_lines (bytes ++ (window ++ rest))) (lines + n)
 bad_placed bytes lines d window rest n so_far begins is =
     let count : length (whole_lines (print_doc d)) + n ≡ lines + n = omega (arith, so_far.lines, ap (λ (b : List ℕ). length (whole_lines b)) so_far.print) in
-    subst (λ (m : ℕ). IsFirstBadLine (whole_lines (bytes ++ (window ++ rest))) m) count (subst (λ (b : List ℕ). IsFirstBadLine (whole_lines (b ++ (window ++ rest))) (length (whole_lines (print_doc d)) + n)) so_far.print (window_line d so_far.sound window rest begins n is.line))
+    subst (λ (m : ℕ). IsFirstBadLine (whole_lines (bytes ++ (window ++ rest))) m) count
+    (subst (λ (b : List ℕ). IsFirstBadLine (whole_lines (b ++ (window ++ rest))) (length (whole_lines (print_doc d)) + n)) so_far.print
+    (window_line d so_far.sound window rest begins n is.line))
 
-pub short_placed : (bytes : List ℕ) (lines : ℕ) (d : Document) (window : List ℕ) (n : ℕ) → IsTextOf bytes lines d → IsWindow window → IsOpenWindow d.edition window n → IsShort (bytes ++ window)
-short_placed bytes lines d window n so_far begins is = subst (λ (b : List ℕ). IsShort (b ++ window)) so_far.print (window_short d so_far.sound window begins is.short)
+pub short_placed : (bytes : List ℕ) (lines : ℕ) (d : Document) (window : List ℕ) (n : ℕ) → IsTextOf bytes lines d → IsWindow window
+    → IsOpenWindow d.edition window n → IsShort (bytes ++ window)
+short_placed bytes lines d window n so_far begins is =
+    subst (λ (b : List ℕ). IsShort (b ++ window)) so_far.print (window_short d so_far.sound window begins is.short)
 
 whole_headed : (e : Edition) (window : List ℕ) → IsWhole window → IsWhole (headed e window)
 whole_headed e window whole = ap text_of (headed_lines e window) ∙ ap (λ (t : List ℕ). (head_line e ++ 10 ∷ []) ++ t) whole
@@ -54,12 +61,18 @@ lines_short (b ∷ bs) =
 pub longer : (window rest : List ℕ) → IsWindow window → IsWindow (window ++ rest)
 longer window rest w = record { behind = w.behind ++ rest; begins = ap (λ (t : List ℕ). t ++ rest) w.begins ∙ append_assoc (codes "txn") (10 ∷ w.behind) rest }
 
-pub open_placed : (bytes : List ℕ) (lines : ℕ) (d : Document) (window rest : List ℕ) (n : ℕ) → IsTextOf bytes lines d → IsWindow window → IsWhole window → IsOpenWindow d.edition window n → IsWindow rest → IsFirstBadLine (whole_lines (bytes ++ (window ++ rest))) (lines + (n + 1))
+pub open_placed : (bytes : List ℕ) (lines : ℕ) (d : Document) (window rest : List ℕ) (n : ℕ) → IsTextOf bytes lines d → IsWindow window → IsWhole window
+    → IsOpenWindow d.edition window n → IsWindow rest → IsFirstBadLine (whole_lines (bytes ++ (window ++ rest))) (lines + (n + 1))
 open_placed bytes lines d window rest n so_far begins whole is next =
     let count : length (whole_lines (headed d.edition window)) + 1 ≡ n + 1 + 1 = omega (arith, is.lines, ap length (headed_lines d.edition window)) in
-    let alone : IsFirstBadLine (whole_lines (headed d.edition (window ++ rest))) (n + 1 + 1) = subst (λ (m : ℕ). IsFirstBadLine (whole_lines (headed d.edition (window ++ rest))) m) count (subst (λ (t : List ℕ). IsFirstBadLine (whole_lines t) (length (whole_lines (headed d.edition window)) + 1)) (append_assoc (head_line d.edition ++ 10 ∷ []) window rest) (open_line (headed d.edition window) rest (whole_headed d.edition window whole) is.short next)) in
+    let alone : IsFirstBadLine (whole_lines (headed d.edition (window ++ rest))) (n + 1 + 1) =
+    subst (λ (m : ℕ). IsFirstBadLine (whole_lines (headed d.edition (window ++ rest))) m) count
+    (subst (λ (t : List ℕ). IsFirstBadLine (whole_lines t) (length (whole_lines (headed d.edition window)) + 1))
+    (append_assoc (head_line d.edition ++ 10 ∷ []) window rest)
+    (open_line (headed d.edition window) rest (whole_headed d.edition window whole) is.short next)) in
     let within : n + 1 ≤ length (window ++ rest) = omega (arith, is.lines, lines_short window, ap length next.begins, length-append window rest) in
-    subst (λ (t : List ℕ). IsFirstBadLine (whole_lines (bytes ++ t)) (lines + (n + 1))) (append-nil (window ++ rest)) (bad_placed bytes lines d (window ++ rest) [] (n + 1) so_far (longer window rest begins) (record { line = alone; within = within }))
+    subst (λ (t : List ℕ). IsFirstBadLine (whole_lines (bytes ++ t)) (lines + (n + 1))) (append-nil (window ++ rest))
+    (bad_placed bytes lines d (window ++ rest) [] (n + 1) so_far (longer window rest begins) (record { line = alone; within = within }))
 
 -- ---- what was read
 
@@ -74,7 +87,8 @@ first_fault text (Open n) h = record { short = short text h.0; lines = h.1 }
 first_fault text NoMemory h = tt
 
 -- a whole text's fault
-pub line_told : (text : List ℕ) (fault : WindowFault) (n : ℕ) → text_fault_of fault ≡ texts.Line n → ReadsText text (Err fault) → IsFirstBadLine (whole_lines text) n
+pub line_told : (text : List ℕ) (fault : WindowFault) (n : ℕ) → text_fault_of fault ≡ texts.Line n → ReadsText text (Err fault)
+    → IsFirstBadLine (whole_lines text) n
 line_told text (Line m) n e h = let same : m ≡ n = cc in subst (IsFirstBadLine (whole_lines text)) same (bad_line (whole_lines text) m h)
 line_told text (Open m) n e h = absurd cc
 line_told text NoMemory n e h = absurd cc

@@ -9,7 +9,9 @@ drop_at : {A : Type 0} (xs : List A) (i : ℕ) (x : A) → slice_get xs i ≡ So
 drop_at xs i x e = rw add-one (drop-cons xs i x (slice_get_within xs i x e) ∙ ap (λ y. y ∷ drop (suc i) xs) (get_or_from_slice_get xs i x x e))
 
 -- the text of the list from a place on: once its first element is printed, the text of the others is left
-pub print_more : {A : Type 0} (text : List A → List ℕ) (xs : List A) (i : ℕ) (x : A) (out piece longer whole : List ℕ) → slice_get xs i ≡ Some x → text (x ∷ drop (i + 1) xs) ≡ piece ++ text (drop (i + 1) xs) → longer ≡ out ++ piece → out ++ text (drop i xs) ≡ whole → longer ++ text (drop (i + 1) xs) ≡ whole
+pub print_more : {A : Type 0} (text : List A → List ℕ) (xs : List A) (i : ℕ) (x : A) (out piece longer whole : List ℕ) → slice_get xs i ≡ Some x
+    → text (x ∷ drop (i + 1) xs) ≡ piece ++ text (drop (i + 1) xs) → longer ≡ out ++ piece → out ++ text (drop i xs) ≡ whole
+    → longer ++ text (drop (i + 1) xs) ≡ whole
 print_more text xs i x out piece longer whole at first printed so_far =
     let rest : text (drop i xs) ≡ piece ++ text (drop (i + 1) xs) = ap text (drop_at xs i x at) ∙ first in
     rw printed (append_assoc out piece (text (drop (i + 1) xs)) ∙ (ap (λ (ys : List ℕ). out ++ ys) (sym rest) ∙ so_far))

@@ -6,12 +6,12 @@ use Rattle.std.specs.Str.{bytes_eq}
 use Rattle.std.proofs.lemmas.Bool.{and_parts, not-true}
 use Rattle.std.proofs.lemmas.List.{map-append, append-nil}
 use Rattle.std.proofs.lemmas.Option.{same_Some}
-use Rattle.bohm_tree.specs.Keys.{is_among}
-use Rattle.bohm_tree.specs.Sound.{IsName, IsStmt}
-use Rattle.bohm_tree.specs.Stmt.{Stmt, Bind, Need, Has, Lacks, Put, Remove, Show, Fail}
-use Rattle.bohm_tree.specs.declared.edition.Edition.{Edition}
-use Rattle.bohm_tree.specs.declared.edition.Edition.TheVariants.{One, Two}
-use Rattle.bohm_tree.specs.Procedure.{Procedure}
+use Rattle.bohm_types.specs.Keys.{is_among}
+use Rattle.bohm_types.specs.Sound.{IsName, IsStmt}
+use Rattle.bohm_types.specs.Stmt.{Stmt, Bind, Need, Has, Lacks, Put, Remove, Show, Fail}
+use Rattle.bohm_types.specs.declared.edition.Edition.{Edition}
+use Rattle.bohm_types.specs.declared.edition.Edition.TheVariants.{One, Two}
+use Rattle.bohm_types.specs.Procedure.{Procedure}
 use Rattle.bohm_text.specs.Print.{Words, line_text, text_of, stmt_words}
 use Rattle.bohm_text.specs.Cut.{split, whole_lines}
 use Rattle.bohm_text.specs.Reading.{keys_of, after}
@@ -187,7 +187,8 @@ pub lines_are_words : (p : Procedure) → IsProcedure p → AllByRecursion AreWo
 lines_are_words p sound = (
   head_are_words p.edition,
   each_append AreWords (map key_words p.keys) _ (All-map IsName AreWords key_words (λ k name. (refl, (name_word k name, tt))) p.keys sound.keys)
-      (each_append AreWords (map value_words p.values) _ (All-map IsName AreWords value_words (λ x name. (refl, (name_word x name, tt))) p.values sound.values) (
+      (each_append AreWords (map value_words p.values) _
+      (All-map IsName AreWords value_words (λ x name. (refl, (name_word x name, tt))) p.values sound.values) (
         (refl, names_are_words p.reads sound.reads),
         (
           (refl, names_are_words p.writes sound.writes),

@@ -4,15 +4,15 @@ use Rattle.std.specs.Prelude.{Option, codes, IsSome, Result, Ok, Err, IfOk, drop
 use Rattle.std.specs.List.{AllByRecursion, list_all}
 use Rattle.std.specs.Str.{bytes_eq}
 use Rattle.std.proofs.lemmas.Bool.{and_from, or_right}
-use Rattle.bohm_tree.specs.Keys.{is_among}
+use Rattle.bohm_types.specs.Keys.{is_among}
 use Rattle.bohm_txn.proofs.ForCallers.{key_itself}
 use Rattle.std.proofs.lemmas.List.{map-append, append-nil}
 use Rattle.std.proofs.lemmas.Option.{same_Some}
-use Rattle.bohm_tree.specs.Sound.{IsName, IsStmt}
-use Rattle.bohm_tree.specs.Stmt.{Stmt}
-use Rattle.bohm_tree.specs.declared.edition.Edition.{Edition}
-use Rattle.bohm_tree.specs.declared.edition.Edition.TheVariants.{One}
-use Rattle.bohm_tree.specs.Procedure.{Procedure, procedure_with}
+use Rattle.bohm_types.specs.Sound.{IsName, IsStmt}
+use Rattle.bohm_types.specs.Stmt.{Stmt}
+use Rattle.bohm_types.specs.declared.edition.Edition.{Edition}
+use Rattle.bohm_types.specs.declared.edition.Edition.TheVariants.{One}
+use Rattle.bohm_types.specs.Procedure.{Procedure, procedure_with}
 use Rattle.bohm_text.specs.Print.{Words, line_text, text_of, stmt_words}
 use Rattle.bohm_text.specs.Cut.{whole_lines}
 use Rattle.bohm_text.specs.ProcedureText.{procedure_words, key_words, value_words, tail_lines, procedure_lines}

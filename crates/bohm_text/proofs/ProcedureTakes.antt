@@ -6,13 +6,13 @@ use Rattle.std.specs.Str.{bytes_eq}
 use Rattle.std.proofs.lemmas.Bool.{and_parts, and_from, not_from_false}
 use Rattle.std.proofs.lemmas.List.{map_push, map-append, append-nil}
 use Rattle.std.proofs.lemmas.Option.{same_Some}
-use Rattle.bohm_tree.specs.Name.{key_of, is_name}
-use Rattle.bohm_tree.specs.Keys.{is_among}
-use Rattle.bohm_tree.specs.Sound.{IsName, IsStmt}
-use Rattle.bohm_tree.specs.Stmt.{Stmt}
-use Rattle.bohm_tree.specs.declared.edition.Edition.{Edition}
-use Rattle.bohm_tree.specs.declared.edition.Edition.TheVariants.{One, Two}
-use Rattle.bohm_tree.specs.Procedure.{Procedure}
+use Rattle.bohm_types.specs.Name.{key_of, is_name}
+use Rattle.bohm_types.specs.Keys.{is_among}
+use Rattle.bohm_types.specs.Sound.{IsName, IsStmt}
+use Rattle.bohm_types.specs.Stmt.{Stmt}
+use Rattle.bohm_types.specs.declared.edition.Edition.{Edition}
+use Rattle.bohm_types.specs.declared.edition.Edition.TheVariants.{One, Two}
+use Rattle.bohm_types.specs.Procedure.{Procedure}
 use Rattle.bohm_txn.proofs.ForCallers.{same_key}
 use Rattle.bohm_text.specs.Print.{Words, line_text, text_of, stmt_words}
 use Rattle.bohm_text.specs.Cut.{split, whole_lines}

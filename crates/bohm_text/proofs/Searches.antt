@@ -1,5 +1,6 @@
 -- The first separator, as a search of many bytes at once finds it.
-use Rattle.std.proofs.Common.{◌≡◌, ℕ, zero, suc, ◌+◌, ◌*◌, ◌%◌, ◌^◌, ◌<◌, ◌≤◌, Bool, true, false, not, List, [], ◌∷◌, cond, map, take, replicate, w8, length, Option, Some, None, refl, ap, sym, ◌∙◌, slice_index, arith}
+use Rattle.std.proofs.Common.{◌≡◌, ℕ, zero, suc, ◌+◌, ◌*◌, ◌%◌, ◌^◌, ◌<◌, ◌≤◌, Bool, true, false, not, List, [], ◌∷◌, cond}
+use Rattle.std.proofs.Common.{map, take, replicate, w8, length, Option, Some, None, refl, ap, sym, ◌∙◌, slice_index, arith}
 use Rattle.std.specs.Prelude.{◌==◌}
 use Rattle.std.specs.List.{position_from, prefix_len}
 use Rattle.std.specs.Int.Count.{count_trailing_zeros}
@@ -14,7 +15,8 @@ is_false : (b : Bool) → ¬ (b ≡ true) → b ≡ false
 is_false true h = absurd (h refl)
 is_false false h = refl
 
-first_there : (test : ℕ → Bool) (xs : List ℕ) (n k : ℕ) → k < length xs → ((j : ℕ) → j < k → ¬ (test (slice_index xs j) ≡ true)) → test (slice_index xs k) ≡ true → position_from test n xs ≡ Some (n + k)
+first_there : (test : ℕ → Bool) (xs : List ℕ) (n k : ℕ) → k < length xs → ((j : ℕ) → j < k → ¬ (test (slice_index xs j) ≡ true))
+    → test (slice_index xs k) ≡ true → position_from test n xs ≡ Some (n + k)
 first_there test [] n k h none is = absurd (omega (arith, h))
 first_there test (x ∷ xs) n zero h none is = rw is (ap Some (omega arith))
 first_there test (x ∷ xs) n (suc k) h none is =
@@ -52,11 +54,13 @@ module _ (c : ℕ) where
   abbrev other : ℕ → Bool
   other b = not (is_byte c b)
 
-  marked : (k n : ℕ) (bytes : List ℕ) → 0 < mask_l (map (is_byte c) (take k bytes)) → position_from (is_byte c) n bytes ≡ Some (n + prefix_len other (take k bytes))
+  marked : (k n : ℕ) (bytes : List ℕ) → 0 < mask_l (map (is_byte c) (take k bytes))
+      → position_from (is_byte c) n bytes ≡ Some (n + prefix_len other (take k bytes))
   marked zero n bytes some = absurd (omega (arith, some))
   marked (suc k) n [] some = absurd (omega (arith, some))
   marked (suc k) n (b ∷ bs) some =
-      let P : Bool → Type 0 = λ (t : Bool). 0 < cond t 1 0 + 2 * mask_l (map (is_byte c) (take k bs)) → cond t (Some n) (position_from (is_byte c) (n + 1) bs) ≡ Some (n + cond (not t) (1 + prefix_len other (take k bs)) 0) in
+      let P : Bool → Type 0 = λ (t : Bool). 0 < cond t 1 0 + 2 * mask_l (map (is_byte c) (take k bs))
+      → cond t (Some n) (position_from (is_byte c) (n + 1) bs) ≡ Some (n + cond (not t) (1 + prefix_len other (take k bs)) 0) in
       elim (is_byte c b) as P [
         | true ↦ λ _. ap Some (omega arith)
         | false ↦ λ h. marked k (n + 1) bs (omega (arith, h)) ∙ ap Some (omega arith)
@@ -66,12 +70,15 @@ module _ (c : ℕ) where
   abbrev pub marks_of : ℕ → List ℕ → ℕ
   marks_of n block = mask_l (map (top 7) (zip2 (λ a b. cond (a == b) 255 0) block (replicate n c))) % 2 ^ 64
 
-  pub lowest_mark : (n : ℕ) (bytes : List ℕ) → n ≤ 64 → n ≤ length bytes → ¬ (marks_of n (take n bytes) ≡ 0) → position_from (is_byte c) 0 bytes ≡ Some (count_trailing_zeros 64 (marks_of n (take n bytes)))
+  pub lowest_mark : (n : ℕ) (bytes : List ℕ) → n ≤ 64 → n ≤ length bytes → ¬ (marks_of n (take n bytes) ≡ 0)
+      → position_from (is_byte c) 0 bytes ≡ Some (count_trailing_zeros 64 (marks_of n (take n bytes)))
   lowest_mark n bytes few long some =
       let block = take n bytes in
       let size : length block ≡ n = length-take-le n bytes long in
-      let bits : map (top 7) (zip2 (λ a b. cond (a == b) 255 0) block (replicate n c)) ≡ map (is_byte c) block = tops_compared w8 (λ a b. a == b) block (replicate n c) ∙ zip2_splat (λ a b. a == b) block n c size in
-      let same : marks_of n block ≡ mask_l (map (is_byte c) block) = ap (λ ms. mask_l ms % 2 ^ 64) bits ∙ mask_l-mod (map (is_byte c) block) 64 (omega (arith, length-map block (is_byte c), size, few)) in
+      let bits : map (top 7) (zip2 (λ a b. cond (a == b) 255 0) block (replicate n c)) ≡ map (is_byte c) block =
+      tops_compared w8 (λ a b. a == b) block (replicate n c) ∙ zip2_splat (λ a b. a == b) block n c size in
+      let same : marks_of n block ≡ mask_l (map (is_byte c) block) =
+      ap (λ ms. mask_l ms % 2 ^ 64) bits ∙ mask_l-mod (map (is_byte c) block) 64 (omega (arith, length-map block (is_byte c), size, few)) in
       let there : 0 < mask_l (map (is_byte c) block) = omega (arith, same, some) in
       let lowest = ap (count_trailing_zeros 64) same ∙ trailing_mask_l (is_byte c) 64 block (omega (arith, size, few)) there in
       marked n 0 bytes there ∙ ap Some (omega (arith, lowest))

@@ -8,16 +8,18 @@ use Rattle.std.specs.Fmt.{decimal, signed_decimal}
 use Rattle.std.proofs.lemmas.List.{append-nil}
 use Rattle.std.proofs.lemmas.Bool.{eqb-true}
 use Rattle.std.proofs.lemmas.Option.{same_Some}
-use Rattle.bohm_tree.specs.Name.{key_of}
-use Rattle.bohm_tree.specs.Term.{Atom}
-use Rattle.bohm_tree.specs.declared.cmp.Cmp.{Cmp}
-use Rattle.bohm_tree.specs.declared.cmp.Cmp.TheVariants.{Lt, Le, Eq, Ge, Gt}
-use Rattle.bohm_tree.specs.Stmt.{Cond, Stmt, Bind, Need, Has, Lacks, Put, Remove, Show, Fail}
+use Rattle.bohm_types.specs.Name.{key_of}
+use Rattle.bohm_types.specs.Term.{Atom}
+use Rattle.bohm_types.specs.declared.cmp.Cmp.{Cmp}
+use Rattle.bohm_types.specs.declared.cmp.Cmp.TheVariants.{Lt, Le, Eq, Ge, Gt}
+use Rattle.bohm_types.specs.Stmt.{Cond, Stmt, Bind, Need, Has, Lacks, Put, Remove, Show, Fail}
 use Rattle.bohm_txn.proofs.ForCallers.{same_key}
 use Rattle.bohm_text.specs.declared.stops.Stop.{Stop}
 use Rattle.bohm_text.specs.declared.stops.Stop.TheVariants as stops
 use Rattle.bohm_text.specs.Print.{Words, further_words, sum_words, cmp_word, cond_words, stmt_words, store_words}
-use Rattle.bohm_text.specs.Reading.{◌>>=◌, whole_of, lit_of, negative, number_of, first_of, sign_of, further_of, cmp_of, stop_of, Ending, End, When, Compared, ending, Terms, stopped, longer, one_more, terms_of, sum_from, at_end, last_sum, keys_of, local_of, after, right_side, cond_of, guarded, assigned_of, bind_of, put_of, presence_of, need_of, remove_of, fail_of, stmt_of, entry_of}
+use Rattle.bohm_text.specs.Reading.{◌>>=◌, whole_of, lit_of, negative, number_of, first_of, sign_of, further_of, cmp_of, stop_of, Ending, End, When}
+use Rattle.bohm_text.specs.Reading.{Compared, ending, Terms, stopped, longer, one_more, terms_of, sum_from, at_end, last_sum, keys_of, local_of, after}
+use Rattle.bohm_text.specs.Reading.{right_side, cond_of, guarded, assigned_of, bind_of, put_of, presence_of, need_of, remove_of, fail_of, stmt_of, entry_of}
 use Rattle.bohm_text.proofs.WordTakes.{bind_some, map_some, chosen, if_some, key_takes, local_takes, whole_takes, first_takes, sign_takes, further_takes}
 
 -- ---- sums
@@ -56,8 +58,10 @@ stop_takes : (w : List ℕ) (stop : Stop) (words : Words) → stop_of w ≡ Some
 unfolding stop_of
 stop_takes w stop words e =
     elim (chosen (bytes_eq w (codes "when")) (Some stops.When) (option_map stops.Compared (cmp_of w)) (Some stop) e) [
-      | inl p ↦ subst (λ (s : Stop). w ∷ words ≡ ending_words (ending s words)) (same_Some stops.When stop p.1) (ap (λ (v : List ℕ). v ∷ words) (same_key w (codes "when") p.0))
-      | inr p ↦ let m = map_some stops.Compared (cmp_of w) stop p.1 in subst (λ (s : Stop). w ∷ words ≡ ending_words (ending s words)) m.2 (ap (λ (v : List ℕ). v ∷ words) (cmp_takes w m.0 m.1))
+      | inl p ↦ subst (λ (s : Stop). w ∷ words ≡ ending_words (ending s words)) (same_Some stops.When stop p.1)
+          (ap (λ (v : List ℕ). v ∷ words) (same_key w (codes "when") p.0))
+      | inr p ↦ let m = map_some stops.Compared (cmp_of w) stop p.1 in
+          subst (λ (s : Stop). w ∷ words ≡ ending_words (ending s words)) m.2 (ap (λ (v : List ℕ). v ∷ words) (cmp_takes w m.0 m.1))
     ]
 
 -- the words of terms and of what ends them
@@ -76,7 +80,8 @@ pub longer_some : (t : Bool × Atom) (read : Option Terms) (p : Terms) → longe
 longer_some t read p e = let b = bind_some read (λ q. Some (t ∷ q.0, q.1)) p e in (b.0, b.1, same_Some (t ∷ b.0.0, b.0.1) p b.2)
 
 -- one term more, after a sign
-more_takes : (sign word : List ℕ) (minus : Bool) (ws : Words) (p : Terms) → sign_of sign ≡ Some minus → ((q : Terms) → terms_of ws ≡ Some q → ws ≡ further_text q)
+more_takes : (sign word : List ℕ) (minus : Bool) (ws : Words) (p : Terms) → sign_of sign ≡ Some minus
+    → ((q : Terms) → terms_of ws ≡ Some q → ws ≡ further_text q)
     → (further_of minus word >>= λ term. longer term (terms_of ws)) ≡ Some p → sign ∷ word ∷ ws ≡ further_text p
 more_takes sign word minus ws p s rest e =
     let b = bind_some (further_of minus word) (λ term. longer term (terms_of ws)) p e in
@@ -91,7 +96,8 @@ unfolding terms_of
 terms_take [] p e = subst (λ (q : Terms). [] ≡ further_text q) (same_Some ([], End) p e) refl
 terms_take (word ∷ []) p e = stopped_takes word [] p e
 terms_take (sign ∷ word ∷ ws) p e =
-    let P : Option Bool → Type 0 = λ (o : Option Bool). sign_of sign ≡ o → one_more o word (terms_of ws) (stopped sign (word ∷ ws)) ≡ Some p → sign ∷ word ∷ ws ≡ further_text p in
+    let P : Option Bool → Type 0 = λ (o : Option Bool). sign_of sign ≡ o → one_more o word (terms_of ws) (stopped sign (word ∷ ws)) ≡ Some p
+    → sign ∷ word ∷ ws ≡ further_text p in
     elim (sign_of sign) as P [
       | None ↦ λ _ h. stopped_takes sign (word ∷ ws) p h
       | Some minus ↦ λ s h. more_takes sign word minus ws p s (terms_take ws) h
@@ -123,7 +129,8 @@ right_takes (sum, When words) c e = absurd cc
 right_takes (sum, Compared cmp words) c e =
     let made : List (Bool × Atom) → Cond = λ (right : List (Bool × Atom)). record { left = sum; cmp = cmp; right = right } in
     let b = bind_some (last_sum words) (λ right. Some (made right)) c e in
-    let whole : sum_words sum ++ cmp_word cmp ∷ words ≡ cond_words (made b.0) = ap (λ (r : Words). sum_words sum ++ cmp_word cmp ∷ r) (last_takes words b.0 b.1) in
+    let whole : sum_words sum ++ cmp_word cmp ∷ words ≡ cond_words (made b.0) =
+    ap (λ (r : Words). sum_words sum ++ cmp_word cmp ∷ r) (last_takes words b.0 b.1) in
     subst (λ (x : Cond). sum_words sum ++ cmp_word cmp ∷ words ≡ cond_words x) (same_Some (made b.0) c b.2) whole
 
 pub cond_takes : (ws : Words) (c : Cond) → cond_of ws ≡ Some c → ws ≡ cond_words c
@@ -143,7 +150,8 @@ keys_take (word ∷ ws) ks e =
     let whole : word ∷ ws ≡ b1.0 ∷ b2.0 = λ i. (key_takes word b1.0 b1.1).0 i ∷ keys_take ws b2.0 b2.1 i in
     whole ∙ same_Some (b1.0 ∷ b2.0) ks b2.2
 
-pub after_takes : {X : Type 0} (word : List ℕ) (read : List (List ℕ) → Option X) (ws : List (List ℕ)) (x : X) → after word read ws ≡ Some x → (rest : List (List ℕ)) × (ws ≡ word ∷ rest) × (read rest ≡ Some x)
+pub after_takes : {X : Type 0} (word : List ℕ) (read : List (List ℕ) → Option X) (ws : List (List ℕ)) (x : X) → after word read ws ≡ Some x
+    → (rest : List (List ℕ)) × (ws ≡ word ∷ rest) × (read rest ≡ Some x)
 after_takes word read [] x e = absurd cc
 after_takes word read (w ∷ ws) x e =
     let p = if_some (bytes_eq w word) (read ws) x e in
@@ -164,11 +172,14 @@ bind_takes (word ∷ ws) s e =
     subst (λ (t : Stmt). codes "let" ∷ word ∷ ws ≡ stmt_words t) (same_Some (Bind b1.0 b2.0) s b2.2) whole
 
 guarded_takes : (key : List ℕ) (p : Terms) (s : Stmt) → guarded key p ≡ Some s → codes "set" ∷ key ∷ codes "=" ∷ sum_text p ≡ stmt_words s
-guarded_takes key (sum, End) s e = subst (λ (t : Stmt). codes "set" ∷ key ∷ codes "=" ∷ (sum_words sum ++ []) ≡ stmt_words t) (same_Some (Put key sum None) s e) refl
+guarded_takes key (sum, End) s e = subst (λ (t : Stmt). codes "set" ∷ key ∷ codes "=" ∷ (sum_words sum ++ []) ≡ stmt_words t)
+    (same_Some (Put key sum None) s e) refl
 guarded_takes key (sum, When words) s e =
     let b = bind_some (cond_of words) (λ c. Some (Put key sum (Some c))) s e in
-    let whole : codes "set" ∷ key ∷ codes "=" ∷ (sum_words sum ++ codes "when" ∷ words) ≡ stmt_words (Put key sum (Some b.0)) = ap (λ (r : Words). codes "set" ∷ key ∷ codes "=" ∷ (sum_words sum ++ codes "when" ∷ r)) (cond_takes words b.0 b.1) in
-    subst (λ (t : Stmt). codes "set" ∷ key ∷ codes "=" ∷ (sum_words sum ++ codes "when" ∷ words) ≡ stmt_words t) (same_Some (Put key sum (Some b.0)) s b.2) whole
+    let whole : codes "set" ∷ key ∷ codes "=" ∷ (sum_words sum ++ codes "when" ∷ words) ≡ stmt_words (Put key sum (Some b.0)) =
+    ap (λ (r : Words). codes "set" ∷ key ∷ codes "=" ∷ (sum_words sum ++ codes "when" ∷ r)) (cond_takes words b.0 b.1) in
+    subst (λ (t : Stmt). codes "set" ∷ key ∷ codes "=" ∷ (sum_words sum ++ codes "when" ∷ words) ≡ stmt_words t)
+    (same_Some (Put key sum (Some b.0)) s b.2) whole
 guarded_takes key (sum, Compared cmp words) s e = absurd cc
 
 put_takes : (ws : Words) (s : Stmt) → put_of ws ≡ Some s → codes "set" ∷ ws ≡ stmt_words s
@@ -178,21 +189,25 @@ put_takes (word ∷ ws) s e =
     let b1 = bind_some (key_of word) (λ key. after (codes "=") (assigned_of key) ws) s e in
     let a = after_takes (codes "=") (assigned_of b1.0) ws s b1.2 in
     let b2 = bind_some (sum_from a.0) (guarded b1.0) s a.2 in
-    let whole : codes "set" ∷ word ∷ ws ≡ codes "set" ∷ b1.0 ∷ codes "=" ∷ sum_text b2.0 = λ i. codes "set" ∷ (key_takes word b1.0 b1.1).0 i ∷ (a.1 ∙ ap (λ (r : Words). codes "=" ∷ r) (sum_takes a.0 b2.0 b2.1)) i in
+    let whole : codes "set" ∷ word ∷ ws ≡ codes "set" ∷ b1.0 ∷ codes "=" ∷ sum_text b2.0 =
+    λ i. codes "set" ∷ (key_takes word b1.0 b1.1).0 i ∷ (a.1 ∙ ap (λ (r : Words). codes "=" ∷ r) (sum_takes a.0 b2.0 b2.1)) i in
     whole ∙ guarded_takes b1.0 b2.0 s b2.2
 
 presence_takes : (word name : List ℕ) (s : Stmt) → presence_of word name ≡ Some s → codes "need" ∷ word ∷ name ∷ [] ≡ stmt_words s
 unfolding presence_of
 presence_takes word name s e =
-    elim (chosen (bytes_eq word (codes "has")) (option_map Has (key_of name)) (cond (bytes_eq word (codes "no")) (option_map Lacks (key_of name)) None) (Some s) e) [
+    elim (chosen (bytes_eq word (codes "has")) (option_map Has (key_of name)) (cond (bytes_eq word (codes "no")) (option_map Lacks (key_of name)) None)
+    (Some s) e) [
       | inl p ↦
           let m = map_some Has (key_of name) s p.1 in
-          let whole : codes "need" ∷ word ∷ name ∷ [] ≡ stmt_words (Has m.0) = λ i. codes "need" ∷ same_key word (codes "has") p.0 i ∷ (key_takes name m.0 m.1).0 i ∷ [] in
+          let whole : codes "need" ∷ word ∷ name ∷ [] ≡ stmt_words (Has m.0) =
+          λ i. codes "need" ∷ same_key word (codes "has") p.0 i ∷ (key_takes name m.0 m.1).0 i ∷ [] in
           subst (λ (t : Stmt). codes "need" ∷ word ∷ name ∷ [] ≡ stmt_words t) m.2 whole
       | inr p ↦
           let q = if_some (bytes_eq word (codes "no")) (option_map Lacks (key_of name)) s p.1 in
           let m = map_some Lacks (key_of name) s q.1 in
-          let whole : codes "need" ∷ word ∷ name ∷ [] ≡ stmt_words (Lacks m.0) = λ i. codes "need" ∷ same_key word (codes "no") q.0 i ∷ (key_takes name m.0 m.1).0 i ∷ [] in
+          let whole : codes "need" ∷ word ∷ name ∷ [] ≡ stmt_words (Lacks m.0) =
+          λ i. codes "need" ∷ same_key word (codes "no") q.0 i ∷ (key_takes name m.0 m.1).0 i ∷ [] in
           subst (λ (t : Stmt). codes "need" ∷ word ∷ name ∷ [] ≡ stmt_words t) m.2 whole
     ]
 
@@ -203,7 +218,8 @@ need_takes (word ∷ []) s e = absurd cc
 need_takes (word ∷ name ∷ []) s e = presence_takes word name s e
 need_takes (left ∷ cmp ∷ right ∷ ws) s e =
     let m = map_some Need (cond_of (left ∷ cmp ∷ right ∷ ws)) s e in
-    let whole : codes "need" ∷ left ∷ cmp ∷ right ∷ ws ≡ stmt_words (Need m.0) = ap (λ (r : Words). codes "need" ∷ r) (cond_takes (left ∷ cmp ∷ right ∷ ws) m.0 m.1) in
+    let whole : codes "need" ∷ left ∷ cmp ∷ right ∷ ws ≡ stmt_words (Need m.0) =
+    ap (λ (r : Words). codes "need" ∷ r) (cond_takes (left ∷ cmp ∷ right ∷ ws) m.0 m.1) in
     subst (λ (t : Stmt). codes "need" ∷ left ∷ cmp ∷ right ∷ ws ≡ stmt_words t) m.2 whole
 
 show_takes : (ws : Words) (s : Stmt) → option_map Show (last_sum ws) ≡ Some s → codes "show" ∷ ws ≡ stmt_words s
@@ -253,7 +269,8 @@ stmt_takes (verb ∷ ws) s e =
                         | inr t ↦
                             elim (chosen (bytes_eq verb (codes "drop")) (remove_of ws) rest5 (Some s) t.1) [
                               | inl u ↦ verb_takes (codes "drop") verb ws s u.0 (remove_takes ws s u.1)
-                              | inr u ↦ let v = if_some (bytes_eq verb (codes "fail")) (fail_of ws) s u.1 in verb_takes (codes "fail") verb ws s v.0 (fail_takes ws s v.1)
+                              | inr u ↦ let v = if_some (bytes_eq verb (codes "fail")) (fail_of ws) s u.1 in
+                                  verb_takes (codes "fail") verb ws s v.0 (fail_takes ws s v.1)
                             ]
                       ]
                 ]

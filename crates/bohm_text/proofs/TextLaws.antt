@@ -4,15 +4,15 @@ use Rattle.std.specs.Prelude.{Option, codes, IsSome, ◌==◌}
 use Rattle.std.specs.List.{list_all, AllByRecursion}
 use Rattle.std.proofs.lemmas.List.{append-nil}
 use Rattle.std.proofs.lemmas.Option.{same_Some}
-use Rattle.bohm_tree.specs.Document.{Document, same_edition, in_edition, document_of}
-use Rattle.bohm_tree.specs.Stmt.{Stmt}
-use Rattle.bohm_tree.specs.Txn.{Txn}
-use Rattle.bohm_tree.specs.declared.edition.Edition.{Edition}
-use Rattle.bohm_tree.specs.declared.edition.Edition.TheVariants.{One, Two}
+use Rattle.bohm_types.specs.Document.{Document, same_edition, in_edition, document_of}
+use Rattle.bohm_types.specs.Stmt.{Stmt}
+use Rattle.bohm_types.specs.Txn.{Txn}
+use Rattle.bohm_types.specs.declared.edition.Edition.{Edition}
+use Rattle.bohm_types.specs.declared.edition.Edition.TheVariants.{One, Two}
 use Rattle.bohm_txn.proofs.ForCallers.{each_append}
 use Rattle.bohm_text.specs.Print.{Words, line_text, spaced, text_of, doc_lines, print_doc}
 use Rattle.bohm_text.specs.Cut.{whole_lines}
-use Rattle.bohm_tree.specs.Sound.{IsName, IsStmt, IsTxn, IsDocument}
+use Rattle.bohm_types.specs.Sound.{IsName, IsStmt, IsTxn, IsDocument}
 use Rattle.bohm_text.specs.Step.{Progress, Nothing, Between, Opened, Reading, Body, with_txn, steps}
 use Rattle.bohm_text.specs.Front.{text_lines, Front}
 use Rattle.bohm_text.specs.Faults.{IsFirstBadLine, IsShort}
@@ -50,7 +50,8 @@ same_document d e h = cc
 
 pub one_text : (d e : Document) → IsDocument d → IsDocument e → print_doc d ≡ print_doc e → d ≡ e
 one_text d e sound_d sound_e same =
-    let read : Between d ≡ Between e = same_Some (Between d) (Between e) (sym (text_steps d sound_d) ∙ (ap (λ (t : List ℕ). steps Nothing (whole_lines t)) same ∙ text_steps e sound_e)) in
+    let read : Between d ≡ Between e = same_Some (Between d) (Between e)
+    (sym (text_steps d sound_d) ∙ (ap (λ (t : List ℕ). steps Nothing (whole_lines t)) same ∙ text_steps e sound_e)) in
     same_document d e read
 
 -- ---- beginnings
@@ -61,25 +62,42 @@ none_after ls more p none e =
     cc
 
 pub not_front : (ls : List (List ℕ)) → steps Nothing ls ≡ None → Front ls → ⊥
-not_front ls none front = none_after ls front.more (Between front.document) none (ap (steps Nothing) (sym front.begins) ∙ document_steps front.document front.sound)
+not_front ls none front = none_after ls front.more (Between front.document) none
+    (ap (steps Nothing) (sym front.begins) ∙ document_steps front.document front.sound)
 
-open_txn : (d : Document) (reads writes : List (List ℕ)) (body : List Stmt) → IsDocument d → AllByRecursion IsName reads → AllByRecursion IsName writes → AllByRecursion IsStmt body → IsDocument (with_txn d reads writes body)
-open_txn d reads writes body sound names_r names_w stmts = record { store = sound.store; log = each_append (IsTxn d.edition) d.log ((record { edition = d.edition; reads = reads; writes = writes; body = body }) ∷ []) sound.log (record { same = refl; reads = names_r; writes = names_w; body = stmts }, tt) }
+open_txn : (d : Document) (reads writes : List (List ℕ)) (body : List Stmt) → IsDocument d → AllByRecursion IsName reads → AllByRecursion IsName writes
+    → AllByRecursion IsStmt body → IsDocument (with_txn d reads writes body)
+open_txn d reads writes body sound names_r names_w stmts =
+    record {
+      store = sound.store;
+      log = each_append (IsTxn d.edition) d.log
+          ((record { edition = d.edition; reads = reads; writes = writes; body = body }) ∷ []) sound.log
+          (record { same = refl; reads = names_r; writes = names_w; body = stmts }, tt);
+    }
 
 closed : (p : Progress) → IsSound p → Front (progress_lines p)
-closed Nothing sound = record { document = record { edition = One; store = []; log = [] }; sound = record { store = tt; log = tt }; more = text_lines (record { edition = One; store = []; log = [] }); begins = refl }
+closed Nothing sound = record {
+  document = record { edition = One; store = []; log = [] };
+  sound = record { store = tt; log = tt };
+  more = text_lines (record { edition = One; store = []; log = [] });
+  begins = refl;
+}
 closed (Between d) sound = record { document = d; sound = sound; more = []; begins = sym (append-nil (text_lines d)) }
 closed (Opened d) sound = record {
   document = (with_txn d [] [] []);
   sound = open_txn d [] [] [] sound tt tt tt;
   more = line_text (codes "reads" ∷ []) ∷ line_text (codes "writes" ∷ []) ∷ codes "end" ∷ [];
-  begins = txn_adds d [] [] [] ∙ (append_assoc (text_lines d) (codes "txn" ∷ line_text (codes "reads" ∷ []) ∷ line_text (codes "writes" ∷ []) ∷ []) (codes "end" ∷ []) ∙ sym (append_assoc (text_lines d) (codes "txn" ∷ []) (line_text (codes "reads" ∷ []) ∷ line_text (codes "writes" ∷ []) ∷ codes "end" ∷ [])));
+  begins = txn_adds d [] [] [] ∙ (append_assoc (text_lines d) (codes "txn" ∷ line_text (codes "reads" ∷ []) ∷ line_text (codes "writes" ∷ []) ∷ [])
+      (codes "end" ∷ []) ∙ sym (append_assoc (text_lines d) (codes "txn" ∷ [])
+      (line_text (codes "reads" ∷ []) ∷ line_text (codes "writes" ∷ []) ∷ codes "end" ∷ [])));
 }
 closed (Reading d reads) sound = record {
   document = (with_txn d reads [] []);
   sound = open_txn d reads [] [] sound.0 sound.1 tt tt;
   more = line_text (codes "writes" ∷ []) ∷ codes "end" ∷ [];
-  begins = txn_adds d reads [] [] ∙ (append_assoc (text_lines d) (codes "txn" ∷ line_text (codes "reads" ∷ reads) ∷ line_text (codes "writes" ∷ []) ∷ []) (codes "end" ∷ []) ∙ sym (append_assoc (text_lines d) (codes "txn" ∷ line_text (codes "reads" ∷ reads) ∷ []) (line_text (codes "writes" ∷ []) ∷ codes "end" ∷ [])));
+  begins = txn_adds d reads [] [] ∙ (append_assoc (text_lines d) (codes "txn" ∷ line_text (codes "reads" ∷ reads) ∷ line_text (codes "writes" ∷ []) ∷ [])
+      (codes "end" ∷ []) ∙ sym (append_assoc (text_lines d) (codes "txn" ∷ line_text (codes "reads" ∷ reads) ∷ [])
+      (line_text (codes "writes" ∷ []) ∷ codes "end" ∷ [])));
 }
 closed (Body d reads writes body) sound = record {
   document = (with_txn d reads writes body);
@@ -100,7 +118,8 @@ front_some ls some = from (steps Nothing ls) refl some
 
 -- ---- whole texts
 
-pub found : (text : List ℕ) (d : Document) → steps Nothing (whole_lines text) ≡ Some (Between d) → text_of (whole_lines text) ≡ text → IsDocument d × (print_doc d ≡ text)
+pub found : (text : List ℕ) (d : Document) → steps Nothing (whole_lines text) ≡ Some (Between d) → text_of (whole_lines text) ≡ text
+    → IsDocument d × (print_doc d ≡ text)
 found text d e whole = (steps_sound Nothing (Between d) (whole_lines text) tt e, ap text_of (steps_add Nothing (Between d) (whole_lines text) e) ∙ whole)
 
 pub unfinished : (text : List ℕ) → IsUnfinished text → (d : Document) → IsDocument d → print_doc d ≡ text → ⊥

@@ -1,8 +1,8 @@
 -- The text of a document is tidy.
 use Rattle.std.proofs.Common.{◌≡◌, ℕ, ◌<◌, List, [], ◌∷◌, ◌++◌, map, refl, ap, sym, ◌∙◌, arith, append_assoc}
 use Rattle.std.specs.List.{flat_map, AllByRecursion}
-use Rattle.bohm_tree.specs.Document.{Document}
-use Rattle.bohm_tree.specs.Sound.{IsDocument}
+use Rattle.bohm_types.specs.Document.{Document}
+use Rattle.bohm_types.specs.Sound.{IsDocument}
 use Rattle.std.proofs.lemmas.List.{append-nil}
 use Rattle.bohm_txn.proofs.ForCallers.{each_append}
 use Rattle.bohm_text.specs.Print.{Words, spaced, line_text, lines_text, head_words, store_words, txn_lines, doc_lines, print_doc}
@@ -28,7 +28,8 @@ line_bytes (w ∷ ws) words = each_append IsTextByte w (spaced ws) (text_bytes w
 
 lines_bytes : (lines : List Words) → AllByRecursion IsLine lines → AllByRecursion IsTextByte (lines_text lines)
 lines_bytes [] all = tt
-lines_bytes (l ∷ ls) all = each_append IsTextByte (line_text l ++ 10 ∷ []) (lines_text ls) (each_append IsTextByte (line_text l) (10 ∷ []) (line_bytes l all.0.1) (refl, tt)) (lines_bytes ls all.1)
+lines_bytes (l ∷ ls) all = each_append IsTextByte (line_text l ++ 10 ∷ []) (lines_text ls)
+    (each_append IsTextByte (line_text l) (10 ∷ []) (line_bytes l all.0.1) (refl, tt)) (lines_bytes ls all.1)
 
 -- ---- bytes side by side
 
@@ -83,7 +84,8 @@ line_apart a [] line = absurd (omega (arith, line.0))
 line_apart a (w ∷ ws) line =
     let rest = spaced_apart (last_from a w) ws (word_end a w line.1.0) line.1.1 in
     let first : AreApart a w = word_apart a w (word_bytes w line.1.0) in
-    rw (append_assoc w (spaced ws) (10 ∷ [])) (apart-append a w (spaced ws ++ 10 ∷ []) first (apart-append (last_from a w) (spaced ws) (10 ∷ []) rest.0 (newline_after (last_from (last_from a w) (spaced ws)) rest.1)))
+    rw (append_assoc w (spaced ws) (10 ∷ [])) (apart-append a w (spaced ws ++ 10 ∷ []) first
+    (apart-append (last_from a w) (spaced ws) (10 ∷ []) rest.0 (newline_after (last_from (last_from a w) (spaced ws)) rest.1)))
 
 last_push : (a b : ℕ) (xs : List ℕ) → last_from a (xs ++ b ∷ []) ≡ b
 unfolding last_from

@@ -1,5 +1,6 @@
 -- What windows behind a document say of the whole text: its document, its first bad line, and that it ends too soon.
-use Rattle.std.proofs.Common.{◌≡◌, ℕ, zero, suc, ◌+◌, ◌-◌, ◌<◌, ◌≤◌, true, false, List, [], ◌∷◌, ◌++◌, length, map, take, Some, None, refl, ap, sym, subst, ◌∙◌, arith, append_assoc, length-append}
+use Rattle.std.proofs.Common.{◌≡◌, ℕ, zero, suc, ◌+◌, ◌-◌, ◌<◌, ◌≤◌, true, false, List, [], ◌∷◌, ◌++◌, length, map}
+use Rattle.std.proofs.Common.{take, Some, None, refl, ap, sym, subst, ◌∙◌, arith, append_assoc, length-append}
 use Rattle.std.specs.Prelude.{Option, Bool, codes, cond, IsSome, ◌==◌}
 use Rattle.std.specs.Option.{option_map}
 use Rattle.std.specs.Str.{bytes_eq}
@@ -8,12 +9,12 @@ use Rattle.std.proofs.Math.Seq.{take-append-add}
 use Rattle.std.proofs.lemmas.Grind.{flat_map-append}
 use Rattle.std.proofs.lemmas.List.{append-nil, append_cancel_left, map-append, take-append-le, take_at}
 use Rattle.std.proofs.lemmas.Option.{same_Some}
-use Rattle.bohm_tree.specs.Document.{Document}
-use Rattle.bohm_tree.specs.Stmt.{Stmt}
-use Rattle.bohm_tree.specs.Txn.{Txn}
-use Rattle.bohm_tree.specs.declared.edition.Edition.{Edition}
-use Rattle.bohm_tree.specs.declared.edition.Edition.TheVariants.{One, Two}
-use Rattle.bohm_tree.specs.Sound.{IsTxn, IsDocument}
+use Rattle.bohm_types.specs.Document.{Document}
+use Rattle.bohm_types.specs.Stmt.{Stmt}
+use Rattle.bohm_types.specs.Txn.{Txn}
+use Rattle.bohm_types.specs.declared.edition.Edition.{Edition}
+use Rattle.bohm_types.specs.declared.edition.Edition.TheVariants.{One, Two}
+use Rattle.bohm_types.specs.Sound.{IsTxn, IsDocument}
 use Rattle.bohm_txn.proofs.ForCallers.{each_append}
 use Rattle.bohm_text.specs.Print.{Words, line_text, txn_lines, text_of, print_doc, doc_lines}
 use Rattle.bohm_text.specs.Cut.{onto_first, split, whole_lines}
@@ -42,15 +43,18 @@ lines_begin [] rest = (whole_lines rest, refl)
 lines_begin (b ∷ bs) rest =
     let next = lines_begin bs rest in
     let joined = onto_first-append b (whole_lines bs) next.0 in
-    elim (b == 10) as (λ (t : Bool). (more : List (List ℕ)) × (cond t ([] ∷ whole_lines (bs ++ rest)) (onto_first b (whole_lines (bs ++ rest))) ≡ cond t ([] ∷ whole_lines bs) (onto_first b (whole_lines bs)) ++ more)) [
+    elim (b == 10) as (λ (t : Bool). (more : List (List ℕ)) × (cond t ([] ∷ whole_lines (bs ++ rest)) (onto_first b (whole_lines (bs ++ rest))) ≡ cond t
+    ([] ∷ whole_lines bs) (onto_first b (whole_lines bs)) ++ more)) [
       | true ↦ (next.0, ap (λ (ls : List (List ℕ)). [] ∷ ls) next.1)
       | false ↦ (joined.0, ap (onto_first b) next.1 ∙ joined.1)
     ]
 
-pub text_lines_on : (lines : List (List ℕ)) (text : List ℕ) → AllByRecursion (IsWithout 10) lines → whole_lines (text_of lines ++ text) ≡ lines ++ whole_lines text
+pub text_lines_on : (lines : List (List ℕ)) (text : List ℕ) → AllByRecursion (IsWithout 10) lines
+    → whole_lines (text_of lines ++ text) ≡ lines ++ whole_lines text
 text_lines_on [] text lacks = refl
 text_lines_on (l ∷ ls) text lacks =
-    ap whole_lines (append_assoc (l ++ 10 ∷ []) (text_of ls) text ∙ append_assoc l (10 ∷ []) (text_of ls ++ text)) ∙ (line_again l (text_of ls ++ text) lacks.0 ∙ ap (λ (r : List (List ℕ)). l ∷ r) (text_lines_on ls text lacks.1))
+    ap whole_lines (append_assoc (l ++ 10 ∷ []) (text_of ls) text ∙ append_assoc l (10 ∷ []) (text_of ls ++ text))
+    ∙ (line_again l (text_of ls ++ text) lacks.0 ∙ ap (λ (r : List (List ℕ)). l ∷ r) (text_lines_on ls text lacks.1))
 
 pub lines_on : (d : Document) → IsDocument d → (text : List ℕ) → whole_lines (print_doc d ++ text) ≡ text_lines d ++ whole_lines text
 lines_on d sound text = text_lines_on (text_lines d) text (lines_lack d sound)
@@ -84,11 +88,13 @@ some_alone d (Some p) some = refl
 
 module _ (d : Document) (sound : IsDocument d) (lines : List (List ℕ)) where
   pub front_behind : Front (head_line d.edition ∷ codes "txn" ∷ lines) → Front (text_lines d ++ codes "txn" ∷ lines)
-  front_behind begins = front_some (text_lines d ++ codes "txn" ∷ lines) (rw (read_behind d sound lines) (some_behind d (steps Nothing (head_line d.edition ∷ codes "txn" ∷ lines)) (front_read (head_line d.edition ∷ codes "txn" ∷ lines) begins)))
+  front_behind begins = front_some (text_lines d ++ codes "txn" ∷ lines) (rw (read_behind d sound lines)
+      (some_behind d (steps Nothing (head_line d.edition ∷ codes "txn" ∷ lines)) (front_read (head_line d.edition ∷ codes "txn" ∷ lines) begins)))
 
   pub front_alone : Front (text_lines d ++ codes "txn" ∷ lines) → Front (head_line d.edition ∷ codes "txn" ∷ lines)
   front_alone begins =
-      let some : IsSome (option_map (behind d) (steps Nothing (head_line d.edition ∷ codes "txn" ∷ lines))) = subst IsSome (read_behind d sound lines) (front_read (text_lines d ++ codes "txn" ∷ lines) begins) in
+      let some : IsSome (option_map (behind d) (steps Nothing (head_line d.edition ∷ codes "txn" ∷ lines))) =
+      subst IsSome (read_behind d sound lines) (front_read (text_lines d ++ codes "txn" ∷ lines) begins) in
       front_some (head_line d.edition ∷ codes "txn" ∷ lines) (some_alone d (steps Nothing (head_line d.edition ∷ codes "txn" ∷ lines)) some)
 
 whole_front : (d : Document) → IsDocument d → Front (text_lines d ++ [])
@@ -97,11 +103,13 @@ whole_front d sound = record { document = d; sound = sound; more = []; begins = 
 bare_front : (e : Edition) → Front (head_line e ∷ [])
 bare_front e = record { document = segment e []; sound = record { store = tt; log = tt }; more = []; begins = refl }
 
-take_behind : (d : Document) → IsDocument d → (lines : List (List ℕ)) (k : ℕ) → Front (head_line d.edition ∷ take k (codes "txn" ∷ lines)) → Front (text_lines d ++ take k (codes "txn" ∷ lines))
+take_behind : (d : Document) → IsDocument d → (lines : List (List ℕ)) (k : ℕ) → Front (head_line d.edition ∷ take k (codes "txn" ∷ lines))
+    → Front (text_lines d ++ take k (codes "txn" ∷ lines))
 take_behind d sound lines zero begins = whole_front d sound
 take_behind d sound lines (suc k) begins = front_behind d sound (take k lines) begins
 
-take_alone : (d : Document) → IsDocument d → (lines : List (List ℕ)) (k : ℕ) → Front (text_lines d ++ take k (codes "txn" ∷ lines)) → Front (head_line d.edition ∷ take k (codes "txn" ∷ lines))
+take_alone : (d : Document) → IsDocument d → (lines : List (List ℕ)) (k : ℕ) → Front (text_lines d ++ take k (codes "txn" ∷ lines))
+    → Front (head_line d.edition ∷ take k (codes "txn" ∷ lines))
 take_alone d sound lines zero begins = bare_front d.edition
 take_alone d sound lines (suc k) begins = front_alone d sound (take k lines) begins
 
@@ -113,29 +121,38 @@ take_on lines window more k short = take-append-add lines (window ++ more) k ∙
 bad_first : (e : Edition) (lines : List (List ℕ)) → IsFirstBadLine (head_line e ∷ lines) 1 → ⊥
 bad_first e lines h = h.bad (bare_front e)
 
-line_behind : (d : Document) → IsDocument d → (lines more : List (List ℕ)) (k : ℕ) → IsFirstBadLine (head_line d.edition ∷ codes "txn" ∷ lines) (suc (suc k)) → IsFirstBadLine (text_lines d ++ (codes "txn" ∷ lines ++ more)) (length (text_lines d) + suc k)
+line_behind : (d : Document) → IsDocument d → (lines more : List (List ℕ)) (k : ℕ) → IsFirstBadLine (head_line d.edition ∷ codes "txn" ∷ lines) (suc (suc k))
+    → IsFirstBadLine (text_lines d ++ (codes "txn" ∷ lines ++ more)) (length (text_lines d) + suc k)
 line_behind d sound lines more k h =
     let window : List (List ℕ) = codes "txn" ∷ lines in
     let short : suc k ≤ length window = omega (arith, h.within) in
     let earlier : length (text_lines d) + suc k - 1 ≡ length (text_lines d) + k = omega arith in
     let one : suc (suc k) - 1 ≡ suc k = omega arith in
-    let before : Front (text_lines d ++ take k window) = take_behind d sound lines k (subst (λ (n : ℕ). Front (take n (head_line d.edition ∷ window))) one h.before) in
+    let before : Front (text_lines d ++ take k window) =
+    take_behind d sound lines k (subst (λ (n : ℕ). Front (take n (head_line d.edition ∷ window))) one h.before) in
     record {
       counted = omega arith;
       within = omega (arith, short, length-append (text_lines d) (window ++ more), length-append window more);
       before = rw (earlier, take_on (text_lines d) window more k (omega (arith, short))) before;
-      bad = λ (begins : Front (take (length (text_lines d) + suc k) (text_lines d ++ (window ++ more)))). h.bad (take_alone d sound lines (suc k) (subst Front (take_on (text_lines d) window more (suc k) short) begins));
+      bad = λ (begins : Front (take (length (text_lines d) + suc k) (text_lines d ++ (window ++ more)))). h.bad
+          (take_alone d sound lines (suc k) (subst Front (take_on (text_lines d) window more (suc k) short) begins));
     }
 
-pub window_line : (d : Document) → IsDocument d → (text rest : List ℕ) → IsWindow text → (n : ℕ) → IsFirstBadLine (whole_lines (headed d.edition text)) (n + 1) → IsFirstBadLine (whole_lines (print_doc d ++ (text ++ rest))) (length (whole_lines (print_doc d)) + n)
-window_line d sound text rest window zero h = absurd (bad_first d.edition (whole_lines text) (subst (λ (ls : List (List ℕ)). IsFirstBadLine ls 1) (headed_lines d.edition text) h))
+pub window_line : (d : Document) → IsDocument d → (text rest : List ℕ) → IsWindow text → (n : ℕ) → IsFirstBadLine (whole_lines (headed d.edition text))
+    (n + 1) → IsFirstBadLine (whole_lines (print_doc d ++ (text ++ rest))) (length (whole_lines (print_doc d)) + n)
+window_line d sound text rest window zero h = absurd
+    (bad_first d.edition (whole_lines text) (subst (λ (ls : List (List ℕ)). IsFirstBadLine ls 1) (headed_lines d.edition text) h))
 window_line d sound text rest window (suc k) h =
     let next = lines_begin text rest in
     let lines : List (List ℕ) = whole_lines window.behind in
     let are : whole_lines text ≡ codes "txn" ∷ lines = window_lines text window in
     let two : suc k + 1 ≡ suc (suc k) = omega arith in
-    let alone : IsFirstBadLine (head_line d.edition ∷ codes "txn" ∷ lines) (suc (suc k)) = subst (λ (ls : List (List ℕ)). IsFirstBadLine (head_line d.edition ∷ ls) (suc (suc k))) are (subst (λ (m : ℕ). IsFirstBadLine (head_line d.edition ∷ whole_lines text) m) two (subst (λ (ls : List (List ℕ)). IsFirstBadLine ls (suc k + 1)) (headed_lines d.edition text) h)) in
-    let all : whole_lines (print_doc d ++ (text ++ rest)) ≡ text_lines d ++ (codes "txn" ∷ lines ++ next.0) = lines_on d sound (text ++ rest) ∙ ap (λ (ls : List (List ℕ)). text_lines d ++ ls) (next.1 ∙ ap (λ (ls : List (List ℕ)). ls ++ next.0) are) in
+    let alone : IsFirstBadLine (head_line d.edition ∷ codes "txn" ∷ lines) (suc (suc k)) =
+    subst (λ (ls : List (List ℕ)). IsFirstBadLine (head_line d.edition ∷ ls) (suc (suc k))) are
+    (subst (λ (m : ℕ). IsFirstBadLine (head_line d.edition ∷ whole_lines text) m) two
+    (subst (λ (ls : List (List ℕ)). IsFirstBadLine ls (suc k + 1)) (headed_lines d.edition text) h)) in
+    let all : whole_lines (print_doc d ++ (text ++ rest)) ≡ text_lines d ++ (codes "txn" ∷ lines ++ next.0) =
+    lines_on d sound (text ++ rest) ∙ ap (λ (ls : List (List ℕ)). text_lines d ++ ls) (next.1 ∙ ap (λ (ls : List (List ℕ)). ls ++ next.0) are) in
     rw (all, lines_of d sound) (line_behind d sound lines next.0 k alone)
 
 -- ---- the end
@@ -143,7 +160,8 @@ window_line d sound text rest window (suc k) h =
 whole_window : (d c : Document) → IsDocument d → IsDocument c → (text : List ℕ) → print_doc c ≡ print_doc d ++ text → text_of (whole_lines text) ≡ text
 whole_window d c sound_d sound_c text same =
     let again : text_of (whole_lines (print_doc d ++ text)) ≡ print_doc d ++ text = ap text_of (ap whole_lines (sym same) ∙ lines_of c sound_c) ∙ same in
-    append_cancel_left (print_doc d) (text_of (whole_lines text)) text (sym (flat_map-append (λ line. line ++ 10 ∷ []) (text_lines d) (whole_lines text)) ∙ (ap text_of (sym (lines_on d sound_d text)) ∙ again))
+    append_cancel_left (print_doc d) (text_of (whole_lines text)) text
+    (sym (flat_map-append (λ line. line ++ 10 ∷ []) (text_lines d) (whole_lines text)) ∙ (ap text_of (sym (lines_on d sound_d text)) ∙ again))
 
 -- whatever is a document behind another one, is a document alone
 alone_between : (d c : Document) (o : Option Progress) → option_map (behind d) o ≡ Some (Between c) → (b : Document) × (o ≡ Some (Between b))
@@ -157,21 +175,26 @@ alone_between d c (Some (Body b reads writes body)) e = absurd cc
 pub window_short : (d : Document) → IsDocument d → (text : List ℕ) → IsWindow text → IsShort (headed d.edition text) → IsShort (print_doc d ++ text)
 window_short d sound text window h =
     let lines : List (List ℕ) = whole_lines window.behind in
-    let alone : whole_lines (headed d.edition text) ≡ head_line d.edition ∷ codes "txn" ∷ lines = headed_lines d.edition text ∙ ap (λ (ls : List (List ℕ)). head_line d.edition ∷ ls) (window_lines text window) in
-    let all : whole_lines (print_doc d ++ text) ≡ text_lines d ++ codes "txn" ∷ lines = lines_on d sound text ∙ ap (λ (ls : List (List ℕ)). text_lines d ++ ls) (window_lines text window) in
+    let alone : whole_lines (headed d.edition text) ≡ head_line d.edition ∷ codes "txn" ∷ lines =
+    headed_lines d.edition text ∙ ap (λ (ls : List (List ℕ)). head_line d.edition ∷ ls) (window_lines text window) in
+    let all : whole_lines (print_doc d ++ text) ≡ text_lines d ++ codes "txn" ∷ lines =
+    lines_on d sound text ∙ ap (λ (ls : List (List ℕ)). text_lines d ++ ls) (window_lines text window) in
     record {
       begins = rw all (front_behind d sound lines (subst Front alone h.begins));
       none = λ c sound_c same.
-          let read : option_map (behind d) (steps Nothing (head_line d.edition ∷ codes "txn" ∷ lines)) ≡ Some (Between c) = sym (read_behind d sound lines) ∙ (ap (steps Nothing) (sym all ∙ ap whole_lines (sym same)) ∙ text_steps c sound_c) in
+          let read : option_map (behind d) (steps Nothing (head_line d.edition ∷ codes "txn" ∷ lines)) ≡ Some (Between c) =
+          sym (read_behind d sound lines) ∙ (ap (steps Nothing) (sym all ∙ ap whole_lines (sym same)) ∙ text_steps c sound_c) in
           let b = alone_between d c (steps Nothing (head_line d.edition ∷ codes "txn" ∷ lines)) read in
-          let whole : text_of (whole_lines (headed d.edition text)) ≡ headed d.edition text = ap text_of (headed_lines d.edition text) ∙ ap (λ (t : List ℕ). (head_line d.edition ++ 10 ∷ []) ++ t) (whole_window d c sound sound_c text same) in
+          let whole : text_of (whole_lines (headed d.edition text)) ≡ headed d.edition text = ap text_of (headed_lines d.edition text)
+          ∙ ap (λ (t : List ℕ). (head_line d.edition ++ 10 ∷ []) ++ t) (whole_window d c sound sound_c text same) in
           let is = found (headed d.edition text) b.0 (ap (steps Nothing) alone ∙ b.1) whole in
           h.none b.0 is.0 is.1;
     }
 
 -- ---- the document
 
-pub window_found : (d : Document) → IsDocument d → (log : List Txn) (text : List ℕ) → IsDocument (segment d.edition log) → print_doc (segment d.edition log) ≡ headed d.edition text → IsDocument (with_log d log) × (print_doc (with_log d log) ≡ print_doc d ++ text)
+pub window_found : (d : Document) → IsDocument d → (log : List Txn) (text : List ℕ) → IsDocument (segment d.edition log)
+    → print_doc (segment d.edition log) ≡ headed d.edition text → IsDocument (with_log d log) × (print_doc (with_log d log) ≡ print_doc d ++ text)
 window_found d sound log text log_sound same =
     let lines : List (List ℕ) = map line_text (flat_map txn_lines log) in
     let rest : text_of lines ≡ text = append_cancel_left (head_line d.edition ++ 10 ∷ []) (text_of lines) text same in
@@ -185,10 +208,13 @@ window_found d sound log text log_sound same =
 same_segment : (e : Edition) (d : Document) → d.edition ≡ e → d.store ≡ [] → d ≡ segment e d.log
 same_segment e d edition store = λ i. record { edition = edition i; store = store i; log = d.log }
 
-pub window_read : (e : Edition) (text : List ℕ) → IsWindow text → (d : Document) → steps Nothing (whole_lines (headed e text)) ≡ Some (Between d) → text_of (whole_lines (headed e text)) ≡ headed e text → IsDocument (segment e d.log) × (print_doc (segment e d.log) ≡ headed e text)
+pub window_read : (e : Edition) (text : List ℕ) → IsWindow text → (d : Document) → steps Nothing (whole_lines (headed e text)) ≡ Some (Between d)
+    → text_of (whole_lines (headed e text)) ≡ headed e text → IsDocument (segment e d.log) × (print_doc (segment e d.log) ≡ headed e text)
 window_read e text window d read whole =
     let lines : List (List ℕ) = whole_lines window.behind in
-    let alone : whole_lines (headed e text) ≡ head_line e ∷ codes "txn" ∷ lines = headed_lines e text ∙ ap (λ (ls : List (List ℕ)). head_line e ∷ ls) (window_lines text window) in
-    let inside : IsInside e (Between d) = inside_steps e (Opened (segment e [])) (Between d) lines (record { edition = refl; store = refl }) (sym (read_alone e lines) ∙ (ap (steps Nothing) (sym alone) ∙ read)) in
+    let alone : whole_lines (headed e text) ≡ head_line e ∷ codes "txn" ∷ lines =
+    headed_lines e text ∙ ap (λ (ls : List (List ℕ)). head_line e ∷ ls) (window_lines text window) in
+    let inside : IsInside e (Between d) = inside_steps e (Opened (segment e [])) (Between d) lines (record { edition = refl; store = refl })
+    (sym (read_alone e lines) ∙ (ap (steps Nothing) (sym alone) ∙ read)) in
     let same : d ≡ segment e d.log = same_segment e d inside.0.edition inside.0.store in
     subst (λ (r : Document). IsDocument r × (print_doc r ≡ headed e text)) same (found (headed e text) d read whole)

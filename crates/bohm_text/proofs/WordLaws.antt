@@ -9,28 +9,31 @@ use Rattle.std.proofs.lemmas.Bool.{and_parts}
 use Rattle.std.proofs.lemmas.Bool.Decides.{nat_tests}
 use Rattle.std.proofs.lemmas.Str.Parse.{digit_from_value}
 use Rattle.std.proofs.lemmas.Fmt.{decimal_is_IsNumeral}
-use Rattle.bohm_tree.specs.Name.{is_name_byte}
-use Rattle.bohm_tree.specs.Term.{Atom, Lit, Read, Local}
-use Rattle.bohm_tree.specs.declared.cmp.Cmp.{Cmp}
-use Rattle.bohm_tree.specs.declared.cmp.Cmp.TheVariants.{Lt, Le, Eq, Ge, Gt}
-use Rattle.bohm_tree.specs.Stmt.{Cond, Stmt, Bind, Need, Has, Lacks, Put, Remove, Show, Fail}
-use Rattle.bohm_tree.specs.Txn.{Txn}
-use Rattle.bohm_tree.specs.declared.edition.Edition.{Edition}
-use Rattle.bohm_tree.specs.declared.edition.Edition.TheVariants.{One, Two}
-use Rattle.bohm_tree.specs.Document.{Document}
-use Rattle.bohm_tree.specs.Sound.{IsName, IsAtom, IsTerm, IsCond, IsGuard, IsStmt, IsNumber, IsEntry, IsTxn, IsDocument}
+use Rattle.bohm_types.specs.Name.{is_name_byte}
+use Rattle.bohm_types.specs.Term.{Atom, Lit, Read, Local}
+use Rattle.bohm_types.specs.declared.cmp.Cmp.{Cmp}
+use Rattle.bohm_types.specs.declared.cmp.Cmp.TheVariants.{Lt, Le, Eq, Ge, Gt}
+use Rattle.bohm_types.specs.Stmt.{Cond, Stmt, Bind, Need, Has, Lacks, Put, Remove, Show, Fail}
+use Rattle.bohm_types.specs.Txn.{Txn}
+use Rattle.bohm_types.specs.declared.edition.Edition.{Edition}
+use Rattle.bohm_types.specs.declared.edition.Edition.TheVariants.{One, Two}
+use Rattle.bohm_types.specs.Document.{Document}
+use Rattle.bohm_types.specs.Sound.{IsName, IsAtom, IsTerm, IsCond, IsGuard, IsStmt, IsNumber, IsEntry, IsTxn, IsDocument}
 use Rattle.bohm_txn.proofs.ForCallers.{each_append}
-use Rattle.bohm_text.specs.Print.{Words, atom_word, first_word, further_words, sum_words, cmp_word, cond_words, guard_words, stmt_words, store_words, txn_lines, head_words, doc_lines}
+use Rattle.bohm_text.specs.Print.{Words, atom_word, first_word, further_words, sum_words, cmp_word, cond_words}
+use Rattle.bohm_text.specs.Print.{guard_words, stmt_words, store_words, txn_lines, head_words, doc_lines}
 use Rattle.bohm_text.specs.Tidy.{is_word_byte}
 use Rattle.bohm_text.proofs.Cutting.{IsWithout}
 
 -- ---- lists
 
-pub All-map : {A B : Type 0} (P : A → Type 0) (Q : B → Type 0) (f : A → B) (h : (x : A) → P x → Q (f x)) (xs : List A) → AllByRecursion P xs → AllByRecursion Q (map f xs)
+pub All-map : {A B : Type 0} (P : A → Type 0) (Q : B → Type 0) (f : A → B) (h : (x : A) → P x → Q (f x)) (xs : List A) → AllByRecursion P xs
+    → AllByRecursion Q (map f xs)
 All-map P Q f h [] all = tt
 All-map P Q f h (x ∷ xs) all = (h x all.0, All-map P Q f h xs all.1)
 
-pub All-flat_map : {A B : Type 0} (P : A → Type 0) (Q : B → Type 0) (f : A → List B) (h : (x : A) → P x → AllByRecursion Q (f x)) (xs : List A) → AllByRecursion P xs → AllByRecursion Q (flat_map f xs)
+pub All-flat_map : {A B : Type 0} (P : A → Type 0) (Q : B → Type 0) (f : A → List B) (h : (x : A) → P x → AllByRecursion Q (f x)) (xs : List A)
+    → AllByRecursion P xs → AllByRecursion Q (flat_map f xs)
 All-flat_map P Q f h [] all = tt
 All-flat_map P Q f h (x ∷ xs) all = each_append Q (f x) (flat_map f xs) (h x all.0) (All-flat_map P Q f h xs all.1)
 
@@ -88,7 +91,8 @@ digit_test c low high = grind (arith, nat_tests)
 
 digit_byte : (c : ℕ) → is_ascii_digit c ≡ true → is_word_byte c ≡ true
 digit_byte c e =
-    let P : Bool → Type 0 = λ (t : Bool). (t || is_ascii_digit c || (c == 95) || (c == 36) || (c == 43) || (c == 45) || (c == 60) || (c == 61) || (c == 62)) ≡ true in
+    let P : Bool → Type 0 = λ (t : Bool). (t || is_ascii_digit c || (c == 95) || (c == 36) || (c == 43) || (c == 45) || (c == 60) || (c == 61) || (c == 62))
+    ≡ true in
     elim (is_ascii_lowercase c) as P [ true ↦ refl | false ↦ rw e refl ]
 
 name_bytes : (cs : List ℕ) → list_all is_name_byte cs ≡ true → list_all is_word_byte cs ≡ true
@@ -152,7 +156,8 @@ cmp_is_word Ge = refl
 cmp_is_word Gt = refl
 
 cond_are_words : (c : Cond) → IsCond c → AllByRecursion IsWord (cond_words c)
-cond_are_words c sound = each_append IsWord (sum_words c.left) (cmp_word c.cmp ∷ sum_words c.right) (sum_are_words c.left sound.0.1) (cmp_is_word c.cmp, sum_are_words c.right sound.1.1)
+cond_are_words c sound = each_append IsWord (sum_words c.left) (cmp_word c.cmp ∷ sum_words c.right) (sum_are_words c.left sound.0.1)
+    (cmp_is_word c.cmp, sum_are_words c.right sound.1.1)
 
 guard_are_words : (guard : Option Cond) → IsGuard guard → AllByRecursion IsWord (guard_words guard)
 guard_are_words None sound = tt
@@ -163,7 +168,17 @@ stmt_are_words (Bind x sum) sound = (refl, (local_is_word x sound.0, (refl, sum_
 stmt_are_words (Need c) sound = (refl, cond_are_words c sound)
 stmt_are_words (Has k) sound = (refl, (refl, (name_word k sound, tt)))
 stmt_are_words (Lacks k) sound = (refl, (refl, (name_word k sound, tt)))
-stmt_are_words (Put k sum guard) sound = (refl, (name_word k sound.0, (refl, each_append IsWord (sum_words sum) (guard_words guard) (sum_are_words sum sound.1.1) (guard_are_words guard sound.2))))
+stmt_are_words (Put k sum guard) sound = (
+  refl,
+  (
+    name_word k sound.0,
+    (
+      refl,
+      each_append IsWord (sum_words sum) (guard_words guard) (sum_are_words sum sound.1.1)
+          (guard_are_words guard sound.2),
+    ),
+  ),
+)
 stmt_are_words (Remove k) sound = (refl, (name_word k sound, tt))
 stmt_are_words (Show sum) sound = (refl, sum_are_words sum sound.1)
 stmt_are_words Fail sound = (refl, tt)
@@ -195,7 +210,8 @@ stmt_some Fail = omega arith
 
 txn_are_lines : (edition : Edition) (t : Txn) → IsTxn edition t → AllByRecursion IsLine (txn_lines t)
 txn_are_lines edition t sound =
-    let statements : AllByRecursion IsLine (map stmt_words t.body) = All-map IsStmt IsLine stmt_words (λ s h. (stmt_some s, stmt_are_words s h)) t.body sound.body in
+    let statements : AllByRecursion IsLine (map stmt_words t.body) =
+    All-map IsStmt IsLine stmt_words (λ s h. (stmt_some s, stmt_are_words s h)) t.body sound.body in
     let reads : IsLine (codes "reads" ∷ t.reads) = (omega arith, (refl, names_are_words t.reads sound.reads)) in
     let writes : IsLine (codes "writes" ∷ t.writes) = (omega arith, (refl, names_are_words t.writes sound.writes)) in
     let opening : IsLine (codes "txn" ∷ []) = (omega arith, (refl, tt)) in

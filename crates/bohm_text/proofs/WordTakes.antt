@@ -1,5 +1,6 @@
 -- What is read of a word was spelled so.
-use Rattle.std.proofs.Common.{◌≡◌, ℕ, ◌+◌, ◌-◌, ◌*◌, ◌^◌, ◌<◌, ◌≤◌, Bool, true, false, cond, List, [], ◌∷◌, length, Some, None, refl, sym, subst, lit<, arith, inl, inr}
+use Rattle.std.proofs.Common.{◌≡◌, ℕ, ◌+◌, ◌-◌, ◌*◌, ◌^◌, ◌<◌, ◌≤◌, Bool, true, false, cond, List}
+use Rattle.std.proofs.Common.{[], ◌∷◌, length, Some, None, refl, sym, subst, lit<, arith, inl, inr}
 use Rattle.std.specs.Prelude.{Option, ◌⊎◌, ◌&&◌, ◌==◌, nat_le, nat_lt, codes}
 use Rattle.std.specs.Option.{option_map}
 use Rattle.std.specs.Str.{bytes_eq}
@@ -11,9 +12,9 @@ use Rattle.std.proofs.lemmas.Bool.Decides.{nat_tests}
 use Rattle.std.proofs.lemmas.Option.{same_Some}
 use Rattle.std.proofs.lemmas.Fmt.{decimal-digits_value}
 use Rattle.std.proofs.lemmas.Str.Parse.{numerals_by_value, tells_digits}
-use Rattle.bohm_tree.specs.Name.{is_name, key_of}
-use Rattle.bohm_tree.specs.Shape.{is_term, term_of}
-use Rattle.bohm_tree.specs.Term.{Atom, Lit, Read, Local}
+use Rattle.bohm_types.specs.Name.{is_name, key_of}
+use Rattle.bohm_types.specs.Shape.{is_term, term_of}
+use Rattle.bohm_types.specs.Term.{Atom, Lit, Read, Local}
 use Rattle.bohm_txn.proofs.ForCallers.{same_key}
 use Rattle.bohm_text.specs.Print.{atom_word, first_word}
 use Rattle.bohm_text.specs.Reading.{◌>>=◌, digits_of, whole_of, lit_of, atom_of, first_of, sign_of, further_of, local_of}
@@ -58,7 +59,8 @@ digit_is c e = grind (arith, nat_tests)
 value_is : (c : ℕ) → 48 ≤ c → c ≤ 57 → digit_value c ≡ c - 48
 value_is c low high = grind (arith, nat_tests)
 
-pub digits_take : (limit n : ℕ) (ds : List ℕ) (v : ℕ) → digits_of limit n ds ≡ Some v → n ≤ limit → AllDigits 10 ds × (digits_value_after 10 n ds ≡ v) × (v ≤ limit)
+pub digits_take : (limit n : ℕ) (ds : List ℕ) (v : ℕ) → digits_of limit n ds ≡ Some v → n ≤ limit
+    → AllDigits 10 ds × (digits_value_after 10 n ds ≡ v) × (v ≤ limit)
 unfolding digits_of
 digits_take limit n [] v e within = (tt, same_Some n v e, let same : n ≡ v = same_Some n v e in omega arith)
 digits_take limit n (c ∷ cs) v e within =
@@ -78,14 +80,16 @@ whole_takes limit (c ∷ cs) v small e =
     let p = if_none (c == 48 && nat_lt 0 (length cs)) (digits_of limit 0 (c ∷ cs)) v e in
     let h = digits_take limit 0 (c ∷ cs) v p.1 (omega arith) in
     let value : digits_value 10 (c ∷ cs) ≡ v = h.1 in
-    let text = decimal-digits_value (numerals_by_value (AllDigits 10) tells_digits) (c ∷ cs) h.0 (omega arith) (not_both c cs p.0) (omega (arith, value, h.2)) in
+    let text = decimal-digits_value (numerals_by_value (AllDigits 10) tells_digits) (c ∷ cs) h.0 (omega arith) (not_both c cs p.0)
+    (omega (arith, value, h.2)) in
     (sym (rw value at text), h.2)
 
 pub atom_takes : (w : List ℕ) (a : Atom) → atom_of w ≡ Some a → w ≡ atom_word a
 unfolding atom_of
 atom_takes [] a e = absurd cc
 atom_takes (c ∷ cs) a e =
-    elim (chosen (c == 36) (option_map Local (key_of cs)) (cond (is_ascii_digit c) (option_map Lit (lit_of (c ∷ cs))) (option_map Read (key_of (c ∷ cs)))) (Some a) e) [
+    elim (chosen (c == 36) (option_map Local (key_of cs)) (cond (is_ascii_digit c) (option_map Lit (lit_of (c ∷ cs))) (option_map Read (key_of (c ∷ cs))))
+    (Some a) e) [
       | inl p ↦
           let m = map_some Local (key_of cs) a p.1 in
           let k = key_takes cs m.0 m.1 in

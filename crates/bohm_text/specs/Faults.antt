@@ -1,19 +1,19 @@
 -- When a text is refused.
 use Rattle.std.specs.Prelude.{◌≢◌, ℕ, ◌-◌, ◌<◌, ◌≤◌, List, length, take}
-use Rattle.bohm_tree.specs.Document.{Document}
-use Rattle.bohm_tree.specs.Sound.{IsDocument}
+use Rattle.bohm_types.specs.Document.{Document}
+use Rattle.bohm_types.specs.Sound.{IsDocument}
 use Rattle.bohm_text.specs.Print.{print_doc}
 use Rattle.bohm_text.specs.Cut.{whole_lines}
 use Rattle.bohm_text.specs.Front.{Front}
 
--- line n is there, the lines before it begin a document, and with it they do not
+-- line n exists, the lines before it begin some document's text, and with it they don't
 pub record IsFirstBadLine (lines : List (List ℕ)) (n : ℕ) : Type 0 where
   pub counted : 0 < n
   pub within : n ≤ length lines
   pub before : Front (take (n - 1) lines)
   pub bad : ¬ Front (take n lines)
 
--- the whole lines begin a document, and the text is no document's
+-- the complete lines begin some document's text, and the text is no document's
 pub record IsShort (text : List ℕ) : Type 0 where
   pub begins : Front (whole_lines text)
   pub none : (d : Document) → IsDocument d → print_doc d ≢ text

@@ -1,7 +1,7 @@
--- Beginnings of documents.
+-- The first lines of documents.
 use Rattle.std.specs.Prelude.{◌≡◌, ℕ, List, ◌++◌, map}
-use Rattle.bohm_tree.specs.Document.{Document}
-use Rattle.bohm_tree.specs.Sound.{IsDocument}
+use Rattle.bohm_types.specs.Document.{Document}
+use Rattle.bohm_types.specs.Sound.{IsDocument}
 use Rattle.bohm_text.specs.Print.{line_text, doc_lines}
 
 -- a document's lines

@@ -1,12 +1,12 @@
--- What reading a text gives.
+-- The results of reading a text.
 use Rattle.std.specs.Prelude.{◌≡◌, ◌≢◌, ℕ, ◌+◌, ◌-◌, ◌<◌, ◌≤◌, List, ◌==◌, take, length, Option, Some, None, Result, Ok, Err, IsSome}
 use Rattle.std.specs.List.{position_from}
-use Rattle.bohm_tree.specs.Document.{Document}
+use Rattle.bohm_types.specs.Document.{Document}
 use Rattle.bohm_text.specs.declared.fault.TextFault.{TextFault}
 use Rattle.bohm_text.specs.declared.fault.TextFault.TheVariants as texts
 use Rattle.bohm_text.specs.declared.fault.WindowFault.{WindowFault}
 use Rattle.bohm_text.specs.declared.fault.WindowFault.TheVariants.{Line, Open, NoMemory}
-use Rattle.bohm_tree.specs.declared.edition.Edition.{Edition}
+use Rattle.bohm_types.specs.declared.edition.Edition.{Edition}
 use Rattle.bohm_text.specs.declared.reader.Reader.{Reader}
 use Rattle.bohm_text.specs.Windows.{headed}
 use Rattle.bohm_text.specs.Print.{text_of}
@@ -16,31 +16,31 @@ use Rattle.bohm_text.specs.Step.{Progress, Nothing, Between, document_in, steps}
 abbrev pub newline_in : List ℕ → Option ℕ
 newline_in bytes = position_from (λ byte. byte == 10) 0 bytes
 
--- a whole line stands in no beginning of a document
+-- line n is the first with which the complete lines begin no document's text
 pub record IsFirstFault (lines : List (List ℕ)) (n : ℕ) : Type 0 where
   pub counted : 0 < n
   pub within : n ≤ length lines
   pub before : IsSome (steps Nothing (take (n - 1) lines))
   pub at : steps Nothing (take n lines) ≡ None
 
--- the whole lines begin a document, and the text is none
+-- the complete lines begin some document's text, and the text is no document's
 pub record IsUnfinished (text : List ℕ) : Type 0 where
   pub progress : Progress
   pub read : steps Nothing (whole_lines text) ≡ Some progress
   pub unfinished : (d : Document) → progress ≡ Between d → text_of (whole_lines text) ≢ text
 
--- the text's lines, which are whole, are those of the reader's document
+-- the text's lines, all of them complete, are those of the reader's document
 abbrev pub IsReadAs : List ℕ → Reader → Type 0
 IsReadAs text reader = (steps Nothing (whole_lines text) ≡ Some (Between (document_in reader))) × (text_of (whole_lines text) ≡ text)
 
--- what reading a document's text gives, with the number of its lines
+-- the result of reading a document's text, with the number of its lines
 abbrev pub ReadsText : List ℕ → Result (Reader × ℕ) WindowFault → Type 0
 ReadsText text (Ok r) = IsReadAs text r.0 × (r.1 ≡ length (whole_lines text))
 ReadsText text (Err (Line n)) = IsFirstFault (whole_lines text) n
 ReadsText text (Err (Open n)) = IsUnfinished text × (n ≡ length (whole_lines text))
 ReadsText text (Err NoMemory) = Unit {0}
 
--- what the lines behind a head line give, which are counted
+-- the result of reading the lines after a head line, with their number
 abbrev pub ReadsBehind : Edition → List ℕ → Result (Reader × ℕ) WindowFault → Type 0
 ReadsBehind e text (Ok r) = IsReadAs (headed e text) r.0 × (r.1 ≡ length (whole_lines text))
 ReadsBehind e text (Err (Line n)) = IsFirstFault (whole_lines (headed e text)) (n + 1) × (n ≤ length text)

@@ -1,15 +1,15 @@
--- The one text of a document, of replies and of a store: lines of words, a space between two words and a newline after each line.
+-- The unique text of a document, of replies and of a store: lines of words, a space between two words and a newline after each line.
 use Rattle.std.specs.Prelude.{ℕ, ℤ, ◌+◌, List, [], ◌∷◌, ◌++◌, map, Bool, Option, Some, None, if◌then◌else◌, codes}
 use Rattle.std.specs.List.{flat_map}
 use Rattle.std.specs.Fmt.{decimal, signed_decimal}
-use Rattle.bohm_tree.specs.Term.{Atom, Lit, Read, Local}
-use Rattle.bohm_tree.specs.declared.cmp.Cmp.{Cmp}
-use Rattle.bohm_tree.specs.declared.cmp.Cmp.TheVariants.{Lt, Le, Eq, Ge, Gt}
-use Rattle.bohm_tree.specs.Stmt.{Cond, Stmt, Bind, Need, Has, Lacks, Put, Remove, Show, Fail}
-use Rattle.bohm_tree.specs.declared.edition.Edition.{Edition}
-use Rattle.bohm_tree.specs.declared.edition.Edition.TheVariants.{One, Two}
-use Rattle.bohm_tree.specs.Txn.{Txn}
-use Rattle.bohm_tree.specs.Document.{Document}
+use Rattle.bohm_types.specs.Term.{Atom, Lit, Read, Local}
+use Rattle.bohm_types.specs.declared.cmp.Cmp.{Cmp}
+use Rattle.bohm_types.specs.declared.cmp.Cmp.TheVariants.{Lt, Le, Eq, Ge, Gt}
+use Rattle.bohm_types.specs.Stmt.{Cond, Stmt, Bind, Need, Has, Lacks, Put, Remove, Show, Fail}
+use Rattle.bohm_types.specs.declared.edition.Edition.{Edition}
+use Rattle.bohm_types.specs.declared.edition.Edition.TheVariants.{One, Two}
+use Rattle.bohm_types.specs.Txn.{Txn}
+use Rattle.bohm_types.specs.Document.{Document}
 use Rattle.bohm_txn.specs.declared.outcome.Reason.{Reason}
 use Rattle.bohm_txn.specs.declared.outcome.Reason.TheVariants as reasons
 use Rattle.bohm_txn.specs.declared.outcome.Reply.{Reply}
@@ -29,7 +29,7 @@ atom_word (Lit n) = decimal n
 atom_word (Read k) = k
 atom_word (Local x) = local_word x
 
--- a sum's first term, its sign at the atom
+-- a sum's first term, its sign directly before the atom
 abbrev pub first_word : Bool × Atom → List ℕ
 first_word t = (if t.0 then codes "-" else []) ++ atom_word t.1
 
@@ -118,7 +118,7 @@ abbrev pub reply_lines : ℕ → List Reply → List Words
 reply_lines t [] = []
 reply_lines t (r ∷ rs) = reply_words t r ∷ reply_lines (t + 1) rs
 
--- numbered from a first number on
+-- replies, numbered from a first number
 abbrev pub print_numbered : ℕ → List Reply → List ℕ
 print_numbered first replies = lines_text (reply_lines first replies)
 

@@ -1,6 +1,6 @@
--- What reading a procedure's text gives.
+-- The results of reading a procedure's text.
 use Rattle.std.specs.Prelude.{◌≡◌, ◌≢◌, ℕ, ◌-◌, ◌<◌, ◌≤◌, List, take, length, Option, Some, None, Result, Ok, Err, IsSome}
-use Rattle.bohm_tree.specs.Procedure.{Procedure}
+use Rattle.bohm_types.specs.Procedure.{Procedure}
 use Rattle.bohm_text.specs.declared.fault.TextFault.{TextFault}
 use Rattle.bohm_text.specs.declared.fault.TextFault.TheVariants.{Line, Short, NoMemory}
 use Rattle.bohm_text.specs.declared.procedures.ParamPlace.TheVariants as places
@@ -10,14 +10,14 @@ use Rattle.bohm_text.specs.Cut.{whole_lines}
 use Rattle.bohm_text.specs.ProcedureText.{Stage, Nothing, Done, stages}
 use Rattle.bohm_text.specs.ProcedureReading.{stage_of, IsReady}
 
--- a whole line stands in no beginning of a procedure
+-- line n is the first with which the complete lines begin no procedure's text
 pub record IsFirstFault (lines : List (List ℕ)) (n : ℕ) : Type 0 where
   pub counted : 0 < n
   pub within : n ≤ length lines
   pub before : IsSome (stages Nothing (take (n - 1) lines))
   pub at : stages Nothing (take n lines) ≡ None
 
--- the whole lines begin a procedure, and the text is none
+-- the complete lines begin some procedure's text, and the text is no procedure's
 pub record IsUnfinished (text : List ℕ) : Type 0 where
   pub stage : Stage
   pub read : stages Nothing (whole_lines text) ≡ Some stage

@@ -1,6 +1,6 @@
 -- The procedure that a reader has read.
 use Rattle.std.specs.Prelude.{◌≡◌, ℕ, List}
-use Rattle.bohm_tree.specs.Procedure.{Procedure, procedure_with}
+use Rattle.bohm_types.specs.Procedure.{Procedure, procedure_with}
 use Rattle.bohm_text.specs.declared.procedures.ProcedureReader.{ProcedureReader}
 use Rattle.bohm_text.specs.ProcedureText.{IsProcedure, print_procedure}
 use Rattle.bohm_text.specs.ProcedureReading.{HasLets}

@@ -1,8 +1,8 @@
--- What a procedure's reader has read.
+-- The state of a procedure's reader.
 use Rattle.std.specs.Prelude.{◌≡◌, ℕ, List, [], ◌∷◌, map, take, drop, length, false, Option, Some, Result, Ok, Err}
-use Rattle.bohm_tree.specs.declared.edition.Edition.{Edition}
-use Rattle.bohm_tree.specs.Term.{Lit}
-use Rattle.bohm_tree.specs.Stmt.{Stmt, Bind}
+use Rattle.bohm_types.specs.declared.edition.Edition.{Edition}
+use Rattle.bohm_types.specs.Term.{Lit}
+use Rattle.bohm_types.specs.Stmt.{Stmt, Bind}
 use Rattle.bohm_log.specs.Drafting.{Drafted, IsBare, IsBetween, fresh}
 use Rattle.bohm_text.specs.declared.fault.ReadFault.{ReadFault}
 use Rattle.bohm_text.specs.declared.procedures.ParamPlace.{ParamPlace}
@@ -41,7 +41,7 @@ IsReadyAt places.Done e vs d = IsBetween d × (d.txn.edition ≡ e) × HasLets v
 abbrev pub IsReady : ProcedureReader → Type 0
 IsReady r = IsReadyAt r.place r.edition r.values.items r.draft
 
--- a reader took a line in, unless memory ran out
+-- a reader accepted a line, unless an allocation failed
 abbrev pub Feeds : Result (Unit {0}) ReadFault → Option Stage → Stage → Type 0
 Feeds (Ok done) read next = read ≡ Some next
 Feeds (Err e) read next = Fails e read

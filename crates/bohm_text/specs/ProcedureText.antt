@@ -1,14 +1,14 @@
--- The one text of a procedure, and what its lines make, one after another.
+-- The unique text of a procedure, and the effect of its lines, one after another.
 use Rattle.std.specs.Prelude.{◌≡◌, ℕ, List, [], ◌∷◌, ◌++◌, map, Bool, true, false, ◌&&◌, ◌||◌, not, Option, Some, None, if◌then◌else◌, codes}
 use Rattle.std.specs.Str.{bytes_eq}
 use Rattle.std.specs.List.{AllByRecursion, list_all}
-use Rattle.bohm_tree.specs.Name.{key_of}
-use Rattle.bohm_tree.specs.Keys.{is_among}
-use Rattle.bohm_tree.specs.Sound.{IsName, IsStmt}
-use Rattle.bohm_tree.specs.Stmt.{Stmt}
-use Rattle.bohm_tree.specs.declared.edition.Edition.{Edition}
-use Rattle.bohm_tree.specs.declared.edition.Edition.TheVariants.{One, Two}
-use Rattle.bohm_tree.specs.Procedure.{Procedure}
+use Rattle.bohm_types.specs.Name.{key_of}
+use Rattle.bohm_types.specs.Keys.{is_among}
+use Rattle.bohm_types.specs.Sound.{IsName, IsStmt}
+use Rattle.bohm_types.specs.Stmt.{Stmt}
+use Rattle.bohm_types.specs.declared.edition.Edition.{Edition}
+use Rattle.bohm_types.specs.declared.edition.Edition.TheVariants.{One, Two}
+use Rattle.bohm_types.specs.Procedure.{Procedure}
 use Rattle.bohm_text.specs.Print.{Words, stmt_words, line_text, lines_text}
 use Rattle.bohm_text.specs.Cut.{split}
 use Rattle.bohm_text.specs.Reading.{◌>>=◌, keys_of, after, stmt_of}
@@ -25,7 +25,7 @@ key_words k = codes "key" ∷ k ∷ []
 abbrev pub value_words : List ℕ → Words
 value_words x = codes "value" ∷ x ∷ []
 
--- from the reads on: as a transaction of a log
+-- from the reads on: as in a log's transaction
 abbrev pub tail_lines : Words → Words → List Stmt → List Words
 tail_lines reads writes body = (codes "reads" ∷ reads) ∷ (codes "writes" ∷ writes) ∷ (map stmt_words body ++ (codes "end" ∷ []) ∷ [])
 
@@ -37,7 +37,7 @@ print_procedure p = lines_text (procedure_lines p)
 
 -- ---- the values of the type
 
--- no name comes twice, and none is among those before
+-- names are distinct, and none is among those before
 abbrev pub all_new : Words → Words → Bool
 all_new before [] = true
 all_new before (k ∷ ks) = not (is_among before k) && all_new (before ++ k ∷ []) ks
@@ -52,7 +52,7 @@ are_declared ks reads writes = list_all (is_declared reads writes) ks
 pub record IsProcedure (p : Procedure) : Type 0 where
   pub keys : AllByRecursion IsName p.keys
   pub values : AllByRecursion IsName p.values
-  -- keys and values alike
+  -- the names of keys and values are distinct
   pub apart_keys : all_new [] p.keys ≡ true
   pub apart_values : all_new p.keys p.values ≡ true
   pub reads : AllByRecursion IsName p.reads
@@ -62,7 +62,7 @@ pub record IsProcedure (p : Procedure) : Type 0 where
 
 -- ---- lines
 
--- what the lines so far are the beginning of
+-- what the lines so far begin
 pub data Stage : Type 0 where
   Nothing : Stage
   Keys : Edition → Words → Stage

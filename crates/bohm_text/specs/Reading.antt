@@ -1,14 +1,15 @@
--- Reading the words of a line from left to right. Nothing is read where nothing is spelled so.
-use Rattle.std.specs.Prelude.{◌≡◌, ℕ, zero, suc, ℤ, pos, negsuc, ◌+◌, ◌-◌, ◌*◌, ◌^◌, List, [], ◌∷◌, Bool, true, false, ◌&&◌, ◌==◌, nat_lt, nat_le, Option, Some, None, Result, Ok, Err, if◌then◌else◌, codes, length}
+-- Reading the words of a line from left to right: `None` if nothing is spelled so.
+use Rattle.std.specs.Prelude.{◌≡◌, ℕ, zero, suc, ℤ, pos, negsuc, ◌+◌, ◌-◌, ◌*◌, ◌^◌, List, [], ◌∷◌, Bool, true, false, ◌&&◌}
+use Rattle.std.specs.Prelude.{◌==◌, nat_lt, nat_le, Option, Some, None, Result, Ok, Err, if◌then◌else◌, codes, length}
 use Rattle.std.specs.Option.{option_map}
 use Rattle.std.specs.Str.{bytes_eq}
 use Rattle.std.specs.Char.{is_ascii_digit}
-use Rattle.bohm_tree.specs.Name.{key_of}
-use Rattle.bohm_tree.specs.Shape.{term_of}
-use Rattle.bohm_tree.specs.Term.{Atom, Lit, Read, Local}
-use Rattle.bohm_tree.specs.declared.cmp.Cmp.{Cmp}
-use Rattle.bohm_tree.specs.declared.cmp.Cmp.TheVariants.{Lt, Le, Eq, Ge, Gt}
-use Rattle.bohm_tree.specs.Stmt.{Cond, Stmt, Bind, Need, Has, Lacks, Put, Remove, Show, Fail}
+use Rattle.bohm_types.specs.Name.{key_of}
+use Rattle.bohm_types.specs.Shape.{term_of}
+use Rattle.bohm_types.specs.Term.{Atom, Lit, Read, Local}
+use Rattle.bohm_types.specs.declared.cmp.Cmp.{Cmp}
+use Rattle.bohm_types.specs.declared.cmp.Cmp.TheVariants.{Lt, Le, Eq, Ge, Gt}
+use Rattle.bohm_types.specs.Stmt.{Cond, Stmt, Bind, Need, Has, Lacks, Put, Remove, Show, Fail}
 use Rattle.bohm_text.specs.declared.fault.ReadFault.{ReadFault}
 use Rattle.bohm_text.specs.declared.fault.ReadFault.TheVariants.{Bad, NoMemory}
 use Rattle.bohm_text.specs.declared.stops.Stop.{Stop}
@@ -20,7 +21,7 @@ abbrev pub ◌>>=◌ : {A B : Type 0} → Option A → (A → Option B) → Opti
 (Some x) >>= f = f x
 None >>= f = None
 
--- what a function returned is what reading gives, unless memory ran out
+-- a function failed because reading fails, or because of an allocation
 abbrev pub Fails : {X : Type 0} → ReadFault → Option X → Type 0
 Fails Bad read = read ≡ None
 Fails NoMemory read = Unit {0}
@@ -31,7 +32,7 @@ Gives (Err e) read = Fails e read
 
 -- ---- numbers
 
--- digits after a number so far, at most the limit
+-- digits that continue a number, at most the limit
 unfoldable pub digits_of : ℕ → ℕ → List ℕ → Option ℕ
 digits_of limit n [] = Some n
 digits_of limit n (c ∷ cs) = if is_ascii_digit c && nat_le (n * 10 + (c - 48)) limit then digits_of limit (n * 10 + (c - 48)) cs else None
@@ -56,7 +57,8 @@ number_of (c ∷ cs) = if c == 45 then (whole_of (2 ^ 63) cs >>= negative) else 
 
 unfoldable pub atom_of : List ℕ → Option Atom
 atom_of [] = None
-atom_of (c ∷ cs) = if c == 36 then option_map Local (key_of cs) else (if is_ascii_digit c then option_map Lit (lit_of (c ∷ cs)) else option_map Read (key_of (c ∷ cs)))
+atom_of (c ∷ cs) = if c == 36 then option_map Local (key_of cs)
+    else (if is_ascii_digit c then option_map Lit (lit_of (c ∷ cs)) else option_map Read (key_of (c ∷ cs)))
 
 unfoldable pub first_of : List ℕ → Option (Bool × Atom)
 first_of [] = None
@@ -79,7 +81,7 @@ cmp_of word =
 
 -- ---- sums
 
--- what stands after a sum, with the words that are left then
+-- what follows a sum, with the words after that
 pub data Ending : Type 0 where
   End : Ending
   When : Words → Ending
@@ -119,7 +121,7 @@ unfoldable pub sum_from : Words → Option Terms
 sum_from [] = None
 sum_from (word ∷ words) = first_of word >>= λ term. longer term (terms_of words)
 
--- the sum, where it stands at the end of the line
+-- the sum, if it ends the line
 abbrev pub at_end : Terms → Option (List (Bool × Atom))
 at_end (sum, End) = Some sum
 at_end (sum, When words) = None
@@ -138,7 +140,7 @@ abbrev pub local_of : List ℕ → Option (List ℕ)
 local_of [] = None
 local_of (c ∷ cs) = if c == 36 then key_of cs else None
 
--- what stands after the word
+-- what follows the word
 abbrev pub after : {X : Type 0} → List ℕ → (Words → Option X) → Words → Option X
 after word read [] = None
 after word read (w ∷ words) = if bytes_eq w word then read words else None
@@ -177,7 +179,8 @@ put_of (word ∷ words) = key_of word >>= λ key. after (codes "=") (assigned_of
 
 -- the only two words after `need`
 unfoldable pub presence_of : List ℕ → List ℕ → Option Stmt
-presence_of word name = if bytes_eq word (codes "has") then option_map Has (key_of name) else (if bytes_eq word (codes "no") then option_map Lacks (key_of name) else None)
+presence_of word name = if bytes_eq word (codes "has") then option_map Has (key_of name)
+    else (if bytes_eq word (codes "no") then option_map Lacks (key_of name) else None)
 
 unfoldable pub need_of : Words → Option Stmt
 need_of [] = None

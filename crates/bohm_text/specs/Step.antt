@@ -1,11 +1,11 @@
--- What a line makes of the lines before it.
+-- The effect of a line, after the lines before it.
 use Rattle.std.specs.Prelude.{◌≡◌, ℕ, ℤ, List, [], ◌∷◌, ◌++◌, Option, Some, None, Result, Ok, Err, if◌then◌else◌, codes}
 use Rattle.std.specs.Str.{bytes_eq}
-use Rattle.bohm_tree.specs.Stmt.{Stmt}
-use Rattle.bohm_tree.specs.declared.edition.Edition.{Edition}
-use Rattle.bohm_tree.specs.declared.edition.Edition.TheVariants.{One, Two}
-use Rattle.bohm_tree.specs.Txn.{Txn}
-use Rattle.bohm_tree.specs.Document.{Document}
+use Rattle.bohm_types.specs.Stmt.{Stmt}
+use Rattle.bohm_types.specs.declared.edition.Edition.{Edition}
+use Rattle.bohm_types.specs.declared.edition.Edition.TheVariants.{One, Two}
+use Rattle.bohm_types.specs.Txn.{Txn}
+use Rattle.bohm_types.specs.Document.{Document}
 use Rattle.bohm_log.specs.Drafting.{Drafted, IsBare, IsBetween, fresh}
 use Rattle.bohm_text.specs.declared.fault.ReadFault.{ReadFault}
 use Rattle.bohm_text.specs.declared.reader.Place.{Place}
@@ -15,7 +15,7 @@ use Rattle.bohm_text.specs.Print.{Words}
 use Rattle.bohm_text.specs.Cut.{split}
 use Rattle.bohm_text.specs.Reading.{◌>>=◌, Fails, keys_of, after, stmt_of, entry_of}
 
--- what the lines so far are the beginning of: nothing yet; a document; or one whose next transaction was opened, with its reads, its writes and some statements
+-- what the lines so far begin: nothing yet; a document; or one whose next transaction is open, with its reads, its writes and some statements
 pub data Progress : Type 0 where
   Nothing : Progress
   Between : Document → Progress
@@ -29,14 +29,14 @@ progress_at places.Opened d reads writes body = Opened d
 progress_at places.Reading d reads writes body = Reading d reads
 progress_at places.Body d reads writes body = Body d reads writes body
 
--- the whole transactions of a reader
+-- the document of a reader's complete transactions
 abbrev pub document_in : Reader → Document
 document_in r = record { edition = r.edition; store = r.store; log = r.log }
 
 abbrev pub progress_of : Reader → Progress
 progress_of r = progress_at r.place (document_in r) r.draft.txn.reads r.draft.txn.writes r.draft.txn.body
 
--- a reader took a line in, unless memory ran out
+-- a reader accepted a line, unless an allocation failed
 abbrev pub Feeds : Result (Unit {0}) ReadFault → Option Progress → Progress → Type 0
 Feeds (Ok done) read next = read ≡ Some next
 Feeds (Err e) read next = Fails e read
@@ -63,7 +63,8 @@ after_between d line = if bytes_eq line (codes "txn") then Some (Opened d) else 
 
 unfoldable pub after_body : Document → Words → Words → List Stmt → List ℕ → Option Progress
 after_body d reads writes body line =
-    if bytes_eq line (codes "end") then Some (Between (with_txn d reads writes body)) else (stmt_of (split 32 line) >>= λ s. Some (Body d reads writes (body ++ s ∷ [])))
+    if bytes_eq line (codes "end") then Some (Between (with_txn d reads writes body))
+    else (stmt_of (split 32 line) >>= λ s. Some (Body d reads writes (body ++ s ∷ [])))
 
 unfoldable pub step : Progress → List ℕ → Option Progress
 step Nothing line = head_of line >>= λ edition. Some (begun edition)
@@ -72,12 +73,12 @@ step (Opened d) line = after (codes "reads") keys_of (split 32 line) >>= λ read
 step (Reading d reads) line = after (codes "writes") keys_of (split 32 line) >>= λ writes. Some (Body d reads writes [])
 step (Body d reads writes body) line = after_body d reads writes body line
 
--- what lines make of what stands before them
+-- the effect of lines, after what comes before them
 abbrev pub steps : Progress → List (List ℕ) → Option Progress
 steps progress [] = Some progress
 steps progress (line ∷ lines) = step progress line >>= λ next. steps next lines
 
--- the draft is ready for the line that comes next
+-- the draft is ready for the next line
 abbrev pub IsReadyAt : Place → Edition → Drafted → Type 0
 IsReadyAt places.Between edition d = Unit {0}
 IsReadyAt places.Opened edition d = d ≡ fresh edition

@@ -1,8 +1,8 @@
--- What is read of a text in windows.
+-- The results of reading a text in windows.
 use Rattle.std.specs.Prelude.{◌≡◌, ℕ, ◌+◌, ◌≤◌, List, ◌++◌, length, Result, Ok, Err}
-use Rattle.bohm_tree.specs.declared.edition.Edition.{Edition}
-use Rattle.bohm_tree.specs.Document.{Document}
-use Rattle.bohm_tree.specs.Sound.{IsDocument}
+use Rattle.bohm_types.specs.declared.edition.Edition.{Edition}
+use Rattle.bohm_types.specs.Document.{Document}
+use Rattle.bohm_types.specs.Sound.{IsDocument}
 use Rattle.bohm_text.specs.declared.fault.WindowFault.{WindowFault}
 use Rattle.bohm_text.specs.declared.fault.WindowFault.TheVariants.{Line, Open, NoMemory}
 use Rattle.bohm_text.specs.declared.windows.Chunk.{Chunk}
@@ -22,12 +22,12 @@ pub record IsChunkOf (e : Edition) (window : List ℕ) (chunk : Chunk) : Type 0 
   pub print : print_doc (segment e chunk.log) ≡ headed e window
   pub lines : chunk.lines ≡ length (whole_lines window)
 
--- a line of it, counted from 1, begins no transactions any more
+-- line n of it, counted from 1, is the first with which it begins no transactions
 pub record IsBadWindow (e : Edition) (window : List ℕ) (n : ℕ) : Type 0 where
   pub line : IsFirstBadLine (whole_lines (headed e window)) (n + 1)
   pub within : n ≤ length window
 
--- its lines begin transactions, but it isn't the text of whole ones
+-- its lines begin transactions, but it isn't a text of complete ones
 pub record IsOpenWindow (e : Edition) (window : List ℕ) (n : ℕ) : Type 0 where
   pub short : IsShort (headed e window)
   pub lines : n ≡ length (whole_lines window)
@@ -38,17 +38,17 @@ ReadsWindow e window (Err (Line n)) = IsBadWindow e window n
 ReadsWindow e window (Err (Open n)) = IsOpenWindow e window n
 ReadsWindow e window (Err NoMemory) = Unit {0}
 
--- the bytes, of so many lines, are the document's text
+-- the bytes, which have this many lines, are the document's text
 pub record IsTextOf (bytes : List ℕ) (count : ℕ) (d : Document) : Type 0 where
   pub sound : IsDocument d
   pub print : print_doc d ≡ bytes
   pub lines : count ≡ length (whole_lines bytes)
 
--- the document that a text's first window is
+-- the document in a text's first window
 abbrev pub document_of_first : FirstWindow → Document
 document_of_first w = record { edition = w.edition; store = w.store.items; log = w.chunk.log }
 
--- the first window stops being the beginning of a document inside of a transaction, a store or the head
+-- the first window begins a document, and ends within a transaction, the store or the head
 pub record IsOpenFirst (text : List ℕ) (n : ℕ) : Type 0 where
   pub short : IsShort text
   pub lines : n ≡ length (whole_lines text)

@@ -8,8 +8,8 @@ ghost use Rattle.bohm_text.specs.Print.{print_answer, print_numbered, print_repl
 ghost use Rattle.bohm_txn.specs.ReplyRows.{reply_shown};
 
 use crate::printing::{put_entries, put_value};
-use bohm_tree::{Key, NoMemory, Value};
 use bohm_txn::{Reason, Replies, ReplyView};
+use bohm_types::{Key, NoMemory, Value};
 use itoa::{Buffer, Integer};
 use std::alloc::Global;
 

@@ -9,7 +9,7 @@ use crate::stops::Stop;
 use crate::sums::{read_last_sum, read_sum};
 use crate::words::Words;
 use bohm_log::{Draft, HashSeed};
-use bohm_tree::Cmp;
+use bohm_types::Cmp;
 
 /// Adds both sums of the condition that the words spell, and returns its comparison.
 #[tactic(auto, unfolding(crate::specs::Reading::cond_of))]

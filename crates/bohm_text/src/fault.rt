@@ -33,19 +33,20 @@ impl<T: Drop> From<AllocFailed<T>> for ReadFault {
     }
 }
 
-impl From<bohm_tree::NoMemory> for ReadFault {
+impl From<bohm_types::NoMemory> for ReadFault {
     ghost use Rattle.std.specs.Prelude.{◌≡◌};
     ghost use Rattle.bohm_text.specs.declared.fault.ReadFault.TheVariants.{NoMemory};
 
     ghost from_gives = { λ _ e. e ≡ NoMemory };
 
-    fn from(_e: bohm_tree::NoMemory) -> ReadFault {
+    fn from(_e: bohm_types::NoMemory) -> ReadFault {
         ReadFault::NoMemory
     }
 }
 
-/// Indices have 32 bits. A log that exceeds them exceeds the memory too, so it is refused for
-/// memory.
+/// Indices have 32 bits, and each key, term and statement has bytes of its own. So a log, or a
+/// transaction, that was read from at most 4 GiB is never `Full`: only longer texts are refused for
+/// memory on that ground.
 impl From<LogFault> for ReadFault {
     ghost use Rattle.std.specs.Prelude.{◌≡◌};
     ghost use Rattle.bohm_text.specs.declared.fault.ReadFault.TheVariants.{NoMemory};
@@ -80,7 +81,7 @@ pub enum TextFault {
     Line(u64),
     /// The complete lines are a prefix of a document's text, but the text isn't a document's.
     Short,
-    /// An allocation failed.
+    /// An allocation failed, or 32 bits of a column are full, which takes more than 4 GiB of text.
     NoMemory,
 }
 
@@ -93,7 +94,7 @@ pub enum WindowFault {
     /// The text ends inside a transaction. Its complete lines, this many, are a prefix of
     /// transactions.
     Open(u64),
-    /// An allocation failed.
+    /// An allocation failed, or 32 bits of a column are full, which takes more than 4 GiB of text.
     NoMemory,
 }
 

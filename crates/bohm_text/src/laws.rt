@@ -1,15 +1,16 @@
 //! Laws of the text. No call uses them.
 
 ghost use Rattle.std.specs.Prelude.{◌≡◌};
-ghost use Rattle.bohm_tree.specs.Document.{Document};
-ghost use Rattle.bohm_tree.specs.Sound.{IsDocument};
+ghost use Rattle.bohm_types.specs.Document.{Document};
+ghost use Rattle.bohm_types.specs.Sound.{IsDocument};
 ghost use Rattle.bohm_text.specs.Print.{print_doc};
 ghost use Rattle.bohm_text.specs.Tidy.{IsTidy};
-ghost use Rattle.bohm_tree.specs.Procedure.{Procedure};
+ghost use Rattle.bohm_types.specs.Procedure.{Procedure};
 ghost use Rattle.std.specs.Prelude.{ℕ, List, Some};
 ghost use Rattle.bohm_text.specs.Print.{text_of};
 ghost use Rattle.bohm_text.specs.Cut.{whole_lines};
-ghost use Rattle.bohm_text.specs.ProcedureText.{IsProcedure, print_procedure, Nothing, Done, stages};
+ghost use Rattle.bohm_text.specs.ProcedureText.{IsProcedure, print_procedure};
+ghost use Rattle.bohm_text.specs.ProcedureText.{Nothing, Done, stages};
 
 /// Two documents with one text are equal.
 pub fn one_text()

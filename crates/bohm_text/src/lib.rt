@@ -16,6 +16,7 @@ mod stops;
 mod sums;
 mod targets;
 mod terms;
+mod verbs;
 mod windows;
 mod words;
 

@@ -3,7 +3,7 @@
 ghost use Rattle.std.specs.Prelude.{◌≡◌, ◌≤◌, ◌<◌, ◌^◌, IfSome};
 ghost use Rattle.bohm_text.specs.Reading.{digits_of, whole_of, lit_of, number_of, negative};
 
-use bohm_tree::GREATEST_LITERAL;
+use bohm_types::GREATEST_LITERAL;
 
 fn read_digits(limit: u64, digits: &[u8]) -> Option<u64>
     ensures value { result ≡ digits_of limit 0 digits.now }

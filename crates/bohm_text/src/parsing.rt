@@ -2,7 +2,7 @@
 
 ghost use Rattle.std.specs.Prelude.{◌≡◌, ℕ, IfOk, Err, IfSome, IfNone, []};
 ghost use Rattle.std.specs.Prelude.{◌∷◌, ◌++◌};
-ghost use Rattle.bohm_tree.specs.Sound.{IsDocument};
+ghost use Rattle.bohm_types.specs.Sound.{IsDocument};
 ghost use Rattle.bohm_text.specs.Cut.{whole_lines};
 ghost use Rattle.bohm_text.specs.Parse.{ReadsText, ReadsBehind};
 ghost use Rattle.bohm_text.specs.Print.{print_doc};
@@ -12,7 +12,7 @@ use crate::fault::{ReadFault, TextFault, WindowFault};
 use crate::reader::{Place, Reader, read_head};
 use crate::separators::newline_at;
 use bohm_log::{Doc, DrawnSeed, FixedSeed, HashSeed};
-use bohm_tree::Edition;
+use bohm_types::Edition;
 use std::alloc::Global;
 
 /// The first whole line, and what follows its newline.
@@ -38,7 +38,7 @@ pub(crate) fn read_lines(
 ) -> Result<(Reader, u64), WindowFault>
     ensures { ReadsBehind edition text.now result }
 {
-    let mut reader = Reader::new(alloc, seed, edition);
+    let mut reader = Reader::new(alloc, seed, edition, text.len());
     let mut rest = text;
     let mut count: u64 = 0;
     'lines: while let Some((line, others)) = split_line(rest) {
@@ -106,7 +106,7 @@ fn read_doc(alloc: Global, seed: HashSeed, text: &[u8]) -> Result<Doc, TextFault
 /// # Errors
 ///
 /// `Line` and `Short` say where the text stops being a prefix of a document's text. `NoMemory` says
-/// that an allocation failed.
+/// that an allocation failed; for a text of more than 4 GiB also that 32 bits of a column are full.
 pub fn parse(alloc: Global, text: &[u8]) -> Result<Doc, TextFault>
     ensures found { IfOk result (λ doc. print_doc doc ≡ text.now) }
     ensures sound { IfOk result IsDocument }

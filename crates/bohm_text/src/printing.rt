@@ -12,7 +12,7 @@ ghost use Rattle.bohm_text.specs.Print.{line_text, lines_text, print_doc};
 use bohm_log::{
     AtomParts, CondView, Doc, Keys, LogPart, StmtParts, StmtView, SumView, TermParts, TxnView,
 };
-use bohm_tree::{Cmp, Edition, Key, NoMemory, Value};
+use bohm_types::{Cmp, Edition, Key, NoMemory, Value};
 use itoa::Buffer;
 use std::alloc::Global;
 

@@ -2,12 +2,13 @@
 
 ghost use Rattle.std.specs.Prelude.{◌≡◌, ◌++◌, [], ◌∷◌, OnOk, IfErr, map, true};
 ghost use Rattle.bohm_text.specs.declared.fault.ReadFault.TheVariants.{NoMemory};
-ghost use Rattle.bohm_tree.specs.Keys.{is_among};
+ghost use Rattle.bohm_types.specs.Keys.{is_among};
 ghost use Rattle.bohm_log.specs.Drafting.{IsBare, IsBetween};
 ghost use Rattle.bohm_text.specs.Cut.{split};
 ghost use Rattle.bohm_text.specs.ProcedureText.{one_name, key_line, value_line, reads_line};
 ghost use Rattle.bohm_text.specs.ProcedureText.{are_declared};
-ghost use Rattle.bohm_text.specs.ProcedureText.{after_values, after_keys, stage_after, edition_of, Keys};
+ghost use Rattle.bohm_text.specs.ProcedureText.{after_values, after_keys};
+ghost use Rattle.bohm_text.specs.ProcedureText.{stage_after, edition_of, Keys};
 ghost use Rattle.bohm_text.specs.ProcedureParse.{Reads};
 ghost use Rattle.bohm_text.specs.ProcedureRead.{IsProcedureOf};
 ghost use Rattle.std.specs.Prelude.{ℕ, IfOk, Err};
@@ -23,7 +24,7 @@ use crate::reader::words_after;
 use crate::statements::{read_reads, read_stmt, read_writes};
 use crate::words::Words;
 use bohm_log::{Draft, HashSeed, Literal};
-use bohm_tree::{Edition, Key};
+use bohm_types::{Edition, Key};
 use std::alloc::Global;
 
 /// Which line comes next.

@@ -3,8 +3,9 @@
 ghost use Rattle.std.specs.Prelude.{◌≡◌, ◌∷◌, ◌||◌, [], codes, MatchOption};
 ghost use Rattle.std.specs.Str.{bytes_eq};
 ghost use Rattle.std.specs.Option.{option_map};
-ghost use Rattle.bohm_tree.specs.Stmt.{Need, Show};
+ghost use Rattle.bohm_types.specs.Stmt.{Need, Show};
 ghost use Rattle.bohm_log.specs.Drafting.{IsBare, IsBetween};
+ghost use Rattle.bohm_text.specs.Cut.{split};
 ghost use Rattle.bohm_text.specs.Reading.{Gives, keys_of, local_of, after, last_sum};
 ghost use Rattle.bohm_text.specs.Reading.{assigned_of, bind_of, put_of, presence_of, need_of};
 ghost use Rattle.bohm_text.specs.Reading.{cond_of, remove_of, fail_of, stmt_of, entry_of};
@@ -17,9 +18,10 @@ use crate::numbers::read_number;
 use crate::stops::Stop;
 use crate::sums::{read_last_sum, read_sum};
 use crate::targets::{Target, read_target};
+use crate::verbs::{behind_need, behind_set};
 use crate::words::Words;
 use bohm_log::{Draft, HashSeed};
-use bohm_tree::{Key, Value};
+use bohm_types::{Key, Value};
 
 fn read_local(word: &[u8]) -> Option<Key>
     ensures { result ≡ local_of word.now }
@@ -182,6 +184,7 @@ fn read_fail(draft: &mut Draft<HashSeed>, words: &mut Words) -> Result<(), ReadF
 }
 
 /// Adds the statement that the words spell. After an `Err` the draft may hold a part of it.
+#[inline(never)]
 #[tactic(auto, unfolding(crate::specs::Reading::stmt_of))]
 pub fn read_stmt(draft: &mut Draft<HashSeed>, words: &mut Words) -> Result<(), ReadFault>
     requires { IsBetween draft.old }
@@ -205,6 +208,22 @@ pub fn read_stmt(draft: &mut Draft<HashSeed>, words: &mut Words) -> Result<(), R
     } else {
         Err(ReadFault::Bad)
     }
+}
+
+/// Adds the statement that a line spells. After an `Err` the draft may hold a part of it. The most
+/// frequent verbs are compared in place.
+#[tactic(auto, unfolding(crate::specs::Reading::stmt_of))]
+pub fn read_line(draft: &mut Draft<HashSeed>, line: &[u8]) -> Result<(), ReadFault>
+    requires { IsBetween draft.old }
+    ensures { TakesStmt result (stmt_of (split 32 line.now)) draft.old draft.new }
+{
+    if let Some(words) = behind_set(line) {
+        return read_put(draft, &mut Words::of(words));
+    }
+    if let Some(words) = behind_need(line) {
+        return read_need(draft, &mut Words::of(words));
+    }
+    read_stmt(draft, &mut Words::of(line))
 }
 
 /// A key of the store and its value.

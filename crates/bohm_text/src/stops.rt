@@ -3,7 +3,7 @@
 ghost use Rattle.std.specs.Prelude.{◌≡◌};
 ghost use Rattle.bohm_text.specs.Reading.{cmp_of, stop_of};
 
-use bohm_tree::Cmp;
+use bohm_types::Cmp;
 
 /// What follows a sum.
 #[derive(Clone, Copy, Debug, PartialEq, Eq)]

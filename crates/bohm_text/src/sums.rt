@@ -1,13 +1,17 @@
 //! Sums, read term by term into the draft.
 
-ghost use Rattle.std.specs.Prelude.{◌≡◌, [], MatchOption, Some, None};
-ghost use Rattle.bohm_tree.specs.Shape.{term_of};
+ghost use Rattle.std.specs.Prelude.{◌≡◌, [], MatchOption, Some, None, true};
+ghost use Rattle.std.specs.Option.{option_map};
+ghost use Rattle.bohm_types.specs.Shape.{term_of};
+ghost use Rattle.bohm_types.specs.Term.{Lit};
 ghost use Rattle.bohm_log.specs.Seeing.{atom_shown};
-ghost use Rattle.bohm_text.specs.Reading.{ending, first_of, further_of, last_sum, sum_from, terms_of};
+ghost use Rattle.bohm_text.specs.Reading.{atom_of, ending, first_of, further_of, last_sum, lit_of};
+ghost use Rattle.bohm_text.specs.Reading.{sum_from, terms_of};
 ghost use Rattle.bohm_text.specs.Signs.{end_of};
 ghost use Rattle.bohm_text.specs.Taking.{Takes, TakesTerms, with_one, with_terms};
 
 use crate::fault::ReadFault;
+use crate::numbers::read_lit;
 use crate::stops::{Stop, read_stop};
 use crate::terms::read_atom;
 use crate::words::Words;
@@ -42,12 +46,44 @@ fn take_other(draft: &mut Draft<HashSeed>, minus: bool, word: &[u8]) -> Result<(
     add_term(draft, minus, atom)
 }
 
+/// Whether a word begins with a digit, so that it spells a literal or nothing.
+#[inline(always)]
+#[tactic(auto, unfolding(crate::specs::Reading::atom_of))]
+fn is_number(word: &[u8]) -> bool
+    ensures { result ≡ true → atom_of word.now ≡ option_map Lit (lit_of word.now) }
+{
+    match word {
+        [first, ..] => first.is_ascii_digit(),
+        [] => false,
+    }
+}
+
+/// Adds the literal of a word whose sign was read.
+#[inline(always)]
+#[tactic(auto, unfolding(crate::specs::Reading::further_of))]
+fn take_literal(draft: &mut Draft<HashSeed>, minus: bool, word: &[u8]) -> Result<(), ReadFault>
+    requires { atom_of word.now ≡ option_map Lit (lit_of word.now) }
+    ensures { Takes result (further_of minus word.now) (with_one draft.old) draft.new }
+{
+    let Some(number) = read_lit(word) else {
+        return Err(ReadFault::Bad);
+    };
+    let Some(literal) = Literal::new(minus, number) else {
+        return Err(ReadFault::Bad);
+    };
+    draft.literal(literal)?;
+    Ok(())
+}
+
 /// Adds the term of a word whose sign was read. A declared read that is where the cache last found
 /// it is compared in place.
 #[inline(always)]
 fn take_term(draft: &mut Draft<HashSeed>, minus: bool, word: &[u8]) -> Result<(), ReadFault>
     ensures { Takes result (further_of minus word.now) (with_one draft.old) draft.new }
 {
+    if is_number(word) {
+        return take_literal(draft, minus, word);
+    }
     if draft.read_again(minus, word)? {
         return Ok(());
     }
@@ -84,6 +120,7 @@ fn read_end(words: &mut Words) -> Option<Stop>
 }
 
 /// Adds further terms, and returns what ends them.
+#[inline(always)]
 fn read_terms(draft: &mut Draft<HashSeed>, words: &mut Words) -> Result<Stop, ReadFault>
     ensures { TakesTerms result (terms_of words.old) words.new draft.old draft.new }
 {
@@ -102,6 +139,7 @@ fn read_terms(draft: &mut Draft<HashSeed>, words: &mut Words) -> Result<Stop, Re
 }
 
 /// Adds the sum at the beginning of the words, and returns what ends it.
+#[inline(always)]
 pub fn read_sum(draft: &mut Draft<HashSeed>, words: &mut Words) -> Result<Stop, ReadFault>
     ensures { TakesTerms result (sum_from words.old) words.new draft.old draft.new }
 {

@@ -1,13 +1,13 @@
 //! Keys that statements write.
 
 ghost use Rattle.std.specs.Prelude.{◌≡◌, [], Some, None, IfErr, IfNone, IfSome, OnOk, length};
-ghost use Rattle.bohm_tree.specs.Name.{key_of};
+ghost use Rattle.bohm_types.specs.Name.{key_of};
 ghost use Rattle.bohm_log.specs.declared.fault.SumFault.TheVariants.{Empty};
 ghost use Rattle.bohm_log.specs.Drafting.{put_of, with_stmt};
 ghost use Rattle.bohm_text.specs.Targets.{StandsIn, name_in};
 
 use bohm_log::{Draft, HashSeed, SumFault};
-use bohm_tree::{Cmp, Key};
+use bohm_types::{Cmp, Key};
 
 /// The key that a statement writes.
 #[derive(Drop)]

@@ -7,7 +7,7 @@ ghost use Rattle.bohm_text.specs.Reading.{atom_of};
 
 use crate::numbers::read_lit;
 use bohm_log::AtomParts;
-use bohm_tree::Key;
+use bohm_types::Key;
 
 #[tactic(auto, unfolding(crate::specs::Reading::atom_of))]
 pub fn read_atom(word: &[u8]) -> Option<AtomParts>

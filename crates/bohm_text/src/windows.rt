@@ -8,7 +8,7 @@ use crate::fault::WindowFault;
 use crate::parsing::{read_lines, read_text};
 use crate::reader::Reader;
 use bohm_log::{DrawnSeed, HashSeed, Log};
-use bohm_tree::{Edition, Key, Value};
+use bohm_types::{Edition, Key, Value};
 use std::alloc::Global;
 
 /// The transactions of a window.
@@ -35,7 +35,7 @@ pub struct FirstWindow {
 /// # Errors
 ///
 /// `Line` and `Open` say where the window stops being a prefix of a document. `NoMemory` says that
-/// an allocation failed.
+/// an allocation failed; for a window of more than 4 GiB also that 32 bits of a column are full.
 pub fn parse_first_window(
     alloc: Global,
     seed: DrawnSeed,
@@ -66,7 +66,8 @@ pub fn parse_first_window(
 /// # Errors
 ///
 /// `Line` and `Open` say where the window stops being a prefix of transactions. `NoMemory` says
-/// that an allocation failed.
+/// that an allocation failed; for a window of more than 4 GiB also that 32 bits of a column are
+/// full.
 pub fn parse_window(
     alloc: Global,
     seed: DrawnSeed,

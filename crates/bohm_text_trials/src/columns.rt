@@ -4,10 +4,10 @@ ghost use Rattle.std.specs.Prelude.{OnOk};
 ghost use Rattle.bohm_log.specs.Drafting.{IsBetween};
 
 use bohm_log::{
-    DeclaredKeys, Draft, Literal, Log, LogFault, Names, PlacedTxn, StmtParts, StmtView, SumFault,
+    DeclaredKeys, Draft, IndexedTxn, Literal, Log, LogFault, Names, StmtParts, StmtView, SumFault,
     TxnView,
 };
-use bohm_tree::{Cmp, Edition, Key};
+use bohm_types::{Cmp, Edition, Key};
 use std::alloc::Global;
 use std::hash::{BuildHasherDefault, FoldHasher};
 use std::process::Abort;
@@ -216,7 +216,7 @@ fn sums_have_terms(rt: HostRuntime) {
     assert_eq!(rt; draft.next_sum(), Err(SumFault::Empty));
 }
 
-fn assert_places(rt: &impl Abort, placed: &PlacedTxn<'_>, others: &[Key]) {
+fn assert_places(rt: &impl Abort, placed: &IndexedTxn<'_>, others: &[Key]) {
     assert_eq!(rt; (placed.reads_len(), placed.writes_len()), (2, 1));
     assert_eq!(rt; placed.others(), others);
     assert_eq!(rt; placed.large(), [4_294_967_296].as_slice());

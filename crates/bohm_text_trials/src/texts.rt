@@ -1,8 +1,8 @@
 //! Texts that are read, refused and printed.
 
 use bohm_text::{TextFault, laws, parse, print_answer, print_doc, print_replies, print_store};
-use bohm_tree::{Key, Value};
 use bohm_txn::{Reason, Replies};
+use bohm_types::{Key, Value};
 use std::alloc::Global;
 use std::process::Abort;
 

@@ -2,14 +2,14 @@
 
 ghost use Rattle.bohm_log.specs.Parts.{RowIn};
 
-use bohm_log::{AtomKind, PlacedTxn, StmtRow};
+use bohm_log::{AtomKind, IndexedTxn, StmtRow};
 use bohm_text::parse;
-use bohm_tree::NoMemory;
+use bohm_types::NoMemory;
 use std::process::Abort;
 
 /// Asserts that each term of the statement's sums reads the key at this index among the declared
 /// reads.
-fn assert_row(rt: &impl Abort, txn: &PlacedTxn<'_>, row: StmtRow, place: u32)
+fn assert_row(rt: &impl Abort, txn: &IndexedTxn<'_>, row: StmtRow, place: u32)
     requires { RowIn txn.now row }
 {
     for term in txn.terms(row.start, row.third) {
@@ -17,7 +17,7 @@ fn assert_row(rt: &impl Abort, txn: &PlacedTxn<'_>, row: StmtRow, place: u32)
     }
 }
 
-fn assert_txn(rt: &impl Abort, txn: &PlacedTxn<'_>, place: u32) {
+fn assert_txn(rt: &impl Abort, txn: &IndexedTxn<'_>, place: u32) {
     for row in txn.rows() {
         assert_row(rt, txn, *row, place);
     }
@@ -38,7 +38,7 @@ end
 ";
 
 /// Asserts that they find it at its index among the reads.
-fn assert_reading(rt: &impl Abort, txn: &PlacedTxn<'_>) {
+fn assert_reading(rt: &impl Abort, txn: &IndexedTxn<'_>) {
     let ends = txn.rows().iter().map(|row| row.third);
     assert!(rt; ends.eq([1, 3, 4, 7, 9]));
     assert_txn(rt, txn, 2);

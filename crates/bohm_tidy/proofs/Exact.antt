@@ -1,8 +1,8 @@
 -- The lines of an exact text are no faulty ones.
 use Rattle.std.proofs.Common.{◌≡◌, ℕ, List, take, drop, sym, ap, subst, ◌∙◌}
 use Rattle.std.proofs.lemmas.List.{take-append-drop}
-use Rattle.bohm_tree.specs.Document.{Document}
-use Rattle.bohm_tree.specs.Sound.{IsDocument}
+use Rattle.bohm_types.specs.Document.{Document}
+use Rattle.bohm_types.specs.Sound.{IsDocument}
 use Rattle.bohm_text.specs.Cut.{whole_lines}
 use Rattle.bohm_text.specs.Faults.{IsFirstBadLine}
 use Rattle.bohm_text.specs.Front.{Front, text_lines}

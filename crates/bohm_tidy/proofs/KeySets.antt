@@ -14,7 +14,7 @@ use Rattle.std.proofs.lemmas.Bool.{and_parts, false_from_ne_true}
 use Rattle.std.proofs.lemmas.List.Kept.{IsStrictlySortedBy-dedup}
 use Rattle.std.proofs.lemmas.List.Sorted.{list_any-IsPermutation}
 use Rattle.std.proofs.lemmas.Map.Text.{is_eq-slice_cmp}
-use Rattle.bohm_tree.specs.Keys.{is_among, rising, rises_from}
+use Rattle.bohm_types.specs.Keys.{is_among, rising, rises_from}
 use Rattle.bohm_txn.proofs.ForCallers.{same_key, key_itself, less}
 use Rattle.bohm_tidy.specs.Settled.{set_by, insert_key, key_set}
 
@@ -148,7 +148,8 @@ among_insert k [] q = refl
 among_insert k (x ∷ xs) q =
     elim (cmp k x) as (λ o. cmp k x ≡ o → is_among (set_by o k x xs (insert_key k xs)) q ≡ (bytes_eq k q || (bytes_eq x q || is_among xs q))) [
       | Less ↦ λ e. refl
-      | Equal ↦ λ e. subst (λ z. (bytes_eq x q || is_among xs q) ≡ (bytes_eq z q || (bytes_eq x q || is_among xs q))) (sym (tied k x e)) (or_twice (bytes_eq x q) (is_among xs q))
+      | Equal ↦ λ e. subst (λ z. (bytes_eq x q || is_among xs q) ≡ (bytes_eq z q || (bytes_eq x q || is_among xs q))) (sym (tied k x e))
+          (or_twice (bytes_eq x q) (is_among xs q))
       | Greater ↦ λ e. ap (λ b. bytes_eq x q || b) (among_insert k xs q) ∙ or_swapped (bytes_eq x q) (bytes_eq k q) (is_among xs q)
     ] refl
 
@@ -182,8 +183,10 @@ strict_rises (k ∷ ks) s = strict_from k ks s
 among_dedup_from : (k : List ℕ) (ks : List (List ℕ)) (q : List ℕ) → is_among (dedup_from bytes_eq k ks) q ≡ is_among (k ∷ ks) q
 among_dedup_from k [] q = refl
 among_dedup_from k (n ∷ ns) q =
-    elim (bytes_eq n k) as (λ b. bytes_eq n k ≡ b → is_among (cond b (dedup_from bytes_eq k ns) (k ∷ dedup_from bytes_eq n ns)) q ≡ (bytes_eq k q || (bytes_eq n q || is_among ns q))) [
-      | true ↦ λ e. among_dedup_from k ns q ∙ subst (λ z. (bytes_eq k q || is_among ns q) ≡ (bytes_eq k q || (bytes_eq z q || is_among ns q))) (sym (same_key n k e)) (or_twice (bytes_eq k q) (is_among ns q))
+    elim (bytes_eq n k) as (λ b. bytes_eq n k ≡ b
+    → is_among (cond b (dedup_from bytes_eq k ns) (k ∷ dedup_from bytes_eq n ns)) q ≡ (bytes_eq k q || (bytes_eq n q || is_among ns q))) [
+      | true ↦ λ e. among_dedup_from k ns q ∙ subst (λ z. (bytes_eq k q || is_among ns q) ≡ (bytes_eq k q || (bytes_eq z q || is_among ns q)))
+          (sym (same_key n k e)) (or_twice (bytes_eq k q) (is_among ns q))
       | false ↦ λ e. ap (λ b. bytes_eq k q || b) (among_dedup_from n ns q)
     ] refl
 
@@ -193,5 +196,7 @@ among_dedup (k ∷ ks) q = among_dedup_from k ks q
 
 pub settled_set : (ks sorted : List (List ℕ)) → IsPermutation ks sorted → IsSorted cmp sorted → dedup bytes_eq sorted ≡ key_set ks
 settled_set ks sorted moved order =
-    let rises : rising (dedup bytes_eq sorted) ≡ true = strict_rises (dedup bytes_eq sorted) (IsStrictlySortedBy-dedup nat_list_cmp_total texts_ties sorted order) in
-    one_list (dedup bytes_eq sorted) (key_set ks) rises (key_set-rises ks) (λ q. among_dedup sorted q ∙ (sym (list_any-IsPermutation (λ x. bytes_eq x q) ks sorted moved) ∙ sym (key_set-among ks q)))
+    let rises : rising (dedup bytes_eq sorted) ≡ true =
+    strict_rises (dedup bytes_eq sorted) (IsStrictlySortedBy-dedup nat_list_cmp_total texts_ties sorted order) in
+    one_list (dedup bytes_eq sorted) (key_set ks) rises (key_set-rises ks)
+    (λ q. among_dedup sorted q ∙ (sym (list_any-IsPermutation (λ x. bytes_eq x q) ks sorted moved) ∙ sym (key_set-among ks q)))

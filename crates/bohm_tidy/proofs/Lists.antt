@@ -4,7 +4,8 @@ use Rattle.std.specs.List.{flat_map, slice_get}
 use Rattle.bohm_txn.proofs.ForCallers.{drop_at}
 
 -- what a list gathers from a place on: once its first element is in, that of the others is left
-pub gather_more : {A B : Type 0} (f : A → List B) (xs : List A) (i : ℕ) (x : A) (out longer whole : List B) → slice_get xs i ≡ Some x → longer ≡ out ++ f x → out ++ flat_map f (drop i xs) ≡ whole → longer ++ flat_map f (drop (i + 1) xs) ≡ whole
+pub gather_more : {A B : Type 0} (f : A → List B) (xs : List A) (i : ℕ) (x : A) (out longer whole : List B) → slice_get xs i ≡ Some x → longer ≡ out ++ f x
+    → out ++ flat_map f (drop i xs) ≡ whole → longer ++ flat_map f (drop (i + 1) xs) ≡ whole
 gather_more f xs i x out longer whole at more so_far =
     ap (λ (ys : List _). ys ++ flat_map f (drop (i + 1) xs)) more
     ∙ append_assoc out (f x) (flat_map f (drop (i + 1) xs))
@@ -12,7 +13,8 @@ gather_more f xs i x out longer whole at more so_far =
     ∙ so_far
 
 -- a list that is copied from a place on
-pub push_more : {A : Type 0} (xs : List A) (i : ℕ) (x : A) (out longer whole : List A) → slice_get xs i ≡ Some x → longer ≡ out ++ x ∷ [] → out ++ drop i xs ≡ whole → longer ++ drop (i + 1) xs ≡ whole
+pub push_more : {A : Type 0} (xs : List A) (i : ℕ) (x : A) (out longer whole : List A) → slice_get xs i ≡ Some x → longer ≡ out ++ x ∷ []
+    → out ++ drop i xs ≡ whole → longer ++ drop (i + 1) xs ≡ whole
 push_more xs i x out longer whole at more so_far =
     ap (λ (ys : List _). ys ++ drop (i + 1) xs) more
     ∙ append_assoc out (x ∷ []) (drop (i + 1) xs)

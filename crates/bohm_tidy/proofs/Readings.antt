@@ -3,15 +3,16 @@ use Rattle.std.proofs.Common.{◌≡◌, ℕ, Bool, List, [], refl, ap, sym, ◌
 use Rattle.std.specs.Prelude.{None}
 use Rattle.std.specs.List.{IsDistinct}
 use Rattle.std.specs.Str.{bytes_eq}
-use Rattle.bohm_tree.specs.Document.{Document}
-use Rattle.bohm_tree.specs.Keys.{names_of}
-use Rattle.bohm_tree.specs.Sound.{IsDocument}
+use Rattle.bohm_types.specs.Document.{Document}
+use Rattle.bohm_types.specs.Keys.{names_of}
+use Rattle.bohm_types.specs.Sound.{IsDocument}
 use Rattle.bohm_text.specs.Print.{print_doc}
 use Rattle.bohm_tidy.specs.Plain.{Written, written}
 use Rattle.bohm_tidy.specs.Settled.{settled}
 use Rattle.bohm_tidy.specs.Tidied.{IsExactDoc, IsTidied, IsTidiedByLines}
 
-pub exactly : (text exact : List ℕ) (d : Document) → IsDocument d → print_doc d ≡ text → IsDistinct bytes_eq (names_of d.store) → exact ≡ print_doc (settled [] [] d) → IsTidied text exact
+pub exactly : (text exact : List ℕ) (d : Document) → IsDocument d → print_doc d ≡ text → IsDistinct bytes_eq (names_of d.store)
+    → exact ≡ print_doc (settled [] [] d) → IsTidied text exact
 exactly text exact d sound prints distinct printed = record {
   loose = record { document = d; no_reads = []; no_writes = [] };
   reading = record { sound = sound; distinct = distinct; read = inl (record { prints = prints; no_reads = refl; no_writes = refl }) };
@@ -22,7 +23,9 @@ pub by_lines : (text exact : List ℕ) → IsExactDoc text None → IsTidiedByLi
 by_lines text exact none t = record { loose = t.loose; reading = record { sound = t.sound; distinct = t.distinct; read = inr (none, t.read) }; is = t.is }
 
 -- a document that was read from the exact lines of a text, and printed
-pub read_by_lines : (text exact plain : List ℕ) (rs ws : List Bool) (w : Written) (d : Document) → w ≡ written text → w.text ≡ plain → w.no_reads ≡ rs → w.no_writes ≡ ws → print_doc d ≡ plain → IsDocument d → IsDistinct bytes_eq (names_of d.store) → exact ≡ print_doc (settled rs ws d) → IsTidiedByLines text exact
+pub read_by_lines : (text exact plain : List ℕ) (rs ws : List Bool) (w : Written) (d : Document) → w ≡ written text → w.text ≡ plain → w.no_reads ≡ rs
+    → w.no_writes ≡ ws → print_doc d ≡ plain → IsDocument d → IsDistinct bytes_eq (names_of d.store) → exact ≡ print_doc (settled rs ws d)
+    → IsTidiedByLines text exact
 read_by_lines text exact plain rs ws w d made text_is reads_is writes_is prints sound distinct printed = record {
   loose = record { document = d; no_reads = rs; no_writes = ws };
   sound = sound;

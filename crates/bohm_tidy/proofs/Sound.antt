@@ -7,16 +7,17 @@ use Rattle.std.specs.List.{AllByRecursion, flat_map}
 use Rattle.std.specs.Ordering.{nat_cmp}
 use Rattle.std.specs.declared.cmp.Ordering.{Ordering}
 use Rattle.std.specs.declared.cmp.Ordering.TheVariants.{Less, Equal, Greater}
-use Rattle.bohm_tree.specs.Document.{Document}
-use Rattle.bohm_tree.specs.Parts.{key_read, sums, tested, target}
-use Rattle.bohm_tree.specs.Sound.{IsName, IsTerm, IsSum, IsStmt, IsTxn, IsDocument}
-use Rattle.bohm_tree.specs.Stmt.{Cond, Stmt, Bind, Need, Has, Lacks, Put, Remove, Show, Fail}
-use Rattle.bohm_tree.specs.Term.{Atom, Lit, Read, Local}
-use Rattle.bohm_tree.specs.Txn.{Txn}
-use Rattle.bohm_tree.specs.declared.edition.Edition.{Edition}
+use Rattle.bohm_types.specs.Document.{Document}
+use Rattle.bohm_types.specs.Parts.{key_read, sums, tested, target}
+use Rattle.bohm_types.specs.Sound.{IsName, IsTerm, IsSum, IsStmt, IsTxn, IsDocument}
+use Rattle.bohm_types.specs.Stmt.{Cond, Stmt, Bind, Need, Has, Lacks, Put, Remove, Show, Fail}
+use Rattle.bohm_types.specs.Term.{Atom, Lit, Read, Local}
+use Rattle.bohm_types.specs.Txn.{Txn}
+use Rattle.bohm_types.specs.declared.edition.Edition.{Edition}
 use Rattle.bohm_txn.proofs.ForCallers.{each_append}
 use Rattle.bohm_txn.specs.Stores.{store_of}
-use Rattle.bohm_tidy.specs.Settled.{set_by, insert_key, key_set, the_key, sum_reads, stmt_reads, body_reads, body_writes, settled_txn, settled_log, settled, first_flag, other_flags}
+use Rattle.bohm_tidy.specs.Settled.{set_by, insert_key, key_set, the_key, sum_reads, stmt_reads, body_reads}
+use Rattle.bohm_tidy.specs.Settled.{body_writes, settled_txn, settled_log, settled, first_flag, other_flags}
 use Rattle.bohm_tidy.specs.Tidied.{HasRisingSets, HasRisingKeys}
 use Rattle.bohm_tidy.proofs.KeySets.{key_set-rises, key_set-settled}
 use Rattle.bohm_tidy.proofs.Stores.{entries_rise, rising_entries, entries_sound}
@@ -59,7 +60,8 @@ stmt_names (Need c) sound = each_append IsName (flat_map sum_reads (c.left ∷ c
 stmt_names (Has k) sound = (sound, tt)
 stmt_names (Lacks k) sound = (sound, tt)
 stmt_names (Put k sum None) sound = each_append IsName (flat_map sum_reads (sum ∷ [])) [] (one_sum sum [] sound.1 tt) tt
-stmt_names (Put k sum (Some c)) sound = each_append IsName (flat_map sum_reads (sum ∷ c.left ∷ c.right ∷ [])) [] (one_sum sum _ sound.1 (one_sum c.left _ sound.2.0 (one_sum c.right [] sound.2.1 tt))) tt
+stmt_names (Put k sum (Some c)) sound = each_append IsName (flat_map sum_reads (sum ∷ c.left ∷ c.right ∷ [])) []
+    (one_sum sum _ sound.1 (one_sum c.left _ sound.2.0 (one_sum c.right [] sound.2.1 tt))) tt
 stmt_names (Remove k) sound = tt
 stmt_names (Show sum) sound = each_append IsName (flat_map sum_reads (sum ∷ [])) [] (one_sum sum [] sound tt) tt
 stmt_names Fail sound = tt
@@ -96,7 +98,8 @@ txn_sound edition r w t sound = record {
   body = sound.body;
 }
 
-log_sound : (edition : Edition) (rs ws : List Bool) (log : List Txn) → AllByRecursion (IsTxn edition) log → AllByRecursion (IsTxn edition) (settled_log rs ws log)
+log_sound : (edition : Edition) (rs ws : List Bool) (log : List Txn) → AllByRecursion (IsTxn edition) log
+    → AllByRecursion (IsTxn edition) (settled_log rs ws log)
 log_sound edition rs ws [] all = tt
 log_sound edition rs ws (t ∷ ts) all = (txn_sound edition (first_flag rs) (first_flag ws) t all.0, log_sound edition (other_flags rs) (other_flags ws) ts all.1)
 

@@ -15,8 +15,8 @@ use Rattle.std.proofs.lemmas.Bool.{and_parts}
 use Rattle.std.proofs.lemmas.List.Sorted.{IsPermutation-map, IsPermutation-sym}
 use Rattle.std.proofs.lemmas.Map.Keys.{IsDistinct-IsPermutation}
 use Rattle.std.proofs.lemmas.Map.Text.{is_eq-slice_cmp}
-use Rattle.bohm_tree.specs.Keys.{names_of, rising, rises_from}
-use Rattle.bohm_tree.specs.Sound.{IsEntry}
+use Rattle.bohm_types.specs.Keys.{names_of, rising, rises_from}
+use Rattle.bohm_types.specs.Sound.{IsEntry}
 use Rattle.bohm_txn.specs.Stores.{Store, store_of}
 use Rattle.bohm_txn.proofs.ForCallers.{less, same_moved}
 use Rattle.bohm_tidy.proofs.KeySets.{rises_below}
@@ -61,7 +61,8 @@ entries_rise s = rising_sorted (finite.entries s) (truth (is_sorted cmp (finite.
 pub rising_entries : (es : Entries) → rising (names_of es) ≡ true → finite.entries (store_of es) ≡ es
 rising_entries es r =
     let here : T (is_sorted cmp es) = subst T (sym (sorted_rising es r)) tt in
-    let same : finite.from_sorted es ≡ store_of es = finite.same_map nat_list_cmp_total (finite.slice_cmp-IsAntisymmetric finite.nat_cmp-IsAntisymmetric) _ _ (λ q. finite.get-from_sorted cmp es q here ∙ sym (finite.get-from_entries nat_list_cmp_total es q)) in
+    let same : finite.from_sorted es ≡ store_of es = finite.same_map nat_list_cmp_total (finite.slice_cmp-IsAntisymmetric finite.nat_cmp-IsAntisymmetric) _ _
+    (λ q. finite.get-from_sorted cmp es q here ∙ sym (finite.get-from_entries nat_list_cmp_total es q)) in
     ap (λ (s : Store). finite.entries s) (sym same) ∙ finite.entries-from_sorted cmp es here
 
 -- ---- keys that rise differ
@@ -81,11 +82,13 @@ rising_distinct (k ∷ ks) r = (differ_from k ks r, rising_distinct ks (rising_r
 -- ---- entries in another order
 
 pub distinct_moved : (es sorted : Entries) → IsPermutation es sorted → rising (names_of sorted) ≡ true → IsDistinct bytes_eq (names_of es)
-distinct_moved es sorted moved r = IsDistinct-IsPermutation bytes_eq nat_list_eq_equiv.symm (names_of sorted) (names_of es) (IsPermutation-map (λ (e : List ℕ × ℤ). e.0) sorted es (IsPermutation-sym es sorted moved)) (rising_distinct (names_of sorted) r)
+distinct_moved es sorted moved r = IsDistinct-IsPermutation bytes_eq nat_list_eq_equiv.symm (names_of sorted) (names_of es)
+    (IsPermutation-map (λ (e : List ℕ × ℤ). e.0) sorted es (IsPermutation-sym es sorted moved)) (rising_distinct (names_of sorted) r)
 
 -- once they rise, they are those of the store of the ones before
 pub entries_moved : (es sorted : Entries) → IsPermutation es sorted → rising (names_of sorted) ≡ true → sorted ≡ finite.entries (store_of es)
-entries_moved es sorted moved r = sym (rising_entries sorted r) ∙ ap (λ (s : Store). finite.entries s) (same_moved es sorted moved (distinct_moved es sorted moved r))
+entries_moved es sorted moved r = sym (rising_entries sorted r)
+    ∙ ap (λ (s : Store). finite.entries s) (same_moved es sorted moved (distinct_moved es sorted moved r))
 
 -- ---- the entries of a store are entries of the list
 
@@ -105,4 +108,5 @@ none_sound (x ∷ es) e = absurd (omega (arith, e))
 pub entries_sound : (es : Entries) → AllByRecursion IsEntry es → AllByRecursion IsEntry (finite.entries (store_of es))
 entries_sound [] all = none_sound (finite.entries (store_of [])) (sym (finite.len-entries (store_of [])) ∙ finite.len-empty cmp ℤ)
 entries_sound (e ∷ es) all =
-    subst (λ (fs : Entries). AllByRecursion IsEntry fs) (sym (finite.entries-insert nat_list_cmp_total (store_of es) e.0 e.1)) (put_sound e.0 e.1 (finite.entries (store_of es)) all.0 (entries_sound es all.1))
+    subst (λ (fs : Entries). AllByRecursion IsEntry fs) (sym (finite.entries-insert nat_list_cmp_total (store_of es) e.0 e.1))
+    (put_sound e.0 e.1 (finite.entries (store_of es)) all.0 (entries_sound es all.1))

@@ -6,11 +6,11 @@ use Rattle.std.specs.Ordering.{nat_cmp}
 use Rattle.std.specs.Cmp.Lexicographic.{slice_cmp}
 use Rattle.std.specs.declared.cmp.Ordering.{Ordering}
 use Rattle.std.specs.declared.cmp.Ordering.TheVariants.{Less, Equal, Greater}
-use Rattle.bohm_tree.specs.Document.{Document}
-use Rattle.bohm_tree.specs.Parts.{key_read, sums, tested, target}
-use Rattle.bohm_tree.specs.Stmt.{Cond, Stmt}
-use Rattle.bohm_tree.specs.Term.{Atom}
-use Rattle.bohm_tree.specs.Txn.{Txn}
+use Rattle.bohm_types.specs.Document.{Document}
+use Rattle.bohm_types.specs.Parts.{key_read, sums, tested, target}
+use Rattle.bohm_types.specs.Stmt.{Cond, Stmt}
+use Rattle.bohm_types.specs.Term.{Atom}
+use Rattle.bohm_types.specs.Txn.{Txn}
 use Rattle.bohm_txn.specs.Stores.{store_of}
 
 -- ---- sets
@@ -68,7 +68,8 @@ other_flags (b ∷ bs) = bs
 
 abbrev pub settled_log : List Bool → List Bool → List Txn → List Txn
 settled_log no_reads no_writes [] = []
-settled_log no_reads no_writes (t ∷ ts) = settled_txn (first_flag no_reads) (first_flag no_writes) t ∷ settled_log (other_flags no_reads) (other_flags no_writes) ts
+settled_log no_reads no_writes (t ∷ ts) = settled_txn (first_flag no_reads) (first_flag no_writes) t ∷ settled_log (other_flags no_reads)
+    (other_flags no_writes) ts
 
 -- the store by its keys; a transaction's flags say whether its reads, and its writes, are missing
 abbrev pub settled : List Bool → List Bool → Document → Document

@@ -2,10 +2,10 @@
 use Rattle.std.specs.Prelude.{◌≡◌, ◌≢◌, ◌⊎◌, ℕ, List, [], Bool, true, Option, Some, None}
 use Rattle.std.specs.List.{AllByRecursion, IsDistinct}
 use Rattle.std.specs.Str.{bytes_eq}
-use Rattle.bohm_tree.specs.Document.{Document}
-use Rattle.bohm_tree.specs.Keys.{names_of, rising}
-use Rattle.bohm_tree.specs.Sound.{IsDocument}
-use Rattle.bohm_tree.specs.Txn.{Txn}
+use Rattle.bohm_types.specs.Document.{Document}
+use Rattle.bohm_types.specs.Keys.{names_of, rising}
+use Rattle.bohm_types.specs.Sound.{IsDocument}
+use Rattle.bohm_types.specs.Txn.{Txn}
 use Rattle.bohm_text.specs.Print.{print_doc}
 use Rattle.bohm_tidy.specs.Plain.{written}
 use Rattle.bohm_tidy.specs.Settled.{settled}

@@ -2,12 +2,12 @@
 
 ghost use Rattle.std.specs.Prelude.{◌≡◌, ◌++◌, IfOk};
 ghost use Rattle.bohm_log.specs.Seeing.{atom_shown, cond_shown, guard_shown};
-ghost use Rattle.bohm_tree.specs.Parts.{key_read, guard_sums};
+ghost use Rattle.bohm_types.specs.Parts.{key_read, guard_sums};
 ghost use Rattle.std.specs.List.{flat_map};
 ghost use Rattle.bohm_tidy.specs.Settled.{the_key, sum_reads, stmt_reads, body_reads, body_writes};
 
 use bohm_log::{AtomParts, CondView, StmtParts, StmtView, SumView, TxnView};
-use bohm_tree::{Key, NoMemory};
+use bohm_types::{Key, NoMemory};
 
 fn add_atom(keys: &mut Vec<Key>, atom: AtomParts) -> Result<(), NoMemory>
     ensures { IfOk result

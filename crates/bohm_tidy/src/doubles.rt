@@ -1,6 +1,6 @@
 //! The first key that a store names twice.
 
-use bohm_tree::{Key, NoMemory, Value};
+use bohm_types::{Key, NoMemory, Value};
 use std::alloc::Global;
 
 /// The indices of two entries with one key.

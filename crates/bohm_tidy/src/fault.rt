@@ -42,10 +42,10 @@ impl<T: Drop> From<AllocFailed<T>> for TidyFault {
     }
 }
 
-impl From<bohm_tree::NoMemory> for TidyFault {
+impl From<bohm_types::NoMemory> for TidyFault {
     ghost from_gives = { λ _ e. e ≡ NoMemory };
 
-    fn from(_e: bohm_tree::NoMemory) -> TidyFault {
+    fn from(_e: bohm_types::NoMemory) -> TidyFault {
         TidyFault::NoMemory
     }
 }

@@ -5,7 +5,7 @@ ghost use Rattle.bohm_text.specs.Print.{line_text};
 ghost use Rattle.bohm_tidy.specs.Settled.{key_set};
 
 use bohm_log::Keys;
-use bohm_tree::{Key, NoMemory};
+use bohm_types::{Key, NoMemory};
 
 /// Appends the keys of a declared set.
 pub fn add_keys(list: &mut Vec<Key>, keys: &Keys<'_>) -> Result<(), NoMemory>

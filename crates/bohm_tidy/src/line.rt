@@ -8,7 +8,7 @@ ghost use Rattle.bohm_tidy.specs.Line.{exact_line};
 
 use crate::bytes::place_of;
 use bohm_text::Words;
-use bohm_tree::NoMemory;
+use bohm_types::NoMemory;
 
 /// What precedes the next word.
 #[derive(Clone, Copy)]

@@ -8,7 +8,7 @@ ghost use Rattle.bohm_tidy.specs.declared.plain.Place.TheVariants as places;
 use crate::bytes::place_of;
 use crate::line::put_line;
 use bohm_text::Words;
-use bohm_tree::NoMemory;
+use bohm_types::NoMemory;
 use std::alloc::Global;
 
 /// Which line comes next.

@@ -3,7 +3,7 @@
 ghost use Rattle.std.specs.Prelude.{◌≡◌, ◌++◌, ◌∷◌, [], IfOk, OnOk, codes, if◌then◌else◌};
 ghost use Rattle.std.specs.List.{IsDistinct, flat_map};
 ghost use Rattle.std.specs.Str.{bytes_eq};
-ghost use Rattle.bohm_tree.specs.Keys.{names_of};
+ghost use Rattle.bohm_types.specs.Keys.{names_of};
 ghost use Rattle.bohm_text.specs.Print.{line_text, lines_text, txn_lines, print_doc};
 ghost use Rattle.bohm_tidy.specs.Settled.{body_reads, body_writes, first_flag, key_set};
 ghost use Rattle.bohm_tidy.specs.Settled.{other_flags, settled, settled_log, settled_txn};
@@ -13,7 +13,7 @@ use crate::key_set::{add_keys, put_set};
 use crate::store::{Unsettled, settled_store};
 use bohm_log::{Doc, LogPart, TxnView};
 use bohm_text::{put_body, put_entries};
-use bohm_tree::{Edition, Key, NoMemory, Value};
+use bohm_types::{Edition, Key, NoMemory, Value};
 use std::alloc::Global;
 
 /// The line of its reads; of what its body reads, if they are missing.

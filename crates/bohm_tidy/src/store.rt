@@ -4,11 +4,11 @@ ghost use Rattle.std.specs.Prelude.{◌≡◌, IfOk, OnOk};
 ghost use Rattle.std.specs.FinMap.{entries};
 ghost use Rattle.std.specs.List.{IsDistinct};
 ghost use Rattle.std.specs.Str.{bytes_eq};
-ghost use Rattle.bohm_tree.specs.Keys.{names_of, rising};
+ghost use Rattle.bohm_types.specs.Keys.{names_of, rising};
 ghost use Rattle.bohm_txn.specs.Stores.{store_of};
 ghost use Rattle.bohm_tidy.specs.declared.store.Unsettled.TheVariants.{NoMemory};
 
-use bohm_tree::{Key, Value};
+use bohm_types::{Key, Value};
 use std::alloc::{AllocError, AllocFailed, Global};
 
 /// Why a document has no exact text.
@@ -35,10 +35,10 @@ impl<T: Drop> From<AllocFailed<T>> for Unsettled {
     }
 }
 
-impl From<bohm_tree::NoMemory> for Unsettled {
+impl From<bohm_types::NoMemory> for Unsettled {
     ghost from_gives = { λ _ e. e ≡ NoMemory };
 
-    fn from(_e: bohm_tree::NoMemory) -> Unsettled {
+    fn from(_e: bohm_types::NoMemory) -> Unsettled {
         Unsettled::NoMemory
     }
 }

@@ -3,7 +3,7 @@
 ghost use Rattle.std.specs.Prelude.{◌≡◌, [], IfOk, OnOk};
 ghost use Rattle.std.specs.List.{IsDistinct};
 ghost use Rattle.std.specs.Str.{bytes_eq};
-ghost use Rattle.bohm_tree.specs.Keys.{names_of};
+ghost use Rattle.bohm_types.specs.Keys.{names_of};
 ghost use Rattle.bohm_text.specs.Print.{print_doc};
 ghost use Rattle.bohm_tidy.specs.Settled.{settled};
 ghost use Rattle.bohm_tidy.specs.Tidied.{IsExactDoc, IsTidied, IsTidiedByLines};
@@ -15,7 +15,7 @@ use crate::settled::print_settled;
 use crate::store::Unsettled;
 use bohm_log::{Doc, DrawnSeed};
 use bohm_text::{TextFault, parse_with_seed};
-use bohm_tree::NoMemory;
+use bohm_types::NoMemory;
 use std::alloc::Global;
 
 /// The line of the loose text from which this line of the plain one was made. Both count from 1.

@@ -4,8 +4,8 @@ ghost use Rattle.std.specs.Prelude.{◌<◌, length};
 
 use crate::runs::checked;
 use bohm_run::Settings;
-use bohm_tree::NoMemory;
 use bohm_txn::Checked;
+use bohm_types::NoMemory;
 use std::alloc::Global;
 use std::process::Abort;
 

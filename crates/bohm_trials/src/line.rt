@@ -3,13 +3,13 @@
 ghost use Rattle.std.specs.Prelude.{◌≡◌, ◌+◌, ◌<◌, ◌≤◌, [], ◌∷◌, length, All, IsSome, OnOk};
 ghost use Rattle.bohm_txn.specs.Faulty.{IsWellFormedTxn};
 ghost use Rattle.bohm_place.specs.Plans.{IsRightPlan};
-ghost use Rattle.bohm_line.specs.Cuttings.{first_at, txns_at};
+ghost use Rattle.bohm_place.specs.Cuttings.{first_at, txns_at};
 
 use crate::runs::counters;
 use bohm_log::LogPart;
 use bohm_place::{Plan, Shards, Source, plan};
 use bohm_run::{ByteSum, Line, PlanNote, PlanReceiver, PlanSender, plan_line};
-use bohm_tree::NoMemory;
+use bohm_types::NoMemory;
 use std::alloc::Global;
 use std::marker::Brand;
 use std::process::Abort;

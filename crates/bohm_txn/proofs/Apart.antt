@@ -10,7 +10,7 @@ use Rattle.std.specs.declared.cmp.Ordering.{Ordering}
 use Rattle.std.specs.declared.cmp.Ordering.TheVariants.{Less, Equal, Greater}
 use Rattle.std.proofs.lemmas.Bool.{and_parts, false_from_ne_true}
 use Rattle.std.proofs.lemmas.Option.{slice_get-get_or}
-use Rattle.bohm_tree.specs.Keys.{IsAmong, is_among, rising, rises_from}
+use Rattle.bohm_types.specs.Keys.{IsAmong, is_among, rising, rises_from}
 use Rattle.bohm_txn.proofs.Bodies.{same_key, key_itself, among_at}
 
 pub other_key : (x k : List ℕ) → bytes_eq x k ≡ false → bytes_eq k x ≡ false
@@ -56,7 +56,10 @@ not_less k e = let tied : slice_cmp nat_cmp k k ≡ Equal = tied_itself nat_list
 
 apart_from : (k : List ℕ) (ks : List (List ℕ)) → rises_from k ks ≡ true → AllApart (k ∷ ks)
 apart_from k [] e = (λ among. cc, tt)
-apart_from k (n ∷ ns) e = (λ among. not_less k (below_all k (n ∷ ns) e k among), apart_from n ns (and_parts (is_lt (slice_cmp nat_cmp k n)) (rises_from n ns) e).1)
+apart_from k (n ∷ ns) e = (
+  λ among. not_less k (below_all k (n ∷ ns) e k among),
+  apart_from n ns (and_parts (is_lt (slice_cmp nat_cmp k n)) (rises_from n ns) e).1,
+)
 
 pub rising_apart : (ks : List (List ℕ)) → rising ks ≡ true → AllApart ks
 rising_apart [] e = tt

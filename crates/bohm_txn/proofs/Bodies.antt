@@ -7,19 +7,20 @@ use Rattle.std.proofs.lemmas.List.{length-append}
 use Rattle.std.proofs.lemmas.Slice.Eq.{bytes_eq-Decides}
 use Rattle.std.proofs.lemmas.Map.Keys.{any_passes_from_place}
 use Rattle.std.proofs.lemmas.List.Sums.{sum_by-cons}
-use Rattle.bohm_tree.specs.Parts.{is_show}
-use Rattle.bohm_tree.specs.declared.cell.Cell.{Cell}
-use Rattle.bohm_tree.specs.declared.cell.Cell.TheVariants.{Absent, Present}
-use Rattle.bohm_tree.specs.Stmt.{Stmt, Bind, Need, Has, Lacks, Put, Remove, Show, Fail}
-use Rattle.bohm_tree.specs.Term.{Atom}
-use Rattle.bohm_tree.specs.declared.edition.Edition.{Edition}
-use Rattle.bohm_tree.specs.Txn.{Txn}
-use Rattle.bohm_tree.specs.Keys.{IsAmong}
+use Rattle.bohm_types.specs.Parts.{is_show}
+use Rattle.bohm_types.specs.declared.cell.Cell.{Cell}
+use Rattle.bohm_types.specs.declared.cell.Cell.TheVariants.{Absent, Present}
+use Rattle.bohm_types.specs.Stmt.{Stmt, Bind, Need, Has, Lacks, Put, Remove, Show, Fail}
+use Rattle.bohm_types.specs.Term.{Atom}
+use Rattle.bohm_types.specs.declared.edition.Edition.{Edition}
+use Rattle.bohm_types.specs.Txn.{Txn}
+use Rattle.bohm_types.specs.Keys.{IsAmong}
 use Rattle.bohm_txn.specs.declared.outcome.Reason.{Reason}
 use Rattle.bohm_txn.specs.declared.outcome.Reason.TheVariants as reasons
-use Rattle.bohm_txn.specs.Meaning.{Look, Run, Ended, fresh, newest, then_try, then_do, sum_value, cond_value, guard_value, is_present, bind, write, show, needs, seen, perform, or_stop, body_from, body}
+use Rattle.bohm_txn.specs.Meaning.{Look, Run, Ended, fresh, newest, then_try, then_do, sum_value, cond_value, guard_value}
+use Rattle.bohm_txn.specs.Meaning.{is_present, bind, write, show, needs, seen, perform, or_stop, body_from, body}
 use Rattle.bohm_txn.specs.Serial.{writes_of, after}
-use Rattle.bohm_tree.specs.Accesses.{StmtWrites}
+use Rattle.bohm_types.specs.Accesses.{StmtWrites}
 use Rattle.bohm_txn.specs.Declares.{IsUsable, shows_in}
 use Rattle.bohm_txn.specs.Tables.{Tables, all_written, cell_at, run_with, step, taken, written}
 use Rattle.bohm_txn.proofs.BodyLaw.{same_body}
@@ -67,7 +68,8 @@ unfolding OnStep
 on_try Q (Ok x) f q = q x
 on_try Q (Err e) f q = tt
 
-on_guarded : (Q : Run → Type 0) (run : Run) (r : Result ℤ Reason) (f : ℤ → Run) (holds : Bool) → Q run → ((z : ℤ) → Q (f z)) → OnStep Q (if holds then then_do r f else Ok run)
+on_guarded : (Q : Run → Type 0) (run : Run) (r : Result ℤ Reason) (f : ℤ → Run) (holds : Bool) → Q run → ((z : ℤ) → Q (f z))
+    → OnStep Q (if holds then then_do r f else Ok run)
 unfolding OnStep
 on_guarded Q run r f true q step = on_do Q r f step
 on_guarded Q run r f false q step = q
@@ -80,17 +82,21 @@ show_more run ss z e = omega (arith, length-append run.shows (z ∷ []))
 
 adds : (P : List ℕ → Type 0) (look : Look) (s : Stmt) (ss : List Stmt) (run : Run) → StmtWrites P s → OnStep (Adds P s ss run) (perform look run s)
 unfolding OnStep
-adds P look (Bind x sum) ss run p = on_do (Adds P (Bind x sum) ss run) (sum_value look run.locals sum) (bind run x) (λ z. record { only = λ all. all; shows = omega arith })
-adds P look (Need c) ss run p = on_try (Adds P (Need c) ss run) (cond_value look run.locals c) (needs run) (λ holds. on_needs (Adds P (Need c) ss run) run holds (record { only = λ all. all; shows = omega arith }))
+adds P look (Bind x sum) ss run p = on_do (Adds P (Bind x sum) ss run) (sum_value look run.locals sum) (bind run x)
+    (λ z. record { only = λ all. all; shows = omega arith })
+adds P look (Need c) ss run p = on_try (Adds P (Need c) ss run) (cond_value look run.locals c) (needs run)
+    (λ holds. on_needs (Adds P (Need c) ss run) run holds (record { only = λ all. all; shows = omega arith }))
 adds P look (Has k) ss run p = on_needs (Adds P (Has k) ss run) run (is_present (look k)) (record { only = λ all. all; shows = omega arith })
 adds P look (Lacks k) ss run p = on_lacks (Adds P (Lacks k) ss run) run (is_present (look k)) (record { only = λ all. all; shows = omega arith })
 adds P look (Put k sum guard) ss run p =
-    on_try (Adds P (Put k sum guard) ss run) (guard_value look run.locals guard) (λ holds. if holds then then_do (sum_value look run.locals sum) (λ z. write run k (Present z)) else Ok run) (λ holds.
+    on_try (Adds P (Put k sum guard) ss run) (guard_value look run.locals guard)
+    (λ holds. if holds then then_do (sum_value look run.locals sum) (λ z. write run k (Present z)) else Ok run) (λ holds.
     on_guarded (Adds P (Put k sum guard) ss run) run (sum_value look run.locals sum) (λ z. write run k (Present z)) holds
     (record { only = λ all. all; shows = omega arith })
     (λ z. record { only = λ all. only_more P run.writes k (Present z) all p; shows = omega arith }))
 adds P look (Remove k) ss run p = record { only = λ all. only_more P run.writes k Absent all p; shows = omega arith }
-adds P look (Show sum) ss run p = on_do (Adds P (Show sum) ss run) (sum_value look run.locals sum) (show run) (λ z. record { only = λ all. all; shows = show_more run ss z (count_show sum ss) })
+adds P look (Show sum) ss run p = on_do (Adds P (Show sum) ss run) (sum_value look run.locals sum) (show run)
+    (λ z. record { only = λ all. all; shows = show_more run ss z (count_show sum ss) })
 adds P look Fail ss run p = tt
 
 any_writes : (s : Stmt) → StmtWrites (λ k. Unit {0}) s
@@ -108,14 +114,17 @@ shows_written t w [] = refl
 shows_written t w (p ∷ ps) = shows_written t (written t w p.0 p.1) ps
 
 -- a statement adds the values that it shows to the tables
-pub step_shows : (t : Txn) (w next : Tables) (s : Stmt) (ss : List Stmt) → step t w s ≡ Ok next → length w.shows + shows_in (s ∷ ss) ≡ length next.shows + shows_in ss
+pub step_shows : (t : Txn) (w next : Tables) (s : Stmt) (ss : List Stmt) → step t w s ≡ Ok next
+    → length w.shows + shows_in (s ∷ ss) ≡ length next.shows + shows_in ss
 unfolding OnStep
 step_shows t w next s ss is =
-    elim (perform (cell_at t.reads w.seen) (run_with w []) s) as (λ r. OnStep (Adds (λ k. Unit {0}) s ss (run_with w [])) r → then_do r (taken t w) ≡ Ok next → length w.shows + shows_in (s ∷ ss) ≡ length next.shows + shows_in ss) [
+    elim (perform (cell_at t.reads w.seen) (run_with w []) s) as (λ r. OnStep (Adds (λ k. Unit {0}) s ss (run_with w [])) r → then_do r (taken t w) ≡ Ok next
+    → length w.shows + shows_in (s ∷ ss) ≡ length next.shows + shows_in ss) [
       | Err r ↦ λ h e. absurd cc
       | Ok run ↦ λ h e.
           (let same : taken t w run ≡ next = cc in
-          h.shows ∙ ap (λ (zs : List ℤ). length zs + shows_in ss) (sym (shows_written t (record w { locals = run.locals; shows = run.shows }) run.writes) ∙ ap (λ (n : Tables). n.shows) same))
+          h.shows ∙ ap (λ (zs : List ℤ). length zs + shows_in ss)
+          (sym (shows_written t (record w { locals = run.locals; shows = run.shows }) run.writes) ∙ ap (λ (n : Tables). n.shows) same))
     ] (adds (λ k. Unit {0}) (cell_at t.reads w.seen) s ss (run_with w []) (any_writes s)) is
 
 -- the first of some statements shows no more than all of them
@@ -131,13 +140,16 @@ on_run : (P Q : Run → Type 0) (r : Ended) → ((run : Run) → P run → Q run
 on_run P Q (Ok run) f p = f run p
 on_run P Q (Err fault) f p = tt
 
-did : (P : List ℕ → Type 0) (e : Edition) (look : Look) (run : Run) (n : ℕ) (ss : List Stmt) → AllByRecursion (StmtWrites P) ss → OnRun (Did P ss run) (body_from e look run n ss)
+did : (P : List ℕ → Type 0) (e : Edition) (look : Look) (run : Run) (n : ℕ) (ss : List Stmt) → AllByRecursion (StmtWrites P) ss
+    → OnRun (Did P ss run) (body_from e look run n ss)
 unfolding OnStep
 did P e look run n [] all = record { only = λ h. h; shows = omega arith }
 did P e look run n (s ∷ ss) all =
-    elim (perform (seen e look run) run s) as (λ r. OnStep (Adds P s ss run) r → OnRun (Did P (s ∷ ss) run) (or_stop n r (λ next. body_from e look next (n + 1) ss))) [
+    elim (perform (seen e look run) run s) as (λ r. OnStep (Adds P s ss run) r
+    → OnRun (Did P (s ∷ ss) run) (or_stop n r (λ next. body_from e look next (n + 1) ss))) [
       | Err r ↦ λ h. tt
-      | Ok next ↦ λ h. on_run (Did P ss next) (Did P (s ∷ ss) run) (body_from e look next (n + 1) ss) (λ end d. record { only = λ w. d.only (h.only w); shows = h.shows ∙ d.shows }) (did P e look next (n + 1) ss all.1)
+      | Ok next ↦ λ h. on_run (Did P ss next) (Did P (s ∷ ss) run) (body_from e look next (n + 1) ss)
+          (λ end d. record { only = λ w. d.only (h.only w); shows = h.shows ∙ d.shows }) (did P e look next (n + 1) ss all.1)
     ] (adds P (seen e look run) s ss run all.0)
 
 only_of : (P : List ℕ → Type 0) (ss : List Stmt) (r : Ended) → OnRun (Did P ss fresh) r → WritesOnly P (writes_of r)
@@ -202,8 +214,12 @@ same_after look other t k e same = λ i. newest (writes_of (e i)) k (same i)
 
 pub map_same : {A B : Type 0} (f g : A → B) (xs : List A) → ((j : ℕ) (x : A) → slice_get xs j ≡ Some x → f x ≡ g x) → map f xs ≡ map g xs
 map_same f g [] same = refl
-map_same f g (x ∷ xs) same = let first : f x ≡ g x = same 0 x refl in let rest : map f xs ≡ map g xs = map_same f g xs (λ j. same (suc j)) in λ i. first i ∷ rest i
+map_same f g (x ∷ xs) same =
+    let first : f x ≡ g x = same 0 x refl in
+    let rest : map f xs ≡ map g xs = map_same f g xs (λ j. same (suc j)) in
+    λ i. first i ∷ rest i
 
 -- keys of equal cells before have equal cells after
-pub same_cells : (look other : Look) (t : Txn) (ks : List (List ℕ)) → body look t ≡ body other t → ((k : List ℕ) → IsAmong ks k → look k ≡ other k) → map (after look t) ks ≡ map (after other t) ks
+pub same_cells : (look other : Look) (t : Txn) (ks : List (List ℕ)) → body look t ≡ body other t → ((k : List ℕ) → IsAmong ks k → look k ≡ other k)
+    → map (after look t) ks ≡ map (after other t) ks
 same_cells look other t ks e same = map_same (after look t) (after other t) ks (λ j k at. same_after look other t k e (same k (among_at ks j k at)))

@@ -1,15 +1,16 @@
 -- The first fault of a document is that of its store, or of the first faulty chunk of its transactions.
-use Rattle.std.proofs.Common.{◌≡◌, ◌⊎◌, inl, inr, ℕ, zero, suc, ◌+◌, ◌<◌, ◌≤◌, Bool, true, false, List, [], ◌∷◌, ◌++◌, length, Option, Some, None, refl, ap, sym, subst, ◌∙◌, arith, append-nil, length-append}
+use Rattle.std.proofs.Common.{◌≡◌, ◌⊎◌, inl, inr, ℕ, zero, suc, ◌+◌, ◌<◌, ◌≤◌, Bool, true, false, List, [], ◌∷◌, ◌++◌}
+use Rattle.std.proofs.Common.{length, Option, Some, None, refl, ap, sym, subst, ◌∙◌, arith, append-nil, length-append}
 use Rattle.std.specs.Prelude.{ℤ, not, nat_le, All, is_some, IfSome, if◌then◌else◌}
 use Rattle.std.specs.Option.{option_map}
 use Rattle.bohm_txn.specs.declared.fault.CheckFault.{CheckFault}
 use Rattle.bohm_txn.specs.declared.fault.CheckKind.{CheckKind}
 use Rattle.bohm_txn.specs.declared.fault.CheckKind.TheVariants.{Order, Limit}
-use Rattle.bohm_tree.specs.declared.edition.Edition.{Edition}
-use Rattle.bohm_tree.specs.declared.edition.Edition.TheVariants.{One}
-use Rattle.bohm_tree.specs.Txn.{Txn}
-use Rattle.bohm_tree.specs.Document.{Document}
-use Rattle.bohm_tree.specs.Keys.{rising, names_of}
+use Rattle.bohm_types.specs.declared.edition.Edition.{Edition}
+use Rattle.bohm_types.specs.declared.edition.Edition.TheVariants.{One}
+use Rattle.bohm_types.specs.Txn.{Txn}
+use Rattle.bohm_types.specs.Document.{Document}
+use Rattle.bohm_types.specs.Keys.{rising, names_of}
 use Rattle.bohm_txn.specs.Faulty.{whole_faulty, WellFormed, IsFirstFault, IsWellFormedTxn}
 use Rattle.bohm_txn.specs.FirstFault.{least, found_or, first_from, find_txn, first_in_txn, first_in_log, first_in_doc, fault_of}
 use Rattle.bohm_txn.specs.Chunked.{store_fault, IsCheckedTo, IsCountOf}
@@ -27,11 +28,13 @@ found_on find i (x ∷ xs) ys p e =
       | Some b ↦ λ h. h
     ] e
 
-none_on : {A B : Type 0} (find : ℕ → A → Option B) (i : ℕ) (xs ys : List A) → first_from find i xs ≡ None → first_from find i (xs ++ ys) ≡ first_from find (i + length xs) ys
+none_on : {A B : Type 0} (find : ℕ → A → Option B) (i : ℕ) (xs ys : List A) → first_from find i xs ≡ None
+    → first_from find i (xs ++ ys) ≡ first_from find (i + length xs) ys
 none_on find i [] ys e = let same : i + 0 ≡ i = omega arith in rw same refl
 none_on find i (x ∷ xs) ys e =
     let same : i + 1 + length xs ≡ i + suc (length xs) = omega arith in
-    elim (find i x) as (λ o. found_or (i + 1) o (first_from find (i + 1) xs) ≡ None → found_or (i + 1) o (first_from find (i + 1) (xs ++ ys)) ≡ first_from find (i + suc (length xs)) ys) [
+    elim (find i x) as (λ o. found_or (i + 1) o (first_from find (i + 1) xs) ≡ None
+    → found_or (i + 1) o (first_from find (i + 1) (xs ++ ys)) ≡ first_from find (i + suc (length xs)) ys) [
       | None ↦ λ h. none_on find (i + 1) xs ys h ∙ ap (λ n. first_from find n ys) same
       | Some b ↦ λ h. absurd cc
     ] e
@@ -44,8 +47,10 @@ shifted : (n i : ℕ) (ys : List Txn) → first_from find_txn (n + i) ys ≡ opt
 shifted n i [] = refl
 shifted n i (y ∷ ys) =
     let same : n + i + 1 ≡ n + (i + 1) = omega arith in
-    let rest : first_from find_txn (n + i + 1) ys ≡ option_map (later n) (first_from find_txn (i + 1) ys) = ap (λ m. first_from find_txn m ys) same ∙ shifted n (i + 1) ys in
-    elim (first_in_txn y) as (λ o. found_or (n + i + 1) o (first_from find_txn (n + i + 1) ys) ≡ option_map (later n) (found_or (i + 1) o (first_from find_txn (i + 1) ys))) [
+    let rest : first_from find_txn (n + i + 1) ys ≡ option_map (later n) (first_from find_txn (i + 1) ys) =
+    ap (λ m. first_from find_txn m ys) same ∙ shifted n (i + 1) ys in
+    elim (first_in_txn y) as (λ o. found_or (n + i + 1) o (first_from find_txn (n + i + 1) ys) ≡ option_map (later n)
+    (found_or (i + 1) o (first_from find_txn (i + 1) ys))) [
       | None ↦ rest
       | Some b ↦ ap (λ m. Some (m, b)) same
     ]
@@ -109,14 +114,16 @@ counted : (n : ℕ) (o : Option (ℕ × (ℕ × CheckKind))) → option_map faul
 counted n None = refl
 counted n (Some p) = refl
 
-kept : (xs ys : List Txn) (f : CheckFault) (o : Option (ℕ × (ℕ × CheckKind))) → first_in_log xs ≡ o → Some f ≡ option_map fault_of o → Some f ≡ option_map fault_of (first_in_log (xs ++ ys))
+kept : (xs ys : List Txn) (f : CheckFault) (o : Option (ℕ × (ℕ × CheckKind))) → first_in_log xs ≡ o → Some f ≡ option_map fault_of o
+    → Some f ≡ option_map fault_of (first_in_log (xs ++ ys))
 kept xs ys f None e same = absurd cc
 kept xs ys f (Some p) e same = same ∙ ap (option_map fault_of) (sym (log_found xs ys p e))
 
 log_kept : (xs ys : List Txn) (f : CheckFault) → IsLogCheckedTo xs (Some f) → IsLogCheckedTo (xs ++ ys) (Some f)
 log_kept xs ys f so_far few = kept xs ys f (first_in_log xs) refl (so_far (omega (arith, few, length-append xs ys)))
 
-log_more : (xs ys : List Txn) (found : Option CheckFault) → IsLogCheckedTo xs None → (length ys ≤ 1000000 → found ≡ option_map fault_of (first_in_log ys)) → IsLogCheckedTo (xs ++ ys) (option_map (counted_up (length xs)) found)
+log_more : (xs ys : List Txn) (found : Option CheckFault) → IsLogCheckedTo xs None → (length ys ≤ 1000000 → found ≡ option_map fault_of (first_in_log ys))
+    → IsLogCheckedTo (xs ++ ys) (option_map (counted_up (length xs)) found)
 log_more xs ys found so_far next few =
     let none : first_in_log xs ≡ None = none_mapped (first_in_log xs) (so_far (omega (arith, few, length-append xs ys))) in
     let here : found ≡ option_map fault_of (first_in_log ys) = next (omega (arith, few, length-append xs ys)) in
@@ -130,7 +137,8 @@ checked_kept d ys (Some f) some is =
     (λ falls few. is (omega (arith, few, length-append d.log ys)) ∙ (in_falling d falls ∙ sym (in_falling (more d ys) falls)))
 
 -- a document without a fault so far, and what was found in the chunk
-pub checked_more : (d : Document) (ys : List Txn) (found : Option CheckFault) → IsCheckedTo d None → found ≡ option_map fault_of (first_in_log ys) → IsCheckedTo (more d ys) (option_map (counted_up (length d.log)) found)
+pub checked_more : (d : Document) (ys : List Txn) (found : Option CheckFault) → IsCheckedTo d None → found ≡ option_map fault_of (first_in_log ys)
+    → IsCheckedTo (more d ys) (option_map (counted_up (length d.log)) found)
 checked_more d ys found is here =
     by_store d (IsCheckedTo (more d ys) (option_map (counted_up (length d.log)) found))
     (λ rises. to_doc (more d ys) (option_map (counted_up (length d.log)) found) rises (log_more d.log ys found (to_log d None rises is) (λ few. here)))
@@ -147,7 +155,8 @@ pub is_none : (o : Option CheckFault) → is_some o ≡ false → o ≡ None
 is_none None e = refl
 is_none (Some f) e = absurd cc
 
-pub more_none : (d : Document) (ys : List Txn) (o r : Option CheckFault) → o ≡ None → IsCheckedTo d o → r ≡ option_map fault_of (first_in_log ys) → r ≡ None → IsCheckedTo (more d ys) None
+pub more_none : (d : Document) (ys : List Txn) (o r : Option CheckFault) → o ≡ None → IsCheckedTo d o → r ≡ option_map fault_of (first_in_log ys) → r ≡ None
+    → IsCheckedTo (more d ys) None
 more_none d ys o r none so_far is e = checked_more d ys None (subst (IsCheckedTo d) none so_far) (sym e ∙ is)
 
 -- the count is that of the transactions, if there are not too many
@@ -155,12 +164,15 @@ pub exact : (n count : ℕ) → IsCountOf n count → count ≤ 1000000 → coun
 exact n count (inl e) few = e
 exact n count (inr many) few = absurd (omega (arith, many.1, few))
 
-pub more_some : (count : ℕ) (d : Document) (ys : List Txn) (o r : Option CheckFault) (f : CheckFault) → IsCountOf (length d.log) count → count ≤ 1000000 → o ≡ None → IsCheckedTo d o → r ≡ option_map fault_of (first_in_log ys) → r ≡ Some f → IsCheckedTo (more d ys) (Some (counted_up count f))
+pub more_some : (count : ℕ) (d : Document) (ys : List Txn) (o r : Option CheckFault) (f : CheckFault) → IsCountOf (length d.log) count → count ≤ 1000000
+    → o ≡ None → IsCheckedTo d o → r ≡ option_map fault_of (first_in_log ys) → r ≡ Some f → IsCheckedTo (more d ys) (Some (counted_up count f))
 more_some count d ys o r f counted few none so_far is e =
-    subst (λ (m : ℕ). IsCheckedTo (more d ys) (Some (counted_up m f))) (sym (exact (length d.log) count counted few)) (checked_more d ys (Some f) (subst (IsCheckedTo d) none so_far) (sym e ∙ is))
+    subst (λ (m : ℕ). IsCheckedTo (more d ys) (Some (counted_up m f))) (sym (exact (length d.log) count counted few))
+    (checked_more d ys (Some f) (subst (IsCheckedTo d) none so_far) (sym e ∙ is))
 
 -- nothing is promised of too many
-pub too_many : (d : Document) (ys : List Txn) (count : ℕ) (found : Option CheckFault) → IsCountOf (length d.log) count → 1000000 < count + length ys → IsCheckedTo (more d ys) found
+pub too_many : (d : Document) (ys : List Txn) (count : ℕ) (found : Option CheckFault) → IsCountOf (length d.log) count → 1000000 < count + length ys
+    → IsCheckedTo (more d ys) found
 too_many d ys count found (inl e) many few = absurd (omega (arith, e, many, few, length-append d.log ys))
 too_many d ys count found (inr both) many few = absurd (omega (arith, both.0, few, length-append d.log ys))
 
@@ -175,7 +187,8 @@ place_within {A} {B} find i (x ∷ xs) p e =
     front : (n : ℕ) (b : B) (q : ℕ × B) → Some (n, b) ≡ Some q → n ≡ q.0
     front n b q h = cc
 
-pub fault_within : (ys : List Txn) (f : CheckFault) (o : Option (ℕ × (ℕ × CheckKind))) → first_in_log ys ≡ o → Some f ≡ option_map fault_of o → f.txn ≤ length ys
+pub fault_within : (ys : List Txn) (f : CheckFault) (o : Option (ℕ × (ℕ × CheckKind))) → first_in_log ys ≡ o → Some f ≡ option_map fault_of o
+    → f.txn ≤ length ys
 fault_within ys f None e same = absurd cc
 fault_within ys f (Some p) e same =
     let is : f ≡ fault_of p = cc in
@@ -213,11 +226,13 @@ few_of n count counted few = omega (arith, exact n count counted few, few)
 pub end_none : (d : Document) (count : ℕ) (o : Option CheckFault) → IsCountOf (length d.log) count → count ≤ 1000000 → IsCheckedTo d o → o ≡ None → WellFormed d
 end_none d count o counted few checked e = well_formed d (sym (sym e ∙ checked (few_of (length d.log) count counted few)))
 
-pub end_some : (count : ℕ) (in_store o : Option CheckFault) → count ≤ 1000000 → IfSome o (λ f. (d : Document) → in_store ≡ store_fault d.store → IsCountOf (length d.log) count → IsCheckedTo d o → IsFirstFault d f)
+pub end_some : (count : ℕ) (in_store o : Option CheckFault) → count ≤ 1000000
+    → IfSome o (λ f. (d : Document) → in_store ≡ store_fault d.store → IsCountOf (length d.log) count → IsCheckedTo d o → IsFirstFault d f)
 end_some count in_store None few = tt
 end_some count in_store (Some f) few = λ d same counted checked. first_fault d f (sym (checked (few_of (length d.log) count counted few)))
 
-pub store_some : (count : ℕ) (in_store o : Option CheckFault) → IfSome in_store (λ f. (d : Document) → in_store ≡ store_fault d.store → IsCountOf (length d.log) count → IsCheckedTo d o → IsFirstFault d f)
+pub store_some : (count : ℕ) (in_store o : Option CheckFault)
+    → IfSome in_store (λ f. (d : Document) → in_store ≡ store_fault d.store → IsCountOf (length d.log) count → IsCheckedTo d o → IsFirstFault d f)
 store_some count None o = tt
 store_some count (Some f) o = λ d same counted checked.
     by_store d (IsFirstFault d f)
@@ -227,7 +242,8 @@ store_some count (Some f) o = λ d same counted checked.
     some_none : Some f ≡ None → ⊥
     some_none h = cc
 
-pub limit_fault : (count : ℕ) (d : Document) (in_store : Option CheckFault) → in_store ≡ None → in_store ≡ store_fault d.store → IsCountOf (length d.log) count → 1000000 < count → IsFirstFault d (record { txn = 0; stmt = 0; kind = Limit })
+pub limit_fault : (count : ℕ) (d : Document) (in_store : Option CheckFault) → in_store ≡ None → in_store ≡ store_fault d.store
+    → IsCountOf (length d.log) count → 1000000 < count → IsFirstFault d (record { txn = 0; stmt = 0; kind = Limit })
 limit_fault count d in_store none same counted many =
     let long : nat_le (length d.log) 1000000 ≡ false = beyond counted in
     let rises : rising (names_of d.store) ≡ true = no_store_fault d.store (sym same ∙ none) in

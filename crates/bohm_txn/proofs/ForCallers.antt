@@ -14,6 +14,7 @@ pub use Rattle.bohm_txn.proofs.Bodies.{kept, same_reads, same_after, same_cells,
 pub use Rattle.bohm_txn.proofs.SureLaws.{sure_body, sure_after}
 -- the states and replies of the serial run
 pub use Rattle.bohm_txn.proofs.States.{there, next, state-front, state-append, replies-append, length-replies}
+pub use Rattle.bohm_txn.proofs.ReplyParts.{replied}
 -- stores, their cells and their entries
 pub use Rattle.bohm_txn.proofs.Stores.{tested, cell_in-put_all, cell_in-after, same_store}
 pub use Rattle.bohm_txn.proofs.Entries.{get-store_of, store_of-insert, store_of-remove, store_of-take}

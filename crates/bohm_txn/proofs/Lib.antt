@@ -9,6 +9,7 @@ mod States
 mod Apart
 mod Places
 mod Placing
+mod Plain
 mod Checking
 mod Noting
 mod Evaluating
@@ -23,6 +24,7 @@ mod Permuted
 mod Entries
 mod Listed
 mod ReplyRows
+mod ReplyParts
 mod Appending
 mod Chunked
 pub mod ForCallers

@@ -29,30 +29,38 @@ less_by Greater r e above equal = let turned : r ≡ Less = e in absurd (let p :
 less_than : (a b : List ℕ) → is_lt (slice_cmp nat_cmp b a) ≡ false → bytes_eq a b ≡ false → slice_cmp nat_cmp a b ≡ Less
 less_than a b above other = less_by (slice_cmp nat_cmp a b) (slice_cmp nat_cmp b a) (nat_list_cmp_total.antisymm b a) above (is_eq-slice_cmp a b ∙ other)
 
-below_more : (a b : List ℕ) (es : List (List ℕ × ℤ)) → slice_cmp nat_cmp a b ≡ Less → below_all (slice_cmp nat_cmp) b es ≡ true → below_all (slice_cmp nat_cmp) a es ≡ true
+below_more : (a b : List ℕ) (es : List (List ℕ × ℤ)) → slice_cmp nat_cmp a b ≡ Less → below_all (slice_cmp nat_cmp) b es ≡ true
+    → below_all (slice_cmp nat_cmp) a es ≡ true
 below_more a b [] under h = refl
 below_more a b (e ∷ es) under h =
     let (first, rest) = and_parts (is_lt (slice_cmp nat_cmp b e.0)) (below_all (slice_cmp nat_cmp) b es) h in
     rw (nat_list_cmp_total.trans a b e.0 under (less _ first)) (below_more a b es under rest)
 
 -- keys that don't fall and differ strictly rise
-rises : (es : List (List ℕ × ℤ)) → ((k : ℕ) (d : List ℕ × ℤ) → suc k < length es → is_lt (slice_cmp nat_cmp (get_or es (suc k) d).0 (get_or es k d).0) ≡ false) → IsDistinct bytes_eq (keys_of es) → is_sorted (slice_cmp nat_cmp) es ≡ true
+rises : (es : List (List ℕ × ℤ)) → ((k : ℕ) (d : List ℕ × ℤ) → suc k < length es → is_lt
+    (slice_cmp nat_cmp (get_or es (suc k) d).0 (get_or es k d).0) ≡ false) → IsDistinct bytes_eq (keys_of es) → is_sorted (slice_cmp nat_cmp) es ≡ true
 unfolding IsDistinct
 rises [] sorted distinct = refl
 rises (e ∷ []) sorted distinct = refl
 rises (e ∷ f ∷ es) sorted distinct =
     let first : slice_cmp nat_cmp e.0 f.0 ≡ Less = less_than e.0 f.0 (sorted 0 e (omega arith)) distinct.0.0 in
     let rest : is_sorted (slice_cmp nat_cmp) (f ∷ es) ≡ true = rises (f ∷ es) (λ k d l. sorted (suc k) d (omega arith)) distinct.1 in
-    both_true (both_true (ap is_lt first) (below_more e.0 f.0 es first (and_parts (below_all (slice_cmp nat_cmp) f.0 es) (is_sorted (slice_cmp nat_cmp) es) rest).0)) rest
+    both_true (both_true (ap is_lt first) (below_more e.0 f.0 es first
+    (and_parts (below_all (slice_cmp nat_cmp) f.0 es) (is_sorted (slice_cmp nat_cmp) es) rest).0)) rest
 
 -- entries in another order are those of the same store
 pub same_moved : (es items : List (List ℕ × ℤ)) → IsPermutation es items → IsDistinct bytes_eq (keys_of es) → store_of items ≡ store_of es
-same_moved es items moved distinct = finite.same_map nat_list_cmp_total same_nat _ _ (λ q. get-store_of items q ∙ lookup_permuted es items moved distinct q ∙ sym (get-store_of es q))
+same_moved es items moved distinct = finite.same_map nat_list_cmp_total same_nat _ _
+    (λ q. get-store_of items q ∙ lookup_permuted es items moved distinct q ∙ sym (get-store_of es q))
 
 -- once sorted they are listed as the store lists them
-pub entries_listed : (es items : List (List ℕ × ℤ)) → IsPermutation es items → IsDistinct bytes_eq (keys_of es) → IsSortedByKey (λ e. e.0) (slice_cmp nat_cmp) items → items ≡ finite.entries (store_of items)
+pub entries_listed : (es items : List (List ℕ × ℤ)) → IsPermutation es items → IsDistinct bytes_eq (keys_of es)
+    → IsSortedByKey (λ e. e.0) (slice_cmp nat_cmp) items → items ≡ finite.entries (store_of items)
 entries_listed es items moved distinct sorted =
-    let rising : is_sorted (slice_cmp nat_cmp) items ≡ true = rises items (λ k d l. subst (λ (n : ℕ). is_lt (slice_cmp nat_cmp (get_or items n d).0 (get_or items k d).0) ≡ false) (add-one k) (sorted k d (omega arith) (omega arith))) (distinct_permuted es items moved distinct) in
+    let rising : is_sorted (slice_cmp nat_cmp) items ≡ true =
+    rises items (λ k d l. subst (λ (n : ℕ). is_lt (slice_cmp nat_cmp (get_or items n d).0 (get_or items k d).0) ≡ false) (add-one k)
+    (sorted k d (omega arith) (omega arith))) (distinct_permuted es items moved distinct) in
     let here : T (is_sorted (slice_cmp nat_cmp) items) = subst T (sym rising) tt in
-    let same : finite.from_sorted items ≡ store_of items = finite.same_map nat_list_cmp_total same_nat _ _ (λ q. finite.get-from_sorted (slice_cmp nat_cmp) items q here ∙ find_lookup items q ∙ sym (get-store_of items q)) in
+    let same : finite.from_sorted items ≡ store_of items = finite.same_map nat_list_cmp_total same_nat _ _
+    (λ q. finite.get-from_sorted (slice_cmp nat_cmp) items q here ∙ find_lookup items q ∙ sym (get-store_of items q)) in
     sym (finite.entries-from_sorted (slice_cmp nat_cmp) items here) ∙ ap (λ (s : Store). finite.entries s) same

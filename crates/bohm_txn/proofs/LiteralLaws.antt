@@ -4,8 +4,8 @@ use Rattle.std.specs.Prelude.{ℤ, pos, negsuc, ◌-ℤ◌, ◌&&◌, nat_lt, na
 use Rattle.std.specs.List.{list_all}
 use Rattle.std.proofs.lemmas.Bool.Decides.{nat_tests}
 use Rattle.std.proofs.lemmas.Int.{ints}
-use Rattle.bohm_tree.specs.declared.cell.Cell.TheVariants.{Absent}
-use Rattle.bohm_tree.specs.Term.{Atom, Lit, Read, Local}
+use Rattle.bohm_types.specs.declared.cell.Cell.TheVariants.{Absent}
+use Rattle.bohm_types.specs.Term.{Atom, Lit, Read, Local}
 use Rattle.bohm_txn.specs.declared.outcome.Reason.TheVariants.{Range}
 use Rattle.bohm_txn.specs.declared.sureness.Literals.{Literals}
 use Rattle.bohm_txn.specs.Literals.{none_yet, with_literal, literals_from, total_fits}
@@ -19,7 +19,8 @@ signed-total : (l : Literals) (minus : Bool) (n : ℕ) → signed (total l) minu
 signed-total l true n = omega (arith, ints)
 signed-total l false n = omega (arith, ints)
 
-found : (l r : Literals) (ts : List (Bool × Atom)) → literals_from l ts ≡ Some r → (list_all (λ t. is_lit t.1) ts ≡ true) × (total_from (λ k. Absent) [] (total l) ts ≡ Some (total r))
+found : (l r : Literals) (ts : List (Bool × Atom)) → literals_from l ts ≡ Some r
+    → (list_all (λ t. is_lit t.1) ts ≡ true) × (total_from (λ k. Absent) [] (total l) ts ≡ Some (total r))
 found l r [] e = let same : l ≡ r = cc in (refl, ap (λ x. Some (total x)) same)
 found l r ((minus, Lit n) ∷ ts) e =
     let rest = found (with_literal l minus n) r ts e in
@@ -43,7 +44,8 @@ ok-in_range z = elim (fits z) as (λ b. is_ok (if b then Ok z else Err Range) �
 pub sure_literals : (sum : List (Bool × Atom)) (l : Literals) → Some l ≡ literals_from none_yet sum → total_fits l ≡ is_sure_sum sum
 sure_literals sum l e =
     let (literal, is) = found none_yet l sum (sym e) in
-    sym (ap (λ b. b && is_ok (sum_value (λ k. Absent) [] sum)) literal ∙ ap (λ o. is_ok (in_range o)) is ∙ ok-in_range (total l) ∙ within l.added l.taken (total l) refl)
+    sym (ap (λ b. b && is_ok (sum_value (λ k. Absent) [] sum)) literal ∙ ap (λ o. is_ok (in_range o)) is ∙ ok-in_range (total l)
+    ∙ within l.added l.taken (total l) refl)
 
 pub no_literals : (sum : List (Bool × Atom)) → None ≡ literals_from none_yet sum → false ≡ is_sure_sum sum
 no_literals sum e = sym (ap (λ b. b && is_ok (sum_value (λ k. Absent) [] sum)) (others none_yet sum (sym e)))

@@ -55,14 +55,16 @@ or_yes : (b : Bool) → true ≡ (b || (true || false))
 or_yes true = refl
 or_yes false = refl
 
-one_more : (rows : List StmtRow) (row : StmtRow) (i : ℕ) (b : Bool) → binds_at i row ≡ b → list_any (binds_at i) (rows ++ row ∷ []) ≡ (list_any (binds_at i) rows || (b || false))
+one_more : (rows : List StmtRow) (row : StmtRow) (i : ℕ) (b : Bool) → binds_at i row ≡ b
+    → list_any (binds_at i) (rows ++ row ∷ []) ≡ (list_any (binds_at i) rows || (b || false))
 one_more rows row i b e = list_any-append (binds_at i) rows (row ∷ []) ∙ ap (λ (x : Bool). list_any (binds_at i) rows || (x || false)) e
 
 unbound : (noted : List Bool) (rows : List StmtRow) (row : StmtRow) (i : ℕ) → get_or noted i false ≡ list_any (binds_at i) rows → binds_at i row ≡ false
     → get_or noted i false ≡ list_any (binds_at i) (rows ++ row ∷ [])
 unbound noted rows row i h none = h ∙ or_no (list_any (binds_at i) rows) ∙ sym (one_more rows row i false none)
 
-pub note_none : (noted : List Bool) (rows : List StmtRow) (row : StmtRow) → binds_at row.name row ≡ false → AreNoted noted rows → AreNoted noted (rows ++ row ∷ [])
+pub note_none : (noted : List Bool) (rows : List StmtRow) (row : StmtRow) → binds_at row.name row ≡ false → AreNoted noted rows
+    → AreNoted noted (rows ++ row ∷ [])
 note_none noted rows row none h i few = unbound noted rows row i (h i few) (by_none row.action row.name i none)
 
 pub note_far : (noted : List Bool) (rows : List StmtRow) (row : StmtRow) → 64 ≤ row.name → AreNoted noted rows → AreNoted noted (rows ++ row ∷ [])

@@ -5,12 +5,12 @@ use Rattle.std.specs.Option.{option_map}
 use Rattle.std.specs.List.{list_any, position_from}
 use Rattle.std.specs.Str.{bytes_eq}
 use Rattle.std.proofs.lemmas.Bool.{or_parts, false_from_ne_true}
-use Rattle.bohm_tree.specs.declared.cell.Cell.{Cell}
-use Rattle.bohm_tree.specs.Term.{Atom, Lit, Read}
-use Rattle.bohm_tree.specs.Term as atoms
-use Rattle.bohm_tree.specs.Parts.{key_read}
-use Rattle.bohm_tree.specs.Keys.{place, IsPlaceOf, is_among, rising}
-use Rattle.bohm_tree.specs.Accesses.{OnSomeKey}
+use Rattle.bohm_types.specs.declared.cell.Cell.{Cell}
+use Rattle.bohm_types.specs.Term.{Atom, Lit, Read}
+use Rattle.bohm_types.specs.Term as atoms
+use Rattle.bohm_types.specs.Parts.{key_read}
+use Rattle.bohm_types.specs.Keys.{place, IsPlaceOf, is_among, rising}
+use Rattle.bohm_types.specs.Accesses.{OnSomeKey}
 use Rattle.bohm_txn.specs.Faulty.{reads_among}
 use Rattle.bohm_txn.specs.Tables.{cell_from, cell_at}
 use Rattle.bohm_txn.proofs.Apart.{AllApart, rising_apart}
@@ -38,14 +38,17 @@ only_place (x ∷ xs) k (Some zero) apart h =
     let same : x ≡ k = cc in
     place-cons x xs k ∙ rw (same, key_itself k) refl
 only_place (x ∷ xs) k (Some (suc i)) apart h =
-    let other : bytes_eq x k ≡ false = false_from_ne_true (bytes_eq x k) (λ e. apart.0 (subst (λ y. list_any (λ z. bytes_eq z y) xs ≡ true) (sym (same_key x k e)) (among_at xs i k h))) in
+    let other : bytes_eq x k ≡ false = false_from_ne_true (bytes_eq x k)
+    (λ e. apart.0 (subst (λ y. list_any (λ z. bytes_eq z y) xs ≡ true) (sym (same_key x k e)) (among_at xs i k h))) in
     place-cons x xs k ∙ rw (other, only_place xs k (Some i) apart.1 h) refl
 
-pub cell_at_place : (keys : List (List ℕ)) (cells : List Cell) (k : List ℕ) (o : Option ℕ) → rising keys ≡ true → IsPlaceOf keys k o → cell_at keys cells k ≡ cell_from cells o
+pub cell_at_place : (keys : List (List ℕ)) (cells : List Cell) (k : List ℕ) (o : Option ℕ) → rising keys ≡ true → IsPlaceOf keys k o
+    → cell_at keys cells k ≡ cell_from cells o
 cell_at_place keys cells k o up h = ap (cell_from cells) (only_place keys k o (rising_apart keys up) h)
 
 -- what a place that was found says of an atom's key
-pub read_cell : (keys : List (List ℕ)) (cells : List Cell) (a : Atom) (o : Option ℕ) (c : Cell) → rising keys ≡ true → MatchOption (key_read a) (o ≡ None) (λ k. IsPlaceOf keys k o) → c ≡ cell_from cells o → OnSomeKey (λ k. c ≡ cell_at keys cells k) (key_read a)
+pub read_cell : (keys : List (List ℕ)) (cells : List Cell) (a : Atom) (o : Option ℕ) (c : Cell) → rising keys ≡ true
+    → MatchOption (key_read a) (o ≡ None) (λ k. IsPlaceOf keys k o) → c ≡ cell_from cells o → OnSomeKey (λ k. c ≡ cell_at keys cells k) (key_read a)
 read_cell keys cells (Lit n) o c up h is = tt
 read_cell keys cells (Read k) o c up h is = is ∙ sym (cell_at_place keys cells k o up h)
 read_cell keys cells (atoms.Local x) o c up h is = tt
@@ -54,7 +57,8 @@ there : (keys : List (List ℕ)) (k : List ℕ) (o : Option ℕ) → IsPlaceOf k
 there keys k None h = sym h
 there keys k (Some i) h = sym (among_at keys i k h)
 
-pub read_among : (keys : List (List ℕ)) (a : Atom) (o : Option ℕ) (k : List ℕ) (r : Bool) → MatchOption (key_read a) (o ≡ None) (λ k. IsPlaceOf keys k o) → a ≡ Read k → r ≡ is_some o → r ≡ reads_among keys a
+pub read_among : (keys : List (List ℕ)) (a : Atom) (o : Option ℕ) (k : List ℕ) (r : Bool) → MatchOption (key_read a) (o ≡ None) (λ k. IsPlaceOf keys k o)
+    → a ≡ Read k → r ≡ is_some o → r ≡ reads_among keys a
 read_among keys (Lit n) o k r h is e = absurd cc
 read_among keys (Read x) o k r h is e = e ∙ there keys x o h
 read_among keys (atoms.Local x) o k r h is e = absurd cc

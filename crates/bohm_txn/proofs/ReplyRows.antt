@@ -26,7 +26,8 @@ still_inside : (values more : List ℤ) (row : ReplyRow) → IsInside values row
 still_inside values more (Commit start end) h = (h.0, omega (arith, h.1, length-append values more))
 still_inside values more (Abort reason stmt) h = h
 
-same_replies : (values more : List ℤ) (rows : List ReplyRow) → AllByRecursion (IsInside values) rows → map (reply_by (values ++ more)) rows ≡ map (reply_by values) rows
+same_replies : (values more : List ℤ) (rows : List ReplyRow) → AllByRecursion (IsInside values) rows
+    → map (reply_by (values ++ more)) rows ≡ map (reply_by values) rows
 same_replies values more [] h = refl
 same_replies values more (r ∷ rs) h = rw (same_reply values more r h.0, same_replies values more rs h.1) refl
 
@@ -35,20 +36,25 @@ same_replies values more (r ∷ rs) h = rw (same_reply values more r h.0, same_r
 last_shows : (values shows : List ℤ) → between (length values) (length (values ++ shows)) (values ++ shows) ≡ shows
 last_shows values shows = between_to_end (values ++ shows) (length values) (length (values ++ shows)) (omega arith) ∙ drop_at values shows (length values) refl
 
-pub commit_pushed : (rows : List ReplyRow) (values shows : List ℤ) (new_rows : List ReplyRow) (new_values : List ℤ) → Adds rows values shows new_rows new_values → All (IsInside values) rows
+pub commit_pushed : (rows : List ReplyRow) (values shows : List ℤ) (new_rows : List ReplyRow) (new_values : List ℤ)
+    → Adds rows values shows new_rows new_values → All (IsInside values) rows
     → map (reply_by new_values) new_rows ≡ map (reply_by values) rows ++ replies_are.Commit shows ∷ []
 commit_pushed rows values shows new_rows new_values a inside = rw (a.row, a.shown) (
     let all = values ++ shows in
     map-append (reply_by all) rows (Commit (length values) (length all) ∷ [])
-    ∙ ap (λ (rs : List Reply). rs ++ replies_are.Commit (between (length values) (length all) all) ∷ []) (same_replies values shows rows (recursion_from_All (IsInside values) rows inside))
+    ∙ ap (λ (rs : List Reply). rs ++ replies_are.Commit (between (length values) (length all) all) ∷ [])
+    (same_replies values shows rows (recursion_from_All (IsInside values) rows inside))
     ∙ ap (λ (zs : List ℤ). map (reply_by values) rows ++ replies_are.Commit zs ∷ []) (last_shows values shows))
 
-pub commit_inside : (rows : List ReplyRow) (values shows : List ℤ) (new_rows : List ReplyRow) (new_values : List ℤ) → Adds rows values shows new_rows new_values → All (IsInside values) rows → All (IsInside new_values) new_rows
+pub commit_inside : (rows : List ReplyRow) (values shows : List ℤ) (new_rows : List ReplyRow) (new_values : List ℤ)
+    → Adds rows values shows new_rows new_values → All (IsInside values) rows → All (IsInside new_values) new_rows
 commit_inside rows values shows new_rows new_values a inside = rw (a.row, a.shown) (
     let all = values ++ shows in
-    All-push (IsInside all) rows (Commit (length values) (length all)) (All-weaker (IsInside values) (IsInside all) (still_inside values shows) rows inside) (omega (arith, length-append values shows), omega arith))
+    All-push (IsInside all) rows (Commit (length values) (length all)) (All-weaker (IsInside values) (IsInside all) (still_inside values shows) rows inside)
+    (omega (arith, length-append values shows), omega arith))
 
 -- ---- the last ones went
 
-pub replies_taken : (values : List ℤ) (rows some : List ReplyRow) (n : ℕ) → some ≡ take n rows → map (reply_by values) some ≡ take n (map (reply_by values) rows)
+pub replies_taken : (values : List ℤ) (rows some : List ReplyRow) (n : ℕ) → some ≡ take n rows
+    → map (reply_by values) some ≡ take n (map (reply_by values) rows)
 replies_taken values rows some n e = rw e (sym (take-map (reply_by values) n rows))

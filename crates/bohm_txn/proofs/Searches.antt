@@ -1,5 +1,6 @@
 -- A search along a list finds the first place with the least fault there.
-use Rattle.std.proofs.Common.{◌≡◌, ℕ, zero, suc, ◌+◌, ◌<◌, List, [], ◌∷◌, Bool, true, false, Option, Some, None, ◌⊎◌, inl, inr, refl, sym, ◌∙◌, subst, arith, add-zero, zero-add}
+use Rattle.std.proofs.Common.{◌≡◌, ℕ, zero, suc, ◌+◌, ◌<◌, List, [], ◌∷◌, Bool, true, false, Option, Some}
+use Rattle.std.proofs.Common.{None, ◌⊎◌, inl, inr, refl, sym, ◌∙◌, subst, arith, add-zero, zero-add}
 use Rattle.bohm_txn.specs.Faulty.{passes_at}
 use Rattle.bohm_txn.specs.FirstFault.{found_or, first_from}
 
@@ -28,18 +29,21 @@ abbrev pub IsFound : {A B : Type 0} → (B → B → Type 0) → (ℕ → A → 
 IsFound {A} {B} lt Q i xs None = (j : ℕ) (b : B) → within Q i xs j b ≡ false
 IsFound lt Q i xs (Some p) = IsFirst lt Q i xs p
 
-here_before : {A B : Type 0} (lt : B → B → Type 0) (Q : ℕ → A → B → Bool) (i : ℕ) (x : A) (xs : List A) (b : B) → ((c : B) → lt c b → Q i x c ≡ false) → (k : ℕ) (c : B) → (k < 0) ⊎ ((k ≡ 0) × lt c b) → within Q i (x ∷ xs) k c ≡ false
+here_before : {A B : Type 0} (lt : B → B → Type 0) (Q : ℕ → A → B → Bool) (i : ℕ) (x : A) (xs : List A) (b : B) → ((c : B) → lt c b → Q i x c ≡ false)
+    → (k : ℕ) (c : B) → (k < 0) ⊎ ((k ≡ 0) × lt c b) → within Q i (x ∷ xs) k c ≡ false
 here_before lt Q i x xs b less zero c (inl l) = absurd (omega arith)
 here_before lt Q i x xs b less zero c (inr e) = less c e.1
 here_before lt Q i x xs b less (suc k) c (inl l) = absurd (omega arith)
 here_before lt Q i x xs b less (suc k) c (inr e) = absurd (omega (arith, e.0))
 
-there_before : {A B : Type 0} (lt : B → B → Type 0) (Q : ℕ → A → B → Bool) (i : ℕ) (x : A) (xs : List A) (p : ℕ × B) → ((c : B) → Q i x c ≡ false) → (h : IsFirst lt Q (i + 1) xs p) → (k : ℕ) (c : B) → (k < suc h.at) ⊎ ((k ≡ suc h.at) × lt c p.1) → within Q i (x ∷ xs) k c ≡ false
+there_before : {A B : Type 0} (lt : B → B → Type 0) (Q : ℕ → A → B → Bool) (i : ℕ) (x : A) (xs : List A) (p : ℕ × B) → ((c : B) → Q i x c ≡ false)
+    → (h : IsFirst lt Q (i + 1) xs p) → (k : ℕ) (c : B) → (k < suc h.at) ⊎ ((k ≡ suc h.at) × lt c p.1) → within Q i (x ∷ xs) k c ≡ false
 there_before lt Q i x xs p none h zero c o = none c
 there_before lt Q i x xs p none h (suc k) c (inl l) = h.before k c (inl (omega arith))
 there_before lt Q i x xs p none h (suc k) c (inr e) = h.before k c (inr (omega (arith, e.0), e.1))
 
-there : {A B : Type 0} (lt : B → B → Type 0) (Q : ℕ → A → B → Bool) (i : ℕ) (x : A) (xs : List A) → ((c : B) → Q i x c ≡ false) → (o : Option (ℕ × B)) → IsFound lt Q (i + 1) xs o → IsFound lt Q i (x ∷ xs) o
+there : {A B : Type 0} (lt : B → B → Type 0) (Q : ℕ → A → B → Bool) (i : ℕ) (x : A) (xs : List A) → ((c : B) → Q i x c ≡ false) → (o : Option (ℕ × B))
+    → IsFound lt Q (i + 1) xs o → IsFound lt Q i (x ∷ xs) o
 there {A} {B} lt Q i x xs none None h = none_there
   where
     none_there : (j : ℕ) (b : B) → within Q i (x ∷ xs) j b ≡ false
@@ -52,7 +56,8 @@ there lt Q i x xs none (Some p) h = record {
   before = there_before lt Q i x xs p none h;
 }
 
-pub from_law : {A B : Type 0} (lt : B → B → Type 0) (Q : ℕ → A → B → Bool) (find : ℕ → A → Option B) → ((i : ℕ) (x : A) → IsLeast lt (Q i x) (find i x)) → (i : ℕ) (xs : List A) → IsFound lt Q i xs (first_from find i xs)
+pub from_law : {A B : Type 0} (lt : B → B → Type 0) (Q : ℕ → A → B → Bool) (find : ℕ → A → Option B) → ((i : ℕ) (x : A) → IsLeast lt (Q i x) (find i x))
+    → (i : ℕ) (xs : List A) → IsFound lt Q i xs (first_from find i xs)
 from_law lt Q find each i [] = λ j b. refl
 from_law lt Q find each i (x ∷ xs) =
     elim (find i x) as (λ o. IsLeast lt (Q i x) o → IsFound lt Q i (x ∷ xs) (found_or (i + 1) o (first_from find (i + 1) xs))) [
@@ -61,7 +66,9 @@ from_law lt Q find each i (x ∷ xs) =
     ] (each i x)
 
 -- place 0 stands before the list
-pub front_law : {A B : Type 0} (lt : B → B → Type 0) (Q : ℕ → A → B → Bool) (P : ℕ → B → Bool) (xs : List A) → ((j : ℕ) (b : B) → P (suc j) b ≡ within Q 0 xs j b) → (head : Option B) → IsLeast lt (P 0) head → (o : Option (ℕ × B)) → IsFound lt Q 0 xs o → IsLeast (Sooner lt) (λ p. P p.0 p.1) (found_or 0 head o)
+pub front_law : {A B : Type 0} (lt : B → B → Type 0) (Q : ℕ → A → B → Bool) (P : ℕ → B → Bool) (xs : List A)
+    → ((j : ℕ) (b : B) → P (suc j) b ≡ within Q 0 xs j b) → (head : Option B) → IsLeast lt (P 0) head → (o : Option (ℕ × B)) → IsFound lt Q 0 xs o
+    → IsLeast (Sooner lt) (λ p. P p.0 p.1) (found_or 0 head o)
 front_law {A} {B} lt Q P xs same (Some b) h o g = (h.0, λ c l. less c.0 c.1 l)
   where
     less : (n : ℕ) (c : B) → (n < 0) ⊎ ((n ≡ 0) × lt c b) → P n c ≡ false

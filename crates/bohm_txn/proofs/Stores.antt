@@ -7,9 +7,9 @@ use Rattle.std.specs.Cmp.Lexicographic.{slice_cmp, nat_list_cmp_total}
 use Rattle.std.specs.FinMap as map
 use Rattle.std.specs.Str.{bytes_eq}
 use Rattle.std.proofs.lemmas.Map.Text.{is_eq-slice_cmp}
-use Rattle.bohm_tree.specs.declared.cell.Cell.{Cell}
-use Rattle.bohm_tree.specs.declared.cell.Cell.TheVariants.{Absent, Present}
-use Rattle.bohm_tree.specs.Txn.{Txn}
+use Rattle.bohm_types.specs.declared.cell.Cell.{Cell}
+use Rattle.bohm_types.specs.declared.cell.Cell.TheVariants.{Absent, Present}
+use Rattle.bohm_types.specs.Txn.{Txn}
 use Rattle.bohm_txn.specs.Meaning.{body, newest}
 use Rattle.bohm_txn.specs.Serial.{after, state, writes_of}
 use Rattle.bohm_txn.specs.Stores.{Store, cell_of, cell_in, put, put_all, store_after}
@@ -22,8 +22,10 @@ cell_if true o p = refl
 cell_if false o p = refl
 
 cell_in-put : (s : Store) (k : List ℕ) (c : Cell) (q : List ℕ) → cell_in (put s k c) q ≡ (if bytes_eq k q then c else cell_in s q)
-cell_in-put s k Absent q = ap cell_of (map.get-remove nat_list_cmp_total s k q) ∙ cell_if (eq_by_cmp (slice_cmp nat_cmp) q k) None (map.get s q) ∙ ap (λ b. cond b Absent (cell_in s q)) (tested q k)
-cell_in-put s k (Present z) q = ap cell_of (map.get-insert nat_list_cmp_total s k z q) ∙ cell_if (eq_by_cmp (slice_cmp nat_cmp) q k) (Some z) (map.get s q) ∙ ap (λ b. cond b (Present z) (cell_in s q)) (tested q k)
+cell_in-put s k Absent q = ap cell_of (map.get-remove nat_list_cmp_total s k q) ∙ cell_if (eq_by_cmp (slice_cmp nat_cmp) q k) None (map.get s q)
+    ∙ ap (λ b. cond b Absent (cell_in s q)) (tested q k)
+cell_in-put s k (Present z) q = ap cell_of (map.get-insert nat_list_cmp_total s k z q) ∙ cell_if (eq_by_cmp (slice_cmp nat_cmp) q k) (Some z) (map.get s q)
+    ∙ ap (λ b. cond b (Present z) (cell_in s q)) (tested q k)
 
 pub cell_in-put_all : (s : Store) (ws : List (List ℕ × Cell)) (q : List ℕ) → cell_in (put_all s ws) q ≡ newest ws q (cell_in s q)
 cell_in-put_all s [] q = refl

@@ -1,18 +1,20 @@
 -- A sure transaction commits over every store, and its cells are the same.
-use Rattle.std.proofs.Common.{◌≡◌, ℕ, zero, suc, ◌+◌, Bool, true, false, cond, List, [], ◌∷◌, ◌++◌, length, map, Some, None, Ok, Err, refl, ap, sym, ◌∙◌, subst, arith, inl, inr}
+use Rattle.std.proofs.Common.{◌≡◌, ℕ, zero, suc, ◌+◌, Bool, true, false, cond, List, [], ◌∷◌, ◌++◌, length}
+use Rattle.std.proofs.Common.{map, Some, None, Ok, Err, refl, ap, sym, ◌∙◌, subst, arith, inl, inr}
 use Rattle.std.specs.Prelude.{ℤ, pos, ◌⊎◌, ◌||◌, Result, is_ok}
 use Rattle.std.specs.List.{AllByRecursion, list_all, slice_get}
 use Rattle.std.specs.Str.{bytes_eq}
 use Rattle.std.proofs.lemmas.Bool.{and_parts}
-use Rattle.bohm_tree.specs.declared.cell.Cell.{Cell}
-use Rattle.bohm_tree.specs.declared.cell.Cell.TheVariants.{Absent, Present}
-use Rattle.bohm_tree.specs.Stmt.{Stmt, Bind, Need, Has, Lacks, Put, Remove, Show, Fail}
-use Rattle.bohm_tree.specs.Term.{Atom, Lit, Read, Local}
-use Rattle.bohm_tree.specs.declared.edition.Edition.{Edition}
-use Rattle.bohm_tree.specs.Txn.{Txn}
+use Rattle.bohm_types.specs.declared.cell.Cell.{Cell}
+use Rattle.bohm_types.specs.declared.cell.Cell.TheVariants.{Absent, Present}
+use Rattle.bohm_types.specs.Stmt.{Stmt, Bind, Need, Has, Lacks, Put, Remove, Show, Fail}
+use Rattle.bohm_types.specs.Term.{Atom, Lit, Read, Local}
+use Rattle.bohm_types.specs.declared.edition.Edition.{Edition}
+use Rattle.bohm_types.specs.Txn.{Txn}
 use Rattle.bohm_txn.specs.declared.outcome.Reason.{Reason}
-use Rattle.bohm_tree.specs.Accesses.{AtomReads, SumReads, StmtReads}
-use Rattle.bohm_txn.specs.Meaning.{Look, Locals, Run, Ended, fresh, newest, signed, total_from, in_range, sum_value, then_do, write, show, seen, perform, or_stop, body_from, body}
+use Rattle.bohm_types.specs.Accesses.{AtomReads, SumReads, StmtReads}
+use Rattle.bohm_txn.specs.Meaning.{Look, Locals, Run, Ended, fresh, newest, signed, total_from, in_range}
+use Rattle.bohm_txn.specs.Meaning.{sum_value, then_do, write, show, seen, perform, or_stop, body_from, body}
 use Rattle.bohm_txn.specs.Serial.{writes_of, after}
 use Rattle.bohm_txn.specs.Sure.{is_lit, is_sure_sum, is_sure_stmt, is_target, IsSure}
 use Rattle.bohm_txn.proofs.Bodies.{map_same}
@@ -31,7 +33,8 @@ value_of : (r : Result ℤ Reason) → is_ok r ≡ true → (z : ℤ) × (r ≡ 
 value_of (Ok z) e = (z, refl)
 value_of (Err r) e = absurd cc
 
-same_literals : (look other : Look) (locals others : Locals) (z : ℤ) (ts : List (Bool × Atom)) → AllByRecursion (λ t. is_lit t.1 ≡ true) ts → total_from look locals z ts ≡ total_from other others z ts
+same_literals : (look other : Look) (locals others : Locals) (z : ℤ) (ts : List (Bool × Atom)) → AllByRecursion (λ t. is_lit t.1 ≡ true) ts
+    → total_from look locals z ts ≡ total_from other others z ts
 same_literals look other locals others z [] all = refl
 same_literals look other locals others z ((minus, Lit n) ∷ ts) all = same_literals look other locals others (signed z minus (pos n)) ts all.1
 same_literals look other locals others z ((minus, Read k) ∷ ts) all = absurd (let no : false ≡ true = all.0 in cc)
@@ -56,7 +59,8 @@ covered_more : (ws : List (List ℕ × Cell)) (x : List ℕ) (v : Cell) (k : Lis
 covered_more ws x v k h = λ c d. newest_more ws x v k c ∙ ap (λ y. cond (bytes_eq x k) v y) (h c d) ∙ sym (newest_more ws x v k d)
 
 covered_last : (ws : List (List ℕ × Cell)) (x : List ℕ) (v : Cell) (k : List ℕ) → bytes_eq x k ≡ true → Covered (ws ++ (x, v) ∷ []) k
-covered_last ws x v k e = λ c d. newest_more ws x v k c ∙ ap (λ b. cond b v (newest ws k c)) e ∙ sym (newest_more ws x v k d ∙ ap (λ b. cond b v (newest ws k d)) e)
+covered_last ws x v k e = λ c d. newest_more ws x v k c ∙ ap (λ b. cond b v (newest ws k c)) e
+    ∙ sym (newest_more ws x v k d ∙ ap (λ b. cond b v (newest ws k d)) e)
 
 pub record Commits (ss : List Stmt) (before : Run) (r : Ended) : Type 0 where
   pub run : Run
@@ -67,7 +71,8 @@ none_more : (ws : List (List ℕ × Cell)) (k : List ℕ) → Covered ws k ⊎ (
 none_more ws k (inl h) = h
 none_more ws k (inr target) = absurd cc
 
-write_more : (ws : List (List ℕ × Cell)) (x : List ℕ) (v : Cell) (ss : List Stmt) (k : List ℕ) → Covered ws k ⊎ ((bytes_eq x k || is_target ss k) ≡ true) → Covered (ws ++ (x, v) ∷ []) k ⊎ (is_target ss k ≡ true)
+write_more : (ws : List (List ℕ × Cell)) (x : List ℕ) (v : Cell) (ss : List Stmt) (k : List ℕ) → Covered ws k ⊎ ((bytes_eq x k || is_target ss k) ≡ true)
+    → Covered (ws ++ (x, v) ∷ []) k ⊎ (is_target ss k ≡ true)
 write_more ws x v ss k (inl h) = inl (covered_more ws x v k h)
 write_more ws x v ss k (inr target) =
     elim (bytes_eq x k) as (λ b. bytes_eq x k ≡ b → (b || is_target ss k) ≡ true → Covered (ws ++ (x, v) ∷ []) k ⊎ (is_target ss k ≡ true)) [
@@ -76,7 +81,9 @@ write_more ws x v ss k (inr target) =
     ] refl target
 
 -- after one statement that goes well
-then_commits : (e : Edition) (look : Look) (run next : Run) (n : ℕ) (s : Stmt) (ss : List Stmt) → perform (seen e look run) run s ≡ Ok next → ((k : List ℕ) → Covered run.writes k ⊎ (is_target (s ∷ ss) k ≡ true) → Covered next.writes k ⊎ (is_target ss k ≡ true)) → Commits ss next (body_from e look next (n + 1) ss) → Commits (s ∷ ss) run (body_from e look run n (s ∷ ss))
+then_commits : (e : Edition) (look : Look) (run next : Run) (n : ℕ) (s : Stmt) (ss : List Stmt) → perform (seen e look run) run s ≡ Ok next
+    → ((k : List ℕ) → Covered run.writes k ⊎ (is_target (s ∷ ss) k ≡ true) → Covered next.writes k ⊎ (is_target ss k ≡ true))
+    → Commits ss next (body_from e look next (n + 1) ss) → Commits (s ∷ ss) run (body_from e look run n (s ∷ ss))
 then_commits e look run next n s ss step more r = record {
   run = r.run;
   is = ap (λ p. or_stop n p (λ next. body_from e look next (n + 1) ss)) step ∙ r.is;
@@ -86,7 +93,8 @@ then_commits e look run next n s ss step more r = record {
 no : {A : Type 0} → false ≡ true → A
 no e = absurd (let h : false ≡ true = e in cc)
 
-pub commits : (e : Edition) (look : Look) (run : Run) (n : ℕ) (ss : List Stmt) → AllByRecursion (λ s. is_sure_stmt s ≡ true) ss → Commits ss run (body_from e look run n ss)
+pub commits : (e : Edition) (look : Look) (run : Run) (n : ℕ) (ss : List Stmt) → AllByRecursion (λ s. is_sure_stmt s ≡ true) ss
+    → Commits ss run (body_from e look run n ss)
 commits e look run n [] all = record { run = run; is = refl; covers = λ k h. none_more run.writes k h }
 commits e look run n (Bind x sum ∷ ss) all = no all.0
 commits e look run n (Need c ∷ ss) all = no all.0
@@ -95,8 +103,10 @@ commits e look run n (Lacks k ∷ ss) all = no all.0
 commits e look run n (Put x sum (Some c) ∷ ss) all = no all.0
 commits e look run n (Put x sum None ∷ ss) all =
     let (z, is) = sure_sum (seen e look run) run.locals sum all.0 in
-    then_commits e look run (write run x (Present z)) n (Put x sum None) ss (ap (λ r. then_do r (λ z. write run x (Present z))) is) (write_more run.writes x (Present z) ss) (commits e look (write run x (Present z)) (n + 1) ss all.1)
-commits e look run n (Remove x ∷ ss) all = then_commits e look run (write run x Absent) n (Remove x) ss refl (write_more run.writes x Absent ss) (commits e look (write run x Absent) (n + 1) ss all.1)
+    then_commits e look run (write run x (Present z)) n (Put x sum None) ss (ap (λ r. then_do r (λ z. write run x (Present z))) is)
+    (write_more run.writes x (Present z) ss) (commits e look (write run x (Present z)) (n + 1) ss all.1)
+commits e look run n (Remove x ∷ ss) all = then_commits e look run (write run x Absent) n (Remove x) ss refl (write_more run.writes x Absent ss)
+    (commits e look (write run x Absent) (n + 1) ss all.1)
 commits e look run n (Show sum ∷ ss) all =
     let (z, is) = sure_sum (seen e look run) run.locals sum all.0 in
     then_commits e look run (show run z) n (Show sum) ss (ap (λ r. then_do r (show run)) is) (λ k h. h) (commits e look (show run z) (n + 1) ss all.1)
@@ -129,7 +139,8 @@ sure_reads P Fail h = no h
 
 -- over every store it does the same
 pub sure_body : (look other : Look) (t : Txn) → IsSure t → body look t ≡ body other t
-sure_body look other t sure = same_body (λ k. ⊥) t.edition look other (λ k none. absurd none) fresh 1 t.body (all_map (λ s. is_sure_stmt s ≡ true) (StmtReads (λ k. ⊥)) t.body (sure_reads (λ k. ⊥)) (sure_stmts t sure))
+sure_body look other t sure = same_body (λ k. ⊥) t.edition look other (λ k none. absurd none) fresh 1 t.body
+    (all_map (λ s. is_sure_stmt s ≡ true) (StmtReads (λ k. ⊥)) t.body (sure_reads (λ k. ⊥)) (sure_stmts t sure))
 
 -- and commits
 pub sure_commits : (look : Look) (t : Txn) → IsSure t → (run : Run) × (body look t ≡ Ok run)
@@ -150,9 +161,11 @@ sure_covered look t sure j k at =
 -- its declared writes have the same cells after it, whatever stood before
 pub sure_after : (look other : Look) (t : Txn) → IsSure t → map (after look t) t.writes ≡ map (after other t) t.writes
 sure_after look other t sure =
-    map_same (after look t) (after other t) t.writes (λ j k at. sure_covered look t sure j k at (look k) (other k) ∙ ap (λ (e : Ended). newest (writes_of e) k (other k)) (sure_body look other t sure))
+    map_same (after look t) (after other t) t.writes
+    (λ j k at. sure_covered look t sure j k at (look k) (other k) ∙ ap (λ (e : Ended). newest (writes_of e) k (other k)) (sure_body look other t sure))
 
-covered_cells : (look : Look) (ws : List (List ℕ × Cell)) (keys : List (List ℕ)) (before : List Cell) → length keys ≡ length before → ((j : ℕ) (k : List ℕ) → slice_get keys j ≡ Some k → Covered ws k) → map (λ k. newest ws k (look k)) keys ≡ cells_with ws keys before
+covered_cells : (look : Look) (ws : List (List ℕ × Cell)) (keys : List (List ℕ)) (before : List Cell) → length keys ≡ length before
+    → ((j : ℕ) (k : List ℕ) → slice_get keys j ≡ Some k → Covered ws k) → map (λ k. newest ws k (look k)) keys ≡ cells_with ws keys before
 covered_cells look ws [] [] long covered = refl
 covered_cells look ws [] (c ∷ cs) long covered = refl
 covered_cells look ws (k ∷ ks) [] long covered = absurd (omega arith)
@@ -162,5 +175,6 @@ covered_cells look ws (k ∷ ks) (c ∷ cs) long covered =
     λ i. first i ∷ rest i
 
 -- so whatever cells are handed for them, it leaves the same
-pub sure_cells : (look : Look) (t : Txn) (before : List Cell) → IsSure t → length t.writes ≡ length before → map (after look t) t.writes ≡ cells_with (writes_of (body look t)) t.writes before
+pub sure_cells : (look : Look) (t : Txn) (before : List Cell) → IsSure t → length t.writes ≡ length before
+    → map (after look t) t.writes ≡ cells_with (writes_of (body look t)) t.writes before
 sure_cells look t before sure long = covered_cells look (writes_of (body look t)) t.writes before long (sure_covered look t sure)

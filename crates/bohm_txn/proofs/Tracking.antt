@@ -1,22 +1,24 @@
 -- The tables of cells hold what the list of writes says.
-use Rattle.std.proofs.Common.{◌≡◌, ℕ, suc, ◌+◌, Bool, true, false, cond, List, [], ◌∷◌, ◌++◌, length, map, Option, Some, None, Ok, Err, refl, ap, sym, ◌∙◌, subst, arith}
+use Rattle.std.proofs.Common.{◌≡◌, ℕ, suc, ◌+◌, Bool, true, false, cond, List, [], ◌∷◌, ◌++◌, length}
+use Rattle.std.proofs.Common.{map, Option, Some, None, Ok, Err, refl, ap, sym, ◌∙◌, subst, arith}
 use Rattle.std.specs.Prelude.{Result, if◌then◌else◌}
 use Rattle.std.specs.List.{AllByRecursion, zip}
 use Rattle.std.specs.Option.{option_map}
 use Rattle.std.specs.Str.{bytes_eq}
 use Rattle.std.proofs.lemmas.List.{length-set}
-use Rattle.bohm_tree.specs.declared.cell.Cell.{Cell}
-use Rattle.bohm_tree.specs.declared.cell.Cell.TheVariants.{Absent, Present}
-use Rattle.bohm_tree.specs.Stmt.{Stmt, Bind, Need, Has, Lacks, Put, Remove, Show, Fail}
-use Rattle.bohm_tree.specs.declared.edition.Edition.{Edition}
-use Rattle.bohm_tree.specs.declared.edition.Edition.TheVariants.{One, Two}
-use Rattle.bohm_tree.specs.Txn.{Txn}
-use Rattle.bohm_tree.specs.Keys.{place, IsAmong}
+use Rattle.bohm_types.specs.declared.cell.Cell.{Cell}
+use Rattle.bohm_types.specs.declared.cell.Cell.TheVariants.{Absent, Present}
+use Rattle.bohm_types.specs.Stmt.{Stmt, Bind, Need, Has, Lacks, Put, Remove, Show, Fail}
+use Rattle.bohm_types.specs.declared.edition.Edition.{Edition}
+use Rattle.bohm_types.specs.declared.edition.Edition.TheVariants.{One, Two}
+use Rattle.bohm_types.specs.Txn.{Txn}
+use Rattle.bohm_types.specs.Keys.{place, IsAmong}
 use Rattle.bohm_txn.specs.declared.outcome.Reason.{Reason}
 use Rattle.bohm_txn.specs.declared.outcome.Reason.TheVariants as reasons
 use Rattle.bohm_txn.specs.declared.outcome.Outcome.TheVariants as outcomes_are
-use Rattle.bohm_tree.specs.Accesses.{StmtReads}
-use Rattle.bohm_txn.specs.Meaning.{Look, Run, Ended, newest, then_try, then_do, sum_value, cond_value, guard_value, is_present, bind, write, show, needs, seen, perform, or_stop, body_from, body}
+use Rattle.bohm_types.specs.Accesses.{StmtReads}
+use Rattle.bohm_txn.specs.Meaning.{Look, Run, Ended, newest, then_try, then_do, sum_value, cond_value, guard_value}
+use Rattle.bohm_txn.specs.Meaning.{is_present, bind, write, show, needs, seen, perform, or_stop, body_from, body}
 use Rattle.bohm_txn.specs.Serial.{writes_of, shows_of, outcome_of}
 use Rattle.bohm_txn.specs.Tables.{cell_from, cell_at, set_from, replaced, seen_after, Tables, start, written, run_with, taken, step, stop_at, tables_from}
 use Rattle.bohm_txn.proofs.Apart.{other_key, among_first, among_then, among_more, AllApart}
@@ -26,7 +28,8 @@ use Rattle.bohm_txn.proofs.BodyLaw.{same_stmt}
 
 -- ---- places, entry by entry
 
-cell_at-cons : (x : List ℕ) (xs : List (List ℕ)) (c : Cell) (cs : List Cell) (k : List ℕ) → cell_at (x ∷ xs) (c ∷ cs) k ≡ cond (bytes_eq x k) c (cell_at xs cs k)
+cell_at-cons : (x : List ℕ) (xs : List (List ℕ)) (c : Cell) (cs : List Cell) (k : List ℕ)
+    → cell_at (x ∷ xs) (c ∷ cs) k ≡ cond (bytes_eq x k) c (cell_at xs cs k)
 cell_at-cons x xs c cs k = ap (λ o. cell_from (c ∷ cs) o) (place-cons x xs k) ∙ cases (bytes_eq x k) (place xs k)
   where
     cases : (b : Bool) (o : Option ℕ) → cell_from (c ∷ cs) (cond b (Some 0) (option_map suc o)) ≡ cond b c (cell_from cs o)
@@ -34,7 +37,8 @@ cell_at-cons x xs c cs k = ap (λ o. cell_from (c ∷ cs) o) (place-cons x xs k)
     cases false None = refl
     cases false (Some i) = refl
 
-replaced-cons : (x : List ℕ) (xs : List (List ℕ)) (d : Cell) (ds : List Cell) (k : List ℕ) (c : Cell) → replaced (x ∷ xs) (d ∷ ds) k c ≡ cond (bytes_eq x k) (c ∷ ds) (d ∷ replaced xs ds k c)
+replaced-cons : (x : List ℕ) (xs : List (List ℕ)) (d : Cell) (ds : List Cell) (k : List ℕ) (c : Cell)
+    → replaced (x ∷ xs) (d ∷ ds) k c ≡ cond (bytes_eq x k) (c ∷ ds) (d ∷ replaced xs ds k c)
 replaced-cons x xs d ds k c = ap (λ o. set_from (d ∷ ds) o c) (place-cons x xs k) ∙ cases (bytes_eq x k) (place xs k)
   where
     cases : (b : Bool) (o : Option ℕ) → set_from (d ∷ ds) (cond b (Some 0) (option_map suc o)) c ≡ cond b (c ∷ ds) (d ∷ set_from ds o c)
@@ -61,17 +65,21 @@ twice true c d r = refl
 twice false c d r = refl
 
 -- the replaced cell is there, and the others stay
-cell_at-replaced : (keys : List (List ℕ)) (cells : List Cell) (k : List ℕ) (c : Cell) (q : List ℕ) → length cells ≡ length keys → IsAmong keys q → cell_at keys (replaced keys cells k c) q ≡ cond (bytes_eq k q) c (cell_at keys cells q)
+cell_at-replaced : (keys : List (List ℕ)) (cells : List Cell) (k : List ℕ) (c : Cell) (q : List ℕ) → length cells ≡ length keys → IsAmong keys q
+    → cell_at keys (replaced keys cells k c) q ≡ cond (bytes_eq k q) c (cell_at keys cells q)
 cell_at-replaced [] cells k c q long among = absurd cc
 cell_at-replaced (x ∷ xs) [] k c q long among = absurd (omega arith)
 cell_at-replaced (x ∷ xs) (d ∷ ds) k c q long among =
-    ap (λ cs. cell_at (x ∷ xs) cs q) (replaced-cons x xs d ds k c) ∙ elim (bytes_eq x k) as (λ b. bytes_eq x k ≡ b → cell_at (x ∷ xs) (cond b (c ∷ ds) (d ∷ replaced xs ds k c)) q ≡ cond (bytes_eq k q) c (cell_at (x ∷ xs) (d ∷ ds) q)) [
+    ap (λ cs. cell_at (x ∷ xs) cs q) (replaced-cons x xs d ds k c)
+    ∙ elim (bytes_eq x k) as (λ b. bytes_eq x k ≡ b
+    → cell_at (x ∷ xs) (cond b (c ∷ ds) (d ∷ replaced xs ds k c)) q ≡ cond (bytes_eq k q) c (cell_at (x ∷ xs) (d ∷ ds) q)) [
       | true ↦ λ e.
           cell_at-cons x xs c ds q ∙ twice (bytes_eq x q) c d (cell_at xs ds q) ∙ ap (λ r. cond (bytes_eq x q) c r) (sym (cell_at-cons x xs d ds q))
           ∙ ap (λ y. cond (bytes_eq y q) c (cell_at (x ∷ xs) (d ∷ ds) q)) (same_key x k e)
       | false ↦ λ e.
           cell_at-cons x xs d (replaced xs ds k c) q
-          ∙ (elim (bytes_eq x q) as (λ b. bytes_eq x q ≡ b → cond b d (cell_at xs (replaced xs ds k c) q) ≡ cond (bytes_eq k q) c (cond b d (cell_at xs ds q))) [
+          ∙ (elim (bytes_eq x q) as (λ b. bytes_eq x q ≡ b
+          → cond b d (cell_at xs (replaced xs ds k c) q) ≡ cond (bytes_eq k q) c (cond b d (cell_at xs ds q))) [
             | true ↦ λ h. ap (λ b. cond b c d) (sym (subst (λ y. bytes_eq k y ≡ false) (same_key x q h) (other_key x k e)))
             | false ↦ λ h. cell_at-replaced xs ds k c q (omega arith) (among_more x q xs h among)
           ] refl)
@@ -80,7 +88,8 @@ cell_at-replaced (x ∷ xs) (d ∷ ds) k c q long among =
 
 -- ---- one more write
 
-pub newest_more : (ws : List (List ℕ × Cell)) (x : List ℕ) (v : Cell) (k : List ℕ) (c : Cell) → newest (ws ++ (x, v) ∷ []) k c ≡ cond (bytes_eq x k) v (newest ws k c)
+pub newest_more : (ws : List (List ℕ × Cell)) (x : List ℕ) (v : Cell) (k : List ℕ) (c : Cell)
+    → newest (ws ++ (x, v) ∷ []) k c ≡ cond (bytes_eq x k) v (newest ws k c)
 newest_more [] x v k c = refl
 newest_more (w ∷ ws) x v k c = newest_more ws x v k (if bytes_eq w.0 k then w.1 else c)
 
@@ -88,7 +97,8 @@ newest_more (w ∷ ws) x v k c = newest_more ws x v k (if bytes_eq w.0 k then w.
 abbrev pub cells_with : List (List ℕ × Cell) → List (List ℕ) → List Cell → List Cell
 cells_with ws keys before = map (λ p. newest ws p.0 p.1) (zip keys before)
 
-untouched : (ws : List (List ℕ × Cell)) (k : List ℕ) (c : Cell) (keys : List (List ℕ)) (before : List Cell) → ¬ IsAmong keys k → cells_with (ws ++ (k, c) ∷ []) keys before ≡ cells_with ws keys before
+untouched : (ws : List (List ℕ × Cell)) (k : List ℕ) (c : Cell) (keys : List (List ℕ)) (before : List Cell) → ¬ IsAmong keys k
+    → cells_with (ws ++ (k, c) ∷ []) keys before ≡ cells_with ws keys before
 untouched ws k c [] before not = refl
 untouched ws k c (x ∷ xs) [] not = refl
 untouched ws k c (x ∷ xs) (e ∷ es) not =
@@ -101,11 +111,13 @@ untouched ws k c (x ∷ xs) (e ∷ es) not =
     λ i. first i ∷ rest i
 
 -- a write to a key replaces its cell
-cells-write : (ws : List (List ℕ × Cell)) (k : List ℕ) (c : Cell) (keys : List (List ℕ)) (before : List Cell) → AllApart keys → cells_with (ws ++ (k, c) ∷ []) keys before ≡ replaced keys (cells_with ws keys before) k c
+cells-write : (ws : List (List ℕ × Cell)) (k : List ℕ) (c : Cell) (keys : List (List ℕ)) (before : List Cell) → AllApart keys
+    → cells_with (ws ++ (k, c) ∷ []) keys before ≡ replaced keys (cells_with ws keys before) k c
 cells-write ws k c [] before apart = refl
 cells-write ws k c (x ∷ xs) [] apart = sym (replaced-nil (x ∷ xs) k c)
 cells-write ws k c (x ∷ xs) (e ∷ es) apart =
-    (elim (bytes_eq x k) as (λ b. bytes_eq x k ≡ b → cells_with (ws ++ (k, c) ∷ []) (x ∷ xs) (e ∷ es) ≡ cond b (c ∷ cells_with ws xs es) (newest ws x e ∷ replaced xs (cells_with ws xs es) k c)) [
+    (elim (bytes_eq x k) as (λ b. bytes_eq x k ≡ b
+    → cells_with (ws ++ (k, c) ∷ []) (x ∷ xs) (e ∷ es) ≡ cond b (c ∷ cells_with ws xs es) (newest ws x e ∷ replaced xs (cells_with ws xs es) k c)) [
       | true ↦ λ h.
           let itself : bytes_eq k x ≡ true = subst (λ y. bytes_eq y x ≡ true) (same_key x k h) (key_itself x) in
           let first : newest (ws ++ (k, c) ∷ []) x e ≡ c = newest_more ws k c x e ∙ ap (λ b. cond b c (newest ws x e)) itself in
@@ -144,16 +156,20 @@ StepAlike t look earlier (Ok run) (Err r) = ⊥
 StepAlike t look earlier (Err r) (Ok w) = ⊥
 StepAlike t look earlier (Err r) (Err q) = r ≡ q
 
-seen_long : (e : Edition) (keys : List (List ℕ)) (cells : List Cell) (k : List ℕ) (c : Cell) → length cells ≡ length keys → length (seen_after e keys cells k c) ≡ length keys
+seen_long : (e : Edition) (keys : List (List ℕ)) (cells : List Cell) (k : List ℕ) (c : Cell) → length cells ≡ length keys
+    → length (seen_after e keys cells k c) ≡ length keys
 seen_long One keys cells k c long = long
 seen_long Two keys cells k c long = length-replaced keys cells k c ∙ long
 
-seen_more : (e : Edition) (look : Look) (ws : List (List ℕ × Cell)) (keys : List (List ℕ)) (cells : List Cell) (k : List ℕ) (c : Cell) → length cells ≡ length keys → ((q : List ℕ) → IsAmong keys q → cell_at keys cells q ≡ sees e look ws q) → (q : List ℕ) → IsAmong keys q → cell_at keys (seen_after e keys cells k c) q ≡ sees e look (ws ++ (k, c) ∷ []) q
+seen_more : (e : Edition) (look : Look) (ws : List (List ℕ × Cell)) (keys : List (List ℕ)) (cells : List Cell) (k : List ℕ) (c : Cell)
+    → length cells ≡ length keys → ((q : List ℕ) → IsAmong keys q → cell_at keys cells q ≡ sees e look ws q) → (q : List ℕ) → IsAmong keys q
+    → cell_at keys (seen_after e keys cells k c) q ≡ sees e look (ws ++ (k, c) ∷ []) q
 seen_more One look ws keys cells k c long same q among = same q among
 seen_more Two look ws keys cells k c long same q among =
     cell_at-replaced keys cells k c q long among ∙ ap (λ x. cond (bytes_eq k q) c x) (same q among) ∙ sym (newest_more ws k c q (look q))
 
-tracks_more : (t : Txn) (look : Look) (earlier : List Cell) (ws : List (List ℕ × Cell)) (w : Tables) (k : List ℕ) (c : Cell) → AllApart t.writes → Tracks t look earlier ws w → Tracks t look earlier (ws ++ (k, c) ∷ []) (written t w k c)
+tracks_more : (t : Txn) (look : Look) (earlier : List Cell) (ws : List (List ℕ × Cell)) (w : Tables) (k : List ℕ) (c : Cell) → AllApart t.writes
+    → Tracks t look earlier ws w → Tracks t look earlier (ws ++ (k, c) ∷ []) (written t w k c)
 tracks_more t look earlier ws w k c apart tracks = record {
   long = seen_long t.edition t.reads w.seen k c tracks.long;
   seen_cells = seen_more t.edition look ws t.reads w.seen k c tracks.long tracks.seen_cells;
@@ -161,7 +177,8 @@ tracks_more t look earlier ws w k c apart tracks = record {
 }
 
 -- the same writes, with other locals and shows
-tracks_still : (t : Txn) (look : Look) (earlier : List Cell) (ws : List (List ℕ × Cell)) (w v : Tables) → w.seen ≡ v.seen → w.cells ≡ v.cells → Tracks t look earlier ws w → Tracks t look earlier ws v
+tracks_still : (t : Txn) (look : Look) (earlier : List Cell) (ws : List (List ℕ × Cell)) (w v : Tables) → w.seen ≡ v.seen → w.cells ≡ v.cells
+    → Tracks t look earlier ws w → Tracks t look earlier ws v
 tracks_still t look earlier ws w v seen_is cells_is tracks = record {
   long = ap length (sym seen_is) ∙ tracks.long;
   seen_cells = λ k among. ap (λ cs. cell_at t.reads cs k) (sym seen_is) ∙ tracks.seen_cells k among;
@@ -170,14 +187,17 @@ tracks_still t look earlier ws w v seen_is cells_is tracks = record {
 
 -- ---- statement by statement
 
-step_alike : (t : Txn) (look : Look) (earlier : List Cell) (ws : List (List ℕ × Cell)) (w : Tables) → AllApart t.writes → Tracks t look earlier ws w → (s : Stmt) → StepAlike t look earlier (perform (cell_at t.reads w.seen) (run_with w ws) s) (step t w s)
+step_alike : (t : Txn) (look : Look) (earlier : List Cell) (ws : List (List ℕ × Cell)) (w : Tables) → AllApart t.writes → Tracks t look earlier ws w
+    → (s : Stmt) → StepAlike t look earlier (perform (cell_at t.reads w.seen) (run_with w ws) s) (step t w s)
 step_alike t look earlier ws w apart tracks (Bind x sum) =
-    elim (sum_value (cell_at t.reads w.seen) w.locals sum) as (λ r. StepAlike t look earlier (then_do r (bind (run_with w ws) x)) (then_do (then_do r (bind (run_with w []) x)) (taken t w))) [
+    elim (sum_value (cell_at t.reads w.seen) w.locals
+    sum) as (λ r. StepAlike t look earlier (then_do r (bind (run_with w ws) x)) (then_do (then_do r (bind (run_with w []) x)) (taken t w))) [
       | Ok z ↦ record { writes = ws; is = refl; tracks = tracks_still t look earlier ws w (taken t w (bind (run_with w []) x z)) refl refl tracks }
       | Err r ↦ refl
     ]
 step_alike t look earlier ws w apart tracks (Need c) =
-    elim (cond_value (cell_at t.reads w.seen) w.locals c) as (λ r. StepAlike t look earlier (then_try r (needs (run_with w ws))) (then_do (then_try r (needs (run_with w []))) (taken t w))) [
+    elim (cond_value (cell_at t.reads w.seen) w.locals
+    c) as (λ r. StepAlike t look earlier (then_try r (needs (run_with w ws))) (then_do (then_try r (needs (run_with w []))) (taken t w))) [
       | Ok holds ↦ elim holds as (λ b. StepAlike t look earlier (needs (run_with w ws) b) (then_do (needs (run_with w []) b) (taken t w))) [
         | true ↦ record { writes = ws; is = refl; tracks = tracks }
         | false ↦ refl
@@ -190,32 +210,48 @@ step_alike t look earlier ws w apart tracks (Has k) =
       | false ↦ refl
     ]
 step_alike t look earlier ws w apart tracks (Lacks k) =
-    elim (is_present (cell_at t.reads w.seen k)) as (λ b. StepAlike t look earlier (if b then Err reasons.Need else Ok (run_with w ws)) (then_do (if b then Err reasons.Need else Ok (run_with w [])) (taken t w))) [
+    elim (is_present (cell_at t.reads w.seen k)) as (λ b. StepAlike t look earlier (if b then Err reasons.Need else Ok (run_with w ws))
+    (then_do (if b then Err reasons.Need else Ok (run_with w [])) (taken t w))) [
       | true ↦ refl
       | false ↦ record { writes = ws; is = refl; tracks = tracks }
     ]
 step_alike t look earlier ws w apart tracks (Put k sum guard) =
-    elim (guard_value (cell_at t.reads w.seen) w.locals guard) as (λ r. StepAlike t look earlier (then_try r (λ holds. if holds then then_do (sum_value (cell_at t.reads w.seen) w.locals sum) (λ z. write (run_with w ws) k (Present z)) else Ok (run_with w ws))) (then_do (then_try r (λ holds. if holds then then_do (sum_value (cell_at t.reads w.seen) w.locals sum) (λ z. write (run_with w []) k (Present z)) else Ok (run_with w []))) (taken t w))) [
+    elim (guard_value (cell_at t.reads w.seen) w.locals
+    guard) as (λ r. StepAlike t look earlier
+    (then_try r (λ holds. if holds then then_do (sum_value (cell_at t.reads w.seen) w.locals sum) (λ z. write (run_with w ws) k (Present z)) else Ok
+    (run_with w ws)))
+    (then_do (then_try r
+    (λ holds. if holds then then_do (sum_value (cell_at t.reads w.seen) w.locals sum) (λ z. write (run_with w []) k (Present z)) else Ok (run_with w [])))
+    (taken t w))) [
       | Err r ↦ refl
-      | Ok holds ↦ elim holds as (λ b. StepAlike t look earlier (if b then then_do (sum_value (cell_at t.reads w.seen) w.locals sum) (λ z. write (run_with w ws) k (Present z)) else Ok (run_with w ws)) (then_do (if b then then_do (sum_value (cell_at t.reads w.seen) w.locals sum) (λ z. write (run_with w []) k (Present z)) else Ok (run_with w [])) (taken t w))) [
-        | false ↦ record { writes = ws; is = refl; tracks = tracks }
-        | true ↦ elim (sum_value (cell_at t.reads w.seen) w.locals sum) as (λ r. StepAlike t look earlier (then_do r (λ z. write (run_with w ws) k (Present z))) (then_do (then_do r (λ z. write (run_with w []) k (Present z))) (taken t w))) [
-          | Ok z ↦ record { writes = ws ++ (k, Present z) ∷ []; is = refl; tracks = tracks_more t look earlier ws w k (Present z) apart tracks }
-          | Err r ↦ refl
-        ]
-      ]
+      | Ok holds ↦
+          elim holds as (λ b. StepAlike t look earlier
+          (if b then then_do (sum_value (cell_at t.reads w.seen) w.locals sum) (λ z. write (run_with w ws) k (Present z)) else Ok (run_with w ws))
+          (then_do (if b then then_do (sum_value (cell_at t.reads w.seen) w.locals sum) (λ z. write (run_with w []) k (Present z)) else Ok (run_with w []))
+          (taken t w))) [
+            | false ↦ record { writes = ws; is = refl; tracks = tracks }
+            | true ↦ elim (sum_value (cell_at t.reads w.seen) w.locals sum) as (λ r. StepAlike t look earlier
+                (then_do r (λ z. write (run_with w ws) k (Present z))) (then_do (then_do r (λ z. write (run_with w []) k (Present z))) (taken t w))) [
+                  | Ok z ↦ record { writes = ws ++ (k, Present z) ∷ []; is = refl; tracks = tracks_more t look earlier ws w k (Present z) apart tracks }
+                  | Err r ↦ refl
+                ]
+          ]
     ]
-step_alike t look earlier ws w apart tracks (Remove k) = record { writes = ws ++ (k, Absent) ∷ []; is = refl; tracks = tracks_more t look earlier ws w k Absent apart tracks }
+step_alike t look earlier ws w apart tracks (Remove k) =
+    record { writes = ws ++ (k, Absent) ∷ []; is = refl; tracks = tracks_more t look earlier ws w k Absent apart tracks }
 step_alike t look earlier ws w apart tracks (Show sum) =
-    elim (sum_value (cell_at t.reads w.seen) w.locals sum) as (λ r. StepAlike t look earlier (then_do r (show (run_with w ws))) (then_do (then_do r (show (run_with w []))) (taken t w))) [
+    elim (sum_value (cell_at t.reads w.seen) w.locals
+    sum) as (λ r. StepAlike t look earlier (then_do r (show (run_with w ws))) (then_do (then_do r (show (run_with w []))) (taken t w))) [
       | Ok z ↦ record { writes = ws; is = refl; tracks = tracks_still t look earlier ws w (taken t w (show (run_with w []) z)) refl refl tracks }
       | Err r ↦ refl
     ]
 step_alike t look earlier ws w apart tracks Fail = refl
 
-step_tracks : (t : Txn) (look : Look) (earlier : List Cell) (ws : List (List ℕ × Cell)) (w : Tables) → AllApart t.writes → Tracks t look earlier ws w → (s : Stmt) → StmtReads (IsAmong t.reads) s → StepAlike t look earlier (perform (seen t.edition look (run_with w ws)) (run_with w ws) s) (step t w s)
+step_tracks : (t : Txn) (look : Look) (earlier : List Cell) (ws : List (List ℕ × Cell)) (w : Tables) → AllApart t.writes → Tracks t look earlier ws w
+    → (s : Stmt) → StmtReads (IsAmong t.reads) s → StepAlike t look earlier (perform (seen t.edition look (run_with w ws)) (run_with w ws) s) (step t w s)
 step_tracks t look earlier ws w apart tracks s reads =
-    let same = same_stmt (IsAmong t.reads) (seen t.edition look (run_with w ws)) (cell_at t.reads w.seen) (λ k among. ap (λ (f : Look). f k) (seen-sees t.edition look (run_with w ws)) ∙ sym (tracks.seen_cells k among)) (run_with w ws) s reads in
+    let same = same_stmt (IsAmong t.reads) (seen t.edition look (run_with w ws)) (cell_at t.reads w.seen)
+    (λ k among. ap (λ (f : Look). f k) (seen-sees t.edition look (run_with w ws)) ∙ sym (tracks.seen_cells k among)) (run_with w ws) s reads in
     subst (λ (r : Result Run Reason). StepAlike t look earlier r (step t w s)) (sym same) (step_alike t look earlier ws w apart tracks s)
 
 -- ---- bodies
@@ -226,17 +262,22 @@ EndAlike t look earlier (Ok run) (Err f) = ⊥
 EndAlike t look earlier (Err f) (Ok w) = ⊥
 EndAlike t look earlier (Err f) (Err g) = f ≡ g
 
-go_on : (t : Txn) (look : Look) (earlier : List Cell) (n : ℕ) (f : Run → Ended) (g : Tables → Result Tables (Reason × ℕ)) → ((run : Run) (w : Tables) → Alike t look earlier run w → EndAlike t look earlier (f run) (g w)) → (r : Result Run Reason) (q : Result Tables Reason) → StepAlike t look earlier r q → EndAlike t look earlier (or_stop n r f) (stop_at n q g)
+go_on : (t : Txn) (look : Look) (earlier : List Cell) (n : ℕ) (f : Run → Ended) (g : Tables → Result Tables (Reason × ℕ))
+    → ((run : Run) (w : Tables) → Alike t look earlier run w → EndAlike t look earlier (f run) (g w)) → (r : Result Run Reason) (q : Result Tables Reason)
+    → StepAlike t look earlier r q → EndAlike t look earlier (or_stop n r f) (stop_at n q g)
 go_on t look earlier n f g rest (Ok run) (Ok w) a = rest run w a
 go_on t look earlier n f g rest (Ok run) (Err r) a = absurd a
 go_on t look earlier n f g rest (Err r) (Ok w) a = absurd a
 go_on t look earlier n f g rest (Err r) (Err q) e = ap (λ x. (x, n)) e
 
-body_tracks : (t : Txn) (look : Look) (earlier : List Cell) (ws : List (List ℕ × Cell)) (w : Tables) (n : ℕ) (ss : List Stmt) → AllApart t.writes → Tracks t look earlier ws w → AllByRecursion (StmtReads (IsAmong t.reads)) ss → EndAlike t look earlier (body_from t.edition look (run_with w ws) n ss) (tables_from t w n ss)
+body_tracks : (t : Txn) (look : Look) (earlier : List Cell) (ws : List (List ℕ × Cell)) (w : Tables) (n : ℕ) (ss : List Stmt) → AllApart t.writes
+    → Tracks t look earlier ws w → AllByRecursion (StmtReads (IsAmong t.reads)) ss
+    → EndAlike t look earlier (body_from t.edition look (run_with w ws) n ss) (tables_from t w n ss)
 body_tracks t look earlier ws w n [] apart tracks reads = record { writes = ws; is = refl; tracks = tracks }
 body_tracks t look earlier ws w n (s ∷ ss) apart tracks reads =
     go_on t look earlier n (λ next. body_from t.edition look next (n + 1) ss) (λ next. tables_from t next (n + 1) ss)
-    (λ run v a. subst (λ (x : Run). EndAlike t look earlier (body_from t.edition look x (n + 1) ss) (tables_from t v (n + 1) ss)) (sym a.is) (body_tracks t look earlier a.writes v (n + 1) ss apart a.tracks reads.1))
+    (λ run v a. subst (λ (x : Run). EndAlike t look earlier (body_from t.edition look x (n + 1) ss) (tables_from t v (n + 1) ss)) (sym a.is)
+    (body_tracks t look earlier a.writes v (n + 1) ss apart a.tracks reads.1))
     (perform (seen t.edition look (run_with w ws)) (run_with w ws) s) (step t w s) (step_tracks t look earlier ws w apart tracks s reads.0)
 
 handed : (look : Look) (keys : List (List ℕ)) (k : List ℕ) → IsAmong keys k → cell_at keys (map look keys) k ≡ look k
@@ -258,7 +299,9 @@ sees-none One look k = refl
 sees-none Two look k = refl
 
 -- the tables end as the body does
-pub ends_alike : (t : Txn) (look : Look) (reads earlier : List Cell) → AllApart t.writes → AllByRecursion (StmtReads (IsAmong t.reads)) t.body → length t.reads ≡ length reads → length t.writes ≡ length earlier → map look t.reads ≡ reads → EndAlike t look earlier (body look t) (tables_from t (start reads earlier) 1 t.body)
+pub ends_alike : (t : Txn) (look : Look) (reads earlier : List Cell) → AllApart t.writes → AllByRecursion (StmtReads (IsAmong t.reads)) t.body
+    → length t.reads ≡ length reads → length t.writes ≡ length earlier → map look t.reads ≡ reads
+    → EndAlike t look earlier (body look t) (tables_from t (start reads earlier) 1 t.body)
 ends_alike t look reads earlier apart declared long_reads long_writes same =
     body_tracks t look earlier [] (start reads earlier) 1 t.body apart (record {
       long = sym long_reads;

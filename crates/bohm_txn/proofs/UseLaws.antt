@@ -5,15 +5,15 @@ use Rattle.std.specs.List.{All, AllByRecursion, list_all, slice_get}
 use Rattle.std.proofs.lemmas.Bool.Decides.{nat_tests}
 use Rattle.bohm_txn.specs.declared.fault.CheckKind.{CheckKind}
 use Rattle.bohm_txn.specs.declared.fault.CheckKind.TheVariants.{Order, Unread, Unwritten, Local, Limit}
-use Rattle.bohm_tree.specs.Term.{Atom, Lit, Read}
-use Rattle.bohm_tree.specs.Term as atoms
-use Rattle.bohm_tree.specs.Stmt.{Stmt}
-use Rattle.bohm_tree.specs.Txn.{Txn}
-use Rattle.bohm_tree.specs.Document.{Document}
-use Rattle.bohm_tree.specs.Parts.{sums, tested, target}
-use Rattle.bohm_tree.specs.Keys.{some_passes, is_among, rising, names_of, IsAmong}
+use Rattle.bohm_types.specs.Term.{Atom, Lit, Read}
+use Rattle.bohm_types.specs.Term as atoms
+use Rattle.bohm_types.specs.Stmt.{Stmt}
+use Rattle.bohm_types.specs.Txn.{Txn}
+use Rattle.bohm_types.specs.Document.{Document}
+use Rattle.bohm_types.specs.Parts.{sums, tested, target}
+use Rattle.bohm_types.specs.Keys.{some_passes, is_among, rising, names_of, IsAmong}
 use Rattle.bohm_txn.specs.Faulty.{passes_at, txn_faulty, stmt_faulty, faulty, WellFormed, alone, IsWellFormedTxn, reads_among}
-use Rattle.bohm_tree.specs.Accesses.{OnSomeKey, AtomReads, SumReads, StmtReads, StmtWrites}
+use Rattle.bohm_types.specs.Accesses.{OnSomeKey, AtomReads, SumReads, StmtReads, StmtWrites}
 use Rattle.bohm_txn.specs.Declares.{IsUsable, AllShort, shows_in}
 
 not_false : ¬ (false ≡ true)
@@ -94,11 +94,13 @@ counts false b c d h = absurd (h refl)
 -- ---- a transaction's statements
 
 -- no statement of the list is faulty, those before it being handed
-stmts_of : (t : Txn) (P : Stmt → Type 0) (kind : CheckKind) → ((before : List Stmt) (s : Stmt) → ¬ (stmt_faulty t before s kind ≡ true) → P s) → (f : ℕ → List Stmt) (ss : List Stmt) → ((i : ℕ) → ¬ (passes_at (λ s. stmt_faulty t (f i) s kind) ss i ≡ true)) → AllByRecursion P ss
+stmts_of : (t : Txn) (P : Stmt → Type 0) (kind : CheckKind) → ((before : List Stmt) (s : Stmt) → ¬ (stmt_faulty t before s kind ≡ true) → P s)
+    → (f : ℕ → List Stmt) (ss : List Stmt) → ((i : ℕ) → ¬ (passes_at (λ s. stmt_faulty t (f i) s kind) ss i ≡ true)) → AllByRecursion P ss
 stmts_of t P kind each f [] h = tt
 stmts_of t P kind each f (s ∷ ss) h = (each (f 0) s (h 0), stmts_of t P kind each (λ i. f (suc i)) ss (λ i. h (suc i)))
 
-in_body : (t : Txn) → IsWellFormedTxn t → (P : Stmt → Type 0) (kind : CheckKind) → ((before : List Stmt) (s : Stmt) → ¬ (stmt_faulty t before s kind ≡ true) → P s) → AllByRecursion P t.body
+in_body : (t : Txn) → IsWellFormedTxn t → (P : Stmt → Type 0) (kind : CheckKind)
+    → ((before : List Stmt) (s : Stmt) → ¬ (stmt_faulty t before s kind ≡ true) → P s) → AllByRecursion P t.body
 in_body t well P kind each = stmts_of t P kind each (λ i. take i t.body) t.body (λ i. well 1 (suc i) kind)
 
 atom_reads : (keys : List (List ℕ)) (a : Atom) → reads_among keys a ≡ true → AtomReads (IsAmong keys) a
@@ -107,17 +109,22 @@ atom_reads keys (Read k) e = e
 atom_reads keys (atoms.Local x) e = tt
 
 sum_reads : (keys : List (List ℕ)) (sum : List (Bool × Atom)) → list_all (λ term. reads_among keys term.1) sum ≡ true → SumReads (IsAmong keys) sum
-sum_reads keys sum e = all_kept (λ term. reads_among keys term.1) (λ term. AtomReads (IsAmong keys) term.1) (λ term h. atom_reads keys term.1 h) sum (subst (λ b. ¬ (not b ≡ true)) (sym e) not_false)
+sum_reads keys sum e = all_kept (λ term. reads_among keys term.1) (λ term. AtomReads (IsAmong keys) term.1) (λ term h. atom_reads keys term.1 h) sum
+    (subst (λ b. ¬ (not b ≡ true)) (sym e) not_false)
 
 on_key : (keys : List (List ℕ)) (o : Option (List ℕ)) → ¬ (some_passes (λ k. not (is_among keys k)) o ≡ true) → OnSomeKey (IsAmong keys) o
 on_key keys None h = tt
 on_key keys (Some k) h = kept (is_among keys k) h
 
-stmt_reads : (keys : List (List ℕ)) (s : Stmt) → ¬ ((not (list_all (list_all (λ term. reads_among keys term.1)) (sums s)) || some_passes (λ k. not (is_among keys k)) (tested s)) ≡ true) → StmtReads (IsAmong keys) s
+stmt_reads : (keys : List (List ℕ)) (s : Stmt)
+    → ¬ ((not (list_all (list_all (λ term. reads_among keys term.1)) (sums s)) || some_passes (λ k. not (is_among keys k)) (tested s)) ≡ true)
+    → StmtReads (IsAmong keys) s
 stmt_reads keys s h =
     let unsummed : Bool = not (list_all (list_all (λ term. reads_among keys term.1)) (sums s)) in
-    let untested : Bool = some_passes (λ k. not (is_among keys k)) (tested s) in
-    (all_kept (list_all (λ term. reads_among keys term.1)) (SumReads (IsAmong keys)) (sum_reads keys) (sums s) (not_left unsummed untested h), on_key keys (tested s) (not_right unsummed untested h))
+    let untested : Bool = some_passes (λ k. not (is_among keys k)) (tested s) in (
+      all_kept (list_all (λ term. reads_among keys term.1)) (SumReads (IsAmong keys)) (sum_reads keys) (sums s) (not_left unsummed untested h),
+      on_key keys (tested s) (not_right unsummed untested h),
+    )
 
 pub usable : (t : Txn) → IsWellFormedTxn t → IsUsable t
 usable t well =
@@ -127,7 +134,8 @@ usable t well =
       few_reads = le_from (length t.reads) 16 few.1;
       few_writes = le_from (length t.writes) 16 few.2;
       few_shows = le_from (shows_in t.body) 16 few.3;
-      short = in_body t well AllShort Limit (λ before s h. all_kept (λ sum. nat_le (length sum) 16) (λ sum. length sum ≤ 16) (λ sum e. le_from (length sum) 16 e) (sums s) h);
+      short = in_body t well AllShort Limit
+          (λ before s h. all_kept (λ sum. nat_le (length sum) 16) (λ sum. length sum ≤ 16) (λ sum e. le_from (length sum) 16 e) (sums s) h);
       reads = in_body t well (StmtReads (IsAmong t.reads)) Unread (λ before s h. stmt_reads t.reads s h);
       writes = in_body t well (StmtWrites (IsAmong t.writes)) Unwritten (λ before s h. on_key t.writes (target s) h);
     }

@@ -1,17 +1,18 @@
--- What is faulty in a document, and where. Transaction 0 is the document as a whole, and statement 0 a transaction's sets and counts.
+-- The faults of a document, and their places. Transaction 0 is the document as a whole, and statement 0 a transaction's sets and counts.
 use Rattle.std.specs.Prelude.{◌≡◌, ℕ, zero, suc, ◌<◌, List, [], ◌∷◌, length, take, count_by, Bool, true, false, ◌||◌, not, nat_le, ◌⊎◌}
 use Rattle.std.specs.List.{list_all, list_any}
 use Rattle.std.specs.Str.{bytes_eq}
 use Rattle.bohm_txn.specs.declared.fault.CheckFault.{CheckFault}
 use Rattle.bohm_txn.specs.declared.fault.CheckKind.{CheckKind}
 use Rattle.bohm_txn.specs.declared.fault.CheckKind.TheVariants.{Order, Unread, Unwritten, Local, Limit}
-use Rattle.bohm_tree.specs.Keys.{rising, names_of, is_among, some_passes}
-use Rattle.bohm_tree.specs.Term.{Atom, Lit, Read}
-use Rattle.bohm_tree.specs.Term as atoms
-use Rattle.bohm_tree.specs.Stmt.{Stmt}
-use Rattle.bohm_tree.specs.Txn.{Txn}
-use Rattle.bohm_tree.specs.Document.{Document}
-use Rattle.bohm_tree.specs.Parts.{sums, tested, target, bound, is_show}
+use Rattle.bohm_types.specs.Keys.{rising, names_of, is_among, some_passes}
+use Rattle.bohm_types.specs.Term.{Atom, Lit, Read}
+use Rattle.bohm_types.specs.Term as atoms
+use Rattle.bohm_types.specs.Stmt.{Stmt}
+use Rattle.bohm_types.specs.Txn.{Txn}
+use Rattle.bohm_types.specs.Document.{Document}
+use Rattle.bohm_types.specs.Parts.{sums, tested, target, bound, is_show}
+use Rattle.bohm_types.specs.Limits.{most_keys, most_stmts, most_terms, most_txns}
 
 -- ---- names and terms
 
@@ -33,21 +34,22 @@ locals_bound before (Lit n) = true
 locals_bound before (Read k) = true
 locals_bound before (atoms.Local x) = is_bound before x
 
--- ---- the kinds of faults, of a document, of a transaction's sets and counts, and of a statement behind others
+-- ---- the kinds of faults: of a document, of a transaction's sets and counts, and of a statement after others
 
 abbrev pub whole_faulty : Document → CheckKind → Bool
 whole_faulty d Order = not (rising (names_of d.store))
 whole_faulty d Unread = false
 whole_faulty d Unwritten = false
 whole_faulty d Local = false
-whole_faulty d Limit = not (nat_le (length d.log) 1000000)
+whole_faulty d Limit = not (nat_le (length d.log) most_txns)
 
 abbrev pub sets_faulty : Txn → CheckKind → Bool
 sets_faulty t Order = not (rising t.reads) || not (rising t.writes)
 sets_faulty t Unread = false
 sets_faulty t Unwritten = false
 sets_faulty t Local = false
-sets_faulty t Limit = not (nat_le (length t.body) 64) || not (nat_le (length t.reads) 16) || not (nat_le (length t.writes) 16) || not (nat_le (count_by is_show t.body) 16)
+sets_faulty t Limit = not (nat_le (length t.body) most_stmts) || not (nat_le (length t.reads) most_keys) || not (nat_le (length t.writes) most_keys) || not
+    (nat_le (count_by is_show t.body) 16)
 
 -- a key that it reads is undeclared
 abbrev pub is_unread : List (List ℕ) → Stmt → Bool
@@ -62,7 +64,7 @@ abbrev pub is_misnamed : List Stmt → Stmt → Bool
 is_misnamed before s = not (list_all (list_all (λ term. locals_bound before term.1)) (sums s)) || some_passes (is_bound before) (bound s)
 
 abbrev pub is_long : Stmt → Bool
-is_long s = not (list_all (λ sum. nat_le (length sum) 16) (sums s))
+is_long s = not (list_all (λ sum. nat_le (length sum) most_terms) (sums s))
 
 abbrev pub stmt_faulty : Txn → List Stmt → Stmt → CheckKind → Bool
 stmt_faulty t before s Order = false
@@ -73,7 +75,7 @@ stmt_faulty t before s Limit = is_long s
 
 -- ---- the places
 
--- there is an element at this place, and it passes
+-- there is an element at this index, and it passes
 abbrev pub passes_at : {A : Type 0} → (A → Bool) → List A → ℕ → Bool
 passes_at p [] i = false
 passes_at p (x ∷ xs) zero = p x
@@ -108,7 +110,7 @@ pub record IsFirstFault (d : Document) (f : CheckFault) : Type 0 where
   pub no_earlier : (t s : ℕ) (kind : CheckKind) → (t < f.txn) ⊎ ((t ≡ f.txn) × (s < f.stmt)) → ¬ Faulty d t s kind
   pub no_lesser : (kind : CheckKind) → rank kind < rank f.kind → ¬ Faulty d f.txn f.stmt kind
 
--- the document of this transaction alone, over the empty store
+-- the document of only this transaction, over the empty store
 abbrev pub alone : Txn → Document
 alone t = record { edition = t.edition; store = []; log = t ∷ [] }
 

@@ -4,21 +4,22 @@ use Rattle.std.specs.Option.{option_map}
 use Rattle.bohm_txn.specs.declared.fault.CheckFault.{CheckFault}
 use Rattle.bohm_txn.specs.declared.fault.CheckKind.{CheckKind}
 use Rattle.bohm_txn.specs.declared.fault.CheckKind.TheVariants.{Order, Unread, Unwritten, Local, Limit}
-use Rattle.bohm_tree.specs.Stmt.{Stmt}
-use Rattle.bohm_tree.specs.Txn.{Txn}
-use Rattle.bohm_tree.specs.Document.{Document}
+use Rattle.bohm_types.specs.Stmt.{Stmt}
+use Rattle.bohm_types.specs.Txn.{Txn}
+use Rattle.bohm_types.specs.Document.{Document}
 use Rattle.bohm_txn.specs.Faulty.{whole_faulty, sets_faulty, stmt_faulty}
 
 -- the least kind that passes
 abbrev pub least : (CheckKind → Bool) → Option CheckKind
-least p = if p Order then Some Order else (if p Unread then Some Unread else (if p Unwritten then Some Unwritten else (if p Local then Some Local else (if p Limit then Some Limit else None))))
+least p = if p Order then Some Order else (if p Unread then Some Unread
+    else (if p Unwritten then Some Unwritten else (if p Local then Some Local else (if p Limit then Some Limit else None))))
 
--- what is found at place n, or else later
+-- what is found at index n, or else later
 abbrev pub found_or : {B : Type 0} → ℕ → Option B → Option (ℕ × B) → Option (ℕ × B)
 found_or n (Some b) later = Some (n, b)
 found_or n None later = later
 
--- the first place, counted from i + 1, at which the search finds something
+-- the first index, counted from i + 1, at which the search finds something
 abbrev pub first_from : {A B : Type 0} → (ℕ → A → Option B) → ℕ → List A → Option (ℕ × B)
 first_from find i [] = None
 first_from find i (x ∷ xs) = found_or (i + 1) (find i x) (first_from find (i + 1) xs)

@@ -1,6 +1,6 @@
--- Sums of literals: what is added, and what is taken away.
+-- Sums of literals: what is added, and what is subtracted.
 use Rattle.std.specs.Prelude.{ℕ, ◌+◌, ◌^◌, List, [], ◌∷◌, Bool, true, false, ◌&&◌, nat_lt, nat_le, Option, Some, None}
-use Rattle.bohm_tree.specs.Term.{Atom, Lit, Read, Local}
+use Rattle.bohm_types.specs.Term.{Atom, Lit, Read, Local}
 use Rattle.bohm_txn.specs.declared.sureness.Literals.{Literals}
 
 abbrev pub none_yet : Literals
@@ -19,7 +19,7 @@ abbrev pub and_then : Option Literals → (Literals → Option Literals) → Opt
 and_then None f = None
 and_then (Some l) f = f l
 
--- the literals after those so far, where there is nothing else
+-- the literals, after those so far, if there is nothing else
 abbrev pub literals_from : Literals → List (Bool × Atom) → Option Literals
 literals_from l [] = Some l
 literals_from l (t ∷ ts) = and_then (with_atom l t.0 t.1) (λ next. literals_from next ts)

@@ -1,17 +1,18 @@
 -- What a body does, statement by statement, over what each key holds.
-use Rattle.std.specs.Prelude.{ℕ, ℤ, pos, negsuc, ◌+◌, ◌^◌, ◌+ℤ◌, ◌-ℤ◌, List, [], ◌∷◌, ◌++◌, Bool, true, false, nat_lt, Option, Some, None, Result, Ok, Err, if◌then◌else◌}
+use Rattle.std.specs.Prelude.{ℕ, ℤ, pos, negsuc, ◌+◌, ◌^◌, ◌+ℤ◌, ◌-ℤ◌, List, [], ◌∷◌, ◌++◌, Bool}
+use Rattle.std.specs.Prelude.{true, false, nat_lt, Option, Some, None, Result, Ok, Err, if◌then◌else◌}
 use Rattle.std.specs.Ordering.{int_cmp, is_lt, is_le, is_eq, is_ge, is_gt}
 use Rattle.std.specs.declared.cmp.Ordering.{Ordering}
 use Rattle.std.specs.Str.{bytes_eq}
-use Rattle.bohm_tree.specs.declared.cell.Cell.{Cell}
-use Rattle.bohm_tree.specs.declared.cell.Cell.TheVariants.{Absent, Present}
-use Rattle.bohm_tree.specs.declared.cmp.Cmp.{Cmp}
-use Rattle.bohm_tree.specs.declared.cmp.Cmp.TheVariants.{Lt, Le, Eq, Ge, Gt}
-use Rattle.bohm_tree.specs.Stmt.{Cond, Stmt, Bind, Need, Has, Lacks, Put, Remove, Show, Fail}
-use Rattle.bohm_tree.specs.Term.{Atom, Lit, Read, Local}
-use Rattle.bohm_tree.specs.declared.edition.Edition.{Edition}
-use Rattle.bohm_tree.specs.declared.edition.Edition.TheVariants.{One, Two}
-use Rattle.bohm_tree.specs.Txn.{Txn}
+use Rattle.bohm_types.specs.declared.cell.Cell.{Cell}
+use Rattle.bohm_types.specs.declared.cell.Cell.TheVariants.{Absent, Present}
+use Rattle.bohm_types.specs.declared.cmp.Cmp.{Cmp}
+use Rattle.bohm_types.specs.declared.cmp.Cmp.TheVariants.{Lt, Le, Eq, Ge, Gt}
+use Rattle.bohm_types.specs.Stmt.{Cond, Stmt, Bind, Need, Has, Lacks, Put, Remove, Show, Fail}
+use Rattle.bohm_types.specs.Term.{Atom, Lit, Read, Local}
+use Rattle.bohm_types.specs.declared.edition.Edition.{Edition}
+use Rattle.bohm_types.specs.declared.edition.Edition.TheVariants.{One, Two}
+use Rattle.bohm_types.specs.Txn.{Txn}
 use Rattle.bohm_txn.specs.declared.outcome.Reason.{Reason}
 use Rattle.bohm_txn.specs.declared.outcome.Reason.TheVariants as reasons
 
@@ -19,7 +20,7 @@ use Rattle.bohm_txn.specs.declared.outcome.Reason.TheVariants as reasons
 abbrev pub Look : Type 0
 Look = List ℕ → Cell
 
--- the last entry of a key, or what stood before
+-- a key's last entry, or else what it had before
 abbrev pub newest : {A : Type 0} → List (List ℕ × A) → List ℕ → A → A
 newest [] k before = before
 newest (e ∷ es) k before = newest es k (if bytes_eq e.0 k then e.1 else before)
@@ -46,7 +47,7 @@ abbrev pub ◌>>=◌ : {A B : Type 0} → Option A → (A → Option B) → Opti
 (Some x) >>= f = f x
 None >>= f = None
 
--- the exact total after a total so far, where no key is missing
+-- the exact total, from a total so far, if no key is missing
 abbrev pub total_from : Look → Locals → ℤ → List (Bool × Atom) → Option ℤ
 total_from look locals total [] = Some total
 total_from look locals total (t ∷ ts) = atom_value look locals t.1 >>= λ z. total_from look locals (signed total t.0 z) ts
@@ -79,7 +80,7 @@ compares Eq o = is_eq o
 compares Ge o = is_ge o
 compares Gt o = is_gt o
 
--- whether the comparison holds: the left sum comes first
+-- whether the comparison holds; the left sum is evaluated first
 abbrev pub cond_value : Look → Locals → Cond → Result Bool Reason
 cond_value look locals c = then_try (sum_value look locals c.left) (λ a. then_do (sum_value look locals c.right) (λ b. compares c.cmp (int_cmp a b)))
 
@@ -94,7 +95,7 @@ is_present (Present z) = true
 
 -- ---- statements
 
--- what the statements so far did
+-- the effects of the statements so far
 pub record Run : Type 0 where
   pub locals : Locals
   pub writes : List (List ℕ × Cell)
@@ -103,7 +104,7 @@ pub record Run : Type 0 where
 abbrev pub fresh : Run
 fresh = record { locals = []; writes = []; shows = [] }
 
--- what a statement sees: its own writes too, in edition two
+-- what a statement sees: in edition 2 also the writes of earlier statements
 abbrev pub seen : Edition → Look → Run → Look
 seen One look run = look
 seen Two look run = λ k. newest run.writes k (look k)
@@ -117,7 +118,7 @@ write run k c = record run { writes = run.writes ++ (k, c) ∷ [] }
 abbrev pub show : Run → ℤ → Run
 show run z = record run { shows = run.shows ++ z ∷ [] }
 
--- goes on where it holds
+-- continues if it holds
 abbrev pub needs : Run → Bool → Result Run Reason
 needs run holds = if holds then Ok run else Err reasons.Need
 
@@ -127,7 +128,8 @@ perform look run (Bind x sum) = then_do (sum_value look run.locals sum) (bind ru
 perform look run (Need c) = then_try (cond_value look run.locals c) (needs run)
 perform look run (Has k) = needs run (is_present (look k))
 perform look run (Lacks k) = if is_present (look k) then Err reasons.Need else Ok run
-perform look run (Put k sum guard) = then_try (guard_value look run.locals guard) (λ holds. if holds then then_do (sum_value look run.locals sum) (λ z. write run k (Present z)) else Ok run)
+perform look run (Put k sum guard) = then_try (guard_value look run.locals guard)
+    (λ holds. if holds then then_do (sum_value look run.locals sum) (λ z. write run k (Present z)) else Ok run)
 perform look run (Remove k) = Ok (write run k Absent)
 perform look run (Show sum) = then_do (sum_value look run.locals sum) (show run)
 perform look run Fail = Err reasons.Fail
@@ -138,7 +140,7 @@ abbrev pub or_stop : ℕ → Result Run Reason → (Run → Result Run (Reason �
 or_stop n (Err r) f = Err (r, n)
 or_stop n (Ok next) f = f next
 
--- the statements from number n on; or why, and at which number, the first one failed
+-- the effects of statements, the first of which has number n; or why, and at which number, the first one failed
 abbrev pub body_from : Edition → Look → Run → ℕ → List Stmt → Result Run (Reason × ℕ)
 body_from e look run n [] = Ok run
 body_from e look run n (s ∷ ss) = or_stop n (perform (seen e look run) run s) (λ next. body_from e look next (n + 1) ss)

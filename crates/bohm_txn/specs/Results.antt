@@ -1,7 +1,8 @@
--- What a scratch shows of the transaction that was evaluated last.
+-- What a scratch holds of a transaction: the cells over which it is evaluated, and then its results.
 use Rattle.std.specs.Prelude.{ℤ, List}
-use Rattle.bohm_tree.specs.declared.cell.Cell.{Cell}
+use Rattle.bohm_types.specs.declared.cell.Cell.{Cell}
 
 pub record Results : Type 0 where
+  pub seen : List Cell
   pub cells : List Cell
   pub shows : List ℤ

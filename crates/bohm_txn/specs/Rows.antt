@@ -1,5 +1,5 @@
--- What a statement's row does, and which of the transaction's terms it has.
-use Rattle.std.specs.Prelude.{◌≡◌, ℕ, ◌<◌, List, Bool, true, false, ◌==◌, get_or}
+-- The effect of a statement's row, and which of the transaction's terms it has.
+use Rattle.std.specs.Prelude.{◌≡◌, ℕ, ◌<◌, ◌-◌, ◌&&◌, List, Bool, true, false, ◌==◌, get_or, nat_le}
 use Rattle.std.specs.List.{list_any}
 use Rattle.bohm_log.specs.declared.row.Action.{Action}
 use Rattle.bohm_log.specs.declared.row.Action.TheVariants.{Bind, Need, Has, Lacks, Put, PutWhen, Remove, Show, Fail}
@@ -22,13 +22,40 @@ end_by Fail start first second third = start
 abbrev pub end_of : StmtRow → ℕ
 end_of r = end_by r.action r.start r.first r.second r.third
 
--- a term of this kind reads no key that isn't declared
+-- a term of this kind reads no undeclared key
 abbrev pub is_declared : AtomKind → Bool
 is_declared Small = true
 is_declared Large = true
 is_declared Read = true
 is_declared Unread = false
 is_declared Local = true
+
+-- a term of this kind is a literal or a declared read
+abbrev pub needs_no_name : AtomKind → Bool
+needs_no_name Small = true
+needs_no_name Large = true
+needs_no_name Read = true
+needs_no_name Unread = false
+needs_no_name Local = false
+
+-- it binds no local, and its key is declared, if it has one
+abbrev pub is_placed : Action → Bool → Bool
+is_placed Bind declared = false
+is_placed (Need cmp) declared = true
+is_placed Has declared = declared
+is_placed Lacks declared = declared
+is_placed Put declared = declared
+is_placed (PutWhen cmp) declared = declared
+is_placed Remove declared = declared
+is_placed Show declared = true
+is_placed Fail declared = true
+
+-- each of its three sums has few terms
+abbrev pub has_short_sums : StmtRow → Bool
+has_short_sums r = nat_le (r.first - r.start) 16 && (nat_le (r.second - r.first) 16 && nat_le (r.third - r.second) 16)
+
+abbrev pub is_plain_row : StmtRow → Bool
+is_plain_row r = is_placed r.action r.declared && has_short_sums r
 
 -- it tests whether a key is there
 abbrev pub tests_key : Action → Bool
@@ -65,7 +92,7 @@ binds_by Remove name i = false
 binds_by Show name i = false
 binds_by Fail name i = false
 
--- it binds the name at this place
+-- it binds the name at this index
 abbrev pub binds_at : ℕ → StmtRow → Bool
 binds_at i r = binds_by r.action r.name i
 

@@ -1,14 +1,14 @@
 -- Transactions one after another, in log order, over what each key holds.
 use Rattle.std.specs.Prelude.{ℕ, zero, suc, ℤ, List, [], ◌∷◌, Ok, Err}
-use Rattle.bohm_tree.specs.declared.cell.Cell.{Cell}
-use Rattle.bohm_tree.specs.Txn.{Txn}
+use Rattle.bohm_types.specs.declared.cell.Cell.{Cell}
+use Rattle.bohm_types.specs.Txn.{Txn}
 use Rattle.bohm_txn.specs.declared.outcome.Outcome.{Outcome}
 use Rattle.bohm_txn.specs.declared.outcome.Outcome.TheVariants as outcomes_are
 use Rattle.bohm_txn.specs.declared.outcome.Reply.{Reply}
 use Rattle.bohm_txn.specs.declared.outcome.Reply.TheVariants as replies_are
 use Rattle.bohm_txn.specs.Meaning.{Look, Ended, body, newest}
 
--- the writes that count: none on an abort
+-- the writes that take effect: none on an abort
 abbrev pub writes_of : Ended → List (List ℕ × Cell)
 writes_of (Ok run) = run.writes
 writes_of (Err fault) = []
@@ -25,7 +25,12 @@ abbrev pub reply_of : Ended → Reply
 reply_of (Ok run) = replies_are.Commit run.shows
 reply_of (Err fault) = replies_are.Abort fault.0 fault.1
 
--- what each key holds with these writes upon it
+-- the reply with this outcome, and with these shows where it is a commit
+abbrev pub reply_with : Outcome → List ℤ → Reply
+reply_with outcomes_are.Commit shows = replies_are.Commit shows
+reply_with (outcomes_are.Abort reason stmt) shows = replies_are.Abort reason stmt
+
+-- what each key holds after these writes
 abbrev pub over : Look → List (List ℕ × Cell) → Look
 over look writes = λ k. newest writes k (look k)
 

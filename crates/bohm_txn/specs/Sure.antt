@@ -2,12 +2,12 @@
 use Rattle.std.specs.Prelude.{◌≡◌, ℕ, List, [], Bool, true, false, ◌&&◌, Option, Some, None, is_ok}
 use Rattle.std.specs.List.{list_all, list_any}
 use Rattle.std.specs.Str.{bytes_eq}
-use Rattle.bohm_tree.specs.declared.cell.Cell.TheVariants.{Absent}
-use Rattle.bohm_tree.specs.Stmt.{Cond, Stmt, Bind, Need, Has, Lacks, Put, Remove, Show, Fail}
-use Rattle.bohm_tree.specs.Term.{Atom, Lit, Read, Local}
-use Rattle.bohm_tree.specs.Txn.{Txn}
-use Rattle.bohm_tree.specs.Parts.{target}
-use Rattle.bohm_tree.specs.Keys.{some_passes}
+use Rattle.bohm_types.specs.declared.cell.Cell.TheVariants.{Absent}
+use Rattle.bohm_types.specs.Stmt.{Cond, Stmt, Bind, Need, Has, Lacks, Put, Remove, Show, Fail}
+use Rattle.bohm_types.specs.Term.{Atom, Lit, Read, Local}
+use Rattle.bohm_types.specs.Txn.{Txn}
+use Rattle.bohm_types.specs.Parts.{target}
+use Rattle.bohm_types.specs.Keys.{some_passes}
 use Rattle.bohm_txn.specs.Meaning.{sum_value}
 
 abbrev pub is_lit : Atom → Bool
@@ -15,7 +15,7 @@ is_lit (Lit n) = true
 is_lit (Read k) = false
 is_lit (Local x) = false
 
--- literals alone, with a total in range
+-- only literals, with a total in range
 abbrev pub is_sure_sum : List (Bool × Atom) → Bool
 is_sure_sum sum = list_all (λ t. is_lit t.1) sum && is_ok (sum_value (λ _. Absent) [] sum)
 

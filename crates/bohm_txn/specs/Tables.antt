@@ -1,12 +1,12 @@
--- What `eval` keeps while it runs a body: a cell for each declared key in place of the list of writes.
+-- The state of `eval` while it runs a body: a cell for each declared key instead of the list of writes.
 use Rattle.std.specs.Prelude.{ℕ, ℤ, ◌+◌, List, [], ◌∷◌, Option, Some, None, Result, Ok, Err, slice_set, slice_index_or}
-use Rattle.bohm_tree.specs.declared.cell.Cell.{Cell}
-use Rattle.bohm_tree.specs.declared.cell.Cell.TheVariants.{Absent}
-use Rattle.bohm_tree.specs.Stmt.{Stmt}
-use Rattle.bohm_tree.specs.declared.edition.Edition.{Edition}
-use Rattle.bohm_tree.specs.declared.edition.Edition.TheVariants.{One, Two}
-use Rattle.bohm_tree.specs.Txn.{Txn}
-use Rattle.bohm_tree.specs.Keys.{place}
+use Rattle.bohm_types.specs.declared.cell.Cell.{Cell}
+use Rattle.bohm_types.specs.declared.cell.Cell.TheVariants.{Absent}
+use Rattle.bohm_types.specs.Stmt.{Stmt}
+use Rattle.bohm_types.specs.declared.edition.Edition.{Edition}
+use Rattle.bohm_types.specs.declared.edition.Edition.TheVariants.{One, Two}
+use Rattle.bohm_types.specs.Txn.{Txn}
+use Rattle.bohm_types.specs.Keys.{place}
 use Rattle.bohm_txn.specs.declared.outcome.Reason.{Reason}
 use Rattle.bohm_txn.specs.Meaning.{Look, Locals, Run, perform, then_do}
 
@@ -14,7 +14,7 @@ abbrev pub cell_from : List Cell → Option ℕ → Cell
 cell_from cells None = Absent
 cell_from cells (Some i) = slice_index_or cells i Absent
 
--- a key's cell, where the keys have these cells
+-- a key's cell, if the keys have these cells
 abbrev pub cell_at : List (List ℕ) → List Cell → Look
 cell_at keys cells = λ k. cell_from cells (place keys k)
 
@@ -22,11 +22,11 @@ abbrev pub set_from : List Cell → Option ℕ → Cell → List Cell
 set_from cells None c = cells
 set_from cells (Some i) c = slice_set cells i c
 
--- the cells with a key's one replaced
+-- the cells with the key's replaced
 abbrev pub replaced : List (List ℕ) → List Cell → List ℕ → Cell → List Cell
 replaced keys cells k c = set_from cells (place keys k) c
 
--- the cells that statements see: their own writes too, in edition two
+-- the cells that statements see: in edition 2 also the writes of earlier statements
 abbrev pub seen_after : Edition → List (List ℕ) → List Cell → List ℕ → Cell → List Cell
 seen_after One keys cells k c = cells
 seen_after Two keys cells k c = replaced keys cells k c
@@ -52,7 +52,7 @@ all_written t w (p ∷ ps) = all_written t (written t w p.0 p.1) ps
 abbrev pub run_with : Tables → List (List ℕ × Cell) → Run
 run_with w writes = record { locals = w.locals; writes = writes; shows = w.shows }
 
--- the tables with what a statement did
+-- the tables with the effects of a statement
 abbrev pub taken : Txn → Tables → Run → Tables
 taken t w run = all_written t (record w { locals = run.locals; shows = run.shows }) run.writes
 
@@ -64,7 +64,7 @@ abbrev pub stop_at : ℕ → Result Tables Reason → (Tables → Result Tables 
 stop_at n (Err r) f = Err (r, n)
 stop_at n (Ok next) f = f next
 
--- the tables after the statements from number n on; or why, and at which number, the first one failed
+-- the tables after statements, the first of which has number n; or why, and at which number, the first one failed
 abbrev pub tables_from : Txn → Tables → ℕ → List Stmt → Result Tables (Reason × ℕ)
 tables_from t w n [] = Ok w
 tables_from t w n (s ∷ ss) = stop_at n (step t w s) (λ next. tables_from t next (n + 1) ss)

@@ -1,15 +1,17 @@
 //! Documents that passed the check.
 
 ghost use Rattle.std.specs.Prelude.{◌≡◌, ◌<◌, ◌≤◌, true, length, All, IfOk, IfErr, OnOk, OnErr};
-ghost use Rattle.bohm_tree.specs.Appending.{empty_document, with_txn};
-ghost use Rattle.bohm_tree.specs.Procedure.{instance};
-ghost use Rattle.bohm_tree.specs.Keys.{rising, names_of};
+ghost use Rattle.bohm_types.specs.Appending.{empty_document, with_txn};
+ghost use Rattle.bohm_types.specs.Procedure.{instance};
+ghost use Rattle.bohm_types.specs.Keys.{rising, names_of};
+ghost use Rattle.bohm_log.specs.Handles.{keys_named};
 ghost use Rattle.bohm_txn.specs.Faulty.{WellFormed, IsFirstFault, IsWellFormedTxn};
+ghost use Rattle.bohm_types.specs.Limits.{most_txns};
 
 use crate::fault::CheckFault;
 use crate::first_fault::first_fault;
-use bohm_log::{CallBuffer, Doc, HashSeed, LogFault, LogPart, Template};
-use bohm_tree::{Edition, Key, Value};
+use bohm_log::{CallBuffer, Doc, HashSeed, KeyHandle, LogFault, LogPart, Template};
+use bohm_types::{Edition, Key, Value};
 use std::alloc::Global;
 use std::marker::Model;
 
@@ -20,7 +22,7 @@ pub struct Checked {
 }
 
 impl Model for Checked {
-    ghost use Rattle.bohm_tree.specs.Document.{Document};
+    ghost use Rattle.bohm_types.specs.Document.{Document};
     ghost use Rattle.bohm_txn.specs.Faulty.{WellFormed};
 
     ghost Value = { Document };
@@ -52,12 +54,41 @@ impl Checked {
         requires values { length values.now ≡ length template.now.values }
         requires edition { template.now.edition ≡ self.old.edition }
         requires well_formed { IsWellFormedTxn (instance template.now keys.now values.now) }
-        requires few { length self.old.log < 1000000 }
+        requires few { length self.old.log < most_txns }
         ensures ok { OnOk result
             (self.new ≡ with_txn self.old (instance template.now keys.now values.now)) }
         ensures err { OnErr result (self.new ≡ self.old) }
     {
         self.doc.push_call(template, buffer, keys, values)
+    }
+
+    /// The same, for the keys of these handles.
+    pub fn push_named(
+        &mut self,
+        template: &Template,
+        buffer: &mut CallBuffer,
+        keys: &[KeyHandle],
+        values: &[Value],
+    ) -> Result<(), LogFault>
+        requires values { length values.now ≡ length template.now.values }
+        requires edition { template.now.edition ≡ self.old.edition }
+        requires well_formed { IsWellFormedTxn
+            (instance template.now (keys_named keys.now) values.now) }
+        requires few { length self.old.log < most_txns }
+        ensures ok { OnOk result
+            (self.new ≡ with_txn self.old
+            (instance template.now (keys_named keys.now) values.now)) }
+        ensures err { OnErr result (self.new ≡ self.old) }
+    {
+        self.doc.push_named(template, buffer, keys, values)
+    }
+
+    /// The handle of a key, which gets a number if it has none. The document stays as it is.
+    pub fn handle(&mut self, key: &Key) -> Result<KeyHandle, LogFault>
+        ensures key { IfOk result (λ h. h.key ≡ key.now) }
+        ensures same { self.new ≡ self.old }
+    {
+        self.doc.handle(key)
     }
 
     /// Removes the store and all transactions. Room is kept for others.
@@ -93,7 +124,7 @@ impl Checked {
     #[tactic(auto, using(crate::proofs::UseLaws::few_txns, crate::proofs::UseLaws::all_in))]
     pub fn log(&self) -> LogPart<'_>
         ensures same { result ≡ self.now.log }
-        ensures few { length result ≤ 1000000 }
+        ensures few { length result ≤ most_txns }
         ensures well_formed { All IsWellFormedTxn result }
     {
         self.doc.log()

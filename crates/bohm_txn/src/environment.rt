@@ -5,26 +5,27 @@ ghost use Rattle.std.specs.Prelude.{◌≤ℤ◌, ◌^◌, length, map, reverse,
 ghost use Rattle.std.specs.Option.{option_map, option_copied};
 ghost use Rattle.std.specs.List.{find};
 ghost use Rattle.std.specs.Str.{bytes_eq};
-ghost use Rattle.bohm_tree.specs.Keys.{rising};
+ghost use Rattle.bohm_types.specs.Keys.{rising};
 ghost use Rattle.bohm_log.specs.Parts.{KeyIn, TermIn, key_at, term_of, sum_between};
 ghost use Rattle.bohm_txn.specs.Meaning.{newest, is_present, number_in, atom_value, total_from};
 ghost use Rattle.bohm_txn.specs.Meaning.{sum_value, compares, cond_value, signed};
 ghost use lib.IntN.{neg_ℤ};
+ghost use Rattle.bohm_types.specs.Limits.{most_keys, most_terms};
 
 use crate::outcome::Reason;
-use bohm_log::{AtomKind, PlacedTxn, TermRow};
-use bohm_tree::{Cell, Cmp, Key, Value};
+use bohm_log::{AtomKind, IndexedTxn, TermRow};
+use bohm_types::{Cell, Cmp, Key, Value};
 use std::cmp::Ordering;
 
 /// What a statement sees: its transaction's terms, the cells of the declared reads, and the locals.
 #[derive(Clone, Copy)]
 pub struct Environment<'a> {
-    pub txn: &'a PlacedTxn<'a>,
+    pub txn: &'a IndexedTxn<'a>,
     pub cells: &'a [Cell],
     pub locals: &'a [(Key, Value)],
     ghost paired: { length txn.now.reads ≡ length cells.now },
     ghost rising: { rising txn.now.reads ≡ true },
-    ghost few: { length txn.now.reads ≤ 16 },
+    ghost few: { length txn.now.reads ≤ most_keys },
 }
 
 fn last_bound<'a>(locals: &'a [(Key, Value)], name: &Key) -> Option<&'a (Key, Value)>
@@ -113,7 +114,7 @@ impl Environment<'_> {
 
     fn total(&self, terms: &[TermRow]) -> Option<i128>
         requires within { All (TermIn self.now.txn.now) terms.now }
-        requires few { length terms.now ≤ 16 }
+        requires few { length terms.now ≤ most_terms }
         ensures { result
             ≡ total_from (look_of self.now) self.now.locals.now (pos 0)
             (map (term_of self.now.txn.now) terms.now) }
@@ -129,7 +130,7 @@ impl Environment<'_> {
     pub fn sum(&self, from: u32, to: u32) -> Result<Value, Reason>
         requires rises { from ≤ to }
         requires end { to ≤ length self.now.txn.now.terms }
-        requires few { to ≤ from + 16 }
+        requires few { to ≤ from + most_terms }
         ensures { result
             ≡ sum_value (look_of self.now) self.now.locals.now
             (sum_between self.now.txn.now from to) }
@@ -147,8 +148,8 @@ impl Environment<'_> {
         requires left { from ≤ middle }
         requires right { middle ≤ to }
         requires end { to ≤ length self.now.txn.now.terms }
-        requires few_left { middle ≤ from + 16 }
-        requires few_right { to ≤ middle + 16 }
+        requires few_left { middle ≤ from + most_terms }
+        requires few_right { to ≤ middle + most_terms }
         ensures { result
             ≡ cond_value (look_of self.now) self.now.locals.now
             (cond_between self.now.txn.now cmp from middle to) }

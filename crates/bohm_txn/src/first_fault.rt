@@ -2,7 +2,7 @@
 
 ghost use Rattle.std.specs.Prelude.{◌≡◌, ◌≤◌, length, map, All, not, nat_le};
 ghost use Rattle.std.specs.Option.{option_map};
-ghost use Rattle.bohm_tree.specs.Keys.{rising, names_of};
+ghost use Rattle.bohm_types.specs.Keys.{rising, names_of};
 ghost use Rattle.bohm_log.specs.Parts.{RowIn, stmt_of, txn_of};
 ghost use Rattle.bohm_txn.specs.declared.fault.CheckKind.TheVariants.{Limit};
 ghost use Rattle.bohm_txn.specs.Faulty.{sets_faulty, stmt_faulty};
@@ -10,13 +10,15 @@ ghost use Rattle.bohm_txn.specs.Declares.{shows_in};
 ghost use Rattle.bohm_txn.specs.Rows.{AreNoted};
 ghost use Rattle.bohm_txn.specs.FirstFault.{least, first_in_body, first_in_txn, first_in_log};
 ghost use Rattle.bohm_txn.specs.FirstFault.{first_in_doc, fault_of};
+ghost use Rattle.bohm_types.specs.Limits.{most_keys, most_shows, most_stmts, most_txns};
 
 use crate::bound::Bound;
 use crate::fault::{CheckFault, CheckKind};
+use crate::glance::is_plain;
 use crate::rules::{is_long, is_misnamed, is_unread, is_unwritten};
 use crate::showing::shows;
-use bohm_log::{Doc, Keys, LogPart, PlacedTxn, StmtRow, TxnView};
-use bohm_tree::{Key, MOST_KEYS, MOST_SHOWS, MOST_STMTS, MOST_TXNS, Value};
+use bohm_log::{Doc, IndexedTxn, Keys, LogPart, StmtRow, TxnView};
+use bohm_types::{Key, MOST_KEYS, MOST_SHOWS, MOST_STMTS, MOST_TXNS, Value};
 
 /// Whether each of a set's keys is below the next.
 pub fn are_rising(keys: &Keys<'_>) -> bool
@@ -39,7 +41,7 @@ pub fn is_store_rising(store: &[(Key, Value)]) -> bool
 
 /// Whether it shows too many values. Few statements can't, so they aren't counted.
 fn shows_many(txn: &TxnView<'_>) -> bool
-    ensures { result ≡ not (nat_le (shows_in txn.now.body) 16) }
+    ensures { result ≡ not (nat_le (shows_in txn.now.body) most_shows) }
 {
     txn.body_len() > MOST_SHOWS && shows(txn) > MOST_SHOWS
 }
@@ -56,13 +58,13 @@ pub fn is_large(txn: &TxnView<'_>) -> bool
 
 /// The least kind of fault of a statement that follows these others.
 fn stmt_fault(
-    txn: &PlacedTxn<'_>,
+    txn: &IndexedTxn<'_>,
     before: &[StmtRow],
     noted: &Bound,
     row: &StmtRow,
 ) -> Option<CheckKind>
-    requires reads { length txn.now.reads ≤ 16 }
-    requires writes { length txn.now.writes ≤ 16 }
+    requires reads { length txn.now.reads ≤ most_keys }
+    requires writes { length txn.now.writes ≤ most_keys }
     requires before { All (RowIn txn.now) before.now }
     requires noted { AreNoted noted.now.noted before.now }
     requires row { RowIn txn.now row.now }
@@ -71,7 +73,9 @@ fn stmt_fault(
         (stmt_faulty (txn_of e txn.now) (map (stmt_of txn.now) before.now)
         (stmt_of txn.now row.now)) }
 {
-    if is_unread(txn, row) {
+    if is_plain(txn, row) {
+        None
+    } else if is_unread(txn, row) {
         Some(CheckKind::Unread)
     } else if is_unwritten(txn, row) {
         Some(CheckKind::Unwritten)
@@ -85,10 +89,10 @@ fn stmt_fault(
 }
 
 /// The first faulty statement, counted from 1.
-fn first_in_body(txn: &PlacedTxn<'_>) -> Option<(u32, CheckKind)>
-    requires reads { length txn.now.reads ≤ 16 }
-    requires writes { length txn.now.writes ≤ 16 }
-    requires stmts { length txn.now.rows ≤ 64 }
+fn first_in_body(txn: &IndexedTxn<'_>) -> Option<(u32, CheckKind)>
+    requires reads { length txn.now.reads ≤ most_keys }
+    requires writes { length txn.now.writes ≤ most_keys }
+    requires stmts { length txn.now.rows ≤ most_stmts }
     ensures { (e : _) → result ≡ first_in_body (txn_of e txn.now) }
 {
     let rows = txn.rows();
@@ -117,7 +121,7 @@ pub fn first_in_txn(txn: &TxnView<'_>) -> Option<(u32, CheckKind)>
 
 /// The first fault of a log's transactions, counted from 1.
 pub fn first_in_log(log: &LogPart<'_>) -> Option<CheckFault>
-    requires { length log.now ≤ 1000000 }
+    requires { length log.now ≤ most_txns }
     ensures { result ≡ option_map fault_of (first_in_log log.now) }
 {
     for i in 0..log.len() {

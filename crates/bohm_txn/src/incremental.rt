@@ -2,14 +2,15 @@
 //! chunk, then of the whole.
 
 ghost use Rattle.std.specs.Prelude.{◌≡◌, ◌+◌, ◌++◌, ◌≤◌, None, length, All, IfSome};
-ghost use Rattle.bohm_tree.specs.Document.{Document};
+ghost use Rattle.bohm_types.specs.Document.{Document};
 ghost use Rattle.bohm_txn.specs.Chunked.{store_fault, IsCheckedTo, IsCountOf};
 ghost use Rattle.bohm_txn.specs.Faulty.{WellFormed, IsFirstFault, IsWellFormedTxn};
+ghost use Rattle.bohm_types.specs.Limits.{most_txns};
 
 use crate::fault::{CheckFault, CheckKind};
 use crate::first_fault::{first_in_log, is_store_rising};
 use bohm_log::LogPart;
-use bohm_tree::{Key, MOST_TXNS, Value};
+use bohm_types::{Key, MOST_TXNS, Value};
 
 /// A fault of the document as a whole.
 fn whole_fault(kind: CheckKind) -> CheckFault
@@ -48,7 +49,7 @@ pub fn check_more(
     ensures checked { (d : Document) → IsCountOf (length d.log) count → IsCheckedTo d found
         → IsCheckedTo (record d { log = d.log ++ chunk.now }) result }
     ensures kept { result ≡ None → found ≡ None }
-    ensures formed { found ≡ None → result ≡ None → count + length chunk.now ≤ 1000000
+    ensures formed { found ≡ None → result ≡ None → count + length chunk.now ≤ most_txns
         → All IsWellFormedTxn chunk.now }
 {
     if found.is_some() {

@@ -1,9 +1,9 @@
 //! Laws over the definitions alone, for the proofs of the crates above. No call uses them.
 
 ghost use Rattle.std.specs.Prelude.{◌≡◌, true, All, ℕ, suc, List, length, map, Some, Ok};
-ghost use Rattle.bohm_tree.specs.Document.{Document};
-ghost use Rattle.bohm_tree.specs.Txn.{Txn};
-ghost use Rattle.bohm_tree.specs.Keys.{IsAmong, rising};
+ghost use Rattle.bohm_types.specs.Document.{Document};
+ghost use Rattle.bohm_types.specs.Txn.{Txn};
+ghost use Rattle.bohm_types.specs.Keys.{IsAmong, rising};
 ghost use Rattle.bohm_txn.specs.Declares.{IsUsable, shows_in};
 ghost use Rattle.bohm_txn.specs.Faulty.{WellFormed, IsWellFormedTxn};
 ghost use Rattle.std.specs.List.{AllByRecursion, slice_get};

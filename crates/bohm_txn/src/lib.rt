@@ -7,6 +7,7 @@ mod environment;
 mod evaluation;
 mod fault;
 mod first_fault;
+mod glance;
 mod incremental;
 pub mod laws;
 mod outcome;
@@ -19,7 +20,7 @@ mod sureness;
 mod work;
 
 pub use checked::{Checked, check};
-pub use evaluation::eval;
+pub use evaluation::{eval, eval_in_place};
 pub use fault::{CheckFault, CheckKind};
 pub use first_fault::{are_rising, first_in_txn, is_large, is_store_rising};
 pub use incremental::{check_end, check_more, check_store};

@@ -1,6 +1,6 @@
 //! How a transaction ends.
 
-use bohm_tree::{Items, Value};
+use bohm_types::{Items, Value};
 
 /// Why a transaction aborts.
 #[derive(Clone, Copy, Debug, PartialEq, Eq)]

@@ -4,9 +4,10 @@ ghost use Rattle.std.specs.Prelude.{◌≡◌, ◌<◌, [], ◌∷◌, ◌++◌,
 ghost use Rattle.std.specs.Prelude.{slice_get, take, true, false, OnOk, OnErr};
 ghost use Rattle.bohm_txn.specs.declared.outcome.Reply.TheVariants as replies_are;
 ghost use Rattle.bohm_txn.specs.ReplyRows.{Adds, IsInside, reply_by, reply_shown};
+ghost use Rattle.bohm_txn.specs.Serial.{reply_with};
 
-use crate::outcome::Reason;
-use bohm_tree::{NoMemory, Value};
+use crate::outcome::{Outcome, Reason};
+use bohm_types::{NoMemory, Value};
 use std::alloc::Global;
 use std::marker::Model;
 
@@ -68,6 +69,7 @@ fn row_at(rows: &[ReplyRow], index: usize) -> ReplyRow
 }
 
 /// Adds the values and their row, or nothing.
+#[inline]
 fn add(rows: &mut Vec<ReplyRow>, values: &mut Vec<Value>, shows: &[Value]) -> Result<(), NoMemory>
     ensures ok { OnOk result
         (Adds rows.old.items values.old.items shows.now rows.new.items values.new.items) }
@@ -76,7 +78,9 @@ fn add(rows: &mut Vec<ReplyRow>, values: &mut Vec<Value>, shows: &[Value]) -> Re
 {
     let start = values.len();
     rows.reserve(1)?;
-    values.extend_from_slice(shows)?;
+    if !shows.is_empty() {
+        values.extend_from_slice(shows)?;
+    }
     rows.push_reserved(ReplyRow::Commit {
         start,
         end: values.len(),
@@ -146,6 +150,26 @@ impl Replies {
         ensures err { OnErr result (self.new ≡ self.old) }
     {
         add(&mut self.rows, &mut self.values, shows)
+    }
+
+    /// Adds the reply of a transaction with this outcome at the end: a commit shows these values. An
+    /// error leaves the list as it was.
+    pub fn push(&mut self, outcome: Outcome, shows: &[Value]) -> Result<(), NoMemory>
+        ensures ok { OnOk result (self.new ≡ self.old ++ reply_with outcome shows.now ∷ []) }
+        ensures err { OnErr result (self.new ≡ self.old) }
+    {
+        match outcome {
+            Outcome::Commit => self.push_commit(shows),
+            Outcome::Abort { reason, stmt } => self.push_abort(reason, stmt),
+        }
+    }
+
+    /// Removes all replies. Capacity is kept.
+    pub fn clear(&mut self)
+        ensures { self.new ≡ [] }
+    {
+        self.rows.clear();
+        self.values.clear();
     }
 
     /// Keeps the first replies, this many.

@@ -2,16 +2,17 @@
 
 ghost use Rattle.std.specs.Prelude.{◌≡◌, ◌<◌, ◌≤◌, length, map, All};
 ghost use Rattle.std.specs.List.{flat_map, list_all};
-ghost use Rattle.bohm_tree.specs.Parts.{bound, sums};
-ghost use Rattle.bohm_tree.specs.Keys.{some_passes};
+ghost use Rattle.bohm_types.specs.Parts.{bound, sums};
+ghost use Rattle.bohm_types.specs.Keys.{some_passes};
 ghost use Rattle.bohm_log.specs.Parts.{RowIn, TermIn, name_at, stmt_of, term_of};
 ghost use Rattle.bohm_txn.specs.Faulty.{is_bound, locals_bound, is_unread, is_unwritten};
 ghost use Rattle.bohm_txn.specs.Faulty.{is_misnamed, is_long};
 ghost use Rattle.bohm_txn.specs.Rows.{AreNoted, end_of, is_declared, tests_key, writes_key};
+ghost use Rattle.bohm_types.specs.Limits.{most_keys};
 
 use crate::bound::Bound;
-use bohm_log::{Action, AtomKind, PlacedTxn, StmtRow, TermRow};
-use bohm_tree::MOST_TERMS;
+use bohm_log::{Action, AtomKind, IndexedTxn, StmtRow, TermRow};
+use bohm_types::MOST_TERMS;
 
 /// Where the last sum of a statement ends.
 fn end_of(row: &StmtRow) -> u32
@@ -27,7 +28,7 @@ fn end_of(row: &StmtRow) -> u32
 
 /// The terms of all sums of a statement.
 #[tactic(auto, using(crate::proofs::Placing::all_terms, crate::proofs::Placing::end_within))]
-fn terms_of<'a>(txn: &PlacedTxn<'a>, row: &StmtRow) -> &'a [TermRow]
+fn terms_of<'a>(txn: &IndexedTxn<'a>, row: &StmtRow) -> &'a [TermRow]
     requires { RowIn txn.now row.now }
     ensures terms { map (term_of txn.now) result.now
         ≡ flat_map (λ sum. sum) (sums (stmt_of txn.now row.now)) }
@@ -65,9 +66,9 @@ fn are_declared(terms: &[TermRow]) -> bool
 }
 
 /// Whether the statement reads or tests a key that isn't declared to be read.
-pub fn is_unread(txn: &PlacedTxn<'_>, row: &StmtRow) -> bool
+pub fn is_unread(txn: &IndexedTxn<'_>, row: &StmtRow) -> bool
     requires row { RowIn txn.now row.now }
-    requires few { length txn.now.reads ≤ 16 }
+    requires few { length txn.now.reads ≤ most_keys }
     ensures { result ≡ is_unread txn.now.reads (stmt_of txn.now row.now) }
 {
     !are_declared(terms_of(txn, row)) || tests_key(row) && !row.declared
@@ -75,9 +76,9 @@ pub fn is_unread(txn: &PlacedTxn<'_>, row: &StmtRow) -> bool
 
 /// Whether the statement writes a key that isn't declared to be written.
 #[tactic(auto, using(crate::proofs::Placing::unwritten_row))]
-pub fn is_unwritten(txn: &PlacedTxn<'_>, row: &StmtRow) -> bool
+pub fn is_unwritten(txn: &IndexedTxn<'_>, row: &StmtRow) -> bool
     requires row { RowIn txn.now row.now }
-    requires few { length txn.now.writes ≤ 16 }
+    requires few { length txn.now.writes ≤ most_keys }
     ensures { result ≡ is_unwritten txn.now.writes (stmt_of txn.now row.now) }
 {
     let _ = txn;
@@ -86,7 +87,7 @@ pub fn is_unwritten(txn: &PlacedTxn<'_>, row: &StmtRow) -> bool
 
 /// Whether one of these statements binds the name at an index. Equal names have one index.
 #[tactic(auto, using(crate::proofs::Placing::bound_at))]
-fn is_bound(txn: &PlacedTxn<'_>, before: &[StmtRow], noted: &Bound, place: u32) -> bool
+fn is_bound(txn: &IndexedTxn<'_>, before: &[StmtRow], noted: &Bound, place: u32) -> bool
     requires inside { place < length txn.now.others }
     requires before { All (RowIn txn.now) before.now }
     requires noted { AreNoted noted.now.noted before.now }
@@ -98,7 +99,7 @@ fn is_bound(txn: &PlacedTxn<'_>, before: &[StmtRow], noted: &Bound, place: u32) 
 }
 
 /// Whether a term, if it reads a local, reads one that these statements bind.
-fn is_defined(txn: &PlacedTxn<'_>, before: &[StmtRow], noted: &Bound, term: &TermRow) -> bool
+fn is_defined(txn: &IndexedTxn<'_>, before: &[StmtRow], noted: &Bound, term: &TermRow) -> bool
     requires term { TermIn txn.now term.now }
     requires before { All (RowIn txn.now) before.now }
     requires noted { AreNoted noted.now.noted before.now }
@@ -112,7 +113,7 @@ fn is_defined(txn: &PlacedTxn<'_>, before: &[StmtRow], noted: &Bound, term: &Ter
 }
 
 /// Whether these statements bind each local that the terms read.
-fn are_defined(txn: &PlacedTxn<'_>, before: &[StmtRow], noted: &Bound, terms: &[TermRow]) -> bool
+fn are_defined(txn: &IndexedTxn<'_>, before: &[StmtRow], noted: &Bound, terms: &[TermRow]) -> bool
     requires terms { All (TermIn txn.now) terms.now }
     requires before { All (RowIn txn.now) before.now }
     requires noted { AreNoted noted.now.noted before.now }
@@ -129,7 +130,7 @@ fn are_defined(txn: &PlacedTxn<'_>, before: &[StmtRow], noted: &Bound, terms: &[
 }
 
 /// Whether the statement binds a name that one of these binds.
-fn rebinds(txn: &PlacedTxn<'_>, before: &[StmtRow], noted: &Bound, row: &StmtRow) -> bool
+fn rebinds(txn: &IndexedTxn<'_>, before: &[StmtRow], noted: &Bound, row: &StmtRow) -> bool
     requires row { RowIn txn.now row.now }
     requires before { All (RowIn txn.now) before.now }
     requires noted { AreNoted noted.now.noted before.now }
@@ -146,7 +147,7 @@ fn rebinds(txn: &PlacedTxn<'_>, before: &[StmtRow], noted: &Bound, row: &StmtRow
 /// Whether the statement reads a local that no statement before it binds, or binds a name that one
 /// of them binds.
 #[tactic(auto, using(crate::proofs::Placing::all_flat))]
-pub fn is_misnamed(txn: &PlacedTxn<'_>, before: &[StmtRow], noted: &Bound, row: &StmtRow) -> bool
+pub fn is_misnamed(txn: &IndexedTxn<'_>, before: &[StmtRow], noted: &Bound, row: &StmtRow) -> bool
     requires row { RowIn txn.now row.now }
     requires before { All (RowIn txn.now) before.now }
     requires noted { AreNoted noted.now.noted before.now }
@@ -156,7 +157,7 @@ pub fn is_misnamed(txn: &PlacedTxn<'_>, before: &[StmtRow], noted: &Bound, row: 
 }
 
 /// Whether a sum of the statement has too many terms.
-pub fn is_long(txn: &PlacedTxn<'_>, row: &StmtRow) -> bool
+pub fn is_long(txn: &IndexedTxn<'_>, row: &StmtRow) -> bool
     requires { RowIn txn.now row.now }
     ensures { result ≡ is_long (stmt_of txn.now row.now) }
 {

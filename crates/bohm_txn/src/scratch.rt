@@ -1,9 +1,10 @@
 //! Memory to evaluate transactions in.
 
-ghost use Rattle.std.specs.Prelude.{◌≡◌, [], IfOk};
+ghost use Rattle.std.specs.Prelude.{◌≡◌, ◌<◌, ◌++◌, ◌∷◌, [], length, IfOk};
+ghost use Rattle.bohm_types.specs.Limits.{most_keys};
 
 use crate::work::Work;
-use bohm_tree::{Cell, NoMemory, Value};
+use bohm_types::{Cell, NoMemory, Value};
 use std::alloc::Global;
 use std::marker::Model;
 
@@ -19,7 +20,8 @@ impl Model for Scratch {
 
     ghost Value = { Results };
 
-    ghost view = { λ s. record { cells = s.work.cells.0; shows = s.work.shows.0 } };
+    ghost view = { λ s.
+        record { seen = s.work.seen.0; cells = s.work.cells.0; shows = s.work.shows.0 } };
 
     ghost invariant = { λ s. IsRoomy s.work };
 }
@@ -33,6 +35,37 @@ impl Scratch {
         Ok(Scratch {
             work: Work::new(alloc)?,
         })
+    }
+
+    /// Lets go of what it has, for a transaction that is evaluated in place.
+    pub fn clear(&mut self)
+        ensures { self.new ≡ record { seen = []; cells = []; shows = [] } }
+    {
+        self.work.clear();
+    }
+
+    /// Adds what the next declared read holds.
+    pub fn push_read(&mut self, cell: Cell)
+        requires { length self.old.seen < most_keys }
+        ensures { self.new ≡ record {
+          seen = self.old.seen ++ cell ∷ [];
+          cells = self.old.cells;
+          shows = self.old.shows;
+        } }
+    {
+        self.work.seen.push(cell);
+    }
+
+    /// Adds what the next declared write holds.
+    pub fn push_cell(&mut self, cell: Cell)
+        requires { length self.old.cells < most_keys }
+        ensures { self.new ≡ record {
+          seen = self.old.seen;
+          cells = self.old.cells ++ cell ∷ [];
+          shows = self.old.shows;
+        } }
+    {
+        self.work.cells.push(cell);
     }
 
     /// One cell for each declared write of the transaction that was evaluated last.

@@ -6,8 +6,8 @@ ghost use Rattle.std.specs.List.{list_all};
 ghost use Rattle.bohm_log.specs.Parts.{RowIn, TermIn, stmt_of, sum_between, term_of};
 ghost use Rattle.bohm_txn.specs.Sure.{is_sure_sum, is_sure_stmt, is_target, is_sure};
 
-use bohm_log::{Action, AtomKind, PlacedTxn, StmtRow, TermRow, TxnView};
-use bohm_tree::Key;
+use bohm_log::{Action, AtomKind, IndexedTxn, StmtRow, TermRow, TxnView};
+use bohm_types::Key;
 
 /// The totals of a sum's literals: of those that it adds, and of those that it subtracts. Both have
 /// enough bits for as many literals as a sum can have.
@@ -43,7 +43,7 @@ impl Literals {
     }
 
     /// The literals of some terms, if they have only literals.
-    fn of(txn: &PlacedTxn<'_>, terms: &[TermRow]) -> Option<Literals>
+    fn of(txn: &IndexedTxn<'_>, terms: &[TermRow]) -> Option<Literals>
         requires { All (TermIn txn.now) terms.now }
         ensures value { result ≡ literals_from none_yet (map (term_of txn.now) terms.now) }
         ensures added { IfSome result (λ l. l.added + 2 ^ 64 < 2 ^ 128) }
@@ -72,7 +72,7 @@ impl Literals {
 }
 
 /// Whether the sum of the terms between two offsets has only literals and is in range.
-fn is_sure_sum(txn: &PlacedTxn<'_>, from: u32, to: u32) -> bool
+fn is_sure_sum(txn: &IndexedTxn<'_>, from: u32, to: u32) -> bool
     requires rises { from ≤ to }
     requires end { to ≤ length txn.now.terms }
     ensures { result ≡ is_sure_sum (sum_between txn.now from to) }
@@ -83,7 +83,7 @@ fn is_sure_sum(txn: &PlacedTxn<'_>, from: u32, to: u32) -> bool
     }
 }
 
-fn is_sure_stmt(txn: &PlacedTxn<'_>, row: &StmtRow) -> bool
+fn is_sure_stmt(txn: &IndexedTxn<'_>, row: &StmtRow) -> bool
     requires { RowIn txn.now row.now }
     ensures { result ≡ is_sure_stmt (stmt_of txn.now row.now) }
 {
@@ -94,7 +94,7 @@ fn is_sure_stmt(txn: &PlacedTxn<'_>, row: &StmtRow) -> bool
     }
 }
 
-fn are_sure(txn: &PlacedTxn<'_>) -> bool
+fn are_sure(txn: &IndexedTxn<'_>) -> bool
     ensures { result ≡ list_all is_sure_stmt (map (stmt_of txn.now) txn.now.rows) }
 {
     for row in txn.rows() {

@@ -2,19 +2,20 @@
 
 ghost use Rattle.std.specs.Prelude.{◌≡◌, ◌≤◌, ◌<◌, [], length, true, false};
 ghost use Rattle.std.specs.Prelude.{MatchResult, IfOk, Ok, Err};
-ghost use Rattle.bohm_tree.specs.Keys.{rising};
+ghost use Rattle.bohm_types.specs.Keys.{rising};
 ghost use Rattle.bohm_log.specs.Parts.{name_at, stmt_of, txn_of};
 ghost use Rattle.bohm_txn.specs.Faulty.{IsWellFormedTxn};
 ghost use Rattle.bohm_txn.specs.Performing.{CanPerform};
 ghost use Rattle.bohm_txn.specs.Seeing.{look_of};
 ghost use Rattle.bohm_txn.specs.Tables.{cell_at, start, replaced, written, step, tables_from};
 ghost use Rattle.bohm_txn.specs.declared.outcome.Reason.TheVariants as reasons;
+ghost use Rattle.bohm_types.specs.Limits.{most_keys};
 
 use crate::environment::Environment;
 use crate::outcome::Reason;
 use crate::room::Room;
-use bohm_log::{Action, PlacedTxn, StmtRow};
-use bohm_tree::{Cell, Edition, Key, MOST_KEYS, MOST_SHOWS, MOST_STMTS, NoMemory, Value};
+use bohm_log::{Action, IndexedTxn, StmtRow};
+use bohm_types::{Cell, Edition, Key, MOST_KEYS, MOST_SHOWS, MOST_STMTS, NoMemory, Value};
 use std::alloc::Global;
 
 /// The effects of the statements so far, with capacity for those of any well-formed transaction.
@@ -54,10 +55,10 @@ impl Work {
         })
     }
 
-    fn environment<'a>(&'a self, txn: &'a PlacedTxn<'a>) -> Environment<'a>
+    fn environment<'a>(&'a self, txn: &'a IndexedTxn<'a>) -> Environment<'a>
         requires sized { length self.now.seen.0 ≡ length txn.now.reads }
         requires rising { rising txn.now.reads ≡ true }
-        requires few { length txn.now.reads ≤ 16 }
+        requires few { length txn.now.reads ≤ most_keys }
         ensures cells { look_of result ≡ cell_at txn.now.reads self.now.seen.0 }
         ensures locals { result.locals.now ≡ self.now.locals.0 }
         ensures txn { result.txn.now ≡ txn.now }
@@ -71,7 +72,7 @@ impl Work {
 
     /// Writes the cell that later statements see of a key, given by its index among the declared
     /// writes, if it is declared to be read.
-    fn write_seen(&mut self, txn: &PlacedTxn<'_>, place: u32, cell: &Cell)
+    fn write_seen(&mut self, txn: &IndexedTxn<'_>, place: u32, cell: &Cell)
         requires sized { length self.old.seen.0 ≡ length txn.now.reads }
         requires place { place < length txn.now.writes }
         ensures locals { self.new.locals ≡ self.old.locals }
@@ -88,7 +89,7 @@ impl Work {
 
     /// Writes the cell of the key at an index among the declared writes. In edition two later
     /// statements see it.
-    fn write(&mut self, edition: Edition, txn: &PlacedTxn<'_>, place: u32, cell: Cell)
+    fn write(&mut self, edition: Edition, txn: &IndexedTxn<'_>, place: u32, cell: Cell)
         requires sized { IsSized (txn_of edition txn.now) self.old }
         requires rising { rising txn.now.writes ≡ true }
         requires place { place < length txn.now.writes }
@@ -109,7 +110,7 @@ impl Work {
     fn perform(
         &mut self,
         edition: Edition,
-        txn: &PlacedTxn<'_>,
+        txn: &IndexedTxn<'_>,
         row: &StmtRow,
     ) -> Result<(), Reason>
         requires can { CanPerform txn.now row.now }
@@ -123,28 +124,29 @@ impl Work {
         ensures room { Grows self.old self.new }
     {
         let (start, first, second, third) = (row.start, row.first, row.second, row.third);
+        let seen = self.environment(txn);
         match row.action {
             Action::Bind => {
-                let value = self.environment(txn).sum(start, first)?;
+                let value = seen.sum(start, first)?;
                 let name = txn.others()[row.name as usize];
                 self.locals.push((name, value));
             }
-            Action::Need(cmp) => need(self.environment(txn).holds(cmp, start, first, second)?)?,
-            Action::Has => need(self.environment(txn).has(row.declared, row.name))?,
-            Action::Lacks => need(!self.environment(txn).has(row.declared, row.name))?,
+            Action::Need(cmp) => need(seen.holds(cmp, start, first, second)?)?,
+            Action::Has => need(seen.has(row.declared, row.name))?,
+            Action::Lacks => need(!seen.has(row.declared, row.name))?,
             Action::Put => {
-                let value = self.environment(txn).sum(start, first)?;
+                let value = seen.sum(start, first)?;
                 self.write(edition, txn, row.name, Cell::Present(value));
             }
             Action::PutWhen(cmp) => {
-                if self.environment(txn).holds(cmp, first, second, third)? {
-                    let value = self.environment(txn).sum(start, first)?;
+                if seen.holds(cmp, first, second, third)? {
+                    let value = seen.sum(start, first)?;
                     self.write(edition, txn, row.name, Cell::Present(value));
                 }
             }
             Action::Remove => self.write(edition, txn, row.name, Cell::Absent),
             Action::Show => {
-                let value = self.environment(txn).sum(start, first)?;
+                let value = seen.sum(start, first)?;
                 self.shows.push(value);
             }
             Action::Fail => return Err(Reason::Fail),
@@ -152,24 +154,24 @@ impl Work {
         Ok(())
     }
 
+    // Takes these cells.
     fn begin(&mut self, reads: &[Cell], earlier: &[Cell])
         requires room { IsRoomy self.old }
-        requires reads { length reads.now ≤ 16 }
-        requires earlier { length earlier.now ≤ 16 }
-        ensures after { tables_of self.new ≡ start reads.now earlier.now }
+        requires reads { length reads.now ≤ most_keys }
+        requires earlier { length earlier.now ≤ most_keys }
+        ensures seen { self.new.seen.0 ≡ reads.now }
+        ensures cells { self.new.cells.0 ≡ earlier.now }
         ensures room { IsRoomy self.new }
     {
-        self.locals.clear();
         self.seen.copy_from(reads);
         self.cells.copy_from(earlier);
-        self.shows.clear();
     }
 
-    /// Runs the body. The error says why, and at which statement, it fails.
+    /// Runs the body over these cells. The error says why, and at which statement, it fails.
     pub fn run(
         &mut self,
         edition: Edition,
-        txn: &PlacedTxn<'_>,
+        txn: &IndexedTxn<'_>,
         reads: &[Cell],
         earlier: &[Cell],
     ) -> Result<(), (Reason, u32)>
@@ -185,6 +187,28 @@ impl Work {
         ensures room { IsRoomy self.new }
     {
         self.begin(reads, earlier);
+        self.run_in_place(edition, txn)
+    }
+
+    /// Runs the body over the cells that it has. The error says why, and at which statement, it
+    /// fails.
+    pub fn run_in_place(
+        &mut self,
+        edition: Edition,
+        txn: &IndexedTxn<'_>,
+    ) -> Result<(), (Reason, u32)>
+        requires room { IsRoomy self.old }
+        requires well { IsWellFormedTxn (txn_of edition txn.now) }
+        requires sized { IsSized (txn_of edition txn.now) self.old }
+        ensures outcome { let start = start self.old.seen.0 self.old.cells.0 in
+            let txn = txn_of edition txn.now in
+            MatchResult result
+            (λ _. tables_from txn start 1 txn.body ≡ Ok (tables_of self.new))
+            (λ fault. tables_from txn start 1 txn.body ≡ Err fault) }
+        ensures room { IsRoomy self.new }
+    {
+        self.locals.clear();
+        self.shows.clear();
         for (i, row) in txn.rows().iter().enumerate() {
             if let Err(reason) = self.perform(edition, txn, row) {
                 return Err((reason, i as u32 + 1));
@@ -193,10 +217,23 @@ impl Work {
         Ok(())
     }
 
+    /// Lets go of all effects and cells.
+    pub fn clear(&mut self)
+        requires room { IsRoomy self.old }
+        ensures seen { self.new.seen.0 ≡ [] }
+        ensures cells { self.new.cells.0 ≡ [] }
+        ensures shows { self.new.shows.0 ≡ [] }
+        ensures room { IsRoomy self.new }
+    {
+        self.seen.clear();
+        self.cells.clear();
+        self.shows.clear();
+    }
+
     /// Undoes all effects: these are the cells before.
     pub fn take_back(&mut self, before: &[Cell])
         requires room { IsRoomy self.old }
-        requires few { length before.now ≤ 16 }
+        requires few { length before.now ≤ most_keys }
         ensures cells { self.new.cells.0 ≡ before.now }
         ensures shows { self.new.shows.0 ≡ [] }
         ensures room { IsRoomy self.new }

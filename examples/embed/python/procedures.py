@@ -37,7 +37,8 @@ def main(library):
     with bohm.Machine(ACCOUNTS, library=bohm.load(library)) as machine:
         transfer, audit = machine.prepare(TRANSFER), machine.prepare(AUDIT)
         print(transfer(from_="alice", to="bob", amount=30))
-        calls = [transfer.call("bob", "carol", 80), transfer.call("alice", "carol", amount=70), transfer.call("alice", "bob", 1)]
+        alice, bob, carol = map(machine.key, ["alice", "bob", "carol"])
+        calls = [transfer.call(bob, carol, 80), transfer.call(alice, carol, amount=70), transfer.call(alice, bob, 1)]
         print(*machine.run(calls), audit(), sep="\n")
         print("--", *(f"{key} {value}" for key, value in machine.store_at().items()), sep="\n")
 

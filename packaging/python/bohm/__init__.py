@@ -15,11 +15,11 @@ from .errors import (
 )
 from .library import SHARED, Library, load
 from .machine import Counts, Machine, answer
-from .procedures import Call, Procedure
+from .procedures import Call, Key, Procedure
 from .replies import Answer, Reason, Reply
 
 __all__ = [
     "SHARED", "Answer", "BohmError", "Call", "ClosedError", "Counts", "FutureError", "HasLogError", "HasStoreError",
-    "KeptError", "Library", "Machine", "NoKeyError", "OutOfMemoryError", "Procedure", "Reason", "RefusedError", "Reply",
-    "Status", "StoppedError", "TimestampsError", "TrimmedError", "UnfitError", "WaitingError", "answer", "load",
+    "KeptError", "Key", "Library", "Machine", "NoKeyError", "OutOfMemoryError", "Procedure", "Reason", "RefusedError",
+    "Reply", "Status", "StoppedError", "TimestampsError", "TrimmedError", "UnfitError", "WaitingError", "answer", "load",
 ]

@@ -63,6 +63,8 @@ class Library:
             "bohm_close_procedure": [handle],
             "bohm_open_calls": [handle, seed, c_uint32],
             "bohm_push": [handle, handle, POINTER(RawKey), c_size_t, POINTER(c_int64), c_size_t],
+            "bohm_key_handle": [handle, *text, POINTER(c_uint32)],
+            "bohm_push_named": [handle, handle, POINTER(c_uint32), c_size_t, POINTER(c_int64), c_size_t],
             "bohm_run_calls_held": [handle, handle],
             "bohm_clear_calls": [handle],
             "bohm_close_calls": [handle],

@@ -6,7 +6,7 @@ from typing import Any, Dict, Iterable, List, NamedTuple, Optional, Tuple
 
 from .errors import ClosedError, KeptError, RefusedError, Status, StoppedError, UnfitError, raise_for
 from .library import Library, RawArray, RawCounts, RawHandle, RawKey, Text, drawn_seed, load, octets
-from .procedures import Call, Procedure
+from .procedures import Call, Key, Procedure
 from .replies import ROW, Answer, Reply, answer_of, replies_of, store_of
 
 
@@ -99,11 +99,36 @@ class Machine:
             self.lists[edition] = raw
         return byref(self.lists[edition])
 
+    def key(self, name: Text) -> Key:
+        """Looks a key up, which stands for its name in calls on this machine: a program that calls the same keys over and
+        over looks each up once."""
+        key = Key(self, octets(name))
+        with self.lock:
+            self.opened()
+            self.handle_of(key, 1)
+        return key
+
+    def handle_of(self, key: Key, edition: int) -> int:
+        """The key's handle in the list of an edition's calls, which is made where there is none."""
+        handle = key.handles.get(edition)
+        if handle is None:
+            made = c_uint32(0)
+            raise_for(self.library.calls.bohm_key_handle(
+                self.list_of(edition), key.name, len(key.name), byref(made)))
+            handle = key.handles[edition] = made.value
+        return handle
+
     def push(self, calls: Any, call: Call) -> None:
-        keys = (RawKey * len(call.keys))(*[RawKey(key, len(key)) for key in call.keys])
-        values = (c_int64 * len(call.values))(*call.values)
-        raise_for(self.library.calls.bohm_push(
-            calls, call.procedure.opened(), keys, len(call.keys), values, len(call.values)))
+        procedure, values = call.procedure.opened(), (c_int64 * len(call.values))(*call.values)
+        handles = [self.handle_of(key, call.procedure.edition) for key in call.keys if isinstance(key, Key)]
+        if len(handles) == len(call.keys):
+            by = (c_uint32 * len(handles))(*handles)
+            status = self.library.calls.bohm_push_named(calls, procedure, by, len(handles), values, len(call.values))
+        else:
+            names = [key.name if isinstance(key, Key) else key for key in call.keys]
+            keys = (RawKey * len(names))(*[RawKey(name, len(name)) for name in names])
+            status = self.library.calls.bohm_push(calls, procedure, keys, len(names), values, len(call.values))
+        raise_for(status)
 
     def run(self, calls: Iterable[Call]) -> List[Reply]:
         """Runs calls of this machine's procedures, as `apply` runs the segment of their instances. All are of one

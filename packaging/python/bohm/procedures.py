@@ -1,7 +1,7 @@
 """Procedures: transactions with parameters, which are called as Python's functions are."""
 import keyword
 from ctypes import byref
-from typing import TYPE_CHECKING, Any, Dict, List, NamedTuple, Tuple
+from typing import TYPE_CHECKING, Any, Dict, List, NamedTuple, Tuple, Union
 
 from .errors import ClosedError, RefusedError, Status, raise_for
 from .library import RawHandle, Text, drawn_seed, octets
@@ -11,11 +11,26 @@ if TYPE_CHECKING:
     from .machine import Machine
 
 
+class Key:
+    """A key that a machine has looked up, which stands for its name in calls on that machine. `Machine.key` makes it."""
+
+    __slots__ = ("machine", "name", "handles")
+
+    def __init__(self, machine: "Machine", name: bytes) -> None:
+        self.machine = machine
+        self.name = name
+        # Its handles in the machine's lists of calls, of which each edition has one.
+        self.handles: Dict[int, int] = {}
+
+    def __repr__(self) -> str:
+        return f"<key {self.name.decode()}>"
+
+
 class Call(NamedTuple):
     """A procedure with its arguments, in the order of its parameters."""
 
     procedure: "Procedure"
-    keys: Tuple[bytes, ...]
+    keys: Tuple[Union[bytes, Key], ...]
     values: Tuple[int, ...]
 
 
@@ -39,7 +54,8 @@ class Procedure:
         reply = transfer(from_="alice", to="bob", amount=30)
 
     Arguments stand in the order of the parameters, keys before values, or are named. A parameter whose name is a word of
-    Python is named with an underscore behind it. `call` gives a call that `Machine.run` runs among others."""
+    Python is named with an underscore behind it. Keys are named by texts, or by what `Machine.key` gave. `call` gives a
+    call that `Machine.run` runs among others."""
 
     def __init__(self, machine: "Machine", text: Text) -> None:
         self.machine = machine
@@ -84,11 +100,19 @@ class Procedure:
             raise TypeError(f"without an argument: {', '.join(absent)}")
         return filled
 
+    def key_of(self, key: Union[Text, Key]) -> Union[bytes, Key]:
+        """A key's bytes, or itself where the machine has looked it up."""
+        if not isinstance(key, Key):
+            return octets(key)
+        if key.machine is not self.machine:
+            raise ValueError("a key is another machine's")
+        return key
+
     def call(self, *given: Any, **named: Any) -> Call:
-        """A call with these arguments: keys are texts, values are numbers of 64 bits."""
+        """A call with these arguments: keys are texts or of `Machine.key`, values are numbers of 64 bits."""
         filled = self.arguments(given, named)
         count = len(self.keys)
-        keys = tuple(octets(key) for key in filled[:count])
+        keys = tuple(map(self.key_of, filled[:count]))
         values = tuple(value_of(name, value) for name, value in zip(self.values, filled[count:]))
         return Call(self, keys, values)
 

@@ -5,6 +5,7 @@ use crate::raw::{self, Handle, Key};
 use crate::seed;
 use crate::text::Text;
 use std::ptr;
+use std::sync::atomic::{AtomicU64, Ordering};
 
 /// The edition of a procedure, and of the log that calls stand for.
 #[derive(Clone, Copy, Debug, PartialEq, Eq, Hash)]
@@ -44,12 +45,24 @@ impl Drop for Procedure {
 /// Procedures have at most so many keys.
 const MOST_KEYS: usize = 32;
 
+/// A key that a list of calls has looked up, by [`Calls::key`]. The list's calls name the key by it, until the list is
+/// dropped.
+#[derive(Clone, Copy, Debug, PartialEq, Eq, Hash)]
+pub struct KeyHandle {
+    list: u64,
+    number: u32,
+}
+
 /// Calls of procedures, which [`Machine::run`](crate::Machine::run) runs as a segment.
 #[derive(Debug)]
 pub struct Calls {
     pub(crate) raw: Handle,
+    number: u64,
     len: usize,
 }
+
+/// How many lists were made. Each has a number of its own, so that no other list takes its handles.
+static LISTS: AtomicU64 = AtomicU64::new(0);
 
 // SAFETY: `bohm.h` says that a list may go to another thread.
 unsafe impl Send for Calls {}
@@ -60,7 +73,16 @@ impl Calls {
         let mut raw = Handle::closed();
         // SAFETY: the handle is closed.
         done(unsafe { raw::bohm_open_calls(&mut raw, &seed::draw(), edition as u32) })?;
-        Ok(Calls { raw, len: 0 })
+        Ok(Calls { raw, number: LISTS.fetch_add(1, Ordering::Relaxed), len: 0 })
+    }
+
+    /// The handle of a key, by which [`push_named`](Calls::push_named) names it in this list. A key that is called over
+    /// and over is so looked up once. Each call makes a new one, which stays when the list is cleared.
+    pub fn key(&mut self, name: impl AsRef<[u8]>) -> Result<KeyHandle, Error> {
+        let (name, mut number) = (name.as_ref(), 0);
+        // SAFETY: the list is open until it is dropped, and the name has that length.
+        done(unsafe { raw::bohm_key_handle(&mut self.raw, name.as_ptr(), name.len(), &mut number) })?;
+        Ok(KeyHandle { list: self.number, number })
     }
 
     /// Adds a call with these arguments, in the order of the parameters. After an error the list is as it was.
@@ -81,6 +103,28 @@ impl Calls {
         Ok(())
     }
 
+    /// Adds a call as [`push`](Calls::push) does, whose keys are named by handles of this list.
+    pub fn push_named(&mut self, procedure: &Procedure, keys: &[KeyHandle], values: &[i64]) -> Result<(), Error> {
+        if keys.len() > MOST_KEYS {
+            return Err(Error::Unfit);
+        }
+        let mut room = [0; MOST_KEYS];
+        for (place, key) in room.iter_mut().zip(keys) {
+            if key.list != self.number {
+                return Err(Error::OtherList);
+            }
+            *place = key.number;
+        }
+        // SAFETY: both are open until they are dropped, and the arrays have these lengths.
+        done(unsafe {
+            raw::bohm_push_named(
+                &mut self.raw, &procedure.raw, room.as_ptr(), keys.len(), values.as_ptr(), values.len(),
+            )
+        })?;
+        self.len += 1;
+        Ok(())
+    }
+
     pub fn len(&self) -> usize {
         self.len
     }
@@ -89,7 +133,7 @@ impl Calls {
         self.len == 0
     }
 
-    /// Takes all calls out. Their room is kept for others.
+    /// Takes all calls out. Their room is kept for others, and handles stay.
     pub fn clear(&mut self) {
         // SAFETY: the list is open until it is dropped.
         unsafe { raw::bohm_clear_calls(&mut self.raw) };

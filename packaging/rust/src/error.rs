@@ -34,6 +34,8 @@ pub enum Error {
     Kept,
     /// An edition, a number of arguments or the number of calls doesn't fit.
     Unfit,
+    /// A key's handle is another list's.
+    OtherList,
     /// A status that this crate doesn't know: the library is another one than its header.
     Unknown(u32),
 }
@@ -53,6 +55,7 @@ impl fmt::Display for Error {
             Error::Stopped(_) => to.write_str("an allocation failed on the way"),
             Error::Kept => to.write_str("the replies could not be allocated, and wait"),
             Error::Unfit => to.write_str("an edition, a number of arguments or the number of calls doesn't fit"),
+            Error::OtherList => to.write_str("a key's handle is another list's"),
             Error::Unknown(status) => write!(to, "status {status}"),
         }
     }

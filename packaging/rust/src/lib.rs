@@ -26,7 +26,7 @@ mod replies;
 mod seed;
 mod text;
 
-pub use calls::{Calls, Edition, Procedure};
+pub use calls::{Calls, Edition, KeyHandle, Procedure};
 pub use error::Error;
 pub use machine::{answer, Counts, Machine};
 pub use replies::{Outcome, Reason, Replies, Reply};

@@ -79,6 +79,11 @@ extern "C" {
     pub fn bohm_push(
         calls: *mut Handle, procedure: *const Handle, keys: *const Key, key_count: usize, values: *const i64, value_count: usize,
     ) -> u32;
+    pub fn bohm_key_handle(calls: *mut Handle, key: *const u8, len: usize, handle: *mut u32) -> u32;
+    pub fn bohm_push_named(
+        calls: *mut Handle, procedure: *const Handle, handles: *const u32, handle_count: usize, values: *const i64,
+        value_count: usize,
+    ) -> u32;
     pub fn bohm_run_calls_held(machine: *mut Handle, calls: *const Handle) -> u32;
     pub fn bohm_clear_calls(calls: *mut Handle) -> u32;
     pub fn bohm_close_calls(calls: *mut Handle);

@@ -4,14 +4,15 @@ ghost use Rattle.std.specs.Prelude.{◌≡◌, ℕ, List, ◌-◌, ◌<◌, ◌�
 ghost use Rattle.std.specs.Prelude.{OnErr, length, slice_get, Some, true, false};
 ghost use Rattle.std.specs.Cmp.Lexicographic.{slice_cmp};
 ghost use Rattle.std.specs.Ordering.{nat_cmp};
-ghost use Rattle.bohm_tree.specs.Keys.{IsAmong, is_among, rising};
+ghost use Rattle.bohm_types.specs.Keys.{IsAmong, is_among, rising};
 ghost use Rattle.bohm_place.specs.Noting.{AreNoted, IsSetNoted};
 ghost use Rattle.bohm_place.specs.Plans.{keys_in, planned_in, HasSourcesOf};
 ghost use Rattle.bohm_board.specs.Bases.{keys_of, IsBase, IsBatched};
+ghost use Rattle.bohm_types.specs.Limits.{most_keys};
 
 use bohm_log::{LogPart, TxnView};
 use bohm_place::{DeclaredSet, Plan, Source};
-use bohm_tree::{Cell, Key};
+use bohm_types::{Cell, Key};
 use std::cmp::Ordering;
 
 /// The index of a key among entries sorted by key, or the index at which it would be inserted.
@@ -32,7 +33,7 @@ fn note_set(plan: &mut Plan, entries: &[(Key, Cell)], set: DeclaredSet, t: u32, 
     requires first { plan.old.first ≤ t }
     requires paired { length (keys_in set txn.now)
         ≡ length (planned_in set plan.old (t - plan.old.first)) }
-    requires few { length (keys_in set txn.now) ≤ 16 }
+    requires few { length (keys_in set txn.now) ≤ most_keys }
     requires rises { rising (keys_of entries.now) ≡ true }
     requires entries { length entries.now < 2 ^ 32 }
     requires there { (k : List ℕ) → IsAmong (keys_in set txn.now) k

@@ -23,8 +23,8 @@ use crate::pass::Pass;
 use crate::slot::Slot;
 use crate::status::{Claimed, Status};
 use atomic_table::Table;
-use bohm_tree::{Cell, NoMemory};
 use bohm_txn::Outcome;
+use bohm_types::{Cell, NoMemory};
 use std::alloc::Global;
 
 impl<'a> Board<'a> {

@@ -1,7 +1,7 @@
 //! The seven atomic steps on the words of a board, each one step of its table.
 
 ghost use Rattle.std.specs.Prelude.{◌≡◌, ◌≢◌, ◌+◌, ◌<◌, Some, None, length, slice_get, Contains};
-ghost use Rattle.bohm_tree.specs.declared.cell.Cell.{Cell};
+ghost use Rattle.bohm_types.specs.declared.cell.Cell.{Cell};
 ghost use Rattle.bohm_board.specs.Batches.{rights_of, right_cell, slot_numbered, timestamp};
 ghost use Rattle.bohm_board.specs.Passes.{IsSeatOf, batch_of};
 ghost use Rattle.bohm_board.specs.Steps.{IsFillable};
@@ -17,8 +17,8 @@ use crate::board::step_kinds::{
 use crate::encoding::{outcome_word, presence_word, value_word};
 use crate::knowledge::View;
 use atomic_table::Seat;
-use bohm_tree::{Cell, Value};
 use bohm_txn::Outcome;
+use bohm_types::{Cell, Value};
 
 impl<'a> Board<'a> {
     fn presence_at(&self, slot: usize) -> usize

@@ -11,8 +11,8 @@ use crate::batch::Batch;
 use crate::closed::Closed;
 use crate::encoding::{outcome_of_word, outcome_word, present_cell, slot_words};
 use crate::slot::Slot;
-use bohm_tree::Cell;
 use bohm_txn::Outcome;
+use bohm_types::Cell;
 
 impl<'a> Closed<'a> {
     pub fn batch(&self) -> &Batch<'a>

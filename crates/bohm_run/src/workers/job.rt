@@ -7,8 +7,8 @@ ghost use Rattle.bohm_run.specs.Sweeps.{IsShareSwept, IsReady, IsSwept};
 
 use bohm_board::{Board, Pass};
 use bohm_exec::{Aside, Gate, share_of, sweep};
-use bohm_tree::NoMemory;
 use bohm_txn::Scratch;
+use bohm_types::NoMemory;
 use std::alloc::Global;
 
 /// One of `count` workers: it has each position whose distance from the batch's first is its own

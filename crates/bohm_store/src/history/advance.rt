@@ -1,23 +1,24 @@
 //! Runs transactions one after another on the history.
 
-ghost use Rattle.std.specs.Prelude.{◌≡◌, ◌+◌, ◌-◌, ◌<◌, ◌≤◌, ◌^◌, [], ◌∷◌, length, map, IfOk, OnOk, OnErr};
+ghost use Rattle.std.specs.Prelude.{◌≡◌, ◌+◌, ◌-◌, ◌<◌, ◌≤◌, ◌^◌, []};
+ghost use Rattle.std.specs.Prelude.{◌∷◌, length, map, IfOk, OnOk, OnErr};
 ghost use Rattle.std.specs.Map.{keys_of};
 ghost use Rattle.bohm_txn.specs.Faulty.{IsWellFormedTxn};
 ghost use Rattle.bohm_txn.specs.Meaning.{body};
 ghost use Rattle.bohm_txn.specs.Serial.{after, outcome_of, shows_of};
 ghost use Rattle.bohm_store.specs.Nexts.{IsSame, IsSettledKept};
 ghost use Rattle.bohm_store.specs.Versions.{past};
-ghost use Rattle.bohm_store.specs.Writes.{AreNumbersOf, AreTxnWrites};
+ghost use Rattle.bohm_store.specs.Writes.{AreNumbersOf};
 
-use crate::base::{cells_by, cells_numbered};
+use crate::base::{push_cells, push_reads};
 use crate::history::History;
 use crate::numbered_write::NumberedWrite;
 use crate::numbering::number_all;
 use crate::seats::{Hints, Seats};
 use crate::workspace::{Workspace, list_versions};
 use bohm_log::{Keys, TxnView};
-use bohm_tree::NoMemory;
-use bohm_txn::{Outcome, Scratch, eval};
+use bohm_txn::{Outcome, Scratch, eval_in_place};
+use bohm_types::{Cell, NoMemory};
 
 impl History {
     /// Runs the transaction that follows the top on what its keys hold there, adds a version for each
@@ -47,12 +48,11 @@ impl History {
     {
         let hints = &mut seats.hints;
         self.number_writes(hints, &txn.writes(), &mut workspace.numbers)?;
-        let outcome = self.evaluate(txn, hints, workspace, scratch)?;
-        let begin = self.top() + 1;
         let numbers = workspace.numbers.as_slice();
-        list_versions(&mut workspace.writes, begin, numbers, scratch.cells())?;
-        let floor = begin.saturating_sub(keep);
-        self.add_versions(txn, workspace.writes.as_slice(), floor)?;
+        let outcome = self.evaluate(txn, hints, numbers, scratch);
+        let floor = (self.top() + 1).saturating_sub(keep);
+        let listed = &mut workspace.writes;
+        self.add_versions(txn, numbers, scratch.cells(), listed, floor)?;
         Ok(outcome)
     }
 
@@ -71,54 +71,63 @@ impl History {
         number_all(&mut self.names, hints, keys, numbers)
     }
 
-    // Runs a transaction on what its keys hold at the top.
+    // Runs a transaction on what its keys hold at the top, where its declared writes have these
+    // numbers.
     fn evaluate(
         &self,
         txn: &TxnView<'_>,
         hints: &mut Hints,
-        workspace: &mut Workspace,
+        numbers: &[u32],
         scratch: &mut Scratch,
-    ) -> Result<Outcome, NoMemory>
+    ) -> Outcome
         requires well { IsWellFormedTxn txn.now }
-        requires numbers { AreNumbersOf (keys_of self.now.chains) workspace.old.numbers.items
-            txn.now.writes }
-        ensures numbers { workspace.new.numbers.items ≡ workspace.old.numbers.items }
-        ensures outcome { IfOk result
-            (λ outcome. outcome_of (body (past self.now self.now.top) txn.now) ≡ outcome) }
-        ensures shows { OnOk result
-            (shows_of (body (past self.now self.now.top) txn.now) ≡ scratch.new.shows) }
-        ensures cells { OnOk result
-            (map (after (past self.now self.now.top) txn.now) txn.now.writes ≡ scratch.new.cells) }
+        requires numbers { AreNumbersOf (keys_of self.now.chains) numbers.now txn.now.writes }
+        ensures outcome { outcome_of (body (past self.now self.now.top) txn.now) ≡ result }
+        ensures shows { shows_of (body (past self.now self.now.top) txn.now) ≡ scratch.new.shows }
+        ensures cells { map (after (past self.now self.now.top) txn.now) txn.now.writes
+            ≡ scratch.new.cells }
     {
         let _ = self.names.as_slice();
-        let (reads, earlier) = (&mut workspace.reads, &mut workspace.earlier);
-        cells_by(&self.names, &self.numbered, hints, &txn.reads(), reads)?;
-        cells_numbered(&self.numbered, workspace.numbers.as_slice(), earlier)?;
-        Ok(eval(txn, reads.as_slice(), earlier.as_slice(), scratch))
+        scratch.clear();
+        push_reads(&self.names, &self.numbered, hints, &txn.reads(), scratch);
+        push_cells(&self.numbered, numbers, scratch);
+        let outcome = eval_in_place(txn, scratch);
+        match outcome {
+            Outcome::Commit => {}
+            Outcome::Abort { .. } => push_cells(&self.numbered, numbers, scratch),
+        }
+        outcome
     }
 
-    // Adds the versions of the transaction that follows the top, and trims at a floor.
+    // Adds the versions of the transaction that follows the top, and trims at a floor. The list is
+    // room to write in.
     fn add_versions(
         &mut self,
         txn: &TxnView<'_>,
-        writes: &[NumberedWrite],
+        numbers: &[u32],
+        cells: &[Cell],
+        listed: &mut Vec<NumberedWrite>,
         floor: u32,
     ) -> Result<(), NoMemory>
         requires well { IsWellFormedTxn txn.now }
         requires timestamp { self.old.top + 1 < 2 ^ 32 }
         requires floor { floor ≤ self.old.top + 1 }
-        requires writes { AreTxnWrites (keys_of self.old.chains) (self.old.top + 1)
-            (past self.old self.old.top) txn.now writes.now }
+        requires numbers { AreNumbersOf (keys_of self.old.chains) numbers.now txn.now.writes }
+        requires cells { map (after (past self.old self.old.top) txn.now) txn.now.writes
+            ≡ cells.now }
         ensures err { OnErr result (IsSame self.old self.new) }
         ensures ok { OnOk result (IsSettledKept self.old self.new (txn.now ∷ []) floor) }
     {
         self.numbered.cover(self.names.len())?;
         let names = self.names.as_slice();
         if floor > self.numbered.top() {
-            self.numbered.advance_newest(names, txn, writes);
+            self.numbered.advance_newest(names, txn, numbers, cells);
             return Ok(());
         }
-        self.numbered.advance_above(names, txn, writes, floor)?;
+        let begin = self.numbered.top() + 1;
+        list_versions(listed, begin, numbers, cells)?;
+        self.numbered
+            .advance_above(names, txn, listed.as_slice(), floor)?;
         Ok(())
     }
 }

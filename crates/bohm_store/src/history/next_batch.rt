@@ -13,7 +13,7 @@ use crate::seats::Seats;
 use bohm_board::Batch;
 use bohm_log::LogPart;
 use bohm_place::{BatchKeys, Plan};
-use bohm_tree::NoMemory;
+use bohm_types::NoMemory;
 use std::alloc::Global;
 
 impl History {

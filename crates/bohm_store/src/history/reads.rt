@@ -8,7 +8,7 @@ ghost use Rattle.bohm_store.specs.Versions.{IsCellAt, past, versions};
 use crate::base::cell_of;
 use crate::fault::{PastFault, StoreFault};
 use crate::history::History;
-use bohm_tree::{Cell, Key, Value};
+use bohm_types::{Cell, Key, Value};
 use std::alloc::Global;
 
 impl History {

@@ -14,7 +14,8 @@ impl History {
         requires { self.old.floor ≤ ts }
         ensures floor { self.new.floor ≡ self.old.floor }
         ensures top { self.new.top ≡ ts }
-        ensures versions { (k : List ℕ) → versions self.new k ≡ versions_to ts (versions self.old k) }
+        ensures versions { (k : List ℕ) → versions self.new k ≡ versions_to ts
+            (versions self.old k) }
         ensures past { (t : ℕ) → t ≤ ts → past self.new t ≡ past self.old t }
     {
         self.numbered.rewind(ts);

@@ -12,7 +12,7 @@ use crate::numbered_write::{NumberedWrite, numbered_writes};
 use crate::seats::{Hints, Seats};
 use bohm_board::Batch;
 use bohm_exec::Finished;
-use bohm_tree::NoMemory;
+use bohm_types::NoMemory;
 use std::alloc::Global;
 
 impl History {

@@ -1,5 +1,7 @@
-//! Runs the calls of a script of tests/procedures: `calls < SCRIPT` writes their answer.
-use bohm::{Calls, Edition, Machine, Procedure};
+//! Runs the calls of a script of tests/procedures: `calls < SCRIPT` writes their answer. Calls name their keys by handles and
+//! by texts in turn.
+use bohm::{Calls, Edition, KeyHandle, Machine, Procedure};
+use std::collections::HashMap;
 use std::error::Error;
 use std::io::{stdin, stdout, Write};
 
@@ -13,10 +15,22 @@ fn arguments(rest: &str) -> Result<(usize, Vec<&str>, Vec<i64>), Box<dyn Error>>
     Ok((number, keys, values))
 }
 
+/// The handles of these keys, each of which is looked up the first time.
+fn handles(calls: &mut Calls, known: &mut HashMap<String, KeyHandle>, keys: &[&str]) -> Result<Vec<KeyHandle>, bohm::Error> {
+    let mut found = Vec::new();
+    for &key in keys {
+        if !known.contains_key(key) {
+            known.insert(key.to_owned(), calls.key(key)?);
+        }
+        found.push(known[key]);
+    }
+    Ok(found)
+}
+
 fn main() -> Result<(), Box<dyn Error>> {
     let (mut store, mut text) = (String::new(), String::new());
     let (mut procedures, mut out) = (Vec::new(), stdout().lock());
-    let (mut machine, mut calls) = (None, Calls::new(Edition::One)?);
+    let (mut machine, mut calls, mut known) = (None, Calls::new(Edition::One)?, HashMap::new());
     for line in stdin().lines() {
         let line = line?;
         let (word, rest) = line.split_once(' ').unwrap_or((&line, ""));
@@ -27,7 +41,12 @@ fn main() -> Result<(), Box<dyn Error>> {
             "prepare" => procedures.push(Procedure::prepare(std::mem::take(&mut text))?),
             "push" => {
                 let (number, keys, values) = arguments(rest)?;
-                calls.push(&procedures[number], &keys, &values)?;
+                if calls.len() % 2 == 0 {
+                    let named = handles(&mut calls, &mut known, &keys)?;
+                    calls.push_named(&procedures[number], &named, &values)?;
+                } else {
+                    calls.push(&procedures[number], &keys, &values)?;
+                }
             }
             "run" => {
                 let machine = match &mut machine {
@@ -44,6 +63,9 @@ fn main() -> Result<(), Box<dyn Error>> {
     let top = machine.top();
     let snapshot = machine.store_at(top)?;
     assert_eq!(Machine::open(&snapshot, top)?.digest(top)?, machine.digest(top)?);
+    let stranger = Calls::new(Edition::One)?.key("a")?;
+    let refused = calls.push_named(&procedures[0], &[stranger], &[]);
+    assert!(matches!(refused, Err(bohm::Error::OtherList)), "another list's handle is taken");
     write!(out, "--\n{}", &snapshot.as_str()[6..])?;
     Ok(())
 }

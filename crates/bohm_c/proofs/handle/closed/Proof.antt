@@ -39,4 +39,5 @@ closed_spec 𝓤 𝓛 𝓜 𝓡 wired =
     enter ! 𝓣.C 𝓣.Λ fn [] Post $ alloc_all ! (λ l. pass_all ! refl tt $
     sets ! (agg ! (and_then ! (lit ! tt) (no_more !))) refl (tt, (record { fits = lit< tt }, tt)) $ held_none ! $
     use0 𝓛 (raw (fact 𝓤 (nothing_kept ≡ nothing_kept))) (fact_i 𝓤 (nothing_kept ≡ nothing_kept) (emp 𝓤) refl) $ nothing ! $
-    returns ! (look_at ! 0 refl) $ free_all ! refl $ keep ! (3 ∷ 0 ∷ 2 ∷ 1 ∷ []) $ by ! (leaves 𝓛 En hs c z (one null_val) (record { at = null_ptr; value = None }) tt tt)))
+    returns ! (look_at ! 0 refl) $ free_all ! refl $ keep ! (3 ∷ 0 ∷ 2 ∷ 1 ∷ [])
+    $ by ! (leaves 𝓛 En hs c z (one null_val) (record { at = null_ptr; value = None }) tt tt)))

@@ -1,5 +1,5 @@
 use Rattle.std.proofs.Common.{◌≡◌, ◌+◌, ◌-◌, ◌≤◌, drop, length}
-use Rattle.bohm_tree.specs.Keys.{names_of}
+use Rattle.bohm_types.specs.Keys.{names_of}
 use Rattle.bohm_check.specs.Lines.{first_fall}
 use Rattle.bohm_check.proofs.finding.first_fall.Given as goal
 

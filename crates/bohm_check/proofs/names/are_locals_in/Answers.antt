@@ -7,9 +7,11 @@ use Rattle.bohm_check.proofs.names.are_locals_in.Goals as goal
 pub returns-then-not-is_local_in : goal.returns-then-not-is_local_in
 returns-then-not-is_local_in c =
     let fails : locals_in c.args.names.now (atom_shown c.term.result.atom) ≡ false = cc in
-    one_fails (λ term. locals_in c.args.names.now term.1) c.args.sum.now c.loop-index.index c.loop-index.invariant (term_shown c.term.result) c.term.ensures fails
+    one_fails (λ term. locals_in c.args.names.now term.1) c.args.sum.now c.loop-index.index c.loop-index.invariant
+    (term_shown c.term.result) c.term.ensures fails
 
 pub loop-index-preserved : goal.loop-index-preserved
 loop-index-preserved c =
     let holds : locals_in c.args.names.now (atom_shown c.term.result.atom) ≡ true = cc in
-    one_passes (λ term. locals_in c.args.names.now term.1) c.args.sum.now c.loop-index.index c.loop-index.invariant (term_shown c.term.result) c.term.ensures holds
+    one_passes (λ term. locals_in c.args.names.now term.1) c.args.sum.now c.loop-index.index c.loop-index.invariant
+    (term_shown c.term.result) c.term.ensures holds

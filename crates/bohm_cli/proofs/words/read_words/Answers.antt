@@ -25,7 +25,8 @@ made c =
     let plain = c.default-defaults.ensures in
     let cc = read (codes "cc") 1 MOST_WORKERS (omega arith) refl refl _ _ _ _ (c.count.ensures.count ∙ c.cc.ensures.value ∙ ap (λ (g : Given). g.cc) plain)
     (rw c.count.ensures.count c.cc.ensures.in_range) c.unwrap_or.ensures c.get_one.ensures.none c.get_one.ensures.value in
-    let exec = read (codes "exec") 1 MOST_WORKERS (omega arith) refl refl _ _ _ _ (c.count-2.ensures.count ∙ c.exec.ensures.value ∙ ap (λ (g : Given). g.exec) plain)
+    let exec = read (codes "exec") 1 MOST_WORKERS (omega arith) refl refl _ _ _ _
+    (c.count-2.ensures.count ∙ c.exec.ensures.value ∙ ap (λ (g : Given). g.exec) plain)
     (rw c.count-2.ensures.count c.exec.ensures.in_range) c.unwrap_or-2.ensures c.get_one-2.ensures.none c.get_one-2.ensures.value in
     let parts = read (codes "parts") 1 MOST_PARTS (omega arith) refl refl _ _ _ _ (c.parts.ensures.value ∙ ap (λ (g : Given). g.parts) plain)
     c.parts.ensures.in_range c.unwrap_or-3.ensures c.get_one-3.ensures.none c.get_one-3.ensures.value in
@@ -33,7 +34,8 @@ made c =
     c.batch.ensures.in_range c.unwrap_or-4.ensures c.get_one-4.ensures.none c.get_one-4.ensures.value in
     let keep = read (codes "keep") 0 MOST_KEPT (omega arith) refl refl _ _ _ _ (c.timestamps.ensures ∙ c.keep.ensures.value ∙ ap (λ (g : Given). g.keep) plain)
     (omega arith, rw c.timestamps.ensures c.keep.ensures.in_range) c.unwrap_or-5.ensures c.get_one-5.ensures.none c.get_one-5.ensures.value in
-    let at = number _ _ _ c.in_ok-matches.ensures.parsed is refl refl (codes "at") 0 4294967295 (omega arith) refl refl _ c.get_one-6.ensures.none c.get_one-6.ensures.value in
+    let at = number _ _ _ c.in_ok-matches.ensures.parsed is refl refl (codes "at") 0 4294967295
+    (omega arith) refl refl _ c.get_one-6.ensures.none c.get_one-6.ensures.value in
     let same = same_settings _ _ (c.in_ok-matches.ensures.rows ∙ same_rows _ _ _ _ is line) in
     settings_read (rows_of (found_of c.in_ok-matches.matches)) _ cc exec parts batch keep at _ c.new-settings.ensures ∙ ap Some same
 

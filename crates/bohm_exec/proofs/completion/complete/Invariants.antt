@@ -4,4 +4,7 @@ use Rattle.bohm_board.specs.Closings.{batch_of_closed, IsFinished}
 use Rattle.bohm_exec.proofs.completion.complete.Given as goal
 
 abbrev pub invariant-loop-distance : goal.invariant-loop-distance
-invariant-loop-distance l = record { batch : batch_of_closed l.closed ≡ batch_of_closed l.fn.closed; finished : (u : ℕ) → IsIn (batch_of_closed l.closed) u → position (batch_of_closed l.closed) u < l.distance → IsFinished l.closed u }
+invariant-loop-distance l = record {
+  batch : batch_of_closed l.closed ≡ batch_of_closed l.fn.closed;
+  finished : (u : ℕ) → IsIn (batch_of_closed l.closed) u → position (batch_of_closed l.closed) u < l.distance → IsFinished l.closed u;
+}

@@ -16,7 +16,8 @@ loop-index-init c = record { batch = refl; statuses = λ u. refl; all = λ j l. 
 
 pub set_cell-requires-clause-inside : goal.set_cell-requires-clause-inside
 set_cell-requires-clause-inside c =
-    let here : IsSlot (batch_of_closed c.args.closed.now) (slot_of c.args.t c.loop-index.index) = record { txn = c.requires.inside; index = below (goal.at.set_cell-requires-clause-inside c).After-slot_cell } in
+    let here : IsSlot (batch_of_closed c.args.closed.now) (slot_of c.args.t c.loop-index.index) =
+    record { txn = c.requires.inside; index = below (goal.at.set_cell-requires-clause-inside c).After-slot_cell } in
     subst (λ (b : Batch). IsSlot b (slot_of c.args.t c.loop-index.index)) (sym c.loop-index.invariant.batch) here
 
 pub set_cell-requires-clause-unfinished : goal.set_cell-requires-clause-unfinished

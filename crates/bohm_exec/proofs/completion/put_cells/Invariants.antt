@@ -4,4 +4,8 @@ use Rattle.bohm_exec.specs.Handed.{slot_of}
 use Rattle.bohm_exec.proofs.completion.put_cells.Given as goal
 
 abbrev pub invariant-loop-index : goal.invariant-loop-index
-invariant-loop-index l = record { batch : batch_of_closed l.closed ≡ batch_of_closed l.fn.closed; statuses : (u : ℕ) → status_in l.closed u ≡ status_in l.fn.closed u; all : (j : ℕ) → j < l.index → HasCell l.closed (slot_of l.t j) }
+invariant-loop-index l = record {
+  batch : batch_of_closed l.closed ≡ batch_of_closed l.fn.closed;
+  statuses : (u : ℕ) → status_in l.closed u ≡ status_in l.fn.closed u;
+  all : (j : ℕ) → j < l.index → HasCell l.closed (slot_of l.t j);
+}

@@ -15,7 +15,8 @@ taken : (c : After-slot_at) → TakesSlot (accesses_in c.args.set (batch_of_clos
 taken c = subst (λ (b : Batch). TakesSlot (accesses_in c.args.set b c.args.t) c.loop-index.index c.slot_at.result) c.batch-batch.ensures c.slot_at.ensures
 
 here : (c : In-Some) → TakesSlot (accesses_in c.args.set (batch_of_closed c.args.closed.now) c.args.t) c.loop-index.index (Some c.in-Some.slot)
-here c = subst (λ (o : Option Slot). TakesSlot (accesses_in c.args.set (batch_of_closed c.args.closed.now) c.args.t) c.loop-index.index o) c.in-Some.is (taken (goal.at.In-Some c).After-slot_at)
+here c = subst (λ (o : Option Slot). TakesSlot (accesses_in c.args.set (batch_of_closed c.args.closed.now) c.args.t) c.loop-index.index o) c.in-Some.is
+    (taken (goal.at.In-Some c).After-slot_at)
 
 earlier : (c : In-Some) → IsEarlier (batch_of_closed c.args.closed.now) c.args.t (here c).access c.in-Some.slot.txn
 earlier c =
@@ -61,4 +62,5 @@ loop-index-preserved c =
 pub returns : goal.returns
 returns c =
     let b = batch_of_closed c.args.closed.now in
-    are_found b (accesses_in c.args.set b c.args.t) c.loop-index.cells c.loop-index.index (omega (arith, ap (λ (z : Batch). length (accesses_in c.args.set z c.args.t)) c.batch-batch.ensures)) c.loop-index.invariant
+    are_found b (accesses_in c.args.set b c.args.t) c.loop-index.cells c.loop-index.index
+    (omega (arith, ap (λ (z : Batch). length (accesses_in c.args.set z c.args.t)) c.batch-batch.ensures)) c.loop-index.invariant

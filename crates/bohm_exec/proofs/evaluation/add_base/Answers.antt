@@ -42,7 +42,8 @@ loop-index-preserved c =
             let keys = keys_in set x in
             let k = get_or keys n [] in
             let low : n < length keys = omega (arith, keys_paired b set c.args.t x is, c.requires.paired, c.loop-index.auto.cells) in
-            rw w.cells-is (within_there b keys accesses cells n k a w.in-Within.field-0 inv.found (inv.cells x is) (slice_get-get_or keys n [] low) at w.in-Within.is);
+            rw w.cells-is (within_there b keys accesses cells n k a w.in-Within.field-0 inv.found (inv.cells x is)
+            (slice_get-get_or keys n [] low) at w.in-Within.is);
       }
     ]
 
@@ -51,4 +52,8 @@ returns c = λ x is.
     let b = c.args.batch.now in
     let keys = keys_in c.args.set x in
     let even = keys_paired b c.args.set c.args.t x is in
-    record { paired = omega (arith, even, c.requires.paired, c.loop-index.auto.cells); each = λ j k a cell at_key at here. let within = slice_get_within keys j k at_key in c.loop-index.invariant.cells x is j k a cell (omega arith) at_key at here }
+    record {
+      paired = omega (arith, even, c.requires.paired, c.loop-index.auto.cells);
+      each = λ j k a cell at_key at here. let within = slice_get_within keys j k at_key in
+          c.loop-index.invariant.cells x is j k a cell (omega arith) at_key at here;
+    }

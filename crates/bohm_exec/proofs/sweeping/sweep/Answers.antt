@@ -9,7 +9,7 @@ use Rattle.bohm_board.specs.Batches.{Leads}
 use Rattle.bohm_board.specs.Passes.{batch_of, view}
 use Rattle.bohm_board.proofs.ForCallers.{keeps_then}
 use Rattle.bohm_exec.specs.Asides.{IsAccountedFor, positions_in}
-use Rattle.bohm_exec.specs.Turns.{IsEmptyFor, IsFree}
+use Rattle.bohm_exec.specs.Steps.{IsEmptyFor, IsFree}
 use Rattle.bohm_exec.proofs.Accounts.{accounted_later, accounted_pushed, accounted_here, accounted_as, next, busy_more, picked_skip, picked_pair}
 use Rattle.bohm_exec.proofs.sweeping.sweep.Goals as goal
 use Rattle.bohm_exec.proofs.sweeping.sweep.Goals.{in-Some+in-Ok, in_default}
@@ -50,7 +50,8 @@ loop-start-preserved g c =
             leads = rw grown (All-push (λ (q : ℕ × ℕ). Leads b q.0 q.1) pairs p inv.leads leads);
             busy = rw grown (busy_more (view c.args.pass.now).busy old.busy new.busy pairs p inv.busy w.in-Some.ensures.busy);
             each = rw grown (next (IsAccountedFor b new (pairs ++ p ∷ [])) share n
-                (λ i l. accounted_pushed b new pairs p (get_or share i 0) (accounted_later b old new pairs (get_or share i 0) keeps (inv.each i l))) (accounted_here b new pairs p));
+                (λ i l. accounted_pushed b new pairs p (get_or share i 0) (accounted_later b old new pairs (get_or share i 0) keeps (inv.each i l)))
+                (accounted_here b new pairs p));
             order = rw grown (rw front (picked_pair pairs p (take n share) inv.order));
           }
       | in_default w ↦ record {
@@ -63,7 +64,8 @@ loop-start-preserved g c =
         keeps = all;
         leads = rw w.pairs-is inv.leads;
         busy = rw w.pairs-is (w.in_default.ensures.busy ∙ inv.busy);
-        each = rw w.pairs-is (next (IsAccountedFor b new pairs) share n (λ i l. accounted_later b old new pairs (get_or share i 0) keeps (inv.each i l)) (inl w.in_default.ensures.done));
+        each = rw w.pairs-is (next (IsAccountedFor b new pairs) share n (λ i l. accounted_later b old new pairs (get_or share i 0) keeps (inv.each i l))
+            (inl w.in_default.ensures.done));
         order = rw w.pairs-is (rw front (picked_skip (positions_in pairs) (take n share) start inv.order));
       }
     ]
@@ -72,5 +74,6 @@ pub returns-clause-each : goal.returns-clause-each
 returns-clause-each g c =
     let b = batch_of c.args.board.now in
     let share = c.args.share.now in
-    let each = All-from_get_or (IsAccountedFor b (view c.loop-start.sweeper.stepper.pass.now) c.loop-start.pairs.items) share 0 (λ i l. c.loop-start.invariant.each i (omega arith)) in
+    let each = All-from_get_or (IsAccountedFor b (view c.loop-start.sweeper.stepper.pass.now) c.loop-start.pairs.items) share 0
+    (λ i l. c.loop-start.invariant.each i (omega arith)) in
     rw c.new.ensures (accounted_as b (view c.loop-start.sweeper.stepper.pass.now) c.loop-start.pairs.items share _ (search rules) each)

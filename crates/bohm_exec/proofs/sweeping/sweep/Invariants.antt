@@ -4,7 +4,7 @@ use Rattle.std.specs.Vec.{vec_capacity}
 use Rattle.bohm_board.specs.Batches.{Leads}
 use Rattle.bohm_board.specs.Passes.{Keeps, batch_of, view}
 use Rattle.bohm_exec.specs.Asides.{IsAccountedFor, IsPickedFrom, positions_in, busy_in}
-use Rattle.bohm_exec.specs.Turns.{IsEmptyFor, IsFree}
+use Rattle.bohm_exec.specs.Steps.{IsEmptyFor, IsFree}
 use Rattle.bohm_exec.proofs.sweeping.sweep.Given as goal
 
 abbrev pub invariant-loop-start : goal.invariant-loop-start

@@ -17,10 +17,17 @@ loop-to-preserved c =
     elim c.if-not-sure.branch [
       | then-not-sure+in_ok-put_arrows-2 w ↦
           let unsure : c.sure.result ≡ false = search (rules, w.if-not-sure.true) in
-          rw w.out-is (record { arrows = of_unsure txns p x c.txn.ensures _ _ before reads _ (sym c.sure.ensures ∙ unsure) w.in_ok-put_arrows-2.ensures.arrows; few = omega (arith, c.loop-to.invariant.few, c.in_ok-put_arrows.ensures.few, w.in_ok-put_arrows-2.ensures.few) })
+          rw w.out-is (record {
+            arrows = of_unsure txns p x c.txn.ensures _ _ before reads _ (sym c.sure.ensures ∙ unsure)
+                w.in_ok-put_arrows-2.ensures.arrows;
+            few = omega (arith, c.loop-to.invariant.few, c.in_ok-put_arrows.ensures.few, w.in_ok-put_arrows-2.ensures.few);
+          })
       | else-not-sure w ↦
           let is_sure : c.sure.result ≡ true = search (rules, w.if-not-sure.false) in
-          rw w.out-is (record { arrows = of_sure txns p x c.txn.ensures _ _ before reads (sym c.sure.ensures ∙ is_sure); few = omega (arith, c.loop-to.invariant.few, c.in_ok-put_arrows.ensures.few) })
+          rw w.out-is (record {
+            arrows = of_sure txns p x c.txn.ensures _ _ before reads (sym c.sure.ensures ∙ is_sure);
+            few = omega (arith, c.loop-to.invariant.few, c.in_ok-put_arrows.ensures.few);
+          })
     ]
 
 pub returns-clause-inside : goal.returns-clause-inside

@@ -12,7 +12,13 @@ overflow_add-counts c =
     let q : ℕ = (get_or ds i 0 - 1) / c.args.width in
     let inside : i < length ds = omega arith in
     let below : q < 200 = band_below c.args.deepest c.args.width ds c.requires.depths c.requires.wide i inside in
-    omega (arith, c.loop-depth.invariant.counts q below, count_by-le-length (is_in (band_at c.args.deepest c.args.width q)) (take i ds), length-take i ds, c.requires.few)
+    omega (
+      arith,
+      c.loop-depth.invariant.counts q below,
+      count_by-le-length (is_in (band_at c.args.deepest c.args.width q)) (take i ds),
+      length-take i ds,
+      c.requires.few,
+    )
 
 pub loop-depth-init : goal.loop-depth-init
 loop-depth-init c = record { length = refl; counts = λ k few. get_or-replicate 200 k 0 0 few }
@@ -24,5 +30,6 @@ loop-depth-preserved c =
     let inside : i < length ds = omega arith in
     record {
       length = length-set c.loop-depth.counts _ _ ∙ c.loop-depth.invariant.length;
-      counts = counted c.args.deepest c.args.width ds c.requires.depths c.requires.wide c.loop-depth.counts i inside c.loop-depth.invariant.length c.loop-depth.invariant.counts;
+      counts = counted c.args.deepest c.args.width ds c.requires.depths c.requires.wide c.loop-depth.counts i inside c.loop-depth.invariant.length
+          c.loop-depth.invariant.counts;
     }

@@ -30,4 +30,5 @@ loop-before-preserved c =
     let same_band = ap (λ (b : Band). out ++ band_line n b count) c.band_at-band.ensures in
     let same_count = ap (λ (m : ℕ). out ++ band_line n band m) (c.band_counts-counts.ensures.counts n below) in
     let line = c.in_ok-put_band.ensures ∙ (same_band ∙ same_count) in
-    rw add-one (one_more c.args.out.now.items (bands_below deepest width ds n) (band_line n band (count_by (is_in band) ds)) out next c.loop-before.invariant line)
+    rw add-one (one_more c.args.out.now.items (bands_below deepest width ds n)
+    (band_line n band (count_by (is_in band) ds)) out next c.loop-before.invariant line)

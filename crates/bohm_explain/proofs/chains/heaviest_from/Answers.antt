@@ -21,7 +21,8 @@ loop-index-preserved c =
     let to_in : a.to < length hs = omega (arith, inside.1) in
     let from_in : a.from < length hs = omega (arith, inside.0) in
     let at_to : c.index.result.now ≡ get_or hs a.to 0 = get_or_read hs a.to c.index.result.now to_in c.index.ensures 0 in
-    let at_from : c.index-in-loop-index.result.now ≡ get_or hs a.from 0 = get_or_read hs a.from c.index-in-loop-index.result.now from_in c.index-in-loop-index.ensures 0 in
+    let at_from : c.index-in-loop-index.result.now ≡ get_or hs a.from 0 =
+    get_or_read hs a.from c.index-in-loop-index.result.now from_in c.index-in-loop-index.ensures 0 in
     let value : c.max.result ≡ max (get_or hs a.from 0) (get_or w a.from 0 + get_or hs a.to 0) = rw (← at_from, ← at_to) c.max.ensures in
     let light_from = c.loop-index.invariant.light a.from in
     let light_to = c.loop-index.invariant.light a.to in
@@ -30,7 +31,8 @@ loop-index-preserved c =
     record {
       paired = omega (arith, length-set hs a.from c.max.result);
       chains = one_before w hs (drop (index - 1) arrows) (drop index arrows) a c.max.result first c.loop-index.invariant.chains value;
-      light = λ k. bounded_set hs a.from c.max.result (3072 * ((length arrows - (index - 1)) + 1)) k (λ j. let h = c.loop-index.invariant.light j in omega (arith, wide)) (omega (arith, wide, value));
+      light = λ k. bounded_set hs a.from c.max.result (3072 * ((length arrows - (index - 1)) + 1)) k
+          (λ j. let h = c.loop-index.invariant.light j in omega (arith, wide)) (omega (arith, wide, value));
     }
 
 made : (c : goal.After-loop-index) → c.loop-index.heaviest.items ≡ heaviest_from c.args.weights.now c.args.arrows.now

@@ -11,7 +11,8 @@ made c =
     let weights = c.args.weights.now in
     let arrows = c.args.arrows.now in
     let so_far = c.loop-arrow.heaviest.items in
-    let all : so_far ≡ fold (lengthened weights) weights arrows = sym (at_drop_all (fold (lengthened weights) so_far) arrows c.loop-arrow.arrow-index c.loop-arrow-test.false) ∙ c.loop-arrow.invariant.chains in
+    let all : so_far ≡ fold (lengthened weights) weights arrows =
+    sym (at_drop_all (fold (lengthened weights) so_far) arrows c.loop-arrow.arrow-index c.loop-arrow-test.false) ∙ c.loop-arrow.invariant.chains in
     made_to weights arrows c.requires.rising c.requires.inside so_far c.loop-arrow.invariant.paired all
 
 pub returns-clause-chains : goal.returns-clause-chains

@@ -23,7 +23,8 @@ pub put_picture-requires-clause-depths : goal.put_picture-requires-clause-depths
 put_picture-requires-clause-depths c =
     let same = c.as_slice-depths.ensures.value ∙ c.in_ok-waits.ensures.depths in
     let few = c.requires.few in
-    subst (λ (ds : List ℕ). All (IsBetween 1 4096) ds) (sym same) (λ k d inside. let (least, most) = depths_between c.args.txns.now k d inside in (least, omega (arith, most, few)))
+    subst (λ (ds : List ℕ). All (IsBetween 1 4096) ds) (sym same)
+    (λ k d inside. let (least, most) = depths_between c.args.txns.now k d inside in (least, omega (arith, most, few)))
 
 pub returns : goal.returns
 returns c =

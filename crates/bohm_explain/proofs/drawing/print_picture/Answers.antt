@@ -1,5 +1,5 @@
 use Rattle.std.proofs.Common.{◌<◌, ◌-◌, List, length, subst, sym, arith}
-use Rattle.bohm_tree.specs.Txn.{Txn}
+use Rattle.bohm_types.specs.Txn.{Txn}
 use Rattle.bohm_explain.specs.Figures.{batch_count}
 use Rattle.bohm_explain.proofs.Cutting.{not_empty}
 use Rattle.bohm_explain.proofs.drawing.print_picture.Goals as goal

@@ -14,7 +14,8 @@ pub explain_batch-requires-clause-room : goal.explain_batch-requires-clause-room
 explain_batch-requires-clause-room c =
     let log = c.args.log.now in
     let before = c.loop-index.index * c.args.size in
-    can_take (take before log) (chained_below c.args.size log c.loop-index.index) c.loop-index.keys (length c.batch_at-txns.result) c.loop-index.invariant.keys (omega (arith, length-take before log, c.requires.few, c.batch_at-txns.ensures.few, c.requires.size))
+    can_take (take before log) (chained_below c.args.size log c.loop-index.index) c.loop-index.keys (length c.batch_at-txns.result)
+    c.loop-index.invariant.keys (omega (arith, length-take before log, c.requires.few, c.batch_at-txns.ensures.few, c.requires.size))
 
 pub loop-index-preserved : goal.loop-index-preserved
 loop-index-preserved c =
@@ -31,7 +32,9 @@ loop-index-preserved c =
     record {
       figures = figures_more size log i txns is _ _ _ c.loop-index.invariant.figures c.in_ok-explain_batch.ensures.figures c.in_ok-push.ensures.items;
       few = omega (arith, pushed, few);
-      newest = All-weaker (λ (v : Placeholder). v.begin < (i * size + 1) + length txns) (λ (v : Placeholder). v.begin < (i + 1) * size + 1) (λ v lt. (let next : (i + 1) * size ≡ i * size + size = omega arith in omega (arith, lt, next, c.batch_at-txns.ensures.few))) c.in_ok-next.next c.in_ok-next.ensures.below;
+      newest = All-weaker (λ (v : Placeholder). v.begin < (i * size + 1) + length txns) (λ (v : Placeholder). v.begin < (i + 1) * size + 1)
+          (λ v lt. (let next : (i + 1) * size ≡ i * size + size = omega arith in omega (arith, lt, next, c.batch_at-txns.ensures.few))) c.in_ok-next.next
+          c.in_ok-next.ensures.below;
       keys = keys_more size log i txns is _ (c.in_ok-explain_batch.ensures.noted _ _ c.loop-index.invariant.keys);
       longest = one_more size log i there old new c.loop-index.invariant.longest txns is
           (subst (λ (first : ℕ). IsLonger first txns old new) c.in_ok-next.ensures.planned.first c.in_ok-explain_batch.ensures.longest);

@@ -13,7 +13,8 @@ returns c =
     let writers = number_field (codes "writers") h.writers in
     let readers = number_field (codes "readers") h.readers in
     let chain = number_field (codes "chain") h.chain in
-    let named = c.in_ok-extend_from_slice-2.ensures.items ∙ ap (λ (name : List ℕ). c.extend_from_slice.new.self.items ++ name) (c.as_slice.ensures.name ∙ c.text.ensures.same) in
+    let named = c.in_ok-extend_from_slice-2.ensures.items
+    ∙ ap (λ (name : List ℕ). c.extend_from_slice.new.self.items ++ name) (c.as_slice.ensures.name ∙ c.text.ensures.same) in
     let to_quote = three start opened h.key quote _ _ _ c.in_ok-extend_from_slice.ensures.items named c.in_ok-extend_from_slice-3.ensures.items in
     let to_writers = one_more start (opened ++ h.key ++ quote) writers _ _ to_quote c.in_ok-put_field.ensures in
     let to_readers = one_more start (opened ++ h.key ++ quote ++ writers) readers _ _ to_writers c.in_ok-put_field-2.ensures in

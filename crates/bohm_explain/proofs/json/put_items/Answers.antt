@@ -7,7 +7,8 @@ use Rattle.bohm_explain.proofs.json.put_items.Goals as goal
 pub returns : goal.returns
 returns c =
     let xs = c.args.figures.now in
-    let nil : figures_from c.loop-index.index (drop c.loop-index.index xs) ≡ [] = at_drop_all (figures_from c.loop-index.index) xs c.loop-index.index c.loop-index-test.false in
+    let nil : figures_from c.loop-index.index (drop c.loop-index.index xs) ≡ [] =
+    at_drop_all (figures_from c.loop-index.index) xs c.loop-index.index c.loop-index-test.false in
     sym (append-nil c.loop-index.out.items) ∙ (ap (λ (w : List ℕ). c.loop-index.out.items ++ w) (sym nil) ∙ c.loop-index.invariant)
 
 pub loop-index-preserved : goal.loop-index-preserved

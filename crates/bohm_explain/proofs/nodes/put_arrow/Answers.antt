@@ -22,4 +22,5 @@ returns c =
     c.in_ok-put_key-2.ensures
     c.in_ok-extend_from_slice-5.ensures.items
     c.in_ok-put_where.ensures in
-    one_more start (codes "  " ++ from ++ codes " -> " ++ to ++ codes " [key=\"" ++ key ++ codes "\", label=\"" ++ key ++ codes "\"]" ++ bold) (codes ";\n") _ _ before c.in_ok-extend_from_slice-6.ensures.items
+    one_more start (codes "  " ++ from ++ codes " -> " ++ to ++ codes " [key=\"" ++ key ++ codes "\", label=\"" ++ key ++ codes "\"]" ++ bold)
+    (codes ";\n") _ _ before c.in_ok-extend_from_slice-6.ensures.items

@@ -32,8 +32,13 @@ returns c =
     let to_layout = one_more start (opening c.args.batch ++ legend) layout told laid to_legend c.in_ok-extend_from_slice.ensures.items in
     let to_heads = one_more start (opening c.args.batch ++ legend ++ layout) head_style laid headed to_layout c.in_ok-extend_from_slice-2.ensures.items in
     let to_columns = one_more start (opening c.args.batch ++ legend ++ layout ++ head_style) columns headed parted to_heads deep in
-    let to_shapes = one_more start (opening c.args.batch ++ legend ++ layout ++ head_style ++ columns) node_style parted shaped to_columns c.in_ok-extend_from_slice-3.ensures.items in
-    let to_nodes = one_more start (opening c.args.batch ++ legend ++ layout ++ head_style ++ columns ++ node_style) nodes shaped placed to_shapes c.in_ok-put_nodes.ensures in
-    let to_edges = one_more start (opening c.args.batch ++ legend ++ layout ++ head_style ++ columns ++ node_style ++ nodes) arrow_style placed edged to_nodes c.in_ok-extend_from_slice-4.ensures.items in
-    let to_arrows = one_more start (opening c.args.batch ++ legend ++ layout ++ head_style ++ columns ++ node_style ++ nodes ++ arrow_style) arrows edged joined to_edges c.in_ok-put_arrows.ensures in
-    one_more start (opening c.args.batch ++ legend ++ layout ++ head_style ++ columns ++ node_style ++ nodes ++ arrow_style ++ arrows) closing joined closed to_arrows c.in_ok-extend_from_slice-5.ensures.items
+    let to_shapes = one_more start (opening c.args.batch ++ legend ++ layout ++ head_style ++ columns) node_style parted shaped to_columns
+    c.in_ok-extend_from_slice-3.ensures.items in
+    let to_nodes = one_more start (opening c.args.batch ++ legend ++ layout ++ head_style ++ columns ++ node_style) nodes shaped placed to_shapes
+    c.in_ok-put_nodes.ensures in
+    let to_edges = one_more start (opening c.args.batch ++ legend ++ layout ++ head_style ++ columns ++ node_style ++ nodes) arrow_style placed edged to_nodes
+    c.in_ok-extend_from_slice-4.ensures.items in
+    let to_arrows = one_more start (opening c.args.batch ++ legend ++ layout ++ head_style ++ columns ++ node_style ++ nodes ++ arrow_style) arrows edged
+    joined to_edges c.in_ok-put_arrows.ensures in
+    one_more start (opening c.args.batch ++ legend ++ layout ++ head_style ++ columns ++ node_style ++ nodes ++ arrow_style ++ arrows) closing joined closed
+    to_arrows c.in_ok-extend_from_slice-5.ensures.items

@@ -12,6 +12,7 @@ returns c =
     record {
       same = c.sort_unstable_by.ensures.permutation;
       hottest_first = strictly ys
-          (c.sort_unstable_by.ensures.sorted (λ x y. is_lt (rank_cmp x y)) weakly (answers_always _ (λ a r. is_lt r ≡ is_lt (rank_cmp a.0.now a.1.0.now)) _ (λ f a r g q. search rules)))
+          (c.sort_unstable_by.ensures.sorted (λ x y. is_lt (rank_cmp x y)) weakly
+          (answers_always _ (λ a r. is_lt r ≡ is_lt (rank_cmp a.0.now a.1.0.now)) _ (λ f a r g q. search rules)))
           (moved_apart xs ys c.sort_unstable_by.ensures.permutation c.requires.distinct);
     }

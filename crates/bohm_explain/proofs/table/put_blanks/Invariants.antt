@@ -2,7 +2,11 @@ use Rattle.std.proofs.Common.{◌≡◌, ◌++◌, ◌-◌, ◌≤◌, max, repl
 use Rattle.bohm_explain.proofs.table.put_blanks.Given as goal
 
 abbrev pub invariant-pads : goal.invariant-pads
-invariant-pads l = record { least : l.written ≤ l.column; most : l.column ≤ max l.width l.written; pads : l.out.items ≡ l.initial.out.items ++ replicate (l.column - l.written) 32 }
+invariant-pads l = record {
+  least : l.written ≤ l.column;
+  most : l.column ≤ max l.width l.written;
+  pads : l.out.items ≡ l.initial.out.items ++ replicate (l.column - l.written) 32;
+}
 
 abbrev pub decreases-pads : goal.decreases-pads
 decreases-pads l = l.width - l.column

@@ -16,6 +16,8 @@ loop-index-preserved c =
     let i = c.loop-index.index in
     let key = c.key.result.now in
     record {
-      counts = λ k. counted_key c.args.set (tally c.args.tallies.now k) (tally c.loop-index.tallies k) (tally c.count.new.tallies k) keys i key k c.requires.rises c.key.ensures (c.loop-index.invariant.counts k) (c.in_ok-count.ensures.counts k);
-      listed = λ k. listed_key keys i key k (lists c.args.tallies.now k) (lists c.loop-index.tallies k) (lists c.count.new.tallies k) c.key.ensures (c.loop-index.invariant.listed k) (c.in_ok-count.ensures.listed k);
+      counts = λ k. counted_key c.args.set (tally c.args.tallies.now k) (tally c.loop-index.tallies k)
+          (tally c.count.new.tallies k) keys i key k c.requires.rises c.key.ensures (c.loop-index.invariant.counts k) (c.in_ok-count.ensures.counts k);
+      listed = λ k. listed_key keys i key k (lists c.args.tallies.now k) (lists c.loop-index.tallies k) (lists c.count.new.tallies k) c.key.ensures
+          (c.loop-index.invariant.listed k) (c.in_ok-count.ensures.listed k);
     }

@@ -1,5 +1,5 @@
 use Rattle.std.proofs.Common.{◌≡◌, ℕ, List, ◌||◌, take, if◌then◌else◌}
-use Rattle.bohm_tree.specs.Keys.{is_among}
+use Rattle.bohm_types.specs.Keys.{is_among}
 use Rattle.bohm_explain.specs.Tallies.{lists, plus, tally}
 use Rattle.bohm_explain.proofs.tallies.count_keys.Given as goal
 

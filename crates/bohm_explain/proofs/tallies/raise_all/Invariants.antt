@@ -8,7 +8,8 @@ use Rattle.bohm_explain.proofs.tallies.raise_all.Given as goal
 -- what is left raises it to what all of them do
 abbrev pub invariant-loop-arrow : goal.invariant-loop-arrow
 invariant-loop-arrow l = record {
-  chains : (k : List ℕ) → raised (tally l.tallies k) (chain_in k (zip (iter_rest l.arrow-iterator.a) (iter_rest l.arrow-iterator.b))) ≡ raised (tally l.initial.tallies k) (chain_in k (zip l.arrows l.through));
+  chains : (k : List ℕ) → raised (tally l.tallies k) (chain_in k (zip (iter_rest l.arrow-iterator.a) (iter_rest l.arrow-iterator.b))) ≡ raised
+      (tally l.initial.tallies k) (chain_in k (zip l.arrows l.through));
   listed : (k : List ℕ) → lists l.tallies k ≡ lists l.initial.tallies k;
   there : All (λ a. lists l.initial.tallies a.key ≡ true) (iter_rest l.arrow-iterator.a);
 }

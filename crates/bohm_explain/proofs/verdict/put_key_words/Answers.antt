@@ -8,8 +8,11 @@ pub returns : goal.returns
 returns c =
     let t = c.args.totals in
     let h = c.args.heat.now in
-    let named = c.in_ok-extend_from_slice-2.ensures.items ∙ ap (λ (name : List ℕ). c.extend_from_slice.new.self.items ++ name) (c.as_slice.ensures.name ∙ c.text.ensures.same) in
-    IfOk-weaker c.put_limit.result _ _ (λ x is. ten c.args.out.now.items (codes "key ") h.key (codes ", written by ") (decimal h.writers) (codes " of ") (decimal t.transactions) (codes " transactions, is on the longest chain, of ") (decimal h.chain) (codes ": ") (limit_words t) _ _ _ _ _ _ _ _ _ _
+    let named = c.in_ok-extend_from_slice-2.ensures.items
+    ∙ ap (λ (name : List ℕ). c.extend_from_slice.new.self.items ++ name) (c.as_slice.ensures.name ∙ c.text.ensures.same) in
+    IfOk-weaker c.put_limit.result _ _
+    (λ x is. ten c.args.out.now.items (codes "key ") h.key (codes ", written by ") (decimal h.writers) (codes " of ") (decimal t.transactions)
+    (codes " transactions, is on the longest chain, of ") (decimal h.chain) (codes ": ") (limit_words t) _ _ _ _ _ _ _ _ _ _
     c.in_ok-extend_from_slice.ensures.items
     named
     c.in_ok-extend_from_slice-3.ensures.items

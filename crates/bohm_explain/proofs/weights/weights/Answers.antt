@@ -9,6 +9,7 @@ weight-requires c = usable_item _ _ _ c.requires.formed c.txn.ensures
 pub loop-index-preserved : goal.loop-index-preserved
 loop-index-preserved c = record {
   paired = search rules;
-  weights = rw (c.in_ok-push.ensures.items, append_assoc, c.weight.ensures.weight) (rw (drop_at c.args.txns.now c.loop-index.index c.txn.result c.txn.ensures) at c.loop-index.invariant.weights);
+  weights = rw (c.in_ok-push.ensures.items, append_assoc, c.weight.ensures.weight)
+      (rw (drop_at c.args.txns.now c.loop-index.index c.txn.result c.txn.ensures) at c.loop-index.invariant.weights);
   light = search rules;
 }

@@ -28,9 +28,14 @@ made c =
     c.batch.ensures.in_range c.unwrap_or.ensures c.get_one.ensures.none c.get_one.ensures.value in
     let top = read (codes "top") 0 MOST_LISTED (omega arith) refl refl _ _ _ _ (c.top.ensures.value ∙ ap (λ (a : Asked). a.top) plain)
     (omega arith, c.top.ensures.in_range) c.unwrap_or-2.ensures c.get_one-2.ensures.none c.get_one-2.ensures.value in
-    let picture = number _ _ _ c.in_ok-matches.ensures.parsed is refl refl (codes "dot") 1 LAST_BATCH (omega arith) refl refl _ c.get_one-3.ensures.none c.get_one-3.ensures.value in
+    let picture = number _ _ _ c.in_ok-matches.ensures.parsed is refl refl (codes "dot") 1 LAST_BATCH
+    (omega arith) refl refl _ c.get_one-3.ensures.none c.get_one-3.ensures.value in
     let same = same_request _ _ (c.in_ok-matches.ensures.rows ∙ same_rows _ _ _ _ is line) in
-    let layout : record { summary = c.is_given.result; json = c.is_given-2.result } ≡ record { summary = flag_in (rows_of (found_of c.in_ok-matches.matches)) (codes "summary"); json = flag_in (rows_of (found_of c.in_ok-matches.matches)) (codes "json") } =
+    let layout : record { summary = c.is_given.result; json = c.is_given-2.result } ≡ record {
+      summary =
+          flag_in (rows_of (found_of c.in_ok-matches.matches)) (codes "summary");
+      json = flag_in (rows_of (found_of c.in_ok-matches.matches)) (codes "json");
+    } =
     λ i. record { summary = c.is_given.ensures i; json = c.is_given-2.ensures i } in
     request_read (rows_of (found_of c.in_ok-matches.matches)) _ batch top picture layout _ c.new-request.ensures ∙ ap Some same
 

@@ -1,9 +1,9 @@
 use Rattle.std.proofs.Common.{◌≡◌, Bool, true, false, not, refl, sym, ◌∙◌}
 use denote.Enum.Bare.{sameb}
-use Rattle.bohm_tree.specs.contracts.edition.Edition.{the_type}
-use Rattle.bohm_tree.specs.declared.edition.Edition.{Edition}
-use Rattle.bohm_tree.specs.declared.edition.Edition.TheVariants.{One, Two}
-use Rattle.bohm_tree.specs.Document.{in_edition, same_edition}
+use Rattle.bohm_types.specs.contracts.edition.Edition.{the_type}
+use Rattle.bohm_types.specs.declared.edition.Edition.{Edition}
+use Rattle.bohm_types.specs.declared.edition.Edition.TheVariants.{One, Two}
+use Rattle.bohm_types.specs.Document.{in_edition, same_edition}
 use Rattle.bohm_log.proofs.Viewing.{drop_at}
 use Rattle.bohm_log.proofs.doc.are_in.Goals as goal
 
@@ -23,10 +23,12 @@ equal false e = sym e
 
 pub returns-then-ne : goal.returns-then-ne
 returns-then-ne c =
-    let other : in_edition c.args.edition c.txn.result ≡ false = sym (compared c.txn.result.edition c.args.edition) ∙ rw c.edition.ensures at (unequal _ (sym c.ne.ensures ∙ c.if-ne.true)) in
+    let other : in_edition c.args.edition c.txn.result ≡ false =
+    sym (compared c.txn.result.edition c.args.edition) ∙ rw c.edition.ensures at (unequal _ (sym c.ne.ensures ∙ c.if-ne.true)) in
     rw other at (rw (drop_at c.args.log.now c.loop-index.index c.txn.result c.txn.ensures) at c.loop-index.invariant)
 
 pub loop-index-preserved : goal.loop-index-preserved
 loop-index-preserved c =
-    let same : in_edition c.args.edition c.txn.result ≡ true = sym (compared c.txn.result.edition c.args.edition) ∙ rw c.edition.ensures at (equal _ (sym c.ne.ensures ∙ c.if-ne.false)) in
+    let same : in_edition c.args.edition c.txn.result ≡ true =
+    sym (compared c.txn.result.edition c.args.edition) ∙ rw c.edition.ensures at (equal _ (sym c.ne.ensures ∙ c.if-ne.false)) in
     rw same at (rw (drop_at c.args.log.now c.loop-index.index c.txn.result c.txn.ensures) at c.loop-index.invariant)

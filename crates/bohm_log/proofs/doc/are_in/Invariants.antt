@@ -1,6 +1,6 @@
 use Rattle.std.proofs.Common.{◌≡◌, drop}
 use Rattle.std.specs.List.{list_all}
-use Rattle.bohm_tree.specs.Document.{in_edition}
+use Rattle.bohm_types.specs.Document.{in_edition}
 use Rattle.bohm_log.proofs.doc.are_in.Given as goal
 
 abbrev pub invariant-loop-index : goal.invariant-loop-index

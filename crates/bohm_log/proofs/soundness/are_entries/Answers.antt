@@ -1,4 +1,4 @@
-use Rattle.bohm_tree.specs.Sound.{IsEntry}
+use Rattle.bohm_types.specs.Sound.{IsEntry}
 use Rattle.bohm_log.proofs.SoundDrafts.{taken_more}
 use Rattle.bohm_log.proofs.soundness.are_entries.Goals as goal
 

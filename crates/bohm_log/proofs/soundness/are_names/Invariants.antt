@@ -1,6 +1,6 @@
 use Rattle.std.proofs.Common.{take}
 use Rattle.std.specs.List.{AllByRecursion}
-use Rattle.bohm_tree.specs.Sound.{IsName}
+use Rattle.bohm_types.specs.Sound.{IsName}
 use Rattle.bohm_log.proofs.soundness.are_names.Given as goal
 
 abbrev pub invariant-loop-key : goal.invariant-loop-key

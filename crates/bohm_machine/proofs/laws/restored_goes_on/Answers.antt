@@ -9,4 +9,5 @@ returns-clause-replies c = λ one other after1 after2 txns a b top now g h. g.re
 
 pub returns-clause-past : goal.returns-clause-past
 returns-clause-past c = λ one other after1 after2 txns a b top now g h ts low high.
-    g.later ts low high ∙ ap (λ (l : Look). state l txns (ts - top_of one)) now ∙ ap (λ (n : ℕ). state (now_of other) txns (ts - n)) top ∙ sym (h.later ts (omega (arith, low, top)) (omega (arith, high, g.top, h.top, top)))
+    g.later ts low high ∙ ap (λ (l : Look). state l txns (ts - top_of one)) now ∙ ap (λ (n : ℕ). state (now_of other) txns (ts - n)) top
+    ∙ sym (h.later ts (omega (arith, low, top)) (omega (arith, high, g.top, h.top, top)))

@@ -12,7 +12,8 @@ loop-number-preserved c =
     let i = c.loop-number.number-index in
     let n = get_or more i 0 in
     let inside : i < length more = omega arith in
-    let here : with_numbers (with_number ns n) (drop (i + 1) more) ≡ with_numbers c.args.numbers.now.items more = ap (with_numbers ns) (sym (drop_at more i n (slice_get-get_or more i 0 inside))) ∙ c.loop-number.invariant.so_far in
+    let here : with_numbers (with_number ns n) (drop (i + 1) more) ≡ with_numbers c.args.numbers.now.items more =
+    ap (with_numbers ns) (sym (drop_at more i n (slice_get-get_or more i 0 inside))) ∙ c.loop-number.invariant.so_far in
     record {
       placed = c.in_ok-add.ensures.placed;
       few = omega (arith, ap length c.in_ok-add.ensures.numbers, length-with_number ns n, c.loop-number.invariant.few);

@@ -14,11 +14,16 @@ loop-number-preserved c =
     let was = c.loop-number.invariant in
     let own = c.in_ok-own.own in
     let len : length jobs ≡ at = was.count in
-    let taken : HasPartsOf n at all own.items = λ p low mine. (let here : at ≤ p % n = grind (arith, nat_tests) in c.in_ok-own.ensures.taken p (omega arith) mine ∙ was.left p low here) in
+    let taken : HasPartsOf n at all own.items = λ p low mine.
+    (let here : at ≤ p % n = grind (arith, nat_tests) in c.in_ok-own.ensures.taken p (omega arith) mine ∙ was.left p low here) in
     rw c.in_ok-push.ensures.items (record {
       count = length-append jobs _ ∙ omega (arith, len);
-      workers = λ w d low. each_pushed (λ v (j : PartsJob). (j.worker.number ≡ v) × (j.worker.count ≡ n)) jobs _ (λ v e l. was.workers v e (omega arith)) (sym len, refl) w d (omega arith);
-      own = λ w d low. each_pushed (λ v (j : PartsJob). HasPartsOf n v all j.parts.items) jobs _ (λ v e l. was.own v e (omega arith)) (rw len taken) w d (omega arith);
-      parts = λ w d low. each_pushed (λ v (j : PartsJob). length j.parts.items ≡ length all) jobs _ (λ v e l. was.parts v e (omega arith)) (omega (arith, c.in_ok-own.ensures.count)) w d (omega arith);
-      left = λ p low high. (let other : ((p % n) == at) ≡ false = grind (arith, nat_tests) in c.in_ok-own.ensures.others p (omega arith) other ∙ was.left p low (omega arith));
+      workers = λ w d low. each_pushed (λ v (j : PartsJob). (j.worker.number ≡ v) × (j.worker.count ≡ n)) jobs _ (λ v e l. was.workers v e (omega arith))
+          (sym len, refl) w d (omega arith);
+      own = λ w d low. each_pushed (λ v (j : PartsJob). HasPartsOf n v all j.parts.items) jobs _ (λ v e l. was.own v e (omega arith)) (rw len taken) w d
+          (omega arith);
+      parts = λ w d low. each_pushed (λ v (j : PartsJob). length j.parts.items ≡ length all) jobs _ (λ v e l. was.parts v e (omega arith))
+          (omega (arith, c.in_ok-own.ensures.count)) w d (omega arith);
+      left = λ p low high. (let other : ((p % n) == at) ≡ false = grind (arith, nat_tests) in
+          c.in_ok-own.ensures.others p (omega arith) other ∙ was.left p low (omega arith));
     })

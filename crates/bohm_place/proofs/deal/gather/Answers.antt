@@ -1,5 +1,5 @@
 use Rattle.std.proofs.Common.{arith, ◌≡◌, ◌+◌, ◌<◌, ◌%◌, ◌++◌, ◌∙◌, [], length, take, drop, slice_index_or, nat_lt, Ok, Result}
-use Rattle.bohm_tree.specs.declared.memory.NoMemory.{NoMemory}
+use Rattle.bohm_types.specs.declared.memory.NoMemory.{NoMemory}
 use Rattle.std.proofs.lemmas.Grind.{common_steps}
 use Rattle.std.proofs.lemmas.List.{get_or-set_other, length-set}
 use Rattle.bohm_place.specs.Chains.{placeholders_in}
@@ -23,7 +23,8 @@ join-requires g c =
     let told = c.loop-number.invariant.each w there (omega arith) (omega arith) in
     let right : IsFoundInAll part n w c.args.batch.first txns given more.found.items more.parts.items = rw is at told in
     let some : 0 < w = omega arith in
-    rw (c.as_mut_slice-else-number-eq0.ensures.value, c.deref.ensures.value, c.loop-number.invariant.found some, right.found) (length-found_by (λ k. nat_lt (part k % n) w) (keys_of part n w) source [] txns)
+    rw (c.as_mut_slice-else-number-eq0.ensures.value, c.deref.ensures.value, c.loop-number.invariant.found some, right.found)
+    (length-found_by (λ k. nat_lt (part k % n) w) (keys_of part n w) source [] txns)
 
 pub loop-number-preserved : goal.loop-number-preserved
 loop-number-preserved g c =
@@ -47,8 +48,11 @@ loop-number-preserved g c =
           let some : 0 < w = omega arith in
           let before = c.loop-number.found in
           let joined = b.join.new.found in
-          let both : joined ≡ found_by (λ k. nat_lt (part k % n) (w + 1)) source [] txns = rw (b.join.ensures, b.as_mut_slice-else-number-eq0.ensures.value, b.deref.ensures.value, was.found some, right.found) (found_next part n source txns w) in
-          let many : length joined ≡ length before.items = rw (both, was.found some) (length-found_by (λ k. nat_lt (part k % n) (w + 1)) (λ k. nat_lt (part k % n) w) source [] txns) in
+          let both : joined ≡ found_by (λ k. nat_lt (part k % n) (w + 1)) source [] txns =
+          rw (b.join.ensures, b.as_mut_slice-else-number-eq0.ensures.value, b.deref.ensures.value, was.found some, right.found)
+          (found_next part n source txns w) in
+          let many : length joined ≡ length before.items =
+          rw (both, was.found some) (length-found_by (λ k. nat_lt (part k % n) (w + 1)) (λ k. nat_lt (part k % n) w) source [] txns) in
           let whole : take before.len (joined ++ drop (length joined) before.items) ≡ joined = grind (arith, common_steps) in
           rw (b.found-is, whole) both
     ] in

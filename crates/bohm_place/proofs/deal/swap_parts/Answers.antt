@@ -32,4 +32,5 @@ pub returns-clause-a : goal.returns-clause-a
 returns-clause-a g c = ended c.args.worker.count c.args.worker.number c.loop-p.p c.loop-p.a c.args.a.now c.args.b.now (omega arith) c.loop-p.invariant.0
 
 pub returns-clause-b : goal.returns-clause-b
-returns-clause-b g c = λ j low. ended c.args.worker.count c.args.worker.number c.loop-p.p c.loop-p.b c.args.b.now c.args.a.now (omega arith) c.loop-p.invariant.1 j (omega arith)
+returns-clause-b g c = λ j low. ended c.args.worker.count c.args.worker.number c.loop-p.p c.loop-p.b c.args.b.now c.args.a.now
+    (omega arith) c.loop-p.invariant.1 j (omega arith)

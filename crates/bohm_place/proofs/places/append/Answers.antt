@@ -5,4 +5,5 @@ use Rattle.bohm_place.proofs.Keyed.{last_or-items}
 use Rattle.bohm_place.proofs.places.append.Goals as goal
 
 pub returns-in-Some-clause-newest : goal.returns-in-Some-clause-newest
-returns-in-Some-clause-newest c = IfOk-weaker c.extend.result _ _ (λ v e. e ∙ sym (ap (last_or none) (ap items_of (sym c.in-Some.ensures.value)) ∙ last_or-items none c.in-Some.chain.now)) c.extend.ensures.newest
+returns-in-Some-clause-newest c = IfOk-weaker c.extend.result _ _
+    (λ v e. e ∙ sym (ap (last_or none) (ap items_of (sym c.in-Some.ensures.value)) ∙ last_or-items none c.in-Some.chain.now)) c.extend.ensures.newest

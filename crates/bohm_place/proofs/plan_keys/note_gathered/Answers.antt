@@ -2,7 +2,7 @@ use Rattle.std.proofs.Common.{◌≡◌, ℕ, List, ◌+◌, ◌-◌, length, sl
 use Rattle.std.proofs.Math.Logic.{∥∥₁_map}
 use Rattle.std.proofs.lemmas.List.{length-map}
 use Rattle.std.proofs.lemmas.Option.{slice_get_within}
-use Rattle.bohm_tree.specs.Txn.{Txn}
+use Rattle.bohm_types.specs.Txn.{Txn}
 use Rattle.bohm_log.specs.Parts.{name_at, names_at}
 use Rattle.bohm_txn.proofs.ForCallers.{there}
 use Rattle.bohm_place.specs.declared.declared_set.DeclaredSet.TheVariants.{Reads, Writes}
@@ -32,7 +32,12 @@ row_of c =
     let k = c.args.declared.now in
     let (x, at_x) = there c.args.txns.now i (omega arith) in
     let same = set_at k c.args.txns.now i (c.sets.result.0.now, c.sets.result.1.now) x c.requires.numbers c.sets.ensures.sets at_x in
-    record { txn = x; is_at = at_x; reads = ap (λ (s : List (List ℕ) × List (List ℕ)). s.0) same; writes = ap (λ (s : List (List ℕ) × List (List ℕ)). s.1) same }
+    record {
+      txn = x;
+      is_at = at_x;
+      reads = ap (λ (s : List (List ℕ) × List (List ℕ)). s.0) same;
+      writes = ap (λ (s : List (List ℕ) × List (List ℕ)). s.1) same;
+    }
 
 -- t is the timestamp of row i
 row : (c : After-sets) → ((c.first-first.result + c.loop-i.i) - c.loop-i.plan.first) ≡ c.loop-i.i
@@ -45,7 +50,8 @@ right_then : (c : After-note_numbers) → ∥ IsRightPlan c.args.txns.now c.note
 right_then c = ∥∥₁_map c.loop-i.invariant.right (c.note_numbers.ensures.right c.args.txns.now)
 
 few : (c : After-sets) → AreFew (c.sets.result.0.now, c.sets.result.1.now)
-few c = few_at c.args.declared.now.sets c.loop-i.i (c.sets.result.0.now, c.sets.result.1.now) (few_sets c.args.declared.now c.args.txns.now c.requires.numbers c.requires.formed) c.sets.ensures.sets
+few c = few_at c.args.declared.now.sets c.loop-i.i (c.sets.result.0.now, c.sets.result.1.now)
+    (few_sets c.args.declared.now c.args.txns.now c.requires.numbers c.requires.formed) c.sets.ensures.sets
 
 pub note_numbers-requires-clause-paired : goal.note_numbers-requires-clause-paired
 note_numbers-requires-clause-paired c =
@@ -60,7 +66,8 @@ pub note_numbers-requires-clause-few : goal.note_numbers-requires-clause-few
 note_numbers-requires-clause-few c = (few (goal.at.note_numbers-requires-clause-few c).After-sets).reads
 
 pub note_numbers-requires-clause-there : goal.note_numbers-requires-clause-there
-note_numbers-requires-clause-there c = reads_stand c.args.declared.now c.args.gathered.now c.loop-i.i (c.sets.result.0.now, c.sets.result.1.now) c.requires.gathered c.requires.numbers.apart c.sets.ensures.sets c.sets.ensures.reads
+note_numbers-requires-clause-there c = reads_stand c.args.declared.now c.args.gathered.now c.loop-i.i
+    (c.sets.result.0.now, c.sets.result.1.now) c.requires.gathered c.requires.numbers.apart c.sets.ensures.sets c.sets.ensures.reads
 
 pub note_numbers-requires-in-loop-i-clause-paired : goal.note_numbers-requires-in-loop-i-clause-paired
 note_numbers-requires-in-loop-i-clause-paired c =
@@ -69,13 +76,15 @@ note_numbers-requires-in-loop-i-clause-paired c =
     let long = ap length r.writes in
     let named = length-map c.sets.result.1.now (name_at c.args.declared.now.names) in
     let paired = row_paired c.args.txns.now c.note_numbers.new.plan Writes c.loop-i.i r.txn (right_then here.After-note_numbers) r.is_at in
-    subst (λ (n : ℕ). length c.sets.result.1.now ≡ length (planned_in Writes c.note_numbers.new.plan n)) (sym (row_then here.After-note_numbers)) (sym named ∙ long ∙ paired)
+    subst (λ (n : ℕ). length c.sets.result.1.now ≡ length (planned_in Writes c.note_numbers.new.plan n)) (sym (row_then here.After-note_numbers))
+    (sym named ∙ long ∙ paired)
 
 pub note_numbers-requires-in-loop-i-clause-few : goal.note_numbers-requires-in-loop-i-clause-few
 note_numbers-requires-in-loop-i-clause-few c = (few (goal.at.note_numbers-requires-in-loop-i-clause-few c).After-sets).writes
 
 pub note_numbers-requires-in-loop-i-clause-there : goal.note_numbers-requires-in-loop-i-clause-there
-note_numbers-requires-in-loop-i-clause-there c = writes_stand c.args.declared.now c.args.gathered.now c.loop-i.i (c.sets.result.0.now, c.sets.result.1.now) c.requires.gathered c.requires.numbers.apart c.sets.ensures.sets c.sets.ensures.writes
+note_numbers-requires-in-loop-i-clause-there c = writes_stand c.args.declared.now c.args.gathered.now c.loop-i.i
+    (c.sets.result.0.now, c.sets.result.1.now) c.requires.gathered c.requires.numbers.apart c.sets.ensures.sets c.sets.ensures.writes
 
 pub loop-i-preserved : goal.loop-i-preserved
 loop-i-preserved c =
@@ -87,8 +96,10 @@ loop-i-preserved c =
     let p = c.loop-i.plan in
     let q = c.note_numbers.new.plan in
     let s = c.note_numbers-in-loop-i.new.plan in
-    let of_reads = subst (λ (n : ℕ). IsSetNoted p q Reads n c.sets.result.0.now numbers (length c.sets.result.0.now)) (row here.After-sets) c.note_numbers.ensures in
-    let of_writes = subst (λ (n : ℕ). IsSetNoted q s Writes n c.sets.result.1.now numbers (length c.sets.result.1.now)) (row_then here.After-note_numbers) c.note_numbers-in-loop-i.ensures in
+    let of_reads = subst (λ (n : ℕ). IsSetNoted p q Reads n c.sets.result.0.now numbers (length c.sets.result.0.now))
+    (row here.After-sets) c.note_numbers.ensures in
+    let of_writes = subst (λ (n : ℕ). IsSetNoted q s Writes n c.sets.result.1.now numbers (length c.sets.result.1.now))
+    (row_then here.After-note_numbers) c.note_numbers-in-loop-i.ensures in
     let reads = keys_noted names p q Reads i c.sets.result.0.now numbers r.txn.reads r.reads of_reads in
     let writes = keys_noted names q s Writes i c.sets.result.1.now numbers r.txn.writes r.writes of_writes in
     record {

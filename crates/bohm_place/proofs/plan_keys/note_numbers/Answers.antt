@@ -14,7 +14,8 @@ inside : (c : In-loop-place) → c.loop-place.place < length (planned_in c.args.
 inside c =
     let sources = c.loop-place.invariant.sources in
     let i = c.args.t - c.args.plan.now.first in
-    let low : c.loop-place.place < length (planned_in c.args.set c.loop-place.plan i) = omega (arith, sources_long c.args.plan.now c.loop-place.plan sources c.args.set i, c.requires.paired, c.loop-place-test.true) in
+    let low : c.loop-place.place < length (planned_in c.args.set c.loop-place.plan i) =
+    omega (arith, sources_long c.args.plan.now c.loop-place.plan sources c.args.set i, c.requires.paired, c.loop-place-test.true) in
     subst (λ (f : ℕ). c.loop-place.place < length (planned_in c.args.set c.loop-place.plan (c.args.t - f))) (sym sources.first) low
 
 there : (c : In-loop-place) → Contains c.args.gathered.now.numbers (get_or c.args.numbers.now c.loop-place.place 0)
@@ -44,7 +45,8 @@ loop-place-preserved c =
     let j = c.loop-place.place in
     let n = get_or numbers j 0 in
     let noted = c.loop-place.invariant in
-    let at : slice_get (planned_in set q i) j ≡ Some c.access.result = subst (λ (f : ℕ). slice_get (planned_in set q (c.args.t - f)) j ≡ Some c.access.result) noted.sources.first c.access.ensures in
+    let at : slice_get (planned_in set q i) j ≡ Some c.access.result =
+    subst (λ (f : ℕ). slice_get (planned_in set q (c.args.t - f)) j ≡ Some c.access.result) noted.sources.first c.access.ensures in
     elim c.match-access.branch [
       | in-Before w ↦
           let place = get_or c.places-places.result.now n 0 in

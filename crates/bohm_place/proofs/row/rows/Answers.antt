@@ -7,13 +7,15 @@ use Rattle.bohm_place.proofs.row.rows.Goals as goal
 pub overflow_cast-reads : goal.overflow_cast-reads
 overflow_cast-reads c =
     let txn = c.txn-txn.result in
-    let few = (usable txn (subst IsWellFormedTxn (get_or_from_slice_get c.args.txns.now c.loop-index.index txn txn c.txn-txn.ensures) (c.requires.formed c.loop-index.index txn (omega arith)))).few_reads in
+    let few = (usable txn (subst IsWellFormedTxn (get_or_from_slice_get c.args.txns.now c.loop-index.index txn txn c.txn-txn.ensures)
+    (c.requires.formed c.loop-index.index txn (omega arith)))).few_reads in
     omega (arith, few, c.len-reads.ensures, ap length c.reads.ensures)
 
 pub overflow_cast-writes : goal.overflow_cast-writes
 overflow_cast-writes c =
     let txn = c.txn-txn.result in
-    let few = (usable txn (subst IsWellFormedTxn (get_or_from_slice_get c.args.txns.now c.loop-index.index txn txn c.txn-txn.ensures) (c.requires.formed c.loop-index.index txn (omega arith)))).few_writes in
+    let few = (usable txn (subst IsWellFormedTxn (get_or_from_slice_get c.args.txns.now c.loop-index.index txn txn c.txn-txn.ensures)
+    (c.requires.formed c.loop-index.index txn (omega arith)))).few_writes in
     omega (arith, few, c.len-writes.ensures, ap length c.writes.ensures)
 
 pub loop-index-preserved : goal.loop-index-preserved
@@ -21,11 +23,13 @@ loop-index-preserved c =
     let txns = c.args.txns.now in
     let i = c.loop-index.index in
     let txn = c.txn-txn.result in
-    let use_of = usable txn (subst IsWellFormedTxn (get_or_from_slice_get c.args.txns.now c.loop-index.index txn txn c.txn-txn.ensures) (c.requires.formed i txn (omega arith))) in
+    let use_of = usable txn (subst IsWellFormedTxn (get_or_from_slice_get c.args.txns.now c.loop-index.index txn txn c.txn-txn.ensures)
+    (c.requires.formed i txn (omega arith))) in
     let inside : i < length txns = omega arith in
     let at : drop i txns ≡ txn ∷ drop (i + 1) txns = front txns i txn inside (sym (get_or_from_slice_get txns i txn txn c.txn-txn.ensures)) in
     let whole = rw at at c.loop-index.invariant.1 in
     let start = c.loop-index.start in
     let sum : (start + length txn.reads) + length txn.writes ≡ start + (length txn.reads + length txn.writes) = omega arith in
     let next = rw sum at whole in
-    rw (c.in_ok-push.ensures.items, c.sure.ensures, c.len-reads.ensures, c.len-writes.ensures, c.reads.ensures, c.writes.ensures) (omega (arith, use_of.few_reads, use_of.few_writes, c.loop-index.invariant.0), rw append_assoc next)
+    rw (c.in_ok-push.ensures.items, c.sure.ensures, c.len-reads.ensures, c.len-writes.ensures, c.reads.ensures, c.writes.ensures)
+    (omega (arith, use_of.few_reads, use_of.few_writes, c.loop-index.invariant.0), rw append_assoc next)

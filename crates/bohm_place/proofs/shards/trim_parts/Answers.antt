@@ -16,7 +16,8 @@ loop-i-preserved c =
     let at : slice_get parts i ≡ Some old = slice_get-get_or parts i old inside ∙ ap (λ x. Some x) (sym c.index-parts-i.is) in
     let was : slice_get all i ≡ Some old = sym (c.loop-i.invariant.1 i (omega arith)) ∙ at in (
       λ j low. ⊎_elim
-          (λ e. rw e (trimmed_here c.args.floor (slice_get all i) (slice_get (set parts i new) i) old new was (set_same parts i new inside) (λ k. (let told = c.trim.ensures k in rw (← c.index-parts-i.is) at told))))
+          (λ e. rw e (trimmed_here c.args.floor (slice_get all i) (slice_get (set parts i new) i) old new was (set_same parts i new inside)
+          (λ k. (let told = c.trim.ensures k in rw (← c.index-parts-i.is) at told))))
           (λ apart. rw (set_other parts i j new apart) (c.loop-i.invariant.0 j (omega arith)))
           (cases_eq j i),
       λ j high. set_other parts i j new (omega arith) ∙ c.loop-i.invariant.1 j (omega arith),
@@ -25,5 +26,6 @@ loop-i-preserved c =
 pub returns : goal.returns
 returns c = AreKept-parts c.args.floor c.args.parts.now c.loop-i.parts (λ j. ⊎_elim
     (λ low. c.loop-i.invariant.0 j (omega arith))
-    (λ high. trimmed_past c.args.floor (slice_get c.args.parts.now j) (slice_get c.loop-i.parts j) (slice_get_past c.args.parts.now j high) (slice_get_past c.loop-i.parts j (omega arith)))
+    (λ high. trimmed_past c.args.floor (slice_get c.args.parts.now j) (slice_get c.loop-i.parts j) (slice_get_past c.args.parts.now j high)
+    (slice_get_past c.loop-i.parts j (omega arith)))
     (cases_lt j (length c.args.parts.now)))

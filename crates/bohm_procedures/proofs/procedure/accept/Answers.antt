@@ -1,8 +1,8 @@
 use Rattle.std.proofs.Common.{◌≡◌, ◌≤◌, ◌∷◌, [], List, ◌∙◌, sym, subst, ap, length, rules, false}
 use Rattle.std.specs.Prelude.{is_err}
-use Rattle.bohm_tree.specs.Document.{Document}
-use Rattle.bohm_tree.specs.Txn.{Txn}
-use Rattle.bohm_tree.specs.Procedure.{Procedure}
+use Rattle.bohm_types.specs.Document.{Document}
+use Rattle.bohm_types.specs.Txn.{Txn}
+use Rattle.bohm_types.specs.Procedure.{Procedure}
 use Rattle.bohm_txn.specs.Declares.{IsUsable}
 use Rattle.bohm_txn.specs.declared.fault.CheckFault.{CheckFault}
 use Rattle.bohm_txn.specs.Faulty.{WellFormed, IsWellFormedTxn, IsFirstFault, alone}
@@ -48,4 +48,4 @@ returns-in-Ok-new-clause-accepted c =
     c.new.result.items c.in-Some.doc (search rules) c.close.ensures.ok c.new-log.ensures c.new.ensures.items c.requires.edition
     (sym c.in-Some.is ∙ c.new-2.ensures) in
     let one : IsWellFormedTxn c.args.draft.txn = subst (λ (d : Document). WellFormed d) (c.in-Ok.ensures.ok ∙ is) c.in-Ok.ensures.well_formed in
-    subst (λ (p : Procedure). IsAccepted p) (sym c.in-Ok-new.ensures) (accepted c.args.draft.txn c.args.keys.items c.args.values.now c.requires.lets one)
+    subst (λ (p : Procedure). IsAccepted p) (sym c.in-Ok-new.ensures.ok) (accepted c.args.draft.txn c.args.keys.items c.args.values.now c.requires.lets one)

@@ -11,7 +11,8 @@ overflow_add-result c =
     omega (arith, bounds, h.lines, lines_short c.args.text.now)
 
 pub returns-in-Line : goal.returns-in-Line
-returns-in-Line c = λ rest inner last. bad_begins c.args.text.now rest c.in-Line.n (subst (λ (f : WindowFault). ReadsFirst c.args.text.now (Err f)) c.in-Line.is c.requires)
+returns-in-Line c = λ rest inner last. bad_begins c.args.text.now rest c.in-Line.n
+    (subst (λ (f : WindowFault). ReadsFirst c.args.text.now (Err f)) c.in-Line.is c.requires)
 
 pub returns-in-Open-2 : goal.returns-in-Open-2
 returns-in-Open-2 c = λ rest inner last.

@@ -6,7 +6,8 @@ use Rattle.bohm_report.proofs.reading.read_reported.Goals as goal
 
 pub returns-clause-err : goal.returns-clause-err
 returns-clause-err g c =
-    told_refuses _ _ c.in_ok-text.text.items c.in-Err.refusal _ (record { read = c.in_ok-text.ensures.bytes; at_end = c.in_ok-text.ensures.end; short = c.in_ok-text.ensures.short })
+    told_refuses _ _ c.in_ok-text.text.items c.in-Err.refusal _
+    (record { read = c.in_ok-text.ensures.bytes; at_end = c.in_ok-text.ensures.end; short = c.in_ok-text.ensures.short })
     (subst (λ (t : List ℕ). check.Refuses t c.in-Err.refusal) c.as_slice.ensures.value c.in-Err.ensures.err) c.fault_of.ensures
 
 pub returns-clause-before : goal.returns-clause-before

@@ -5,5 +5,6 @@ use Rattle.bohm_run.proofs.answering.answer.Goals as goal
 
 pub returns : goal.returns
 returns c = λ keep unread unread' run.
-    answer_text keep unread unread' c.args.state run c.args.ts c.in_ok-store.store.items _ c.requires.kept c.requires.there c.in_ok-store.ensures.past c.in_ok-store.ensures.entries
+    answer_text keep unread unread' c.args.state run c.args.ts c.in_ok-store.store.items _ c.requires.kept c.requires.there c.in_ok-store.ensures.past
+    c.in_ok-store.ensures.entries
     (c.in_ok-put_store.ensures ∙ ap (λ (es : List (List ℕ × ℤ)). c.args.state.text.items ++ print_store es) c.as_slice.ensures.value)

@@ -8,7 +8,8 @@ use Rattle.bohm_run.proofs.answering.run_text_in_windows.Goals as goal
 pub returns-in_err-state-clause-err : goal.returns-in_err-state-clause-err
 returns-in_err-state-clause-err g c =
     let p = err_from_is_err_and c.from_residual.result c.from_residual.ensures.1 in
-    rw (p.1, p.2) (before_writing c.args.settings _ _ _ _ _ _ c.in_err-state.field-0.0 c.in_err-state.ensures.before (c.in_err-state.ensures.err c.args.settings))
+    rw (p.1, p.2) (before_writing c.args.settings _ _ _ _ _ _ c.in_err-state.field-0.0 c.in_err-state.ensures.before
+    (c.in_err-state.ensures.err c.args.settings))
 
 pub readable_time-requires : goal.readable_time-requires
 readable_time-requires g c =
@@ -33,9 +34,11 @@ answer-requires-clause-there g c =
 pub returns-clause-ok : goal.returns-clause-ok
 returns-clause-ok g c =
     let run = c.in_ok-state.ensures.ok in
-    on_ok_weaker c.write_all.result (written c.args.settings _ _ _ _ c.in_ok-state.state run c.in_ok-ts.ts c.in_ok-ts.ensures.readable _ (c.as_slice.ensures.value ∙ c.in_ok-text.ensures c.args.settings.keep _ _ run)) c.write_all.ensures.ok
+    on_ok_weaker c.write_all.result (written c.args.settings _ _ _ _ c.in_ok-state.state run c.in_ok-ts.ts c.in_ok-ts.ensures.readable _
+    (c.as_slice.ensures.value ∙ c.in_ok-text.ensures c.args.settings.keep _ _ run)) c.write_all.ensures.ok
 
 pub returns-clause-err : goal.returns-clause-err
 returns-clause-err g c =
     let run = c.in_ok-state.ensures.ok in
-    IfErr-weaker c.write_all.result _ _ (unwritten c.args.settings _ _ _ _ c.in_ok-state.state run c.in_ok-ts.ts c.in_ok-ts.ensures.readable _ (c.as_slice.ensures.value ∙ c.in_ok-text.ensures c.args.settings.keep _ _ run)) c.write_all.ensures.err
+    IfErr-weaker c.write_all.result _ _ (unwritten c.args.settings _ _ _ _ c.in_ok-state.state run c.in_ok-ts.ts c.in_ok-ts.ensures.readable _
+    (c.as_slice.ensures.value ∙ c.in_ok-text.ensures c.args.settings.keep _ _ run)) c.write_all.ensures.err

@@ -13,7 +13,9 @@ walk-requires-clause-plans g c κs within = record {
 }
 
 pub returns-then-is_err : goal.returns-then-is_err
-returns-then-is_err g c = walk_rests c.args.history (cutting_behind c.args.history c.args.txns.now c.args.cuts.now) c.args.keep c.reserve-reserved.new.self (c.reserve-reserved.ensures ∙ c.new-replies.ensures) c.requires.total
+returns-then-is_err g c = walk_rests c.args.history (cutting_behind c.args.history c.args.txns.now c.args.cuts.now) c.args.keep c.reserve-reserved.new.self
+    (c.reserve-reserved.ensures ∙ c.new-replies.ensures) c.requires.total
 
 pub returns-in-Err : goal.returns-in-Err
-returns-in-Err g c = walk_rests c.args.history (cutting_behind c.args.history c.args.txns.now c.args.cuts.now) c.args.keep c.reserve-reserved.new.self (c.reserve-reserved.ensures ∙ c.new-replies.ensures) c.requires.total
+returns-in-Err g c = walk_rests c.args.history (cutting_behind c.args.history c.args.txns.now c.args.cuts.now) c.args.keep c.reserve-reserved.new.self
+    (c.reserve-reserved.ensures ∙ c.new-replies.ensures) c.requires.total

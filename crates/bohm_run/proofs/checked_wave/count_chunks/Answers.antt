@@ -19,7 +19,8 @@ loop-chunk-preserved c =
     let one : CountedChunk = record { chunk = x; count = at.before } in
     let before = counted_places at.placed.items in
     let places : counted_places (at.placed.items ++ one ∷ []) ≡ before ++ (at.before, x.log) ∷ [] = counted_more at.placed.items one in
-    let after : c.counted-after.result ≡ count_with at.before (length x.log) = c.counted-after.ensures ∙ ap (count_with at.before) c.len-in-loop-chunk.ensures in
+    let after : c.counted-after.result ≡ count_with at.before (length x.log) =
+    c.counted-after.ensures ∙ ap (count_with at.before) c.len-in-loop-chunk.ensures in
     rw c.in_ok-push.ensures.items (record {
       items = append_assoc at.yielded (x ∷ []) rest ∙ whole;
       left = omega (arith, was.left, steps.1, ap length steps.0);

@@ -1,7 +1,7 @@
 use Rattle.std.proofs.Common.{◌≡◌, ◌++◌, ◌∷◌, [], List, length, Ok, sym, ap, ◌∙◌, append_assoc, append-nil, arith}
 use Rattle.std.specs.Prelude.{Result}
 use Rattle.std.specs.Vec.Iter.{into_iter_items}
-use Rattle.bohm_tree.specs.declared.memory.NoMemory.{NoMemory}
+use Rattle.bohm_types.specs.declared.memory.NoMemory.{NoMemory}
 use Rattle.bohm_run.specs.declared.checked_chunk.CheckedChunk.{CheckedChunk}
 use Rattle.bohm_run.proofs.CheckedWaveLaws.{mapped_more}
 use Rattle.bohm_run.proofs.Swept.{nothing_left}
@@ -14,7 +14,8 @@ loop-one-preserved c =
     let x = c.in-Some.one in
     let rest = into_iter_items c.next.new.self in
     let steps = c.in-Some.ensures.steps in
-    let whole : at.yielded ++ x ∷ rest ≡ c.args.prepared.items = ap (λ (xs : List (Result CheckedChunk NoMemory)). at.yielded ++ xs) (sym steps.0) ∙ was.items in
+    let whole : at.yielded ++ x ∷ rest ≡ c.args.prepared.items =
+    ap (λ (xs : List (Result CheckedChunk NoMemory)). at.yielded ++ xs) (sym steps.0) ∙ was.items in
     let chunk = c.in_ok-one.field-0 in
     let more : at.yielded ++ Ok chunk ∷ [] ≡ at.yielded ++ x ∷ [] = ap (λ (r : Result CheckedChunk NoMemory). at.yielded ++ r ∷ []) (sym c.in_ok-one.was) in
     rw c.in_ok-push.ensures.items (record {

@@ -1,6 +1,6 @@
 use Rattle.std.proofs.Common.{◌≡◌, ℕ, ◌++◌, ◌∷◌, [], List, length, refl, ap, sym, subst, ◌∙◌, append_assoc, append-nil, arith}
 use Rattle.std.specs.Vec.Iter.{into_iter_items}
-use Rattle.bohm_tree.specs.Txn.{Txn}
+use Rattle.bohm_types.specs.Txn.{Txn}
 use Rattle.bohm_run.specs.declared.checked_chunk.CheckedChunk.{CheckedChunk}
 use Rattle.bohm_run.specs.CheckedWaves.{placed, txns_of, count_behind, AreBehind, ArePrepared}
 use Rattle.bohm_run.specs.Chunks.{RunsChunk}
@@ -27,7 +27,8 @@ loop-chunk-preserved g c =
     let now = c.run_chunk.new.state in
     let whole : at.yielded ++ x ∷ rest ≡ c.args.chunks.items = ap (λ (xs : List CheckedChunk). at.yielded ++ xs) (sym steps.0) ∙ was.items in
     let behind = subst (λ (cs : List CheckedChunk). AreBehind at.state.count (placed cs)) steps.0 was.behind in
-    let count : count_behind at.state.count (placed (x ∷ rest)) ≡ count_behind c.args.state.now.count (placed c.args.chunks.items) = ap (λ (cs : List CheckedChunk). count_behind at.state.count (placed cs)) (sym steps.0) ∙ was.count in
+    let count : count_behind at.state.count (placed (x ∷ rest)) ≡ count_behind c.args.state.now.count (placed c.args.chunks.items) =
+    ap (λ (cs : List CheckedChunk). count_behind at.state.count (placed cs)) (sym steps.0) ∙ was.count in
     record {
       items = append_assoc at.yielded (x ∷ []) rest ∙ whole;
       left = omega (arith, was.left, steps.1, ap length steps.0);
@@ -35,7 +36,8 @@ loop-chunk-preserved g c =
       behind = subst (λ (n : ℕ). AreBehind n (placed rest)) (sym ran.count) behind.1;
       prepared = (subst ArePrepared steps.0 was.prepared).1;
       count = ap (λ (n : ℕ). count_behind n (placed rest)) ran.count ∙ count;
-      runs = subst (λ (log : List Txn). RunsChunk log c.args.state.now now) (sym (txns_more at.yielded x)) (runs_on (txns_of at.yielded) x.log c.args.state.now at.state now was.runs ran.runs);
+      runs = subst (λ (log : List Txn). RunsChunk log c.args.state.now now) (sym (txns_more at.yielded x))
+          (runs_on (txns_of at.yielded) x.log c.args.state.now at.state now was.runs ran.runs);
     }
 
 pub returns : goal.returns

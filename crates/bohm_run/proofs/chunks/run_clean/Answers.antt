@@ -4,7 +4,7 @@ use Rattle.bohm_txn.specs.Serial.{replies}
 use Rattle.bohm_txn.proofs.ForCallers.{length-replies}
 use Rattle.bohm_store.specs.Versions.{past}
 use Rattle.bohm_text.specs.Print.{print_numbered}
-use Rattle.bohm_line.specs.Cuttings.{Cutting}
+use Rattle.bohm_place.specs.Cuttings.{Cutting}
 use Rattle.bohm_run.specs.Progresses.{GoesOn}
 use Rattle.bohm_run.specs.Runs.{IsApplied}
 use Rattle.bohm_run.proofs.chunks.run_clean.Goals as goal
@@ -16,7 +16,9 @@ pub put_replies-requires : goal.put_replies-requires
 put_replies-requires g c =
     let was = c.args.progress.now.history in
     let more = replies (past was was.top) c.args.part.now in
-    let ran = subst (λ (k : Cutting). GoesOn (record { history = was; replies = c.truncate.new.self }) c.run_planned.new.progress k.log c.args.executor.now.keep) c.new-log.ensures c.in_ok-run_planned.ensures.ran in
+    let ran = subst
+    (λ (k : Cutting). GoesOn (record { history = was; replies = c.truncate.new.self }) c.run_planned.new.progress k.log c.args.executor.now.keep)
+    c.new-log.ensures c.in_ok-run_planned.ensures.ran in
     let is : c.run_planned.new.progress.replies ≡ more = ran.replies ∙ ap (λ (a : List Reply). a ++ more) c.truncate.ensures in
     omega (arith, ap length is, length-replies (past was was.top) c.args.part.now, c.top-first.ensures.top, c.requires.few)
 
@@ -25,7 +27,8 @@ returns-clause-run g c =
     let was = c.args.progress.now.history in
     let now = c.run_planned.new.progress in
     let more = replies (past was was.top) c.args.part.now in
-    let ran = subst (λ (k : Cutting). GoesOn (record { history = was; replies = c.truncate.new.self }) now k.log c.args.executor.now.keep) c.new-log.ensures c.in_ok-run_planned.ensures.ran in
+    let ran = subst (λ (k : Cutting). GoesOn (record { history = was; replies = c.truncate.new.self }) now k.log c.args.executor.now.keep) c.new-log.ensures
+    c.in_ok-run_planned.ensures.ran in
     let is : now.replies ≡ more = ran.replies ∙ ap (λ (a : List Reply). a ++ more) c.truncate.ensures in
     record {
       answered = now.replies;

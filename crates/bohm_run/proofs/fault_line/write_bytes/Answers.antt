@@ -20,9 +20,13 @@ writes-preserved g c =
     let bytes = c.args.bytes.now in
     let sent = c.writes.sent in
     let n = c.in-Ok.count in
-    let here : take (length bytes - sent) (drop sent bytes) ≡ drop sent bytes = take_all (length bytes - sent) (drop sent bytes) (omega (arith, length-drop sent bytes)) in
-    let both : Appends (g.W.Write.contents c.args.writer.now) (g.W.Write.contents c.write.new.self) (take sent bytes ++ take n (take (length bytes - sent) (drop sent bytes))) = joined _ _ _ (take sent bytes) _ c.writes.invariant.so_far c.in-Ok.ensures.bytes in
-    let same : take sent bytes ++ take n (take (length bytes - sent) (drop sent bytes)) ≡ take (sent + n) bytes = ap (λ (xs : List ℕ). take sent bytes ++ take n xs) here ∙ sym (take-add sent n bytes) in
+    let here : take (length bytes - sent) (drop sent bytes) ≡ drop sent bytes =
+    take_all (length bytes - sent) (drop sent bytes) (omega (arith, length-drop sent bytes)) in
+    let both : Appends (g.W.Write.contents c.args.writer.now) (g.W.Write.contents c.write.new.self)
+    (take sent bytes ++ take n (take (length bytes - sent) (drop sent bytes))) =
+    joined _ _ _ (take sent bytes) _ c.writes.invariant.so_far c.in-Ok.ensures.bytes in
+    let same : take sent bytes ++ take n (take (length bytes - sent) (drop sent bytes)) ≡ take (sent + n) bytes =
+    ap (λ (xs : List ℕ). take sent bytes ++ take n xs) here ∙ sym (take-add sent n bytes) in
     record {
       within = omega (arith, c.in-Ok.ensures.bound, length-take (length bytes - sent) (drop sent bytes), length-drop sent bytes);
       so_far = subst (Appends (g.W.Write.contents c.args.writer.now) (g.W.Write.contents c.write.new.self)) same both;

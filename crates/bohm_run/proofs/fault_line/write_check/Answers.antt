@@ -18,7 +18,8 @@ returns-in_err-write_numbered-clause-err g c =
     let word : c.as_bytes.result.now ≡ kind_word f.kind = cc (c.as_bytes.ensures.value, c.word_of.ensures) in
     let txn : spaced_decimal c.from.result ≡ spaced_decimal f.txn = ap spaced_decimal c.from.ensures in
     let same : c.as_bytes.result.now ++ spaced_decimal c.from.result ≡ kind_word f.kind ++ spaced_decimal f.txn = cc (word, txn) in
-    let second = subst (AppendsFront (g.W.Write.contents c.write_bytes.new.writer) (g.W.Write.contents c.write_numbered.new.writer)) same c.in_err-write_numbered.ensures.err in
+    let second = subst (AppendsFront (g.W.Write.contents c.write_bytes.new.writer) (g.W.Write.contents c.write_numbered.new.writer)) same
+    c.in_err-write_numbered.ensures.err in
     let both = behind _ _ _ head (kind_word f.kind ++ spaced_decimal f.txn) c.in_ok-write_bytes.ensures.ok second in
     on_err _ c.from_residual-in_err-write_numbered.result (wider _ _ (head ++ (kind_word f.kind ++ spaced_decimal f.txn)) (spaced_decimal f.stmt) both)
 
@@ -28,10 +29,13 @@ returns-clause-ok g c =
     let word : c.as_bytes.result.now ≡ kind_word f.kind = cc (c.as_bytes.ensures.value, c.word_of.ensures) in
     let txn : spaced_decimal c.from.result ≡ spaced_decimal f.txn = ap spaced_decimal c.from.ensures in
     let same : c.as_bytes.result.now ++ spaced_decimal c.from.result ≡ kind_word f.kind ++ spaced_decimal f.txn = cc (word, txn) in
-    let second = subst (Appends (g.W.Write.contents c.write_bytes.new.writer) (g.W.Write.contents c.write_numbered.new.writer)) same c.in_ok-write_numbered.ensures.ok in
+    let second = subst (Appends (g.W.Write.contents c.write_bytes.new.writer) (g.W.Write.contents c.write_numbered.new.writer)) same
+    c.in_ok-write_numbered.ensures.ok in
     let both = joined _ _ _ head (kind_word f.kind ++ spaced_decimal f.txn) c.in_ok-write_bytes.ensures.ok second in
     let stmt : spaced_decimal c.from-2.result ≡ spaced_decimal f.stmt = ap spaced_decimal c.from-2.ensures in
-    let third = subst (λ (bs : List ℕ). OnOk c.write_spaced.result (Appends (g.W.Write.contents c.write_numbered.new.writer) (g.W.Write.contents c.write_spaced.new.writer) bs)) stmt c.write_spaced.ensures.ok in
+    let third = subst
+    (λ (bs : List ℕ). OnOk c.write_spaced.result
+    (Appends (g.W.Write.contents c.write_numbered.new.writer) (g.W.Write.contents c.write_spaced.new.writer) bs)) stmt c.write_spaced.ensures.ok in
     then_ok _ _ _ (head ++ (kind_word f.kind ++ spaced_decimal f.txn)) (spaced_decimal f.stmt) both c.write_spaced.result third
 
 pub returns-clause-err : goal.returns-clause-err
@@ -40,8 +44,11 @@ returns-clause-err g c =
     let word : c.as_bytes.result.now ≡ kind_word f.kind = cc (c.as_bytes.ensures.value, c.word_of.ensures) in
     let txn : spaced_decimal c.from.result ≡ spaced_decimal f.txn = ap spaced_decimal c.from.ensures in
     let same : c.as_bytes.result.now ++ spaced_decimal c.from.result ≡ kind_word f.kind ++ spaced_decimal f.txn = cc (word, txn) in
-    let second = subst (Appends (g.W.Write.contents c.write_bytes.new.writer) (g.W.Write.contents c.write_numbered.new.writer)) same c.in_ok-write_numbered.ensures.ok in
+    let second = subst (Appends (g.W.Write.contents c.write_bytes.new.writer) (g.W.Write.contents c.write_numbered.new.writer)) same
+    c.in_ok-write_numbered.ensures.ok in
     let both = joined _ _ _ head (kind_word f.kind ++ spaced_decimal f.txn) c.in_ok-write_bytes.ensures.ok second in
     let stmt : spaced_decimal c.from-2.result ≡ spaced_decimal f.stmt = ap spaced_decimal c.from-2.ensures in
-    let third = subst (λ (bs : List ℕ). OnErr c.write_spaced.result (AppendsFront (g.W.Write.contents c.write_numbered.new.writer) (g.W.Write.contents c.write_spaced.new.writer) bs)) stmt c.write_spaced.ensures.err in
+    let third = subst
+    (λ (bs : List ℕ). OnErr c.write_spaced.result
+    (AppendsFront (g.W.Write.contents c.write_numbered.new.writer) (g.W.Write.contents c.write_spaced.new.writer) bs)) stmt c.write_spaced.ensures.err in
     then_err _ _ _ (head ++ (kind_word f.kind ++ spaced_decimal f.txn)) (spaced_decimal f.stmt) both c.write_spaced.result third

@@ -1,5 +1,5 @@
 use Rattle.std.proofs.Common.{◌≡◌, ◌+◌, ◌-◌, ◌++◌, ◌∙◌, ◌∷◌, [], ℕ, List, Some, slice_get, sym, refl, arith, subst}
-use Rattle.bohm_tree.specs.Txn.{Txn}
+use Rattle.bohm_types.specs.Txn.{Txn}
 use Rattle.bohm_txn.specs.declared.outcome.Reply.{Reply}
 use Rattle.bohm_txn.specs.Meaning.{body}
 use Rattle.bohm_txn.specs.Serial.{reply_of, state}
@@ -28,7 +28,8 @@ loop-place-preserved c =
     let at : slice_get txns i ≡ Some x = found.1 in
     let here : txn_at b t ≡ Some x = subst (λ (n : ℕ). slice_get txns n ≡ Some x) (sym place) at in
     let r = reply_of (body (state (base_of b) txns i) x) in
-    let pushed : c.push_reply.new.replies ≡ was ++ r ∷ [] = subst (λ (n : ℕ). c.push_reply.new.replies ≡ was ++ reply_of (body (state (base_of b) txns n) x) ∷ []) place (c.in_ok-push_reply.ensures.ok x here) in
+    let pushed : c.push_reply.new.replies ≡ was ++ r ∷ [] =
+    subst (λ (n : ℕ). c.push_reply.new.replies ≡ was ++ reply_of (body (state (base_of b) txns n) x) ∷ []) place (c.in_ok-push_reply.ensures.ok x here) in
     record {
       told = rw pushed (reply_step (base_of b) txns i x r was _ at refl c.loop-place.invariant.told);
       front = longer _ _ _ r c.loop-place.invariant.front pushed;

@@ -1,5 +1,5 @@
 use Rattle.std.proofs.Common.{◌≡◌, Some, take}
-use Rattle.bohm_tree.specs.Txn.{Txn}
+use Rattle.bohm_types.specs.Txn.{Txn}
 use Rattle.bohm_txn.specs.Meaning.{body}
 use Rattle.bohm_txn.specs.Serial.{shows_of}
 use Rattle.bohm_board.specs.Batches.{txn_at}
@@ -9,4 +9,5 @@ use Rattle.bohm_run.proofs.replies.values_shown.Given as goal
 
 -- the values so far are the first that the serial run shows
 abbrev pub invariant-loop-index : goal.invariant-loop-index
-invariant-loop-index l = (x : Txn) → txn_at (batch_of_finished l.finished) l.t ≡ Some x → l.values.items ≡ take l.index (shows_of (body (state_before (batch_of_finished l.finished) l.t) x))
+invariant-loop-index l = (x : Txn) → txn_at (batch_of_finished l.finished) l.t ≡ Some x
+    → l.values.items ≡ take l.index (shows_of (body (state_before (batch_of_finished l.finished) l.t) x))

@@ -10,7 +10,8 @@ returns-clause-replies g c =
     let opened = c.in_ok-history.ensures in
     let applied = rw c.log-log.ensures.same at c.apply-replies.ensures.applied in
     let all = rw c.log-log.ensures.same at c.apply-replies.ensures.whole (ap is_ok c.in_ok-end.was) in
-    (whole_run start c.in_ok-history.history c.apply-replies.new.history log c.args.keep c.apply-replies.result.replies opened.floor opened.top (opened.past ∙ ap (λ s. cell_in (store_of s)) c.store.ensures.same) applied all).0
+    (whole_run start c.in_ok-history.history c.apply-replies.new.history log c.args.keep c.apply-replies.result.replies opened.floor opened.top
+    (opened.past ∙ ap (λ s. cell_in (store_of s)) c.store.ensures.same) applied all).0
 
 pub returns-clause-history : goal.returns-clause-history
 returns-clause-history g c =
@@ -19,4 +20,5 @@ returns-clause-history g c =
     let opened = c.in_ok-history.ensures in
     let applied = rw c.log-log.ensures.same at c.apply-replies.ensures.applied in
     let all = rw c.log-log.ensures.same at c.apply-replies.ensures.whole (ap is_ok c.in_ok-end.was) in
-    (whole_run start c.in_ok-history.history c.apply-replies.new.history log c.args.keep c.apply-replies.result.replies opened.floor opened.top (opened.past ∙ ap (λ s. cell_in (store_of s)) c.store.ensures.same) applied all).1
+    (whole_run start c.in_ok-history.history c.apply-replies.new.history log c.args.keep c.apply-replies.result.replies opened.floor opened.top
+    (opened.past ∙ ap (λ s. cell_in (store_of s)) c.store.ensures.same) applied all).1

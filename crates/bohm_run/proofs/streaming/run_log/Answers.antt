@@ -24,7 +24,9 @@ run_windows-requires-clause-level g c κs within = λ none few. omega (arith, c.
 pub returns-in_err-run_windows-clause-err : goal.returns-in_err-run_windows-clause-err
 returns-in_err-run_windows-clause-err g c =
     let p = err_from_is_err_and c.from_residual-in_err-run_windows.result c.from_residual-in_err-run_windows.ensures.1 in
-    rw (p.1, p.2) (λ given. log_refused _ _ _ c.in_ok-first.first c.in_ok-first.source c.in_ok-first.ensures.ok given c.in_err-run_windows.field-0.0 c.in_err-run_windows.ensures.err)
+    rw (p.1, p.2)
+    (λ given. log_refused _ _ _ c.in_ok-first.first c.in_ok-first.source c.in_ok-first.ensures.ok given c.in_err-run_windows.field-0.0
+    c.in_err-run_windows.ensures.err)
 
 pub returns-in_err-run_windows-clause-before : goal.returns-in_err-run_windows-clause-before
 returns-in_err-run_windows-clause-before g c =
@@ -32,7 +34,10 @@ returns-in_err-run_windows-clause-before g c =
     rw (p.1, p.2) (reading_before c.in_err-run_windows.field-0.0)
 
 pub returns-in-None-clause-ok : goal.returns-in-None-clause-ok
-returns-in-None-clause-ok g c = log_run _ _ _ c.in_ok-first.first c.in_ok-first.source c.in_ok-first.ensures.ok c.args.settings.keep c.in_ok-state.state c.run_windows.new.state c.in_ok-state.ensures c.in_ok-run_windows.ensures.ok (c.check_end.ensures.none c.in-None.is) (c.check_end.ensures.kept c.in-None.is)
+returns-in-None-clause-ok g c = log_run _ _ _ c.in_ok-first.first c.in_ok-first.source c.in_ok-first.ensures.ok c.args.settings.keep c.in_ok-state.state
+    c.run_windows.new.state c.in_ok-state.ensures c.in_ok-run_windows.ensures.ok (c.check_end.ensures.none c.in-None.is)
+    (c.check_end.ensures.kept c.in-None.is)
 
 pub returns-in-Some-clause-err : goal.returns-in-Some-clause-err
-returns-in-Some-clause-err g c = λ given. log_faulty _ _ _ c.in_ok-first.first c.in_ok-first.source c.in_ok-first.ensures.ok c.args.settings.keep c.in_ok-state.state c.run_windows.new.state c.in_ok-state.ensures c.in_ok-run_windows.ensures.ok given c.in-Some.fault c.in-Some.ensures.some
+returns-in-Some-clause-err g c = λ given. log_faulty _ _ _ c.in_ok-first.first c.in_ok-first.source c.in_ok-first.ensures.ok c.args.settings.keep
+    c.in_ok-state.state c.run_windows.new.state c.in_ok-state.ensures c.in_ok-run_windows.ensures.ok given c.in-Some.fault c.in-Some.ensures.some

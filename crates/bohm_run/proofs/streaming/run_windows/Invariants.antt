@@ -11,7 +11,8 @@ invariant-waves g l = record {
   edition : l.log_reader.edition ≡ l.fn.log_reader.edition;
   next : AreNext l.state l.chunks.items;
   count : l.log_reader.count ≡ count_behind l.state.count (placed l.chunks.items);
-  streams : RunsBehindTo l.fn.log_reader.edition l.fn.first.log (g.R.Read.remaining l.initial.reader) (g.R.Read.remaining l.reader) l.fn.log_reader.source l.log_reader.source (txns_of l.chunks.items) l.fn.state l.state;
+  streams : RunsBehindTo l.fn.log_reader.edition l.fn.first.log (g.R.Read.remaining l.initial.reader)
+      (g.R.Read.remaining l.reader) l.fn.log_reader.source l.log_reader.source (txns_of l.chunks.items) l.fn.state l.state;
 }
 
 abbrev pub decreases-waves : goal.decreases-waves

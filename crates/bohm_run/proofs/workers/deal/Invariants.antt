@@ -8,9 +8,9 @@ abbrev pub invariant-loop-number : goal.invariant-loop-number
 invariant-loop-number l = record {
   own : IsPassOf l.board l.pass;
   free : HoldsNothing (view l.pass);
-  scratches : l.workers ≤ vec_len l.crew.scratches + l.number;
+  scratches : l.workers ≤ vec_len l.pool.scratches + l.number;
   count : length l.jobs.items ≡ l.number;
   ready : All (IsReady l.board) l.jobs.items;
   workers : (w : ℕ) (d : Job) → w < l.number → (slice_index_or l.jobs.items w d).worker ≡ record { number = w; count = l.workers };
-  crew : workers_of l.crew ≡ workers_of l.fn.crew;
+  pool : workers_of l.pool ≡ workers_of l.fn.pool;
 }

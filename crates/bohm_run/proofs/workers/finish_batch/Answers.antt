@@ -15,5 +15,6 @@ gather-requires-clause-each g c = λ w d low.
 
 pub complete-requires : goal.complete-requires
 complete-requires g c = record {
-  aside = rw c.deref.ensures.value (left_aside c.close-closed.result (batch_of c.in_ok-board.board) (view c.in_ok-pass-2.pass) c.in_ok-pass-2.asides.items c.close-closed.ensures.batch c.in_ok-pass-2.ensures.all c.close-closed.ensures.done);
+  aside = rw c.deref.ensures.value (left_aside c.close-closed.result (batch_of c.in_ok-board.board)
+      (view c.in_ok-pass-2.pass) c.in_ok-pass-2.asides.items c.close-closed.ensures.batch c.in_ok-pass-2.ensures.all c.close-closed.ensures.done);
 }

@@ -31,8 +31,9 @@ loop-one-preserved c =
       free = rw c.join-pass.ensures.view was.free;
       items = append_assoc at.yielded (x ∷ []) rest ∙ whole;
       count = omega (arith, was.count, gone, short);
-      swept = rw (c.in_ok-push.ensures.items, c.join-pass.ensures.view, length_push at.yielded x) (swept_more b w (view at.pass) (view x.pass) at.asides.items c.in_ok-one.field-0 was.swept share);
-      crew = c.give_back.ensures.count ∙ was.crew;
+      swept = rw (c.in_ok-push.ensures.items, c.join-pass.ensures.view, length_push at.yielded x)
+          (swept_more b w (view at.pass) (view x.pass) at.asides.items c.in_ok-one.field-0 was.swept share);
+      pool = c.give_back.ensures.count ∙ was.pool;
     }
 
 pub returns-clause-all : goal.returns-clause-all
@@ -42,4 +43,5 @@ returns-clause-all c =
     let none = c.in-None.ensures.steps in
     let empty : into_iter_items at.one-iterator ≡ [] = nothing_left (into_iter_items at.one-iterator) (sym was.count ∙ none.0) in
     let all : at.yielded ≡ c.args.swept.items = sym (append-nil at.yielded) ∙ (let h = was.items in rw empty at h) in
-    swept_all (batch_of c.args.board.now) (length c.args.swept.items) (length at.yielded) (view at.pass) at.asides.items c.requires.some (ap length all) was.swept
+    swept_all (batch_of c.args.board.now) (length c.args.swept.items) (length at.yielded) (view at.pass) at.asides.items c.requires.some
+    (ap length all) was.swept

@@ -12,5 +12,5 @@ invariant-loop-one l = record {
   items : l.yielded ++ into_iter_items l.one-iterator ≡ l.fn.swept.items;
   count : into_iter_len l.one-iterator ≡ length (into_iter_items l.one-iterator);
   swept : AreSwept (batch_of l.board) (length l.fn.swept.items) (length l.yielded) (view l.pass) l.asides.items;
-  crew : workers_of l.crew ≡ workers_of l.fn.crew;
+  pool : workers_of l.pool ≡ workers_of l.fn.pool;
 }

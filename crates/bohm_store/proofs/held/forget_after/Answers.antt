@@ -23,7 +23,8 @@ loop-i-preserved c =
       done = λ n lt. ⊎_elim
           (λ (same : n ≡ i).
           let here : held_at (slice_set at.newest i held) i ≡ held_versions held = ap held_versions (get_or-set_same at.newest i held Never inside) in
-          rw same (here ∙ c.up_to.ensures ∙ ap (λ (h : Held). versions_to c.args.ts (held_versions h)) read ∙ ap (versions_to c.args.ts) (was.left i (omega arith))))
+          rw same (here ∙ c.up_to.ensures ∙ ap (λ (h : Held). versions_to c.args.ts (held_versions h)) read
+          ∙ ap (versions_to c.args.ts) (was.left i (omega arith))))
           (λ (other : n ≢ i). ap held_versions (get_or-set_other at.newest i n held Never other) ∙ was.done n (omega (arith, lt, other)))
           (cases_eq n i);
       left = λ n le. (let other : n ≢ i = λ (e : n ≡ i). absurd (omega (arith, e, le)) in
@@ -36,5 +37,8 @@ returns c n =
     let none : (xs : List Held) → length xs ≤ n → held_at xs n ≡ [] = λ xs le. ap held_versions (get_or-eq_default xs Never le) in
     ⊎_elim
     (λ (lt : n < at.i). at.invariant.done n lt)
-    (λ (le : at.i ≤ n). rw (none at.newest (omega (arith, le, c.loop-i-test.false, at.auto.newest)), none c.args.newest.now (omega (arith, le, c.loop-i-test.false))) refl)
+    (λ (le : at.i ≤ n). rw (
+      none at.newest (omega (arith, le, c.loop-i-test.false, at.auto.newest)),
+      none c.args.newest.now (omega (arith, le, c.loop-i-test.false)),
+    ) refl)
     (cases_lt n at.i)

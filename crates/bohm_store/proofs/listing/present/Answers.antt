@@ -1,6 +1,6 @@
 use Rattle.std.proofs.Common.{◌≡◌, ◌∙◌, ◌++◌, [], ◌<◌, ℕ, List, length, drop, get_or, ap, sym, append-nil, arith}
 use Rattle.std.proofs.lemmas.List.{get_or_default}
-use Rattle.bohm_tree.specs.declared.cell.Cell.TheVariants as cells
+use Rattle.bohm_types.specs.declared.cell.Cell.TheVariants as cells
 use Rattle.bohm_store.specs.Versions.{cell_at}
 use Rattle.bohm_store.specs.Chains.{cell_entry, timeline_entries_at}
 use Rattle.bohm_store.specs.declared.held.Held.{Held}

@@ -14,6 +14,9 @@ loop-index-preserved c =
     let out = c.loop-index.out.items in
     let line : List ℕ = line_text (reply_words t x) ++ 10 ∷ [] in
     let count : c.args.first + (i + 1) ≡ t + 1 = omega arith in
-    let longer : c.push.new.self.items ≡ out ++ line = c.in_ok-push.ensures.items ∙ rw c.in_ok-put_reply.ensures (append_assoc out (line_text (reply_words t x)) (10 ∷ [])) in
-    let rest : lines_text (reply_lines t (drop i rs)) ≡ line ++ lines_text (reply_lines (t + 1) (drop (i + 1) rs)) = ap (λ (list : List Reply). lines_text (reply_lines t list)) (drop_at rs i x c.get.ensures) in
-    rw (longer, count) (append_assoc out line (lines_text (reply_lines (t + 1) (drop (i + 1) rs))) ∙ ap (λ (text : List ℕ). out ++ text) (sym rest) ∙ c.loop-index.invariant)
+    let longer : c.push.new.self.items ≡ out ++ line =
+    c.in_ok-push.ensures.items ∙ rw c.in_ok-put_reply.ensures (append_assoc out (line_text (reply_words t x)) (10 ∷ [])) in
+    let rest : lines_text (reply_lines t (drop i rs)) ≡ line ++ lines_text (reply_lines (t + 1) (drop (i + 1) rs)) =
+    ap (λ (list : List Reply). lines_text (reply_lines t list)) (drop_at rs i x c.get.ensures) in
+    rw (longer, count) (append_assoc out line (lines_text (reply_lines (t + 1) (drop (i + 1) rs))) ∙ ap (λ (text : List ℕ). out ++ text) (sym rest)
+    ∙ c.loop-index.invariant)

@@ -3,4 +3,5 @@ use Rattle.bohm_text.specs.Print.{lines_text, reply_lines, print_numbered}
 use Rattle.bohm_text.proofs.answers.put_replies.Given as goal
 
 abbrev pub invariant-loop-index : goal.invariant-loop-index
-invariant-loop-index l = l.out.items ++ lines_text (reply_lines (l.first + l.index) (drop l.index l.replies)) ≡ l.initial.out.items ++ print_numbered l.first l.replies
+invariant-loop-index l = l.out.items ++ lines_text
+    (reply_lines (l.first + l.index) (drop l.index l.replies)) ≡ l.initial.out.items ++ print_numbered l.first l.replies

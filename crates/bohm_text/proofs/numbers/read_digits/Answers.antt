@@ -13,12 +13,15 @@ returns-then-next-from-clause-value c =
 
 pub loop-byte-preserved : goal.loop-byte-preserved
 loop-byte-preserved c =
-    let next : c.from.result * 10 + c.from-in-loop-byte.result ≡ c.loop-byte.number * 10 + (get_or c.args.digits.now c.loop-byte.byte-index 0 - 48) = omega arith in
+    let next : c.from.result * 10 + c.from-in-loop-byte.result ≡ c.loop-byte.number * 10 + (get_or c.args.digits.now c.loop-byte.byte-index 0 - 48) =
+    omega arith in
     let digit : is_ascii_digit (get_or c.args.digits.now c.loop-byte.byte-index 0) ≡ true = cc in
     record {
       small = omega arith;
-      so_far = rw next (digits_step _ c.args.limit c.loop-byte.number c.loop-byte.byte-index c.args.digits.now c.loop-byte-test.true c.loop-byte.invariant.so_far digit (omega arith));
+      so_far = rw next (digits_step _ c.args.limit c.loop-byte.number c.loop-byte.byte-index c.args.digits.now c.loop-byte-test.true
+          c.loop-byte.invariant.so_far digit (omega arith));
     }
 
 pub returns-clause-value : goal.returns-clause-value
-returns-clause-value c = digits_end _ c.args.limit c.loop-byte.number c.loop-byte.byte-index c.args.digits.now c.loop-byte-test.false c.loop-byte.invariant.so_far
+returns-clause-value c = digits_end _ c.args.limit c.loop-byte.number c.loop-byte.byte-index c.args.digits.now c.loop-byte-test.false
+    c.loop-byte.invariant.so_far

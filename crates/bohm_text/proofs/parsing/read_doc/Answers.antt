@@ -1,8 +1,8 @@
 use Rattle.std.proofs.Common.{◌≡◌, Some, Err, subst, ◌∙◌}
 use Rattle.std.specs.Prelude.{Option}
 use Rattle.std.proofs.lemmas.Result.{err_from_is_err_and}
-use Rattle.bohm_tree.specs.Document.{Document, document_of}
-use Rattle.bohm_tree.specs.Sound.{IsDocument}
+use Rattle.bohm_types.specs.Document.{Document, document_of}
+use Rattle.bohm_types.specs.Sound.{IsDocument}
 use Rattle.bohm_text.specs.declared.fault.TextFault.TheVariants.{Line, Short}
 use Rattle.bohm_text.specs.Parse.{text_fault_of}
 use Rattle.bohm_text.specs.Step.{document_in}

@@ -5,4 +5,6 @@ use Rattle.bohm_text.proofs.Printed.{print_more, spaced_append}
 use Rattle.bohm_text.proofs.printing.put_sum.Goals as goal
 
 pub loop-index-preserved : goal.loop-index-preserved
-loop-index-preserved c = print_more (λ terms. spaced (flat_map further_words terms)) c.args.sum.now c.loop-index.index (term_shown c.term-in-loop-index.result) _ (spaced (further_words (term_shown c.term-in-loop-index.result))) _ _ c.term-in-loop-index.ensures (spaced_append (further_words (term_shown c.term-in-loop-index.result)) _) c.in_ok-put_further.ensures c.loop-index.invariant
+loop-index-preserved c = print_more (λ terms. spaced (flat_map further_words terms)) c.args.sum.now c.loop-index.index
+    (term_shown c.term-in-loop-index.result) _ (spaced (further_words (term_shown c.term-in-loop-index.result))) _ _ c.term-in-loop-index.ensures
+    (spaced_append (further_words (term_shown c.term-in-loop-index.result)) _) c.in_ok-put_further.ensures c.loop-index.invariant

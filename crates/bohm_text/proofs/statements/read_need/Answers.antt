@@ -1,6 +1,6 @@
 use Rattle.std.proofs.Common.{subst, sym}
 use Rattle.std.specs.Prelude.{Option}
-use Rattle.bohm_tree.specs.Stmt.{Stmt}
+use Rattle.bohm_types.specs.Stmt.{Stmt}
 use Rattle.bohm_log.specs.Drafting.{with_stmt}
 use Rattle.bohm_text.specs.Reading.{need_of}
 use Rattle.bohm_text.specs.Taking.{TakesStmt}

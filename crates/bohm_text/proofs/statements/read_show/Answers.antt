@@ -1,5 +1,5 @@
 use Rattle.std.specs.Option.{option_map}
-use Rattle.bohm_tree.specs.Stmt.{Show}
+use Rattle.bohm_types.specs.Stmt.{Show}
 use Rattle.bohm_log.specs.Drafting.{with_stmt}
 use Rattle.bohm_text.specs.Reading.{last_sum}
 use Rattle.bohm_text.proofs.Ended.{last_long, not_taken}

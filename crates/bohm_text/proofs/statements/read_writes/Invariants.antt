@@ -6,7 +6,10 @@ use Rattle.bohm_text.specs.Taking.{with_writes}
 use Rattle.bohm_text.proofs.statements.read_writes.Given as goal
 
 abbrev pub invariant-words : goal.invariant-words
-invariant-words l = record { bare : IsBare l.draft; so_far : option_map (with_writes l.draft) (keys_of l.words) ≡ option_map (with_writes l.fn.draft) (keys_of l.fn.words) }
+invariant-words l = record {
+  bare : IsBare l.draft;
+  so_far : option_map (with_writes l.draft) (keys_of l.words) ≡ option_map (with_writes l.fn.draft) (keys_of l.fn.words);
+}
 
 abbrev pub decreases-words : goal.decreases-words
 decreases-words l = length l.words

@@ -1,7 +1,7 @@
 use Rattle.std.proofs.Common.{◌≡◌, ◌++◌, ap, ◌∙◌}
 use Rattle.std.specs.Prelude.{Option, List, ℕ}
-use Rattle.bohm_tree.specs.Parts.{target}
-use Rattle.bohm_tree.specs.Stmt.{Stmt}
+use Rattle.bohm_types.specs.Parts.{target}
+use Rattle.bohm_types.specs.Stmt.{Stmt}
 use Rattle.bohm_tidy.specs.Settled.{the_key}
 use Rattle.bohm_tidy.proofs.Lists.{gather_more}
 use Rattle.bohm_tidy.proofs.body_keys.add_body_writes.Goals as goal

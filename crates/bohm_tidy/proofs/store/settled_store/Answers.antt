@@ -1,22 +1,28 @@
 use Rattle.std.proofs.Common.{◌≡◌, ◌++◌, true, List, ℕ, ap, sym, subst, ◌∙◌}
 use Rattle.std.specs.Prelude.{ℤ}
 use Rattle.std.specs.List.Sorted.{IsPermutation}
-use Rattle.bohm_tree.specs.Keys.{names_of, rising}
+use Rattle.bohm_types.specs.Keys.{names_of, rising}
 use Rattle.bohm_tidy.proofs.Stores.{distinct_moved, entries_moved}
 use Rattle.bohm_tidy.proofs.store.settled_store.Goals as goal
 
 pub returns-clause-listed : goal.returns-clause-listed
 returns-clause-listed c =
     let sorted : List (List ℕ × ℤ) = c.sort_unstable_by.new.self.items in
-    let copied : c.extend_from_slice.new.self.items ≡ c.args.store.now = c.in_ok-extend_from_slice.ensures.items ∙ ap (λ (es : List (List ℕ × ℤ)). es ++ c.args.store.now) c.in_ok-list.ensures.items in
-    let moved : IsPermutation c.args.store.now sorted = subst (λ (es : List (List ℕ × ℤ)). IsPermutation es sorted) copied c.sort_unstable_by.ensures.permutation in
-    let rises : rising (names_of sorted) ≡ true = ap (λ (es : List (List ℕ × ℤ)). rising (names_of es)) (sym c.as_slice.ensures.value) ∙ sym c.if-not-is_rising.ensures in
+    let copied : c.extend_from_slice.new.self.items ≡ c.args.store.now =
+    c.in_ok-extend_from_slice.ensures.items ∙ ap (λ (es : List (List ℕ × ℤ)). es ++ c.args.store.now) c.in_ok-list.ensures.items in
+    let moved : IsPermutation c.args.store.now sorted =
+    subst (λ (es : List (List ℕ × ℤ)). IsPermutation es sorted) copied c.sort_unstable_by.ensures.permutation in
+    let rises : rising (names_of sorted) ≡ true =
+    ap (λ (es : List (List ℕ × ℤ)). rising (names_of es)) (sym c.as_slice.ensures.value) ∙ sym c.if-not-is_rising.ensures in
     entries_moved c.args.store.now sorted moved rises
 
 pub returns-clause-distinct : goal.returns-clause-distinct
 returns-clause-distinct c =
     let sorted : List (List ℕ × ℤ) = c.sort_unstable_by.new.self.items in
-    let copied : c.extend_from_slice.new.self.items ≡ c.args.store.now = c.in_ok-extend_from_slice.ensures.items ∙ ap (λ (es : List (List ℕ × ℤ)). es ++ c.args.store.now) c.in_ok-list.ensures.items in
-    let moved : IsPermutation c.args.store.now sorted = subst (λ (es : List (List ℕ × ℤ)). IsPermutation es sorted) copied c.sort_unstable_by.ensures.permutation in
-    let rises : rising (names_of sorted) ≡ true = ap (λ (es : List (List ℕ × ℤ)). rising (names_of es)) (sym c.as_slice.ensures.value) ∙ sym c.if-not-is_rising.ensures in
+    let copied : c.extend_from_slice.new.self.items ≡ c.args.store.now =
+    c.in_ok-extend_from_slice.ensures.items ∙ ap (λ (es : List (List ℕ × ℤ)). es ++ c.args.store.now) c.in_ok-list.ensures.items in
+    let moved : IsPermutation c.args.store.now sorted =
+    subst (λ (es : List (List ℕ × ℤ)). IsPermutation es sorted) copied c.sort_unstable_by.ensures.permutation in
+    let rises : rising (names_of sorted) ≡ true =
+    ap (λ (es : List (List ℕ × ℤ)). rising (names_of es)) (sym c.as_slice.ensures.value) ∙ sym c.if-not-is_rising.ensures in
     distinct_moved c.args.store.now sorted moved rises

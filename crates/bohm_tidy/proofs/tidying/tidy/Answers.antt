@@ -1,6 +1,6 @@
 use Rattle.std.proofs.Common.{subst}
 use Rattle.std.specs.Prelude.{Option}
-use Rattle.bohm_tree.specs.Document.{Document}
+use Rattle.bohm_types.specs.Document.{Document}
 use Rattle.bohm_tidy.specs.Tidied.{IsExactDoc}
 use Rattle.bohm_tidy.proofs.Readings.{exactly}
 use Rattle.bohm_tidy.proofs.tidying.tidy.Goals as goal

@@ -1,5 +1,5 @@
 use Rattle.std.proofs.Common.{◌≡◌, ◌-◌, drop}
-use Rattle.bohm_tree.specs.Keys.{rising}
+use Rattle.bohm_types.specs.Keys.{rising}
 use Rattle.bohm_txn.proofs.first_fault.are_rising.Given as goal
 
 abbrev pub invariant-loop-place : goal.invariant-loop-place

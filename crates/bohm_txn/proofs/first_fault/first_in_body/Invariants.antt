@@ -1,5 +1,5 @@
 use Rattle.std.proofs.Common.{◌≡◌, drop, map, take}
-use Rattle.bohm_tree.specs.declared.edition.Edition.{Edition}
+use Rattle.bohm_types.specs.declared.edition.Edition.{Edition}
 use Rattle.bohm_log.specs.Parts.{stmt_of, txn_of}
 use Rattle.bohm_txn.specs.FirstFault.{first_from, find_stmt, first_in_body}
 use Rattle.bohm_txn.specs.Rows.{AreNoted}

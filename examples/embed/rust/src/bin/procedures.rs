@@ -30,11 +30,12 @@ fn main() -> Result<(), Error> {
     let transfer = Procedure::prepare(TRANSFER)?;
     let audit = Procedure::prepare(AUDIT)?;
     let mut calls = Calls::new(Edition::One)?;
-    calls.push(&transfer, &["alice", "bob"], &[30])?;
-    calls.push(&transfer, &["bob", "carol"], &[80])?;
-    calls.push(&transfer, &["alice", "carol"], &[70])?;
-    calls.push(&transfer, &["alice", "bob"], &[1])?;
-    calls.push::<&str>(&audit, &[], &[])?;
+    let (alice, bob, carol) = (calls.key("alice")?, calls.key("bob")?, calls.key("carol")?);
+    calls.push_named(&transfer, &[alice, bob], &[30])?;
+    calls.push_named(&transfer, &[bob, carol], &[80])?;
+    calls.push_named(&transfer, &[alice, carol], &[70])?;
+    calls.push_named(&transfer, &[alice, bob], &[1])?;
+    calls.push_named(&audit, &[], &[])?;
     print!("{}", machine.run(&calls)?);
     print!("--\n{}", &machine.store_at(machine.top())?.as_str()[6..]);
     Ok(())

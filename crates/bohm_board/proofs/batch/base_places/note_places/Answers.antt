@@ -35,10 +35,12 @@ note_set-requires-clause-first c = omega (arith, c.first-first.ensures, c.loop-i
 pub note_set-requires-clause-paired : goal.note_set-requires-clause-paired
 note_set-requires-clause-paired c =
     let here = (goal.at.note_set-requires-clause-paired c).After-txn-txn in
-    subst (λ (n : ℕ). length (keys_in Reads c.txn-txn.result) ≡ length (planned_in Reads c.loop-i.plan n)) (sym (row here)) (row_paired c.args.txns.now c.loop-i.plan Reads c.loop-i.i c.txn-txn.result c.loop-i.invariant.right (at_i here))
+    subst (λ (n : ℕ). length (keys_in Reads c.txn-txn.result) ≡ length (planned_in Reads c.loop-i.plan n)) (sym (row here))
+    (row_paired c.args.txns.now c.loop-i.plan Reads c.loop-i.i c.txn-txn.result c.loop-i.invariant.right (at_i here))
 
 pub note_set-requires-clause-few : goal.note_set-requires-clause-few
-note_set-requires-clause-few c = few_keys c.args.txns.now Reads c.loop-i.i c.txn-txn.result c.requires.batched.formed (at_i (goal.at.note_set-requires-clause-few c).After-txn-txn)
+note_set-requires-clause-few c = few_keys c.args.txns.now Reads c.loop-i.i c.txn-txn.result c.requires.batched.formed
+    (at_i (goal.at.note_set-requires-clause-few c).After-txn-txn)
 
 pub note_set-requires-clause-there : goal.note_set-requires-clause-there
 note_set-requires-clause-there c = entered c.args.txns.now (keys_of c.args.entries.now) Reads c.loop-i.i c.txn-txn.result c.requires.base c.txn-txn.ensures
@@ -52,13 +54,16 @@ note_set-requires-in-loop-i-clause-first c = omega (arith, c.first-first.ensures
 pub note_set-requires-in-loop-i-clause-paired : goal.note_set-requires-in-loop-i-clause-paired
 note_set-requires-in-loop-i-clause-paired c =
     let here = goal.at.note_set-requires-in-loop-i-clause-paired c in
-    subst (λ (n : ℕ). length (keys_in Writes c.txn-txn.result) ≡ length (planned_in Writes c.note_set.new.plan n)) (sym (row_then here.After-note_set)) (row_paired c.args.txns.now c.note_set.new.plan Writes c.loop-i.i c.txn-txn.result (right_then here.After-note_set) (at_i here.After-txn-txn))
+    subst (λ (n : ℕ). length (keys_in Writes c.txn-txn.result) ≡ length (planned_in Writes c.note_set.new.plan n)) (sym (row_then here.After-note_set))
+    (row_paired c.args.txns.now c.note_set.new.plan Writes c.loop-i.i c.txn-txn.result (right_then here.After-note_set) (at_i here.After-txn-txn))
 
 pub note_set-requires-in-loop-i-clause-few : goal.note_set-requires-in-loop-i-clause-few
-note_set-requires-in-loop-i-clause-few c = few_keys c.args.txns.now Writes c.loop-i.i c.txn-txn.result c.requires.batched.formed (at_i (goal.at.note_set-requires-in-loop-i-clause-few c).After-txn-txn)
+note_set-requires-in-loop-i-clause-few c = few_keys c.args.txns.now Writes c.loop-i.i c.txn-txn.result c.requires.batched.formed
+    (at_i (goal.at.note_set-requires-in-loop-i-clause-few c).After-txn-txn)
 
 pub note_set-requires-in-loop-i-clause-there : goal.note_set-requires-in-loop-i-clause-there
-note_set-requires-in-loop-i-clause-there c = entered c.args.txns.now (keys_of c.args.entries.now) Writes c.loop-i.i c.txn-txn.result c.requires.base c.txn-txn.ensures
+note_set-requires-in-loop-i-clause-there c = entered c.args.txns.now
+    (keys_of c.args.entries.now) Writes c.loop-i.i c.txn-txn.result c.requires.base c.txn-txn.ensures
 
 pub note_set-requires-in-loop-i-clause-entries : goal.note_set-requires-in-loop-i-clause-entries
 note_set-requires-in-loop-i-clause-entries c = few (goal.at.note_set-requires-in-loop-i-clause-entries c).After-txn-txn

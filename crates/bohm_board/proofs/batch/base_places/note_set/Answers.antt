@@ -25,7 +25,13 @@ inside : (c : After-key-key) → c.loop-place.place < length (planned_in c.args.
 inside c =
     let sources = c.loop-place.invariant.sources in
     let i = c.args.t - c.args.plan.now.first in
-    let low : c.loop-place.place < length (planned_in c.args.set c.loop-place.plan i) = omega (arith, sources_long c.args.plan.now c.loop-place.plan sources c.args.set i, c.requires.paired, slice_get_within (keys_in c.args.set c.args.txn.now) c.loop-place.place c.key-key.result.now (at_key c)) in
+    let low : c.loop-place.place < length (planned_in c.args.set c.loop-place.plan i) =
+    omega (
+      arith,
+      sources_long c.args.plan.now c.loop-place.plan sources c.args.set i,
+      c.requires.paired,
+      slice_get_within (keys_in c.args.set c.args.txn.now) c.loop-place.place c.key-key.result.now (at_key c),
+    ) in
     subst (λ (f : ℕ). c.loop-place.place < length (planned_in c.args.set c.loop-place.plan (c.args.t - f))) (sym sources.first) low
 
 pub access-requires-clause-index : goal.access-requires-clause-index
@@ -34,7 +40,12 @@ access-requires-clause-index c = inside (goal.at.access-requires-clause-index c)
 pub overflow_cast-entry : goal.overflow_cast-entry
 overflow_cast-entry c =
     let found = rw c.in-Ok.is at c.search.ensures.found in
-    omega (arith, slice_get_within (keys_of c.args.entries.now) c.in-Ok.entry c.key-key.result.now found, length-map c.args.entries.now (λ (e : Entry). e.0), c.requires.entries)
+    omega (
+      arith,
+      slice_get_within (keys_of c.args.entries.now) c.in-Ok.entry c.key-key.result.now found,
+      length-map c.args.entries.now (λ (e : Entry). e.0),
+      c.requires.entries,
+    )
 
 pub note-requires-clause-first : goal.note-requires-clause-first
 note-requires-clause-first c = omega (arith, c.requires.first, c.loop-place.invariant.sources.first)
@@ -54,7 +65,8 @@ loop-place-preserved c =
     let k = c.key-key.result.now in
     let noted = c.loop-place.invariant in
     let key = at_key (goal.at.loop-place-preserved c).After-key-key in
-    let at : slice_get (planned_in set q i) n ≡ Some c.access.result = subst (λ (f : ℕ). slice_get (planned_in set q (c.args.t - f)) n ≡ Some c.access.result) noted.sources.first c.access.ensures in
+    let at : slice_get (planned_in set q i) n ≡ Some c.access.result =
+    subst (λ (f : ℕ). slice_get (planned_in set q (c.args.t - f)) n ≡ Some c.access.result) noted.sources.first c.access.ensures in
     elim c.match-access.branch [
       | in-Before+in-Ok w ↦
           let now = subst (λ (f : ℕ). IsNoted q w.note.new.self set (c.args.t - f) n w.in-Ok.entry) noted.sources.first w.note.ensures.noted in
@@ -72,4 +84,5 @@ pub returns : goal.returns
 returns c =
     let long = ap length c.keys-keys.ensures in
     let end : c.loop-place.place ≡ length (keys_in c.args.set c.args.txn.now) = omega arith in
-    subst (λ (n : ℕ). IsSetNoted c.args.plan.now c.loop-place.plan c.args.set (c.args.t - c.args.plan.now.first) (keys_in c.args.set c.args.txn.now) (keys_of c.args.entries.now) n) end c.loop-place.invariant
+    subst (λ (n : ℕ). IsSetNoted c.args.plan.now c.loop-place.plan c.args.set (c.args.t - c.args.plan.now.first) (keys_in c.args.set c.args.txn.now)
+    (keys_of c.args.entries.now) n) end c.loop-place.invariant

@@ -31,13 +31,17 @@ invariant_of-pass c =
 pub invariant_of-pass-in-Busy : goal.invariant_of-pass-in-Busy
 invariant_of-pass-in-Busy c = record {
   bare = c.exchange_status-word.ensures.own.bare;
-  fits = kept_along _ _ _ _ (c.exchange_status-word.ensures.view ∙ ap (after_claim c.args.pass.now.seat.me.0 (timestamp c.args.pass.now.seat.me.0.right c.position-position.result)) (sym c.in-Busy.ensures)) (kept_saw c.args.pass.now.seat.me.0 _ Busy _ _ c.args.pass.now.fits);
+  fits = kept_along _ _ _ _
+      (c.exchange_status-word.ensures.view ∙ ap (after_claim c.args.pass.now.seat.me.0 (timestamp c.args.pass.now.seat.me.0.right c.position-position.result))
+      (sym c.in-Busy.ensures)) (kept_saw c.args.pass.now.seat.me.0 _ Busy _ _ c.args.pass.now.fits);
 }
 
 pub invariant_of-pass-in-Done : goal.invariant_of-pass-in-Done
 invariant_of-pass-in-Done c = record {
   bare = c.exchange_status-word.ensures.own.bare;
-  fits = kept_along _ _ _ _ (c.exchange_status-word.ensures.view ∙ ap (after_claim c.args.pass.now.seat.me.0 (timestamp c.args.pass.now.seat.me.0.right c.position-position.result)) (sym c.in-Done.ensures)) (kept_saw c.args.pass.now.seat.me.0 _ Done _ _ c.args.pass.now.fits);
+  fits = kept_along _ _ _ _
+      (c.exchange_status-word.ensures.view ∙ ap (after_claim c.args.pass.now.seat.me.0 (timestamp c.args.pass.now.seat.me.0.right c.position-position.result))
+      (sym c.in-Done.ensures)) (kept_saw c.args.pass.now.seat.me.0 _ Done _ _ c.args.pass.now.fits);
 }
 
 pub returns-in-Busy-clause-view : goal.returns-in-Busy-clause-view

@@ -7,12 +7,19 @@ use Rattle.bohm_board.proofs.EventRuns.{reached_lawful}
 use Rattle.bohm_board.proofs.board.Board.close.Goals as goal
 use Rattle.bohm_board.proofs.board.Board.close.Goals.{After-copy_words-3}
 
-end : (c : After-copy_words-3) → IsEnd c.args.self.batch (record { statuses = c.copy_words.new.into.items; presences = c.copy_words-2.new.into.items; values = c.copy_words-3.new.into.items }) c.args.pass.seat.id (view c.args.pass)
+end : (c : After-copy_words-3) → IsEnd c.args.self.batch
+    (record { statuses = c.copy_words.new.into.items; presences = c.copy_words-2.new.into.items; values = c.copy_words-3.new.into.items }) c.args.pass.seat.id
+    (view c.args.pass)
 end c = settles c.args.self.batch c.args.pass.seat.id (view c.args.pass) _ _
-    (record { statuses = c.copy_words.new.into.items; presences = c.copy_words-2.new.into.items; values = c.copy_words-3.new.into.items }) c.args.self.layout.positions (c.args.self.layout.positions + c.args.self.layout.slots)
+    (record { statuses = c.copy_words.new.into.items; presences = c.copy_words-2.new.into.items; values = c.copy_words-3.new.into.items })
+    c.args.self.layout.positions (c.args.self.layout.positions + c.args.self.layout.slots)
     c.requires.own.seat.right
     (rw c.args.self.keyed at c.close_with-words.ensures.values.2)
-    (record { statuses = c.copy_words.ensures.len ∙ c.args.self.room.statuses; presences = c.copy_words-2.ensures.len ∙ c.args.self.room.presences; values = c.copy_words-3.ensures.len ∙ c.args.self.room.values })
+    (record {
+      statuses = c.copy_words.ensures.len ∙ c.args.self.room.statuses;
+      presences = c.copy_words-2.ensures.len ∙ c.args.self.room.presences;
+      values = c.copy_words-3.ensures.len ∙ c.args.self.room.values;
+    })
     (search rules) (search rules)
     (λ j h. c.copy_words.ensures.each j (subst (λ (z : ℕ). j < z) c.copy_words.ensures.len h))
     (λ j h. c.copy_words-2.ensures.each j (subst (λ (z : ℕ). j < z) c.copy_words-2.ensures.len h))

@@ -8,8 +8,13 @@ pub join_seat-requires : goal.join_seat-requires
 join_seat-requires c =
     let words = c.args.self.now.sized in
     let positions = c.args.self.now.laid.positions in
-    let some = c.args.self.now.batch.batched.some in
-    (c.requires.own.0.seat.table, c.requires.own.1.seat.table, c.requires.own.1.seat.bare, omega arith, joins _ _ _ _ _ (rw c.args.self.now.keyed c.requires.own.0.seat.right) c.requires.free.0 c.requires.free.1)
+    let some = c.args.self.now.batch.batched.some in (
+      c.requires.own.0.seat.table,
+      c.requires.own.1.seat.table,
+      c.requires.own.1.seat.bare,
+      omega arith,
+      joins _ _ _ _ _ (rw c.args.self.now.keyed c.requires.own.0.seat.right) c.requires.free.0 c.requires.free.1,
+    )
 
 pub invariant_of-result : goal.invariant_of-result
 invariant_of-result c = record {

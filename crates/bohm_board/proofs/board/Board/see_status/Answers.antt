@@ -3,4 +3,9 @@ use Rattle.bohm_board.proofs.Refinement.{sees}
 use Rattle.bohm_board.proofs.board.Board.see_status.Goals as goal
 
 pub load-requires : goal.load-requires
-load-requires c = (search rules, search rules, sees _ _ _ _ _ (rw c.args.self.now.keyed c.requires.inside) (rw c.args.self.now.keyed c.requires.own.right) c.requires.apart)
+load-requires c = (
+  search rules,
+  search rules,
+  sees _ _ _ _ _ (rw c.args.self.now.keyed c.requires.inside)
+      (rw c.args.self.now.keyed c.requires.own.right) c.requires.apart,
+)

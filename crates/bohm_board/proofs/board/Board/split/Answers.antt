@@ -12,7 +12,13 @@ split_seat-other-requires c =
     (c.requires.own.seat.table, omega arith, splits _ _ _ (rw c.args.self.now.keyed c.requires.own.seat.right) c.requires.free)
 
 pub invariant_of-left : goal.invariant_of-left
-invariant_of-left c = record { bare = ap (λ (m : SeatState). m.1) c.split_seat-other.ensures.2 ∙ c.args.pass.bare; fits = kept_along _ _ _ _ (ap (λ (m : SeatState). m.0) c.split_seat-other.ensures.2) c.args.pass.fits }
+invariant_of-left c = record {
+  bare = ap (λ (m : SeatState). m.1) c.split_seat-other.ensures.2 ∙ c.args.pass.bare;
+  fits = kept_along _ _ _ _ (ap (λ (m : SeatState). m.0) c.split_seat-other.ensures.2) c.args.pass.fits;
+}
 
 pub invariant_of-right : goal.invariant_of-right
-invariant_of-right c = record { bare = ap (λ (m : SeatState). m.1) c.split_seat-other.ensures.4; fits = kept_along _ _ _ _ (ap (λ (m : SeatState). m.0) c.split_seat-other.ensures.4) c.args.pass.fits }
+invariant_of-right c = record {
+  bare = ap (λ (m : SeatState). m.1) c.split_seat-other.ensures.4;
+  fits = kept_along _ _ _ _ (ap (λ (m : SeatState). m.0) c.split_seat-other.ensures.4) c.args.pass.fits;
+}

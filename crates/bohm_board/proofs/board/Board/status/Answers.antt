@@ -13,7 +13,10 @@ pub see_status-word-requires-clause-apart : goal.see_status-word-requires-clause
 see_status-word-requires-clause-apart c = λ h. c.requires.apart (h ∙ ap Some (here (goal.at.see_status-word-requires-clause-apart c).After-position-position))
 
 pub invariant_of-pass : goal.invariant_of-pass
-invariant_of-pass c = record { bare = c.see_status-word.ensures.own.bare; fits = kept_along _ _ _ _ c.see_status-word.ensures.view (kept_saw _ _ _ _ _ c.args.pass.now.fits) }
+invariant_of-pass c = record {
+  bare = c.see_status-word.ensures.own.bare;
+  fits = kept_along _ _ _ _ c.see_status-word.ensures.view (kept_saw _ _ _ _ _ c.args.pass.now.fits);
+}
 
 pub returns-clause-view : goal.returns-clause-view
 returns-clause-view c =

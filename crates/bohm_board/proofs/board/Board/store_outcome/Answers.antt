@@ -10,11 +10,13 @@ outcome_word-word-requires c = short_outcome c.args.self.now.batch c.args.positi
 
 pub store-requires : goal.store-requires
 store-requires c =
-    let inside : c.args.position < length (rights_of c.args.self.now.batch).outcomes = slice_get_within (rights_of c.args.self.now.batch).outcomes c.args.position c.args.outcome c.requires.right in
+    let inside : c.args.position < length (rights_of c.args.self.now.batch).outcomes =
+    slice_get_within (rights_of c.args.self.now.batch).outcomes c.args.position c.args.outcome c.requires.right in
     let words = c.args.self.now.sized in
     let positions = c.args.self.now.positions in (
       search rules,
       omega arith,
-      finishes _ _ _ _ _ c.args.outcome _ c.outcome_word-word.ensures (rw c.args.self.now.keyed inside) (rw c.args.self.now.keyed c.requires.own.right) c.requires.held
+      finishes _ _ _ _ _ c.args.outcome _ c.outcome_word-word.ensures (rw c.args.self.now.keyed inside)
+          (rw c.args.self.now.keyed c.requires.own.right) c.requires.held
           (rw c.args.self.now.keyed c.requires.filled) (rw c.args.self.now.keyed c.requires.wanted) (rw c.args.self.now.keyed c.requires.right),
     )

@@ -11,7 +11,8 @@ pub store-requires : goal.store-requires
 store-requires c = (
   search rules,
   search rules,
-  fills _ _ _ _ _ c.args.slot c.args.cell _ c.presence_word-word.ensures (rw c.args.self.now.keyed (search rules)) (rw c.args.self.now.keyed (right_within (rights_of c.args.self.now.batch) _ _ c.requires.right)) (rw c.args.self.now.keyed c.requires.own.right)
+  fills _ _ _ _ _ c.args.slot c.args.cell _ c.presence_word-word.ensures (rw c.args.self.now.keyed (search rules))
+      (rw c.args.self.now.keyed (right_within (rights_of c.args.self.now.batch) _ _ c.requires.right)) (rw c.args.self.now.keyed c.requires.own.right)
       (rw c.args.self.now.keyed c.requires.fillable) c.requires.stored (rw c.args.self.now.keyed c.requires.right),
 )
 

@@ -11,7 +11,8 @@ pub store-requires : goal.store-requires
 store-requires c = (
   search rules,
   search rules,
-  stores_value _ _ _ _ _ c.args.slot _ (rw c.args.self.now.keyed (search rules)) (rw c.args.self.now.keyed (right_within (rights_of c.args.self.now.batch) _ _ c.requires.right)) (rw c.args.self.now.keyed c.requires.own.right)
+  stores_value _ _ _ _ _ c.args.slot _ (rw c.args.self.now.keyed (search rules))
+      (rw c.args.self.now.keyed (right_within (rights_of c.args.self.now.batch) _ _ c.requires.right)) (rw c.args.self.now.keyed c.requires.own.right)
       (rw c.args.self.now.keyed c.requires.fillable) c.requires.once (rw c.args.self.now.keyed (c.requires.right ∙ ap Some (sym c.value_word-word.ensures))),
 )
 

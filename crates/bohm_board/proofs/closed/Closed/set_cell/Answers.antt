@@ -9,11 +9,16 @@ invariant_of-self-clause-sound c =
     let w = words_of c.args.self.now.columns in
     let p = c.slot_words-presence.result.0 in
     let n = c.slot_words-presence.result.1 in
-    let sound = cell_put b w c.args.slot c.args.cell p n c.args.self.now.sized c.args.self.now.sound c.requires.inside c.requires.right c.slot_words-presence.ensures.presence c.slot_words-presence.ensures.value in
+    let sound = cell_put b w c.args.slot c.args.cell p n c.args.self.now.sized c.args.self.now.sound c.requires.inside c.requires.right
+    c.slot_words-presence.ensures.presence c.slot_words-presence.ensures.value in
     subst (λ (k : ℕ). AreSound b (record w { presences = set w.presences k p; values = set w.values k n })) (sym c.number-number.ensures.number) sound
 
 pub invariant_of-self-clause-sized : goal.invariant_of-self-clause-sized
 invariant_of-self-clause-sized c =
     let w = words_of c.args.self.now.columns in
     let sized = c.args.self.now.sized in
-    record { statuses = sized.statuses; presences = length-set w.presences c.number-number.result c.slot_words-presence.result.0 ∙ sized.presences; values = length-set w.values c.number-number.result c.slot_words-presence.result.1 ∙ sized.values }
+    record {
+      statuses = sized.statuses;
+      presences = length-set w.presences c.number-number.result c.slot_words-presence.result.0 ∙ sized.presences;
+      values = length-set w.values c.number-number.result c.slot_words-presence.result.1 ∙ sized.values;
+    }

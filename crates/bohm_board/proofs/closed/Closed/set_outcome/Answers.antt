@@ -14,11 +14,16 @@ invariant_of-self-clause-sound c =
     let w = words_of c.args.self.now.columns in
     let x = c.outcome_word.result in
     let sound = outcome_put b w c.args.t c.args.outcome x c.args.self.now.sized c.args.self.now.sound c.requires.inside c.requires.right c.outcome_word.ensures
-    (λ y is e. subst (λ (u : ℕ). get_or w.presences (number b (record { txn = u; index = y.index })) 0 ≢ 0) (sym e) (c.requires.filled y.index (subst (λ (u : ℕ). y.index < width_at b u) e is.index))) in
+    (λ y is e. subst (λ (u : ℕ). get_or w.presences (number b (record { txn = u; index = y.index })) 0 ≢ 0) (sym e)
+    (c.requires.filled y.index (subst (λ (u : ℕ). y.index < width_at b u) e is.index))) in
     subst (λ (i : ℕ). AreSound b (record w { statuses = set w.statuses i x })) (sym c.position-position.ensures.position) sound
 
 pub invariant_of-self-clause-sized : goal.invariant_of-self-clause-sized
 invariant_of-self-clause-sized c =
     let w = words_of c.args.self.now.columns in
     let sized = c.args.self.now.sized in
-    record { statuses = length-set w.statuses c.position-position.result c.outcome_word.result ∙ sized.statuses; presences = sized.presences; values = sized.values }
+    record {
+      statuses = length-set w.statuses c.position-position.result c.outcome_word.result ∙ sized.statuses;
+      presences = sized.presences;
+      values = sized.values;
+    }

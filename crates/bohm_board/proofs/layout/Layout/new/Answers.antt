@@ -13,4 +13,9 @@ loop-index-preserved c =
     let wide = c.width-slots.ensures.width in
     let few = c.width-slots.ensures.few in
     let before = c.loop-index.invariant.slots in
-    record { slots = omega arith; few = omega arith; starts = subst (λ (xs : List ℕ). AreStarts ts (i + 1) xs) (sym c.in_ok-push.ensures.items) (one_start ts i c.loop-index.starts.items c.loop-index.slots c.loop-index.invariant.starts before) }
+    record {
+      slots = omega arith;
+      few = omega arith;
+      starts = subst (λ (xs : List ℕ). AreStarts ts (i + 1) xs) (sym c.in_ok-push.ensures.items)
+          (one_start ts i c.loop-index.starts.items c.loop-index.slots c.loop-index.invariant.starts before);
+    }

@@ -3,8 +3,8 @@ use Rattle.std.specs.Prelude.{ℤ, Option, unwrap_or}
 use Rattle.std.specs.Option.{option_map}
 use Rattle.std.specs.List.{slice_get}
 use Rattle.std.proofs.lemmas.List.{length-map}
-use Rattle.bohm_tree.specs.declared.cell.Cell.{Cell}
-use Rattle.bohm_tree.specs.Txn.{Txn}
+use Rattle.bohm_types.specs.declared.cell.Cell.{Cell}
+use Rattle.bohm_types.specs.Txn.{Txn}
 use Rattle.bohm_txn.specs.Declares.{shows_in}
 use Rattle.bohm_txn.specs.Serial.{after}
 use Rattle.bohm_txn.specs.Sure.{is_sure}
@@ -52,12 +52,14 @@ eval-requires-clause-earlier c =
     omega (arith, writes_paired c.args.batch.now c.args.t c.txn.result c.txn.ensures)
 
 same_reads : (c : After-txn) → map (state_before c.args.batch.now c.args.t) c.txn.result.reads ≡ c.add_base.new.cells
-same_reads c = reads_before c.args.batch.now (position c.args.batch.now c.args.t) c.txn.result c.add_base.new.cells c.txn.ensures (c.add_base.ensures c.txn.result c.txn.ensures)
+same_reads c = reads_before c.args.batch.now (position c.args.batch.now c.args.t) c.txn.result c.add_base.new.cells c.txn.ensures
+    (c.add_base.ensures c.txn.result c.txn.ensures)
 
 pub returns-clause-outcome : goal.returns-clause-outcome
 returns-clause-outcome c =
     let b = c.args.batch.now in
-    outcome_right b (position b c.args.t) c.txn.result c.txn.ensures ∙ ap Some (c.eval.ensures.outcome (state_before b c.args.t) (same_reads (goal.at.returns-clause-outcome c).After-txn))
+    outcome_right b (position b c.args.t) c.txn.result c.txn.ensures
+    ∙ ap Some (c.eval.ensures.outcome (state_before b c.args.t) (same_reads (goal.at.returns-clause-outcome c).After-txn))
 
 written : (c : After-eval) → map (after (state_before c.args.batch.now c.args.t) c.txn.result) c.txn.result.writes ≡ c.eval.new.scratch.cells
 written c =
@@ -66,10 +68,12 @@ written c =
     let reads = same_reads (goal.at.After-eval c).After-txn in
     elim c.if-not-self.branch [
       | then-not-self w ↦
-          let before = writes_before b (position b c.args.t) x w.add_base-then-not-self.new.cells c.txn.ensures (w.add_base-then-not-self.ensures x c.txn.ensures) in
+          let before = writes_before b (position b c.args.t) x w.add_base-then-not-self.new.cells c.txn.ensures
+          (w.add_base-then-not-self.ensures x c.txn.ensures) in
           c.eval.ensures.cells (state_before b c.args.t) reads (rw w.earlier-is before)
       | else-not-self w ↦
-          let sure : is_sure x ≡ true = subst (λ (o : Option Txn). unwrap_or (option_map is_sure o) false ≡ true) c.txn.ensures (sym c.requires.ready.sure ∙ w.if-not-self.false) in
+          let sure : is_sure x ≡ true = subst (λ (o : Option Txn). unwrap_or (option_map is_sure o) false ≡ true) c.txn.ensures
+          (sym c.requires.ready.sure ∙ w.if-not-self.false) in
           c.eval.ensures.sure sure (state_before b c.args.t) reads
     ]
 
@@ -85,4 +89,5 @@ returns-clause-cells c = λ j below.
     let long = ap length cells in
     let inside : j < length r.cells + n = omega (arith, below, width_there b c.args.t x c.txn.ensures, long, length-map x.writes (after looks x)) in
     own_right b (position b c.args.t) x c.txn.ensures j (slot_cell r j)
-    (subst (λ (z : List Cell × List ℤ). slice_get (z.0 ++ show_cells n z.1) j ≡ Some (slot_cell r j)) (λ i. (sym cells i, sym shows i)) (own_at r.cells n r.shows j inside))
+    (subst (λ (z : List Cell × List ℤ). slice_get (z.0 ++ show_cells n z.1) j ≡ Some (slot_cell r j)) (λ i. (sym cells i, sym shows i))
+    (own_at r.cells n r.shows j inside))

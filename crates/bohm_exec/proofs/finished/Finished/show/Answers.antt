@@ -1,7 +1,7 @@
 use Rattle.std.proofs.Common.{◌≡◌, ℕ, ◌+◌, ◌<◌, length, Some, arith, ap, subst, ◌∙◌}
 use Rattle.std.specs.Prelude.{Option, unwrap_or}
 use Rattle.std.specs.Option.{option_map}
-use Rattle.bohm_tree.specs.Txn.{Txn}
+use Rattle.bohm_types.specs.Txn.{Txn}
 use Rattle.bohm_txn.specs.Declares.{shows_in, IsUsable}
 use Rattle.bohm_board.specs.declared.batch.Batch.{Batch}
 use Rattle.bohm_board.specs.Batches.{position, txns_of, txn_at, IsRightCell}
@@ -23,7 +23,9 @@ shows : (c : After-len-writes) → c.args.index < shows_in c.txn.result.body
 shows c = subst (λ (o : Option Txn). c.args.index < unwrap_or (option_map (λ (x : Txn). shows_in x.body) o) 0) (there c) c.requires.index
 
 pub overflow_cast-writes : goal.overflow_cast-writes
-overflow_cast-writes c = let few = (usable (goal.at.overflow_cast-writes c).After-len-writes).few_writes in omega (arith, few, c.len-writes.ensures, ap length c.writes.ensures)
+overflow_cast-writes c =
+    let few = (usable (goal.at.overflow_cast-writes c).After-len-writes).few_writes in
+    omega (arith, few, c.len-writes.ensures, ap length c.writes.ensures)
 
 pub overflow_add-writes : goal.overflow_add-writes
 overflow_add-writes c =
@@ -35,11 +37,16 @@ overflow_add-writes c =
 pub slot-requires : goal.slot-requires
 slot-requires c =
     let b = batch_of_finished c.args.self.now in
-    record { txn = c.requires.txn; index = omega (arith, shows c, c.len-writes.ensures, ap length c.writes.ensures, width_there b c.args.t c.txn.result (there c)) }
+    record {
+      txn = c.requires.txn;
+      index = omega
+          (arith, shows c, c.len-writes.ensures, ap length c.writes.ensures, width_there b c.args.t c.txn.result (there c));
+    }
 
 pub returns : goal.returns
 returns c =
     let a = (goal.at.returns c).After-len-writes in
     let b = batch_of_finished c.args.self.now in
-    let right = subst (λ (n : ℕ). IsRightCell b (slot_of c.args.t (n + c.args.index)) c.slot.result) (c.len-writes.ensures ∙ ap length c.writes.ensures) c.slot.ensures in
+    let right = subst (λ (n : ℕ). IsRightCell b (slot_of c.args.t (n + c.args.index)) c.slot.result)
+    (c.len-writes.ensures ∙ ap length c.writes.ensures) c.slot.ensures in
     serial_show b c.args.t c.args.index c.slot.result c.txn.result (there a) (shows a) right

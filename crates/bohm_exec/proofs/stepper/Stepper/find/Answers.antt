@@ -17,10 +17,16 @@ taken : (c : After-slot_at) → TakesSlot (accesses_in c.args.set (batch_of c.ar
 taken c = subst (λ (b : Batch). TakesSlot (accesses_in c.args.set b c.args.t) c.loop-index.index c.slot_at.result) c.batch-batch.ensures c.slot_at.ensures
 
 here : (c : In-Some) → TakesSlot (accesses_in c.args.set (batch_of c.args.self.now.board.now) c.args.t) c.loop-index.index (Some c.in-Some.slot)
-here c = subst (λ (o : Option Slot). TakesSlot (accesses_in c.args.set (batch_of c.args.self.now.board.now) c.args.t) c.loop-index.index o) c.in-Some.is (taken (goal.at.In-Some c).After-slot_at)
+here c = subst (λ (o : Option Slot). TakesSlot (accesses_in c.args.set (batch_of c.args.self.now.board.now) c.args.t) c.loop-index.index o) c.in-Some.is
+    (taken (goal.at.In-Some c).After-slot_at)
 
 pub loop-index-init : goal.loop-index-init
-loop-index-init c = record { own = c.requires.pass.own; looks = no_looks (view c.args.self.now.pass.now); known = λ j a u l at is. absurd (omega arith); found = λ j a u cell l at is here. absurd (omega arith) }
+loop-index-init c = record {
+  own = c.requires.pass.own;
+  looks = no_looks (view c.args.self.now.pass.now);
+  known = λ j a u l at is. absurd (omega arith);
+  found = λ j a u cell l at is here. absurd (omega arith);
+}
 
 pub look-requires-clause-inside : goal.look-requires-clause-inside
 look-requires-clause-inside c =
@@ -35,7 +41,8 @@ pub returns-in-None-clause-looks : goal.returns-in-None-clause-looks
 returns-in-None-clause-looks c = record {
   same = record { board = refl; pass = refl };
   own = c.look.ensures.own;
-  view = one_look (view c.args.self.now.pass.now) (view c.loop-index.pass) (view c.look.new.pass) c.in-Some.slot None c.loop-index.invariant.looks c.in-None.ensures.view;
+  view = one_look (view c.args.self.now.pass.now) (view c.loop-index.pass)
+      (view c.look.new.pass) c.in-Some.slot None c.loop-index.invariant.looks c.in-None.ensures.view;
 }
 
 pub returns-in-None-clause-missing : goal.returns-in-None-clause-missing
@@ -67,8 +74,10 @@ loop-index-preserved c =
           record {
             own = rw w.pass-is w.look.ensures.own;
             looks = rw w.pass-is (one_look (view c.args.self.now.pass.now) v new slot (Some cell) inv.looks now);
-            known = rw w.pass-is (known_within b v new accesses n at.access slot.txn (keeps_along v _ new now (keeps_looked v slot (Some cell))) inv.known at.at within.0 (subst (λ (z : Slot). Knows new z) (sym within.1) knows));
-            found = rw w.cells-is (found_within b accesses c.loop-index.cells n at.access slot.txn cell (omega arith) inv.found at.at within.0 (subst (λ (z : Slot). IsRightCell b z cell) (sym within.1) w.in-Some-look.ensures.right));
+            known = rw w.pass-is (known_within b v new accesses n at.access slot.txn (keeps_along v _ new now (keeps_looked v slot (Some cell))) inv.known
+                at.at within.0 (subst (λ (z : Slot). Knows new z) (sym within.1) knows));
+            found = rw w.cells-is (found_within b accesses c.loop-index.cells n at.access slot.txn cell (omega arith) inv.found at.at within.0
+                (subst (λ (z : Slot). IsRightCell b z cell) (sym within.1) w.in-Some-look.ensures.right));
           }
       | in_default w ↦
           let at = subst (λ (o : Option Slot). TakesSlot accesses n o) w.in_default.is took in
@@ -84,9 +93,11 @@ loop-index-preserved c =
 pub returns-clause-known : goal.returns-clause-known
 returns-clause-known c = λ _.
     let b = batch_of c.args.self.now.board.now in
-    knows_all b (view c.loop-index.pass) (accesses_in c.args.set b c.args.t) c.loop-index.index (omega (arith, ap (λ (z : Batch). length (accesses_in c.args.set z c.args.t)) c.batch-batch.ensures)) c.loop-index.invariant.known
+    knows_all b (view c.loop-index.pass) (accesses_in c.args.set b c.args.t) c.loop-index.index
+    (omega (arith, ap (λ (z : Batch). length (accesses_in c.args.set z c.args.t)) c.batch-batch.ensures)) c.loop-index.invariant.known
 
 pub returns-clause-found : goal.returns-clause-found
 returns-clause-found c = λ _.
     let b = batch_of c.args.self.now.board.now in
-    are_found b (accesses_in c.args.set b c.args.t) c.loop-index.cells c.loop-index.index (omega (arith, ap (λ (z : Batch). length (accesses_in c.args.set z c.args.t)) c.batch-batch.ensures)) c.loop-index.invariant.found
+    are_found b (accesses_in c.args.set b c.args.t) c.loop-index.cells c.loop-index.index
+    (omega (arith, ap (λ (z : Batch). length (accesses_in c.args.set z c.args.t)) c.batch-batch.ensures)) c.loop-index.invariant.found

@@ -1,6 +1,6 @@
 use Rattle.bohm_board.specs.Passes.{IsPassOf, batch_of, view}
 use Rattle.bohm_board.specs.Batches.{accesses_in}
-use Rattle.bohm_exec.specs.Turns.{LooksOnly}
+use Rattle.bohm_exec.specs.Steps.{LooksOnly}
 use Rattle.bohm_exec.proofs.Seen.{KnownBelow, FoundBelow}
 use Rattle.bohm_exec.proofs.stepper.Stepper.find.Given as goal
 

@@ -6,7 +6,7 @@ use Rattle.bohm_board.specs.declared.knowledge.View.{View}
 use Rattle.bohm_board.specs.Batches.{IsIn}
 use Rattle.bohm_board.specs.Passes.{KnowsWanted, batch_of, view}
 use Rattle.bohm_board.proofs.ForCallers.{keeps_then, keeps_along, keeps_claimed}
-use Rattle.bohm_exec.specs.Turns.{IsFree}
+use Rattle.bohm_exec.specs.Steps.{IsFree}
 use Rattle.bohm_exec.proofs.Viewed.{wanted_stays}
 use Rattle.bohm_exec.proofs.sweeper.Sweeper.attempt.Goals as goal
 
@@ -19,19 +19,20 @@ settle-requires-clause-claimed g c =
       own = c.claim.ensures.own;
       inside = subst (λ (z : Bor Board). IsIn (batch_of z.now) c.args.t) here c.requires.inside;
       held = ap (λ (z : View). z.held) now;
-      wanted = wanted_stays (batch_of c.find_wanted.new.self.stepper.board.now) found (view c.claim.new.pass) c.args.t (ap (λ (z : View). z.absent) now) (ap (λ (z : View). z.present) now) known;
+      wanted = wanted_stays (batch_of c.find_wanted.new.self.stepper.board.now) found (view c.claim.new.pass) c.args.t (ap (λ (z : View). z.absent) now)
+          (ap (λ (z : View). z.present) now) known;
       empty = ap (λ (z : View). z.filled) now;
     }
 
-pub returns-in-Mine-clause-turn : goal.returns-in-Mine-clause-turn
-returns-in-Mine-clause-turn g c =
+pub returns-in-Mine-clause-step_on : goal.returns-in-Mine-clause-step_on
+returns-in-Mine-clause-step_on g c =
     let v = view c.find_wanted.new.self.stepper.pass.now in
     let w = view c.claim.new.pass in
     let new = c.settle.new.self.stepper.pass.now in
     let now = c.in-Mine.ensures.view in
     let found = c.find_wanted.ensures.looks in
     let looks = found.view in
-    let settled = c.settle.ensures.turn in
+    let settled = c.settle.ensures.step_on in
     let claims = keeps_along v _ w now (keeps_claimed v c.args.t Open) in record {
       same = record { board = settled.same.board ∙ found.same.board; pass = settled.same.pass ∙ found.same.pass };
       free = subst (λ (z : Bor Board). IsFree z.now new) found.same.board settled.free;

@@ -19,12 +19,15 @@ find-requires-else-evaluator-clause-wanted g c =
     writes_wanted b c.args.t (sym (c.sure-evaluator.ensures ∙ ap (λ (z : Batch). is_sure_at z c.args.t) c.batch.ensures) ∙ c.if-evaluator.false)
 
 pub returns-else-evaluator-clause-looks : goal.returns-else-evaluator-clause-looks
-returns-else-evaluator-clause-looks g c = looks_then c.args.self.now.stepper c.find.new.self c.find-else-evaluator.new.self c.find.ensures.looks c.find-else-evaluator.ensures.looks
+returns-else-evaluator-clause-looks g c = looks_then c.args.self.now.stepper c.find.new.self c.find-else-evaluator.new.self c.find.ensures.looks
+    c.find-else-evaluator.ensures.looks
 
 pub returns-else-evaluator-clause-known : goal.returns-else-evaluator-clause-known
 returns-else-evaluator-clause-known g c = λ none.
     let b = batch_of c.args.self.now.stepper.board.now in
     let v = view c.find.new.self.pass.now in
     let w = view c.find-else-evaluator.new.self.pass.now in
-    let writes = subst (λ (z : Bor Board). KnowsAll (batch_of z.now) w (writes_at (batch_of z.now) c.args.t)) c.find.ensures.looks.same.board (c.find-else-evaluator.ensures.known none) in
-    knows_wanted b w c.args.t (knows_later b v w (reads_at b c.args.t) (λ k. knows_on v w k c.find-else-evaluator.ensures.looks.view.keeps) (c.in-None.ensures.known refl)) (λ _. writes)
+    let writes = subst (λ (z : Bor Board). KnowsAll (batch_of z.now) w (writes_at (batch_of z.now) c.args.t)) c.find.ensures.looks.same.board
+    (c.find-else-evaluator.ensures.known none) in
+    knows_wanted b w c.args.t (knows_later b v w (reads_at b c.args.t) (λ k. knows_on v w k c.find-else-evaluator.ensures.looks.view.keeps)
+    (c.in-None.ensures.known refl)) (λ _. writes)

@@ -8,7 +8,7 @@ use Rattle.bohm_board.specs.declared.board.Board.{Board}
 use Rattle.bohm_board.specs.Batches.{Wants}
 use Rattle.bohm_board.specs.Passes.{batch_of, view}
 use Rattle.bohm_board.proofs.ForCallers.{keeps_same, keeps_then}
-use Rattle.bohm_exec.specs.Turns.{IsFree}
+use Rattle.bohm_exec.specs.Steps.{IsFree}
 use Rattle.bohm_exec.proofs.Descents.{shorter, IsDescent, starts, pushed, last_of, top_is, only, pop_falls, push_falls, fits_below}
 use Rattle.bohm_exec.proofs.Steppers.{same_then}
 use Rattle.bohm_exec.proofs.sweeper.Sweeper.pursue.Goals as goal
@@ -22,7 +22,8 @@ descent-init g c =
       room = c.push.ensures.capacity;
       keeps = keeps_same (view c.args.self.now.stepper.pass.now);
       busy = refl;
-      stack = subst (λ (xs : List ℕ). IsDescent b c.args.start done xs) (sym (c.in-Ok.ensures.items ∙ ap (λ (xs : List ℕ). xs ++ c.args.start ∷ []) c.requires.stack.empty))
+      stack = subst (λ (xs : List ℕ). IsDescent b c.args.start done xs)
+          (sym (c.in-Ok.ensures.items ∙ ap (λ (xs : List ℕ). xs ++ c.args.start ∷ []) c.requires.stack.empty))
           (starts b c.args.start done c.requires.start.inside);
     }
 
@@ -34,16 +35,19 @@ returns-then-is_empty-clause-done g c =
     let done = (view c.descent.self.stepper.pass.now).done in
     let d = c.descent.invariant.stack in
     let some = d.some in
-    let kept = c.turn.ensures.stack in
-    let cases = subst (λ (z : Vec ℕ Global). MatchOption c.pop.result ((vec_len z ≡ 0) × (vec_len c.pop.new.self ≡ 0)) (λ _. vec_len c.pop.new.self + 1 ≡ vec_len z)) kept c.pop.ensures.cases in
+    let kept = c.step_on.ensures.stack in
+    let cases = subst
+    (λ (z : Vec ℕ Global). MatchOption c.pop.result ((vec_len z ≡ 0) × (vec_len c.pop.new.self ≡ 0)) (λ _. vec_len c.pop.new.self + 1 ≡ vec_len z)) kept
+    c.pop.ensures.cases in
     let less = shorter _ (vec_len c.descent.self.stack.now) (vec_len c.pop.new.self) cases (search (rules, some)) in
     let less' : length ys < length xs = search (rules, less) in
     let e = last_of xs ys c.pop.result (ap (λ (z : Vec ℕ Global). z.items) (sym kept) ∙ c.pop.ensures.items) less' in
     let top = top_is xs c.len.result c.index-top.result.now d.some (search rules) c.index-top.ensures in
     let none : length ys ≡ 0 = search rules in
     let first = only b c.args.start done xs ys d e none in
-    let here : Contains (done ++ c.index-top.result.now ∷ []) c.args.start = subst (λ (z : ℕ). Contains (done ++ c.index-top.result.now ∷ []) z) (top ∙ first) (Contains-push _ _) in
-    subst (λ (z : List ℕ). Contains z c.args.start) (sym c.in-Done.ensures.turn.took.done) here
+    let here : Contains (done ++ c.index-top.result.now ∷ []) c.args.start =
+    subst (λ (z : ℕ). Contains (done ++ c.index-top.result.now ∷ []) z) (top ∙ first) (Contains-push _ _) in
+    subst (λ (z : List ℕ). Contains z c.args.start) (sym c.in-Done.ensures.step_on.took.done) here
 
 pub descent-smaller-else-is_empty : goal.descent-smaller-else-is_empty
 descent-smaller-else-is_empty g c =
@@ -52,40 +56,46 @@ descent-smaller-else-is_empty g c =
     let ys = c.pop.new.self.items in
     let d = c.descent.invariant.stack in
     let some = d.some in
-    let kept = c.turn.ensures.stack in
-    let cases = subst (λ (z : Vec ℕ Global). MatchOption c.pop.result ((vec_len z ≡ 0) × (vec_len c.pop.new.self ≡ 0)) (λ _. vec_len c.pop.new.self + 1 ≡ vec_len z)) kept c.pop.ensures.cases in
+    let kept = c.step_on.ensures.stack in
+    let cases = subst
+    (λ (z : Vec ℕ Global). MatchOption c.pop.result ((vec_len z ≡ 0) × (vec_len c.pop.new.self ≡ 0)) (λ _. vec_len c.pop.new.self + 1 ≡ vec_len z)) kept
+    c.pop.ensures.cases in
     let less = shorter _ (vec_len c.descent.self.stack.now) (vec_len c.pop.new.self) cases (search (rules, some)) in
     let less' : length ys < length xs = search (rules, less) in
     let e = last_of xs ys c.pop.result (ap (λ (z : Vec ℕ Global). z.items) (sym kept) ∙ c.pop.ensures.items) less' in
     let top = top_is xs c.len.result c.index-top.result.now d.some (search rules) c.index-top.ensures in
     let left : 0 < length ys = search rules in
-    (pop_falls b c.args.start (view c.descent.self.stepper.pass.now).done (view c.turn.new.self.stepper.pass.now).done xs ys c.index-top.result.now d e top c.in-Done.ensures.turn.took.done left).0
+    (pop_falls b c.args.start (view c.descent.self.stepper.pass.now).done
+    (view c.step_on.new.self.stepper.pass.now).done xs ys c.index-top.result.now d e top c.in-Done.ensures.step_on.took.done left).0
 
 pub descent-preserved-else-is_empty : goal.descent-preserved-else-is_empty
 descent-preserved-else-is_empty g c =
     let s = c.args.self.now.stepper in
     let now = c.descent.self.stepper in
-    let new = c.turn.new.self.stepper in
+    let new = c.step_on.new.self.stepper in
     let b = batch_of s.board.now in
     let xs = c.descent.self.stack.now.items in
     let ys = c.pop.new.self.items in
     let inv = c.descent.invariant in
     let d = inv.stack in
     let some = d.some in
-    let kept = c.turn.ensures.stack in
-    let cases = subst (λ (z : Vec ℕ Global). MatchOption c.pop.result ((vec_len z ≡ 0) × (vec_len c.pop.new.self ≡ 0)) (λ _. vec_len c.pop.new.self + 1 ≡ vec_len z)) kept c.pop.ensures.cases in
+    let kept = c.step_on.ensures.stack in
+    let cases = subst
+    (λ (z : Vec ℕ Global). MatchOption c.pop.result ((vec_len z ≡ 0) × (vec_len c.pop.new.self ≡ 0)) (λ _. vec_len c.pop.new.self + 1 ≡ vec_len z)) kept
+    c.pop.ensures.cases in
     let less = shorter _ (vec_len c.descent.self.stack.now) (vec_len c.pop.new.self) cases (search (rules, some)) in
     let less' : length ys < length xs = search (rules, less) in
     let e = last_of xs ys c.pop.result (ap (λ (z : Vec ℕ Global). z.items) (sym kept) ∙ c.pop.ensures.items) less' in
     let top = top_is xs c.len.result c.index-top.result.now d.some (search rules) c.index-top.ensures in
     let wide = ap (λ (z : Vec ℕ Global). vec_capacity z) kept in
     let left : 0 < length ys = search rules in record {
-      same = same_then s now new inv.same c.turn.ensures.turn.same;
-      free = subst (λ (z : Bor Board). IsFree z.now new.pass.now) inv.same.board c.turn.ensures.turn.free;
+      same = same_then s now new inv.same c.step_on.ensures.step_on.same;
+      free = subst (λ (z : Bor Board). IsFree z.now new.pass.now) inv.same.board c.step_on.ensures.step_on.free;
       room = search (rules, wide);
-      keeps = keeps_then (view s.pass.now) (view now.pass.now) (view new.pass.now) inv.keeps c.turn.ensures.turn.keeps;
-      busy = c.in-Done.ensures.turn.took.busy ∙ inv.busy;
-      stack = (pop_falls b c.args.start (view now.pass.now).done (view new.pass.now).done xs ys c.index-top.result.now d e top c.in-Done.ensures.turn.took.done left).1;
+      keeps = keeps_then (view s.pass.now) (view now.pass.now) (view new.pass.now) inv.keeps c.step_on.ensures.step_on.keeps;
+      busy = c.in-Done.ensures.step_on.took.busy ∙ inv.busy;
+      stack = (pop_falls b c.args.start (view now.pass.now).done
+          (view new.pass.now).done xs ys c.index-top.result.now d e top c.in-Done.ensures.step_on.took.done left).1;
     }
 
 pub descent-smaller : goal.descent-smaller
@@ -93,32 +103,33 @@ descent-smaller g c =
     let b = batch_of c.args.self.now.stepper.board.now in
     let xs = c.descent.self.stack.now.items in
     let u = c.in-Needs.u in
-    let need = c.in-Needs.ensures.turn.took in
+    let need = c.in-Needs.ensures.step_on.took in
     let inv = c.descent.invariant in
     let top = top_is xs c.len.result c.index-top.result.now inv.stack.some (search rules) c.index-top.ensures in
     let wants = subst (λ (z : ℕ × Bor Board). Wants (batch_of z.1.now) z.0 u) (λ i. (top i, inv.same.board i)) need.wants in
-    let grown = c.in-Ok-push.ensures.items ∙ ap (λ (z : Vec ℕ Global). z.items ++ u ∷ []) c.turn.ensures.stack in
-    push_falls b c.args.start (view c.descent.self.stepper.pass.now).done (view c.turn.new.self.stepper.pass.now).done xs c.push-in-Needs.new.self.items u inv.stack grown wants need.done
+    let grown = c.in-Ok-push.ensures.items ∙ ap (λ (z : Vec ℕ Global). z.items ++ u ∷ []) c.step_on.ensures.stack in
+    push_falls b c.args.start (view c.descent.self.stepper.pass.now).done
+    (view c.step_on.new.self.stepper.pass.now).done xs c.push-in-Needs.new.self.items u inv.stack grown wants need.done
 
 pub descent-preserved : goal.descent-preserved
 descent-preserved g c =
     let s = c.args.self.now.stepper in
     let now = c.descent.self.stepper in
-    let new = c.turn.new.self.stepper in
+    let new = c.step_on.new.self.stepper in
     let b = batch_of s.board.now in
     let xs = c.descent.self.stack.now.items in
     let u = c.in-Needs.u in
-    let need = c.in-Needs.ensures.turn.took in
+    let need = c.in-Needs.ensures.step_on.took in
     let inv = c.descent.invariant in
     let top = top_is xs c.len.result c.index-top.result.now inv.stack.some (search rules) c.index-top.ensures in
     let wants = subst (λ (z : ℕ × Bor Board). Wants (batch_of z.1.now) z.0 u) (λ i. (top i, inv.same.board i)) need.wants in
-    let grown = c.in-Ok-push.ensures.items ∙ ap (λ (z : Vec ℕ Global). z.items ++ u ∷ []) c.turn.ensures.stack in
-    let wide = ap (λ (z : Vec ℕ Global). vec_capacity z) c.turn.ensures.stack in
+    let grown = c.in-Ok-push.ensures.items ∙ ap (λ (z : Vec ℕ Global). z.items ++ u ∷ []) c.step_on.ensures.stack in
+    let wide = ap (λ (z : Vec ℕ Global). vec_capacity z) c.step_on.ensures.stack in
     let d' = pushed b c.args.start (view now.pass.now).done xs u inv.stack wants need.undone in record {
-      same = same_then s now new inv.same c.turn.ensures.turn.same;
-      free = subst (λ (z : Bor Board). IsFree z.now new.pass.now) inv.same.board c.turn.ensures.turn.free;
+      same = same_then s now new inv.same c.step_on.ensures.step_on.same;
+      free = subst (λ (z : Bor Board). IsFree z.now new.pass.now) inv.same.board c.step_on.ensures.step_on.free;
       room = search (rules, wide);
-      keeps = keeps_then (view s.pass.now) (view now.pass.now) (view new.pass.now) inv.keeps c.turn.ensures.turn.keeps;
+      keeps = keeps_then (view s.pass.now) (view now.pass.now) (view new.pass.now) inv.keeps c.step_on.ensures.step_on.keeps;
       busy = need.busy ∙ inv.busy;
       stack = subst (λ (z : List ℕ × List ℕ). IsDescent b c.args.start z.0 z.1) (λ i. (sym need.done i, sym grown i)) d';
     }
@@ -128,7 +139,7 @@ unreachable-requires-in_default-push g c =
     let b = batch_of c.args.self.now.stepper.board.now in
     let xs = c.descent.self.stack.now.items in
     let u = c.in-Needs.u in
-    let need = c.in-Needs.ensures.turn.took in
+    let need = c.in-Needs.ensures.step_on.took in
     let inv = c.descent.invariant in
     let top = top_is xs c.len.result c.index-top.result.now inv.stack.some (search rules) c.index-top.ensures in
     let wants = subst (λ (z : ℕ × Bor Board). Wants (batch_of z.1.now) z.0 u) (λ i. (top i, inv.same.board i)) need.wants in
@@ -136,6 +147,6 @@ unreachable-requires-in_default-push g c =
     let full = c.in_default-push.ensures.full in
     let room = c.requires.stack.room in
     let kept = inv.room in
-    let wide = ap (λ (z : Vec ℕ Global). vec_capacity z) c.turn.ensures.stack in
-    let long = ap (λ (z : Vec ℕ Global). length z.items) c.turn.ensures.stack in
+    let wide = ap (λ (z : Vec ℕ Global). vec_capacity z) c.step_on.ensures.stack in
+    let long = ap (λ (z : Vec ℕ Global). length z.items) c.step_on.ensures.stack in
     omega (arith, fits, full, room, kept, wide, long)

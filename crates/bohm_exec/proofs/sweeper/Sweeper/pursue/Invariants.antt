@@ -1,7 +1,7 @@
 use Rattle.std.proofs.Common.{◌≡◌, ◌≤◌}
 use Rattle.std.specs.Vec.{vec_capacity}
 use Rattle.bohm_board.specs.Passes.{Keeps}
-use Rattle.bohm_exec.specs.Turns.{IsFree, IsSame, batch_on, seen_by}
+use Rattle.bohm_exec.specs.Steps.{IsFree, IsSame, batch_on, seen_by}
 use Rattle.bohm_exec.proofs.Descents.{IsDescent, left_to_do}
 use Rattle.bohm_exec.proofs.sweeper.Sweeper.pursue.Given as goal
 

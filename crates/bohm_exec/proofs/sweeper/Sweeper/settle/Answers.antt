@@ -10,7 +10,12 @@ none_in : (k : Slot) → ¬ Contains [] k
 none_in k c = let l = c.1 in absurd (omega arith)
 
 pub loop-index-init : goal.loop-index-init
-loop-index-init g c = record { own = c.requires.claimed.own; fills = no_fills (view c.args.self.now.stepper.pass.now); below = λ k h. absurd (none_in k (subst (λ (xs : List Slot). Contains xs k) c.requires.claimed.empty h)); all = λ j l. absurd (omega arith) }
+loop-index-init g c = record {
+  own = c.requires.claimed.own;
+  fills = no_fills (view c.args.self.now.stepper.pass.now);
+  below = λ k h. absurd (none_in k (subst (λ (xs : List Slot). Contains xs k) c.requires.claimed.empty h));
+  all = λ j l. absurd (omega arith);
+}
 
 pub fill-requires-clause-empty : goal.fill-requires-clause-empty
 fill-requires-clause-empty g c = λ h. let l = c.loop-index.invariant.below (slot_of c.args.t c.loop-index.index) h in omega arith
@@ -18,7 +23,8 @@ fill-requires-clause-empty g c = λ h. let l = c.loop-index.invariant.below (slo
 pub fill-requires-clause-wanted : goal.fill-requires-clause-wanted
 fill-requires-clause-wanted g c =
     let fills = c.loop-index.invariant.fills in
-    wanted_stays (batch_of c.args.self.now.stepper.board.now) (view c.args.self.now.stepper.pass.now) (view c.loop-index.pass) c.args.t fills.absent fills.present c.requires.claimed.wanted
+    wanted_stays (batch_of c.args.self.now.stepper.board.now) (view c.args.self.now.stepper.pass.now)
+    (view c.loop-index.pass) c.args.t fills.absent fills.present c.requires.claimed.wanted
 
 pub loop-index-preserved : goal.loop-index-preserved
 loop-index-preserved g c =
@@ -37,4 +43,5 @@ loop-index-preserved g c =
 pub finish-requires-clause-wanted : goal.finish-requires-clause-wanted
 finish-requires-clause-wanted g c =
     let fills = c.loop-index.invariant.fills in
-    wanted_stays (batch_of c.args.self.now.stepper.board.now) (view c.args.self.now.stepper.pass.now) (view c.loop-index.pass) c.args.t fills.absent fills.present c.requires.claimed.wanted
+    wanted_stays (batch_of c.args.self.now.stepper.board.now) (view c.args.self.now.stepper.pass.now)
+    (view c.loop-index.pass) c.args.t fills.absent fills.present c.requires.claimed.wanted

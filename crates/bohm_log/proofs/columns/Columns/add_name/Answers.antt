@@ -15,10 +15,19 @@ pub returns-in_err-push-clause-err : goal.returns-in_err-push-clause-err
 returns-in_err-push-clause-err g c =
     let p = err_from_is_err_and c.from_residual-in_err-push.result c.from_residual-in_err-push.ensures.1 in
     let s = shared_of c.args.self.now in
-    rw p.1 (named s _ c.args.name (λ i. record { names = c.in_ok-id.ensures.names i; ids = c.in_err-push.ensures.items i; others = s.others; large = s.large; terms = s.terms; rows = s.rows }))
+    rw p.1 (named s _ c.args.name.now
+    (λ i. record {
+      names = c.in_ok-id.ensures.names i;
+      ids = c.in_err-push.ensures.items i;
+      others = s.others;
+      large = s.large;
+      terms = s.terms;
+      rows = s.rows;
+    }))
 
 pub returns-clause-ok : goal.returns-clause-ok
 returns-clause-ok g c =
     let s = shared_of c.args.self.now in
-    numbered s _ c.args.name c.in_ok-id.id (subst (λ (ns : List (List ℕ)). slice_get ns c.in_ok-id.id ≡ Some c.args.name) c.in_ok-id.ensures.names c.in_ok-id.ensures.named)
+    numbered s _ c.args.name.now c.in_ok-id.id (subst
+    (λ (ns : List (List ℕ)). slice_get ns c.in_ok-id.id ≡ Some c.args.name.now) c.in_ok-id.ensures.names c.in_ok-id.ensures.named)
     (λ i. record { names = c.in_ok-id.ensures.names i; ids = c.in_ok-push.ensures.items i; others = s.others; large = s.large; terms = s.terms; rows = s.rows })

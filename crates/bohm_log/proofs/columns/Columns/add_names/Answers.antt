@@ -8,4 +8,5 @@ returns-in_err-add_name-clause-err g c =
     rw p.1 (interns_both _ _ _ c.loop-name.invariant.interns c.in_err-add_name.ensures.err)
 
 pub loop-name-preserved : goal.loop-name-preserved
-loop-name-preserved g c = numbered_next _ _ _ c.args.names.now c.loop-name.name-index c.name-item.result c.loop-name-test.true c.name-item.is c.loop-name.invariant c.in_ok-add_name.ensures.ok
+loop-name-preserved g c = numbered_next _ _ _ c.args.names.now c.loop-name.name-index c.name-item.result c.loop-name-test.true c.name-item.is
+    c.loop-name.invariant c.in_ok-add_name.ensures.ok

@@ -8,7 +8,8 @@ returns-in_err-add_write-clause-err g c =
     rw p.1 (interns_both _ _ _ c.loop-name.invariant.interns c.in_err-add_write.ensures.err)
 
 pub loop-name-preserved : goal.loop-name-preserved
-loop-name-preserved g c = numbered_next _ _ _ c.args.writes.now c.loop-name.name-index c.name-item.result c.loop-name-test.true c.name-item.is c.loop-name.invariant c.in_ok-add_write.ensures.ok
+loop-name-preserved g c = numbered_next _ _ _ c.args.writes.now c.loop-name.name-index c.name-item.result c.loop-name-test.true c.name-item.is
+    c.loop-name.invariant c.in_ok-add_write.ensures.ok
 
 pub add_write-requires : goal.add_write-requires
 add_write-requires g c = still_stand _ _ c.args.reads.now c.args.start c.loop-name.invariant.interns.widens c.requires

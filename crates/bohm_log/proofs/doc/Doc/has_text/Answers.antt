@@ -1,5 +1,5 @@
 use Rattle.std.proofs.Common.{subst}
-use Rattle.bohm_tree.specs.Sound.{IsDocument}
+use Rattle.bohm_types.specs.Sound.{IsDocument}
 use Rattle.bohm_log.proofs.Documents.{is_document}
 use Rattle.bohm_log.proofs.doc.Doc.has_text.Goals as goal
 

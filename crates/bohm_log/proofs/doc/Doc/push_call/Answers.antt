@@ -1,6 +1,6 @@
 use Rattle.std.proofs.Common.{◌∙◌, ap, sym}
-use Rattle.bohm_tree.specs.Document.{Document}
-use Rattle.bohm_tree.specs.Procedure.{instance}
+use Rattle.bohm_types.specs.Document.{Document}
+use Rattle.bohm_types.specs.Procedure.{instance}
 use Rattle.bohm_log.proofs.Appending.{stays_in}
 use Rattle.bohm_log.proofs.doc.Doc.push_call.Goals as goal
 

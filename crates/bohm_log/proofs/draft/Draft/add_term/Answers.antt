@@ -4,6 +4,7 @@ use Rattle.bohm_log.specs.Drafting.{with_term, Drafted}
 use Rattle.bohm_log.specs.Seeing.{atom_shown}
 use Rattle.bohm_log.proofs.Drafts.{names_unseen, names_within, term_added, term_within}
 use Rattle.bohm_log.specs.SoundLogs.{IsSoundDraft}
+use Rattle.bohm_log.proofs.Counting.{counted_unseen, counted_term}
 use Rattle.bohm_log.proofs.SoundDrafts.{sound_term}
 use Rattle.bohm_log.proofs.draft.Draft.add_term.Goals as goal
 
@@ -16,6 +17,7 @@ pub invariant_of-self : goal.invariant_of-self
 invariant_of-self g c = (
   names_within _ _ _ c.in_err-add_term.ensures.err c.self.invariant.0,
   subst IsSoundDraft (sym (names_unseen _ _ _ _ c.in_err-add_term.ensures.err c.self.invariant.0)) c.self.invariant.1,
+  counted_unseen _ _ _ _ c.in_err-add_term.ensures.err c.in_err-add_term.ensures.compact c.self.invariant.0 c.self.invariant.2,
 )
 
 pub invariant_of-self-2 : goal.invariant_of-self-2
@@ -23,6 +25,8 @@ invariant_of-self-2 g c = (
   term_within _ _ _ _ _ c.in_ok-add_term.ensures.ok c.self.invariant.0 (omega arith),
   subst IsSoundDraft (sym (term_added _ _ _ _ _ _ c.in_ok-add_term.ensures.ok c.self.invariant.0))
       (sound_term _ c.args.minus (atom_shown c.args.atom) c.self.invariant.1 c.requires),
+  counted_term _ _ _ _ _ _ (term_added _ _ _ _ _ _ c.in_ok-add_term.ensures.ok c.self.invariant.0) c.in_ok-add_term.ensures.ok c.in_ok-add_term.ensures.compact
+      c.self.invariant.2,
 )
 
 pub returns-clause-ok : goal.returns-clause-ok

@@ -4,12 +4,15 @@ use Rattle.bohm_log.specs.Parts.{Parts}
 use Rattle.bohm_log.specs.Drafting.{Drafted, IsBare, IsDrafted, drafted_of, parts_of, with_write, with_one_write}
 use Rattle.bohm_log.proofs.Drafts.{unchanged, declared, declared_within}
 use Rattle.bohm_log.specs.SoundLogs.{IsSoundDraft}
+use Rattle.bohm_log.specs.Sizes.{IsCounted}
+use Rattle.bohm_log.proofs.Counting.{counted_declared}
 use Rattle.bohm_log.proofs.SoundDrafts.{sound_write}
 use Rattle.bohm_log.proofs.draft.Draft.write.Goals as goal
 
 pub invariant_of-self : goal.invariant_of-self
 invariant_of-self g c =
-    subst (λ (x : Parts). IsDrafted x c.self.inside.pending × IsSoundDraft (drafted_of c.self.inside.edition x c.self.inside.pending))
+    subst (λ (x : Parts). IsDrafted x c.self.inside.pending × IsSoundDraft (drafted_of c.self.inside.edition x c.self.inside.pending)
+    × IsCounted x (drafted_of c.self.inside.edition x c.self.inside.pending))
     (sym c.in_err-add_write.ensures.err) c.self.invariant
 
 pub returns-in_err-add_write-clause-err : goal.returns-in_err-add_write-clause-err
@@ -24,6 +27,10 @@ invariant_of-self-2 g c =
       declared_within _ _ _ q _ c.in_ok-add_write.ensures.ok (record { terms = refl; rows = refl }) c.self.invariant.0 bare,
       subst IsSoundDraft (sym (declared _ _ _ q _ c.in_ok-add_write.ensures.ok (record { terms = refl; rows = refl }) c.self.invariant.0 bare))
           (sound_write _ c.args.key c.self.invariant.1 c.has_name.ensures),
+      counted_declared _ _ q _ _ _ (declared _ _ _ q _ c.in_ok-add_write.ensures.ok (record { terms = refl; rows = refl }) c.self.invariant.0 bare)
+          refl refl (record { terms = refl; rows = refl }) c.in_ok-add_write.ensures.ok
+          (record { others = c.self.invariant.2.compact.others; large = c.self.invariant.2.compact.large })
+          c.self.invariant.2,
     )
 
 pub returns-clause-ok : goal.returns-clause-ok

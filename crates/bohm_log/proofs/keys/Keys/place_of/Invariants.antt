@@ -1,7 +1,7 @@
 use Rattle.std.proofs.Common.{◌≡◌, drop}
 use Rattle.std.specs.List.{position_from}
 use Rattle.std.specs.Str.{bytes_eq}
-use Rattle.bohm_tree.specs.Keys.{place}
+use Rattle.bohm_types.specs.Keys.{place}
 use Rattle.bohm_log.proofs.keys.Keys.place_of.Given as goal
 
 abbrev pub invariant-loop-place : goal.invariant-loop-place

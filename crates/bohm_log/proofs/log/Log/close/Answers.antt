@@ -3,8 +3,8 @@ use Rattle.std.proofs.lemmas.Result.{err_from_is_err_and}
 use Rattle.bohm_log.specs.Columns.{shared_of, IsLogged, txn_at}
 use Rattle.bohm_log.specs.declared.table.Head.{Head}
 use Rattle.bohm_log.proofs.Widening.{log_kept, logged_kept, log_more, logged_more}
-use Rattle.bohm_tree.specs.Sound.{IsTxn}
-use Rattle.bohm_tree.specs.Txn.{Txn}
+use Rattle.bohm_types.specs.Sound.{IsTxn}
+use Rattle.bohm_types.specs.Txn.{Txn}
 use Rattle.bohm_log.specs.SoundLogs.{AreTxns}
 use Rattle.bohm_log.proofs.SoundDrafts.{sound_log}
 use Rattle.bohm_log.proofs.log.Log.close.Goals as goal

@@ -12,5 +12,6 @@ invariant-loop-i g l =
     record {
       placed : ArePlaced part_of l.self (placeholders_made l.self.batch.first (take l.i l.self.batch.txns.now)) l.initial.parts l.parts;
       others : KeepsForeign (part_of l.self.keys.partition.now) l.initial.parts l.parts;
-      found : l.found.items ++ found_by own source (take l.i l.self.batch.txns.now) (drop l.i l.self.batch.txns.now) ≡ found_by own source [] l.self.batch.txns.now;
+      found : l.found.items ++ found_by own source (take l.i l.self.batch.txns.now)
+          (drop l.i l.self.batch.txns.now) ≡ found_by own source [] l.self.batch.txns.now;
     }

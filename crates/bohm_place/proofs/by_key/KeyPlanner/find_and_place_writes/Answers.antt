@@ -19,7 +19,8 @@ find_and_place-requires-clause-above g c κs lives has =
     let is : get_or keys i key ≡ key = get_or_from_slice_get keys i key key c.key.ensures in
     let base = placeholders_in part c.args.parts.now in
     let now = placeholders_in part c.loop-i.parts in
-    let same : now (get_or keys i key) ≡ base (get_or keys i key) = not_yet_placed (own (get_or keys i key)) (base (get_or keys i key)) (now (get_or keys i key)) c.args.ts i keys key (omega arith) c.requires.distinct (c.loop-i.invariant.placed (get_or keys i key)) in
+    let same : now (get_or keys i key) ≡ base (get_or keys i key) = not_yet_placed (own (get_or keys i key)) (base (get_or keys i key))
+    (now (get_or keys i key)) c.args.ts i keys key (omega arith) c.requires.distinct (c.loop-i.invariant.placed (get_or keys i key)) in
     let here : now key ≡ base key = rw is at same in
     subst (λ (vs : List Placeholder). All (λ b. b < c.args.ts) (begins vs)) (sym here) (c.requires.above key has)
 
@@ -37,11 +38,15 @@ loop-i-preserved g c =
     let base = placeholders_in part c.args.parts.now in
     let now = placeholders_in part c.loop-i.parts in
     let new = placeholders_in part c.find_and_place.new.parts in
-    let same : now (get_or keys i key) ≡ base (get_or keys i key) = not_yet_placed (own (get_or keys i key)) (base (get_or keys i key)) (now (get_or keys i key)) c.args.ts i keys key inside c.requires.distinct (c.loop-i.invariant.placed (get_or keys i key)) in
+    let same : now (get_or keys i key) ≡ base (get_or keys i key) = not_yet_placed (own (get_or keys i key)) (base (get_or keys i key))
+    (now (get_or keys i key)) c.args.ts i keys key inside c.requires.distinct (c.loop-i.invariant.placed (get_or keys i key)) in
     let here : now key ≡ base key = rw is at same in
-    let found_here : c.in_ok-newest.newest ≡ (if own key then within planner.batch.first (last_or none (base key)) else none) = rw here at c.in_ok-newest.ensures.found in
+    let found_here : c.in_ok-newest.newest ≡ (if own key then within planner.batch.first (last_or none (base key)) else none) =
+    rw here at c.in_ok-newest.ensures.found in
     record {
-      found = found_write (λ k. if own k then within planner.batch.first (last_or none (base k)) else none) c.args.found.now.items c.loop-i.found.items c.push.new.self.items c.in_ok-newest.newest keys i key inside is c.loop-i.invariant.found c.in_ok-push.ensures.items found_here;
-      placed = λ k. write_placed (own k) (base k) (now k) (new k) c.args.ts i keys k key inside len (c.loop-i.invariant.placed k) (rw is (c.in_ok-newest.ensures.placed k));
+      found = found_write (λ k. if own k then within planner.batch.first (last_or none (base k)) else none) c.args.found.now.items c.loop-i.found.items
+          c.push.new.self.items c.in_ok-newest.newest keys i key inside is c.loop-i.invariant.found c.in_ok-push.ensures.items found_here;
+      placed = λ k. write_placed (own k) (base k) (now k) (new k) c.args.ts i keys k key inside len (c.loop-i.invariant.placed k)
+          (rw is (c.in_ok-newest.ensures.placed k));
       others = λ j k apart. c.in_ok-newest.ensures.others j k apart ∙ c.loop-i.invariant.others j k apart;
     }

@@ -21,7 +21,12 @@ find_and_place_writes-requires-clause-few g c κs within =
     let (x, is) = there txns i (omega arith) in
     let same = declared_at keys txns i (c.sets.result.0.now, c.sets.result.1.now) x c.requires.numbers c.sets.ensures.sets is in
     let writes : names_at keys.names c.sets.result.1.now ≡ x.writes = ap (λ s. s.1) same in
-    omega (arith, length-map c.sets.result.1.now (name_at keys.names), ap length writes, (usable x (formed_at txns c.args.self.now.batch.formed i x is)).few_writes)
+    omega (
+      arith,
+      length-map c.sets.result.1.now (name_at keys.names),
+      ap length writes,
+      (usable x (formed_at txns c.args.self.now.batch.formed i x is)).few_writes,
+    )
 
 pub find_and_place_writes-requires-clause-distinct :
     goal.find_and_place_writes-requires-clause-distinct

@@ -10,6 +10,7 @@ invariant-loop-i g l =
     let source = ahead_of l.self.batch.first in
     record {
       stands : StandsBehind own l.self.batch.first l.self.declared.names (take l.i l.self.batch.txns.now) l.newest;
-      found : l.found.items ++ found_by own source (take l.i l.self.batch.txns.now) (drop l.i l.self.batch.txns.now) ≡ found_by own source [] l.self.batch.txns.now;
+      found : l.found.items ++ found_by own source (take l.i l.self.batch.txns.now)
+          (drop l.i l.self.batch.txns.now) ≡ found_by own source [] l.self.batch.txns.now;
       long : length l.newest ≡ length l.initial.newest;
     }

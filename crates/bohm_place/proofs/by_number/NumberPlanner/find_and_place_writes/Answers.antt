@@ -22,8 +22,11 @@ loop-place-preserved g c =
     let new = c.find_and_place.new.newest in
     let before = c.loop-place.invariant.placed in
     let is = c.find_and_place.ensures.placed in
-    let found : c.find_and_place.result ≡ find number = rw (c.find_and_place.ensures.found) (found_now own first c.args.ts names numbers i number old now new c.requires.covered c.requires.named c.requires.timestamp inside at before is c.requires.distinct) in
+    let found : c.find_and_place.result ≡ find number = rw (c.find_and_place.ensures.found)
+    (found_now own first c.args.ts names numbers i number old now new c.requires.covered c.requires.named c.requires.timestamp inside at before is
+    c.requires.distinct) in
     record {
-      found = found_write find c.args.found.now.items c.loop-place.found.items c.push.new.self.items c.find_and_place.result numbers i number inside at c.loop-place.invariant.found c.in_ok-push.ensures.items found;
+      found = found_write find c.args.found.now.items c.loop-place.found.items c.push.new.self.items c.find_and_place.result numbers i number inside at
+          c.loop-place.invariant.found c.in_ok-push.ensures.items found;
       placed = placed_more own first c.args.ts names numbers i number old now new c.requires.covered c.requires.named c.requires.timestamp inside at before is;
     }

@@ -13,7 +13,8 @@ returns-then-begin-ts c =
     let next : i + 1 ≡ c.loop-i.i = omega arith in
     let is : v ≡ get_or vs i v = c.index.ensures in
     let low : (get_or vs i v).begin < c.args.ts = rw (← is) c.if-begin-ts.true in
-    ap (λ x. x.begin) is ∙ sym (greatest_below-at c.args.ts vs c.args.self.now.newest i v (omega arith) c.requires low (rw next c.loop-i.invariant.1) (omega arith))
+    ap (λ x. x.begin) is ∙ sym (greatest_below-at c.args.ts vs c.args.self.now.newest i v (omega arith) c.requires low (rw next c.loop-i.invariant.1)
+    (omega arith))
 
 pub returns : goal.returns
 returns c =

@@ -9,5 +9,6 @@ loop-preserved c =
     let one = c.new.result in
     rw c.in_ok-push.ensures.items (record {
       count = omega (arith, length-append old (one ∷ []), c.loop.invariant.count);
-      unplanned = λ t. All-push (λ (a : List Placeholder). All (λ p. p.begin < t) a) old one (c.loop.invariant.unplanned t) (rw c.new.ensures (λ k d inside. absurd (omega arith)));
+      unplanned = λ t. All-push (λ (a : List Placeholder). All (λ p. p.begin < t) a) old one (c.loop.invariant.unplanned t)
+          (rw c.new.ensures (λ k d inside. absurd (omega arith)));
     })

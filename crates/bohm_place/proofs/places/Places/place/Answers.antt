@@ -10,4 +10,5 @@ begun true vs v = begins-append vs (v ∷ [])
 begun false vs v = refl
 
 pub returns : goal.returns
-returns c k = ap begins (c.in_ok-annotate.ensures.chains k) ∙ begun (bytes_eq c.args.key k) (placeholders c.args.self.now k) (record { begin = c.args.ts; index = 0 })
+returns c k = ap begins (c.in_ok-annotate.ensures.chains k)
+    ∙ begun (bytes_eq c.args.key k) (placeholders c.args.self.now k) (record { begin = c.args.ts; index = 0 })

@@ -9,7 +9,8 @@ pub invariant_of-self : goal.invariant_of-self
 invariant_of-self c =
     let old = c.self.inside.chains in
     record {
-      rises = λ k. rw (c.shorten_all.ensures.chains k, begins-kept c.args.floor (items_at old k)) (RisesFrom-kept 0 c.args.floor (begins (items_at old k)) (c.self.invariant.rises k));
+      rises = λ k. rw (c.shorten_all.ensures.chains k, begins-kept c.args.floor (items_at old k))
+          (RisesFrom-kept 0 c.args.floor (begins (items_at old k)) (c.self.invariant.rises k));
       listed = c.shorten_all.ensures.listed;
     }
 

@@ -1,5 +1,5 @@
 use Rattle.std.proofs.Common.{◌≡◌, ◌∙◌, sym, ap, length}
-use Rattle.bohm_tree.specs.Procedure.{Procedure}
+use Rattle.bohm_types.specs.Procedure.{Procedure}
 use Rattle.bohm_procedures.proofs.InstanceLaw.{instance_well}
 use Rattle.bohm_procedures.proofs.calls.Calls.push.Goals as goal
 

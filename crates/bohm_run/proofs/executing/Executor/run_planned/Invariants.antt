@@ -1,7 +1,7 @@
 use Rattle.std.proofs.Common.{◌≡◌, ◌≤◌, ◌++◌, length, take}
 use Rattle.std.specs.Vec.Iter.{into_iter_items, into_iter_len}
-use Rattle.bohm_line.specs.CutLogs.{cutting_of}
-use Rattle.bohm_line.specs.Cuttings.{ahead}
+use Rattle.bohm_place.specs.CutLogs.{cutting_of}
+use Rattle.bohm_place.specs.Cuttings.{ahead}
 use Rattle.bohm_run.specs.Progresses.{GoesOn}
 use Rattle.bohm_run.proofs.executing.Executor.run_planned.Given as goal
 

@@ -14,6 +14,8 @@ pub returns-clause-ok : goal.returns-clause-ok
 returns-clause-ok g c = record {
   chunks = c.in_ok-chunks.chunks.items;
   edition = ap (λ (r : LogReader). r.edition) c.prepare.ensures.same;
-  read = subst (λ (s : Source). ReadsWave c.args.self.now.edition (g.R.Read.remaining c.args.reader.now) (g.R.Read.remaining c.read_wave.new.reader) c.args.self.now.source s c.in_ok-chunks.chunks.items) (sym (ap (λ (r : LogReader). r.source) c.prepare.ensures.same)) c.in_ok-chunks.ensures.ok;
+  read = subst
+      (λ (s : Source). ReadsWave c.args.self.now.edition (g.R.Read.remaining c.args.reader.now) (g.R.Read.remaining c.read_wave.new.reader)
+      c.args.self.now.source s c.in_ok-chunks.chunks.items) (sym (ap (λ (r : LogReader). r.source) c.prepare.ensures.same)) c.in_ok-chunks.ensures.ok;
   prepared = c.in_ok-prepare.ensures.prepared;
 }

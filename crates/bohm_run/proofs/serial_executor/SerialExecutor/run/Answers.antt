@@ -1,5 +1,5 @@
 use Rattle.std.proofs.Common.{◌≡◌, ◌∙◌, ◌+◌, ◌++◌, ◌∷◌, [], List, take, ap, arith, append_assoc, subst, ⊎_elim}
-use Rattle.bohm_tree.specs.Txn.{Txn}
+use Rattle.bohm_types.specs.Txn.{Txn}
 use Rattle.bohm_txn.specs.declared.outcome.Reply.{Reply}
 use Rattle.bohm_txn.specs.Meaning.{body}
 use Rattle.bohm_txn.specs.Serial.{replies, reply_of}
@@ -21,7 +21,12 @@ returns-in_err-run_next-clause-some c =
     let next = told ++ reply_of (body (past at.history at.history.top) c.txn.result) ∷ [] in
     on_err c.from_residual-in_err-run_next.result (⊎_elim
     (λ same. (at.index, told, stayed was at.history new (take at.index txns) c.args.keep told same at.invariant.applied))
-    (λ settled. (at.index + 1, next, one_more was at.history new txns at.index c.args.keep c.txn.result told c.requires.ordered c.txn.ensures at.invariant.applied settled))
+    (λ settled. (
+      at.index + 1,
+      next,
+      one_more was at.history new txns at.index c.args.keep c.txn.result told c.requires.ordered c.txn.ensures
+          at.invariant.applied settled,
+    ))
     c.in_err-run_next.ensures.tried)
 
 pub loop-index-preserved : goal.loop-index-preserved

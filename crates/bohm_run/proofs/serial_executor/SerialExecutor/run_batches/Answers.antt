@@ -1,5 +1,5 @@
 use Rattle.std.proofs.Common.{rules, ◌≡◌, is_ok, sym, take, false, true}
-use Rattle.bohm_line.specs.CutLogs.{cutting_of}
+use Rattle.bohm_place.specs.CutLogs.{cutting_of}
 use Rattle.bohm_run.proofs.Going.{stayed_past}
 use Rattle.bohm_run.proofs.Walks.{walked_on, walk_ends}
 use Rattle.bohm_run.proofs.serial_executor.SerialExecutor.run_batches.Goals as goal
@@ -11,7 +11,8 @@ returns-in_err-run_batch c =
     let log = cutting_of c.args.log in
     let refused : is_ok c.from_residual.result ≡ false = search rules in
     let told = c.in_err-run_batch.ensures in
-    let on = stayed_past was at.history c.run_batch.new.history (take at.start log.log) c.args.keep at.answered c.requires.ordered told.same at.invariant.applied in
+    let on = stayed_past was at.history c.run_batch.new.history
+    (take at.start log.log) c.args.keep at.answered c.requires.ordered told.same at.invariant.applied in
     rw refused (walk_ends was c.run_batch.new.history log at.place at.start c.args.keep c.run_batch.new.answered false
     c.args.log.whole at.invariant.start (λ t. absurd cc) (rw told.unanswered on))
 

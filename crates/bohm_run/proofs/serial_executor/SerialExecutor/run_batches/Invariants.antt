@@ -1,6 +1,6 @@
 use Rattle.std.proofs.Common.{◌≡◌, take}
-use Rattle.bohm_line.specs.CutLogs.{cutting_of}
-use Rattle.bohm_line.specs.Cuttings.{ahead}
+use Rattle.bohm_place.specs.CutLogs.{cutting_of}
+use Rattle.bohm_place.specs.Cuttings.{ahead}
 use Rattle.bohm_run.specs.Runs.{IsApplied}
 use Rattle.bohm_run.proofs.serial_executor.SerialExecutor.run_batches.Given as goal
 

@@ -9,7 +9,8 @@ use Rattle.bohm_run.proofs.serial_executor.SerialExecutor.run_to_text.Goals as g
 pub put_replies-requires : goal.put_replies-requires
 put_replies-requires c =
     let was = c.args.history.now in
-    let told : c.run.new.answered ≡ replies (past was was.top) c.args.txns.now = c.in_ok-run.ensures.answered ∙ ap (λ (rs : List Reply). rs ++ replies (past was was.top) c.args.txns.now) c.new-replies.ensures in
+    let told : c.run.new.answered ≡ replies (past was was.top) c.args.txns.now =
+    c.in_ok-run.ensures.answered ∙ ap (λ (rs : List Reply). rs ++ replies (past was was.top) c.args.txns.now) c.new-replies.ensures in
     let many = ap length told ∙ length-replies (past was was.top) c.args.txns.now in
     omega (arith, many, c.top-first.ensures.top, c.requires.few)
 

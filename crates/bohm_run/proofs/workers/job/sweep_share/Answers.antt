@@ -21,7 +21,8 @@ returns-then-is_empty-clause-share g c =
     let from : c.first.result ≡ first_of b = c.first.ensures ∙ ap (λ (z : Batch). first_of z) c.batch-batch.ensures in
     let long : c.len.result ≡ length (txns_of b) = c.len.ensures ∙ ap (λ (z : Batch). length (txns_of z)) c.batch-batch.ensures in
     let each = let h = c.in_ok-aside.ensures.each in rw c.deref.ensures.value at h in
-    swept_once b c.args.worker (view c.sweep.new.pass) c.in_ok-aside.aside c.first.result c.len.result c.in_ok-share.share.items from long c.in_ok-share.ensures each
+    swept_once b c.args.worker (view c.sweep.new.pass) c.in_ok-aside.aside c.first.result c.len.result c.in_ok-share.share.items from long
+    c.in_ok-share.ensures each
 
 pub sweep-requires-2-clause-inside : goal.sweep-requires-2-clause-inside
 sweep-requires-2-clause-inside g c κs within =

@@ -11,7 +11,9 @@ use Rattle.bohm_serial.proofs.store.Store.entries.Goals as goal
 
 pub returns : goal.returns
 returns c =
-    let moved : IsPermutation c.self.inside.values.entries c.sort_unstable_by.new.self.items = subst (λ (es : List (List ℕ × ℤ)). IsPermutation es c.sort_unstable_by.new.self.items) c.in_ok-list.ensures.all c.sort_unstable_by.ensures.permutation in
+    let moved : IsPermutation c.self.inside.values.entries c.sort_unstable_by.new.self.items = subst
+    (λ (es : List (List ℕ × ℤ)). IsPermutation es c.sort_unstable_by.new.self.items) c.in_ok-list.ensures.all c.sort_unstable_by.ensures.permutation in
     rw (← c.self.view_is) (entries_listed c.self.inside.values.entries c.sort_unstable_by.new.self.items moved c.in_ok-list.ensures.distinct
-    (c.sort_unstable_by.ensures.sorted (λ x y. is_lt (slice_cmp nat_cmp x.0 y.0)) (ranks_by nat_list_cmp_total (λ e. e.0)) (answers_always _ (λ a r. is_lt r ≡ is_lt (slice_cmp nat_cmp a.0.now.0 a.1.0.now.0)) _ (λ f a r g q. search rules)))
+    (c.sort_unstable_by.ensures.sorted (λ x y. is_lt (slice_cmp nat_cmp x.0 y.0)) (ranks_by nat_list_cmp_total (λ e. e.0))
+    (answers_always _ (λ a r. is_lt r ≡ is_lt (slice_cmp nat_cmp a.0.now.0 a.1.0.now.0)) _ (λ f a r g q. search rules)))
     ∙ ap (λ (s : Store). finite.entries s) (same_moved c.self.inside.values.entries c.sort_unstable_by.new.self.items moved c.in_ok-list.ensures.distinct))

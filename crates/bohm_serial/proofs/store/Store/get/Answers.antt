@@ -12,5 +12,6 @@ returns-in-None c =
 
 pub returns-in-Some : goal.returns-in-Some
 returns-in-Some c =
-    let found : lookup (bytes_eq c.args.key.now) c.self.inside.values.entries ≡ Some c.in-Some.value = sym c.get.ensures.value ∙ (sym c.copied-found.ensures ∙ c.in-Some.is) in
+    let found : lookup (bytes_eq c.args.key.now) c.self.inside.values.entries ≡ Some c.in-Some.value =
+    sym c.get.ensures.value ∙ (sym c.copied-found.ensures ∙ c.in-Some.is) in
     rw (← c.self.view_is) (sym (ap cell_of (get-store_of c.self.inside.values.entries c.args.key.now ∙ found)))

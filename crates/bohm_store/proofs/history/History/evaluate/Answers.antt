@@ -1,25 +1,72 @@
-use Rattle.std.proofs.Common.{◌≡◌, ◌∙◌, List, ℕ, map, sym, ap}
-use Rattle.bohm_tree.specs.declared.cell.Cell.TheVariants.{Absent}
-use Rattle.bohm_txn.specs.Meaning.{Look}
+-- What a transaction leaves that is run on what its keys hold at the top.
+use Rattle.std.proofs.Common.{◌≡◌, ◌∙◌, List, ℕ, Ok, Err, map, sym, ap, arith, refl}
+use Rattle.bohm_types.specs.Txn.{Txn}
+use Rattle.bohm_txn.specs.declared.outcome.Outcome.TheVariants as outcomes_are
+use Rattle.bohm_txn.specs.declared.outcome.Reason.{Reason}
+use Rattle.bohm_txn.specs.Meaning.{Ended, Look, body}
+use Rattle.bohm_txn.specs.Serial.{after, outcome_of, over, writes_of}
+use Rattle.bohm_txn.proofs.ForCallers.{usable}
 use Rattle.bohm_store.specs.Numbered.{timeline, versions_at}
-use Rattle.bohm_store.specs.Versions.{cell_at, past}
+use Rattle.bohm_store.specs.Versions.{past}
 use Rattle.bohm_store.specs.Writes.{AreNumbersOf}
-use Rattle.bohm_store.proofs.Advanced.{cells_by_number}
+use Rattle.bohm_store.proofs.Advanced.{cells_by_number, numbers_long}
 use Rattle.bohm_store.proofs.Entries.{keys_named}
 use Rattle.bohm_store.proofs.history.History.evaluate.Goals as goal
 
-pub returns-clause-cells : goal.returns-clause-cells
-returns-clause-cells c =
+ends_so : (look : Look) (keys : List (List ℕ)) (reason : Reason) (stmt : ℕ) (r : Ended) → outcome_of r ≡ outcomes_are.Abort reason stmt
+    → map (over look (writes_of r)) keys ≡ map look keys
+ends_so look keys reason stmt (Ok run) ended = absurd cc
+ends_so look keys reason stmt (Err fault) ended = refl
+
+-- an abort leaves each key as it was
+abort_keeps : (t : Txn) (look : Look) (reason : Reason) (stmt : ℕ) → outcome_of (body look t) ≡ outcomes_are.Abort reason stmt
+    → map (after look t) t.writes ≡ map look t.writes
+abort_keeps t look reason stmt ended = ends_so look t.writes reason stmt (body look t) ended
+
+pub push_reads-requires-clause-few : goal.push_reads-requires-clause-few
+push_reads-requires-clause-few c = rw c.reads.ensures ((usable c.args.txn.now c.requires.well).few_reads)
+
+pub push_cells-requires-in-Abort-clause-few : goal.push_cells-requires-in-Abort-clause-few
+push_cells-requires-in-Abort-clause-few c =
+    let h = c.self.inside.numbered in
+    let names = c.self.inside.names in
+    let are : AreNumbersOf names c.args.numbers.now c.args.txn.now.writes = rw (← c.self.view_is, keys_named (versions_at h) 0 names) at c.requires.numbers in
+    omega (arith, numbers_long names c.args.numbers.now c.args.txn.now.writes are, (usable c.args.txn.now c.requires.well).few_writes)
+
+pub push_cells-requires-clause-few : goal.push_cells-requires-clause-few
+push_cells-requires-clause-few c =
+    let h = c.self.inside.numbered in
+    let names = c.self.inside.names in
+    let are : AreNumbersOf names c.args.numbers.now c.args.txn.now.writes = rw (← c.self.view_is, keys_named (versions_at h) 0 names) at c.requires.numbers in
+    omega (arith, numbers_long names c.args.numbers.now c.args.txn.now.writes are, (usable c.args.txn.now c.requires.well).few_writes)
+
+pub returns-in-Commit-clause-cells : goal.returns-in-Commit-clause-cells
+returns-in-Commit-clause-cells c =
     let names = c.self.inside.names in
     let h = c.self.inside.numbered in
     let t = c.args.txn.now in
+    let ns = c.args.numbers.now in
     let look : Look = past (timeline names h) h.top in
-    let ns : List ℕ = c.args.workspace.now.numbers.items in
     let are : AreNumbersOf names ns t.writes = rw (← c.self.view_is, keys_named (versions_at h) 0 names) at c.requires.numbers in
-    let reads : map look t.reads ≡ c.as_slice-3.result.now =
-    sym (c.as_slice-3.ensures.value ∙ (c.in_ok-cells_by.ensures ∙ ap (map look) c.reads.ensures)) in
-    let earlier : map look t.writes ≡ c.as_slice-4.result.now =
-    cells_by_number names h ns t.writes c.as_slice.ensures.apart are
-    ∙ sym (c.as_slice-4.ensures.value ∙ (c.in_ok-cells_numbered.ensures
-    ∙ ap (map (λ (n : ℕ). cell_at h.top (versions_at h n) Absent)) c.as_slice-2.ensures.value)) in
-    rw (← c.self.view_is) (c.eval.ensures.cells look reads earlier)
+    let seen : map look t.reads ≡ c.push_cells.new.scratch.seen =
+    sym (c.push_cells.ensures.seen ∙ (c.push_reads.ensures.seen ∙ ap (map look) c.reads.ensures)) in
+    let before : map look t.writes ≡ c.push_cells.new.scratch.cells =
+    cells_by_number names h ns t.writes c.as_slice.ensures.apart are ∙ sym c.push_cells.ensures.cells in
+    rw (← c.self.view_is) (c.eval_in_place-outcome.ensures.cells c.in-Commit.is look seen before)
+
+pub returns-in-Abort-clause-cells : goal.returns-in-Abort-clause-cells
+returns-in-Abort-clause-cells c =
+    let names = c.self.inside.names in
+    let h = c.self.inside.numbered in
+    let t = c.args.txn.now in
+    let ns = c.args.numbers.now in
+    let look : Look = past (timeline names h) h.top in
+    let are : AreNumbersOf names ns t.writes = rw (← c.self.view_is, keys_named (versions_at h) 0 names) at c.requires.numbers in
+    let seen : map look t.reads ≡ c.push_cells.new.scratch.seen =
+    sym (c.push_cells.ensures.seen ∙ (c.push_reads.ensures.seen ∙ ap (map look) c.reads.ensures)) in
+    let ended : outcome_of (body look t) ≡ outcomes_are.Abort c.in-Abort.reason c.in-Abort.stmt =
+    c.eval_in_place-outcome.ensures.outcome look seen ∙ c.in-Abort.is in
+    let after_it : map (after look t) t.writes ≡ c.push_cells-in-Abort.new.scratch.cells =
+    abort_keeps t look c.in-Abort.reason c.in-Abort.stmt ended
+    ∙ (cells_by_number names h ns t.writes c.as_slice.ensures.apart are ∙ sym c.push_cells-in-Abort.ensures.cells) in
+    rw (← c.self.view_is) after_it

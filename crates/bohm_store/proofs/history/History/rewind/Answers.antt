@@ -1,5 +1,5 @@
 use Rattle.std.proofs.Common.{◌≡◌, ◌≤◌, ◌∙◌, List, ℕ, ap, refl}
-use Rattle.bohm_tree.specs.declared.cell.Cell.TheVariants.{Absent}
+use Rattle.bohm_types.specs.declared.cell.Cell.TheVariants.{Absent}
 use Rattle.bohm_store.specs.declared.version.Version.{Version}
 use Rattle.bohm_store.specs.Versions.{cell_at, versions, versions_to}
 use Rattle.bohm_store.specs.Numbered.{timeline, versions_at}
@@ -10,7 +10,8 @@ use Rattle.bohm_store.proofs.history.History.rewind.Goals as goal
 pub returns-clause-versions : goal.returns-clause-versions
 returns-clause-versions c =
     let h = c.self.inside.numbered in
-    rw (← c.self.view_is) (λ k. mapped_versions (versions_at c.rewind.new.self) (versions_at h) (versions_to c.args.ts) c.self.inside.names k refl c.rewind.ensures.versions)
+    rw (← c.self.view_is)
+    (λ k. mapped_versions (versions_at c.rewind.new.self) (versions_at h) (versions_to c.args.ts) c.self.inside.names k refl c.rewind.ensures.versions)
 
 pub returns-clause-past : goal.returns-clause-past
 returns-clause-past c =

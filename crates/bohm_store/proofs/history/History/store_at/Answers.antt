@@ -1,7 +1,7 @@
 use Rattle.std.proofs.Common.{◌≡◌, ◌∙◌, ◌≤◌, List, ℕ, take, length, ap, sym, arith}
 use Rattle.std.specs.Cmp.Lexicographic.{nat_list_eq_equiv}
 use Rattle.indexmap.proofs.MapLemmas.{distinct-take}
-use Rattle.bohm_tree.specs.declared.cell.Cell.TheVariants.{Absent}
+use Rattle.bohm_types.specs.declared.cell.Cell.TheVariants.{Absent}
 use Rattle.bohm_store.specs.declared.version.Version.{Version}
 use Rattle.bohm_store.specs.Numbered.{timeline}
 use Rattle.bohm_store.specs.Versions.{cell_at, past}

@@ -1,6 +1,6 @@
 use Rattle.std.proofs.Common.{◌≡◌, ◌<◌, ◌≤◌, ◌∙◌, List, ℕ, ap, refl, ⊎_elim, arith}
 use Rattle.std.proofs.lemmas.Bool.{cases_lt}
-use Rattle.bohm_tree.specs.declared.cell.Cell.TheVariants.{Absent}
+use Rattle.bohm_types.specs.declared.cell.Cell.TheVariants.{Absent}
 use Rattle.bohm_store.specs.declared.version.Version.{Version}
 use Rattle.bohm_store.specs.Versions.{Rises, cell_at, kept_versions, versions}
 use Rattle.bohm_store.specs.Numbered.{timeline, versions_at}

@@ -1,5 +1,5 @@
 use Rattle.std.proofs.Common.{◌≡◌, ◌∙◌, ◌++◌, List, get_or, sym, ap}
-use Rattle.bohm_tree.specs.declared.cell.Cell.TheVariants as cells
+use Rattle.bohm_types.specs.declared.cell.Cell.TheVariants as cells
 use Rattle.bohm_store.specs.Versions.{cell_at}
 use Rattle.bohm_store.specs.declared.held.Held.{Held}
 use Rattle.bohm_store.specs.declared.held.Held.TheVariants.{Never}

@@ -7,7 +7,7 @@ use Rattle.std.specs.Ordering.{nat_cmp, is_lt}
 use Rattle.std.specs.Str.{bytes_eq}
 use Rattle.std.specs.Cmp.Lexicographic.{slice_cmp, nat_list_cmp_total}
 use Rattle.std.proofs.lemmas.List.Sorted.{ranks_by, answers_always}
-use Rattle.bohm_tree.specs.declared.cell.Cell.TheVariants as cells
+use Rattle.bohm_types.specs.declared.cell.Cell.TheVariants as cells
 use Rattle.bohm_store.specs.Versions.{cell_at}
 use Rattle.bohm_store.specs.declared.held.Held.{Held}
 use Rattle.bohm_txn.specs.Stores.{Store, cell_in}

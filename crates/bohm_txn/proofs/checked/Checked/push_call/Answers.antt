@@ -1,6 +1,6 @@
 use Rattle.std.proofs.Common.{◌≡◌, ◌<◌, length, ap, arith}
-use Rattle.bohm_tree.specs.Document.{Document}
-use Rattle.bohm_tree.specs.Procedure.{instance}
+use Rattle.bohm_types.specs.Document.{Document}
+use Rattle.bohm_types.specs.Procedure.{instance}
 use Rattle.bohm_txn.proofs.Appending.{stays_well}
 use Rattle.bohm_txn.proofs.checked.Checked.push_call.Goals as goal
 

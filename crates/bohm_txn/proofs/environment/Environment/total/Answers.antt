@@ -19,9 +19,11 @@ loop-term-preserved c =
     let none : TermRow = record { kind = Small; minus = false; place = 0 } in
     let term = get_or ts i none in
     let before : ℤ = to_z w128 c.loop-term.total-bits in
-    let same : to_z w128 (of_z w128 c.in_ok-total.total) ≡ c.in_ok-total.total = to_z-of_z w128 c.in_ok-total.total (record { sfits = omega (arith, ints, c.in_ok-total.ensures.low, c.in_ok-total.ensures.high) }) in
+    let same : to_z w128 (of_z w128 c.in_ok-total.total) ≡ c.in_ok-total.total =
+    to_z-of_z w128 c.in_ok-total.total (record { sfits = omega (arith, ints, c.in_ok-total.ensures.low, c.in_ok-total.ensures.high) }) in
     let left = ap (map (term_of view.txn.now)) (drop_at ts i term (slice_get-get_or ts i none c.loop-term-test.true)) in
-    let step = total_step (look_of view) view.locals.now _ (map (term_of view.txn.now) (drop (i + 1) ts)) (term_of view.txn.now term) before c.in_ok-total.total left (sym c.in_ok-total.ensures.value) in
+    let step = total_step (look_of view) view.locals.now _ (map (term_of view.txn.now) (drop (i + 1) ts))
+    (term_of view.txn.now term) before c.in_ok-total.total left (sym c.in_ok-total.ensures.value) in
     record {
       low = rw same (omega (arith, ints, c.in_ok-total.ensures.low));
       high = rw same (omega (arith, ints, c.in_ok-total.ensures.high));

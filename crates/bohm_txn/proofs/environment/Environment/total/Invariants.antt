@@ -10,5 +10,6 @@ abbrev pub invariant-loop-term : goal.invariant-loop-term
 invariant-loop-term l = record {
   low : neg_ℤ (pos (l.term-index * 2 ^ 64)) ≤ℤ l.total;
   high : l.total ≤ℤ pos (l.term-index * 2 ^ 64);
-  so_far : total_from (look_of l.self) l.self.locals.now l.total (map (term_of l.self.txn.now) (drop l.term-index l.terms)) ≡ total_from (look_of l.self) l.self.locals.now (pos 0) (map (term_of l.self.txn.now) l.terms);
+  so_far : total_from (look_of l.self) l.self.locals.now l.total (map (term_of l.self.txn.now) (drop l.term-index l.terms)) ≡ total_from
+      (look_of l.self) l.self.locals.now (pos 0) (map (term_of l.self.txn.now) l.terms);
 }

@@ -1,0 +1,30 @@
+-- What a list of calls is to C.
+use Rattle.std.specs.Prelude.{ℕ, ◌<◌, List, [], ◌∷◌, ◌++◌, All, length, map, slice_index_or}
+use Rattle.bohm_types.specs.Appending.{empty_document}
+use Rattle.bohm_types.specs.Document.{Document}
+use Rattle.bohm_types.specs.declared.edition.Edition.{Edition}
+
+-- the document of its calls' instances, and the keys that its handles name, by their numbers
+pub record Listed : Type 0 where
+  pub calls : Document
+  pub names : List (List ℕ)
+
+-- with no calls and no handles
+abbrev pub empty_list : Edition → Listed
+empty_list edition = record { calls = empty_document edition; names = [] }
+
+-- without its calls
+abbrev pub cleared : Listed → Listed
+cleared list = record { calls = empty_document list.calls.edition; names = list.names }
+
+-- with one handle more
+abbrev pub with_name : Listed → List ℕ → Listed
+with_name list name = record { calls = list.calls; names = list.names ++ name ∷ [] }
+
+-- these are handles of the list
+abbrev pub Knows : Listed → List ℕ → Type 0
+Knows list handles = All (λ h. h < length list.names) handles
+
+-- the keys that they name
+abbrev pub named_by : Listed → List ℕ → List (List ℕ)
+named_by list handles = map (λ h. slice_index_or list.names h []) handles

@@ -1,0 +1,142 @@
+//! The functions by which C names keys by handles in calls.
+
+ghost use Rattle.std.specs.Prelude.{◌≡◌, ◌≢◌, ◌<◌, ◌⊎◌, ◌↔◌, length, None, Some};
+ghost use Rattle.bohm_types.specs.Name.{key_of};
+ghost use Rattle.bohm_procedures.specs.Accepting.{Takes};
+ghost use Rattle.bohm_c.specs.Calling.{IsPushed};
+ghost use Rattle.bohm_c.specs.Handles.{IsCallList, IsProcedure, OnCalls, OnProcedure};
+ghost use Rattle.bohm_c.specs.Listed.{Knows, named_by, with_name};
+
+use crate::call_list::PushFault;
+use crate::handle::{BohmHandle, put_back, take_back};
+use crate::kept::Kept;
+use crate::status::{DONE, MISUSE, NO_KEY, NO_MEMORY, UNFIT};
+use bohm_types::{Key, NoMemory};
+use std::alloc::Global;
+
+/// Makes a handle of a key in a list, where it is one.
+fn key_handle_on(calls: &mut Kept, name: &[u8], handle: &mut u32) -> u32
+    ensures status { (result ≡ DONE) ⊎ (result ≡ NO_MEMORY) ⊎ (result ≡ NO_KEY)
+        ⊎ (result ≡ MISUSE) }
+    ensures misuse { (result ≡ MISUSE) ↔ ¬ IsCallList (Some calls.old) }
+    ensures done { result ≡ DONE → OnCalls (Some calls.old) (λ was.
+        OnCalls (Some calls.new) (λ now. now ≡ with_name was name.now)) }
+    ensures handle { result ≡ DONE → OnCalls (Some calls.old)
+        (λ was. handle.new ≡ length was.names) }
+    ensures key { result ≡ DONE → key_of name.now ≡ Some name.now }
+    ensures no_key { result ≡ NO_KEY → key_of name.now ≡ None }
+    ensures unchanged { 0 < result → calls.new ≡ calls.old }
+    ensures untouched { 0 < result → handle.new ≡ handle.old }
+{
+    let Kept::Calls(list) = calls else {
+        return MISUSE;
+    };
+    let Some(key) = Key::new(name) else {
+        return NO_KEY;
+    };
+    match list.handle(&key) {
+        Ok(number) => {
+            *handle = number;
+            DONE
+        }
+        Err(NoMemory) => NO_MEMORY,
+    }
+}
+
+/// Makes a handle of a key in an open list, by which `bohm_push_named` names the key. It is the
+/// number of handles that were made before, and stays when the calls are cleared.
+#[unsafe(no_mangle)]
+pub extern "C" fn bohm_key_handle(
+    alloc: Global,
+    calls: &mut BohmHandle,
+    name: &[u8],
+    handle: &mut u32,
+) -> u32
+    ensures status { (result ≡ DONE) ⊎ (result ≡ NO_MEMORY) ⊎ (result ≡ NO_KEY)
+        ⊎ (result ≡ MISUSE) }
+    ensures misuse { (result ≡ MISUSE) ↔ ¬ IsCallList calls.old.value }
+    ensures done { result ≡ DONE → OnCalls calls.old.value (λ was.
+        OnCalls calls.new.value (λ now. now ≡ with_name was name.now)) }
+    ensures handle { result ≡ DONE → OnCalls calls.old.value
+        (λ was. handle.new ≡ length was.names) }
+    ensures key { result ≡ DONE → key_of name.now ≡ Some name.now }
+    ensures no_key { result ≡ NO_KEY → key_of name.now ≡ None }
+    ensures unchanged { 0 < result → calls.new.value ≡ calls.old.value }
+    ensures untouched { 0 < result → handle.new ≡ handle.old }
+{
+    let Some(mut kept) = take_back(alloc, calls) else {
+        return MISUSE;
+    };
+    let status = key_handle_on(&mut *kept, name, handle);
+    put_back(calls, kept);
+    status
+}
+
+/// Adds the call of a procedure to a list, where they are these and the handles are the list's.
+fn push_named_on(calls: &mut Kept, procedure: &Kept, handles: &[u32], values: &[i64]) -> u32
+    ensures status { (result ≡ DONE) ⊎ (result ≡ NO_MEMORY) ⊎ (result ≡ UNFIT)
+        ⊎ (result ≡ MISUSE) }
+    ensures misuse { (result ≡ MISUSE) ↔ ¬ (OnCalls (Some calls.old)
+        (λ was. Knows was handles.now) × IsProcedure (Some procedure.now)) }
+    ensures done { result ≡ DONE → OnProcedure (Some procedure.now) (λ p.
+        OnCalls (Some calls.old) (λ was.
+        OnCalls (Some calls.new) (λ now.
+        IsPushed p (named_by was handles.now) values.now was now))) }
+    ensures unfit { result ≡ UNFIT → OnProcedure (Some procedure.now) (λ p.
+        OnCalls (Some calls.old) (λ was.
+        ¬ Takes was.calls p (named_by was handles.now) values.now)) }
+    ensures unchanged { 0 < result → calls.new ≡ calls.old }
+{
+    let Kept::Prepared(procedure) = procedure else {
+        return MISUSE;
+    };
+    let Kept::Calls(list) = calls else {
+        return MISUSE;
+    };
+    if !list.knows(handles) {
+        return MISUSE;
+    }
+    match list.push_named(procedure, handles, values) {
+        Ok(()) => DONE,
+        Err(PushFault::NoMemory) => NO_MEMORY,
+        Err(PushFault::NoKey | PushFault::Unfit) => UNFIT,
+    }
+}
+
+/// Adds the call of a procedure with these arguments, whose keys are named by handles of the list.
+#[unsafe(no_mangle)]
+pub extern "C" fn bohm_push_named(
+    alloc: Global,
+    calls: &mut BohmHandle,
+    procedure: &mut BohmHandle,
+    handles: &[u32],
+    values: &[i64],
+) -> u32
+    ensures same { procedure.new.value ≡ procedure.old.value }
+    ensures status { (result ≡ DONE) ⊎ (result ≡ NO_MEMORY) ⊎ (result ≡ UNFIT)
+        ⊎ (result ≡ MISUSE) }
+    ensures misuse { (result ≡ MISUSE) ↔ ¬ (OnCalls calls.old.value
+        (λ was. Knows was handles.now) × IsProcedure procedure.old.value) }
+    ensures done { result ≡ DONE → OnProcedure procedure.old.value (λ p.
+        OnCalls calls.old.value (λ was.
+        OnCalls calls.new.value (λ now.
+        IsPushed p (named_by was handles.now) values.now was now))) }
+    ensures unfit { result ≡ UNFIT → OnProcedure procedure.old.value (λ p.
+        OnCalls calls.old.value (λ was.
+        ¬ Takes was.calls p (named_by was handles.now) values.now)) }
+    ensures unchanged { 0 < result → calls.new.value ≡ calls.old.value }
+{
+    let Some(mut list) = take_back(alloc, calls) else {
+        return MISUSE;
+    };
+    let status = match take_back(alloc, procedure) {
+        Some(prepared) => {
+            let status = push_named_on(&mut *list, &*prepared, handles, values);
+            put_back(procedure, prepared);
+            status
+        }
+        None => MISUSE,
+    };
+    put_back(calls, list);
+    status
+}

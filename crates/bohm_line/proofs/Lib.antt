@@ -1,4 +1,0 @@
-mod Moves
-mod Plans
-mod Sizes
-pub mod ForCallers

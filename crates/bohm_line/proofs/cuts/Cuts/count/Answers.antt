@@ -1,6 +1,0 @@
-use Rattle.std.proofs.Common.{arith}
-use Rattle.bohm_line.proofs.Sizes.{few_batches}
-use Rattle.bohm_line.proofs.cuts.Cuts.count.Goals as goal
-
-pub overflow_cast-result : goal.overflow_cast-result
-overflow_cast-result c = let few = few_batches c.self.inside.sizes.items c.self.invariant.0 in omega (arith, few)

@@ -1,4 +1,0 @@
-pub mod Cuttings
-pub mod CutLogs
-pub mod Lines
-pub mod Planning

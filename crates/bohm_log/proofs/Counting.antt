@@ -1,0 +1,94 @@
+-- How many terms and statements a draft has after a step, and what a failed one leaves.
+use Rattle.std.proofs.Common.{◌≡◌, ℕ, ◌+◌, ◌-◌, ◌≤◌, Bool, List, [], ◌∷◌, ◌++◌, length, take, refl, ap, sym, ◌∙◌, subst, arith, length-append}
+use Rattle.std.proofs.Math.Seq.{take-append-add}
+use Rattle.std.proofs.lemmas.List.Sums.{sum_by-append}
+use Rattle.bohm_types.specs.Term.{Atom}
+use Rattle.bohm_types.specs.Stmt.{Stmt}
+use Rattle.bohm_types.specs.declared.edition.Edition.{Edition}
+use Rattle.bohm_log.specs.declared.row.Action.{Action}
+use Rattle.bohm_log.specs.Parts.{Parts, Begins}
+use Rattle.bohm_log.specs.Drafting.{Drafted, NamesGrow, AddsTerm, AddsRow, with_term, with_stmt, drafted_of, IsDrafted}
+use Rattle.bohm_log.specs.declared.row.Pending.{Pending}
+use Rattle.bohm_log.proofs.Drafts.{names_unseen, Declares}
+use Rattle.bohm_log.specs.Sizes.{stmt_terms, open_terms, terms_in, IsCompact, IsCounted}
+
+-- no term and no statement came
+counted_same : (p q : Parts) (d e : Drafted) → e ≡ d → length q.terms ≡ length p.terms → length q.rows ≡ length p.rows → IsCompact q → IsCounted p d
+    → IsCounted q e
+counted_same p q d e same terms rows compact h = record {
+  terms = terms ∙ h.terms ∙ sym (ap terms_in same);
+  rows = rows ∙ h.rows ∙ sym (ap (λ (x : Drafted). length x.txn.body) same);
+  compact = compact;
+}
+
+-- names that come are unseen
+pub counted_unseen : (e : Edition) (p q : Parts) (o : Pending) → NamesGrow p q → IsCompact q → IsDrafted p o → IsCounted p (drafted_of e p o)
+    → IsCounted q (drafted_of e q o)
+counted_unseen e p q o g compact h counted =
+    counted_same p q (drafted_of e p o) (drafted_of e q o) (names_unseen e p q o g h) (ap length g.terms) (ap length g.rows) compact counted
+
+-- declared keys are no terms
+pub counted_declared : (p q r : Parts) (d e f : Drafted) → e ≡ f → terms_in f ≡ terms_in d → length f.txn.body ≡ length d.txn.body → Declares p r → q ≡ r
+    → IsCompact r → IsCounted p d → IsCounted q e
+counted_declared p q r d e f is terms body same made compact h = subst (λ x. IsCounted x e) (sym made) (record {
+  terms = ap length same.terms ∙ h.terms ∙ sym (ap terms_in is ∙ terms);
+  rows = ap length same.rows ∙ h.rows ∙ sym (ap (λ (x : Drafted). length x.txn.body) is ∙ body);
+  compact = compact;
+})
+
+pub counted_term : (p q : Parts) (d e : Drafted) (minus : Bool) (atom : Atom) → e ≡ with_term d minus atom → AddsTerm p q minus atom → IsCompact q
+    → IsCounted p d → IsCounted q e
+counted_term p q d e minus atom is came compact h = record {
+  terms = omega (arith, ap length came.terms, length-append p.terms (came.term ∷ []), h.terms, ap terms_in is, length-append d.latest ((minus, atom) ∷ []));
+  rows = ap length came.rows ∙ h.rows ∙ sym (ap (λ (x : Drafted). length x.txn.body) is);
+  compact = compact;
+}
+
+pub counted_stmt : (p q : Parts) (d e : Drafted) (s : Stmt) (action : Action) (name : List ℕ) (start first second third : ℕ) → e ≡ with_stmt d s
+    → stmt_terms s ≡ open_terms d → AddsRow p q action name start first second third → IsCompact q → IsCounted p d → IsCounted q e
+counted_stmt p q d e s action name start first second third is all came compact h = record {
+  terms = omega (
+    arith,
+    ap (λ (x : Parts). length x.terms) came.made,
+    ap length came.grows.terms,
+    h.terms,
+    ap terms_in is,
+    sum_by-append stmt_terms d.txn.body (s ∷ []),
+    all,
+  );
+  rows = omega (
+    arith,
+    ap (λ (x : Parts). length x.rows) came.made,
+    ap length came.grows.rows,
+    length-append came.mid.rows
+        (record { action = action; declared = came.declared; name = came.place; start = start; first = first; second = second; third = third } ∷ []),
+    h.rows,
+    ap (λ (x : Drafted). length x.txn.body) is,
+    length-append d.txn.body (s ∷ []),
+  );
+  compact = compact;
+}
+
+-- ---- what a failed step leaves
+
+take_begins : {A : Type 0} (xs ys : List A) (n : ℕ) → Begins xs ys → length xs ≤ n → Begins xs (take n ys)
+take_begins xs ys n b long =
+    let more : n ≡ length xs + (n - length xs) = omega (arith, long) in
+    (take (n - length xs) b.0, ap (take n) b.1 ∙ ap (λ k. take k (xs ++ b.0)) more ∙ take-append-add xs b.0 (n - length xs))
+
+-- all that was there before stays where the lists are cut back to what they may hold
+pub cut_grows : (p m : Parts) (others : List (List ℕ)) (large : List ℕ) (n k : ℕ) → others ≡ take n m.others → large ≡ take k m.large → NamesGrow p m
+    → length p.others ≤ n → length p.large ≤ k
+    → NamesGrow p (record { reads = m.reads; writes = m.writes; others = others; large = large; terms = m.terms; rows = m.rows })
+cut_grows p m others large n k cut_others cut_large g most_others most_large = record {
+  grows = record {
+    reads = g.grows.reads;
+    writes = g.grows.writes;
+    others = subst (Begins p.others) (sym cut_others) (take_begins p.others m.others n g.grows.others most_others);
+    large = subst (Begins p.large) (sym cut_large) (take_begins p.large m.large k g.grows.large most_large);
+    terms = g.grows.terms;
+    rows = g.grows.rows;
+  };
+  terms = g.terms;
+  rows = g.rows;
+}

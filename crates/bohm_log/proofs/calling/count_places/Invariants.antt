@@ -1,5 +1,0 @@
-use Rattle.bohm_log.proofs.Placing.{PlacedUpTo}
-use Rattle.bohm_log.proofs.calling.count_places.Given as goal
-
-abbrev pub invariant-loop-i : goal.invariant-loop-i
-invariant-loop-i l = PlacedUpTo l.keys l.keys l.places.items l.i

@@ -1,0 +1,56 @@
+use Rattle.std.proofs.Common.{◌∙◌, ◌++◌, ℕ, List, refl, ap, length, map, drop}
+use Rattle.std.specs.List.{range_with_len}
+use Rattle.std.proofs.lemmas.List.{length-map}
+use Rattle.std.proofs.lemmas.Result.{err_from_is_err_and}
+use Rattle.bohm_log.specs.Calling.{argument_of, let_large, let_terms, let_rows, term_to, row_to}
+use Rattle.bohm_log.specs.Handles.{keys_named}
+use Rattle.bohm_log.proofs.Growth.{Begins-itself}
+use Rattle.bohm_log.proofs.Widening.{interns_wider, appended, lands_same}
+use Rattle.bohm_log.proofs.columns.Columns.append_call.Goals as goal
+
+pub moves_by-requires-clause-reads : goal.moves_by-requires-clause-reads
+moves_by-requires-clause-reads g c = λ e. c.in_ok-ids.ensures.places.reads.in_order e
+    ∙ ap (range_with_len 0) (length-map c.args.body.now.reads.items (argument_of (keys_named c.args.args.now)))
+
+pub moves_by-requires-clause-writes : goal.moves_by-requires-clause-writes
+moves_by-requires-clause-writes g c = λ e. c.in_ok-ids.ensures.places.writes.in_order e
+    ∙ ap (range_with_len 0) (length-map c.args.body.now.writes.items (argument_of (keys_named c.args.args.now)))
+
+pub returns-in_err-others_from-clause-err : goal.returns-in_err-others_from-clause-err
+returns-in_err-others_from-clause-err g c =
+    let p = err_from_is_err_and c.from_residual-in_err-others_from.result c.from_residual-in_err-others_from.ensures.1 in
+    rw p.1 (interns_wider _ _ _ c.in_ok-ids.ensures.ok.interns refl refl c.in_err-others_from.ensures.begins (Begins-itself _) (Begins-itself _)
+    (Begins-itself _))
+
+pub returns-in_err-large_from-clause-err : goal.returns-in_err-large_from-clause-err
+returns-in_err-large_from-clause-err g c =
+    let p = err_from_is_err_and c.from_residual-in_err-large_from.result c.from_residual-in_err-large_from.ensures.1 in
+    rw p.1 (interns_wider _ _ _ c.in_ok-ids.ensures.ok.interns refl refl c.in_ok-others_from.ensures.begins c.in_err-large_from.ensures.begins
+    (Begins-itself _) (Begins-itself _))
+
+pub returns-in_err-terms_from-clause-err : goal.returns-in_err-terms_from-clause-err
+returns-in_err-terms_from-clause-err g c =
+    let p = err_from_is_err_and c.from_residual-in_err-terms_from.result c.from_residual-in_err-terms_from.ensures.1 in
+    rw p.1 (interns_wider _ _ _ c.in_ok-ids.ensures.ok.interns refl refl c.in_ok-others_from.ensures.begins c.in_ok-large_from.ensures.begins
+    c.in_err-terms_from.ensures.begins (Begins-itself _))
+
+pub returns-in_err-rows_from-clause-err : goal.returns-in_err-rows_from-clause-err
+returns-in_err-rows_from-clause-err g c =
+    let p = err_from_is_err_and c.from_residual-in_err-rows_from.result c.from_residual-in_err-rows_from.ensures.1 in
+    rw p.1 (interns_wider _ _ _ c.in_ok-ids.ensures.ok.interns refl refl c.in_ok-others_from.ensures.begins c.in_ok-large_from.ensures.begins
+    c.in_ok-terms_from.ensures.begins c.in_err-rows_from.ensures.begins)
+
+pub returns-clause-ok : goal.returns-clause-ok
+returns-clause-ok g c =
+    let body = c.args.body.now in
+    let locals = c.args.locals.now in
+    let vs = c.args.values.now in
+    let m = c.moves_by.ensures in
+    appended _ _ _ _ _ _ c.in_ok-ids.ensures.ok refl refl refl c.in_ok-others_from.ensures.begins c.in_ok-large_from.ensures.begins
+    c.in_ok-terms_from.ensures.begins c.in_ok-rows_from.ensures.begins
+    (lands_same _ _ _ _ _ c.as_slice.ensures.value c.in_ok-others_from.ensures.ok)
+    (lands_same _ _ _ _ _ (ap (λ (xs : List ℕ). xs ++ let_large vs) c.as_slice-2.ensures.value) c.in_ok-large_from.ensures.ok)
+    (lands_same _ _ _ _ _ (ap (λ (ps : List ℕ). map (term_to ps) body.terms.items ++ let_terms (length body.large.items) vs) m.reads)
+    c.in_ok-terms_from.ensures.ok)
+    (lands_same _ _ _ _ _ (λ j. let_rows (length body.terms.items) locals vs ++ map (row_to (m.reads j) (m.writes j)) (drop (length locals) body.rows.items))
+    c.in_ok-rows_from.ensures.ok)

@@ -1,0 +1,238 @@
+//! Adds calls to the columns.
+
+ghost use Rattle.std.specs.Prelude.{◌≡◌, ◌≤◌, [], ◌∷◌, IfOk, OnOk, OnErr, true, length, map};
+ghost use Rattle.bohm_types.specs.KeySets.{key_set};
+ghost use Rattle.bohm_log.specs.Calling.{argument_of, Stays};
+ghost use Rattle.bohm_log.specs.CallPlaces.{HasPlaces, HasSets, IsMove, parts_called, written};
+ghost use Rattle.bohm_log.specs.Columns.{shared_of, Appends, Interns, NumbersCome};
+ghost use Rattle.bohm_log.specs.Columns.{NumbersEnd, SetsCome};
+ghost use Rattle.bohm_log.specs.Handles.{keys_named};
+ghost use Rattle.std.specs.List.{range_with_len};
+ghost use Rattle.bohm_types.specs.Limits.{most_keys};
+
+use crate::call_places::{CallPlaces, Moves, SetPlaces};
+use crate::calling::{add_large, add_rows, add_terms, handle_of};
+use crate::columns::{Columns, add_all, number_of, offset, repeat_end};
+use crate::fault::LogFault;
+use crate::key_handle::KeyHandle;
+use crate::table::Head;
+use crate::template::{BodyColumns, DeclaredName};
+use bohm_types::{Edition, Key, Value};
+use std::hash::BuildHasher;
+
+/// Where a body's keys move, by their places in the sets of a call.
+fn moves_by<'a>(body: &BodyColumns, places: &'a CallPlaces) -> Moves<'a>
+    requires reads { places.now.reads.in_order ≡ true
+        → places.now.reads.places.items ≡ range_with_len 0 (length body.now.reads.items) }
+    requires writes { (written body.now places.now).in_order ≡ true
+        → (written body.now places.now).places.items
+        ≡ range_with_len 0 (length body.now.writes.items) }
+    requires stays { body.now.stays ≡ true → Stays body.now
+        (range_with_len 0 (length body.now.reads.items))
+        (range_with_len 0 (length body.now.writes.items)) }
+    ensures reads { result.reads.now ≡ places.now.reads.places.items }
+    ensures writes { result.writes.now ≡ (written body.now places.now).places.items }
+    ensures moved { IsMove body.now result }
+{
+    let writes = if body.same_sets {
+        &places.reads
+    } else {
+        &places.writes
+    };
+    Moves {
+        reads: places.reads.places.as_slice(),
+        writes: writes.places.as_slice(),
+        stays: body.stays && places.reads.in_order && writes.in_order,
+    }
+}
+
+impl<S: BuildHasher + Drop> Columns<S> {
+    /// The handles of keys, with the numbers that were noted last for their hashes.
+    pub fn fill_handles(&self, handles: &mut Vec<KeyHandle>, keys: &[Key]) -> Result<(), LogFault>
+        ensures { OnOk result (keys_named handles.new.items ≡ keys.now) }
+    {
+        handles.clear();
+        for key in keys {
+            handles.push(KeyHandle {
+                key: *key,
+                number: self.hints.noted(key),
+            })?;
+        }
+        Ok(())
+    }
+
+    /// The handle of a key, which is numbered if it is new.
+    pub fn handle(&mut self, key: &Key) -> Result<KeyHandle, LogFault>
+        ensures key { IfOk result (λ h. h.key ≡ key.now) }
+        ensures interns { Interns (shared_of self.old) (shared_of self.new) }
+    {
+        let hint = self.hints.noted(key);
+        let number = number_of(&mut self.names, &mut self.hints, key, hint)?;
+        Ok(KeyHandle { key: *key, number })
+    }
+
+    /// Adds the number of the key that a declared name stands for.
+    #[inline(always)]
+    fn add_argument(&mut self, name: &DeclaredName, args: &[KeyHandle]) -> Result<(), LogFault>
+        ensures ok { OnOk result
+            (NumbersCome (shared_of self.old) (shared_of self.new)
+            (argument_of (keys_named args.now) name.now ∷ [])) }
+        ensures err { OnErr result (Interns (shared_of self.old) (shared_of self.new)) }
+    {
+        match handle_of(name, args) {
+            Some(handle) => self.add_name(&handle.key, handle.number),
+            None => {
+                let hint = self.hints.noted(&name.name);
+                self.add_name(&name.name, hint)
+            }
+        }
+    }
+
+    /// Adds the numbers of the keys that declared names stand for, in their order.
+    #[tactic(auto, using(crate::proofs::Widening::numbered_each))]
+    fn add_arguments(&mut self, names: &[DeclaredName], args: &[KeyHandle]) -> Result<(), LogFault>
+        ensures ok { OnOk result
+            (NumbersCome (shared_of self.old) (shared_of self.new)
+            (map (argument_of (keys_named args.now)) names.now)) }
+        ensures err { OnErr result (Interns (shared_of self.old) (shared_of self.new)) }
+    {
+        for name in names {
+            self.add_argument(name, args)?;
+        }
+        Ok(())
+    }
+
+    /// Adds the numbers of the set of the keys that declared names stand for, and finds the keys'
+    /// places in it. Keys that rise are numbered where they stay.
+    #[tactic(auto, using(crate::proofs::Widening::come_longer))]
+    fn add_set(
+        &mut self,
+        places: &mut SetPlaces,
+        names: &[DeclaredName],
+        args: &[KeyHandle],
+    ) -> Result<(), LogFault>
+        requires { length names.now ≤ most_keys }
+        ensures ok { OnOk result
+            (NumbersCome (shared_of self.old) (shared_of self.new)
+            (key_set (map (argument_of (keys_named args.now)) names.now))) }
+        ensures places { OnOk result
+            (HasPlaces (map (argument_of (keys_named args.now)) names.now) places.new) }
+        ensures err { OnErr result (Interns (shared_of self.old) (shared_of self.new)) }
+    {
+        let start = self.ids.len();
+        self.add_arguments(names, args)?;
+        places.settle(self.names.as_slice(), &self.ids.as_slice()[start..])?;
+        if places.in_order {
+            return Ok(());
+        }
+        self.ids.truncate(start);
+        self.ids.extend_from_slice(places.numbers.as_slice())?;
+        Ok(())
+    }
+
+    /// Adds the numbers of the set of the keys that are written, and finds the keys' places in it.
+    /// Where the same keys are read, whose numbers stand from `start` on up to the end, these come
+    /// once more.
+    fn add_written_set(
+        &mut self,
+        start: usize,
+        places: &mut CallPlaces,
+        body: &BodyColumns,
+        args: &[KeyHandle],
+    ) -> Result<(), LogFault>
+        requires writes { length body.now.writes.items ≤ most_keys }
+        requires alike { body.now.same_sets ≡ true → body.now.reads.items ≡ body.now.writes.items }
+        requires end { NumbersEnd (shared_of self.old) start
+            (key_set (map (argument_of (keys_named args.now)) body.now.reads.items)) }
+        requires reads { HasPlaces
+            (map (argument_of (keys_named args.now)) body.now.reads.items) places.old.reads }
+        ensures ok { OnOk result
+            (NumbersCome (shared_of self.old) (shared_of self.new)
+            (key_set (map (argument_of (keys_named args.now)) body.now.writes.items))) }
+        ensures writes { OnOk result
+            (HasPlaces (map (argument_of (keys_named args.now)) body.now.writes.items)
+            (written body.now places.new)) }
+        ensures reads { places.new.reads ≡ places.old.reads }
+        ensures err { OnErr result (Interns (shared_of self.old) (shared_of self.new)) }
+    {
+        if body.same_sets {
+            repeat_end(&mut self.ids, start)?;
+            return Ok(());
+        }
+        self.add_set(&mut places.writes, body.writes.as_slice(), args)
+    }
+
+    /// Adds the numbers of a call's sets, and finds its keys' places in them. What a procedure
+    /// reads and writes in the same order is looked up once. The three offsets are where the reads
+    /// begin, where the writes begin and where they end.
+    fn add_call_sets(
+        &mut self,
+        places: &mut CallPlaces,
+        body: &BodyColumns,
+        args: &[KeyHandle],
+    ) -> Result<(u32, u32, u32), LogFault>
+        requires reads { length body.now.reads.items ≤ most_keys }
+        requires writes { length body.now.writes.items ≤ most_keys }
+        requires alike { body.now.same_sets ≡ true → body.now.reads.items ≡ body.now.writes.items }
+        ensures ok { IfOk result
+            (λ r. SetsCome (shared_of self.old) (shared_of self.new) r.0 r.1 r.2
+            (key_set (map (argument_of (keys_named args.now)) body.now.reads.items))
+            (key_set (map (argument_of (keys_named args.now)) body.now.writes.items))) }
+        ensures places { OnOk result (HasSets (keys_named args.now) body.now places.new) }
+        ensures err { OnErr result (Interns (shared_of self.old) (shared_of self.new)) }
+    {
+        let start = offset(self.ids.len())?;
+        self.add_set(&mut places.reads, body.reads.as_slice(), args)?;
+        let middle = offset(self.ids.len())?;
+        self.add_written_set(start as usize, places, body, args)?;
+        let end = offset(self.ids.len())?;
+        Ok((start, middle, end))
+    }
+
+    /// Adds what a call makes of a body, whose values' names have these places. No part of it is
+    /// copied but into the columns.
+    pub fn append_call(
+        &mut self,
+        edition: Edition,
+        body: &BodyColumns,
+        locals: &[u32],
+        places: &mut CallPlaces,
+        args: &[KeyHandle],
+        values: &[Value],
+    ) -> Result<Head, LogFault>
+        requires reads { length body.now.reads.items ≤ most_keys }
+        requires writes { length body.now.writes.items ≤ most_keys }
+        requires alike { body.now.same_sets ≡ true → body.now.reads.items ≡ body.now.writes.items }
+        requires stays { body.now.stays ≡ true → Stays body.now
+            (range_with_len 0 (length body.now.reads.items))
+            (range_with_len 0 (length body.now.writes.items)) }
+        requires lets { length locals.now ≤ length body.now.rows.items }
+        requires values { length values.now ≡ length locals.now }
+        ensures ok { IfOk result
+            (λ h. Appends (shared_of self.old) (shared_of self.new) h edition
+            (parts_called (keys_named args.now) body.now locals.now values.now places.new)) }
+        ensures places { OnOk result (HasSets (keys_named args.now) body.now places.new) }
+        ensures err { OnErr result (Interns (shared_of self.old) (shared_of self.new)) }
+    {
+        let (ids, reads_end, writes_end) = self.add_call_sets(places, body, args)?;
+        let moves = &moves_by(body, places);
+        let (others_from, others_end) = add_all(&mut self.others, body.others.as_slice())?;
+        let (large_from, large_end) = add_large(&mut self.large, body.large.as_slice(), values)?;
+        let (terms_from, terms_end) = add_terms(&mut self.terms, body, moves, values)?;
+        let (rows_from, rows_end) = add_rows(&mut self.rows, body, moves, locals, values)?;
+        Ok(Head {
+            edition,
+            ids,
+            reads: reads_end,
+            writes: writes_end,
+            others: others_from,
+            others_end,
+            large: large_from,
+            large_end,
+            terms: terms_from,
+            terms_end,
+            rows: rows_from,
+            rows_end,
+        })
+    }
+}

@@ -1,0 +1,31 @@
+use Rattle.std.proofs.Common.{◌≡◌, ◌+◌, ◌<◌, ◌∷◌, [], length, length-append, ap, sym, ◌∙◌, subst, arith, ℕ}
+use Rattle.std.proofs.lemmas.List.Elements.{All-weaker}
+use Rattle.bohm_place.specs.declared.placeholder.Placeholder.{Placeholder}
+use Rattle.bohm_place.specs.Plans.{Planned}
+use Rattle.bohm_place.specs.CutLogs.{cutting_of}
+use Rattle.bohm_place.specs.Cuttings.{IsPlanAt}
+use Rattle.bohm_place.proofs.Plans.{plan_more}
+use Rattle.bohm_place.proofs.log_plan.plan_batches.Goals as goal
+
+pub loop-place-preserved : goal.loop-place-preserved
+loop-place-preserved c =
+    let was = c.loop-place.invariant in
+    let log = cutting_of c.args.log in
+    let plans = c.loop-place.plans.items in
+    let q = c.in_ok-gather_keys.field-0 in
+    let made = c.in_ok-gather_keys.ensures in
+    let txns = c.batch-txns.ensures in
+    let here : IsPlanAt log c.loop-place.place q = record {
+      first = omega (arith, made.sources.first, c.in_ok-next.ensures.planned.first, c.first.ensures, was.start);
+      right = rw (sym txns.txns) made.right;
+      keys = λ some. rw (sym txns.txns) made.keys;
+    } in
+    let last : IsPlanAt log (length plans) q = rw was.count here in
+    record {
+      start = omega (arith, c.len.ensures, txns.ahead);
+      count = omega (arith, ap length c.in_ok-push.ensures.items, length-append plans (q ∷ []), was.count);
+      each = rw c.in_ok-push.ensures.items (plan_more (IsPlanAt log) plans q was.each last);
+      earlier = All-weaker (λ (v : Placeholder). v.begin < (c.first.result + c.loop-place.start) + length c.batch-txns.result)
+          (λ (v : Placeholder). v.begin < log.first + (c.loop-place.start + c.len.result))
+          (λ v lt. omega (arith, lt, c.first.ensures, c.len.ensures)) c.in_ok-next.next c.in_ok-next.ensures.below;
+    }

@@ -1,0 +1,37 @@
+//! The plans of all batches of a log.
+
+ghost use Rattle.std.specs.Prelude.{◌<◌, IfOk};
+ghost use Rattle.bohm_place.specs.CutLogs.{cutting_of};
+ghost use Rattle.bohm_place.specs.Cuttings.{ArePlans};
+
+use crate::batch_keys::BatchKeys;
+use crate::cut_log::CutLog;
+use crate::newest::Newest;
+use crate::planned::Plan;
+use crate::single_threaded::plan_alone;
+use bohm_types::NoMemory;
+use std::alloc::Global;
+
+/// Plans the batches of a log on the caller's thread: the plans, with their keys, in the order of
+/// the batches. They depend only on the log, its first timestamp and its batches, and not on what a
+/// history holds.
+///
+/// The time grows with the number of keys that the transactions declare; the memory with that, and
+/// with the number of the log's keys.
+pub fn plan_batches(alloc: Global, log: CutLog<'_>) -> Result<Vec<Plan>, NoMemory>
+    requires position { 0 < (cutting_of log).first }
+    ensures plans { IfOk result (λ v. ArePlans (cutting_of log.entry) v.items) }
+{
+    let mut plans = Vec::with_capacity(alloc, log.batches() as usize)?;
+    let mut start = 0usize;
+    let mut newest = Newest::new(alloc);
+    let mut gathered = BatchKeys::new(alloc);
+    for place in 0..log.batches() {
+        let txns = log.batch(place, start);
+        let (next, plan) = plan_alone(alloc, newest, log.first() + start as u32, &txns)?;
+        newest = next;
+        plans.push(plan.gather_keys(alloc, &txns, &mut gathered)?)?;
+        start += txns.len();
+    }
+    Ok(plans)
+}

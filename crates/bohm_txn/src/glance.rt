@@ -1,0 +1,76 @@
+//! Statements that a glance shows to have no fault: most of a log's are such.
+
+ghost use Rattle.std.specs.Prelude.{◌≡◌, ◌≤◌, List, None, true, length};
+ghost use Rattle.std.specs.List.{list_all};
+ghost use Rattle.bohm_types.specs.Stmt.{Stmt};
+ghost use Rattle.bohm_types.specs.declared.edition.Edition.{Edition};
+ghost use Rattle.bohm_log.specs.Parts.{RowIn, stmt_of, txn_of};
+ghost use Rattle.bohm_txn.specs.Faulty.{stmt_faulty};
+ghost use Rattle.bohm_txn.specs.FirstFault.{least};
+ghost use Rattle.bohm_txn.specs.Rows.{has_short_sums, is_placed, is_plain_row, needs_no_name};
+ghost use Rattle.bohm_types.specs.Limits.{most_keys};
+
+use bohm_log::{Action, AtomKind, IndexedTxn, StmtRow, TermRow};
+use bohm_types::MOST_TERMS;
+
+/// Whether a term is a literal or a declared read.
+fn needs_no_name(term: &TermRow) -> bool
+    ensures { result ≡ needs_no_name term.now.kind }
+{
+    matches!(
+        term.kind,
+        AtomKind::Small | AtomKind::Large | AtomKind::Read
+    )
+}
+
+fn need_no_names(terms: &[TermRow]) -> bool
+    ensures { result ≡ list_all (λ t. needs_no_name t.kind) terms.now }
+{
+    terms.iter().all(|term| needs_no_name(term))
+}
+
+/// Whether a statement binds no local, and its key, if it has one, is declared.
+fn is_placed(row: &StmtRow) -> bool
+    ensures { result ≡ is_placed row.now.action row.now.declared }
+{
+    match row.action {
+        Action::Bind => false,
+        Action::Need(_) | Action::Show | Action::Fail => true,
+        Action::Has | Action::Lacks | Action::Put | Action::PutWhen(_) | Action::Remove => {
+            row.declared
+        }
+    }
+}
+
+/// Whether no sum is too long. A sum that a statement of this kind lacks is empty.
+fn has_short_sums(row: &StmtRow) -> bool
+    requires first { row.now.start ≤ row.now.first }
+    requires second { row.now.first ≤ row.now.second }
+    requires third { row.now.second ≤ row.now.third }
+    ensures { result ≡ has_short_sums row.now }
+{
+    row.first - row.start <= MOST_TERMS
+        && row.second - row.first <= MOST_TERMS
+        && row.third - row.second <= MOST_TERMS
+}
+
+fn is_plain_row(row: &StmtRow) -> bool
+    requires first { row.now.start ≤ row.now.first }
+    requires second { row.now.first ≤ row.now.second }
+    requires third { row.now.second ≤ row.now.third }
+    ensures { result ≡ is_plain_row row.now }
+{
+    is_placed(row) && has_short_sums(row)
+}
+
+/// Whether the statement has no fault whatever stands before it, by what its row and terms alone
+/// show.
+pub fn is_plain(txn: &IndexedTxn<'_>, row: &StmtRow) -> bool
+    requires reads { length txn.now.reads ≤ most_keys }
+    requires writes { length txn.now.writes ≤ most_keys }
+    requires row { RowIn txn.now row.now }
+    ensures { result ≡ true → (e : Edition) → (before : List Stmt)
+        → least (stmt_faulty (txn_of e txn.now) before (stmt_of txn.now row.now)) ≡ None }
+{
+    is_plain_row(row) && need_no_names(txn.terms(row.start, row.third))
+}

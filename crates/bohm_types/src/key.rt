@@ -1,0 +1,237 @@
+//! Keys and names of locals.
+
+ghost use Rattle.std.specs.Prelude.{◌≡◌, ◌<◌, ◌≤◌, Some, IfSome, true, length, nat_eq};
+ghost use Rattle.std.specs.Ordering.{nat_cmp};
+ghost use Rattle.std.specs.Cmp.{partial_equiv_from_equiv};
+ghost use Rattle.std.specs.Cmp.Lexicographic.{pointwise, slice_cmp, nat_list_eq_equiv};
+ghost use Rattle.std.specs.Cmp.Lexicographic.{nat_list_cmp_total, texts_ties, texts_po};
+ghost use Rattle.std.proofs.Common.{refl};
+ghost use Rattle.std.specs.List.{list_all};
+ghost use Rattle.std.specs.Str.{bytes_eq};
+ghost use Rattle.bohm_types.specs.Name.{key_of, is_name, is_name_byte};
+ghost use Rattle.std.specs.Int.{w64, from_be_bytes};
+ghost use Rattle.bohm_types.specs.Words.{padded, words_of};
+ghost use Rattle.bohm_types.specs.Keys.{place};
+
+use crate::packing::{mixed, short_hash_at, size_of, spread, words_of, zeros_behind};
+use std::cmp::Ordering;
+use std::hash::{Hash, Hasher};
+use std::marker::Model;
+
+/// A name of 1 to 32 bytes: a lower-case letter, then lower-case letters, digits and underscores.
+/// It is stored in four words, most significant byte first, padded with zeros, so names are ordered
+/// as their words are.
+#[derive(Clone, Copy, Debug)]
+pub struct Key {
+    words: [u64; 4],
+}
+
+impl Model for Key {
+    ghost use Rattle.std.specs.Prelude.{ℕ, List};
+
+    ghost Value = { List ℕ };
+
+    ghost use Rattle.bohm_types.specs.KeyInside.{name_of, IsWorded, worded, worded_ok};
+
+    ghost view = { name_of };
+
+    ghost invariant = { IsWorded };
+
+    ghost inverse = { worded };
+
+    ghost inverse_ok = { worded_ok };
+}
+
+/// For each byte itself, if a name may have it, and else another one, `_`.
+const NAME_BYTES: [u8; 256] = *b"\
+    ________________________________________________0123456789______\
+    _________________________________abcdefghijklmnopqrstuvwxyz_____\
+    ________________________________________________________________\
+    ________________________________________________________________";
+
+#[tactic(auto, using(crate::proofs::NameBytes::in_table))]
+fn is_name_byte(byte: u8) -> bool
+    ensures { result ≡ is_name_byte byte }
+{
+    NAME_BYTES[byte as usize] == byte
+}
+
+fn are_name_bytes(bytes: &[u8]) -> bool
+    ensures { result ≡ list_all is_name_byte bytes.now }
+{
+    bytes.iter().all(|byte| is_name_byte(*byte))
+}
+
+#[inline(always)]
+fn is_name(name: &[u8]) -> bool
+    ensures { result ≡ is_name name.now }
+{
+    match name {
+        [] => false,
+        [first, others @ ..] => {
+            others.len() <= 31 && first.is_ascii_lowercase() && are_name_bytes(others)
+        }
+    }
+}
+
+/// The bytes of a name, in a buffer.
+#[derive(Debug, Drop)]
+pub struct KeyText {
+    bytes: [u8; 32],
+    size: usize,
+}
+
+impl Model for KeyText {
+    ghost use Rattle.std.specs.Prelude.{◌≤◌, ℕ, List, take};
+
+    ghost Value = { List ℕ };
+
+    ghost view = { λ t. take t.size t.bytes };
+
+    ghost invariant = { λ t. t.size ≤ 32 };
+}
+
+impl KeyText {
+    /// The name itself.
+    pub fn as_slice(&self) -> &[u8]
+        ensures name { result.now ≡ self.now }
+        ensures short { length result.now ≤ 32 }
+    {
+        &self.bytes[..self.size]
+    }
+}
+
+impl Key {
+    /// The key of this name, if it is one.
+    #[inline(always)]
+    #[tactic(auto, using(crate::proofs::Words::new_name))]
+    pub fn new(name: &[u8]) -> Option<Key>
+        ensures { result ≡ key_of name.now }
+    {
+        if !is_name(name) {
+            return None;
+        }
+        Some(Key {
+            words: words_of(name),
+        })
+    }
+
+    /// Its bytes. They are those of a name.
+    #[tactic(auto, unfolding(crate::specs::KeyInside::name_of))]
+    pub fn text(&self) -> KeyText
+        ensures same { result ≡ self.now }
+        ensures name { is_name result ≡ true }
+    {
+        KeyText {
+            bytes: spread(&self.words),
+            size: size_of(&self.words),
+        }
+    }
+
+    /// A law: its bytes are those of a name. It takes no time.
+    #[inline(always)]
+    pub fn has_name(&self)
+        ensures { is_name self.now ≡ true }
+    {
+        let _ = &self.words;
+    }
+
+    /// Whether a word that was packed into these words is its name. No `Key` is made of it.
+    #[inline(always)]
+    pub(crate) fn is_packed(&self, word: &[u8], words: &[u64; 4]) -> bool
+        requires { words.now ≡ words_of word.now }
+        ensures same { result ≡ bytes_eq self.now word.now }
+        ensures name { result ≡ true → is_name word.now ≡ true }
+    {
+        self.words == *words && word.len() == size_of(&self.words)
+    }
+
+    /// Whether a word of at most 7 bytes, packed into one word, is its name. A longer name has no 0
+    /// at the end of its first word, so the other words aren't compared.
+    #[inline(always)]
+    pub(crate) fn is_short(&self, word: &[u8], packed: u64) -> bool
+        requires short { length word.now ≤ 7 }
+        requires packed { packed ≡ from_be_bytes w64 (padded 8 word.now) }
+        ensures same { result ≡ bytes_eq self.now word.now }
+        ensures name { result ≡ true → is_name word.now ≡ true }
+    {
+        self.words[0] == packed && word.len() == 8 - zeros_behind(packed)
+    }
+
+    /// A number below 256, equal for equal keys.
+    #[inline(always)]
+    pub(crate) fn short_hash(&self) -> usize
+        ensures { result < 256 }
+    {
+        short_hash_at(&self.words)
+    }
+
+    /// A number that equal keys share, and that others seldom have. Its upper bits differ most. An
+    /// author of keys can choose some that share it: it is for hints alone.
+    #[inline(always)]
+    pub fn mixed(&self) -> u64 {
+        mixed(&self.words)
+    }
+
+    /// Its first place among these, if it is one of them. The time grows with their number.
+    pub fn place_among(&self, keys: &[Key]) -> Option<usize>
+        ensures place { result ≡ place keys.now self.now }
+        ensures inside { IfSome result (λ i. i < length keys.now) }
+    {
+        keys.iter().position(|key| *key == *self)
+    }
+}
+
+impl PartialEq for Key {
+    ghost eq = { pointwise nat_eq };
+
+    ghost laws = { partial_equiv_from_equiv nat_list_eq_equiv };
+
+    fn eq(&self, other: &Key) -> bool {
+        self.words == other.words
+    }
+}
+
+impl Eq for Key {
+    ghost laws = { nat_list_eq_equiv };
+}
+
+impl PartialOrd for Key {
+    ghost partial_cmp = { λ x y. Some (slice_cmp nat_cmp x y) };
+
+    ghost laws = { texts_po };
+
+    fn partial_cmp(&self, other: &Key) -> Option<Ordering> {
+        Some(self.cmp(other))
+    }
+}
+
+/// Bytewise, a shorter key before its extensions.
+impl Ord for Key {
+    ghost cmp = { slice_cmp nat_cmp };
+
+    ghost total = { nat_list_cmp_total };
+
+    ghost matches_partial_cmp = { λ x y. refl };
+
+    ghost matches_eq = { texts_ties };
+
+    fn cmp(&self, other: &Key) -> Ordering {
+        self.words.cmp(&other.words)
+    }
+}
+
+/// As one write of its name.
+impl Hash for Key {
+    ghost use Rattle.std.specs.Prelude.{[], ◌∷◌};
+    ghost use Rattle.std.specs.Hash.{same_Alike};
+    ghost use Rattle.std.proofs.lemmas.Slice.Eq.{bytes_eq-Decides};
+
+    ghost hash_input = { λ k. k ∷ [] };
+
+    ghost respects_eq = { (same_Alike (λ k. k ∷ []) bytes_eq-Decides).fed };
+
+    fn hash<H: Hasher>(&self, state: &mut H) {
+        state.write(self.text().as_slice());
+    }
+}

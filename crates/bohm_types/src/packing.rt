@@ -1,0 +1,135 @@
+//! A name as four words.
+
+ghost use Rattle.std.specs.Prelude.{◌≡◌, ◌<◌, ◌≤◌, ◌/◌, List, ℕ, true, length, drop};
+ghost use Rattle.std.specs.Int.{w64, from_be_bytes, trailing_zeros};
+ghost use Rattle.bohm_types.specs.Name.{is_name};
+ghost use Rattle.bohm_types.specs.Words.{padded, words_of, spread};
+
+/// The word of the first 8 bytes, padded with zeros. No buffer is filled with them, since most
+/// names are short.
+#[inline(always)]
+pub(crate) fn first_word(bytes: &[u8]) -> u64
+    ensures { result ≡ from_be_bytes w64 (padded 8 bytes.now) }
+{
+    match bytes {
+        [] => 0,
+        [a] => u64::from_be_bytes([*a, 0, 0, 0, 0, 0, 0, 0]),
+        [a, b] => u64::from_be_bytes([*a, *b, 0, 0, 0, 0, 0, 0]),
+        [a, b, c] => u64::from_be_bytes([*a, *b, *c, 0, 0, 0, 0, 0]),
+        [a, b, c, d] => u64::from_be_bytes([*a, *b, *c, *d, 0, 0, 0, 0]),
+        [a, b, c, d, e] => u64::from_be_bytes([*a, *b, *c, *d, *e, 0, 0, 0]),
+        [a, b, c, d, e, f] => u64::from_be_bytes([*a, *b, *c, *d, *e, *f, 0, 0]),
+        [a, b, c, d, e, f, g] => u64::from_be_bytes([*a, *b, *c, *d, *e, *f, *g, 0]),
+        [a, b, c, d, e, f, g, h, ..] => { u64::from_be_bytes([*a, *b, *c, *d, *e, *f, *g, *h]) }
+    }
+}
+
+/// The bytes after the first 8.
+fn behind(bytes: &[u8]) -> &[u8]
+    ensures { result.now ≡ drop 8 bytes.now }
+{
+    if bytes.len() <= 8 { &[] } else { &bytes[8..] }
+}
+
+/// `first_word` of a name's word if it has several. Few have, so it isn't inlined.
+#[inline(never)]
+fn further_word(bytes: &[u8]) -> u64
+    ensures { result ≡ from_be_bytes w64 (padded 8 bytes.now) }
+{
+    first_word(bytes)
+}
+
+/// The words of a name of more than 8 bytes. They are returned one by one, so that short names
+/// don't go through memory.
+#[inline(always)]
+fn long_words_of(name: &[u8]) -> [u64; 4]
+    ensures { result ≡ words_of name.now }
+{
+    let second = behind(name);
+    let third = behind(second);
+    let fourth = behind(third);
+    [
+        further_word(name),
+        further_word(second),
+        further_word(third),
+        further_word(fourth),
+    ]
+}
+
+/// The words of a name. Most names have one.
+#[inline(always)]
+#[tactic(auto, using(crate::proofs::Words::one_word))]
+pub(crate) fn words_of(name: &[u8]) -> [u64; 4]
+    ensures { result ≡ words_of name.now }
+{
+    if name.len() > 8 {
+        return long_words_of(name);
+    }
+    [first_word(name), 0, 0, 0]
+}
+
+/// The bytes of four words.
+pub(crate) fn spread(words: &[u64; 4]) -> [u8; 32]
+    ensures { result ≡ spread words.now }
+{
+    let mut bytes = [0; 32];
+    bytes[..8].copy_from_slice(&words[0].to_be_bytes());
+    bytes[8..16].copy_from_slice(&words[1].to_be_bytes());
+    bytes[16..24].copy_from_slice(&words[2].to_be_bytes());
+    bytes[24..].copy_from_slice(&words[3].to_be_bytes());
+    bytes
+}
+
+/// How many zero bytes a word ends with.
+#[inline(always)]
+pub(crate) fn zeros_behind(word: u64) -> usize
+    ensures { result ≡ trailing_zeros w64 word / 8 }
+{
+    (word.trailing_zeros() / 8) as usize
+}
+
+/// The length of the name in four words, which ends before the padding zeros.
+#[inline(always)]
+pub(crate) fn size_of(words: &[u64; 4]) -> usize
+    ensures short { result ≤ 32 }
+    ensures size { (name : List ℕ) → is_name name ≡ true → words.now ≡ words_of name
+        → result ≡ length name }
+{
+    if words[3] != 0 {
+        return 32 - zeros_behind(words[3]);
+    }
+    if words[2] != 0 {
+        return 24 - zeros_behind(words[2]);
+    }
+    if words[1] != 0 {
+        return 16 - zeros_behind(words[1]);
+    }
+    8 - zeros_behind(words[0])
+}
+
+/// A number below 256 for these words.
+#[inline(always)]
+pub(crate) fn short_hash_at(words: &[u64; 4]) -> usize
+    ensures { result < 256 }
+{
+    (mixed(words) >> 56) as usize
+}
+
+/// A number below 256 for a name of one word.
+#[inline(always)]
+pub(crate) fn short_hash_of(word: u64) -> usize
+    ensures { result < 256 }
+{
+    (mixed_word(word) >> 56) as usize
+}
+
+/// A number for these words, of which the upper bits depend on all of theirs.
+#[inline(always)]
+pub(crate) fn mixed(words: &[u64; 4]) -> u64 {
+    mixed_word(words[0] ^ words[1] ^ words[2] ^ words[3])
+}
+
+#[inline(always)]
+fn mixed_word(word: u64) -> u64 {
+    word.wrapping_mul(0x9e37_79b9_7f4a_7c15)
+}
