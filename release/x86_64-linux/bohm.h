@@ -22,7 +22,7 @@
 
 /* The version, and the checksum of the sources that the library is built from. */
 #define BOHM_VERSION "0.1.0"
-#define BOHM_SOURCES "2134195de387b86d30ddf34d7d2840c0c72060a0a4853280dffc0bec1d9145f3"
+#define BOHM_SOURCES "3ebc7d5870b1738ba1edaf9c38e64a402d5b55aedbd203f0ae28a64604108812"
 
 /* The same, of the library that the program is linked with. */
 extern const char bohm_version[16], bohm_sources[65];
@@ -221,8 +221,9 @@ uint32_t bohm_push(bohm_calls *calls, const bohm_procedure *procedure, const boh
  * are no key's; or BOHM_NO_MEMORY, also at 2^32 handles. But for the first *handle stays as it was. */
 uint32_t bohm_key_handle(bohm_calls *calls, const uint8_t *key, size_t len, uint32_t *handle);
 
-/* Adds a call as bohm_push does, whose keys are named by handles of the list. It looks no key up that has been in one of
- * the list's calls. BOHM_DONE, BOHM_UNFIT or BOHM_NO_MEMORY; or BOHM_MISUSE if a handle isn't the list's. */
+/* Adds a call as bohm_push does, whose keys are named by handles of the list. It looks up no key whose number
+ * the list has kept since the handle was made. BOHM_DONE, BOHM_UNFIT or BOHM_NO_MEMORY; or BOHM_MISUSE if a handle isn't
+ * the list's. */
 uint32_t bohm_push_named(bohm_calls *calls, const bohm_procedure *procedure, const uint32_t *handles, size_t handle_count,
                          const int64_t *values, size_t value_count);
 

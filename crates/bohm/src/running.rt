@@ -1,8 +1,9 @@
 //! A whole run by settings.
 
-ghost use Rattle.std.specs.Prelude.{IfOk, ◌≡◌};
+ghost use Rattle.std.specs.Prelude.{IfOk, ◌≡◌, ◌+◌, ◌≤◌, length};
 ghost use Rattle.bohm_txn.specs.Serial.{replies};
 ghost use Rattle.bohm_txn.specs.Stores.{cell_in, store_of};
+ghost use Rattle.bohm_store.specs.Versions.{declared_writes, total};
 ghost use Rattle.bohm_run.specs.Runs.{IsHistoryOf};
 
 use bohm_exec::OpenGate;
@@ -36,6 +37,8 @@ pub fn run<R: Threads + Wait + Sync + RandomSource>(
         IfOk result (λ a. a.replies ≡ replies start checked.now.log) }
     ensures history { let start = cell_in (store_of checked.now.store) in
         IfOk result (λ a. IsHistoryOf start checked.now.log settings.keep a.history) }
+    ensures count { let given = length checked.now.store in
+        IfOk result (λ a. total a.history.chains ≤ given + declared_writes checked.now.log) }
 {
     let Some(partition) = ByteSum::new(settings.parts()) else {
         unreachable!()

@@ -6,7 +6,7 @@ ghost use Rattle.bohm_place.specs.Chains.{chain_in};
 ghost use Rattle.bohm_place.specs.Plans.{IsRightPlan};
 
 use crate::logs::checked;
-use bohm_log::LogPart;
+use bohm_log::{DrawnSeed, LogPart};
 use bohm_place::{
     Access, DeclaredSet, Newest, Partition, Plan, Shards, Source, plan, plan_by_number,
 };
@@ -14,6 +14,7 @@ use bohm_txn::Checked;
 use bohm_types::Key;
 use std::alloc::Global;
 use std::process::Abort;
+use std::random::RandomSource;
 use std::sync::atomic::{AtomicU64, Ordering};
 use std::thread;
 use std::thread::Threads;
@@ -230,16 +231,16 @@ fn assert_chains(
     assert_chain(rt, shards, 99 % parts.parts, b"c", c);
 }
 
-// Chains of no key, in this many parts.
-fn no_chains(rt: &impl Abort, alloc: Global, parts: u32) -> Shards
+// Chains of no key, in this many parts, whose tables hash from a drawn seed.
+fn no_chains<R: Abort + RandomSource>(rt: &R, alloc: Global, parts: u32) -> Shards
     ensures parts { length result ≡ parts }
     ensures empty { (part : List ℕ → ℕ) (k : List ℕ) → chain_in part result k ≡ [] }
 {
-    Shards::new(alloc, parts).expect(rt, "memory")
+    Shards::with_seed(alloc, parts, DrawnSeed::draw(rt)).expect(rt, "memory")
 }
 
 // Plans the batch after an earlier one, checks the plan and the chains, and trims these twice.
-fn plan_batch<R: Abort + Threads + Sync>(
+fn plan_batch<R: Abort + RandomSource + Threads + Sync>(
     rt: &R,
     alloc: Global,
     earlier: &Checked,
@@ -310,7 +311,12 @@ fn every_number_of_workers_and_parts_gives_the_same_plan(rt: HostRuntime) {
 }
 
 // Plans the batch on its own, and checks the plan.
-fn plan_alone<P: Partition, R: Abort + Threads + Sync>(rt: &R, alloc: Global, parts: &P, cc: u32)
+fn plan_alone<P: Partition, R: Abort + RandomSource + Threads + Sync>(
+    rt: &R,
+    alloc: Global,
+    parts: &P,
+    cc: u32,
+)
     requires { 0 < cc }
 {
     let batch = checked(rt, alloc, "log 1\n", BATCH);

@@ -1,13 +1,19 @@
 -- How many terms and statements a draft has after a step, and what a failed one leaves.
-use Rattle.std.proofs.Common.{◌≡◌, ℕ, ◌+◌, ◌-◌, ◌≤◌, Bool, List, [], ◌∷◌, ◌++◌, length, take, refl, ap, sym, ◌∙◌, subst, arith, length-append}
+use Rattle.std.proofs.Common.{◌≡◌, ℕ, ◌+◌, ◌-◌, ◌≤◌, Bool, List, [], ◌∷◌, ◌++◌, length, take, ap, sym, ◌∙◌, subst, arith, length-append}
 use Rattle.std.proofs.Math.Seq.{take-append-add}
+use Rattle.std.specs.List.{between}
+use Rattle.std.proofs.lemmas.List.{length-map}
+use Rattle.std.proofs.lemmas.List.Edits.{length-between}
 use Rattle.std.proofs.lemmas.List.Sums.{sum_by-append}
 use Rattle.bohm_types.specs.Term.{Atom}
 use Rattle.bohm_types.specs.Stmt.{Stmt}
 use Rattle.bohm_types.specs.declared.edition.Edition.{Edition}
 use Rattle.bohm_log.specs.declared.row.Action.{Action}
-use Rattle.bohm_log.specs.Parts.{Parts, Begins}
-use Rattle.bohm_log.specs.Drafting.{Drafted, NamesGrow, AddsTerm, AddsRow, with_term, with_stmt, drafted_of, IsDrafted}
+use Rattle.bohm_types.specs.Txn.{Txn}
+use Rattle.bohm_log.specs.Parts.{Parts, Begins, sum_between, term_of}
+use Rattle.bohm_log.specs.Drafting.{Drafted, NamesGrow, AddsTerm, AddsRow, with_term, with_stmt, done_at, from_at, drafted_of, IsDrafted}
+use Rattle.bohm_log.specs.declared.row.Step.{Step}
+use Rattle.bohm_log.specs.declared.row.Step.TheVariants.{Whole, Left, Right}
 use Rattle.bohm_log.specs.declared.row.Pending.{Pending}
 use Rattle.bohm_log.proofs.Drafts.{names_unseen, Declares}
 use Rattle.bohm_log.specs.Sizes.{stmt_terms, open_terms, terms_in, IsCompact, IsCounted}
@@ -68,6 +74,29 @@ counted_stmt p q d e s action name start first second third is all came compact 
   );
   compact = compact;
 }
+
+-- ---- the statement that is read
+
+sum_length : (p : Parts) (i j : ℕ) → j ≤ length p.terms → length (sum_between p i j) ≡ j - i
+sum_length p i j h = length-map (between i j p.terms) (term_of p) ∙ length-between p.terms i j h
+
+open_at : (x : Txn) (p : Parts) (s f n : ℕ) (step : Step) → s ≤ f → f ≤ n → n ≤ length p.terms
+    → open_terms (record { txn = x; done = done_at p s f n step; latest = sum_between p (from_at s f n step) (length p.terms) }) ≡ length p.terms - s
+open_at x p s f n Whole a b c = omega (arith, sum_length p s (length p.terms) (omega arith))
+open_at x p s f n Left a b c = omega (arith, a, b, c, sum_length p s f (omega (arith, b, c)), sum_length p f (length p.terms) (omega arith))
+open_at x p s f n Right a b c = omega (
+  arith,
+  a,
+  b,
+  c,
+  sum_length p s f (omega (arith, b, c)),
+  sum_length p f n c,
+  sum_length p n (length p.terms) (omega arith),
+)
+
+-- its terms are all from its start on
+pub open_counted : (e : Edition) (p : Parts) (o : Pending) → IsDrafted p o → open_terms (drafted_of e p o) ≡ length p.terms - o.start
+open_counted e p o h = open_at (drafted_of e p o).txn p o.start o.first o.second o.step h.begins h.rises h.ends
 
 -- ---- what a failed step leaves
 

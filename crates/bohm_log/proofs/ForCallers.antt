@@ -2,3 +2,5 @@
 
 -- instances of procedures
 pub use Rattle.bohm_log.proofs.InstanceSound.{instance_sound}
+-- sets of keys
+pub use Rattle.bohm_log.proofs.Placing.{among_key_set, key_set_few}

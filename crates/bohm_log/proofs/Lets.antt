@@ -2,7 +2,8 @@
 use Rattle.std.proofs.Common.{◌≡◌, ℕ, suc, ◌+◌, ◌<◌, ◌≤◌, true, false, List, [], ◌∷◌, ◌++◌, length, get_or, drop}
 use Rattle.std.proofs.Common.{refl, ap, sym, ◌∙◌, arith, add-one, drop-cons, append_assoc, append-nil}
 use Rattle.std.specs.Prelude.{ℤ, nat_lt, ◌^◌, ◌-◌, if◌then◌else◌}
-use Rattle.std.proofs.lemmas.List.{drop_all}
+use Rattle.std.proofs.Common.{map}
+use Rattle.std.proofs.lemmas.List.{drop_all, length-append, length-map, length-drop}
 use Rattle.std.specs.Int.RustNames.{unsigned_abs}
 use Rattle.bohm_log.specs.declared.row.TermRow.{TermRow}
 use Rattle.bohm_log.specs.declared.row.StmtRow.{StmtRow}
@@ -50,6 +51,63 @@ rows_next old now next first start end places vs i place v inside is in_places p
     ∙ (λ j. now ++ let_row place start (longer j) ∷ let_rows (longer j) (drop (i + 1) places) (drop (i + 1) vs))
     ∙ (λ j. now ++ let_rows start (sym (split_at places i place in_places place_is) j) (sym (split_at vs i v inside is) j))
     ∙ h
+
+-- ---- how many there are
+
+pub terms_many : (many other : ℕ) (vs : List ℤ) → length (let_terms many vs) ≡ length (let_terms other vs)
+terms_many many other [] = refl
+terms_many many other (v ∷ vs) = omega (
+  arith,
+  length-append (value_terms many v) (let_terms (many + length (value_large v)) vs),
+  length-append (value_terms other v) (let_terms (other + length (value_large v)) vs),
+  same_many many other v,
+  terms_many (many + length (value_large v)) (other + length (value_large v)) vs,
+)
+
+pub rows_many : (start : ℕ) (places : List ℕ) (vs : List ℤ) → length vs ≡ length places → length (let_rows start places vs) ≡ length places
+rows_many start [] vs h = refl
+rows_many start (i ∷ is) [] h = absurd (omega (arith, h))
+rows_many start (i ∷ is) (v ∷ vs) h = omega (arith, h, rows_many (start + length (value_terms 0 v)) is vs (omega (arith, h)))
+
+-- a column that statements were added to, the first few in place of others
+pub rows_longer : (old now next : List StmtRow) (g : StmtRow → StmtRow) (rows : List StmtRow) (start : ℕ) (places : List ℕ) (vs : List ℤ)
+    → length vs ≡ length places → length places ≤ length rows → now ≡ old ++ let_rows start places vs → next ≡ now ++ map g (drop (length places) rows)
+    → length next ≡ length old + length rows
+rows_longer old now next g rows start places vs same few a b = omega (
+  arith,
+  same,
+  few,
+  ap length a,
+  length-append old (let_rows start places vs),
+  rows_many start places vs same,
+  ap length b,
+  length-append now (map g (drop (length places) rows)),
+  length-map (drop (length places) rows) g,
+  length-drop (length places) rows,
+)
+
+pub many_next : (large many more : ℕ) (vs : List ℤ) (i : ℕ) (v : ℤ) → i < length vs → v ≡ get_or vs i v
+    → many + length (let_large (drop i vs)) ≡ large + length (let_large vs) → more ≡ many + length (value_large v)
+    → more + length (let_large (drop (i + 1) vs)) ≡ large + length (let_large vs)
+many_next large many more vs i v inside is h m = omega (
+  arith,
+  h,
+  m,
+  ap (λ (ws : List ℤ). length (let_large ws)) (split_at vs i v inside is),
+  length-append (value_large v) (let_large (drop (i + 1) vs)),
+)
+
+pub start_next : (first start end : ℕ) (vs : List ℤ) (i : ℕ) (v : ℤ) → i < length vs → v ≡ get_or vs i v
+    → start + length (let_terms 0 (drop i vs)) ≡ first + length (let_terms 0 vs) → end ≡ start + length (value_terms 0 v)
+    → end + length (let_terms 0 (drop (i + 1) vs)) ≡ first + length (let_terms 0 vs)
+start_next first start end vs i v inside is h m = omega (
+  arith,
+  h,
+  m,
+  ap (λ (ws : List ℤ). length (let_terms 0 ws)) (split_at vs i v inside is),
+  length-append (value_terms 0 v) (let_terms (0 + length (value_large v)) (drop (i + 1) vs)),
+  terms_many (0 + length (value_large v)) 0 (drop (i + 1) vs),
+)
 
 -- ---- with all values
 

@@ -11,6 +11,7 @@ mod Settling
 mod Lets
 mod CallLaw
 mod Locals
+mod Measuring
 mod Arguments
 mod Appending
 mod SoundDrafts

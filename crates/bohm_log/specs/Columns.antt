@@ -1,5 +1,5 @@
 -- The columns that all transactions share.
-use Rattle.std.specs.Prelude.{◌≡◌, ℕ, ◌<◌, ◌≤◌, List, [], ◌++◌, length}
+use Rattle.std.specs.Prelude.{◌≡◌, ℕ, ◌<◌, ◌≤◌, ◌+◌, ◌*◌, List, [], ◌++◌, length, take}
 use Rattle.std.specs.List.{All, between, IsDistinct}
 use Rattle.std.specs.Str.{bytes_eq}
 use Rattle.bohm_types.specs.declared.edition.Edition.{Edition}
@@ -8,6 +8,7 @@ use Rattle.bohm_log.specs.declared.row.TermRow.{TermRow}
 use Rattle.bohm_log.specs.declared.row.StmtRow.{StmtRow}
 use Rattle.bohm_log.specs.declared.table.Head.{Head}
 use Rattle.bohm_log.specs.declared.columns.Columns.{Columns}
+use Rattle.bohm_log.specs.declared.columns.Ends.{Ends}
 use Rattle.bohm_log.specs.Parts.{Parts, Begins, IsWithin, names_at, txn_of}
 
 -- the columns of all transactions of a log
@@ -78,6 +79,54 @@ pub record Widens (c d : Shared) : Type 0 where
   pub terms : Begins c.terms d.terms
   pub rows : Begins c.rows d.rows
 
+-- ---- how long columns are
+
+-- the entries of the columns without the numbers of names
+abbrev pub rest_in : Shared → ℕ
+rest_in c = length c.others + length c.large + length c.terms + length c.rows
+
+-- the entries of all columns but the names
+abbrev pub entries_in : Shared → ℕ
+entries_in c = length c.ids + rest_in c
+
+-- the entries that a transaction's parts are
+abbrev pub entries_of : Parts → ℕ
+entries_of p = length p.reads + length p.writes + length p.others + length p.large + length p.terms + length p.rows
+
+-- more names than come with this many declared keys
+abbrev pub most_names : ℕ → ℕ → ℕ
+most_names reads writes = 32 * (1 + reads + writes)
+
+-- more than all columns hold once the parts have come
+abbrev pub held_with : Shared → Parts → ℕ
+held_with c p = length c.names + most_names (length p.reads) (length p.writes) + entries_in c + entries_of p
+
+-- parts came, and few names
+pub record Longer (c d : Shared) (p : Parts) : Type 0 where
+  pub names : length d.names ≤ length c.names + most_names (length p.reads) (length p.writes)
+  pub entries : entries_in d ≡ entries_in c + entries_of p
+
+abbrev pub ends_of : Shared → Ends
+ends_of c = record {
+  names = length c.names;
+  ids = length c.ids;
+  others = length c.others;
+  large = length c.large;
+  terms = length c.terms;
+  rows = length c.rows;
+}
+
+-- the columns up to these ends
+abbrev pub cut_to : Ends → Shared → Shared
+cut_to e c = record {
+  names = take e.names c.names;
+  ids = take e.ids c.ids;
+  others = take e.others c.others;
+  large = take e.large c.large;
+  terms = take e.terms c.terms;
+  rows = take e.rows c.rows;
+}
+
 -- ---- numbering names
 
 -- the columns d extend c, and their numbers are still those of names
@@ -92,6 +141,7 @@ pub record NumbersCome (c d : Shared) (names : List (List ℕ)) : Type 0 where
   pub added : d.ids ≡ c.ids ++ more
   pub named : AllNamed d.names more
   pub same : names_at d.names more ≡ names
+  pub rest : rest_in d ≡ rest_in c
 
 -- the numbers of these names start at an offset
 pub record NumbersStand (c : Shared) (from : ℕ) (names : List (List ℕ)) : Type 0 where
@@ -130,6 +180,9 @@ pub record Sets (d : Shared) (ids reads writes : ℕ) (the_reads the_writes : Li
 pub record SetsCome (c d : Shared) (ids reads writes : ℕ) (the_reads the_writes : List (List ℕ)) : Type 0 where
   pub interns : Interns c d
   pub sets : Sets d ids reads writes the_reads the_writes
+  pub longer : length d.ids ≡ length c.ids + (length the_reads + length the_writes)
+  pub names : length d.names ≤ length c.names + most_names (length the_reads) (length the_writes)
+  pub rest : rest_in d ≡ rest_in c
 
 -- a transaction's parts were appended
 pub record Appends (c d : Shared) (h : Head) (e : Edition) (p : Parts) : Type 0 where
@@ -137,3 +190,4 @@ pub record Appends (c d : Shared) (h : Head) (e : Edition) (p : Parts) : Type 0 
   pub interns : Interns c d
   pub spans : Spans d h
   pub parts : parts_at d h ≡ p
+  pub longer : Longer c d p

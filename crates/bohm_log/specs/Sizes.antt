@@ -1,7 +1,10 @@
--- How many terms and statements a draft has, and what it keeps of them in memory.
-use Rattle.std.specs.Prelude.{◌≡◌, ℕ, ◌+◌, ◌≤◌, length, Option, Some, None}
+-- How much drafts and logs hold, and what they keep of it in memory.
+use Rattle.std.specs.Prelude.{◌≡◌, ℕ, ◌+◌, ◌*◌, ◌^◌, ◌≤◌, List, length, Option, Some, None}
 use Rattle.std.specs.List.{sum_by}
 use Rattle.bohm_types.specs.Stmt.{Cond, Stmt, Bind, Need, Has, Lacks, Put, Remove, Show, Fail}
+use Rattle.bohm_types.specs.Procedure.{Procedure}
+use Rattle.bohm_types.specs.Txn.{Txn}
+use Rattle.bohm_log.specs.Columns.{Shared, entries_in}
 use Rattle.bohm_log.specs.Parts.{Parts}
 use Rattle.bohm_log.specs.Drafting.{Drafted}
 
@@ -35,6 +38,14 @@ terms_in d = sum_by stmt_terms d.txn.body + open_terms d
 abbrev pub size_of : Drafted → ℕ
 size_of d = terms_in d + length d.txn.body
 
+-- a transaction, its declared keys, its terms and its statements together
+abbrev pub txn_size : Txn → ℕ
+txn_size t = 1 + length t.reads + length t.writes + sum_by stmt_terms t.body + length t.body
+
+-- transactions, and what they have, together
+abbrev pub log_size : List Txn → ℕ
+log_size ts = sum_by txn_size ts
+
 -- ---- in memory
 
 -- each other name is that of a term or of a statement, and each large literal is a term
@@ -52,3 +63,14 @@ pub record IsCounted (p : Parts) (d : Drafted) : Type 0 where
   pub terms : length p.terms ≡ terms_in d
   pub rows : length p.rows ≡ length d.txn.body
   pub compact : IsCompact p
+
+-- the names and literals of a procedure's own instance are few beside its terms, and of its terms few are left out of a call
+pub record IsFilled (p : Parts) (procedure : Procedure) : Type 0 where
+  pub terms : length p.terms ≤ sum_by stmt_terms procedure.body + length procedure.values
+  pub others : length p.others ≤ length p.terms + length p.rows + length procedure.values
+  pub large : length p.large ≤ length p.terms
+
+-- columns are as long as the transactions ask for. Handles alone make 2^30 names and no more
+pub record IsMeasured (c : Shared) (ts : List Txn) : Type 0 where
+  pub names : length c.names ≤ 2 ^ 30 + 32 * log_size ts
+  pub entries : entries_in c ≤ 16 * log_size ts

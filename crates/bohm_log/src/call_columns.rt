@@ -1,6 +1,9 @@
 //! Adds calls to the columns.
 
-ghost use Rattle.std.specs.Prelude.{◌≡◌, ◌≤◌, [], ◌∷◌, IfOk, OnOk, OnErr, true, length, map};
+ghost use Rattle.std.specs.Prelude.{◌≡◌, ◌≢◌, ◌≤◌, ◌+◌, ◌*◌, ◌^◌, [], ◌∷◌, IfOk, OnOk, OnErr};
+ghost use Rattle.std.specs.Prelude.{Err, true, length, map, max};
+ghost use Rattle.bohm_log.specs.declared.fault.LogFault.TheVariants.{Full};
+ghost use Rattle.bohm_log.specs.Columns.{entries_in, held_with};
 ghost use Rattle.bohm_types.specs.KeySets.{key_set};
 ghost use Rattle.bohm_log.specs.Calling.{argument_of, Stays};
 ghost use Rattle.bohm_log.specs.CallPlaces.{HasPlaces, HasSets, IsMove, parts_called, written};
@@ -12,7 +15,7 @@ ghost use Rattle.bohm_types.specs.Limits.{most_keys};
 
 use crate::call_places::{CallPlaces, Moves, SetPlaces};
 use crate::calling::{add_large, add_rows, add_terms, handle_of};
-use crate::columns::{Columns, add_all, number_of, offset, repeat_end};
+use crate::columns::{Columns, MOST_NAMED, add_all, number_of, offset, repeat_end};
 use crate::fault::LogFault;
 use crate::key_handle::KeyHandle;
 use crate::table::Head;
@@ -46,28 +49,35 @@ fn moves_by<'a>(body: &BodyColumns, places: &'a CallPlaces) -> Moves<'a>
     }
 }
 
-impl<S: BuildHasher + Drop> Columns<S> {
-    /// The handles of keys, with the numbers that were noted last for their hashes.
-    pub fn fill_handles(&self, handles: &mut Vec<KeyHandle>, keys: &[Key]) -> Result<(), LogFault>
-        ensures { OnOk result (keys_named handles.new.items ≡ keys.now) }
+impl<S: BuildHasher> Columns<S> {
+    /// The handle of a key, with the number that was noted last for its hash.
+    #[inline(always)]
+    pub fn noted_handle(&self, key: &Key) -> KeyHandle
+        ensures { result.key ≡ key.now }
     {
-        handles.clear();
-        for key in keys {
-            handles.push(KeyHandle {
-                key: *key,
-                number: self.hints.noted(key),
-            })?;
+        KeyHandle {
+            key: *key,
+            number: self.hints.noted(key),
         }
-        Ok(())
     }
+}
 
-    /// The handle of a key, which is numbered if it is new.
+impl<S: BuildHasher + Drop> Columns<S> {
+    /// The handle of a key, which is numbered if it is new. Where there are 2^30 names it is not: then
+    /// the handle has the number that was noted last for its hash.
     pub fn handle(&mut self, key: &Key) -> Result<KeyHandle, LogFault>
         ensures key { IfOk result (λ h. h.key ≡ key.now) }
         ensures interns { Interns (shared_of self.old) (shared_of self.new) }
+        ensures never_full { result ≢ Err Full }
+        ensures few { length self.new.names ≤ max (length self.old.names) (2 ^ 30) }
+        ensures entries { entries_in (shared_of self.new) ≡ entries_in (shared_of self.old) }
     {
+        if self.names.len() >= MOST_NAMED {
+            return Ok(self.noted_handle(key));
+        }
         let hint = self.hints.noted(key);
         let number = number_of(&mut self.names, &mut self.hints, key, hint)?;
+        self.handles = self.handles.saturating_add(1);
         Ok(KeyHandle { key: *key, number })
     }
 
@@ -77,6 +87,8 @@ impl<S: BuildHasher + Drop> Columns<S> {
         ensures ok { OnOk result
             (NumbersCome (shared_of self.old) (shared_of self.new)
             (argument_of (keys_named args.now) name.now ∷ [])) }
+        ensures few { OnOk result (length self.new.names ≤ length self.old.names + 1) }
+        ensures full { result ≡ Err Full → length self.old.names ≡ 2 ^ 32 }
         ensures err { OnErr result (Interns (shared_of self.old) (shared_of self.new)) }
     {
         match handle_of(name, args) {
@@ -94,6 +106,9 @@ impl<S: BuildHasher + Drop> Columns<S> {
         ensures ok { OnOk result
             (NumbersCome (shared_of self.old) (shared_of self.new)
             (map (argument_of (keys_named args.now)) names.now)) }
+        ensures few { OnOk result
+            (length self.new.names ≤ length self.old.names + length names.now) }
+        ensures full { result ≡ Err Full → 2 ^ 32 ≤ length self.old.names + length names.now }
         ensures err { OnErr result (Interns (shared_of self.old) (shared_of self.new)) }
     {
         for name in names {
@@ -117,6 +132,9 @@ impl<S: BuildHasher + Drop> Columns<S> {
             (key_set (map (argument_of (keys_named args.now)) names.now))) }
         ensures places { OnOk result
             (HasPlaces (map (argument_of (keys_named args.now)) names.now) places.new) }
+        ensures few { OnOk result
+            (length self.new.names ≤ length self.old.names + length names.now) }
+        ensures full { result ≡ Err Full → 2 ^ 32 ≤ length self.old.names + length names.now }
         ensures err { OnErr result (Interns (shared_of self.old) (shared_of self.new)) }
     {
         let start = self.ids.len();
@@ -153,7 +171,11 @@ impl<S: BuildHasher + Drop> Columns<S> {
             (HasPlaces (map (argument_of (keys_named args.now)) body.now.writes.items)
             (written body.now places.new)) }
         ensures reads { places.new.reads ≡ places.old.reads }
+        ensures few { OnOk result
+            (length self.new.names ≤ length self.old.names + length body.now.writes.items) }
         ensures err { OnErr result (Interns (shared_of self.old) (shared_of self.new)) }
+        ensures full { result ≡ Err Full
+            → 2 ^ 32 ≤ length self.old.names + length body.now.writes.items }
     {
         if body.same_sets {
             repeat_end(&mut self.ids, start)?;
@@ -180,6 +202,10 @@ impl<S: BuildHasher + Drop> Columns<S> {
             (key_set (map (argument_of (keys_named args.now)) body.now.writes.items))) }
         ensures places { OnOk result (HasSets (keys_named args.now) body.now places.new) }
         ensures err { OnErr result (Interns (shared_of self.old) (shared_of self.new)) }
+        ensures full { result ≡ Err Full → 2 ^ 32 ≤ length self.old.names
+            + entries_in (shared_of self.old) + 2 * most_keys
+            + length (key_set (map (argument_of (keys_named args.now)) body.now.reads.items))
+            + length (key_set (map (argument_of (keys_named args.now)) body.now.writes.items)) }
     {
         let start = offset(self.ids.len())?;
         self.add_set(&mut places.reads, body.reads.as_slice(), args)?;
@@ -191,6 +217,7 @@ impl<S: BuildHasher + Drop> Columns<S> {
 
     /// Adds what a call makes of a body, whose values' names have these places. No part of it is
     /// copied but into the columns.
+    #[tactic(auto, using(crate::proofs::Measuring::called_terms, crate::proofs::Measuring::called_rows))]
     pub fn append_call(
         &mut self,
         edition: Edition,
@@ -213,6 +240,8 @@ impl<S: BuildHasher + Drop> Columns<S> {
             (parts_called (keys_named args.now) body.now locals.now values.now places.new)) }
         ensures places { OnOk result (HasSets (keys_named args.now) body.now places.new) }
         ensures err { OnErr result (Interns (shared_of self.old) (shared_of self.new)) }
+        ensures full { result ≡ Err Full → 2 ^ 32 ≤ held_with (shared_of self.old)
+            (parts_called (keys_named args.now) body.now locals.now values.now places.old) }
     {
         let (ids, reads_end, writes_end) = self.add_call_sets(places, body, args)?;
         let moves = &moves_by(body, places);

@@ -1,7 +1,8 @@
 //! Where the keys of a call stand in its sets.
 
-ghost use Rattle.std.specs.Prelude.{◌≡◌, ◌<◌, ◌≤◌, ◌+◌, true, drop, length, IfSome, IfNone, OnOk};
-ghost use Rattle.std.specs.Prelude.{Some, slice_get};
+ghost use Rattle.std.specs.Prelude.{◌≡◌, ◌≢◌, ◌<◌, ◌≤◌, ◌+◌, true, drop, length, IfSome, IfNone};
+ghost use Rattle.std.specs.Prelude.{OnOk, Some, Err, slice_get};
+ghost use Rattle.bohm_log.specs.declared.fault.LogFault.TheVariants.{Full};
 ghost use Rattle.std.specs.List.{range_with_len};
 ghost use Rattle.bohm_types.specs.KeySets.{inserted, key_set};
 ghost use Rattle.bohm_log.specs.Parts.{IsApart, name_at, names_at};
@@ -24,6 +25,7 @@ fn insert_number(sorted: &mut Vec<u32>, names: &[Key], id: u32) -> Result<(), Lo
     ensures inserted { OnOk result
         (names_at names.now sorted.new.items
         ≡ inserted (name_at names.now id) (names_at names.now sorted.old.items)) }
+    ensures never_full { result ≢ Err Full }
 {
     let name = &names[id as usize];
     for i in 0..sorted.len() {
@@ -43,7 +45,8 @@ fn insert_number(sorted: &mut Vec<u32>, names: &[Key], id: u32) -> Result<(), Lo
 /// The numbers of the distinct names among those with these numbers, in ascending order of names.
 fn sort_numbers(sorted: &mut Vec<u32>, names: &[Key], ids: &[u32]) -> Result<(), LogFault>
     requires { AllNamed names.now ids.now }
-    ensures { OnOk result (AreSorted names.now ids.now sorted.new.items) }
+    ensures ok { OnOk result (AreSorted names.now ids.now sorted.new.items) }
+    ensures never_full { result ≢ Err Full }
 {
     sorted.clear();
     for done in 0..ids.len() {
@@ -69,7 +72,8 @@ fn place_in_set(set: &Keys<'_>, key: &Key) -> Option<u32>
 fn find_places(places: &mut Vec<u32>, set: &Keys<'_>, keys: &Keys<'_>) -> Result<(), LogFault>
     requires few { length keys.now ≤ most_keys }
     requires set { set.now ≡ key_set keys.now }
-    ensures { OnOk result (ArePlaces keys.now set.now places.new.items) }
+    ensures ok { OnOk result (ArePlaces keys.now set.now places.new.items) }
+    ensures never_full { result ≢ Err Full }
 {
     places.clear();
     for i in 0..keys.len() {
@@ -114,7 +118,8 @@ fn are_rising(keys: &Keys<'_>) -> bool
 #[tactic(auto, using(crate::proofs::Placing::range_more))]
 fn count_places(places: &mut Vec<u32>, count: usize) -> Result<(), LogFault>
     requires { count ≤ most_keys }
-    ensures { OnOk result (places.new.items ≡ range_with_len 0 count) }
+    ensures ok { OnOk result (places.new.items ≡ range_with_len 0 count) }
+    ensures never_full { result ≢ Err Full }
 {
     places.clear();
     for i in 0..count {
@@ -147,7 +152,8 @@ impl SetPlaces {
     pub fn settle(&mut self, names: &[Key], ids: &[u32]) -> Result<(), LogFault>
         requires few { length ids.now ≤ most_keys }
         requires named { AllNamed names.now ids.now }
-        ensures { OnOk result (IsSettled names.now ids.now self.new) }
+        ensures ok { OnOk result (IsSettled names.now ids.now self.new) }
+        ensures never_full { result ≢ Err Full }
     {
         let keys = Keys { names, ids };
         self.in_order = are_rising(&keys);
@@ -168,11 +174,12 @@ impl SetPlaces {
 /// Where the keys of a call stand in its sets, in vectors that are used again for the next one.
 #[derive(Drop)]
 pub struct CallPlaces {
-    pub reads: SetPlaces,
-    pub writes: SetPlaces,
+    pub(crate) reads: SetPlaces,
+    pub(crate) writes: SetPlaces,
 }
 
 impl CallPlaces {
+    /// Empty vectors. It allocates nothing.
     pub fn new(alloc: Global) -> CallPlaces {
         CallPlaces {
             reads: SetPlaces::new(alloc),

@@ -1,6 +1,8 @@
 //! Builds the instance of a call from a procedure's columns, at the ends of a log's columns.
 
-ghost use Rattle.std.specs.Prelude.{◌≡◌, ◌<◌, ◌≤◌, ◌+◌, ◌++◌, true, drop, map, length, OnOk, IfOk};
+ghost use Rattle.std.specs.Prelude.{◌≡◌, ◌≢◌, ◌<◌, ◌≤◌, ◌+◌, ◌^◌, ◌++◌, true, drop, map, length};
+ghost use Rattle.std.specs.Prelude.{OnOk, IfOk, Err};
+ghost use Rattle.bohm_log.specs.declared.fault.LogFault.TheVariants.{Full};
 ghost use Rattle.std.specs.Prelude.{IfSome, IfNone, slice_index_or};
 ghost use Rattle.std.specs.List.{range_with_len};
 ghost use Rattle.bohm_types.specs.Procedure.{is_minus};
@@ -101,6 +103,7 @@ fn relocate_terms(
     ensures begins { Begins column.old.items column.new.items }
     ensures ok { OnOk result
         (column.new.items ≡ column.old.items ++ map (term_to places.now) terms.now) }
+    ensures never_full { result ≢ Err Full }
 {
     for term in terms {
         column.push(term_to(places, term))?;
@@ -119,6 +122,7 @@ fn relocate_rows(
     ensures begins { Begins column.old.items column.new.items }
     ensures ok { OnOk result
         (column.new.items ≡ column.old.items ++ map (row_to reads.now writes.now) rows.now) }
+    ensures never_full { result ≢ Err Full }
 {
     for row in rows {
         column.push(row_to(reads, writes, row))?;
@@ -200,6 +204,7 @@ fn is_minus(number: i64) -> bool
 fn add_large_value(column: &mut Vec<u64>, value: Value) -> Result<(), LogFault>
     ensures begins { Begins column.old.items column.new.items }
     ensures ok { OnOk result (column.new.items ≡ column.old.items ++ value_large value) }
+    ensures never_full { result ≢ Err Full }
 {
     let size = value.get().unsigned_abs();
     if size < SMALL_END {
@@ -218,6 +223,7 @@ fn add_large_value(column: &mut Vec<u64>, value: Value) -> Result<(), LogFault>
 fn add_large_values(column: &mut Vec<u64>, values: &[Value]) -> Result<(), LogFault>
     ensures begins { Begins column.old.items column.new.items }
     ensures ok { OnOk result (column.new.items ≡ column.old.items ++ let_large values.now) }
+    ensures never_full { result ≢ Err Full }
 {
     for i in 0..values.len() {
         add_large_value(column, values[i])?;
@@ -234,6 +240,10 @@ pub(crate) fn add_large(
     ensures begins { Begins column.old.items column.new.items }
     ensures ok { IfOk result
         (λ r. Lands column.new.items (large.now ++ let_large values.now) r.0 r.1) }
+    ensures longer { OnOk result (length column.new.items
+        ≡ length column.old.items + length (large.now ++ let_large values.now)) }
+    ensures full { result ≡ Err Full
+        → 2 ^ 32 ≤ length column.old.items + length (large.now ++ let_large values.now) }
 {
     let from = offset(column.len())?;
     if !large.is_empty() {
@@ -253,6 +263,7 @@ fn add_value(column: &mut Vec<TermRow>, many: usize, value: Value) -> Result<usi
     ensures terms { OnOk result
         (column.new.items ≡ column.old.items ++ value_terms many value) }
     ensures many { IfOk result (λ n. n ≡ many + length (value_large value)) }
+    ensures full { result ≡ Err Full → 2 ^ 32 ≤ many }
 {
     let minus = is_minus(value.get());
     let size = value.get().unsigned_abs();
@@ -281,11 +292,12 @@ fn add_value(column: &mut Vec<TermRow>, many: usize, value: Value) -> Result<usi
 }
 
 /// Adds the terms of values, where there are so many large literals before theirs.
-#[tactic(auto, using(crate::proofs::Lets::terms_next, crate::proofs::Lets::terms_all))]
+#[tactic(auto, using(crate::proofs::Lets::terms_next, crate::proofs::Lets::terms_all, crate::proofs::Lets::many_next))]
 fn add_values(column: &mut Vec<TermRow>, large: usize, values: &[Value]) -> Result<(), LogFault>
     ensures begins { Begins column.old.items column.new.items }
     ensures ok { OnOk result
         (column.new.items ≡ column.old.items ++ let_terms large values.now) }
+    ensures full { result ≡ Err Full → 2 ^ 32 ≤ large + length (let_large values.now) }
 {
     let mut many = large;
     for i in 0..values.len() {
@@ -305,6 +317,7 @@ fn copy_terms(
     ensures begins { Begins column.old.items column.new.items }
     ensures ok { OnOk result (column.new.items
         ≡ column.old.items ++ map (term_to moves.now.reads.now) body.now.terms.items) }
+    ensures never_full { result ≢ Err Full }
 {
     if moves.stays {
         column.extend_from_slice(body.terms.as_slice())?;
@@ -325,6 +338,13 @@ pub(crate) fn add_terms(
     ensures ok { IfOk result (λ r. Lands column.new.items
         (map (term_to moves.now.reads.now) body.now.terms.items
         ++ let_terms (length body.now.large.items) values.now) r.0 r.1) }
+    ensures longer { OnOk result (length column.new.items
+        ≡ length column.old.items + length body.now.terms.items
+        + length (let_terms (length body.now.large.items) values.now)) }
+    ensures full { result ≡ Err Full → 2 ^ 32 ≤ length column.old.items
+        + length body.now.terms.items + length body.now.large.items
+        + length (let_terms (length body.now.large.items) values.now)
+        + length (let_large values.now) }
 {
     let from = offset(column.len())?;
     copy_terms(column, body, moves)?;
@@ -348,7 +368,7 @@ fn terms_len(value: Value) -> usize
 
 /// Adds the statements that bind values to the names at these places. Their terms begin at an
 /// offset.
-#[tactic(auto, using(crate::proofs::Lets::rows_next, crate::proofs::Lets::rows_all))]
+#[tactic(auto, using(crate::proofs::Lets::rows_next, crate::proofs::Lets::rows_all, crate::proofs::Lets::start_next))]
 fn add_lets(
     column: &mut Vec<StmtRow>,
     first: usize,
@@ -359,6 +379,7 @@ fn add_lets(
     ensures begins { Begins column.old.items column.new.items }
     ensures ok { OnOk result
         (column.new.items ≡ column.old.items ++ let_rows first places.now values.now) }
+    ensures full { result ≡ Err Full → 2 ^ 32 ≤ first + length (let_terms 0 values.now) }
 {
     let mut start = offset(first)?;
     for i in 0..values.len() {
@@ -390,6 +411,7 @@ fn copy_rows(
     ensures begins { Begins column.old.items column.new.items }
     ensures ok { OnOk result (column.new.items ≡ column.old.items
         ++ map (row_to moves.now.reads.now moves.now.writes.now) (drop lets body.now.rows.items)) }
+    ensures never_full { result ≢ Err Full }
 {
     let rows = &body.rows.as_slice()[lets..];
     if moves.stays {
@@ -416,6 +438,11 @@ pub(crate) fn add_rows(
         (let_rows (length body.now.terms.items) places.now values.now
         ++ map (row_to moves.now.reads.now moves.now.writes.now)
         (drop (length places.now) body.now.rows.items)) r.0 r.1) }
+    ensures longer { OnOk result
+        (length column.new.items ≡ length column.old.items + length body.now.rows.items) }
+    ensures full { result ≡ Err Full → 2 ^ 32 ≤ length column.old.items
+        + length body.now.rows.items + length body.now.terms.items
+        + length (let_terms 0 values.now) }
 {
     let from = offset(column.len())?;
     add_lets(column, body.terms.len(), places, values)?;

@@ -1,6 +1,9 @@
 //! The columns that all transactions share.
 
-ghost use Rattle.std.specs.Prelude.{◌≡◌, ◌≤◌, [], ◌∷◌, ◌++◌, IfOk, OnOk, OnErr, Some, true};
+ghost use Rattle.std.specs.Prelude.{◌≡◌, ◌≢◌, ◌≤◌, ◌+◌, ◌^◌, [], ◌∷◌, ◌++◌, IfOk, OnOk, OnErr};
+ghost use Rattle.std.specs.Prelude.{Some, Err, true};
+ghost use Rattle.bohm_log.specs.declared.fault.LogFault.TheVariants.{Full};
+ghost use Rattle.bohm_log.specs.Columns.{cut_to, ends_of, entries_in, held_with};
 ghost use Rattle.std.specs.Prelude.{drop, length, slice_get};
 ghost use Rattle.std.specs.List.{IsDistinct};
 ghost use Rattle.std.specs.Str.{bytes_eq};
@@ -27,14 +30,25 @@ use std::hash::BuildHasher;
 /// How many entries a cleared column keeps room for, however few it had.
 const KEPT_ROOM: usize = 4096;
 
-/// For how many names to a number cleared columns keep their names.
+/// Cleared columns keep their names where there are at most this many.
+const FEWEST_KEPT: usize = 1 << 14;
+
+/// They keep more where these are at most this many for each declared key and each handle.
 const KEPT_NAMES: usize = 4;
+
+/// How many handles count for that, so that handles of ever new keys don't fill the memory.
+const KEPT_HANDLES: usize = 1 << 16;
+
+/// With this many names, a handle makes no other, and a clearing keeps no more.
+pub(crate) const MOST_NAMED: usize = 1 << 30;
 
 #[derive(Drop)]
 pub struct Columns<S: BuildHasher> {
     pub names: Names<S>,
     /// Where names were found last.
     pub hints: NameHints,
+    /// How many handles of keys were made, before the last clearing too.
+    pub handles: usize,
     pub ids: Vec<u32>,
     pub others: Vec<Key>,
     pub large: Vec<u64>,
@@ -42,10 +56,22 @@ pub struct Columns<S: BuildHasher> {
     pub rows: Vec<StmtRow>,
 }
 
+/// How long the columns are.
+#[derive(Clone, Copy)]
+pub struct Ends {
+    pub names: usize,
+    pub ids: usize,
+    pub others: usize,
+    pub large: usize,
+    pub terms: usize,
+    pub rows: usize,
+}
+
 /// The offset after this many entries. A column with more than 2^32 - 1 is `Full`.
 #[inline(always)]
 pub(crate) fn offset(length: usize) -> Result<u32, LogFault>
-    ensures { IfOk result (λ n. n ≡ length) }
+    ensures ok { IfOk result (λ n. n ≡ length) }
+    ensures full { result ≡ Err Full → 2 ^ 32 ≤ length }
 {
     if length <= u32::MAX as usize {
         Ok(length as u32)
@@ -59,6 +85,9 @@ pub(crate) fn offset(length: usize) -> Result<u32, LogFault>
 pub(crate) fn add_all<T: Copy>(column: &mut Vec<T>, part: &[T]) -> Result<(u32, u32), LogFault>
     ensures begins { Begins column.old.items column.new.items }
     ensures ok { IfOk result (λ r. Lands column.new.items part.now r.0 r.1) }
+    ensures longer { OnOk result
+        (length column.new.items ≡ length column.old.items + length part.now) }
+    ensures full { result ≡ Err Full → 2 ^ 32 ≤ length column.old.items + length part.now }
 {
     let from = offset(column.len())?;
     if part.is_empty() {
@@ -76,6 +105,7 @@ impl<S: BuildHasher> Columns<S> {
         Columns {
             names: Names::new(alloc, hasher),
             hints: NameHints::new(alloc),
+            handles: 0,
             ids: Vec::new(alloc),
             others: Vec::new(alloc),
             large: Vec::new(alloc),
@@ -118,7 +148,8 @@ impl<S: BuildHasher> Columns<S> {
     }
 }
 
-/// Removes all entries of a column. It keeps room for four times as many, or for some thousand.
+/// Removes all entries of a column. Its room is kept where it is for at most four times as many, or for
+/// some thousand; else it is freed.
 pub(crate) fn empty<T: Copy>(column: &mut Vec<T>)
     ensures { column.new.items ≡ [] }
 {
@@ -142,6 +173,7 @@ pub(crate) fn repeat_end(column: &mut Vec<u32>, from: usize) -> Result<(), LogFa
     requires { from ≤ length column.old.items }
     ensures ok { OnOk result (column.new.items ≡ column.old.items ++ drop from column.old.items) }
     ensures err { OnErr result (column.new.items ≡ column.old.items) }
+    ensures never_full { result ≢ Err Full }
 {
     column.extend_from_within(from..)?;
     Ok(())
@@ -159,6 +191,7 @@ fn number_anew<S: BuildHasher + Drop>(
     ensures names { OnOk result (names.new ≡ with_name names.old name.now) }
     ensures named { IfOk result (λ id. slice_get names.new id ≡ Some name.now) }
     ensures err { OnErr result (names.new ≡ names.old) }
+    ensures full { result ≡ Err Full → length names.old ≡ 2 ^ 32 }
 {
     if let Some(number) = at_number(names.as_slice(), hints.noted(name), name) {
         return Ok(number);
@@ -180,6 +213,7 @@ pub(crate) fn number_of<S: BuildHasher + Drop>(
     ensures names { OnOk result (names.new ≡ with_name names.old name.now) }
     ensures named { IfOk result (λ id. slice_get names.new id ≡ Some name.now) }
     ensures err { OnErr result (names.new ≡ names.old) }
+    ensures full { result ≡ Err Full → length names.old ≡ 2 ^ 32 }
 {
     if let Some(number) = at_number(names.as_slice(), hint, name) {
         return Ok(number);
@@ -187,14 +221,52 @@ pub(crate) fn number_of<S: BuildHasher + Drop>(
     number_anew(names, hints, name)
 }
 
-impl<S: BuildHasher + Drop> Columns<S> {
-    /// Removes what the transactions had. Names stay with their numbers, for transactions that
-    /// declare them again, where they are at most four times as many as keys that were declared:
-    /// else all go.
-    pub fn clear(&mut self)
-        ensures { (shared_of self.new).ids ≡ [] }
+impl<S: BuildHasher> Columns<S> {
+    /// How long they are.
+    #[inline(always)]
+    pub fn ends(&self) -> Ends
+        ensures { result ≡ ends_of (shared_of self.now) }
     {
-        if self.names.len() / KEPT_NAMES > self.ids.len() {
+        Ends {
+            names: self.names.len(),
+            ids: self.ids.len(),
+            others: self.others.len(),
+            large: self.large.len(),
+            terms: self.terms.len(),
+            rows: self.rows.len(),
+        }
+    }
+}
+
+impl<S: BuildHasher + Drop> Columns<S> {
+    /// Removes what came after these ends.
+    #[inline(never)]
+    pub fn cut_back(&mut self, ends: Ends)
+        ensures { shared_of self.new ≡ cut_to ends (shared_of self.old) }
+    {
+        self.names.truncate(ends.names);
+        self.ids.truncate(ends.ids);
+        self.others.truncate(ends.others);
+        self.large.truncate(ends.large);
+        self.terms.truncate(ends.terms);
+        self.rows.truncate(ends.rows);
+    }
+
+    /// Removes what the transactions had. Names stay with their numbers, for transactions that
+    /// declare them again, where there are at most 16,384, or at most four for each declared key and
+    /// each handle, and in any case at most 2^30. Else all names are removed. A key counts each time
+    /// that it was declared, and of all handles that were ever made 65,536 count.
+    pub fn clear(&mut self)
+        ensures ids { (shared_of self.new).ids ≡ [] }
+        ensures empty { entries_in (shared_of self.new) ≡ 0 }
+        ensures names { length self.new.names ≤ 2 ^ 30 }
+    {
+        let used = self
+            .ids
+            .len()
+            .saturating_add(self.handles.min(KEPT_HANDLES));
+        let most = FEWEST_KEPT.max(used.saturating_mul(KEPT_NAMES));
+        if self.names.len() > most.min(MOST_NAMED) {
             self.names.clear();
         }
         empty(&mut self.ids);
@@ -209,7 +281,9 @@ impl<S: BuildHasher + Drop> Columns<S> {
     pub(crate) fn add_name(&mut self, name: &Key, hint: u32) -> Result<(), LogFault>
         ensures ok { OnOk result
             (NumbersCome (shared_of self.old) (shared_of self.new) (name.now ∷ [])) }
+        ensures few { OnOk result (length self.new.names ≤ length self.old.names + 1) }
         ensures err { OnErr result (Interns (shared_of self.old) (shared_of self.new)) }
+        ensures full { result ≡ Err Full → length self.old.names ≡ 2 ^ 32 }
     {
         let id = number_of(&mut self.names, &mut self.hints, name, hint)?;
         self.ids.push(id)?;
@@ -219,7 +293,10 @@ impl<S: BuildHasher + Drop> Columns<S> {
     /// Adds the numbers of these names.
     fn add_names(&mut self, names: &[Key]) -> Result<(), LogFault>
         ensures ok { OnOk result (NumbersCome (shared_of self.old) (shared_of self.new) names.now) }
+        ensures few { OnOk result
+            (length self.new.names ≤ length self.old.names + length names.now) }
         ensures err { OnErr result (Interns (shared_of self.old) (shared_of self.new)) }
+        ensures full { result ≡ Err Full → 2 ^ 32 ≤ length self.old.names + length names.now }
     {
         for name in names {
             let hint = self.hints.noted(name);
@@ -234,7 +311,9 @@ impl<S: BuildHasher + Drop> Columns<S> {
         requires { NumbersStand (shared_of self.old) start reads.now }
         ensures ok { OnOk result
             (NumbersCome (shared_of self.old) (shared_of self.new) (name ∷ [])) }
+        ensures few { OnOk result (length self.new.names ≤ length self.old.names + 1) }
         ensures err { OnErr result (Interns (shared_of self.old) (shared_of self.new)) }
+        ensures full { result ≡ Err Full → length self.old.names ≡ 2 ^ 32 }
     {
         match place_in(reads, &name) {
             Some(place) => {
@@ -254,7 +333,10 @@ impl<S: BuildHasher + Drop> Columns<S> {
         requires { NumbersStand (shared_of self.old) start reads.now }
         ensures ok { OnOk result
             (NumbersCome (shared_of self.old) (shared_of self.new) writes.now) }
+        ensures few { OnOk result
+            (length self.new.names ≤ length self.old.names + length writes.now) }
         ensures err { OnErr result (Interns (shared_of self.old) (shared_of self.new)) }
+        ensures full { result ≡ Err Full → 2 ^ 32 ≤ length self.old.names + length writes.now }
     {
         for name in writes {
             self.add_write(reads, start, *name)?;
@@ -268,7 +350,10 @@ impl<S: BuildHasher + Drop> Columns<S> {
         requires { NumbersEnd (shared_of self.old) start reads.now }
         ensures ok { OnOk result
             (NumbersCome (shared_of self.old) (shared_of self.new) writes.now) }
+        ensures few { OnOk result
+            (length self.new.names ≤ length self.old.names + length writes.now) }
         ensures err { OnErr result (Interns (shared_of self.old) (shared_of self.new)) }
+        ensures full { result ≡ Err Full → 2 ^ 32 ≤ length self.old.names + length writes.now }
     {
         if are_same(reads, writes) {
             repeat_end(&mut self.ids, start)?;
@@ -285,6 +370,8 @@ impl<S: BuildHasher + Drop> Columns<S> {
             (λ r. SetsCome (shared_of self.old) (shared_of self.new) r.0 r.1 r.2
             reads.now writes.now) }
         ensures err { OnErr result (Interns (shared_of self.old) (shared_of self.new)) }
+        ensures full { result ≡ Err Full → 2 ^ 32 ≤ length self.old.names
+            + entries_in (shared_of self.old) + length reads.now + length writes.now }
     {
         let start = offset(self.ids.len())?;
         self.add_names(reads)?;
@@ -301,6 +388,8 @@ impl<S: BuildHasher + Drop> Columns<S> {
             (λ h. Appends (shared_of self.old) (shared_of self.new) h edition
             (parts_of sheet.now)) }
         ensures err { OnErr result (Interns (shared_of self.old) (shared_of self.new)) }
+        ensures full { result ≡ Err Full
+            → 2 ^ 32 ≤ held_with (shared_of self.old) (parts_of sheet.now) }
     {
         let others = sheet.others.as_slice();
         self.append_parts(
@@ -330,6 +419,8 @@ impl<S: BuildHasher + Drop> Columns<S> {
             (λ h. Appends (shared_of self.old) (shared_of self.new) h edition
             (parts_by reads.now writes.now others.now large.now terms.now rows.now)) }
         ensures err { OnErr result (Interns (shared_of self.old) (shared_of self.new)) }
+        ensures full { result ≡ Err Full → 2 ^ 32 ≤ held_with (shared_of self.old)
+            (parts_by reads.now writes.now others.now large.now terms.now rows.now) }
     {
         let (ids, reads_end, writes_end) = self.add_sets(reads, writes)?;
         let (others_from, others_end) = add_all(&mut self.others, others)?;

@@ -1,6 +1,8 @@
 //! Documents: a store and a log.
 
-ghost use Rattle.std.specs.Prelude.{◌≡◌, length, IfOk, OnOk, OnErr};
+ghost use Rattle.std.specs.Prelude.{◌≡◌, ◌≢◌, ◌≤◌, ◌+◌, ◌^◌, Err, length, IfOk, OnOk, OnErr};
+ghost use Rattle.bohm_log.specs.Sizes.{log_size, txn_size};
+ghost use Rattle.bohm_log.specs.declared.fault.LogFault.TheVariants.{Full};
 ghost use Rattle.std.specs.List.{list_all};
 ghost use Rattle.bohm_types.specs.Document.{in_edition};
 ghost use Rattle.bohm_types.specs.Appending.{empty_document, with_txn};
@@ -8,7 +10,7 @@ ghost use Rattle.bohm_types.specs.Procedure.{instance};
 ghost use Rattle.bohm_types.specs.Sound.{IsDocument};
 ghost use Rattle.bohm_log.specs.Handles.{keys_named};
 
-use crate::call_buffer::CallBuffer;
+use crate::call_places::CallPlaces;
 use crate::fault::LogFault;
 use crate::hash_seed::HashSeed;
 use crate::key_handle::KeyHandle;
@@ -84,29 +86,14 @@ impl Doc {
         }
     }
 
-    /// Adds the instance of a procedure. An `Err` leaves the document as it was. The time grows
-    /// with what the instance holds.
+    /// Adds the instance of a procedure for the keys of these handles, none of which is hashed
+    /// where its number is its key's. `Full` comes only where the document's transactions and this
+    /// one, with their declared keys, terms and statements, are 2^26 or more. An `Err` leaves the
+    /// document as it was. The time grows with what the instance holds.
     pub fn push_call(
         &mut self,
         template: &Template,
-        buffer: &mut CallBuffer,
-        keys: &[Key],
-        values: &[Value],
-    ) -> Result<(), LogFault>
-        requires values { length values.now ≡ length template.now.values }
-        requires edition { template.now.edition ≡ self.old.edition }
-        ensures ok { OnOk result
-            (self.new ≡ with_txn self.old (instance template.now keys.now values.now)) }
-        ensures err { OnErr result (self.new ≡ self.old) }
-    {
-        self.log.push_call(template, buffer, keys, values)
-    }
-
-    /// The same, for the keys of these handles.
-    pub fn push_named(
-        &mut self,
-        template: &Template,
-        buffer: &mut CallBuffer,
+        places: &mut CallPlaces,
         keys: &[KeyHandle],
         values: &[Value],
     ) -> Result<(), LogFault>
@@ -115,15 +102,28 @@ impl Doc {
         ensures ok { OnOk result
             (self.new ≡ with_txn self.old
             (instance template.now (keys_named keys.now) values.now)) }
+        ensures full { result ≡ Err Full → 2 ^ 26 ≤ log_size self.old.log
+            + txn_size (instance template.now (keys_named keys.now) values.now) }
         ensures err { OnErr result (self.new ≡ self.old) }
     {
-        self.log.push_named(template, buffer, keys, values)
+        self.log.push_call(template, places, keys, values)
     }
 
-    /// The handle of a key, which gets a number if it has none. The document stays as it is.
+    /// The handle of a key with the number that it is likely to have: the one that was noted last
+    /// for its hash. Nothing is searched for.
+    #[inline(always)]
+    pub fn noted_handle(&self, key: &Key) -> KeyHandle
+        ensures { result.key ≡ key.now }
+    {
+        self.log.noted_handle(key)
+    }
+
+    /// The handle of a key, which gets a number if it has none and fewer than 2^30 keys have one. The
+    /// document stays as it is.
     pub fn handle(&mut self, key: &Key) -> Result<KeyHandle, LogFault>
         ensures key { IfOk result (λ h. h.key ≡ key.now) }
         ensures same { self.new ≡ self.old }
+        ensures never_full { result ≢ Err Full }
     {
         self.log.handle(key)
     }

@@ -101,13 +101,27 @@ impl<S: BuildHasher> Draft<S> {
         Ok(())
     }
 
-    /// Whether the sum that is read has a term.
-    fn has_terms(&self) -> bool
-        ensures sum { result ≡ true → IsSum self.now.latest }
-        ensures none { result ≡ false → self.now.latest ≡ [] }
+    /// `Empty` where the sum that is read has no term. The draft stays as it is.
+    fn require_terms(&self) -> Result<(), SumFault>
+        ensures sum { OnOk result (IsSum self.now.latest) }
         ensures done { AllByRecursion IsSum self.now.done }
+        ensures none { OnErr result (self.now.latest ≡ []) }
+        ensures empty { IfErr result (λ e. e ≡ faults.Empty) }
     {
-        (self.pending.latest() as usize) < self.sheet.terms.len()
+        if (self.pending.latest() as usize) < self.sheet.terms.len() {
+            Ok(())
+        } else {
+            Err(SumFault::Empty)
+        }
+    }
+
+    /// Whether sums of a statement were read, and not yet the statement.
+    #[tactic(auto, using(crate::proofs::Counting::open_counted))]
+    pub(crate) fn is_open(&self) -> bool
+        ensures open { result ≡ true → 0 < open_terms self.now }
+        ensures whole { result ≡ false → open_terms self.now ≡ 0 }
+    {
+        (self.pending.start as usize) < self.sheet.terms.len()
     }
 
     /// Ends a sum of a statement that has another. One without terms is `Empty`.
@@ -119,9 +133,7 @@ impl<S: BuildHasher> Draft<S> {
         ensures err { OnErr result (self.new ≡ self.old) }
         ensures never_full { result ≢ Err (faults.Log Full) }
     {
-        if !self.has_terms() {
-            return Err(SumFault::Empty);
-        }
+        self.require_terms()?;
         self.pending = self.pending.next(self.sheet.terms.len() as u32);
         Ok(())
     }
@@ -140,6 +152,7 @@ impl<S: BuildHasher> Draft<S> {
         ensures same { txn_of result.0 (parts_of result.1.now) ≡ self.now.txn }
         ensures within { IsWithin (parts_of result.1.now) }
         ensures sound { IsTxn self.now.txn.edition self.now.txn }
+        ensures counted { IsCounted (parts_of result.1.now) self.now }
     {
         (self.edition, &self.sheet)
     }
@@ -206,6 +219,7 @@ impl<S: BuildHasher + Drop> Draft<S> {
     }
 
     /// Adds a literal.
+    #[inline(always)]
     pub fn literal(&mut self, literal: Literal) -> Result<(), LogFault>
         ensures ok { OnOk result (self.new ≡ with_term self.old literal.0 literal.1) }
         ensures err { OnErr result (self.new ≡ self.old) }
@@ -308,9 +322,7 @@ impl<S: BuildHasher + Drop> Draft<S> {
         ensures full { result ≡ Err (faults.Log Full) → 2 ^ 32 - 1 ≤ size_of self.old }
     {
         name.has_name();
-        if !self.has_terms() {
-            return Err(SumFault::Empty);
-        }
+        self.require_terms()?;
         self.end_named(Action::Bind, name)?;
         Ok(())
     }
@@ -325,9 +337,7 @@ impl<S: BuildHasher + Drop> Draft<S> {
         ensures err { OnErr result (self.new ≡ self.old) }
         ensures never_full { result ≢ Err (faults.Log Full) }
     {
-        if !self.has_terms() {
-            return Err(SumFault::Empty);
-        }
+        self.require_terms()?;
         self.end_nameless(Action::Need(cmp))?;
         Ok(())
     }
@@ -367,9 +377,7 @@ impl<S: BuildHasher + Drop> Draft<S> {
         ensures full { result ≡ Err (faults.Log Full) → 2 ^ 32 - 1 ≤ size_of self.old }
     {
         key.has_name();
-        if !self.has_terms() {
-            return Err(SumFault::Empty);
-        }
+        self.require_terms()?;
         self.end_named(Action::Put, key)?;
         Ok(())
     }
@@ -386,9 +394,7 @@ impl<S: BuildHasher + Drop> Draft<S> {
         ensures full { result ≡ Err (faults.Log Full) → 2 ^ 32 - 1 ≤ size_of self.old }
     {
         key.has_name();
-        if !self.has_terms() {
-            return Err(SumFault::Empty);
-        }
+        self.require_terms()?;
         self.end_named(Action::PutWhen(cmp), key)?;
         Ok(())
     }
@@ -405,9 +411,7 @@ impl<S: BuildHasher + Drop> Draft<S> {
         ensures err { OnErr result (self.new ≡ self.old) }
         ensures never_full { result ≢ Err (faults.Log Full) }
     {
-        if !self.has_terms() {
-            return Err(SumFault::Empty);
-        }
+        self.require_terms()?;
         self.end_written(Action::Put, place, key)?;
         Ok(())
     }
@@ -425,9 +429,7 @@ impl<S: BuildHasher + Drop> Draft<S> {
         ensures err { OnErr result (self.new ≡ self.old) }
         ensures never_full { result ≢ Err (faults.Log Full) }
     {
-        if !self.has_terms() {
-            return Err(SumFault::Empty);
-        }
+        self.require_terms()?;
         self.end_written(Action::PutWhen(cmp), place, key)?;
         Ok(())
     }
@@ -454,9 +456,7 @@ impl<S: BuildHasher + Drop> Draft<S> {
         ensures err { OnErr result (self.new ≡ self.old) }
         ensures never_full { result ≢ Err (faults.Log Full) }
     {
-        if !self.has_terms() {
-            return Err(SumFault::Empty);
-        }
+        self.require_terms()?;
         self.end_nameless(Action::Show)?;
         Ok(())
     }

@@ -36,6 +36,17 @@ impl<T: Drop> From<AllocFailed<T>> for LogFault {
     }
 }
 
+/// Why a draft's transaction was not added to a log. The log is unchanged.
+#[derive(Clone, Copy, Debug, PartialEq, Eq, Error)]
+pub enum CloseFault {
+    /// Sums of a statement were read, and the statement was not.
+    #[error("a statement that was not ended")]
+    Open,
+    /// The log was not extended: an allocation failed, or it is full.
+    #[error("{0}")]
+    Log(LogFault),
+}
+
 /// Why a draft ended no sum, or no statement after its sums. It is unchanged.
 #[derive(Clone, Copy, Debug, PartialEq, Eq, Error)]
 pub enum SumFault {

@@ -2,7 +2,6 @@
 //! size; views show each transaction as a `Txn` of the definitions.
 #![tactic(auto)]
 
-mod call_buffer;
 mod call_columns;
 mod call_places;
 mod calling;
@@ -30,11 +29,11 @@ mod table;
 mod template;
 mod view;
 
-pub use call_buffer::CallBuffer;
+pub use call_places::CallPlaces;
 pub use declared::DeclaredKeys;
 pub use doc::Doc;
 pub use draft::Draft;
-pub use fault::{LogFault, SumFault};
+pub use fault::{CloseFault, LogFault, SumFault};
 pub use hash_seed::{DrawnSeed, FixedSeed, HashSeed};
 pub use indexed::IndexedTxn;
 pub use key_handle::KeyHandle;

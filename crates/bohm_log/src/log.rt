@@ -1,15 +1,18 @@
 //! A log of transactions in columns.
 
-ghost use Rattle.std.specs.Prelude.{◌≡◌, ◌++◌, [], ◌∷◌, IfOk, OnOk, OnErr, length};
+ghost use Rattle.std.specs.Prelude.{◌≡◌, ◌≢◌, ◌↔◌, ◌<◌, ◌≤◌, ◌+◌, ◌^◌, ◌++◌, [], ◌∷◌, Err, IfOk, OnOk};
+ghost use Rattle.std.specs.Prelude.{OnErr, IsOkAnd, length};
+ghost use Rattle.bohm_log.specs.declared.fault.LogFault.TheVariants.{Full};
+ghost use Rattle.bohm_log.specs.declared.fault.CloseFault.TheVariants as faults;
+ghost use Rattle.bohm_log.specs.Sizes.{log_size, open_terms, txn_size};
 ghost use Rattle.bohm_types.specs.Procedure.{instance};
 ghost use Rattle.bohm_log.specs.Handles.{keys_named};
 ghost use Rattle.bohm_log.specs.SoundLogs.{AreTxns};
 
-use crate::call_buffer::CallBuffer;
 use crate::call_places::CallPlaces;
 use crate::columns::{Columns, empty, make_room};
 use crate::draft::Draft;
-use crate::fault::LogFault;
+use crate::fault::{CloseFault, LogFault};
 use crate::key_handle::KeyHandle;
 use crate::part::LogPart;
 use crate::soundness::{are_named, are_values};
@@ -41,9 +44,22 @@ impl<S: BuildHasher> Model for Log<S> {
     ghost view = { λ l. map (txn_at (shared_of l.columns)) l.heads.items };
 
     ghost use Rattle.bohm_log.specs.SoundLogs.{AreTxns};
+    ghost use Rattle.bohm_log.specs.Sizes.{IsMeasured};
 
     ghost invariant = { λ l. IsLogged (shared_of l.columns) l.heads.items
-        × AreTxns (map (txn_at (shared_of l.columns)) l.heads.items) };
+        × AreTxns (map (txn_at (shared_of l.columns)) l.heads.items)
+        × IsMeasured (shared_of l.columns) (map (txn_at (shared_of l.columns)) l.heads.items) };
+}
+
+/// Adds a head, if there is one.
+#[inline(always)]
+fn push_head(heads: &mut Vec<Head>, head: Result<Head, LogFault>) -> Result<(), LogFault>
+    ensures ok { OnOk result (IsOkAnd head (λ h. heads.new.items ≡ heads.old.items ++ h ∷ [])) }
+    ensures err { OnErr result (heads.new.items ≡ heads.old.items) }
+    ensures full { result ≡ Err Full → head ≡ Err Full }
+{
+    heads.push(head?)?;
+    Ok(())
 }
 
 impl<S: BuildHasher> Log<S> {
@@ -69,53 +85,44 @@ impl<S: BuildHasher> Log<S> {
         log
     }
 
-    /// Adds the transaction that was read. An `Err` leaves the transactions as they were; names and
-    /// whatever else of this one came stay in the columns. The time grows with what the transaction
-    /// holds, and not with the log, but where a column grows.
-    pub fn close(&mut self, draft: &Draft<S>) -> Result<(), LogFault>
+    /// Adds the transaction that was read. `Open` comes exactly where sums of a statement were read
+    /// and the statement was not. `Full` comes only where the log's transactions and this one, with
+    /// their declared keys, terms and statements, are 2^26 or more. An `Err` leaves the log as it was.
+    ///
+    /// The time grows with what the transaction holds, and not with the log, but where a column grows.
+    pub fn close(&mut self, draft: &Draft<S>) -> Result<(), CloseFault>
     where
         S: Drop,
         ensures ok { OnOk result (self.new ≡ self.old ++ draft.now.txn ∷ []) }
+        ensures open { (result ≡ Err faults.Open) ↔ (0 < open_terms draft.now) }
+        ensures full { result ≡ Err (faults.Log Full)
+            → 2 ^ 26 ≤ log_size self.old + txn_size draft.now.txn }
         ensures err { OnErr result (self.new ≡ self.old) }
     {
+        if draft.is_open() {
+            return Err(CloseFault::Open);
+        }
+        let ends = self.columns.ends();
         let (edition, sheet) = draft.parts();
-        let head = self.columns.append(edition, sheet)?;
-        self.heads.push(head)?;
-        Ok(())
-    }
-
-    /// Adds the instance of a procedure. An `Err` leaves the transactions as they were; names and
-    /// whatever else of this one came stay in the columns.
-    pub fn push_call(
-        &mut self,
-        template: &Template,
-        buffer: &mut CallBuffer,
-        keys: &[Key],
-        values: &[Value],
-    ) -> Result<(), LogFault>
-    where
-        S: Drop,
-        requires values { length values.now ≡ length template.now.values }
-        ensures ok { OnOk result
-            (self.new ≡ self.old ++ instance template.now keys.now values.now ∷ []) }
-        ensures err { OnErr result (self.new ≡ self.old) }
-    {
-        self.columns.fill_handles(&mut buffer.handles, keys)?;
-        self.add_call(
-            template,
-            &mut buffer.places,
-            buffer.handles.as_slice(),
-            values,
-        )
+        let head = self.columns.append(edition, sheet);
+        match push_head(&mut self.heads, head) {
+            Ok(()) => Ok(()),
+            Err(fault) => {
+                self.columns.cut_back(ends);
+                Err(CloseFault::Log(fault))
+            }
+        }
     }
 
     /// Adds the instance of a procedure for the keys of these handles, none of which is hashed
-    /// where its number is its key's. An `Err` leaves the transactions as they were; names and
-    /// whatever else of this one came stay in the columns.
-    pub fn push_named(
+    /// where its number is its key's. `Full` comes only where the log's transactions and this one,
+    /// with their declared keys, terms and statements, are 2^26 or more. An `Err` leaves the log as it
+    /// was. The time grows with what the instance holds.
+    #[tactic(auto, using(crate::proofs::Viewing::mapped_length))]
+    pub fn push_call(
         &mut self,
         template: &Template,
-        buffer: &mut CallBuffer,
+        places: &mut CallPlaces,
         keys: &[KeyHandle],
         values: &[Value],
     ) -> Result<(), LogFault>
@@ -125,53 +132,56 @@ impl<S: BuildHasher> Log<S> {
         ensures ok { OnOk result
             (self.new ≡ self.old
             ++ instance template.now (keys_named keys.now) values.now ∷ []) }
+        ensures full { result ≡ Err Full → 2 ^ 26 ≤ log_size self.old
+            + txn_size (instance template.now (keys_named keys.now) values.now) }
         ensures err { OnErr result (self.new ≡ self.old) }
     {
-        self.add_call(template, &mut buffer.places, keys, values)
-    }
-
-    #[tactic(auto, using(crate::proofs::Viewing::mapped_length))]
-    fn add_call(
-        &mut self,
-        template: &Template,
-        places: &mut CallPlaces,
-        args: &[KeyHandle],
-        values: &[Value],
-    ) -> Result<(), LogFault>
-    where
-        S: Drop,
-        requires values { length values.now ≡ length template.now.values }
-        ensures ok { OnOk result
-            (self.new ≡ self.old
-            ++ instance template.now (keys_named args.now) values.now ∷ []) }
-        ensures err { OnErr result (self.new ≡ self.old) }
-    {
-        are_named(args);
+        are_named(keys);
         are_values(values);
+        let ends = self.columns.ends();
         let head = self.columns.append_call(
             template.edition,
             &template.body,
             template.values.as_slice(),
             places,
-            args,
+            keys,
             values,
-        )?;
-        self.heads.push(head)?;
-        Ok(())
+        );
+        match push_head(&mut self.heads, head) {
+            Ok(()) => Ok(()),
+            Err(fault) => {
+                self.columns.cut_back(ends);
+                Err(fault)
+            }
+        }
     }
 
-    /// The handle of a key, which gets a number if it has none. The transactions stay as they are.
+    /// The handle of a key with the number that it is likely to have: the one that was noted last
+    /// for its hash. Nothing is searched for.
+    #[inline(always)]
+    pub fn noted_handle(&self, key: &Key) -> KeyHandle
+        ensures { result.key ≡ key.now }
+    {
+        self.columns.noted_handle(key)
+    }
+
+    /// The handle of a key, which gets a number if it has none and fewer than 2^30 keys have one. The
+    /// transactions stay as they are. The time doesn't grow with the log, but where its table of keys
+    /// grows.
     pub fn handle(&mut self, key: &Key) -> Result<KeyHandle, LogFault>
     where
         S: Drop,
         ensures key { IfOk result (λ h. h.key ≡ key.now) }
         ensures same { self.new ≡ self.old }
+        ensures never_full { result ≢ Err Full }
     {
         self.columns.handle(key)
     }
 
-    /// Removes all transactions. Their room is kept for others, and their keys' numbers too, where
-    /// keys are at most four times as many as were declared.
+    /// Removes all transactions. Their room is kept where it is for at most four times as many, or for
+    /// some thousand. Keys keep their numbers where there are at most 16,384, or at most four for each
+    /// key that a transaction declared and each handle that was made, of which 65,536 count. Else no
+    /// key has a number.
     pub fn clear(&mut self)
     where
         S: Drop,

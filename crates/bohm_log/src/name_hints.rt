@@ -10,6 +10,9 @@ const FEWEST: usize = 256;
 
 const MOST: usize = 65536;
 
+/// How many numbers there are at least for a name, up to the most, so that few names share one.
+const FOR_A_NAME: usize = 4;
+
 /// For each of some thousand hashes the number of the last name that had it. A number is compared
 /// with the name before it is used: a wrong one costs the search that would be needed without it,
 /// so none is ever cleared.
@@ -52,11 +55,11 @@ impl NameHints {
         }
     }
 
-    /// Notes the number of a name. Room is made for as many names as there are, up to 65,536: where
-    /// there is no memory for it, it stays as it is.
+    /// Notes the number of a name. Room is made for at least four numbers a name, up to 65,536. Where
+    /// there is no memory for them, there stay as many as there are.
     pub fn note(&mut self, name: &Key, number: u32) {
         let count = self.numbers.len();
-        if number as usize >= count && count < MOST {
+        if number as usize >= count / FOR_A_NAME && count < MOST {
             let _ = self
                 .numbers
                 .resize(if count == 0 { FEWEST } else { 4 * count }, 0);

@@ -116,6 +116,9 @@ impl<S: BuildHasher> Names<S> {
     pub fn clear(&mut self)
         ensures { self.new ≡ [] }
     {
+        if self.set.is_empty() {
+            return;
+        }
         self.set.clear();
         if self.set.capacity() > KEPT_ROOM {
             self.set.shrink_to_fit();

@@ -1,13 +1,13 @@
 //! Procedures in columns.
 
 ghost use Rattle.std.specs.Prelude.{◌≡◌, ◌≢◌, ◌≤◌, ◌+◌, ◌^◌, Err, length, map, take, IfOk, OnOk};
-ghost use Rattle.std.specs.List.{AllByRecursion};
+ghost use Rattle.std.specs.List.{AllByRecursion, sum_by};
 ghost use Rattle.bohm_types.specs.Keys.{IsAmong};
 ghost use Rattle.bohm_types.specs.Accesses.{StmtReads, StmtWrites};
 ghost use Rattle.bohm_log.specs.Calling.{declared_name};
 ghost use Rattle.bohm_log.specs.Locals.{ArePlacesOf};
 ghost use Rattle.bohm_log.specs.Parts.{Begins};
-ghost use Rattle.bohm_log.specs.Sizes.{size_of};
+ghost use Rattle.bohm_log.specs.Sizes.{open_terms, size_of, stmt_terms};
 ghost use Rattle.bohm_log.specs.declared.fault.LogFault.TheVariants.{Full};
 ghost use Rattle.bohm_types.specs.Procedure.{procedure_with};
 ghost use Rattle.bohm_types.specs.Limits.{most_keys};
@@ -68,8 +68,12 @@ impl Model for Template {
     ghost view = { λ t. procedure_of t.edition t.keys.items t.values.items (parts_in t.body) };
 
     ghost use Rattle.bohm_log.specs.SoundLogs.{IsSoundProcedure};
+    ghost use Rattle.bohm_log.specs.Sizes.{IsFilled};
 
-    ghost invariant = { λ t. IsTemplate t.keys.items t.body t.values.items × IsSoundProcedure
+    ghost invariant = { λ t. IsTemplate t.keys.items t.body t.values.items
+        × IsSoundProcedure
+        (procedure_of t.edition t.keys.items t.values.items (parts_in t.body))
+        × IsFilled (parts_in t.body)
         (procedure_of t.edition t.keys.items t.values.items (parts_in t.body)) };
 }
 
@@ -80,6 +84,7 @@ fn place_names<S: BuildHasher + Drop>(
     names: &[Key],
 ) -> Result<(), LogFault>
     ensures grows { OnOk result (Begins others.old others.new) }
+    ensures longer { OnOk result (length others.new ≤ length others.old + length names.now) }
     ensures places { OnOk result (ArePlacesOf others.new names.now places.new.items) }
     ensures full { result ≡ Err Full → 2 ^ 32 ≤ length others.old + length names.now }
 {
@@ -133,8 +138,9 @@ impl Template {
         self.edition
     }
 
-    /// The procedure whose own instance was read: first a statement for each value. `Full` comes
-    /// only where its terms, its statements and the values are 2^32 or more.
+    /// The procedure whose own instance was read: first a statement for each value, which have no
+    /// more terms than there are values. `Full` comes only where its terms, its statements and the
+    /// values are 2^32 or more.
     pub fn new<S: BuildHasher + Drop>(
         alloc: Global,
         draft: Draft<S>,
@@ -142,6 +148,8 @@ impl Template {
         values: &[Key],
     ) -> Result<Template, LogFault>
         requires lets { length values.now ≤ length draft.txn.body }
+        requires short { sum_by stmt_terms (take (length values.now) draft.txn.body)
+            + open_terms draft ≤ length values.now }
         requires few_reads { length draft.txn.reads ≤ most_keys }
         requires few_writes { length draft.txn.writes ≤ most_keys }
         requires reads { AllByRecursion (StmtReads (IsAmong draft.txn.reads)) draft.txn.body }

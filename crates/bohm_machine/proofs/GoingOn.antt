@@ -61,6 +61,7 @@ went keep was now txns a ordered low h =
       floor = floor;
       earlier = λ ts above below. h.earlier ts (omega (arith, above, floor)) below;
       later = λ ts above below. h.later ts (omega (arith, above, floor, ordered)) above below;
+      count = h.count;
     }
 
 -- before the first transaction
@@ -71,6 +72,7 @@ at_rest m = record {
   floor = refl;
   earlier = λ ts above below. refl;
   later = λ ts above below. let e : ts ≡ top_of m = omega (arith, above, below) in let z : ts - top_of m ≡ 0 = omega (arith, e) in rw z (ap (past_of m) e);
+  count = omega arith;
 }
 
 -- a machine that was restored

@@ -4,7 +4,7 @@ use Rattle.bohm_types.specs.Txn.{Txn}
 use Rattle.bohm_txn.specs.declared.outcome.Reply.{Reply}
 use Rattle.bohm_txn.specs.Meaning.{Look}
 use Rattle.bohm_txn.specs.Serial.{state, replies}
-use Rattle.bohm_store.specs.Versions.{Timeline, past}
+use Rattle.bohm_store.specs.Versions.{Timeline, declared_writes, past, total}
 
 -- a machine is seen as its history
 abbrev pub top_of : Timeline → ℕ
@@ -28,6 +28,7 @@ pub record GoesOn (was now : Timeline) (txns : List Txn) (answered : List Reply)
   pub floor : floor_of now ≡ floor_of was
   pub earlier : (ts : ℕ) → floor_of was ≤ ts → ts ≤ top_of was → past_of now ts ≡ past_of was ts
   pub later : (ts : ℕ) → top_of was ≤ ts → ts ≤ top_of now → past_of now ts ≡ state (now_of was) txns (ts - top_of was)
+  pub count : total now.chains ≤ total was.chains + declared_writes txns
 
 -- behind a timestamp at which it had this look, the machine has run this log: from the floor to the top its past is the serial run of the log
 pub record HasRun (look : Look) (start : ℕ) (log : List Txn) (m : Timeline) : Type 0 where

@@ -2,6 +2,7 @@
 use Rattle.std.proofs.Common.{◌≡◌, ◌≢◌, ℕ, ◌+◌, ◌<◌, ◌≤◌, ◌%◌, ◌==◌, ◌||◌, Bool, true, false, List, [], ◌∷◌, ◌++◌, length, map, take, drop, get_or}
 use Rattle.std.proofs.Common.{slice_get, refl, sym, ap, ◌∙◌, arith, if◌then◌else◌, max, nat_lt, append_assoc, append-nil, add-zero, length-append}
 use Rattle.std.proofs.Math.Bool.{or-false}
+use Rattle.std.proofs.lemmas.Grind.{common_steps}
 use Rattle.std.proofs.lemmas.Bool.Decides.{nat_tests}
 use Rattle.std.proofs.lemmas.List.{drop_more, take_more, map-append, length-take-le, length-map}
 use Rattle.std.specs.List.{AllByRecursion}
@@ -179,6 +180,17 @@ module _ (part : List ℕ → ℕ) (n : ℕ) (f : List Txn → List ℕ → Plac
   found_next w = greater_found (λ k. nat_lt (part k % n) w) (keys_of part n w) f [] xs
       ∙ found_same (λ k. nat_lt (part k % n) w || keys_of part n w k) (λ k. nat_lt (part k % n) (w + 1)) f f
       (λ done k. ap (λ b. if b then f done k else none) (next_or (part k % n) w)) [] xs
+
+  -- the next worker's are joined into those of the workers so far
+  pub found_joined : (w size : ℕ) (before joined : List Placeholder) → size ≡ length before → before ≡ found_by (λ k. nat_lt (part k % n) w) f [] xs
+      → joined ≡ greater before (found_by (keys_of part n w) f [] xs)
+      → take size (joined ++ drop (length joined) before) ≡ found_by (λ k. nat_lt (part k % n) (w + 1)) f [] xs
+  found_joined w size before joined sized so_far is =
+      let whole : joined ≡ found_by (λ k. nat_lt (part k % n) (w + 1)) f [] xs = rw (is, so_far) (found_next w) in
+      let many : length joined ≡ length before =
+      rw (whole, so_far) (length-found_by (λ k. nat_lt (part k % n) (w + 1)) (λ k. nat_lt (part k % n) w) f [] xs) in
+      let all : take size (joined ++ drop (length joined) before) ≡ joined = grind (arith, common_steps) in
+      all ∙ whole
 
 module _ (part : List ℕ → ℕ) (n w : ℕ) (old new hand given : List Keyed) (more : List ℕ → List Placeholder) where
   gathered_by : ((p : ℕ) → p < length old → slice_get new p ≡ (if ((p % n) == w) then slice_get hand p else slice_get old p))

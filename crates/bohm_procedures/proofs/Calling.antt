@@ -1,14 +1,17 @@
 -- A procedure's own instance is checked alone; handles are as many as their keys.
-use Rattle.std.proofs.Common.{◌≡◌, ℕ, ◌<◌, Bool, true, false, List, [], ◌∷◌, ◌++◌, length, Some, None, Ok, Err, refl, sym, ap, ◌∙◌, subst, arith, ◌≤◌}
-use Rattle.std.specs.Prelude.{ℤ, Option, Result, OnOk, OnErr, is_err}
-use Rattle.std.specs.List.{list_all}
+use Rattle.std.proofs.Common.{◌≡◌, ℕ, true, false, List, [], ◌∷◌, ◌++◌, length, Some, Ok, Err, refl, sym, ap, ◌∙◌, arith, ◌≤◌, ◌+◌, map, take}
+use Rattle.std.specs.Prelude.{ℤ, Result, OnOk, is_err}
+use Rattle.std.specs.List.{sum_by}
+use Rattle.std.proofs.lemmas.List.Sums.{sum_by-append}
 use Rattle.std.proofs.lemmas.Option.{same_Some}
 use Rattle.bohm_types.specs.declared.edition.Edition.{Edition}
 use Rattle.bohm_types.specs.declared.edition.Edition.TheVariants.{One, Two}
 use Rattle.bohm_types.specs.Txn.{Txn}
 use Rattle.bohm_log.specs.declared.key_handle.KeyHandle.{KeyHandle}
+use Rattle.bohm_log.specs.Drafting.{Drafted, IsBetween}
 use Rattle.bohm_log.specs.Handles.{keys_named}
-use Rattle.bohm_types.specs.Document.{Document, same_edition, in_edition, document_of}
+use Rattle.bohm_log.specs.Sizes.{open_terms, stmt_terms}
+use Rattle.bohm_types.specs.Document.{Document, same_edition, document_of}
 use Rattle.bohm_txn.specs.Faulty.{alone}
 use Rattle.bohm_text.specs.ProcedureReading.{let_zero}
 use Rattle.bohm_procedures.specs.Accepting.{BeginsWithLets}
@@ -35,6 +38,20 @@ closed_alone (Err x) old new t went ok none = absurd cc
 
 pub lets_within : (t : Txn) (values : List (List ℕ)) → BeginsWithLets t values → length values ≤ length t.body
 lets_within t values e = omega (arith, sym (length-map values let_zero), ap length e, length-take (length values) t.body)
+
+zeros_terms : (xs : List (List ℕ)) → sum_by stmt_terms (map let_zero xs) ≡ length xs
+zeros_terms [] = refl
+zeros_terms (x ∷ xs) =
+    let split : sum_by stmt_terms (map let_zero (x ∷ xs)) ≡ 1 + sum_by stmt_terms (map let_zero xs) =
+    sum_by-append stmt_terms (let_zero x ∷ []) (map let_zero xs) in
+    omega (arith, split, zeros_terms xs)
+
+-- each value's statement has one term
+pub lets_short : (d : Drafted) (values : List (List ℕ)) → BeginsWithLets d.txn values → IsBetween d
+    → sum_by stmt_terms (take (length values) d.txn.body) + open_terms d ≤ length values
+lets_short d values e whole =
+    let none : open_terms d ≡ 0 = rw (whole.done, whole.latest) refl in
+    omega (arith, ap (sum_by stmt_terms) e, zeros_terms values, none)
 
 pub own_alone : {X F : Type 0} (e : Edition) (t : Txn) (r : Result X F) (old new : List Txn) (store : List (List ℕ × ℤ)) (d : Document)
     → is_err r ≡ false → OnOk r (new ≡ old ++ t ∷ []) → old ≡ [] → store ≡ [] → t.edition ≡ e → Some d ≡ document_of e store new → d ≡ alone t

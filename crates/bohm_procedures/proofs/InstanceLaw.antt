@@ -1,31 +1,29 @@
 -- Every instance of an accepted procedure is well formed.
-use Rattle.std.proofs.Common.{◌≡◌, ℕ, zero, suc, ◌≤◌, ◌<◌, ◌+◌, ◌-◌, ◌^◌, Bool, true, false, cond, List, [], ◌∷◌, ◌++◌}
-use Rattle.std.proofs.Common.{length, map, take, drop, Option, Some, None, refl, sym, ap, ◌∙◌, subst, arith}
-use Rattle.std.proofs.Common.{length-append}
-use Rattle.std.specs.Prelude.{ℤ, pos, negsuc, ◌||◌, ◌&&◌, not, nat_le, nat_lt, count_by, if◌then◌else◌}
-use Rattle.std.specs.List.{list_any, list_all, fold, IsDistinct}
-use Rattle.std.specs.Str.{bytes_eq}
-use Rattle.std.proofs.lemmas.Bool.{and_parts, false_from_ne_true}
+use Rattle.std.proofs.Common.{◌≡◌, ℕ, zero, suc, ◌+◌, ◌-◌, ◌^◌, Bool, true, false, cond, List, [], ◌∷◌, ◌++◌}
+use Rattle.std.proofs.Common.{length, map, take, drop, refl, sym, ap, ◌∙◌, subst, arith}
+use Rattle.std.specs.Prelude.{ℤ, ◌||◌, not, nat_le, nat_lt, count_by, if◌then◌else◌}
+use Rattle.std.specs.List.{fold}
+use Rattle.std.proofs.lemmas.Bool.{false_from_ne_true}
 use Rattle.std.proofs.lemmas.Bool.Decides.{nat_tests}
-use Rattle.bohm_types.specs.Keys.{is_among, IsAmong, some_passes, rising}
-use Rattle.bohm_types.specs.Parts.{sums, tested, target, bound, is_show}
-use Rattle.bohm_types.specs.Term.{Atom, Lit, Read, Local}
-use Rattle.bohm_types.specs.Stmt.{Cond, Stmt, Bind}
+use Rattle.bohm_types.specs.Keys.{IsAmong, rising}
+use Rattle.bohm_types.specs.Parts.{bound, is_show}
+use Rattle.bohm_types.specs.Term.{Lit}
+use Rattle.bohm_types.specs.Stmt.{Stmt, Bind}
 use Rattle.bohm_types.specs.Txn.{Txn}
-use Rattle.bohm_types.specs.Document.{Document}
 use Rattle.bohm_txn.specs.declared.fault.CheckKind.{CheckKind}
 use Rattle.bohm_txn.specs.declared.fault.CheckKind.TheVariants.{Order, Unread, Unwritten, Local as LocalFault, Limit}
-use Rattle.bohm_txn.specs.Faulty.{is_bound, binds, is_unread, is_unwritten, is_misnamed, is_long, stmt_faulty}
-use Rattle.bohm_txn.specs.Faulty.{sets_faulty, txn_faulty, faulty, passes_at, alone, WellFormed, IsWellFormedTxn}
+use Rattle.bohm_txn.specs.Faulty.{is_unread, is_unwritten, is_misnamed, is_long, stmt_faulty}
+use Rattle.bohm_txn.specs.Faulty.{sets_faulty, txn_faulty, faulty, passes_at, alone, IsWellFormedTxn}
 use Rattle.bohm_types.specs.Substitution.{stmt_with}
 use Rattle.bohm_types.specs.KeySets.{key_set}
-use Rattle.bohm_types.specs.Procedure.{Procedure, stands_for, is_minus, sum_by, sum_of, lets, instance, procedure_with}
+use Rattle.bohm_types.specs.Procedure.{Procedure, stands_for, is_minus, sum_of, lets, instance, procedure_with}
 use Rattle.std.proofs.lemmas.List.{take-append-drop}
 use Rattle.bohm_text.specs.ProcedureReading.{let_zero}
 use Rattle.bohm_procedures.specs.Accepting.{own, IsAccepted, BeginsWithLets}
 use Rattle.std.specs.Int.RustNames.{unsigned_abs}
-use Rattle.bohm_procedures.proofs.KeySetLaws.{key_set_rises, key_set_few, among_key_set_map}
-use Rattle.bohm_procedures.proofs.SubstitutionLaws.{Covers, BindAlike, unread_with, unwritten_with, misnamed_with, long_with, bound_with, show_with}
+use Rattle.bohm_log.proofs.ForCallers.{key_set_few}
+use Rattle.bohm_procedures.proofs.KeySetLaws.{key_set_rises, among_key_set_map}
+use Rattle.bohm_procedures.proofs.SubstitutionLaws.{Covers, BindAlike, unread_with, unwritten_with, misnamed_with, long_with, parts_with}
 
 -- the second statement is faultless where the first one is: it names the same locals, and keys that the others stand for
 pub record Mirrors (f : List ℕ → List ℕ) (s t : Stmt) : Type 0 where
@@ -38,8 +36,8 @@ pub record Mirrors (f : List ℕ → List ℕ) (s t : Stmt) : Type 0 where
 
 mirrors_with : (f : List ℕ → List ℕ) (s : Stmt) → Mirrors f s (stmt_with f s)
 mirrors_with f s = record {
-  binds = bound_with f s;
-  shows = show_with f s;
+  binds = (parts_with f s).binds;
+  shows = (parts_with f s).shows;
   reads = λ keys others covers. unread_with f keys others covers s;
   writes = λ keys others covers. unwritten_with f keys others covers s;
   names = λ before now alike. misnamed_with f before now alike s;

@@ -1,21 +1,19 @@
 -- Where the sets rise, the own instance is the instance for the procedure's own names and zeros.
-use Rattle.std.proofs.Common.{◌≡◌, ℕ, Bool, true, false, List, [], ◌∷◌, ◌++◌, map, get_or, Option, Some, None, refl, ap, sym, ◌∙◌, subst}
-use Rattle.std.specs.Prelude.{ℤ, pos, ◌&&◌, slice_index_or}
+use Rattle.std.proofs.Common.{◌≡◌, ℕ, Bool, true, List, [], ◌∷◌, ◌++◌, map, get_or, Option, Some, None, refl, ap, ◌∙◌}
+use Rattle.std.specs.Prelude.{pos}
 use Rattle.std.specs.Str.{bytes_eq}
 use Rattle.std.specs.Ordering.{nat_cmp, is_lt}
 use Rattle.std.specs.declared.cmp.Ordering.TheVariants.{Less}
 use Rattle.std.specs.Cmp.Lexicographic.{slice_cmp}
-use Rattle.std.specs.List.{position, position_from}
 use Rattle.std.proofs.lemmas.Bool.{and_parts}
 use Rattle.std.proofs.lemmas.Iterator.Adapters.{position_from-zero}
 use Rattle.std.proofs.lemmas.List.Quantifiers.{position-Some}
-use Rattle.std.proofs.lemmas.List.{get_or_default}
 use Rattle.bohm_types.specs.Keys.{rising, rises_from, place}
 use Rattle.bohm_types.specs.Term.{Atom, Lit, Read, Local}
 use Rattle.bohm_types.specs.Stmt.{Cond, Stmt, Bind, Need, Has, Lacks, Put, Remove, Show, Fail}
 use Rattle.bohm_types.specs.KeySets.{inserted_by, inserted, key_set}
-use Rattle.bohm_types.specs.Substitution.{atom_with, term_with, sum_with, cond_with, guard_with, stmt_with}
-use Rattle.bohm_types.specs.Procedure.{Procedure, argument_or, stands_for, sum_of, lets, instance}
+use Rattle.bohm_types.specs.Substitution.{atom_with, sum_with, guard_with, stmt_with}
+use Rattle.bohm_types.specs.Procedure.{Procedure, argument_or, stands_for, lets, instance}
 use Rattle.bohm_txn.proofs.ForCallers.{same_key, less}
 use Rattle.bohm_text.specs.ProcedureReading.{let_zero}
 use Rattle.bohm_procedures.specs.Accepting.{own}

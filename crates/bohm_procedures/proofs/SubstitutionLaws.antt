@@ -1,68 +1,36 @@
 -- What a statement with other keys keeps of the statement.
-use Rattle.std.proofs.Common.{◌≡◌, ℕ, ◌≤◌, Bool, true, false, List, [], ◌∷◌, length, map, Option, Some, None, refl, sym, ap, ◌∙◌, subst, arith}
-use Rattle.std.specs.Prelude.{◌||◌, ◌&&◌, not, nat_le}
-use Rattle.std.specs.List.{list_any, list_all}
+use Rattle.std.proofs.Common.{◌≡◌, ℕ, Bool, true, false, List, [], ◌∷◌, length, map, Option, Some, None, refl, sym, ◌∙◌, subst}
+use Rattle.std.specs.Prelude.{◌||◌, not, nat_le}
+use Rattle.std.specs.List.{list_all}
 use Rattle.std.specs.Option.{option_map}
-use Rattle.std.proofs.lemmas.Bool.{and_parts}
+use Rattle.std.proofs.lemmas.Bool.{and_parts, not-false, not_from_true}
+use Rattle.std.proofs.lemmas.List.{length-map}
 use Rattle.bohm_types.specs.Keys.{is_among, IsAmong, some_passes}
-use Rattle.bohm_types.specs.Parts.{sums, guard_sums, tested, target, bound, is_show}
+use Rattle.bohm_types.specs.Parts.{sums, tested, target, bound, is_show}
 use Rattle.bohm_types.specs.Term.{Atom, Lit, Read, Local}
-use Rattle.bohm_types.specs.Stmt.{Cond, Stmt, Bind, Need, Has, Lacks, Put, Remove, Show, Fail}
+use Rattle.bohm_types.specs.Stmt.{Stmt, Bind, Need, Has, Lacks, Put, Remove, Show, Fail}
 use Rattle.bohm_txn.specs.Faulty.{reads_among, locals_bound, is_bound, is_unread, is_unwritten, is_misnamed, is_long}
-use Rattle.bohm_types.specs.Substitution.{atom_with, term_with, sum_with, cond_with, guard_with, stmt_with}
+use Rattle.bohm_types.specs.Substitution.{atom_with, term_with, sum_with, stmt_with}
 
 -- ---- its parts
 
-pub sums_with : (f : List ℕ → List ℕ) (s : Stmt) → sums (stmt_with f s) ≡ map (sum_with f) (sums s)
-sums_with f (Bind x sum) = refl
-sums_with f (Need c) = refl
-sums_with f (Has k) = refl
-sums_with f (Lacks k) = refl
-sums_with f (Put k sum None) = refl
-sums_with f (Put k sum (Some c)) = refl
-sums_with f (Remove k) = refl
-sums_with f (Show sum) = refl
-sums_with f Fail = refl
+pub record IsWith (f : List ℕ → List ℕ) (s t : Stmt) : Type 0 where
+  pub sums_are : sums t ≡ map (sum_with f) (sums s)
+  pub tests : tested t ≡ option_map f (tested s)
+  pub targets : target t ≡ option_map f (target s)
+  pub binds : bound t ≡ bound s
+  pub shows : is_show t ≡ is_show s
 
-pub tested_with : (f : List ℕ → List ℕ) (s : Stmt) → tested (stmt_with f s) ≡ option_map f (tested s)
-tested_with f (Bind x sum) = refl
-tested_with f (Need c) = refl
-tested_with f (Has k) = refl
-tested_with f (Lacks k) = refl
-tested_with f (Put k sum guard) = refl
-tested_with f (Remove k) = refl
-tested_with f (Show sum) = refl
-tested_with f Fail = refl
-
-pub target_with : (f : List ℕ → List ℕ) (s : Stmt) → target (stmt_with f s) ≡ option_map f (target s)
-target_with f (Bind x sum) = refl
-target_with f (Need c) = refl
-target_with f (Has k) = refl
-target_with f (Lacks k) = refl
-target_with f (Put k sum guard) = refl
-target_with f (Remove k) = refl
-target_with f (Show sum) = refl
-target_with f Fail = refl
-
-pub bound_with : (f : List ℕ → List ℕ) (s : Stmt) → bound (stmt_with f s) ≡ bound s
-bound_with f (Bind x sum) = refl
-bound_with f (Need c) = refl
-bound_with f (Has k) = refl
-bound_with f (Lacks k) = refl
-bound_with f (Put k sum guard) = refl
-bound_with f (Remove k) = refl
-bound_with f (Show sum) = refl
-bound_with f Fail = refl
-
-pub show_with : (f : List ℕ → List ℕ) (s : Stmt) → is_show (stmt_with f s) ≡ is_show s
-show_with f (Bind x sum) = refl
-show_with f (Need c) = refl
-show_with f (Has k) = refl
-show_with f (Lacks k) = refl
-show_with f (Put k sum guard) = refl
-show_with f (Remove k) = refl
-show_with f (Show sum) = refl
-show_with f Fail = refl
+pub parts_with : (f : List ℕ → List ℕ) (s : Stmt) → IsWith f s (stmt_with f s)
+parts_with f (Bind x sum) = record { sums_are = refl; tests = refl; targets = refl; binds = refl; shows = refl }
+parts_with f (Need c) = record { sums_are = refl; tests = refl; targets = refl; binds = refl; shows = refl }
+parts_with f (Has k) = record { sums_are = refl; tests = refl; targets = refl; binds = refl; shows = refl }
+parts_with f (Lacks k) = record { sums_are = refl; tests = refl; targets = refl; binds = refl; shows = refl }
+parts_with f (Put k sum None) = record { sums_are = refl; tests = refl; targets = refl; binds = refl; shows = refl }
+parts_with f (Put k sum (Some c)) = record { sums_are = refl; tests = refl; targets = refl; binds = refl; shows = refl }
+parts_with f (Remove k) = record { sums_are = refl; tests = refl; targets = refl; binds = refl; shows = refl }
+parts_with f (Show sum) = record { sums_are = refl; tests = refl; targets = refl; binds = refl; shows = refl }
+parts_with f Fail = record { sums_are = refl; tests = refl; targets = refl; binds = refl; shows = refl }
 
 -- ---- tests of all
 
@@ -81,13 +49,6 @@ not_or false b h = absurd cc
 from_not_or : (a b : Bool) → a ≡ true → b ≡ false → (not a || b) ≡ false
 from_not_or a b e h = rw (e, h) refl
 
-not_true : (a : Bool) → not a ≡ false → a ≡ true
-not_true true h = refl
-not_true false h = absurd cc
-
-from_true : (a : Bool) → a ≡ true → not a ≡ false
-from_true a e = rw e refl
-
 -- every key among some stands for one among others
 abbrev pub Covers : (List ℕ → List ℕ) → List (List ℕ) → List (List ℕ) → Type 0
 Covers f keys others = (k : List ℕ) → IsAmong keys k → IsAmong others (f k)
@@ -95,7 +56,7 @@ Covers f keys others = (k : List ℕ) → IsAmong keys k → IsAmong others (f k
 pub key_covered : (f : List ℕ → List ℕ) (keys others : List (List ℕ)) → Covers f keys others → (o : Option (List ℕ))
     → some_passes (λ k. not (is_among keys k)) o ≡ false → some_passes (λ k. not (is_among others k)) (option_map f o) ≡ false
 key_covered f keys others covers None h = refl
-key_covered f keys others covers (Some k) h = from_true _ (covers k (not_true _ h))
+key_covered f keys others covers (Some k) h = not_from_true _ (covers k (not-false _ h))
 
 atom_covered : (f : List ℕ → List ℕ) (keys others : List (List ℕ)) → Covers f keys others → (a : Atom) → reads_among keys a ≡ true
     → reads_among others (atom_with f a) ≡ true
@@ -108,16 +69,16 @@ pub unread_with : (f : List ℕ → List ℕ) (keys others : List (List ℕ)) �
 unread_with f keys others covers s h =
     let (reads, tests) = not_or (list_all (list_all (λ term. reads_among keys term.1)) (sums s)) (some_passes (λ k. not (is_among keys k)) (tested s)) h in
     let all_read : list_all (list_all (λ term. reads_among others term.1)) (sums (stmt_with f s)) ≡ true =
-    rw (sums_with f s) (all_map (list_all (λ term. reads_among keys term.1)) (list_all (λ term. reads_among others term.1)) (sum_with f)
+    rw (parts_with f s).sums_are (all_map (list_all (λ term. reads_among keys term.1)) (list_all (λ term. reads_among others term.1)) (sum_with f)
     (λ sum. all_map (λ term. reads_among keys term.1) (λ term. reads_among others term.1) (term_with f) (λ t. atom_covered f keys others covers t.1) sum)
     (sums s) reads) in
     let none_else : some_passes (λ k. not (is_among others k)) (tested (stmt_with f s))
-    ≡ false = rw (tested_with f s) (key_covered f keys others covers (tested s) tests) in
+    ≡ false = rw (parts_with f s).tests (key_covered f keys others covers (tested s) tests) in
     from_not_or _ _ all_read none_else
 
 pub unwritten_with : (f : List ℕ → List ℕ) (keys others : List (List ℕ)) → Covers f keys others → (s : Stmt) → is_unwritten keys s ≡ false
     → is_unwritten others (stmt_with f s) ≡ false
-unwritten_with f keys others covers s h = rw (target_with f s) (key_covered f keys others covers (target s) h)
+unwritten_with f keys others covers s h = rw (parts_with f s).targets (key_covered f keys others covers (target s) h)
 
 -- the same locals are bound
 abbrev pub BindAlike : List Stmt → List Stmt → Type 0
@@ -139,17 +100,13 @@ pub misnamed_with : (f : List ℕ → List ℕ) (before now : List Stmt) → Bin
 misnamed_with f before now alike s h =
     let (reads, binds) = not_or (list_all (list_all (λ term. locals_bound before term.1)) (sums s)) (some_passes (is_bound before) (bound s)) h in
     let all_named : list_all (list_all (λ term. locals_bound now term.1)) (sums (stmt_with f s)) ≡ true =
-    rw (sums_with f s) (all_map (list_all (λ term. locals_bound before term.1)) (list_all (λ term. locals_bound now term.1)) (sum_with f)
+    rw (parts_with f s).sums_are (all_map (list_all (λ term. locals_bound before term.1)) (list_all (λ term. locals_bound now term.1)) (sum_with f)
     (λ sum. all_map (λ term. locals_bound before term.1) (λ term. locals_bound now term.1) (term_with f) (λ t. atom_named f before now alike t.1) sum)
     (sums s) reads) in
-    let fresh : some_passes (is_bound now) (bound (stmt_with f s)) ≡ false = rw (bound_with f s) (name_fresh before now alike (bound s) binds) in
+    let fresh : some_passes (is_bound now) (bound (stmt_with f s)) ≡ false = rw (parts_with f s).binds (name_fresh before now alike (bound s) binds) in
     from_not_or _ _ all_named fresh
-
-length_map : {A B : Type 0} (g : A → B) (xs : List A) → length (map g xs) ≡ length xs
-length_map g [] = refl
-length_map g (x ∷ xs) = rw (length_map g xs) refl
 
 pub long_with : (f : List ℕ → List ℕ) (s : Stmt) → is_long s ≡ false → is_long (stmt_with f s) ≡ false
 long_with f s h =
-    from_true _ (rw (sums_with f s) (all_map (λ sum. nat_le (length sum) 16) (λ sum. nat_le (length sum) 16) (sum_with f)
-    (λ sum e. subst (λ n. nat_le n 16 ≡ true) (sym (length_map (term_with f) sum)) e) (sums s) (not_true _ h)))
+    not_from_true _ (rw (parts_with f s).sums_are (all_map (λ sum. nat_le (length sum) 16) (λ sum. nat_le (length sum) 16) (sum_with f)
+    (λ sum e. subst (λ n. nat_le n 16 ≡ true) (sym (length-map sum (term_with f))) e) (sums s) (not-false _ h)))

@@ -9,7 +9,7 @@ ghost use Rattle.bohm_text.specs.Print.{print_doc};
 ghost use Rattle.bohm_procedures.specs.Accepting.{Takes};
 
 use crate::procedure::Procedure;
-use bohm_log::{CallBuffer, DrawnSeed, HashSeed, KeyHandle};
+use bohm_log::{CallPlaces, DrawnSeed, HashSeed, KeyHandle};
 use bohm_text::print_doc;
 use bohm_txn::Checked;
 use bohm_types::{Edition, Key, MOST_TXNS, NoMemory, Value};
@@ -21,7 +21,9 @@ use std::marker::Model;
 #[derive(Drop)]
 pub struct Calls {
     segment: Checked,
-    buffer: CallBuffer,
+    /// What a call fills, in vectors that are used again for the next one.
+    handles: Vec<KeyHandle>,
+    places: CallPlaces,
 }
 
 impl Model for Calls {
@@ -32,6 +34,21 @@ impl Model for Calls {
     ghost view = { λ c. c.segment };
 }
 
+/// The handles of keys, with the numbers that they are likely to have.
+fn fill_handles(
+    handles: &mut Vec<KeyHandle>,
+    segment: &Checked,
+    keys: &[Key],
+) -> Result<(), NoMemory>
+    ensures { OnOk result (keys_named handles.new.items ≡ keys.now) }
+{
+    handles.clear();
+    for key in keys {
+        handles.push(segment.noted_handle(key))?;
+    }
+    Ok(())
+}
+
 impl Calls {
     /// No calls, whose keys are hashed from the seed. It allocates nothing.
     pub fn new(alloc: Global, seed: DrawnSeed, edition: Edition) -> Calls
@@ -39,7 +56,8 @@ impl Calls {
     {
         Calls {
             segment: Checked::empty(alloc, HashSeed::from(seed), edition),
-            buffer: CallBuffer::new(alloc),
+            handles: Vec::new(alloc),
+            places: CallPlaces::new(alloc),
         }
     }
 
@@ -61,7 +79,8 @@ impl Calls {
     }
 
     /// Adds the instance of a procedure. `NoMemory` where an allocation fails or 32 bits of a
-    /// column are full: the calls are as they were.
+    /// column are full, which takes at least 2^26 calls, declared keys, terms and statements
+    /// together. Then the calls are as they were.
     ///
     /// Its time grows with what the instance holds, and with the square of the number of declared
     /// keys, of which there are at most 32. No text is made and none is read.
@@ -76,22 +95,21 @@ impl Calls {
             (self.new ≡ with_txn self.old (instance procedure.now keys.now values.now)) }
         ensures err { OnErr result (self.new ≡ self.old) }
     {
+        fill_handles(&mut self.handles, &self.segment, keys)?;
         let template = procedure.template();
-        match self
-            .segment
-            .push_call(template, &mut self.buffer, keys, values)
-        {
-            Ok(()) => Ok(()),
-            Err(_) => Err(NoMemory),
-        }
+        let handles = self.handles.as_slice();
+        self.segment
+            .push_call(template, &mut self.places, handles, values)
+            .map_err(|_| NoMemory)
     }
 
     /// The handle of a key, by which `push_named` finds the key's number. A key that no call named
-    /// gets a number. `NoMemory` where an allocation fails or no number of 32 bits is left. The
-    /// calls stay as they are.
+    /// gets a number, while fewer than 2^30 keys have one. `NoMemory` where an allocation fails. The
+    /// calls stay as they are. The time doesn't grow with the list, but where its table of keys grows.
     ///
     /// A handle stays good when calls are added and removed, and for other lists of calls: where
-    /// the number isn't the key's, the key is looked up again.
+    /// the number isn't the key's, the key is looked up again. Each numbered key takes memory in the
+    /// list's table, until `clear` removes the table or the list is dropped.
     pub fn handle(&mut self, key: &Key) -> Result<KeyHandle, NoMemory>
         ensures key { IfOk result (λ h. h.key ≡ key.now) }
         ensures same { self.new ≡ self.old }
@@ -127,13 +145,14 @@ impl Calls {
     {
         let template = procedure.template();
         self.segment
-            .push_named(template, &mut self.buffer, keys, values)
+            .push_call(template, &mut self.places, keys, values)
             .map_err(|_| NoMemory)
     }
 
-    /// Removes all calls. Their room is kept for others: for four times as many, or for some
-    /// thousand. So is the table of their keys, where it has at most four keys for one that a call
-    /// declared.
+    /// Removes all calls. Their room is kept where it is for at most four times as many, or for some
+    /// thousand. The table of keys is kept where it has at most 16,384 keys, or at most four for each
+    /// key that a call declared and each handle that was made, of which 65,536 count. Else it is
+    /// removed.
     pub fn clear(&mut self)
         ensures { self.new ≡ empty_document self.old.edition }
     {

@@ -1,6 +1,7 @@
 //! Procedures that were accepted.
 
-ghost use Rattle.std.specs.Prelude.{◌≡◌, ◌≢◌, ℕ, Err, IfOk, length};
+ghost use Rattle.std.specs.Prelude.{◌≡◌, ◌≢◌, ◌++◌, [], ◌∷◌, ℕ, Err, IfOk, OnOk, length};
+ghost use Rattle.bohm_log.specs.Drafting.{IsBetween};
 ghost use Rattle.bohm_types.specs.Procedure.{procedure_with};
 ghost use Rattle.bohm_text.specs.Cut.{whole_lines};
 ghost use Rattle.bohm_text.specs.ProcedureFaults.{IsFirstBadLine, IsShort};
@@ -11,7 +12,7 @@ ghost use Rattle.bohm_procedures.specs.Accepting.{BeginsWithLets, IsAccepted, Is
 ghost use Rattle.bohm_procedures.specs.declared.fault.ProcedureFault.TheVariants as faults;
 
 use crate::fault::ProcedureFault;
-use bohm_log::{Doc, Draft, DrawnSeed, HashSeed, Log, Template};
+use bohm_log::{CloseFault, Doc, Draft, DrawnSeed, HashSeed, Log, LogFault, Template};
 use bohm_text::{ProcedureReader, TextFault, parse_procedure};
 use bohm_txn::{CheckFault, check};
 use bohm_types::{Edition, Key, NoMemory};
@@ -118,6 +119,18 @@ impl Procedure {
     }
 }
 
+/// Adds the transaction of a draft between statements, so that it isn't `Open`.
+fn close_whole(log: &mut Log<HashSeed>, draft: &Draft<HashSeed>) -> Result<(), LogFault>
+    requires { IsBetween draft.now }
+    ensures { OnOk result (log.new ≡ log.old ++ draft.now.txn ∷ []) }
+{
+    match log.close(draft) {
+        Ok(()) => Ok(()),
+        Err(CloseFault::Log(fault)) => Err(fault),
+        Err(CloseFault::Open) => unreachable!(),
+    }
+}
+
 /// The procedure whose own instance was read, if that is well formed.
 fn accept(
     alloc: Global,
@@ -129,6 +142,7 @@ fn accept(
 ) -> Result<Template, ProcedureFault>
     requires edition { draft.txn.edition ≡ edition }
     requires lets { BeginsWithLets draft.txn values.now }
+    requires whole { IsBetween draft }
     ensures ok { IfOk result (λ p. p ≡ procedure_with draft.txn keys.items values.now) }
     ensures accepted { IfOk result IsAccepted }
     ensures line { (n : ℕ) → result ≢ Err (faults.Line n) }
@@ -137,7 +151,7 @@ fn accept(
         → IsFirstFault (alone draft.txn) f }
 {
     let mut log = Log::new(alloc, seed);
-    if log.close(&draft).is_err() {
+    if close_whole(&mut log, &draft).is_err() {
         return Err(ProcedureFault::NoMemory);
     }
     let doc = match Doc::new(edition, Vec::new(alloc), log) {

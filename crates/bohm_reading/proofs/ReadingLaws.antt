@@ -1,9 +1,8 @@
 -- Windows from a reader.
-use Rattle.std.proofs.Common.{◌≡◌, ◌⊎◌, inl, inr, ℕ, zero, suc, ◌+◌, ◌-◌, ◌<◌, ◌≤◌, Bool, true, false, List, [], ◌∷◌, ◌++◌, map, length}
+use Rattle.std.proofs.Common.{◌≡◌, ◌⊎◌, inl, inr, ℕ, zero, suc, ◌+◌, ◌-◌, ◌<◌, ◌≤◌, Bool, true, false, List, [], ◌∷◌, ◌++◌, length}
 use Rattle.std.proofs.Common.{take, drop, Some, None, refl, ap, sym, subst, ◌∙◌, arith, append_assoc, append-nil, length-append}
-use Rattle.std.specs.Prelude.{codes, cond, not, Option, ⊤}
+use Rattle.std.specs.Prelude.{codes, cond, not, Option}
 use Rattle.std.specs.Io.KnownBytes.{Consumes, IsAtEnd}
-use Rattle.std.specs.List.{flat_map}
 use Rattle.std.proofs.lemmas.Grind.{flat_map-append}
 use Rattle.std.proofs.lemmas.List.{take-append-le, take-append-drop}
 use Rattle.bohm_text.specs.Windows.{IsWindow}
@@ -12,7 +11,7 @@ use Rattle.bohm_text.proofs.ForCallers.{longer, lines_short}
 use Rattle.bohm_reading.specs.declared.source.Piece.{Piece}
 use Rattle.bohm_reading.specs.declared.parsing.Window.{Window}
 use Rattle.bohm_reading.specs.declared.wave.Wave.{Wave}
-use Rattle.bohm_reading.specs.Pieces.{IsInner, IsLast, IsPiece}
+use Rattle.bohm_reading.specs.Pieces.{IsPiece}
 use Rattle.std.specs.Prelude.{All}
 use Rattle.bohm_types.specs.declared.edition.Edition.{Edition}
 use Rattle.bohm_types.specs.Document.{Document}

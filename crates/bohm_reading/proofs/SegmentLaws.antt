@@ -1,6 +1,6 @@
 -- The first window, and all that stands behind it.
-use Rattle.std.proofs.Common.{◌≡◌, ◌⊎◌, inl, inr, ℕ, ◌+◌, ◌<◌, ◌≤◌, Bool, true, false, List, [], ◌∷◌, ◌++◌}
-use Rattle.std.proofs.Common.{length, refl, ap, sym, subst, ◌∙◌, arith, append_assoc, append-nil, length-append}
+use Rattle.std.proofs.Common.{◌≡◌, inl, inr, ℕ, ◌+◌, ◌<◌, ◌≤◌, true, false, List, [], ◌++◌}
+use Rattle.std.proofs.Common.{length, refl, ap, sym, subst, ◌∙◌, arith, append_assoc, length-append}
 use Rattle.std.specs.Prelude.{Option}
 use Rattle.std.specs.Io.KnownBytes.{Consumes, IsAtEnd}
 use Rattle.bohm_types.specs.Document.{Document}
@@ -17,9 +17,9 @@ use Rattle.bohm_reading.specs.declared.source.Piece.{Piece}
 use Rattle.bohm_reading.specs.declared.reading.Source.{Source}
 use Rattle.bohm_reading.specs.Pieces.{IsPiece}
 use Rattle.bohm_reading.specs.Waves.{RefusesText}
-use Rattle.bohm_reading.specs.Reading.{IsTooLong, IsSourceFault, Drains, ReadsOn, RefusesAll, RefusesOn}
-use Rattle.bohm_reading.specs.Reading.{FirstRefused, ReadsTextOf, ReadsBeginning, ReadsRefused, RefusesReading}
-use Rattle.bohm_reading.proofs.ReadingLaws.{Consumes-none, Consumes-more}
+use Rattle.bohm_reading.specs.Reading.{IsSourceFault, Drains, ReadsOn, RefusesAll, RefusesOn}
+use Rattle.bohm_reading.specs.Reading.{FirstRefused, ReadsTextOf, ReadsBeginning, RefusesReading}
+use Rattle.bohm_reading.proofs.ReadingLaws.{Consumes-more}
 
 refused_as : (u v : Option (List ℕ)) (text : List ℕ) → Consumes u v text → IsAtEnd v → length text ≤ 67108864 → (fault : ReadingFault)
     → RefusesText text fault → RefusesReading u v fault

@@ -1,9 +1,10 @@
 -- Windows one after another.
-use Rattle.std.proofs.Common.{◌≡◌, ◌⊎◌, inl, inr, ℕ, zero, suc, ◌+◌, ◌<◌, ◌≤◌, Bool, true, false, List, [], ◌∷◌, ◌++◌, map, length}
+use Rattle.std.proofs.Common.{◌≡◌, inl, inr, ℕ, suc, ◌+◌, ◌<◌, ◌≤◌, List, [], ◌∷◌, ◌++◌, map, length}
 use Rattle.std.proofs.Common.{Result, Ok, Err, refl, ap, sym, subst, ◌∙◌, arith, append_assoc, append-nil, length-append, slice_index_or}
-use Rattle.std.specs.List.{flat_map}
+use Rattle.std.specs.List.{All}
 use Rattle.std.proofs.lemmas.Grind.{flat_map-append}
 use Rattle.std.proofs.lemmas.List.{map-append}
+use Rattle.std.proofs.lemmas.List.Elements.{All-nil, All-cons, All-head, All-tail}
 use Rattle.bohm_types.specs.declared.edition.Edition.{Edition}
 use Rattle.bohm_types.specs.Document.{Document}
 use Rattle.bohm_types.specs.Txn.{Txn}
@@ -11,28 +12,38 @@ use Rattle.bohm_text.specs.declared.windows.Chunk.{Chunk}
 use Rattle.bohm_text.specs.declared.fault.WindowFault.{WindowFault}
 use Rattle.bohm_text.specs.declared.fault.WindowFault.TheVariants as windows
 use Rattle.bohm_text.specs.Cut.{whole_lines}
-use Rattle.bohm_text.specs.Faults.{IsFirstBadLine, IsShort}
+use Rattle.bohm_text.specs.Faults.{IsFirstBadLine}
 use Rattle.bohm_text.specs.Windows.{with_log, IsWindow}
 use Rattle.bohm_text.specs.Windowing.{IsWhole, ReadsWindow, IsChunkOf, IsTextOf}
 use Rattle.bohm_text.proofs.ForCallers.{lines_short, chunk_placed, bad_placed, short_placed, open_placed}
 use Rattle.bohm_reading.specs.declared.fault.ReadingFault.{ReadingFault}
 use Rattle.bohm_reading.specs.declared.fault.ReadingFault.TheVariants.{Read, TooLong, Line, Short, NoMemory}
 use Rattle.bohm_reading.specs.declared.parsing.Parsed.{Parsed}
+use Rattle.bohm_reading.specs.declared.parsing.Task.{Task}
 use Rattle.bohm_reading.specs.declared.parsing.Window.{Window}
 use Rattle.bohm_reading.specs.Waves.{IsParsed, AreParsed, AreRead, windows_of, bytes_of, AreInOrder, logs_of}
 use Rattle.bohm_reading.specs.Waves.{TakesChunk, TakesWave, IsBadAt, IsOpenAt, RefusesWindow, RefusesText, RefusesWave}
 
 -- ---- side by side
 
-pub each_parsed : (e : Edition) (ws : List Window) (ps : List Parsed) → length ps ≡ length ws
-    → ((i : ℕ) (d : Window) (f : Parsed) → i < length ws → IsParsed e (slice_index_or ws i d) (slice_index_or ps i f)) → AreParsed e ws ps
+pub each_parsed : (e : Edition) (ts : List Task) (ps : List Parsed) → length ps ≡ length ts
+    → ((i : ℕ) (d : Task) (f : Parsed) → i < length ts → IsParsed e (slice_index_or ts i d).window (slice_index_or ps i f))
+    → AreParsed e (map (λ t. t.window) ts) ps
 each_parsed e [] [] same each = tt
 each_parsed e [] (p ∷ ps) same each = absurd (omega (arith, same))
-each_parsed e (w ∷ ws) [] same each = absurd (omega (arith, same))
-each_parsed e (w ∷ ws) (p ∷ ps) same each = (
-  each 0 w p (omega arith),
-  each_parsed e ws ps (omega (arith, same)) (λ i d f low. each (suc i) d f (omega (arith, low))),
+each_parsed e (t ∷ ts) [] same each = absurd (omega (arith, same))
+each_parsed e (t ∷ ts) (p ∷ ps) same each = (
+  each 0 t p (omega arith),
+  each_parsed e ts ps (omega (arith, same)) (λ i d f low. each (suc i) d f (omega (arith, low))),
 )
+
+all_of_map : {X Y : Type 0} (P : Y → Type 0) (f : X → Y) (xs : List X) → All P (map f xs) → All (λ x. P (f x)) xs
+all_of_map P f [] h = All-nil (λ x. P (f x))
+all_of_map P f (x ∷ xs) h = All-cons (λ y. P (f y)) x xs (All-head P (f x) (map f xs) h) (all_of_map P f xs (All-tail P (f x) (map f xs) h))
+
+pub all_windows : (ts : List Task) (ws : List Window) → map (λ t. t.window) ts ≡ ws → All (λ w. IsWindow w.text.items) ws
+    → All (λ t. IsWindow t.window.text.items) ts
+all_windows ts ws same all = all_of_map (λ w. IsWindow w.text.items) (λ t. t.window) ts (subst (All (λ w. IsWindow w.text.items)) (sym same) all)
 
 -- the windows come back with what was read of them
 pub came_back : (e : Edition) (ws : List Window) (ps : List Parsed) → AreParsed e ws ps → (windows_of ps ≡ ws) × AreRead e ps

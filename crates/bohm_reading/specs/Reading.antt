@@ -7,7 +7,6 @@ use Rattle.bohm_types.specs.Txn.{Txn}
 use Rattle.bohm_text.specs.declared.windows.Chunk.{Chunk}
 use Rattle.bohm_text.specs.Cut.{whole_lines}
 use Rattle.bohm_text.specs.Print.{print_doc}
-use Rattle.bohm_text.specs.Faults.{IsFirstBadLine, IsShort}
 use Rattle.bohm_text.specs.Windows.{IsWindow, with_log}
 use Rattle.bohm_text.specs.Windowing.{IsWhole, document_of_first}
 use Rattle.bohm_text.specs.declared.windows.FirstWindow.{FirstWindow}

@@ -11,7 +11,7 @@ use crate::gathering::take_wave;
 use crate::parsing::parse_wave;
 use crate::source::{Piece, next_piece};
 use crate::wave::{Wave, next_wave};
-use bohm_log::DrawnSeed;
+use bohm_log::{DrawnSeed, HashSeed, Log};
 use bohm_text::{Chunk, FirstWindow, WindowFault, parse_first_window};
 use bohm_types::Edition;
 use std::alloc::Global;
@@ -95,7 +95,9 @@ pub fn read_first<R: Read>(
 /// is longer if a transaction is. If a window is refused, the rest of the text is read
 /// nevertheless, since a failed read and a text that is too long take precedence.
 ///
-/// The chunks are returned in the order of their windows. After an `Err` reading can't continue.
+/// The chunks are returned in the order of their windows. The columns of spare logs are used again:
+/// the first window takes the last log, and so on, and each log that is taken leaves the list. After
+/// an `Err` reading can't continue.
 ///
 /// The time grows with the length of the windows, spread over the threads except for reading and
 /// copying the bytes; the memory likewise.
@@ -106,6 +108,7 @@ pub fn read_wave<R: Read, T: Threads + Sync>(
     reader: &mut R,
     edition: Edition,
     source: &mut Source,
+    spare: &mut Vec<Log<HashSeed>>,
     size: usize,
     most: usize,
 ) -> Result<Vec<Chunk>, ReadingFault>
@@ -133,7 +136,7 @@ pub fn read_wave<R: Read, T: Threads + Sync>(
         size,
         most,
     )?;
-    let parsed = parse_wave(rt, alloc, seed, edition, windows)?;
+    let parsed = parse_wave(rt, alloc, seed, edition, windows, spare)?;
     let mut chunks = Vec::new(alloc);
     match take_wave(
         edition,

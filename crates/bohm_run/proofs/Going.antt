@@ -1,5 +1,8 @@
 -- A history that went on by some transactions and then by others went on by both.
 use Rattle.std.proofs.Common.{◌≡◌, ℕ, zero, suc, [], ◌∷◌, ◌+◌, ◌-◌, ◌<◌, ◌≤◌, ◌++◌, List, length, length-append, take, max, refl, ap, sym, ◌∙◌, arith, ⊎_elim}
+use Rattle.std.specs.List.{IsDistinct}
+use Rattle.std.specs.Map.{keys_of}
+use Rattle.std.specs.Str.{bytes_eq}
 use Rattle.std.proofs.lemmas.Bool.{cases_lt}
 use Rattle.std.proofs.lemmas.List.{length-take}
 use Rattle.bohm_types.specs.Txn.{Txn}
@@ -8,9 +11,10 @@ use Rattle.bohm_txn.specs.Meaning.{Look}
 use Rattle.bohm_txn.specs.Serial.{state, replies}
 use Rattle.bohm_txn.proofs.ForCallers.{state-append, state-front, replies-append}
 use Rattle.bohm_types.specs.declared.cell.Cell.TheVariants.{Absent}
-use Rattle.bohm_store.specs.Versions.{Timeline, past, cell_at}
+use Rattle.bohm_store.specs.Versions.{Timeline, cell_at, declared_writes, past, total, versions, versions_to}
 use Rattle.bohm_store.specs.Nexts.{IsSame, IsSettledKept}
-use Rattle.bohm_run.specs.Runs.{floor_after, IsApplied, IsStillPast, RanSome}
+use Rattle.bohm_store.proofs.ForCallers.{fewer_count, settled_early, to_few}
+use Rattle.bohm_run.specs.Runs.{floor_after, IsApplied, IsStillPast, NoneEarlier, RanSome}
 
 -- a floor of that kind lies between the old one and the top
 pub floor_low : (was now : Timeline) (keep n : ℕ) → was.floor ≤ was.top → now.floor ≡ floor_after was keep n → now.top ≡ was.top + n → now.floor ≤ now.top
@@ -38,6 +42,10 @@ floors was mid now keep (suc m) (suc n) first top second =
     let goal : now.floor ≡ max was.floor ((was.top + suc (m + suc n)) - keep) = omega (arith, f, top, s) in
     rw e goal
 
+declared-append : (xs ys : List Txn) → declared_writes (xs ++ ys) ≡ declared_writes xs + declared_writes ys
+declared-append [] ys = let none : 0 + declared_writes ys ≡ declared_writes ys = omega arith in sym none
+declared-append (x ∷ xs) ys = omega (arith, declared-append xs ys)
+
 pub went_on : (was mid now : Timeline) (xs ys : List Txn) (keep : ℕ) (a b : List Reply) → was.floor ≤ was.top → IsApplied was mid xs keep a
     → IsApplied mid now ys keep b → IsApplied was now (xs ++ ys) keep (a ++ b)
 went_on was mid now xs ys keep a b ordered h g =
@@ -58,6 +66,7 @@ went_on was mid now xs ys keep a b ordered h g =
           (λ (c : mid.top ≤ ts). g.later ts above c below ∙ ap (λ (l : Look). state l ys (ts - mid.top)) there
           ∙ sym (state-append look xs ys (ts - was.top) (ts - mid.top) (omega (arith, c, h.top, from))))
           (cases_lt ts mid.top);
+      count = omega (arith, h.count, g.count, declared-append xs ys);
     }
 
 floor_behind : (was : Timeline) (txns : List Txn) (keep floor : ℕ) → 0 < length txns → floor ≡ max was.floor ((was.top + length txns) - keep)
@@ -74,6 +83,7 @@ settled_on was now txns keep some h = record {
   floor = floor_behind was txns keep now.floor some h.floor;
   earlier = h.earlier;
   later = h.later;
+  count = h.count;
 }
 
 -- where its past stays, a history went on by what it went on by
@@ -90,6 +100,7 @@ stayed_past was mid now txns keep a ordered still h =
       later = λ ts above from below.
           still.past ts (omega (arith, above, still.floor)) (omega (arith, below, still.top))
           ∙ h.later ts (omega (arith, above, still.floor)) from (omega (arith, below, still.top));
+      count = omega (arith, still.count, h.count);
     }
 
 -- so it does where nothing that is seen changes
@@ -103,6 +114,7 @@ stayed was mid now txns keep a same h =
       floor = same.floor ∙ h.floor;
       earlier = λ ts above below. alike ts ∙ h.earlier ts (omega (arith, above, same.floor)) below;
       later = λ ts above from below. alike ts ∙ h.later ts (omega (arith, above, same.floor)) from (omega (arith, below, same.top));
+      count = omega (arith, same.count, h.count);
     }
 
 -- ---- all that a batch adds stays, and then goes
@@ -111,23 +123,25 @@ pub floor_stays : (was : Timeline) (keep n : ℕ) → was.top + n ≤ keep → f
 floor_stays was keep zero le = refl
 floor_stays was keep (suc n) le = (let z : (was.top + suc n) - keep ≡ 0 = omega (arith, le) in rw z (omega arith))
 
--- a history that ran some of the transactions, and let them go, has the past that it had
+-- a history that ran some of the transactions, and let them go, has the past that it had, and no more versions
 pub taken_back : (was mid now : Timeline) (txns : List Txn) (keep : ℕ) → was.top + length txns ≤ keep → RanSome was mid txns keep
-    → now.floor ≡ mid.floor → now.top ≡ was.top → ((ts : ℕ) → ts ≤ was.top → past now ts ≡ past mid ts) → IsStillPast was now
-taken_back was mid now txns keep room (n, a, h) floor top back =
+    → now.floor ≡ mid.floor → now.top ≡ was.top → ((ts : ℕ) → ts ≤ was.top → past now ts ≡ past mid ts) → IsDistinct bytes_eq (keys_of now.chains)
+    → ((k : List ℕ) → versions now k ≡ versions_to was.top (versions mid k)) → IsStillPast was now
+taken_back was mid now txns keep room (n, a, h, early) floor top back apart less =
     let few = length-take n txns in
     let stays : mid.floor ≡ was.floor = h.floor ∙ floor_stays was keep (length (take n txns)) (omega (arith, few, room)) in
     record {
       top = top;
       floor = floor ∙ stays;
       past = λ ts above below. back ts below ∙ h.earlier ts (omega (arith, above, stays)) below;
+      count = fewer_count was now apart (λ k. let is = less k in rw is (early k));
     }
 
 -- one that ran all of them, and is trimmed so far below its end, went on by them
 pub trimmed_on : (was mid now : Timeline) (txns : List Txn) (all keep : ℕ) (a : List Reply) → 0 < length txns → was.top + length txns ≤ all
     → IsApplied was mid txns all a → now.floor ≡ max mid.floor (mid.top - keep) → now.top ≡ mid.top
-    → ((ts : ℕ) → now.floor ≤ ts → past now ts ≡ past mid ts) → IsApplied was now txns keep a
-trimmed_on was mid now txns all keep a some room h floor top same =
+    → total now.chains ≤ total mid.chains → ((ts : ℕ) → now.floor ≤ ts → past now ts ≡ past mid ts) → IsApplied was now txns keep a
+trimmed_on was mid now txns all keep a some room h floor top few same =
     let stays : mid.floor ≡ was.floor = h.floor ∙ floor_stays was all (length txns) room in
     record {
       replies = h.replies;
@@ -135,7 +149,22 @@ trimmed_on was mid now txns all keep a some room h floor top same =
       floor = floor_behind was txns keep now.floor some (floor ∙ (λ i. max (stays i) (h.top i - keep)));
       earlier = λ ts above below. same ts above ∙ h.earlier ts (omega (arith, above, floor)) below;
       later = λ ts above from below. same ts above ∙ h.later ts (omega (arith, above, floor)) from (omega (arith, below, top));
+      count = omega (arith, few, h.count);
     }
+
+-- ---- versions up to a top
+
+pub none_earlier : (was : Timeline) → NoneEarlier was was
+none_earlier was k = to_few was.top (versions was k)
+
+-- nor are there more where nothing that is seen changes
+pub none_same : (was mid now : Timeline) → IsSame mid now → NoneEarlier was mid → NoneEarlier was now
+none_same was mid now same few k = let is = same.versions k in rw is (few k)
+
+-- nor behind transactions that follow
+pub none_settled : (was mid now : Timeline) (txns : List Txn) (low : ℕ) → was.top ≤ mid.top → IsSettledKept mid now txns low → NoneEarlier was mid
+    → NoneEarlier was now
+none_settled was mid now txns low le h few k = omega (arith, few k, settled_early mid now txns low was.top h le k)
 
 -- before the first transaction
 pub at_rest : (was : Timeline) (keep : ℕ) → IsApplied was was [] keep []
@@ -145,4 +174,5 @@ at_rest was keep = record {
   floor = refl;
   earlier = λ ts above below. refl;
   later = λ ts above from below. let e : ts ≡ was.top = omega (arith, from, below) in rw e (let z : was.top - was.top ≡ 0 = omega arith in rw z refl);
+  count = omega arith;
 }

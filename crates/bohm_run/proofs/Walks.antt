@@ -12,7 +12,7 @@ use Rattle.bohm_txn.specs.declared.outcome.Reply.{Reply}
 use Rattle.bohm_txn.specs.Serial.{replies, state}
 use Rattle.bohm_txn.specs.Stores.{Store, cell_in, store_of, store_after}
 use Rattle.bohm_txn.proofs.ForCallers.{length-replies, state-front, cell_in-after, same_store}
-use Rattle.bohm_store.specs.Versions.{Timeline, past}
+use Rattle.bohm_store.specs.Versions.{Timeline, declared_writes, past, total}
 use Rattle.bohm_place.specs.Plans.{Planned}
 use Rattle.bohm_place.specs.Cuttings.{ArePlans, Cutting, IsPlanAt, ahead, txns_at}
 use Rattle.bohm_txn.specs.Meaning.{Look}
@@ -121,6 +121,13 @@ whole_run start was now log keep a floor top opened h all =
         past = λ ts above below. g.later ts above (omega (arith, top)) below ∙ rw (from, top) (let e : ts - 0 ≡ ts = omega arith in rw e refl);
       },
     )
+
+-- each declared write of it added one version at most
+pub whole_count : (was now : Timeline) (log : List Txn) (keep : ℕ) (a : List Reply) → IsApplied was now (take (length a) log) keep a
+    → length a ≡ length log → total now.chains ≤ total was.chains + declared_writes log
+whole_count was now log keep a h all =
+    let whole : take (length a) log ≡ log = ap (λ n. take n log) all ∙ take-length log in
+    rw whole at h.count
 
 -- the entries of the store of a past timestamp
 pub store_then : (s : Store) (log : List Txn) (ts : ℕ) (entered : List (List ℕ × ℤ)) → ts ≤ length log → cell_in (store_of entered) ≡ state (cell_in s) log ts

@@ -4,7 +4,7 @@ use Rattle.bohm_types.specs.Txn.{Txn}
 use Rattle.bohm_txn.specs.declared.outcome.Reply.{Reply}
 use Rattle.bohm_txn.specs.Meaning.{Look}
 use Rattle.bohm_txn.specs.Serial.{state, replies}
-use Rattle.bohm_store.specs.Versions.{Timeline, past}
+use Rattle.bohm_store.specs.Versions.{Timeline, declared_writes, past, total, versions, versions_to}
 use Rattle.bohm_place.specs.Cuttings.{Cutting, ahead}
 
 -- the floor after a number of transactions: `keep` timestamps below the top stay readable, and the floor never falls
@@ -19,16 +19,22 @@ pub record IsApplied (was now : Timeline) (txns : List Txn) (keep : ℕ) (answer
   pub floor : now.floor ≡ floor_after was keep (length txns)
   pub earlier : (ts : ℕ) → now.floor ≤ ts → ts ≤ was.top → past now ts ≡ past was ts
   pub later : (ts : ℕ) → now.floor ≤ ts → was.top ≤ ts → ts ≤ now.top → past now ts ≡ state (past was was.top) txns (ts - was.top)
+  pub count : total now.chains ≤ total was.chains + declared_writes txns
+
+-- no key has more versions up to the old top than it had
+abbrev pub NoneEarlier : Timeline → Timeline → Type 0
+NoneEarlier was now = (k : List ℕ) → length (versions_to was.top (versions now k)) ≤ length (versions was k)
 
 -- some of the transactions were run, from the first on
 abbrev pub RanSome : Timeline → Timeline → List Txn → ℕ → Type 0
-RanSome was now txns keep = (n : ℕ) × (answered : List Reply) × IsApplied was now (take n txns) keep answered
+RanSome was now txns keep = (n : ℕ) × (answered : List Reply) × IsApplied was now (take n txns) keep answered × NoneEarlier was now
 
--- from the floor to the top the history's past is unchanged
+-- from the floor to the top the history's past is unchanged, and no version was added
 pub record IsStillPast (was now : Timeline) : Type 0 where
   pub top : now.top ≡ was.top
   pub floor : now.floor ≡ was.floor
   pub past : (ts : ℕ) → was.floor ≤ ts → ts ≤ was.top → past now ts ≡ past was ts
+  pub count : total now.chains ≤ total was.chains
 
 -- these transactions after the top of a history, in batches of these sizes
 abbrev pub cutting_behind : Timeline → List Txn → List ℕ → Cutting

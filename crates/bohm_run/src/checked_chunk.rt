@@ -6,6 +6,7 @@ ghost use Rattle.bohm_run.specs.Preparing.{count_with, IsPrepared};
 use crate::settings::Settings;
 use bohm_log::{HashSeed, Log, LogPart};
 use bohm_place::{CutLog, Cuts, Plan, plan_batches};
+use bohm_store::{Seats, StoreNumbers};
 use bohm_text::Chunk;
 use bohm_txn::{CheckFault, check_more};
 use bohm_types::{MOST_TXNS, NoMemory};
@@ -31,6 +32,8 @@ pub(crate) struct CheckedChunk {
     /// Exact up to the most that a log may have.
     pub(crate) count: usize,
     pub(crate) prepared: Prepared,
+    /// The numbers that its keys are expected to have in the history.
+    pub(crate) seats: Seats,
 }
 
 /// How many transactions there are with these more: exact up to the most that a log may have, and
@@ -65,25 +68,45 @@ fn prepare(
     Ok(Prepared::Planned { cuts, plans })
 }
 
+/// Notes the numbers that a chunk's keys are expected to have in the history. The seats are those of
+/// the log whose columns the chunk's log has: they stay, unless all keys were numbered anew. The keys
+/// that they don't cover are looked up among a store's, where these are known.
+fn note_seats(seats: &mut Seats, chunk: &Chunk, known: &StoreNumbers) -> Result<(), NoMemory> {
+    if chunk.renumbered {
+        seats.clear();
+    }
+    if known.is_empty() {
+        return Ok(());
+    }
+    known.note(seats, chunk.log.part().keys().names())
+}
+
 impl CheckedChunk {
     /// Checks a chunk that stands behind so many transactions, and plans it in batches of the size
-    /// that the settings give where they have several executing workers. The time and memory grow
-    /// with the number of the chunk's keys, terms and statements.
+    /// that the settings give where they have several executing workers. The seats are those of the log
+    /// whose columns the chunk's log has; other keys are looked up among the known ones. The time and
+    /// memory grow with the number of the log's keys, those that it kept included, and of its terms and
+    /// statements.
     pub(crate) fn new(
         alloc: Global,
         chunk: Chunk,
         count: usize,
+        seats: Seats,
         settings: Settings,
+        known: &StoreNumbers,
     ) -> Result<CheckedChunk, NoMemory>
         ensures log { IfOk result (λ c. c.log ≡ chunk.log) }
         ensures count { IfOk result (λ c. c.count ≡ count) }
         ensures prepared { IfOk result (λ c. IsPrepared count chunk.log c.prepared) }
     {
         let prepared = prepare(alloc, &chunk.log.part(), count, settings)?;
+        let mut seats = seats;
+        note_seats(&mut seats, &chunk, known)?;
         Ok(CheckedChunk {
             log: chunk.log,
             count,
             prepared,
+            seats,
         })
     }
 }

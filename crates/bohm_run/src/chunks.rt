@@ -18,13 +18,14 @@ use crate::serial_executor::SerialExecutor;
 use crate::settings::Settings;
 use crate::workers::ScratchPool;
 use bohm_exec::OpenGate;
-use bohm_log::{DrawnSeed, LogPart};
+use bohm_log::{DrawnSeed, HashSeed, Log, LogPart};
 use bohm_place::{CutLog, Cuts, Plan};
 use bohm_store::{History, Seats};
 use bohm_text::put_replies;
 use bohm_txn::{CheckFault, Replies, check_more, check_store};
 use bohm_types::{Key, MOST_TXNS, NoMemory, Value};
 use std::alloc::Global;
+use std::mem;
 use std::thread::Threads;
 
 /// How far a log was checked and run.
@@ -42,6 +43,14 @@ pub(crate) struct RunState {
     pub(crate) in_store: Option<CheckFault>,
     /// The first fault so far. Behind one nothing runs.
     pub(crate) fault: Option<CheckFault>,
+}
+
+/// The log and the seats of a chunk that is done, to be used again for another one.
+#[derive(Drop)]
+pub(crate) struct Spare {
+    pub(crate) log: Log<HashSeed>,
+    /// The numbers that its keys had in the history.
+    pub(crate) seats: Seats,
 }
 
 /// The history of a store, or of the empty one where the store has a fault.
@@ -101,6 +110,7 @@ fn run_clean<T: Threads + Sync>(
     text: &mut Vec<u8>,
     executor: &mut Executor,
     part: &LogPart<'_>,
+    seats: &mut Seats,
     cuts: &Cuts,
     plans: Vec<Plan>,
 ) -> Result<(), NoMemory>
@@ -115,10 +125,11 @@ fn run_clean<T: Threads + Sync>(
 {
     let first = progress.history.top() + 1;
     let log = CutLog::new(first, part, cuts);
-    // The numbers of the keys are those of this log alone.
-    executor.seats = Seats::new(alloc);
-    progress.replies.truncate(0);
+    // The executor takes the seats of this log, since each log numbers its keys itself.
+    mem::swap(&mut executor.seats, seats);
+    progress.replies.clear();
     executor.run_planned(rt, alloc, progress, log, plans, &OpenGate)?;
+    mem::swap(&mut executor.seats, seats);
     put_replies(text, first as u64, &progress.replies)?;
     Ok(())
 }
@@ -129,7 +140,7 @@ fn run_chunk<T: Threads + Sync>(
     alloc: Global,
     state: &mut RunState,
     chunk: CheckedChunk,
-) -> Result<(), NoMemory>
+) -> Result<Spare, NoMemory>
     requires level { IsLevel state.old }
     requires next { chunk.count ≡ state.old.count }
     requires prepared { IsPrepared chunk.count chunk.log chunk.prepared }
@@ -140,28 +151,30 @@ fn run_chunk<T: Threads + Sync>(
         log,
         count,
         prepared,
+        mut seats,
     } = chunk;
     state.count = counted(count, log.len());
     if state.fault.is_some() {
         // The first fault stays, and this takes constant time.
         state.fault = check_more(count, state.fault, &log.part());
-        return Ok(());
+        return Ok(Spare { log, seats });
     }
     match prepared {
         Prepared::Faulty(fault) => {
             state.fault = Some(fault);
-            Ok(())
+            Ok(Spare { log, seats })
         }
-        Prepared::TooMany => Ok(()),
+        Prepared::TooMany => Ok(Spare { log, seats }),
         Prepared::Ready => {
             state.serial.run_to_text(
-                alloc,
                 &mut state.progress.history,
+                &mut state.progress.replies,
                 &mut state.text,
                 &log.part(),
+                &mut seats,
                 state.executor.keep,
             )?;
-            Ok(())
+            Ok(Spare { log, seats })
         }
         Prepared::Planned { cuts, plans } => {
             run_clean(
@@ -171,27 +184,30 @@ fn run_chunk<T: Threads + Sync>(
                 &mut state.text,
                 &mut state.executor,
                 &log.part(),
+                &mut seats,
                 &cuts,
                 plans,
             )?;
-            Ok(())
+            Ok(Spare { log, seats })
         }
     }
 }
 
-/// Runs the chunks that are next, one after another.
+/// Runs the chunks that are next, one after another, and returns what is left of them.
 #[tactic(auto, using(crate::proofs::ChunkLaws::runs_none))]
 pub(crate) fn run_chunks<T: Threads + Sync>(
     rt: &T,
     alloc: Global,
     state: &mut RunState,
     chunks: Vec<CheckedChunk>,
-) -> Result<(), NoMemory>
+) -> Result<Vec<Spare>, NoMemory>
     requires { AreNext state.old chunks.items }
     ensures { OnOk result (RunsWave chunks.items state.old state.new) }
 {
+    let mut spare = Vec::with_capacity(alloc, chunks.len())?;
     for chunk in chunks {
-        run_chunk(rt, alloc, state, chunk)?;
+        let one = run_chunk(rt, alloc, state, chunk)?;
+        spare.push(one)?;
     }
-    Ok(())
+    Ok(spare)
 }

@@ -7,9 +7,11 @@ ghost use Rattle.bohm_run.specs.Reading.{ReadsAhead};
 
 use crate::checked_chunk::CheckedChunk;
 use crate::checked_wave::prepare_wave;
+use crate::chunks::Spare;
 use crate::settings::Settings;
-use bohm_log::DrawnSeed;
+use bohm_log::{DrawnSeed, HashSeed, Log};
 use bohm_reading::{ReadingFault, Source, read_wave};
+use bohm_store::{Seats, StoreNumbers};
 use bohm_text::Chunk;
 use bohm_types::{Edition, NoMemory};
 use std::alloc::Global;
@@ -27,6 +29,13 @@ pub(crate) struct LogReader {
     /// How many bytes a window has at least, but for the last one.
     pub(crate) size: usize,
     pub(crate) settings: Settings,
+    /// The keys of the starting store, where several threads read and one executes; else none.
+    pub(crate) known: StoreNumbers,
+    /// Logs of chunks that are done, whose columns are used again: the first window of a wave takes
+    /// the last one, and so on.
+    pub(crate) logs: Vec<Log<HashSeed>>,
+    /// The seats of these logs, in the same order.
+    pub(crate) seats: Vec<Seats>,
 }
 
 impl LogReader {
@@ -37,11 +46,19 @@ impl LogReader {
         alloc: Global,
         chunks: Vec<Chunk>,
     ) -> Result<Vec<CheckedChunk>, NoMemory>
-        ensures same { self.new ≡ record self.old { count = self.new.count } }
+        ensures same { self.new ≡ record self.old { count = self.new.count; seats = self.new.seats } }
         ensures prepared { IfOk result
             (λ v. IsWavePrepared self.old.count chunks.items v.items self.new.count) }
     {
-        let (checked, count) = prepare_wave(rt, alloc, chunks, self.count, self.settings)?;
+        let (checked, count) = prepare_wave(
+            rt,
+            alloc,
+            chunks,
+            self.count,
+            &mut self.seats,
+            self.settings,
+            &self.known,
+        )?;
         self.count = count;
         Ok(checked)
     }
@@ -70,9 +87,24 @@ impl LogReader {
             reader,
             self.edition,
             &mut self.source,
+            &mut self.logs,
             self.size,
             self.settings.cc().count() as usize,
         )?;
         Ok(self.prepare(rt, alloc, chunks)?)
+    }
+
+    /// Keeps the logs and seats of chunks that are done for the windows of a later wave.
+    pub(crate) fn keep(&mut self, spare: Vec<Spare>) -> Result<(), NoMemory>
+        ensures source { self.new.source ≡ self.old.source }
+        ensures edition { self.new.edition ≡ self.old.edition }
+        ensures count { self.new.count ≡ self.old.count }
+    {
+        for one in spare {
+            let Spare { log, seats } = one;
+            self.logs.push(log)?;
+            self.seats.push(seats)?;
+        }
+        Ok(())
     }
 }

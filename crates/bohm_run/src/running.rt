@@ -1,9 +1,10 @@
 //! A whole run of a checked log.
 
-ghost use Rattle.std.specs.Prelude.{◌≡◌, length, IfOk};
+ghost use Rattle.std.specs.Prelude.{◌≡◌, ◌+◌, ◌≤◌, length, IfOk};
 ghost use Rattle.std.specs.List.{sum};
 ghost use Rattle.bohm_txn.specs.Serial.{replies};
 ghost use Rattle.bohm_txn.specs.Stores.{cell_in, store_of};
+ghost use Rattle.bohm_store.specs.Versions.{declared_writes, total};
 ghost use Rattle.bohm_run.specs.Runs.{IsHistoryOf};
 
 use crate::applying::{Applied, apply};
@@ -55,6 +56,8 @@ pub fn run<P: Partition, G: Gate, R: Threads + Wait + Sync + RandomSource>(
         IfOk result (λ a. a.replies ≡ replies start checked.now.log) }
     ensures history { let start = cell_in (store_of checked.now.store) in
         IfOk result (λ a. IsHistoryOf start checked.now.log keep a.history) }
+    ensures count { let given = length checked.now.store in
+        IfOk result (λ a. total a.history.chains ≤ given + declared_writes checked.now.log) }
 {
     let mut history = History::open_with_seed(alloc, checked.store(), DrawnSeed::draw(rt))?;
     let log = checked.log();

@@ -21,6 +21,7 @@ use bohm_text::put_replies;
 use bohm_txn::{Replies, Scratch};
 use bohm_types::{MOST_TXNS, NoMemory, Value};
 use std::alloc::Global;
+use std::mem;
 
 /// Runs transactions in log order on the caller's thread. It claims nothing from others, so it plans
 /// nothing. Its memory is used again for each transaction and each log.
@@ -102,13 +103,15 @@ impl SerialExecutor {
         Ok(())
     }
 
-    /// Runs them, and appends the text of their replies.
+    /// Runs them, and appends the text of their replies. The list of replies is room to write in: what
+    /// it held is removed. The seats are those of the transactions' log.
     pub(crate) fn run_to_text(
         &mut self,
-        alloc: Global,
         history: &mut History,
+        replies: &mut Replies,
         text: &mut Vec<u8>,
         txns: &LogPart<'_>,
+        seats: &mut Seats,
         keep: u32,
     ) -> Result<(), NoMemory>
         requires few { history.old.top + length txns.now ≤ MOST_TXNS }
@@ -117,9 +120,11 @@ impl SerialExecutor {
             text.old.items text.new.items) }
     {
         let first = history.top() + 1;
-        let mut replies = Replies::new(alloc);
-        self.run(history, &mut replies, txns, keep)?;
-        put_replies(text, first as u64, &replies)?;
+        replies.clear();
+        mem::swap(&mut self.seats, seats);
+        self.run(history, replies, txns, keep)?;
+        mem::swap(&mut self.seats, seats);
+        put_replies(text, first as u64, replies)?;
         Ok(())
     }
 

@@ -11,15 +11,16 @@ ghost use Rattle.bohm_run.specs.Reading.{ReadsAhead};
 ghost use Rattle.bohm_run.specs.Streaming.{IsLogRun, RefusesLog, RunsBehind};
 
 use crate::checked_chunk::CheckedChunk;
-use crate::chunks::{RunState, run_chunks};
+use crate::chunks::{RunState, Spare, run_chunks};
 use crate::fault::RunFault;
 use crate::log_reader::LogReader;
 use crate::settings::Settings;
 use bohm_log::DrawnSeed;
 use bohm_reading::{ReadingFault, read_first};
+use bohm_store::StoreNumbers;
 use bohm_text::{Chunk, FirstWindow};
 use bohm_txn::check_end;
-use bohm_types::NoMemory;
+use bohm_types::{Key, NoMemory, Value};
 use std::alloc::Global;
 use std::io::Read;
 use std::mem;
@@ -36,7 +37,7 @@ fn run_and_read<R: Read, T: Threads + Sync>(
     state: &mut RunState,
     chunks: &mut Vec<CheckedChunk>,
 ) -> (
-    Result<(), NoMemory>,
+    Result<Vec<Spare>, NoMemory>,
     Result<Vec<CheckedChunk>, ReadingFault>,
 )
     requires going { log_reader.old.source.ended ≡ false }
@@ -52,7 +53,7 @@ fn run_and_read<R: Read, T: Threads + Sync>(
 {
     join_mut(
         rt,
-        &mut || -> Result<(), NoMemory>
+        &mut || -> Result<Vec<Spare>, NoMemory>
             requires { IsSync T.row × AreNext state.now chunks.now.items }
             ensures { OnOk result
                 (RunsWave chunks.entry.now.items state.entry.now state.exit.now) }
@@ -96,10 +97,26 @@ fn run_windows<R: Read, T: Threads + Sync>(
     'waves: while !log_reader.source.ended {
         let (ran, read) = run_and_read(rt, alloc, &mut log_reader, reader, state, &mut chunks);
         chunks = read?;
-        ran?;
+        log_reader.keep(ran?)?;
     }
     run_chunks(rt, alloc, state, chunks)?;
     Ok(())
+}
+
+/// The keys that readers look up for the executing thread: those of the starting store where several
+/// threads read and one executes, and else none. None of a log of one window, which no thread reads
+/// while another one runs.
+fn known_keys(
+    alloc: Global,
+    store: &[(Key, Value)],
+    seed: DrawnSeed,
+    settings: Settings,
+    ended: bool,
+) -> Result<StoreNumbers, NoMemory> {
+    if ended || settings.cc().count() == 1 || settings.exec().count() > 1 {
+        return Ok(StoreNumbers::none(alloc, seed));
+    }
+    StoreNumbers::new(alloc, store, seed)
 }
 
 /// Reads a log to the reader's end, in windows of so many bytes, checks it, and runs it as it is
@@ -125,6 +142,7 @@ pub(crate) fn run_log<R: Read, T: Threads + Sync + RandomSource>(
         store,
         chunk,
     } = first;
+    let known = known_keys(alloc, store.as_slice(), seed, settings, source.ended)?;
     let mut state = RunState::start(alloc, seed, store, settings)?;
     let log_reader = LogReader {
         seed,
@@ -133,6 +151,9 @@ pub(crate) fn run_log<R: Read, T: Threads + Sync + RandomSource>(
         count: 0,
         size,
         settings,
+        known,
+        logs: Vec::new(alloc),
+        seats: Vec::new(alloc),
     };
     run_windows(rt, alloc, log_reader, reader, chunk, &mut state)?;
     match check_end(state.in_store, state.count, state.fault) {

@@ -1,6 +1,6 @@
 -- A transaction's step over a finite store.
 use Rattle.std.proofs.Common.{◌≡◌, ℕ, ◌+◌, Bool, true, false, List, [], ◌∷◌, ◌++◌, map, length, drop, Some, refl, sym, ap, ◌∙◌, inl, inr, arith, append_assoc}
-use Rattle.std.specs.Prelude.{ℤ, ◌⊎◌, ◌||◌, cond}
+use Rattle.std.specs.Prelude.{◌⊎◌, ◌||◌, cond}
 use Rattle.std.specs.List.{zip, list_any, slice_get}
 use Rattle.std.specs.Str.{bytes_eq}
 use Rattle.bohm_types.specs.declared.cell.Cell.{Cell}

@@ -1,5 +1,5 @@
 -- A history to which all versions of transactions have come.
-use Rattle.std.proofs.Common.{◌≡◌, false, ℕ, ◌+◌, ◌<◌, ◌≤◌, ◌∙◌, List, [], ◌++◌, length, map, All, sym, ap, subst, ⊎_elim, arith, append-nil}
+use Rattle.std.proofs.Common.{◌≡◌, false, ℕ, ◌+◌, ◌<◌, ◌≤◌, ◌∙◌, List, [], ◌∷◌, ◌++◌, length, map, All, refl, sym, ap, subst, ⊎_elim, arith, append-nil}
 use Rattle.std.specs.List.{IsDistinct}
 use Rattle.std.specs.Str.{bytes_eq}
 use Rattle.std.proofs.lemmas.Bool.{cases_lt}
@@ -13,14 +13,16 @@ use Rattle.bohm_board.specs.declared.batch.Batch.{Batch}
 use Rattle.bohm_board.specs.Batches.{first_of, base_of, txns_of}
 use Rattle.bohm_store.specs.declared.version.Version.{Version}
 use Rattle.bohm_store.specs.Versions.{KeyedVersion}
-use Rattle.bohm_store.specs.Versions.{Rises, past, produced_versions}
+use Rattle.bohm_store.specs.Versions.{Rises, Timeline, past, produced_versions}
 use Rattle.bohm_store.specs.Chains.{Climb, UpTo, versions_of_writes}
-use Rattle.bohm_store.specs.Nexts.{Agree, IsSettled}
+use Rattle.bohm_store.specs.Nexts.{Agree, IsNext, IsSettled}
 use Rattle.bohm_store.specs.Writes.{all_txn_writes}
+use Rattle.bohm_store.proofs.Advanced.{one_formed, one_listed}
+use Rattle.bohm_store.proofs.Entries.{keys_named}
 use Rattle.bohm_store.proofs.SettledHistory.{made_produced, settled_low, settled_rises}
 use Rattle.bohm_store.proofs.WrittenVersions.{written_climbs}
 use Rattle.bohm_store.specs.declared.numbered_write.NumberedWrite.{NumberedWrite}
-use Rattle.bohm_store.specs.Writes.{AreBelow, ClimbTo, named_write, versions_by}
+use Rattle.bohm_store.specs.Writes.{AreBelow, AreTxnWrites, AreWritesBehind, AreWritesOf, ClimbTo, named_write, versions_by}
 use Rattle.bohm_store.specs.Numbered.{Numbered, IsNumbered, timeline, versions_at}
 use Rattle.bohm_store.proofs.Kept.{by_key, grown_by_key, all_settled}
 use Rattle.bohm_store.proofs.NumberedWrites.{keyed_versions, unnamed_versions, none_past, named_climb}
@@ -29,6 +31,31 @@ use Rattle.bohm_store.proofs.NumberedWrites.{keyed_versions, unnamed_versions, n
 pub listed_next : (b : Batch) (top : ℕ) (ws : List KeyedVersion) → first_of b ≡ top + 1 → ws ≡ all_txn_writes (first_of b) (base_of b) (txns_of b)
     → ws ≡ all_txn_writes (top + 1) (base_of b) (txns_of b)
 listed_next b top ws first listed = listed ∙ ap (λ (u : ℕ). all_txn_writes u (base_of b) (txns_of b)) first
+
+-- the listed writes of the next batch, and of the next transaction
+pub batch_behind : (names : List (List ℕ)) (t : Timeline) (b : Batch) (ws : List NumberedWrite) → IsNext t b → AreWritesOf names b ws
+    → AreWritesBehind names t (length (txns_of b)) (txns_of b) ws
+batch_behind names t b ws next writes = record {
+  many = refl;
+  some = b.batched.some;
+  formed = b.batched.formed;
+  base = base_of b;
+  agree = next.base;
+  below = writes.below;
+  listed = listed_next b t.top (map (named_write names) ws) next.first writes.listed;
+}
+
+pub txn_behind : (names : List (List ℕ)) (t : Timeline) (x : Txn) (ws : List NumberedWrite) → IsWellFormedTxn x
+    → AreTxnWrites names (t.top + 1) (past t t.top) x ws → AreWritesBehind names t 1 (x ∷ []) ws
+txn_behind names t x ws well writes = record {
+  many = refl;
+  some = omega arith;
+  formed = one_formed x well;
+  base = past t t.top;
+  agree = λ k declared. refl;
+  below = writes.below;
+  listed = one_listed names (t.top + 1) (past t t.top) x ws writes;
+}
 
 module _ (names : List (List ℕ)) (base : Look) (txns : List Txn) (well : All IsWellFormedTxn txns) (some : 0 < length txns)
     (old : Numbered) (ws : List NumberedWrite) (h : IsNumbered old) (apart : IsDistinct bytes_eq names)
@@ -78,3 +105,4 @@ module _ (names : List (List ℕ)) (base : Look) (txns : List Txn) (well : All I
         (by_key names old (λ k vs. UpTo old.top vs) apart (λ n lt. h.low n) (λ k absent. All-nil (λ (v : Version). v.begin ≤ old.top)))
         floor top
         (grown_by_key names old new (λ k vs. vs ++ produced_versions (old.top + 1) (past (timeline names old) old.top) txns k) apart grown none_grown)
+        (subst (λ (ks : List (List ℕ)). IsDistinct bytes_eq ks) (sym (keys_named (versions_at new) 0 names)) apart)

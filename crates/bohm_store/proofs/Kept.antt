@@ -1,6 +1,7 @@
 -- A history that went on by a batch, where the versions of each key are known.
 use Rattle.std.proofs.Common.{◌≡◌, ℕ, ◌+◌, ◌<◌, ◌≤◌, ◌∙◌, false, List, [], length, max, All, refl, sym, ap, subst, ⊎_elim, arith}
 use Rattle.std.specs.List.{IsDistinct}
+use Rattle.std.specs.Map.{keys_of}
 use Rattle.std.specs.Str.{bytes_eq}
 use Rattle.std.proofs.lemmas.Bool.{cases_lt}
 use Rattle.bohm_types.specs.declared.cell.Cell.TheVariants.{Absent}
@@ -12,6 +13,7 @@ use Rattle.bohm_store.specs.declared.version.Version.{Version}
 use Rattle.bohm_store.specs.Versions.{Timeline, cell_at, kept_versions, past, versions}
 use Rattle.bohm_store.specs.Chains.{UpTo}
 use Rattle.bohm_store.specs.Nexts.{IsSettled, IsSettledKept, grown_versions}
+use Rattle.bohm_store.proofs.Bounds.{grown_count, kept_no_more, trimmed_no_more}
 use Rattle.bohm_store.proofs.Past.{cell_at-kept}
 use Rattle.bohm_store.proofs.SettledHistory.{settled_earlier, settled_later, settled_trimmed}
 use Rattle.bohm_store.specs.Numbered.{Numbered, timeline, versions_at}
@@ -42,11 +44,18 @@ grown_by_key names old new f apart at none k = ⊎_elim
 module _ (was now : Timeline) (txns : List Txn) (low : ℕ) (well : All IsWellFormedTxn txns)
     (up : (k : List ℕ) → UpTo was.top (versions was k)) (floor : now.floor ≡ max was.floor low) (top : now.top ≡ was.top + length txns)
     (all : low ≤ was.floor → (k : List ℕ) → versions now k ≡ grown_versions was txns k)
-    (kept : was.floor < low → (k : List ℕ) → versions now k ≡ kept_versions low (grown_versions was txns k)) where
+    (kept : was.floor < low → (k : List ℕ) → versions now k ≡ kept_versions low (grown_versions was txns k))
+    (apart : IsDistinct bytes_eq (keys_of now.chains)) where
   seen : (ts : ℕ) → now.floor ≤ ts → (k : List ℕ) → cell_at ts (versions now k) Absent ≡ cell_at ts (grown_versions was txns k) Absent
   seen ts above k = ⊎_elim
       (λ lt. ap (λ vs. cell_at ts vs Absent) (kept lt k) ∙ cell_at-kept low ts (grown_versions was txns k) Absent (omega (arith, above, floor)))
       (λ le. ap (λ vs. cell_at ts vs Absent) (all le k))
+      (cases_lt was.floor low)
+
+  few : (k : List ℕ) → length (versions now k) ≤ length (grown_versions was txns k)
+  few k = ⊎_elim
+      (λ lt. let is = kept lt k in rw is (kept_no_more low (grown_versions was txns k)))
+      (λ le. let is = all le k in rw is (omega arith))
       (cases_lt was.floor low)
 
   pub kept_settled : IsSettledKept was now txns low
@@ -55,6 +64,7 @@ module _ (was now : Timeline) (txns : List Txn) (low : ℕ) (well : All IsWellFo
     top = top;
     unchanged = all;
     versions = kept;
+    count = grown_count was now txns apart few;
     earlier =
         λ ts above below. (let same : (k : List ℕ) → _ = λ k. seen ts above k
         ∙ settled_earlier was.top ts (past was was.top) txns k (versions was k) (grown_versions was txns k) refl below in λ i k. same k i);
@@ -66,11 +76,12 @@ module _ (was now : Timeline) (txns : List Txn) (low : ℕ) (well : All IsWellFo
 -- the same where all stay
 pub all_settled : (was now : Timeline) (txns : List Txn) → All IsWellFormedTxn txns → ((k : List ℕ) → UpTo was.top (versions was k))
     → now.floor ≡ was.floor → now.top ≡ was.top + length txns → ((k : List ℕ) → versions now k ≡ grown_versions was txns k)
-    → IsSettled was now txns
-all_settled was now txns well up floor top all = record {
+    → IsDistinct bytes_eq (keys_of now.chains) → IsSettled was now txns
+all_settled was now txns well up floor top all apart = record {
   floor = floor;
   top = top;
   versions = all;
+  count = grown_count was now txns apart (λ k. let is = all k in rw is (omega arith));
   earlier =
       λ ts below. (let same : (k : List ℕ) → _ = λ k. ap (λ vs. cell_at ts vs Absent) (all k)
       ∙ settled_earlier was.top ts (past was was.top) txns k (versions was k) (grown_versions was txns k) refl below in λ i k. same k i);
@@ -101,6 +112,7 @@ module _ (names : List (List ℕ)) (was : Timeline) (mid new : Numbered) (txns :
   pub trim_settled : IsSettledKept was (timeline names new) txns low
   trim_settled =
       settled_trimmed was (timeline names mid) (timeline names new) txns low h floor top less_by_key same_by_key
+      (trimmed_no_more (versions_at new) (versions_at mid) mid.floor low names less same)
       (λ ts above. (let each : (k : List ℕ) → _ = λ k. seen_by_key ts above k in λ i k. each k i))
 
 -- ---- what a key that was looked up held

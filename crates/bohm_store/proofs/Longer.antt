@@ -3,7 +3,7 @@ use Rattle.std.proofs.Common.{◌≡◌, ℕ, ◌+◌, ◌≤◌, ◌∙◌, Boo
 use Rattle.std.specs.Str.{bytes_eq}
 use Rattle.std.proofs.lemmas.List.{get_or_past}
 use Rattle.bohm_store.specs.declared.version.Version.{Version}
-use Rattle.bohm_store.specs.Versions.{versions_in}
+use Rattle.bohm_store.specs.Versions.{total, versions_in}
 use Rattle.bohm_store.specs.Chains.{later_begins}
 use Rattle.bohm_store.specs.declared.held.Held.TheVariants.{Never}
 use Rattle.bohm_store.specs.Held.{held_at, held_versions}
@@ -41,3 +41,16 @@ pub longer_names : (f g : ℕ → List Version) (from : ℕ) (names more : List 
 longer_names f g from [] more k same none = none_named f from more k (λ n le. none n (omega arith))
 longer_names f g from (x ∷ names) more k same none =
     longer_by f g from x names more k (bytes_eq k x) refl (same from) (longer_names f g (from + 1) names more k same (λ n le. none n (omega arith)))
+
+none_total : (f : ℕ → List Version) (from : ℕ) (more : List (List ℕ)) → ((n : ℕ) → from ≤ n → f n ≡ []) → total (named f from more) ≡ 0
+none_total f from [] at = refl
+none_total f from (x ∷ more) at =
+    let here : length (f from) ≡ 0 = ap (λ (vs : List Version). length vs) (at from (omega arith)) in
+    omega (arith, here, none_total f (from + 1) more (λ n le. at n (omega arith)))
+
+-- nor are there more versions
+pub longer_total : (f : ℕ → List Version) (from : ℕ) (names more : List (List ℕ)) → ((n : ℕ) → from + length names ≤ n → f n ≡ [])
+    → total (named f from (names ++ more)) ≡ total (named f from names)
+longer_total f from [] more none = none_total f from more (λ n le. none n (omega arith))
+longer_total f from (x ∷ names) more none =
+    ap (λ (n : ℕ). length (f from) + n) (longer_total f (from + 1) names more (λ n le. none n (omega arith)))

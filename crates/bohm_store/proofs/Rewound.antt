@@ -1,5 +1,5 @@
 -- What stays of versions where those that begin above a timestamp go.
-use Rattle.std.proofs.Common.{◌≡◌, ℕ, suc, ◌+◌, ◌-◌, ◌<◌, ◌≤◌, ◌==◌, ◌∙◌, Bool, true, false, List}
+use Rattle.std.proofs.Common.{◌≡◌, ℕ, suc, ◌-◌, ◌<◌, ◌≤◌, ◌==◌, ◌∙◌, Bool, true, false, List}
 use Rattle.std.proofs.Common.{[], ◌∷◌, ◌++◌, All, length, get_or, map, refl, sym, ap, arith}
 use Rattle.std.proofs.Common.{if◌then◌else◌, nat_le, nat_lt, ⊎_elim}
 use Rattle.std.proofs.lemmas.Bool.{cases_lt}

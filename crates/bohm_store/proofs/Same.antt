@@ -8,12 +8,12 @@ use Rattle.bohm_txn.specs.Serial.{after, state}
 use Rattle.bohm_log.specs.Parts.{Begins}
 use Rattle.bohm_board.specs.declared.batch.Batch.{Batch}
 use Rattle.bohm_store.specs.declared.version.Version.{Version}
-use Rattle.bohm_store.specs.Versions.{Timeline, cell_at, kept_versions, past, produced_versions, versions}
+use Rattle.bohm_store.specs.Versions.{Timeline, cell_at, kept_versions, past, produced_versions, total, versions}
 use Rattle.bohm_store.specs.Nexts.{IsNext, IsSame, IsSettled, IsSettledKept, grown_versions}
-use Rattle.bohm_store.specs.Numbered.{Numbered, timeline, versions_at}
+use Rattle.bohm_store.specs.Numbered.{Numbered, named, timeline, versions_at}
 use Rattle.bohm_store.specs.Writes.{AreTxnWrites, txn_writes}
 use Rattle.bohm_store.specs.declared.numbered_write.NumberedWrite.{NumberedWrite}
-use Rattle.bohm_store.proofs.Longer.{longer_names}
+use Rattle.bohm_store.proofs.Longer.{longer_names, longer_total}
 use Rattle.bohm_store.proofs.Named.{mapped_versions}
 
 -- ---- more names, and more room
@@ -24,6 +24,7 @@ named_more h names names' long behind (more, is) = rw is (record {
   floor = refl;
   top = refl;
   versions = λ k. longer_names (versions_at h) (versions_at h) 0 names more k (λ n. refl) (λ n le. behind n (omega (arith, le, long)));
+  count = longer_total (versions_at h) 0 names more (λ n le. behind n (omega (arith, le, long)));
 })
 
 pub covered_same : (names : List (List ℕ)) (old new : Numbered) → new.floor ≡ old.floor → new.top ≡ old.top
@@ -32,6 +33,7 @@ covered_same names old new floor top same = record {
   floor = floor;
   top = top;
   versions = λ k. mapped_versions (versions_at new) (versions_at old) (λ (vs : List Version). vs) names k refl same;
+  count = λ i. total (named (λ n. same n i) 0 names);
 }
 
 -- the names behind those with room have no versions
@@ -76,6 +78,7 @@ settled_same t r now txns h g = record {
   floor = g.floor ∙ h.floor;
   top = g.top ∙ ap (λ (n : ℕ). n + length txns) h.top;
   versions = λ k. g.versions k ∙ grown_same t r txns k h;
+  count = omega (arith, g.count, h.count);
   earlier = λ ts le. g.earlier ts (omega (arith, le, h.top)) ∙ same_past t r ts h;
   later = λ ts from below. g.later ts (omega (arith, from, h.top)) below
       ∙ ap (λ (look : Look). state look txns (ts - r.top)) (same_top t r h)
@@ -88,6 +91,7 @@ kept_same t r now txns low h g = record {
   top = g.top ∙ ap (λ (n : ℕ). n + length txns) h.top;
   unchanged = λ le k. g.unchanged (omega (arith, le, h.floor)) k ∙ grown_same t r txns k h;
   versions = λ lt k. g.versions (omega (arith, lt, h.floor)) k ∙ ap (kept_versions low) (grown_same t r txns k h);
+  count = omega (arith, g.count, h.count);
   earlier = λ ts above le. g.earlier ts above (omega (arith, le, h.top)) ∙ same_past t r ts h;
   later = λ ts above from below. g.later ts above (omega (arith, from, h.top)) below
       ∙ ap (λ (look : Look). state look txns (ts - r.top)) (same_top t r h)

@@ -16,6 +16,7 @@ use Rattle.bohm_store.specs.Versions.{Rises, kept_versions, past, produced_versi
 use Rattle.bohm_store.specs.Chains.{UpTo, newest_only, later_begins}
 use Rattle.bohm_store.specs.Nexts.{Agree, IsSettledKept}
 use Rattle.bohm_store.specs.Writes.{AreBelow, all_txn_writes, named_write, versions_by}
+use Rattle.bohm_store.proofs.Entries.{keys_named}
 use Rattle.bohm_store.proofs.NewestVersion.{All-kept}
 use Rattle.bohm_store.proofs.NewestOnly.{kept_newest}
 use Rattle.bohm_store.proofs.SettledHistory.{settled_low}
@@ -113,3 +114,4 @@ module _ (names : List (List ℕ)) (base : Look) (txns : List Txn) (well : All I
       (λ le. absurd (omega (arith, le, h.ordered, some)))
       (λ lt. grown_by_key names old new (λ k vs. kept_versions (old.top + length txns)
       (vs ++ produced_versions (old.top + 1) (past (timeline names old) old.top) txns k)) apart grown none_grown)
+      (subst (λ (ks : List (List ℕ)). IsDistinct bytes_eq ks) (sym (keys_named (versions_at new) 0 names)) apart)

@@ -8,7 +8,7 @@ use Rattle.bohm_txn.specs.Meaning.{Look}
 use Rattle.bohm_txn.specs.Serial.{state}
 use Rattle.bohm_store.specs.declared.version.Version.{Version}
 use Rattle.bohm_store.specs.Versions.{KeyedVersion}
-use Rattle.bohm_store.specs.Versions.{Rises, Timeline, cell_at, kept_versions, past, produced_versions, versions}
+use Rattle.bohm_store.specs.Versions.{Rises, Timeline, cell_at, kept_versions, past, produced_versions, total, versions}
 use Rattle.bohm_store.specs.Chains.{UpTo, versions_of_writes}
 use Rattle.bohm_store.specs.Nexts.{Agree, IsSettled, IsSettledKept}
 use Rattle.bohm_store.specs.Writes.{all_txn_writes}
@@ -54,12 +54,13 @@ settled_later top ts look txns k old new is low at well from to =
 pub settled_trimmed : (was mid now : Timeline) (txns : List Txn) (low : ℕ) → IsSettled was mid txns → now.floor ≡ max mid.floor low → now.top ≡ mid.top
     → (mid.floor < low → (k : List ℕ) → versions now k ≡ kept_versions low (versions mid k))
     → (low ≤ mid.floor → (k : List ℕ) → versions now k ≡ versions mid k)
-    → ((ts : ℕ) → now.floor ≤ ts → past now ts ≡ past mid ts) → IsSettledKept was now txns low
-settled_trimmed was mid now txns low h floor top less same seen = record {
+    → total now.chains ≤ total mid.chains → ((ts : ℕ) → now.floor ≤ ts → past now ts ≡ past mid ts) → IsSettledKept was now txns low
+settled_trimmed was mid now txns low h floor top less same few seen = record {
   floor = rw h.floor at floor;
   top = top ∙ h.top;
   unchanged = λ le k. same (omega (arith, le, h.floor)) k ∙ h.versions k;
   versions = λ lt k. less (omega (arith, lt, h.floor)) k ∙ ap (kept_versions low) (h.versions k);
+  count = omega (arith, few, h.count);
   earlier = λ ts above below. seen ts above ∙ h.earlier ts below;
   later = λ ts above from below. seen ts above ∙ h.later ts from (omega (arith, below, top));
 }

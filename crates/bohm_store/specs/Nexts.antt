@@ -8,7 +8,7 @@ use Rattle.bohm_board.specs.declared.batch.Batch.{Batch}
 use Rattle.bohm_place.specs.Noting.{declares_key}
 use Rattle.bohm_board.specs.Batches.{first_of, txns_of, base_of}
 use Rattle.bohm_store.specs.declared.version.Version.{Version}
-use Rattle.bohm_store.specs.Versions.{Timeline, kept_versions, past, produced_versions, versions}
+use Rattle.bohm_store.specs.Versions.{Timeline, declared_writes, kept_versions, past, produced_versions, total, versions}
 
 -- two looks agree on each key that the transactions declare
 abbrev pub Agree : List Txn → Look → Look → Type 0
@@ -24,6 +24,7 @@ pub record IsSame (was now : Timeline) : Type 0 where
   pub floor : now.floor ≡ was.floor
   pub top : now.top ≡ was.top
   pub versions : (k : List ℕ) → versions now k ≡ versions was k
+  pub count : total now.chains ≡ total was.chains
 
 -- the versions of a key, followed by those that the transactions after the top produce
 abbrev pub grown_versions : Timeline → List Txn → List ℕ → List Version
@@ -34,6 +35,7 @@ pub record IsSettled (was now : Timeline) (txns : List Txn) : Type 0 where
   pub floor : now.floor ≡ was.floor
   pub top : now.top ≡ was.top + length txns
   pub versions : (k : List ℕ) → versions now k ≡ grown_versions was txns k
+  pub count : total now.chains ≤ total was.chains + declared_writes txns
   pub earlier : (ts : ℕ) → ts ≤ was.top → past now ts ≡ past was ts
   pub later : (ts : ℕ) → was.top ≤ ts → ts ≤ now.top → past now ts ≡ state (past was was.top) txns (ts - was.top)
 
@@ -43,5 +45,6 @@ pub record IsSettledKept (was now : Timeline) (txns : List Txn) (low : ℕ) : Ty
   pub top : now.top ≡ was.top + length txns
   pub unchanged : low ≤ was.floor → (k : List ℕ) → versions now k ≡ grown_versions was txns k
   pub versions : was.floor < low → (k : List ℕ) → versions now k ≡ kept_versions low (grown_versions was txns k)
+  pub count : total now.chains ≤ total was.chains + declared_writes txns
   pub earlier : (ts : ℕ) → now.floor ≤ ts → ts ≤ was.top → past now ts ≡ past was ts
   pub later : (ts : ℕ) → now.floor ≤ ts → was.top ≤ ts → ts ≤ now.top → past now ts ≡ state (past was was.top) txns (ts - was.top)

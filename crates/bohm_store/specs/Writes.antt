@@ -2,6 +2,7 @@
 use Rattle.std.specs.Prelude.{◌≡◌, ℕ, ◌+◌, ◌<◌, ◌≤◌, ◌==◌, All, List, [], ◌∷◌, ◌++◌, length, map, Some, if◌then◌else◌}
 use Rattle.bohm_types.specs.declared.cell.Cell.{Cell}
 use Rattle.bohm_types.specs.Txn.{Txn}
+use Rattle.bohm_txn.specs.Faulty.{IsWellFormedTxn}
 use Rattle.bohm_txn.specs.Meaning.{Look}
 use Rattle.bohm_txn.specs.Serial.{after}
 use Rattle.bohm_log.specs.Parts.{name_at}
@@ -9,7 +10,8 @@ use Rattle.bohm_board.specs.declared.batch.Batch.{Batch}
 use Rattle.bohm_board.specs.Batches.{base_of, first_of, txn_at, txns_of}
 use Rattle.bohm_store.specs.declared.version.Version.{Version}
 use Rattle.bohm_store.specs.declared.numbered_write.NumberedWrite.{NumberedWrite}
-use Rattle.bohm_store.specs.Versions.{KeyedVersion}
+use Rattle.bohm_store.specs.Versions.{KeyedVersion, Timeline, past}
+use Rattle.bohm_store.specs.Nexts.{Agree}
 use Rattle.bohm_types.specs.Limits.{most_keys}
 
 -- the writes of the transaction at u, which leaves this look
@@ -61,6 +63,16 @@ writes_by u (n ∷ ns) (c ∷ cs) = record { number = n; version = record { begi
 pub record AreTxnWrites (names : List (List ℕ)) (u : ℕ) (look : Look) (t : Txn) (ws : List NumberedWrite) : Type 0 where
   pub below : AreBelow (length names) ws
   pub listed : map (named_write names) ws ≡ txn_writes u (after look t) t.writes
+
+-- under these names they are the writes of so many transactions behind a history, in log order
+pub record AreWritesBehind (names : List (List ℕ)) (t : Timeline) (count : ℕ) (txns : List Txn) (ws : List NumberedWrite) : Type 0 where
+  pub many : length txns ≡ count
+  pub some : 0 < count
+  pub formed : All IsWellFormedTxn txns
+  pub base : Look
+  pub agree : Agree txns base (past t t.top)
+  pub below : AreBelow (length names) ws
+  pub listed : map (named_write names) ws ≡ all_txn_writes (t.top + 1) base txns
 
 -- under these names they are the writes of the batch, in log order
 pub record AreWritesOf (names : List (List ℕ)) (b : Batch) (ws : List NumberedWrite) : Type 0 where

@@ -11,7 +11,7 @@ ghost use Rattle.bohm_txn.specs.Meaning.{Look};
 ghost use Rattle.bohm_txn.specs.Serial.{replies, state};
 ghost use Rattle.bohm_board.specs.declared.batch.Batch.{Batch};
 ghost use Rattle.bohm_board.specs.Batches.{base_of, txns_of};
-ghost use Rattle.bohm_store.specs.Nexts.{IsNext, IsSettledKept, grown_versions};
+ghost use Rattle.bohm_store.specs.Nexts.{IsNext, grown_versions};
 ghost use Rattle.bohm_store.specs.declared.version.Version.{Version};
 ghost use Rattle.bohm_store.specs.Versions.{IsCellAt, IsKept, Rises, Timeline, cell_at};
 ghost use Rattle.bohm_store.specs.Versions.{declared_writes};
@@ -49,17 +49,8 @@ pub fn same_versions_same_count()
 /// A history in which each key has as many versions at most as transactions leave it behind the top
 /// of another has as many at most as that one, and one for each write that they declare.
 pub fn grown_count()
-    ensures { (was now : Timeline) (txns : List Txn) → IsDistinct bytes_eq (keys_of was.chains)
-        → IsDistinct bytes_eq (keys_of now.chains)
+    ensures { (was now : Timeline) (txns : List Txn) → IsDistinct bytes_eq (keys_of now.chains)
         → ((k : List ℕ) → length (versions now k) ≤ length (grown_versions was txns k))
-        → total now.chains ≤ total was.chains + declared_writes txns }
-{}
-
-/// So it is where transactions were settled, trimmed or not.
-pub fn settled_count()
-    ensures { (was now : Timeline) (txns : List Txn) (low : ℕ)
-        → IsDistinct bytes_eq (keys_of was.chains) → IsDistinct bytes_eq (keys_of now.chains)
-        → IsSettledKept was now txns low
         → total now.chains ≤ total was.chains + declared_writes txns }
 {}
 

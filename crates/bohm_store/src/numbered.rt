@@ -6,6 +6,7 @@ ghost use Rattle.std.specs.FinMap.{entries};
 ghost use Rattle.std.specs.List.{IsDistinct};
 ghost use Rattle.std.specs.Str.{bytes_eq};
 ghost use Rattle.bohm_types.specs.Keys.{rising, names_of};
+ghost use Rattle.bohm_types.specs.Txn.{Txn};
 ghost use Rattle.bohm_types.specs.declared.cell.Cell.TheVariants as cells;
 ghost use Rattle.bohm_txn.specs.Faulty.{IsWellFormedTxn};
 ghost use Rattle.bohm_txn.specs.Stores.{cell_in, store_of};
@@ -14,7 +15,7 @@ ghost use Rattle.bohm_store.specs.Versions.{IsCellAt, Rises, cell_at, kept_versi
 ghost use Rattle.bohm_store.specs.Versions.{past, total, versions, versions_to};
 ghost use Rattle.bohm_store.specs.Chains.{starting_versions};
 ghost use Rattle.bohm_store.specs.Nexts.{IsNext, IsSettled, IsSettledKept};
-ghost use Rattle.bohm_store.specs.Writes.{AreTxnWrites, AreWritesOf, writes_by};
+ghost use Rattle.bohm_store.specs.Writes.{AreTxnWrites, AreWritesBehind, AreWritesOf, writes_by};
 ghost use Rattle.bohm_store.specs.Numbered.{timeline, versions_at};
 
 use crate::held::{Held, forget_after, held_of};
@@ -217,25 +218,28 @@ impl NumberedHistory {
         self.floor = self.top;
     }
 
-    /// Adds the versions of the next batch, by the list of its writes. An error changes nothing.
-    pub fn settle_writes(
+    /// Adds the versions of so many transactions that follow the top, by the list of their writes. An
+    /// error changes nothing.
+    pub fn add_writes(
         &mut self,
         names: &[Key],
-        batch: &Batch<'_>,
+        count: u32,
         writes: &[NumberedWrite],
     ) -> Result<(), NoMemory>
         requires names { IsDistinct bytes_eq names.now }
         requires long { length names.now ≤ length self.old.newest }
-        requires next { IsNext (timeline names.now self.old) batch.now }
-        requires writes { AreWritesOf names.now batch.now writes.now }
+        requires timestamps { self.old.top + count < 2 ^ 32 }
+        requires writes { (txns : List Txn)
+            × AreWritesBehind names.now (timeline names.now self.old) count txns writes.now }
         ensures err { OnErr result (self.new ≡ self.old) }
         ensures long { OnOk result (length self.new.newest ≡ length self.old.newest) }
-        ensures ok { OnOk result (IsSettled
-            (timeline names.now self.old) (timeline names.now self.new) (txns_of batch.now)) }
+        ensures ok { OnOk result ((txns : List Txn)
+            → AreWritesBehind names.now (timeline names.now self.old) count txns writes.now
+            → IsSettled (timeline names.now self.old) (timeline names.now self.new) txns) }
     {
         match add(self.newest.as_mut_slice(), &mut self.older, writes) {
             Ok(()) => {
-                self.top += batch.len();
+                self.top += count;
                 Ok(())
             }
             Err(error) => Err(error),
@@ -243,24 +247,26 @@ impl NumberedHistory {
     }
 
     /// The same, and then trims. An error changes nothing.
-    pub fn settle_above(
+    pub fn add_above(
         &mut self,
         names: &[Key],
-        batch: &Batch<'_>,
+        count: u32,
         writes: &[NumberedWrite],
         floor: u32,
     ) -> Result<(), NoMemory>
         requires names { IsDistinct bytes_eq names.now }
         requires long { length names.now ≤ length self.old.newest }
-        requires next { IsNext (timeline names.now self.old) batch.now }
-        requires writes { AreWritesOf names.now batch.now writes.now }
-        requires floor { floor ≤ self.old.top + length (txns_of batch.now) }
+        requires timestamps { self.old.top + count < 2 ^ 32 }
+        requires writes { (txns : List Txn)
+            × AreWritesBehind names.now (timeline names.now self.old) count txns writes.now }
+        requires floor { floor ≤ self.old.top + count }
         ensures err { OnErr result (self.new ≡ self.old) }
         ensures long { OnOk result (length self.new.newest ≡ length self.old.newest) }
-        ensures ok { OnOk result (IsSettledKept
-            (timeline names.now self.old) (timeline names.now self.new) (txns_of batch.now) floor) }
+        ensures ok { OnOk result ((txns : List Txn)
+            → AreWritesBehind names.now (timeline names.now self.old) count txns writes.now
+            → IsSettledKept (timeline names.now self.old) (timeline names.now self.new) txns floor) }
     {
-        match self.settle_writes(names, batch, writes) {
+        match self.add_writes(names, count, writes) {
             Ok(()) => {
                 self.trim(floor);
                 Ok(())
@@ -295,63 +301,6 @@ impl NumberedHistory {
         replace_each(self.newest.as_mut_slice(), self.top + 1, numbers, cells);
         self.top += 1;
         self.floor = self.top;
-    }
-
-    /// Adds the versions of the transaction that follows the top, by the list of its writes. An error
-    /// changes nothing.
-    pub fn advance(
-        &mut self,
-        names: &[Key],
-        txn: &TxnView<'_>,
-        writes: &[NumberedWrite],
-    ) -> Result<(), NoMemory>
-        requires names { IsDistinct bytes_eq names.now }
-        requires long { length names.now ≤ length self.old.newest }
-        requires well { IsWellFormedTxn txn.now }
-        requires timestamp { self.old.top + 1 < 2 ^ 32 }
-        requires writes { AreTxnWrites names.now (self.old.top + 1)
-            (past (timeline names.now self.old) self.old.top) txn.now writes.now }
-        ensures err { OnErr result (self.new ≡ self.old) }
-        ensures long { OnOk result (length self.new.newest ≡ length self.old.newest) }
-        ensures ok { OnOk result (IsSettled
-            (timeline names.now self.old) (timeline names.now self.new) (txn.now ∷ [])) }
-    {
-        match add(self.newest.as_mut_slice(), &mut self.older, writes) {
-            Ok(()) => {
-                self.top += 1;
-                Ok(())
-            }
-            Err(error) => Err(error),
-        }
-    }
-
-    /// The same, and then trims. An error changes nothing.
-    pub fn advance_above(
-        &mut self,
-        names: &[Key],
-        txn: &TxnView<'_>,
-        writes: &[NumberedWrite],
-        floor: u32,
-    ) -> Result<(), NoMemory>
-        requires names { IsDistinct bytes_eq names.now }
-        requires long { length names.now ≤ length self.old.newest }
-        requires well { IsWellFormedTxn txn.now }
-        requires timestamp { self.old.top + 1 < 2 ^ 32 }
-        requires writes { AreTxnWrites names.now (self.old.top + 1)
-            (past (timeline names.now self.old) self.old.top) txn.now writes.now }
-        requires floor { floor ≤ self.old.top + 1 }
-        ensures err { OnErr result (self.new ≡ self.old) }
-        ensures long { OnOk result (length self.new.newest ≡ length self.old.newest) }
-        ensures ok { OnOk result (IsSettledKept
-            (timeline names.now self.old) (timeline names.now self.new) (txn.now ∷ []) floor) }
-    {
-        match self.advance(names, txn, writes) {
-            Ok(()) => {
-                self.trim(floor);
-                Ok(())
-            }
-            Err(error) => Err(error),
-        }
     }
 
     /// What each key held after the transaction with a timestamp: the keys that had a value, rising,

@@ -7,7 +7,7 @@ use std::alloc::Global;
 /// key in the log. Each is compared with its key before it is used, so no answer depends on it.
 #[derive(Drop)]
 pub struct Hints {
-    numbers: Vec<u32>,
+    pub(crate) numbers: Vec<u32>,
 }
 
 impl Hints {
@@ -56,5 +56,10 @@ impl Seats {
     /// Makes room for the keys with numbers below a count in the log.
     pub fn cover(&mut self, count: usize) -> Result<(), NoMemory> {
         self.hints.cover(count)
+    }
+
+    /// Forgets the numbers of all keys. Room is kept for as many.
+    pub fn clear(&mut self) {
+        self.hints.numbers.clear();
     }
 }

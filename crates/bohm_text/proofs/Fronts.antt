@@ -14,15 +14,11 @@ pub behind_front : (line front : List ℕ) (r : Option (Bor (List ℕ)))
 behind_front line front None h = tt
 behind_front line front (Some rest) h = strip_prefix_is Decides-eqb line front (Some rest) h
 
-pub split_set : (line : List ℕ) (r : Option (Bor (List ℕ))) → IfSome r (λ rest. line ≡ codes "set " ++ rest.now)
-    → IfSome r (λ rest. split 32 line ≡ codes "set" ∷ split 32 rest.now)
+pub split_equals : (line : List ℕ) (r : Option (Bor (List ℕ))) → IfSome r (λ rest. line ≡ codes "= " ++ rest.now)
+    → IfSome r (λ rest. split 32 line ≡ codes "=" ∷ split 32 rest.now)
 unfolding split
-split_set line None h = tt
-split_set line (Some rest) h = rw h refl
-
-split_need : (line rest words : List ℕ) → line ≡ codes "need" ++ rest → rest ≡ codes " " ++ words → split 32 line ≡ codes "need" ∷ split 32 words
-unfolding split
-split_need line rest words e h = rw (e, h) refl
+split_equals line None h = tt
+split_equals line (Some rest) h = rw h refl
 
 split_reads : (line rest words : List ℕ) → line ≡ codes "read" ++ rest → rest ≡ codes "s " ++ words → split 32 line ≡ codes "reads" ∷ split 32 words
 unfolding split
@@ -33,11 +29,6 @@ unfolding split
 split_writes line rest words e h = rw (e, h) refl
 
 module _ (line rest : List ℕ) where
-  pub of_need : line ≡ codes "need" ++ rest → (r : Option (Bor (List ℕ))) → IfSome r (λ words. rest ≡ codes " " ++ words.now)
-      → IfSome r (λ words. split 32 line ≡ codes "need" ∷ split 32 words.now)
-  of_need e None h = tt
-  of_need e (Some words) h = split_need line rest words.now e h
-
   pub of_reads : line ≡ codes "read" ++ rest → (r : Option (Bor (List ℕ))) → IfSome r (λ words. rest ≡ codes "s " ++ words.now)
       → IfSome r (λ words. split 32 line ≡ codes "reads" ∷ split 32 words.now)
   of_reads e None h = tt

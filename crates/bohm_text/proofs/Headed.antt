@@ -1,11 +1,12 @@
 -- Lines that are read behind a head line.
-use Rattle.std.proofs.Common.{◌≡◌, ℕ, zero, suc, ◌+◌, ◌≤◌, List, [], ◌∷◌, ◌++◌, length, Some, refl, ap, sym, ◌∙◌, arith, append_assoc}
+use Rattle.std.proofs.Common.{◌≡◌, ℕ, ◌+◌, List, [], ◌∷◌, ◌++◌, length, Some, refl, ap, sym, ◌∙◌, arith, append_assoc}
 use Rattle.bohm_types.specs.declared.edition.Edition.{Edition}
 use Rattle.bohm_types.specs.declared.edition.Edition.TheVariants.{One, Two}
 use Rattle.bohm_text.specs.Cut.{whole_lines}
 use Rattle.bohm_text.specs.Step.{Nothing, begun, head_of, step}
 use Rattle.bohm_text.specs.Windows.{head_line, headed}
-use Rattle.bohm_text.proofs.Lines.{IsReadTo, read_none, read_more, step-head}
+use Rattle.bohm_text.proofs.Lines.{step-head}
+use Rattle.bohm_text.proofs.Stepping.{IsReadTo, read_none, read_more}
 use Rattle.bohm_text.proofs.StepTakes.{head_takes}
 use Rattle.bohm_text.proofs.WindowLaws.{headed_lines}
 
@@ -15,8 +16,8 @@ head_read One = refl
 head_read Two = refl
 
 -- the head line was read
-pub read_head : (e : Edition) (text : List ℕ) → IsReadTo (headed e text) 1 text (begun e)
-read_head e text = read_more (headed e text) 0 (headed e text) Nothing (read_none (headed e text)) (head_line e) text (headed_lines e text)
+pub read_head : (e : Edition) (text : List ℕ) → IsReadTo step Nothing (headed e text) 1 text (begun e)
+read_head e text = read_more (read_none step Nothing (headed e text)) (head_line e) text (headed_lines e text)
     (append_assoc (head_line e) (10 ∷ []) text) (begun e) (step-head (head_line e) e (head_read e))
 
 -- a text is its rest behind its head line

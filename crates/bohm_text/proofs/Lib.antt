@@ -14,6 +14,7 @@ mod Again
 mod WordLaws
 mod StepTakes
 mod StepAgain
+mod Stepping
 mod Lines
 mod Searches
 mod Fronts

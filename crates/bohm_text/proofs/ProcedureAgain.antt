@@ -1,26 +1,24 @@
 -- The lines of a procedure are read again, so each procedure has one text.
-use Rattle.std.proofs.Common.{◌≡◌, ℕ, Bool, true, false, List, [], ◌∷◌, ◌++◌, map, Some, None, refl, ap, sym, ◌∙◌, arith, append_assoc}
-use Rattle.std.specs.Prelude.{Option, codes, not, ◌&&◌}
+use Rattle.std.proofs.Common.{◌≡◌, ℕ, true, false, List, [], ◌∷◌, ◌++◌, map, Some, refl, ap, sym, ◌∙◌, append_assoc}
+use Rattle.std.specs.Prelude.{codes, not}
 use Rattle.std.specs.List.{AllByRecursion}
-use Rattle.std.specs.Str.{bytes_eq}
 use Rattle.std.proofs.lemmas.Bool.{and_parts, not-true}
 use Rattle.std.proofs.lemmas.List.{map-append, append-nil}
 use Rattle.std.proofs.lemmas.Option.{same_Some}
 use Rattle.bohm_types.specs.Keys.{is_among}
 use Rattle.bohm_types.specs.Sound.{IsName, IsStmt}
-use Rattle.bohm_types.specs.Stmt.{Stmt, Bind, Need, Has, Lacks, Put, Remove, Show, Fail}
+use Rattle.bohm_types.specs.Stmt.{Stmt}
 use Rattle.bohm_types.specs.declared.edition.Edition.{Edition}
 use Rattle.bohm_types.specs.declared.edition.Edition.TheVariants.{One, Two}
 use Rattle.bohm_types.specs.Procedure.{Procedure}
-use Rattle.bohm_text.specs.Print.{Words, line_text, text_of, stmt_words}
-use Rattle.bohm_text.specs.Cut.{split, whole_lines}
-use Rattle.bohm_text.specs.Reading.{keys_of, after}
+use Rattle.bohm_text.specs.Print.{Words, line_text, stmt_words}
+use Rattle.bohm_text.specs.Cut.{whole_lines}
 use Rattle.bohm_text.specs.ProcedureText.{procedure_words, key_words, value_words, tail_lines, procedure_lines}
 use Rattle.bohm_text.specs.ProcedureText.{print_procedure, all_new, are_declared, IsProcedure, Stage, Nothing, Keys}
-use Rattle.bohm_text.specs.ProcedureText.{Values, Reading, Body, Done, edition_of, one_name, stage_after, stages}
+use Rattle.bohm_text.specs.ProcedureText.{Values, Reading, Body, Done, edition_of, stage_after, stages}
 use Rattle.bohm_text.proofs.Again.{key_again, keys_again, stmt_again}
 use Rattle.bohm_text.proofs.Cutting.{lines_again, IsWithout}
-use Rattle.bohm_text.proofs.StepAgain.{cut, other_line, set_again}
+use Rattle.bohm_text.proofs.StepAgain.{cut, set_again, stmt_line}
 use Rattle.bohm_text.proofs.TextLaws.{line_lacks}
 use Rattle.bohm_text.proofs.WordLaws.{IsWord, All-map, name_word, stmt_are_words, names_are_words}
 
@@ -85,33 +83,11 @@ writes_step : (e : Edition) (ks vs reads writes : Words) → AllByRecursion IsNa
 unfolding stage_after
 writes_step e ks vs reads writes names declared = rw (set_again (codes "writes") writes refl names refl, declared) refl
 
-stmt_cut : (s : Stmt) → IsStmt s → split 32 (line_text (stmt_words s)) ≡ stmt_words s
-stmt_cut (Bind x sum) sound = cut _ _ (stmt_are_words (Bind x sum) sound)
-stmt_cut (Need c) sound = cut _ _ (stmt_are_words (Need c) sound)
-stmt_cut (Has k) sound = cut _ _ (stmt_are_words (Has k) sound)
-stmt_cut (Lacks k) sound = cut _ _ (stmt_are_words (Lacks k) sound)
-stmt_cut (Put k sum guard) sound = cut _ _ (stmt_are_words (Put k sum guard) sound)
-stmt_cut (Remove k) sound = cut _ _ (stmt_are_words (Remove k) sound)
-stmt_cut (Show sum) sound = cut _ _ (stmt_are_words (Show sum) sound)
-stmt_cut Fail sound = cut _ _ (stmt_are_words Fail sound)
-
-not_end : (s : Stmt) → stmt_words s ≡ codes "end" ∷ [] → ⊥
-not_end (Bind x sum) e = cc
-not_end (Need c) e = cc
-not_end (Has k) e = cc
-not_end (Lacks k) e = cc
-not_end (Put k sum guard) e = cc
-not_end (Remove k) e = cc
-not_end (Show sum) e = cc
-not_end Fail e = cc
-
 stmt_step : (e : Edition) (ks vs reads writes : Words) (body : List Stmt) (s : Stmt) → IsStmt s
     → stage_after (Body e ks vs reads writes body) (line_text (stmt_words s)) ≡ Some (Body e ks vs reads writes (body ++ s ∷ []))
-unfolding stage_after split
+unfolding stage_after
 stmt_step e ks vs reads writes body s sound =
-    let words : split 32 (line_text (stmt_words s)) ≡ stmt_words s = stmt_cut s sound in
-    let apart : bytes_eq (line_text (stmt_words s)) (codes "end")
-    ≡ false = other_line (line_text (stmt_words s)) (codes "end") (λ h. not_end s (sym words ∙ h)) in
+    let (words, apart) = stmt_line s sound in
     rw (apart, words, stmt_again s sound) refl
 
 stmts_stages : (e : Edition) (ks vs reads writes : Words) (before body : List Stmt) (rest : List (List ℕ)) → AllByRecursion IsStmt body

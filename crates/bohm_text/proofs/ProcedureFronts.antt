@@ -17,7 +17,7 @@ use Rattle.bohm_text.specs.Print.{Words, line_text, text_of, stmt_words}
 use Rattle.bohm_text.specs.Cut.{whole_lines}
 use Rattle.bohm_text.specs.ProcedureText.{procedure_words, key_words, value_words, tail_lines, procedure_lines}
 use Rattle.bohm_text.specs.ProcedureText.{print_procedure, is_declared, are_declared, IsProcedure, Stage, Nothing, Keys}
-use Rattle.bohm_text.specs.ProcedureText.{Values, Reading, Body, Done, stages}
+use Rattle.bohm_text.specs.ProcedureText.{Values, Reading, Body, Done, stage_after, stages}
 use Rattle.bohm_text.specs.ProcedureParse.{IsFirstFault, IsUnfinished, IsRead, Reads}
 use Rattle.bohm_text.specs.ProcedureRead.{IsProcedureOf}
 use Rattle.bohm_text.specs.ProcedureReading.{stage_at, IsReadyAt, HasLets}
@@ -25,22 +25,17 @@ use Rattle.bohm_text.specs.declared.procedures.ParamPlace.{ParamPlace}
 use Rattle.bohm_text.specs.declared.procedures.ParamPlace.TheVariants as places
 use Rattle.bohm_text.specs.declared.procedures.ProcedureReader.{ProcedureReader}
 use Rattle.bohm_text.specs.declared.fault.TextFault.{TextFault}
-use Rattle.bohm_log.specs.Drafting.{Drafted}
+use Rattle.bohm_log.specs.Drafting.{Drafted, IsBetween}
 use Rattle.bohm_text.specs.ProcedureFaults.{Front, IsFirstBadLine, IsShort}
 use Rattle.bohm_text.proofs.ProcedureAgain.{procedure_stages, text_stages, lines_are_words, AreWords}
 use Rattle.bohm_text.proofs.ProcedureTakes.{stage_words, AreParams, IsSound, params, stages_add, procedure_found}
-use Rattle.bohm_text.proofs.ProcedureLines.{stages-append}
+use Rattle.bohm_text.proofs.Stepping.{none_after}
 use Rattle.bohm_text.proofs.Cutting.{lines_again, IsWithout}
 use Rattle.bohm_text.proofs.TextLaws.{line_lacks}
 use Rattle.bohm_text.proofs.WordLaws.{All-map}
 
-none_after : (ls more : List (List ℕ)) (p : Stage) → stages Nothing ls ≡ None → stages Nothing (ls ++ more) ≡ Some p → ⊥
-none_after ls more p none e =
-    let stopped : stages Nothing (ls ++ more) ≡ None = stages-append Nothing ls more ∙ rw none refl in
-    cc
-
 not_front : (ls : List (List ℕ)) → stages Nothing ls ≡ None → Front ls → ⊥
-not_front ls none front = none_after ls front.more (Done front.procedure) none
+not_front ls none front = none_after stage_after Nothing ls front.more (Done front.procedure) none
     (ap (stages Nothing) (sym front.begins) ∙ procedure_stages front.procedure front.sound)
 
 among_in : (before : Words) (k : List ℕ) (ks : Words) → is_among (before ++ k ∷ ks) k ≡ true
@@ -115,19 +110,19 @@ bad_procedure_line lines n h = record
     { counted = h.counted; within = h.within; before = front_some (take (n - 1) lines) h.before; bad = not_front (take n lines) h.at }
 
 pub short_procedure : (text : List ℕ) → IsUnfinished text → IsShort text
-short_procedure text h = record { begins = front (whole_lines text) h.stage h.read; none = none }
+short_procedure text h = record { begins = front (whole_lines text) h.state h.read; none = none }
   where
     none : (p : Procedure) → IsProcedure p → print_procedure p ≡ text → ⊥
     none p sound same =
         let lack : AllByRecursion (IsWithout 10) (map line_text (procedure_lines p)) = All-map AreWords (IsWithout 10) line_text
         (λ ws words. line_lacks ws words) (procedure_lines p) (lines_are_words p sound) in
         let read : stages Nothing (whole_lines text) ≡ Some (Done p) = ap (λ (t : List ℕ). stages Nothing (whole_lines t)) (sym same) ∙ text_stages p sound in
-        let stage : h.stage ≡ Done p = same_Some h.stage (Done p) (sym h.read ∙ read) in
+        let stage : h.state ≡ Done p = same_Some h.state (Done p) (sym h.read ∙ read) in
         h.unfinished p stage (ap text_of (ap whole_lines (sym same) ∙ lines_again (map line_text (procedure_lines p)) lack) ∙ same)
 
 of_done : (text : List ℕ) (place : ParamPlace) (e : Edition) (ks vs : Words) (d : Drafted) → place ≡ places.Done
     → stages Nothing (whole_lines text) ≡ Some (stage_at place e ks vs d) → text_of (whole_lines text) ≡ text → IsReadyAt place e vs d
-    → IsProcedure (procedure_with d.txn ks vs) × (print_procedure (procedure_with d.txn ks vs) ≡ text) × (d.txn.edition ≡ e) × HasLets vs d
+    → IsProcedure (procedure_with d.txn ks vs) × (print_procedure (procedure_with d.txn ks vs) ≡ text) × (d.txn.edition ≡ e) × HasLets vs d × IsBetween d
 of_done text places.Keys e ks vs d at read whole ready = absurd cc
 of_done text places.Values e ks vs d at read whole ready = absurd cc
 of_done text places.Reading e ks vs d at read whole ready = absurd cc
@@ -138,12 +133,12 @@ of_done text places.Done e ks vs d at read whole ready =
     ≡ Done (procedure_with d.txn ks vs) =
     λ i. Done (record { edition = sym ready.1 i; keys = ks; values = vs; reads = d.txn.reads; writes = d.txn.writes; body = drop (length vs) d.txn.body }) in
     let p = procedure_found text (procedure_with d.txn ks vs) (read ∙ ap Some same) whole in
-    (p.0, p.1, ready.1, ready.2)
+    (p.0, p.1, ready.1, ready.2, ready.0)
 
 procedure_read : (text : List ℕ) (r : ProcedureReader) → IsRead text r → IsProcedureOf text r
 procedure_read text r h =
     let p = of_done text r.place r.edition r.keys.items r.values.items r.draft h.done h.read h.whole h.ready in
-    record { sound = p.0; text_is = p.1; edition = p.2; lets = p.3 }
+    record { sound = p.0; text_is = p.1; edition = p.2; lets = p.3; whole = p.4 }
 
 pub result_read : (text : List ℕ) (r : Result ProcedureReader TextFault) → Reads text r → IfOk r (IsProcedureOf text)
 result_read text (Ok r) h = procedure_read text r h

@@ -1,15 +1,13 @@
 -- Lines that are read are those of what they made, which is sound.
-use Rattle.std.proofs.Common.{◌≡◌, ℕ, Bool, true, false, cond, List, [], ◌∷◌, ◌++◌, map, Some, None, refl, ap, sym, subst, ◌∙◌, inl, inr, append_assoc}
-use Rattle.std.specs.Prelude.{Option, codes, not, ◌&&◌}
+use Rattle.std.proofs.Common.{◌≡◌, ℕ, true, false, cond, List, [], ◌∷◌, ◌++◌, map, Some, None, refl, ap, sym, subst, ◌∙◌, inl, inr, append_assoc}
+use Rattle.std.specs.Prelude.{codes}
 use Rattle.std.specs.List.{AllByRecursion}
 use Rattle.std.specs.Str.{bytes_eq}
-use Rattle.std.proofs.lemmas.Bool.{and_parts, and_from, not_from_false}
-use Rattle.std.proofs.lemmas.List.{map_push, map-append, append-nil}
+use Rattle.std.proofs.lemmas.List.{map_push, append-nil}
 use Rattle.std.proofs.lemmas.Option.{same_Some}
 use Rattle.bohm_types.specs.Name.{key_of, is_name}
 use Rattle.bohm_types.specs.Keys.{is_among}
 use Rattle.bohm_types.specs.Sound.{IsName, IsStmt}
-use Rattle.bohm_types.specs.Stmt.{Stmt}
 use Rattle.bohm_types.specs.declared.edition.Edition.{Edition}
 use Rattle.bohm_types.specs.declared.edition.Edition.TheVariants.{One, Two}
 use Rattle.bohm_types.specs.Procedure.{Procedure}
@@ -23,9 +21,9 @@ use Rattle.bohm_text.specs.ProcedureText.{Nothing, Keys, Values, Reading, Body, 
 use Rattle.bohm_text.specs.ProcedureText.{reads_line, value_line, key_line, after_values, after_keys, stage_after}
 use Rattle.bohm_text.specs.ProcedureText.{stages}
 use Rattle.bohm_text.proofs.WordTakes.{bind_some, chosen, if_some}
-use Rattle.bohm_text.proofs.Takes.{keys_take, after_takes, stmt_takes}
-use Rattle.bohm_text.proofs.Sounds.{names_sound, stmt_sound, set_sound}
-use Rattle.bohm_text.proofs.StepTakes.{words_line, set_takes, split_takes}
+use Rattle.bohm_text.proofs.Takes.{stmt_takes}
+use Rattle.bohm_text.proofs.Sounds.{stmt_sound, set_sound}
+use Rattle.bohm_text.proofs.StepTakes.{words_line, set_takes}
 use Rattle.bohm_text.proofs.ProcedureAgain.{new_first, each_append}
 
 -- the lines that made this stage, as words

@@ -49,14 +49,10 @@ entry_step edition store entry sound =
     two : (entry : List ℕ × ℤ) → store_words entry ≡ codes "txn" ∷ [] → ⊥
     two entry e = cc
 
-stmt_step : (d : Document) (reads writes : List (List ℕ)) (body : List Stmt) (s : Stmt) → IsStmt s
-    → step (Body d reads writes body) (line_text (stmt_words s)) ≡ Some (Body d reads writes (body ++ s ∷ []))
-unfolding step after_body split
-stmt_step d reads writes body s sound =
-    let words : split 32 (line_text (stmt_words s)) ≡ stmt_words s = stmt_cut s sound in
-    let apart : bytes_eq (line_text (stmt_words s)) (codes "end") ≡ false =
-    other_line (line_text (stmt_words s)) (codes "end") (λ e. not_end s (sym words ∙ e)) in
-    rw (apart, words, stmt_again s sound) refl
+-- a statement's line has the statement's words, and is not `end`
+pub stmt_line : (s : Stmt) → IsStmt s → (split 32 (line_text (stmt_words s)) ≡ stmt_words s) × (bytes_eq (line_text (stmt_words s)) (codes "end") ≡ false)
+unfolding split
+stmt_line s sound = let words = stmt_cut s sound in (words, other_line (line_text (stmt_words s)) (codes "end") (λ e. not_end s (sym words ∙ e)))
   where
     stmt_cut : (s : Stmt) → IsStmt s → split 32 (line_text (stmt_words s)) ≡ stmt_words s
     stmt_cut (Bind x sum) sound = cut _ _ (stmt_are_words (Bind x sum) sound)
@@ -77,6 +73,13 @@ stmt_step d reads writes body s sound =
     not_end (Remove k) e = cc
     not_end (Show sum) e = cc
     not_end Fail e = cc
+
+stmt_step : (d : Document) (reads writes : List (List ℕ)) (body : List Stmt) (s : Stmt) → IsStmt s
+    → step (Body d reads writes body) (line_text (stmt_words s)) ≡ Some (Body d reads writes (body ++ s ∷ []))
+unfolding step after_body
+stmt_step d reads writes body s sound =
+    let (words, apart) = stmt_line s sound in
+    rw (apart, words, stmt_again s sound) refl
 
 to : (p q : Progress) (line : List ℕ) (lines : List (List ℕ)) → step p line ≡ Some q → steps p (line ∷ lines) ≡ steps q lines
 to p q line lines e = rw e refl

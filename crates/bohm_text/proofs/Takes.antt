@@ -1,5 +1,5 @@
 -- What is read of a line was spelled so.
-use Rattle.std.proofs.Common.{◌≡◌, ℕ, zero, suc, ◌-◌, ◌^◌, Bool, true, cond, List, [], ◌∷◌, ◌++◌, Some, None, refl, ap, sym, subst, ◌∙◌, lit<, inl, inr}
+use Rattle.std.proofs.Common.{◌≡◌, ℕ, zero, suc, ◌-◌, ◌^◌, Bool, cond, List, [], ◌∷◌, ◌++◌, Some, None, refl, ap, sym, subst, ◌∙◌, lit<, inl, inr}
 use Rattle.std.specs.Prelude.{Option, ℤ, pos, negsuc, ◌==◌, codes}
 use Rattle.std.specs.Option.{option_map}
 use Rattle.std.specs.List.{flat_map}
@@ -30,39 +30,29 @@ ending_words End = []
 ending_words (When words) = codes "when" ∷ words
 ending_words (Compared cmp words) = cmp_word cmp ∷ words
 
+-- what a word decides, if it is this keyword or another one
+pub by_word : {X : Type 0} (P : List ℕ → Type 0) (w word : List ℕ) (x rest : Option X) (r : X) → cond (bytes_eq w word) x rest ≡ Some r
+    → (x ≡ Some r → P word) → (rest ≡ Some r → P w) → P w
+by_word P w word x rest r e here elsewhere =
+    elim (chosen (bytes_eq w word) x rest (Some r) e) [ inl p ↦ subst P (sym (same_key w word p.0)) (here p.1) | inr p ↦ elsewhere p.1 ]
+
 pub cmp_takes : (w : List ℕ) (cmp : Cmp) → cmp_of w ≡ Some cmp → w ≡ cmp_word cmp
 unfolding cmp_of
 cmp_takes w cmp e =
-    let rest4 : Option Cmp = cond (bytes_eq w (codes ">")) (Some Gt) None in
-    let rest3 : Option Cmp = cond (bytes_eq w (codes ">=")) (Some Ge) rest4 in
-    let rest2 : Option Cmp = cond (bytes_eq w (codes "=")) (Some Eq) rest3 in
-    let rest1 : Option Cmp = cond (bytes_eq w (codes "<=")) (Some Le) rest2 in
-    elim (chosen (bytes_eq w (codes "<")) (Some Lt) rest1 (Some cmp) e) [
-      | inl p ↦ rw (← same_Some Lt cmp p.1) (same_key w (codes "<") p.0)
-      | inr p ↦
-          elim (chosen (bytes_eq w (codes "<=")) (Some Le) rest2 (Some cmp) p.1) [
-            | inl q ↦ rw (← same_Some Le cmp q.1) (same_key w (codes "<=") q.0)
-            | inr q ↦
-                elim (chosen (bytes_eq w (codes "=")) (Some Eq) rest3 (Some cmp) q.1) [
-                  | inl r ↦ rw (← same_Some Eq cmp r.1) (same_key w (codes "=") r.0)
-                  | inr r ↦
-                      elim (chosen (bytes_eq w (codes ">=")) (Some Ge) rest4 (Some cmp) r.1) [
-                        | inl t ↦ rw (← same_Some Ge cmp t.1) (same_key w (codes ">=") t.0)
-                        | inr t ↦ let u = if_some (bytes_eq w (codes ">")) (Some Gt) cmp t.1 in rw (← same_Some Gt cmp u.1) (same_key w (codes ">") u.0)
-                      ]
-                ]
-          ]
-    ]
+    let P : List ℕ → Type 0 = λ (v : List ℕ). v ≡ cmp_word cmp in
+    by_word P w (codes "<") (Some Lt) _ cmp e (λ h. ap cmp_word (same_Some Lt cmp h)) (λ e.
+    by_word P w (codes "<=") (Some Le) _ cmp e (λ h. ap cmp_word (same_Some Le cmp h)) (λ e.
+    by_word P w (codes "=") (Some Eq) _ cmp e (λ h. ap cmp_word (same_Some Eq cmp h)) (λ e.
+    by_word P w (codes ">=") (Some Ge) _ cmp e (λ h. ap cmp_word (same_Some Ge cmp h)) (λ e.
+    by_word P w (codes ">") (Some Gt) None cmp e (λ h. ap cmp_word (same_Some Gt cmp h)) (λ none. absurd cc)))))
 
 stop_takes : (w : List ℕ) (stop : Stop) (words : Words) → stop_of w ≡ Some stop → w ∷ words ≡ ending_words (ending stop words)
 unfolding stop_of
 stop_takes w stop words e =
-    elim (chosen (bytes_eq w (codes "when")) (Some stops.When) (option_map stops.Compared (cmp_of w)) (Some stop) e) [
-      | inl p ↦ subst (λ (s : Stop). w ∷ words ≡ ending_words (ending s words)) (same_Some stops.When stop p.1)
-          (ap (λ (v : List ℕ). v ∷ words) (same_key w (codes "when") p.0))
-      | inr p ↦ let m = map_some stops.Compared (cmp_of w) stop p.1 in
-          subst (λ (s : Stop). w ∷ words ≡ ending_words (ending s words)) m.2 (ap (λ (v : List ℕ). v ∷ words) (cmp_takes w m.0 m.1))
-    ]
+    let P : List ℕ → Type 0 = λ (v : List ℕ). v ∷ words ≡ ending_words (ending stop words) in
+    by_word P w (codes "when") (Some stops.When) _ stop e (λ h. ap (λ (s : Stop). ending_words (ending s words)) (same_Some stops.When stop h)) (λ h.
+    let m = map_some stops.Compared (cmp_of w) stop h in
+    subst (λ (s : Stop). w ∷ words ≡ ending_words (ending s words)) m.2 (ap (λ (v : List ℕ). v ∷ words) (cmp_takes w m.0 m.1)))
 
 -- the words of terms and of what ends them
 abbrev pub further_text : Terms → Words
@@ -196,20 +186,14 @@ put_takes (word ∷ ws) s e =
 presence_takes : (word name : List ℕ) (s : Stmt) → presence_of word name ≡ Some s → codes "need" ∷ word ∷ name ∷ [] ≡ stmt_words s
 unfolding presence_of
 presence_takes word name s e =
-    elim (chosen (bytes_eq word (codes "has")) (option_map Has (key_of name)) (cond (bytes_eq word (codes "no")) (option_map Lacks (key_of name)) None)
-    (Some s) e) [
-      | inl p ↦
-          let m = map_some Has (key_of name) s p.1 in
-          let whole : codes "need" ∷ word ∷ name ∷ [] ≡ stmt_words (Has m.0) =
-          λ i. codes "need" ∷ same_key word (codes "has") p.0 i ∷ (key_takes name m.0 m.1).0 i ∷ [] in
-          subst (λ (t : Stmt). codes "need" ∷ word ∷ name ∷ [] ≡ stmt_words t) m.2 whole
-      | inr p ↦
-          let q = if_some (bytes_eq word (codes "no")) (option_map Lacks (key_of name)) s p.1 in
-          let m = map_some Lacks (key_of name) s q.1 in
-          let whole : codes "need" ∷ word ∷ name ∷ [] ≡ stmt_words (Lacks m.0) =
-          λ i. codes "need" ∷ same_key word (codes "no") q.0 i ∷ (key_takes name m.0 m.1).0 i ∷ [] in
-          subst (λ (t : Stmt). codes "need" ∷ word ∷ name ∷ [] ≡ stmt_words t) m.2 whole
-    ]
+    let P : List ℕ → Type 0 = λ (w : List ℕ). codes "need" ∷ w ∷ name ∷ [] ≡ stmt_words s in
+    let named : (k : List ℕ) → key_of name ≡ Some k → name ≡ k = λ k h. (key_takes name k h).0 in
+    by_word P word (codes "has") (option_map Has (key_of name)) _ s e (λ h.
+    let m = map_some Has (key_of name) s h in
+    ap (λ (k : List ℕ). codes "need" ∷ codes "has" ∷ k ∷ []) (named m.0 m.1) ∙ ap stmt_words m.2) (λ e.
+    by_word P word (codes "no") (option_map Lacks (key_of name)) None s e (λ h.
+    let m = map_some Lacks (key_of name) s h in
+    ap (λ (k : List ℕ). codes "need" ∷ codes "no" ∷ k ∷ []) (named m.0 m.1) ∙ ap stmt_words m.2) (λ none. absurd cc))
 
 need_takes : (ws : Words) (s : Stmt) → need_of ws ≡ Some s → codes "need" ∷ ws ≡ stmt_words s
 unfolding need_of
@@ -242,40 +226,24 @@ unfolding fail_of
 fail_takes [] s e = subst (λ (t : Stmt). codes "fail" ∷ [] ≡ stmt_words t) (same_Some Fail s e) refl
 fail_takes (w ∷ ws) s e = absurd cc
 
--- a line of this verb
-verb_takes : (word verb : List ℕ) (ws : Words) (s : Stmt) → bytes_eq verb word ≡ true → word ∷ ws ≡ stmt_words s → verb ∷ ws ≡ stmt_words s
-verb_takes word verb ws s same whole = ap (λ (v : List ℕ). v ∷ ws) (same_key verb word same) ∙ whole
+-- a statement is read by its verb
+pub by_verb : (P : List ℕ → Type 0) (verb : List ℕ) (ws : Words) (s : Stmt) → stmt_of (verb ∷ ws) ≡ Some s → (put_of ws ≡ Some s → P (codes "set"))
+    → (bind_of ws ≡ Some s → P (codes "let")) → (need_of ws ≡ Some s → P (codes "need")) → (option_map Show (last_sum ws) ≡ Some s → P (codes "show"))
+    → (remove_of ws ≡ Some s → P (codes "drop")) → (fail_of ws ≡ Some s → P (codes "fail")) → P verb
+unfolding stmt_of
+by_verb P verb ws s e put bind need show remove fail =
+    by_word P verb (codes "set") (put_of ws) _ s e put (λ e.
+    by_word P verb (codes "let") (bind_of ws) _ s e bind (λ e.
+    by_word P verb (codes "need") (need_of ws) _ s e need (λ e.
+    by_word P verb (codes "show") (option_map Show (last_sum ws)) _ s e show (λ e.
+    by_word P verb (codes "drop") (remove_of ws) _ s e remove (λ e.
+    by_word P verb (codes "fail") (fail_of ws) None s e fail (λ none. absurd cc))))))
 
 pub stmt_takes : (ws : Words) (s : Stmt) → stmt_of ws ≡ Some s → ws ≡ stmt_words s
 unfolding stmt_of
 stmt_takes [] s e = absurd cc
-stmt_takes (verb ∷ ws) s e =
-    let rest5 : Option Stmt = cond (bytes_eq verb (codes "fail")) (fail_of ws) None in
-    let rest4 : Option Stmt = cond (bytes_eq verb (codes "drop")) (remove_of ws) rest5 in
-    let rest3 : Option Stmt = cond (bytes_eq verb (codes "show")) (option_map Show (last_sum ws)) rest4 in
-    let rest2 : Option Stmt = cond (bytes_eq verb (codes "need")) (need_of ws) rest3 in
-    let rest1 : Option Stmt = cond (bytes_eq verb (codes "let")) (bind_of ws) rest2 in
-    elim (chosen (bytes_eq verb (codes "set")) (put_of ws) rest1 (Some s) e) [
-      | inl p ↦ verb_takes (codes "set") verb ws s p.0 (put_takes ws s p.1)
-      | inr p ↦
-          elim (chosen (bytes_eq verb (codes "let")) (bind_of ws) rest2 (Some s) p.1) [
-            | inl q ↦ verb_takes (codes "let") verb ws s q.0 (bind_takes ws s q.1)
-            | inr q ↦
-                elim (chosen (bytes_eq verb (codes "need")) (need_of ws) rest3 (Some s) q.1) [
-                  | inl r ↦ verb_takes (codes "need") verb ws s r.0 (need_takes ws s r.1)
-                  | inr r ↦
-                      elim (chosen (bytes_eq verb (codes "show")) (option_map Show (last_sum ws)) rest4 (Some s) r.1) [
-                        | inl t ↦ verb_takes (codes "show") verb ws s t.0 (show_takes ws s t.1)
-                        | inr t ↦
-                            elim (chosen (bytes_eq verb (codes "drop")) (remove_of ws) rest5 (Some s) t.1) [
-                              | inl u ↦ verb_takes (codes "drop") verb ws s u.0 (remove_takes ws s u.1)
-                              | inr u ↦ let v = if_some (bytes_eq verb (codes "fail")) (fail_of ws) s u.1 in
-                                  verb_takes (codes "fail") verb ws s v.0 (fail_takes ws s v.1)
-                            ]
-                      ]
-                ]
-          ]
-    ]
+stmt_takes (verb ∷ ws) s e = by_verb (λ (v : List ℕ). v ∷ ws ≡ stmt_words s) verb ws s e
+    (put_takes ws s) (bind_takes ws s) (need_takes ws s) (show_takes ws s) (remove_takes ws s) (fail_takes ws s)
 
 negative_takes : (n : ℕ) (z : ℤ) → negative n ≡ Some z → 45 ∷ decimal n ≡ signed_decimal z
 negative_takes zero z e = absurd cc

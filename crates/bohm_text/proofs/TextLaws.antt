@@ -1,5 +1,5 @@
 -- Each document has one text, and the first faulty line is the first that begins no document.
-use Rattle.std.proofs.Common.{◌≡◌, ℕ, ◌-◌, true, false, List, [], ◌∷◌, ◌++◌, take, Some, None, refl, ap, sym, subst, ◌∙◌, arith, append_assoc}
+use Rattle.std.proofs.Common.{◌≡◌, ℕ, ◌-◌, true, false, List, [], ◌∷◌, take, Some, None, refl, ap, sym, subst, ◌∙◌, arith, append_assoc}
 use Rattle.std.specs.Prelude.{Option, codes, IsSome, ◌==◌}
 use Rattle.std.specs.List.{list_all, AllByRecursion}
 use Rattle.std.proofs.lemmas.List.{append-nil}
@@ -13,13 +13,13 @@ use Rattle.bohm_txn.proofs.ForCallers.{each_append}
 use Rattle.bohm_text.specs.Print.{Words, line_text, spaced, text_of, doc_lines, print_doc}
 use Rattle.bohm_text.specs.Cut.{whole_lines}
 use Rattle.bohm_types.specs.Sound.{IsName, IsStmt, IsTxn, IsDocument}
-use Rattle.bohm_text.specs.Step.{Progress, Nothing, Between, Opened, Reading, Body, with_txn, steps}
+use Rattle.bohm_text.specs.Step.{Progress, Nothing, Between, Opened, Reading, Body, with_txn, step, steps}
 use Rattle.bohm_text.specs.Front.{text_lines, Front}
 use Rattle.bohm_text.specs.Faults.{IsFirstBadLine, IsShort}
 use Rattle.bohm_text.specs.Parse.{IsFirstFault, IsUnfinished}
 use Rattle.bohm_text.proofs.Cutting.{IsWithout, lines_again}
 use Rattle.bohm_text.proofs.WordLaws.{All-map, IsLine, doc_are_lines, IsWord, word_lacks}
-use Rattle.bohm_text.proofs.Lines.{steps-append}
+use Rattle.bohm_text.proofs.Stepping.{none_after}
 use Rattle.bohm_text.proofs.StepTakes.{progress_lines, steps_add, txn_adds}
 use Rattle.bohm_text.proofs.StepAgain.{document_steps}
 use Rattle.bohm_text.proofs.Sounds.{IsSound, steps_sound}
@@ -56,13 +56,8 @@ one_text d e sound_d sound_e same =
 
 -- ---- beginnings
 
-none_after : (ls more : List (List ℕ)) (p : Progress) → steps Nothing ls ≡ None → steps Nothing (ls ++ more) ≡ Some p → ⊥
-none_after ls more p none e =
-    let stopped : steps Nothing (ls ++ more) ≡ None = steps-append Nothing ls more ∙ rw none refl in
-    cc
-
 pub not_front : (ls : List (List ℕ)) → steps Nothing ls ≡ None → Front ls → ⊥
-not_front ls none front = none_after ls front.more (Between front.document) none
+not_front ls none front = none_after step Nothing ls front.more (Between front.document) none
     (ap (steps Nothing) (sym front.begins) ∙ document_steps front.document front.sound)
 
 open_txn : (d : Document) (reads writes : List (List ℕ)) (body : List Stmt) → IsDocument d → AllByRecursion IsName reads → AllByRecursion IsName writes
@@ -125,7 +120,7 @@ found text d e whole = (steps_sound Nothing (Between d) (whole_lines text) tt e,
 pub unfinished : (text : List ℕ) → IsUnfinished text → (d : Document) → IsDocument d → print_doc d ≡ text → ⊥
 unfinished text h d sound same =
     let read : steps Nothing (whole_lines text) ≡ Some (Between d) = ap (λ (t : List ℕ). steps Nothing (whole_lines t)) (sym same) ∙ text_steps d sound in
-    let progress : h.progress ≡ Between d = same_Some h.progress (Between d) (sym h.read ∙ read) in
+    let progress : h.state ≡ Between d = same_Some h.state (Between d) (sym h.read ∙ read) in
     h.unfinished d progress (ap text_of (ap whole_lines (sym same) ∙ lines_again (text_lines d) (lines_lack d sound)) ∙ same)
 
 same_self : (e : Edition) → same_edition e e ≡ true
@@ -143,4 +138,4 @@ pub bad_line : (lines : List (List ℕ)) (n : ℕ) → IsFirstFault lines n → 
 bad_line lines n h = record { counted = h.counted; within = h.within; before = front_some (take (n - 1) lines) h.before; bad = not_front (take n lines) h.at }
 
 pub short : (text : List ℕ) → IsUnfinished text → IsShort text
-short text h = record { begins = front (whole_lines text) h.progress h.read; none = unfinished text h }
+short text h = record { begins = front (whole_lines text) h.state h.read; none = unfinished text h }

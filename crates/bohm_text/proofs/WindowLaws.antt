@@ -1,33 +1,26 @@
 -- What windows behind a document say of the whole text: its document, its first bad line, and that it ends too soon.
-use Rattle.std.proofs.Common.{◌≡◌, ℕ, zero, suc, ◌+◌, ◌-◌, ◌<◌, ◌≤◌, true, false, List, [], ◌∷◌, ◌++◌, length, map}
+use Rattle.std.proofs.Common.{◌≡◌, ℕ, zero, suc, ◌+◌, ◌-◌, ◌≤◌, true, false, List, [], ◌∷◌, ◌++◌, length, map}
 use Rattle.std.proofs.Common.{take, Some, None, refl, ap, sym, subst, ◌∙◌, arith, append_assoc, length-append}
 use Rattle.std.specs.Prelude.{Option, Bool, codes, cond, IsSome, ◌==◌}
 use Rattle.std.specs.Option.{option_map}
-use Rattle.std.specs.Str.{bytes_eq}
 use Rattle.std.specs.List.{AllByRecursion, flat_map}
 use Rattle.std.proofs.Math.Seq.{take-append-add}
 use Rattle.std.proofs.lemmas.Grind.{flat_map-append}
-use Rattle.std.proofs.lemmas.List.{append-nil, append_cancel_left, map-append, take-append-le, take_at}
-use Rattle.std.proofs.lemmas.Option.{same_Some}
+use Rattle.std.proofs.lemmas.List.{append-nil, append_cancel_left, map-append, take-append-le}
 use Rattle.bohm_types.specs.Document.{Document}
-use Rattle.bohm_types.specs.Stmt.{Stmt}
 use Rattle.bohm_types.specs.Txn.{Txn}
 use Rattle.bohm_types.specs.declared.edition.Edition.{Edition}
 use Rattle.bohm_types.specs.declared.edition.Edition.TheVariants.{One, Two}
 use Rattle.bohm_types.specs.Sound.{IsTxn, IsDocument}
 use Rattle.bohm_txn.proofs.ForCallers.{each_append}
-use Rattle.bohm_text.specs.Print.{Words, line_text, txn_lines, text_of, print_doc, doc_lines}
-use Rattle.bohm_text.specs.Cut.{onto_first, split, whole_lines}
-use Rattle.bohm_text.specs.Reading.{◌>>=◌, keys_of, after, stmt_of}
-use Rattle.bohm_text.specs.Step.{Progress, Nothing, Between, Opened, Reading, Body, head_of, step, steps, after_body}
+use Rattle.bohm_text.specs.Print.{line_text, txn_lines, text_of, print_doc}
+use Rattle.bohm_text.specs.Cut.{onto_first, whole_lines}
+use Rattle.bohm_text.specs.Step.{Progress, Nothing, Between, Opened, Reading, Body, steps}
 use Rattle.bohm_text.specs.Front.{text_lines, Front}
 use Rattle.bohm_text.specs.Faults.{IsFirstBadLine, IsShort}
 use Rattle.bohm_text.specs.Windows.{segment, with_log, head_line, headed, IsWindow}
 use Rattle.bohm_text.proofs.Cutting.{IsWithout, line_again, lines_again}
-use Rattle.bohm_text.proofs.Lines.{steps-append}
-use Rattle.bohm_text.proofs.StepAgain.{document_steps}
-use Rattle.bohm_text.proofs.Sounds.{steps_sound}
-use Rattle.bohm_text.proofs.TextLaws.{lines_lack, text_steps, same_document, front, front_some, not_front, found}
+use Rattle.bohm_text.proofs.TextLaws.{lines_lack, text_steps, front_some, not_front, found}
 use Rattle.bohm_text.proofs.Behind.{IsInside, behind, inside_steps, read_alone, read_behind}
 
 -- ---- lines of joined texts

@@ -1,6 +1,7 @@
 pub mod Print
 pub mod Cut
 pub mod Reading
+pub mod Stepping
 pub mod Signs
 pub mod WordsInside
 pub mod Taking

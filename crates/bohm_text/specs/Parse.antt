@@ -1,7 +1,6 @@
 -- The results of reading a text.
-use Rattle.std.specs.Prelude.{◌≡◌, ◌≢◌, ℕ, ◌+◌, ◌-◌, ◌<◌, ◌≤◌, List, ◌==◌, take, length, Option, Some, None, Result, Ok, Err, IsSome}
+use Rattle.std.specs.Prelude.{◌≡◌, ℕ, ◌+◌, ◌≤◌, List, ◌==◌, length, Option, Some, Result, Ok, Err}
 use Rattle.std.specs.List.{position_from}
-use Rattle.bohm_types.specs.Document.{Document}
 use Rattle.bohm_text.specs.declared.fault.TextFault.{TextFault}
 use Rattle.bohm_text.specs.declared.fault.TextFault.TheVariants as texts
 use Rattle.bohm_text.specs.declared.fault.WindowFault.{WindowFault}
@@ -11,23 +10,19 @@ use Rattle.bohm_text.specs.declared.reader.Reader.{Reader}
 use Rattle.bohm_text.specs.Windows.{headed}
 use Rattle.bohm_text.specs.Print.{text_of}
 use Rattle.bohm_text.specs.Cut.{whole_lines}
-use Rattle.bohm_text.specs.Step.{Progress, Nothing, Between, document_in, steps}
+use Rattle.bohm_text.specs.Stepping.{IsFirstRefused, IsLeftOpen}
+use Rattle.bohm_text.specs.Step.{Nothing, Between, document_in, step, steps}
 
 abbrev pub newline_in : List ℕ → Option ℕ
 newline_in bytes = position_from (λ byte. byte == 10) 0 bytes
 
 -- line n is the first with which the complete lines begin no document's text
-pub record IsFirstFault (lines : List (List ℕ)) (n : ℕ) : Type 0 where
-  pub counted : 0 < n
-  pub within : n ≤ length lines
-  pub before : IsSome (steps Nothing (take (n - 1) lines))
-  pub at : steps Nothing (take n lines) ≡ None
+abbrev pub IsFirstFault : List (List ℕ) → ℕ → Type 0
+IsFirstFault = IsFirstRefused step Nothing
 
 -- the complete lines begin some document's text, and the text is no document's
-pub record IsUnfinished (text : List ℕ) : Type 0 where
-  pub progress : Progress
-  pub read : steps Nothing (whole_lines text) ≡ Some progress
-  pub unfinished : (d : Document) → progress ≡ Between d → text_of (whole_lines text) ≢ text
+abbrev pub IsUnfinished : List ℕ → Type 0
+IsUnfinished = IsLeftOpen step Nothing Between
 
 -- the text's lines, all of them complete, are those of the reader's document
 abbrev pub IsReadAs : List ℕ → Reader → Type 0

@@ -1,27 +1,22 @@
 -- The results of reading a procedure's text.
-use Rattle.std.specs.Prelude.{◌≡◌, ◌≢◌, ℕ, ◌-◌, ◌<◌, ◌≤◌, List, take, length, Option, Some, None, Result, Ok, Err, IsSome}
-use Rattle.bohm_types.specs.Procedure.{Procedure}
+use Rattle.std.specs.Prelude.{◌≡◌, ℕ, List, Some, Result, Ok, Err}
 use Rattle.bohm_text.specs.declared.fault.TextFault.{TextFault}
 use Rattle.bohm_text.specs.declared.fault.TextFault.TheVariants.{Line, Short, NoMemory}
 use Rattle.bohm_text.specs.declared.procedures.ParamPlace.TheVariants as places
 use Rattle.bohm_text.specs.declared.procedures.ProcedureReader.{ProcedureReader}
 use Rattle.bohm_text.specs.Print.{text_of}
 use Rattle.bohm_text.specs.Cut.{whole_lines}
-use Rattle.bohm_text.specs.ProcedureText.{Stage, Nothing, Done, stages}
+use Rattle.bohm_text.specs.Stepping.{IsFirstRefused, IsLeftOpen}
+use Rattle.bohm_text.specs.ProcedureText.{Nothing, Done, stage_after, stages}
 use Rattle.bohm_text.specs.ProcedureReading.{stage_of, IsReady}
 
 -- line n is the first with which the complete lines begin no procedure's text
-pub record IsFirstFault (lines : List (List ℕ)) (n : ℕ) : Type 0 where
-  pub counted : 0 < n
-  pub within : n ≤ length lines
-  pub before : IsSome (stages Nothing (take (n - 1) lines))
-  pub at : stages Nothing (take n lines) ≡ None
+abbrev pub IsFirstFault : List (List ℕ) → ℕ → Type 0
+IsFirstFault = IsFirstRefused stage_after Nothing
 
 -- the complete lines begin some procedure's text, and the text is no procedure's
-pub record IsUnfinished (text : List ℕ) : Type 0 where
-  pub stage : Stage
-  pub read : stages Nothing (whole_lines text) ≡ Some stage
-  pub unfinished : (p : Procedure) → stage ≡ Done p → text_of (whole_lines text) ≢ text
+abbrev pub IsUnfinished : List ℕ → Type 0
+IsUnfinished = IsLeftOpen stage_after Nothing Done
 
 pub record IsRead (text : List ℕ) (r : ProcedureReader) : Type 0 where
   pub read : stages Nothing (whole_lines text) ≡ Some (stage_of r)

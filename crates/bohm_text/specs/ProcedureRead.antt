@@ -1,6 +1,7 @@
 -- The procedure that a reader has read.
 use Rattle.std.specs.Prelude.{◌≡◌, ℕ, List}
 use Rattle.bohm_types.specs.Procedure.{Procedure, procedure_with}
+use Rattle.bohm_log.specs.Drafting.{IsBetween}
 use Rattle.bohm_text.specs.declared.procedures.ProcedureReader.{ProcedureReader}
 use Rattle.bohm_text.specs.ProcedureText.{IsProcedure, print_procedure}
 use Rattle.bohm_text.specs.ProcedureReading.{HasLets}
@@ -14,3 +15,4 @@ pub record IsProcedureOf (text : List ℕ) (r : ProcedureReader) : Type 0 where
   pub text_is : print_procedure (procedure_in r) ≡ text
   pub edition : r.draft.txn.edition ≡ r.edition
   pub lets : HasLets r.values.items r.draft
+  pub whole : IsBetween r.draft

@@ -1,5 +1,5 @@
 -- The unique text of a procedure, and the effect of its lines, one after another.
-use Rattle.std.specs.Prelude.{◌≡◌, ℕ, List, [], ◌∷◌, ◌++◌, map, Bool, true, false, ◌&&◌, ◌||◌, not, Option, Some, None, if◌then◌else◌, codes}
+use Rattle.std.specs.Prelude.{◌≡◌, ℕ, List, [], ◌∷◌, ◌++◌, map, Bool, true, ◌&&◌, ◌||◌, not, Option, Some, None, if◌then◌else◌, codes}
 use Rattle.std.specs.Str.{bytes_eq}
 use Rattle.std.specs.List.{AllByRecursion, list_all}
 use Rattle.bohm_types.specs.Name.{key_of}
@@ -9,9 +9,10 @@ use Rattle.bohm_types.specs.Stmt.{Stmt}
 use Rattle.bohm_types.specs.declared.edition.Edition.{Edition}
 use Rattle.bohm_types.specs.declared.edition.Edition.TheVariants.{One, Two}
 use Rattle.bohm_types.specs.Procedure.{Procedure}
-use Rattle.bohm_text.specs.Print.{Words, stmt_words, line_text, lines_text}
+use Rattle.bohm_text.specs.Print.{Words, stmt_words, lines_text}
 use Rattle.bohm_text.specs.Cut.{split}
 use Rattle.bohm_text.specs.Reading.{◌>>=◌, keys_of, after, stmt_of}
+use Rattle.bohm_text.specs.Stepping.{after_lines}
 
 -- ---- print
 
@@ -115,6 +116,6 @@ stage_after (Body e ks vs reads writes body) line =
     else (stmt_of (split 32 line) >>= λ s. Some (Body e ks vs reads writes (body ++ s ∷ [])))
 stage_after (Done p) line = None
 
+-- the effect of lines, after what comes before them
 abbrev pub stages : Stage → List (List ℕ) → Option Stage
-stages stage [] = Some stage
-stages stage (line ∷ lines) = stage_after stage line >>= λ next. stages next lines
+stages = after_lines stage_after

@@ -14,6 +14,7 @@ use Rattle.bohm_text.specs.declared.reader.Reader.{Reader}
 use Rattle.bohm_text.specs.Print.{Words}
 use Rattle.bohm_text.specs.Cut.{split}
 use Rattle.bohm_text.specs.Reading.{◌>>=◌, Fails, keys_of, after, stmt_of, entry_of}
+use Rattle.bohm_text.specs.Stepping.{after_lines}
 
 -- what the lines so far begin: nothing yet; a document; or one whose next transaction is open, with its reads, its writes and some statements
 pub data Progress : Type 0 where
@@ -75,8 +76,7 @@ step (Body d reads writes body) line = after_body d reads writes body line
 
 -- the effect of lines, after what comes before them
 abbrev pub steps : Progress → List (List ℕ) → Option Progress
-steps progress [] = Some progress
-steps progress (line ∷ lines) = step progress line >>= λ next. steps next lines
+steps = after_lines step
 
 -- the draft is ready for the next line
 abbrev pub IsReadyAt : Place → Edition → Drafted → Type 0

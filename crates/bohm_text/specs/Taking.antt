@@ -5,6 +5,8 @@ use Rattle.bohm_types.specs.Term.{Atom}
 use Rattle.bohm_types.specs.declared.cmp.Cmp.{Cmp}
 use Rattle.bohm_types.specs.Stmt.{Cond, Stmt}
 use Rattle.bohm_log.specs.Drafting.{Drafted, with_stmt, with_sum, with_term}
+use Rattle.bohm_log.specs.declared.fault.CloseFault.{CloseFault}
+use Rattle.bohm_log.specs.declared.fault.CloseFault.TheVariants as closing
 use Rattle.bohm_log.specs.declared.fault.SumFault.{SumFault}
 use Rattle.bohm_log.specs.declared.fault.SumFault.TheVariants.{Empty, Log}
 use Rattle.bohm_text.specs.declared.fault.ReadFault.{ReadFault}
@@ -17,6 +19,11 @@ use Rattle.bohm_text.specs.Reading.{Fails, Terms, Ending, ending}
 abbrev pub read_fault_of : SumFault → ReadFault
 read_fault_of Empty = Bad
 read_fault_of (Log fault) = NoMemory
+
+-- why a line is refused that closes a transaction: no line ends within a statement
+abbrev pub closing_fault_of : CloseFault → ReadFault
+closing_fault_of closing.Open = Bad
+closing_fault_of (closing.Log fault) = NoMemory
 
 -- more terms of the sum being read
 abbrev pub with_terms : Drafted → List (Bool × Atom) → Drafted

@@ -1,6 +1,6 @@
 //! Why a text could not be read.
 
-use bohm_log::{LogFault, SumFault};
+use bohm_log::{CloseFault, LogFault, SumFault};
 use std::alloc::{AllocError, AllocFailed};
 
 /// Why a line could not be read.
@@ -69,6 +69,21 @@ impl From<SumFault> for ReadFault {
         match fault {
             SumFault::Empty => ReadFault::Bad,
             SumFault::Log(_) => ReadFault::NoMemory,
+        }
+    }
+}
+
+/// `Open` counts as a bad line. No text causes it, since a line spells a whole statement.
+impl From<CloseFault> for ReadFault {
+    ghost use Rattle.std.specs.Prelude.{◌≡◌};
+    ghost use Rattle.bohm_text.specs.Taking.{closing_fault_of};
+
+    ghost from_gives = { λ fault e. e ≡ closing_fault_of fault };
+
+    fn from(fault: CloseFault) -> ReadFault {
+        match fault {
+            CloseFault::Open => ReadFault::Bad,
+            CloseFault::Log(_) => ReadFault::NoMemory,
         }
     }
 }

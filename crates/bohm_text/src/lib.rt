@@ -4,6 +4,7 @@
 mod answers;
 mod conditions;
 mod fault;
+mod fixed_words;
 pub mod laws;
 mod numbers;
 mod parsing;
@@ -16,7 +17,6 @@ mod stops;
 mod sums;
 mod targets;
 mod terms;
-mod verbs;
 mod windows;
 mod words;
 

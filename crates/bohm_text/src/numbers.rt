@@ -5,6 +5,7 @@ ghost use Rattle.bohm_text.specs.Reading.{digits_of, whole_of, lit_of, number_of
 
 use bohm_types::GREATEST_LITERAL;
 
+#[inline(always)]
 fn read_digits(limit: u64, digits: &[u8]) -> Option<u64>
     ensures value { result ≡ digits_of limit 0 digits.now }
     ensures inside { IfSome result (λ number. number ≤ limit) }
@@ -23,6 +24,7 @@ fn read_digits(limit: u64, digits: &[u8]) -> Option<u64>
     Some(number)
 }
 
+#[inline(always)]
 fn read_whole(limit: u64, word: &[u8]) -> Option<u64>
     ensures value { result ≡ whole_of limit word.now }
     ensures inside { IfSome result (λ number. number ≤ limit) }
@@ -34,6 +36,7 @@ fn read_whole(limit: u64, word: &[u8]) -> Option<u64>
     }
 }
 
+#[inline(always)]
 pub fn read_lit(word: &[u8]) -> Option<u64>
     ensures value { result ≡ lit_of word.now }
     ensures inside { IfSome result (λ number. number < 2 ^ 63) }

@@ -11,7 +11,7 @@ ghost use Rattle.bohm_text.specs.Faults.{IsFirstBadLine, IsShort};
 use crate::fault::{ReadFault, TextFault, WindowFault};
 use crate::reader::{Place, Reader, read_head};
 use crate::separators::newline_at;
-use bohm_log::{Doc, DrawnSeed, FixedSeed, HashSeed};
+use bohm_log::{Doc, DrawnSeed, FixedSeed, HashSeed, Log};
 use bohm_types::Edition;
 use std::alloc::Global;
 
@@ -29,16 +29,18 @@ pub fn split_line(text: &[u8]) -> Option<(&[u8], &[u8])>
     }
 }
 
-/// Reads lines that follow an edition's head line, and counts them.
+/// Reads lines that follow an edition's head line into an empty log, and counts them.
 pub(crate) fn read_lines(
     alloc: Global,
     seed: HashSeed,
     edition: Edition,
+    log: Log<HashSeed>,
     text: &[u8],
 ) -> Result<(Reader, u64), WindowFault>
+    requires { log ≡ [] }
     ensures { ReadsBehind edition text.now result }
 {
-    let mut reader = Reader::new(alloc, seed, edition, text.len());
+    let mut reader = Reader::new(alloc, seed, edition, log);
     let mut rest = text;
     let mut count: u64 = 0;
     'lines: while let Some((line, others)) = split_line(rest) {
@@ -70,7 +72,8 @@ pub(crate) fn read_text(
     let Some(edition) = read_head(head) else {
         return Err(WindowFault::Line(1));
     };
-    match read_lines(alloc, seed, edition, others) {
+    let log = Log::with_room(alloc, seed, others.len());
+    match read_lines(alloc, seed, edition, log, others) {
         Ok((reader, lines)) => Ok((reader, lines + 1)),
         Err(WindowFault::Line(n)) => Err(WindowFault::Line(n + 1)),
         Err(WindowFault::Open(n)) => Err(WindowFault::Open(n + 1)),

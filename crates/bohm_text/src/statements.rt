@@ -1,11 +1,11 @@
 //! Statements and other lines that are read word by word.
 
-ghost use Rattle.std.specs.Prelude.{◌≡◌, ◌∷◌, ◌||◌, [], codes, MatchOption};
+ghost use Rattle.std.specs.Prelude.{◌≡◌, ◌∷◌, ◌||◌, [], codes, MatchOption, true, false, List, ℕ};
+ghost use Rattle.std.specs.Prelude.{Option, None};
 ghost use Rattle.std.specs.Str.{bytes_eq};
 ghost use Rattle.std.specs.Option.{option_map};
-ghost use Rattle.bohm_types.specs.Stmt.{Need, Show};
+ghost use Rattle.bohm_types.specs.Stmt.{Need, Show, Stmt};
 ghost use Rattle.bohm_log.specs.Drafting.{IsBare, IsBetween};
-ghost use Rattle.bohm_text.specs.Cut.{split};
 ghost use Rattle.bohm_text.specs.Reading.{Gives, keys_of, local_of, after, last_sum};
 ghost use Rattle.bohm_text.specs.Reading.{assigned_of, bind_of, put_of, presence_of, need_of};
 ghost use Rattle.bohm_text.specs.Reading.{cond_of, remove_of, fail_of, stmt_of, entry_of};
@@ -18,7 +18,6 @@ use crate::numbers::read_number;
 use crate::stops::Stop;
 use crate::sums::{read_last_sum, read_sum};
 use crate::targets::{Target, read_target};
-use crate::verbs::{behind_need, behind_set};
 use crate::words::Words;
 use bohm_log::{Draft, HashSeed};
 use bohm_types::{Key, Value};
@@ -78,6 +77,22 @@ fn read_assigned(
     Ok(())
 }
 
+/// Takes the next word, and returns whether it is an equals sign.
+#[inline(always)]
+fn read_equals(words: &mut Words) -> bool
+    ensures taken { result ≡ true → words.old ≡ codes "=" ∷ words.new }
+    ensures other { result ≡ false → (read : List (List ℕ) → Option Stmt)
+        → after (codes "=") read words.old ≡ None }
+{
+    if words.take_equals() {
+        return true;
+    }
+    match words.next() {
+        Some(word) => word == b"=".as_slice(),
+        None => false,
+    }
+}
+
 #[tactic(auto, unfolding(crate::specs::Reading::put_of))]
 fn read_put(draft: &mut Draft<HashSeed>, words: &mut Words) -> Result<(), ReadFault>
     requires { IsBetween draft.old }
@@ -89,9 +104,10 @@ fn read_put(draft: &mut Draft<HashSeed>, words: &mut Words) -> Result<(), ReadFa
     let Some(target) = read_target(draft, word) else {
         return Err(ReadFault::Bad);
     };
-    match words.next() {
-        Some(word) if word == b"=".as_slice() => read_assigned(draft, &target, words),
-        _ => Err(ReadFault::Bad),
+    if read_equals(words) {
+        read_assigned(draft, &target, words)
+    } else {
+        Err(ReadFault::Bad)
     }
 }
 
@@ -184,7 +200,6 @@ fn read_fail(draft: &mut Draft<HashSeed>, words: &mut Words) -> Result<(), ReadF
 }
 
 /// Adds the statement that the words spell. After an `Err` the draft may hold a part of it.
-#[inline(never)]
 #[tactic(auto, unfolding(crate::specs::Reading::stmt_of))]
 pub fn read_stmt(draft: &mut Draft<HashSeed>, words: &mut Words) -> Result<(), ReadFault>
     requires { IsBetween draft.old }
@@ -208,22 +223,6 @@ pub fn read_stmt(draft: &mut Draft<HashSeed>, words: &mut Words) -> Result<(), R
     } else {
         Err(ReadFault::Bad)
     }
-}
-
-/// Adds the statement that a line spells. After an `Err` the draft may hold a part of it. The most
-/// frequent verbs are compared in place.
-#[tactic(auto, unfolding(crate::specs::Reading::stmt_of))]
-pub fn read_line(draft: &mut Draft<HashSeed>, line: &[u8]) -> Result<(), ReadFault>
-    requires { IsBetween draft.old }
-    ensures { TakesStmt result (stmt_of (split 32 line.now)) draft.old draft.new }
-{
-    if let Some(words) = behind_set(line) {
-        return read_put(draft, &mut Words::of(words));
-    }
-    if let Some(words) = behind_need(line) {
-        return read_need(draft, &mut Words::of(words));
-    }
-    read_stmt(draft, &mut Words::of(line))
 }
 
 /// A key of the store and its value.

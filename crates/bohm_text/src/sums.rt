@@ -37,7 +37,7 @@ fn add_term(draft: &mut Draft<HashSeed>, minus: bool, atom: AtomParts) -> Result
 /// Adds the term of a word whose sign was read.
 #[inline(never)]
 #[tactic(auto, unfolding(crate::specs::Reading::further_of))]
-fn take_other(draft: &mut Draft<HashSeed>, minus: bool, word: &[u8]) -> Result<(), ReadFault>
+fn take_named(draft: &mut Draft<HashSeed>, minus: bool, word: &[u8]) -> Result<(), ReadFault>
     ensures { Takes result (further_of minus word.now) (with_one draft.old) draft.new }
 {
     let Some(atom) = read_atom(word) else {
@@ -75,15 +75,24 @@ fn take_literal(draft: &mut Draft<HashSeed>, minus: bool, word: &[u8]) -> Result
     Ok(())
 }
 
+/// `take_term` for a word that isn't a declared read where the cache last found one. It isn't inlined,
+/// so that the loop over terms needs fewer registers.
+#[inline(never)]
+fn take_other(draft: &mut Draft<HashSeed>, minus: bool, word: &[u8]) -> Result<(), ReadFault>
+    ensures { Takes result (further_of minus word.now) (with_one draft.old) draft.new }
+{
+    if is_number(word) {
+        return take_literal(draft, minus, word);
+    }
+    take_named(draft, minus, word)
+}
+
 /// Adds the term of a word whose sign was read. A declared read that is where the cache last found
 /// it is compared in place.
 #[inline(always)]
 fn take_term(draft: &mut Draft<HashSeed>, minus: bool, word: &[u8]) -> Result<(), ReadFault>
     ensures { Takes result (further_of minus word.now) (with_one draft.old) draft.new }
 {
-    if is_number(word) {
-        return take_literal(draft, minus, word);
-    }
     if draft.read_again(minus, word)? {
         return Ok(());
     }
@@ -120,7 +129,6 @@ fn read_end(words: &mut Words) -> Option<Stop>
 }
 
 /// Adds further terms, and returns what ends them.
-#[inline(always)]
 fn read_terms(draft: &mut Draft<HashSeed>, words: &mut Words) -> Result<Stop, ReadFault>
     ensures { TakesTerms result (terms_of words.old) words.new draft.old draft.new }
 {
@@ -139,7 +147,6 @@ fn read_terms(draft: &mut Draft<HashSeed>, words: &mut Words) -> Result<Stop, Re
 }
 
 /// Adds the sum at the beginning of the words, and returns what ends it.
-#[inline(always)]
 pub fn read_sum(draft: &mut Draft<HashSeed>, words: &mut Words) -> Result<Stop, ReadFault>
     ensures { TakesTerms result (sum_from words.old) words.new draft.old draft.new }
 {

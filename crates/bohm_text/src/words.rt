@@ -1,9 +1,10 @@
 //! The words of a line.
 
-ghost use Rattle.std.specs.Prelude.{◌≡◌, ◌∷◌, [], MatchOption, ◌≤◌, true, length};
+ghost use Rattle.std.specs.Prelude.{◌≡◌, ◌∷◌, [], MatchOption, ◌≤◌, true, false, codes, length};
 ghost use Rattle.bohm_text.specs.Cut.{split};
 ghost use Rattle.bohm_text.specs.Signs.{begins_signed, behind_sign, sign_ahead};
 
+use crate::fixed_words::behind_equals;
 use crate::separators::space_at;
 use std::marker::Model;
 
@@ -63,6 +64,24 @@ impl<'a> Words<'a> {
         }
         self.rest = Some(&rest[2..]);
         Some(rest[0] == b'-')
+    }
+
+    /// Takes the next word if it is an equals sign and another word follows it.
+    #[inline(always)]
+    pub fn take_equals(&mut self) -> bool
+        ensures taken { result ≡ true → self.old ≡ codes "=" ∷ self.new }
+        ensures left { result ≡ false → self.new ≡ self.old }
+    {
+        let Some(rest) = self.rest else {
+            return false;
+        };
+        match behind_equals(rest) {
+            None => false,
+            Some(words) => {
+                self.rest = Some(words);
+                true
+            }
+        }
     }
 
     #[inline(always)]

@@ -4,8 +4,8 @@ ghost use Rattle.std.specs.Prelude.{OnOk};
 ghost use Rattle.bohm_log.specs.Drafting.{IsBetween};
 
 use bohm_log::{
-    DeclaredKeys, Draft, IndexedTxn, Literal, Log, LogFault, Names, StmtParts, StmtView, SumFault,
-    TxnView,
+    CloseFault, DeclaredKeys, Draft, IndexedTxn, Literal, Log, LogFault, Names, StmtParts,
+    StmtView, SumFault, TxnView,
 };
 use bohm_types::{Cmp, Edition, Key};
 use std::alloc::Global;
@@ -94,23 +94,19 @@ fn add_end(draft: &mut Draft) -> Result<(), SumFault>
 }
 
 /// A transaction with the statements that have several terms.
-fn close_sums(draft: &mut Draft, log: &mut Log, a: Key, b: Key, x: Key) -> Result<(), SumFault> {
+fn draft_sums(draft: &mut Draft, a: Key, b: Key, x: Key) -> Result<(), SumFault> {
     declare(draft, a, b)?;
     add_bind(draft, a, x)?;
-    add_guarded(draft, a, x)?;
-    log.close(draft)?;
-    Ok(())
+    add_guarded(draft, a, x)
 }
 
 /// A transaction with all other statements.
-fn close_others(draft: &mut Draft, log: &mut Log, a: Key, b: Key) -> Result<(), SumFault> {
+fn draft_others(draft: &mut Draft, a: Key, b: Key) -> Result<(), SumFault> {
     declare(draft, a, b)?;
     add_tests(draft, a, b)?;
     add_need(draft)?;
     add_writes(draft, b)?;
-    add_end(draft)?;
-    log.close(draft)?;
-    Ok(())
+    add_end(draft)
 }
 
 fn new_draft(alloc: Global) -> Draft {
@@ -153,17 +149,29 @@ fn assert_one(rt: &impl Abort, log: &Log, want: &[(Option<Key>, usize)]) {
     assert_shapes(rt, &part.txn(0), want);
 }
 
+/// Adds the transaction whose statements have several terms.
+fn close_sums(rt: &impl Abort, draft: &mut Draft, log: &mut Log, a: Key, b: Key, x: Key) {
+    draft_sums(draft, a, b, x).expect(rt, "a draft");
+    log.close(draft).expect(rt, "a log");
+}
+
+/// Adds the one with all other statements.
+fn close_others(rt: &impl Abort, draft: &mut Draft, log: &mut Log, a: Key, b: Key) {
+    draft_others(draft, a, b).expect(rt, "a draft");
+    log.close(draft).expect(rt, "a log");
+}
+
 /// A log of the transaction whose statements have several terms.
 fn log_of_sums(rt: &impl Abort, alloc: Global, a: Key, b: Key, x: Key) -> Log {
     let mut log = new_log(alloc);
-    close_sums(&mut new_draft(alloc), &mut log, a, b, x).expect(rt, "a log");
+    close_sums(rt, &mut new_draft(alloc), &mut log, a, b, x);
     log
 }
 
 /// A log of the one with all other statements.
 fn log_of_others(rt: &impl Abort, alloc: Global, a: Key, b: Key) -> Log {
     let mut log = new_log(alloc);
-    close_others(&mut new_draft(alloc), &mut log, a, b).expect(rt, "a log");
+    close_others(rt, &mut new_draft(alloc), &mut log, a, b);
     log
 }
 
@@ -216,6 +224,14 @@ fn sums_have_terms(rt: HostRuntime) {
     assert_eq!(rt; draft.next_sum(), Err(SumFault::Empty));
 }
 
+/// A transaction with a sum that no statement took is not closed.
+#[test]
+fn statements_are_ended(rt: HostRuntime) {
+    let mut draft = new_draft(rt.alloc());
+    draft.literal(Literal::from(7)).expect(&rt, "memory");
+    assert_eq!(rt; new_log(rt.alloc()).close(&draft), Err(CloseFault::Open));
+}
+
 fn assert_places(rt: &impl Abort, placed: &IndexedTxn<'_>, others: &[Key]) {
     assert_eq!(rt; (placed.reads_len(), placed.writes_len()), (2, 1));
     assert_eq!(rt; placed.others(), others);
@@ -235,15 +251,11 @@ fn a_transaction_has_places(rt: HostRuntime) {
     assert_places(&rt, &part.txn(0).placed(), &[x, a]);
 }
 
-fn close_both(draft: &mut Draft, log: &mut Log, a: Key, b: Key) -> Result<(), SumFault> {
-    close_sums(draft, log, b, a, a)?;
-    close_others(draft, log, a, b)
-}
-
-/// A log of both, which begins with b.
+/// A log of both, which begins with b, by one draft.
 fn log_of_both(rt: &impl Abort, alloc: Global, a: Key, b: Key) -> Log {
-    let mut log = new_log(alloc);
-    close_both(&mut new_draft(alloc), &mut log, a, b).expect(rt, "a log");
+    let (mut draft, mut log) = (new_draft(alloc), new_log(alloc));
+    close_sums(rt, &mut draft, &mut log, b, a, a);
+    close_others(rt, &mut draft, &mut log, a, b);
     log
 }
 

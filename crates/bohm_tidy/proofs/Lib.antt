@@ -1,7 +1,6 @@
 mod KeySets
 mod Lists
 mod ByWords
-mod Rises
 mod Stores
 mod Sound
 mod Exact

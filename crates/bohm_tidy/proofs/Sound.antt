@@ -1,16 +1,14 @@
 -- A settled document is one, its keys rise, and one whose keys rise is settled.
-use Rattle.std.proofs.Common.{◌≡◌, ℕ, Bool, true, false, cond, List, [], ◌∷◌, ◌++◌, map, refl, ap, sym, subst, ◌∙◌}
-use Rattle.std.specs.Prelude.{ℤ, Option, Some, None}
+use Rattle.std.proofs.Common.{◌≡◌, ℕ, Bool, true, false, cond, List, [], ◌∷◌, ◌++◌, refl, ap, ◌∙◌}
+use Rattle.std.specs.Prelude.{Some, None}
 use Rattle.std.specs.Cmp.Lexicographic.{slice_cmp}
-use Rattle.std.specs.FinMap.{entries}
 use Rattle.std.specs.List.{AllByRecursion, flat_map}
 use Rattle.std.specs.Ordering.{nat_cmp}
-use Rattle.std.specs.declared.cmp.Ordering.{Ordering}
 use Rattle.std.specs.declared.cmp.Ordering.TheVariants.{Less, Equal, Greater}
 use Rattle.bohm_types.specs.Document.{Document}
-use Rattle.bohm_types.specs.Parts.{key_read, sums, tested, target}
+use Rattle.bohm_types.specs.Parts.{key_read, target}
 use Rattle.bohm_types.specs.Sound.{IsName, IsTerm, IsSum, IsStmt, IsTxn, IsDocument}
-use Rattle.bohm_types.specs.Stmt.{Cond, Stmt, Bind, Need, Has, Lacks, Put, Remove, Show, Fail}
+use Rattle.bohm_types.specs.Stmt.{Stmt, Bind, Need, Has, Lacks, Put, Remove, Show, Fail}
 use Rattle.bohm_types.specs.Term.{Atom, Lit, Read, Local}
 use Rattle.bohm_types.specs.Txn.{Txn}
 use Rattle.bohm_types.specs.declared.edition.Edition.{Edition}

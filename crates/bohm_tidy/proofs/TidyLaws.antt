@@ -1,11 +1,11 @@
 -- Tidying writes exact texts whose keys rise, and leaves those as they are.
-use Rattle.std.proofs.Common.{◌≡◌, ℕ, Bool, List, [], ap, sym, ◌⊎◌, ⊎_elim, ◌∙◌}
+use Rattle.std.proofs.Common.{◌≡◌, ℕ, Bool, List, [], ap, sym, ⊎_elim, ◌∙◌}
 use Rattle.std.specs.Prelude.{None}
 use Rattle.bohm_types.specs.Document.{Document}
 use Rattle.bohm_types.specs.Sound.{IsDocument}
 use Rattle.bohm_text.specs.Print.{print_doc}
 use Rattle.bohm_tidy.specs.Settled.{settled}
-use Rattle.bohm_tidy.specs.Tidied.{Loose, IsExactDoc, IsExact, IsByLines, IsReading, IsTidied, IsTidyText, settled_text}
+use Rattle.bohm_tidy.specs.Tidied.{Loose, IsExactDoc, IsExact, IsByLines, IsTidied, IsTidyText, settled_text}
 use Rattle.bohm_tidy.proofs.Sound.{settled_sound, settled_rises, settled_stays}
 
 pub is_text : (text exact : List ℕ) → IsTidied text exact → IsTidyText exact

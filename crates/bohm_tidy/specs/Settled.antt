@@ -1,5 +1,5 @@
 -- A document whose keys are put in order.
-use Rattle.std.specs.Prelude.{ℕ, ℤ, List, [], ◌∷◌, ◌++◌, Bool, true, false, Option, Some, None, if◌then◌else◌}
+use Rattle.std.specs.Prelude.{ℕ, List, [], ◌∷◌, ◌++◌, Bool, false, Option, Some, None, if◌then◌else◌}
 use Rattle.std.specs.FinMap.{entries}
 use Rattle.std.specs.List.{flat_map}
 use Rattle.std.specs.Ordering.{nat_cmp}
@@ -8,7 +8,7 @@ use Rattle.std.specs.declared.cmp.Ordering.{Ordering}
 use Rattle.std.specs.declared.cmp.Ordering.TheVariants.{Less, Equal, Greater}
 use Rattle.bohm_types.specs.Document.{Document}
 use Rattle.bohm_types.specs.Parts.{key_read, sums, tested, target}
-use Rattle.bohm_types.specs.Stmt.{Cond, Stmt}
+use Rattle.bohm_types.specs.Stmt.{Stmt}
 use Rattle.bohm_types.specs.Term.{Atom}
 use Rattle.bohm_types.specs.Txn.{Txn}
 use Rattle.bohm_txn.specs.Stores.{store_of}

@@ -4,10 +4,11 @@ ghost use Rattle.std.specs.Prelude.{◌≡◌, IfOk, OnOk};
 ghost use Rattle.std.specs.FinMap.{entries};
 ghost use Rattle.std.specs.List.{IsDistinct};
 ghost use Rattle.std.specs.Str.{bytes_eq};
-ghost use Rattle.bohm_types.specs.Keys.{names_of, rising};
+ghost use Rattle.bohm_types.specs.Keys.{names_of};
 ghost use Rattle.bohm_txn.specs.Stores.{store_of};
 ghost use Rattle.bohm_tidy.specs.declared.store.Unsettled.TheVariants.{NoMemory};
 
+use bohm_txn::is_store_rising;
 use bohm_types::{Key, Value};
 use std::alloc::{AllocError, AllocFailed, Global};
 
@@ -43,12 +44,6 @@ impl From<bohm_types::NoMemory> for Unsettled {
     }
 }
 
-fn is_rising(store: &[(Key, Value)]) -> bool
-    ensures { result ≡ rising (names_of store.now) }
-{
-    store.is_sorted_by(|entry, next| entry.0 < next.0)
-}
-
 /// The entries sorted by key. The time grows with their number n as n log n.
 pub fn settled_store(alloc: Global, store: &[(Key, Value)]) -> Result<Vec<(Key, Value)>, Unsettled>
     ensures listed { IfOk result (λ list. list.items ≡ entries (store_of store.now)) }
@@ -57,7 +52,7 @@ pub fn settled_store(alloc: Global, store: &[(Key, Value)]) -> Result<Vec<(Key, 
     let mut list = Vec::with_capacity(alloc, store.len())?;
     list.extend_from_slice(store)?;
     list.sort_unstable_by(|entry, other| entry.0.cmp(&other.0));
-    if !is_rising(list.as_slice()) {
+    if !is_store_rising(list.as_slice()) {
         return Err(Unsettled::Twice);
     }
     Ok(list)

@@ -33,7 +33,7 @@ ends : (t : Txn) (look : Look) (reads earlier : List Cell) → IsCall t reads ea
 ends t look reads earlier call same = ends_alike t look reads earlier (rising_apart t.writes (rising_writes t call.well))
     (usable t call.well).reads call.paired call.written same
 
-pub commit : (t : Txn) (look : Look) (reads earlier : List Cell) (w : Tables) → IsCall t reads earlier → map look t.reads ≡ reads
+commit : (t : Txn) (look : Look) (reads earlier : List Cell) (w : Tables) → IsCall t reads earlier → map look t.reads ≡ reads
     → tables_from t (start reads earlier) 1 t.body ≡ Ok w → IsCommit t earlier (body look t) w
 commit t look reads earlier w call same e =
     committed t look earlier (body look t) w (subst (λ (r : Result Tables (Reason × ℕ)). EndAlike t look earlier (body look t) r) e
@@ -48,7 +48,7 @@ pub commit_sure : (t : Txn) (look : Look) (earlier : List Cell) (w : Tables) →
     → IsCommit t earlier (body look t) w → map (after look t) t.writes ≡ w.cells
 commit_sure t look earlier w sure long is = sure_cells look t earlier sure long ∙ is.cells
 
-pub abort : (t : Txn) (look : Look) (reads earlier : List Cell) (f : Reason × ℕ) → IsCall t reads earlier → map look t.reads ≡ reads
+abort : (t : Txn) (look : Look) (reads earlier : List Cell) (f : Reason × ℕ) → IsCall t reads earlier → map look t.reads ≡ reads
     → tables_from t (start reads earlier) 1 t.body ≡ Err f → body look t ≡ Err f
 abort t look reads earlier f call same e =
     aborted t look earlier (body look t) f (subst (λ (r : Result Tables (Reason × ℕ)). EndAlike t look earlier (body look t) r) e
@@ -63,8 +63,21 @@ pub never_aborts : {A : Type 0} (t : Txn) (look : Look) (f : Reason × ℕ) → 
 never_aborts t look f sure e = let (run, is) = sure_commits look t sure in absurd (let both = sym is ∙ e in cc)
 
 -- what a run by places says of the transaction
-pub placed_run : (e : Edition) (p : Parts) (t : Txn) (reads earlier : List Cell) (r : Result Tables (Reason × ℕ)) → e ≡ t.edition → txn_of t.edition p ≡ t
+placed_run : (e : Edition) (p : Parts) (t : Txn) (reads earlier : List Cell) (r : Result Tables (Reason × ℕ)) → e ≡ t.edition → txn_of t.edition p ≡ t
     → tables_from (txn_of e p) (start reads earlier) 1 (txn_of e p).body ≡ r
     → tables_from t (start reads earlier) 1 t.body ≡ r
 placed_run e p t reads earlier r same placed ran =
     subst (λ (x : Txn). tables_from x (start reads earlier) 1 x.body ≡ r) (ap (λ (x : Edition). txn_of x p) same ∙ placed) ran
+
+-- its answer, where it was run
+pub placed_commit : (e : Edition) (p : Parts) (t : Txn) (reads earlier : List Cell) (w : Tables) → IsCall t reads earlier → e ≡ t.edition
+    → txn_of t.edition p ≡ t → tables_from (txn_of e p) (start reads earlier) 1 (txn_of e p).body ≡ Ok w → (look : Look) → map look t.reads ≡ reads
+    → IsCommit t earlier (body look t) w
+placed_commit e p t reads earlier w call edition placed ran look same =
+    commit t look reads earlier w call same (placed_run e p t reads earlier (Ok w) edition placed ran)
+
+pub placed_abort : (e : Edition) (p : Parts) (t : Txn) (reads earlier : List Cell) (f : Reason × ℕ) → IsCall t reads earlier → e ≡ t.edition
+    → txn_of t.edition p ≡ t → tables_from (txn_of e p) (start reads earlier) 1 (txn_of e p).body ≡ Err f → (look : Look) → map look t.reads ≡ reads
+    → body look t ≡ Err f
+placed_abort e p t reads earlier f call edition placed ran look same =
+    abort t look reads earlier f call same (placed_run e p t reads earlier (Err f) edition placed ran)

@@ -1,18 +1,17 @@
 -- The first fault of a document is that of its store, or of the first faulty chunk of its transactions.
-use Rattle.std.proofs.Common.{◌≡◌, ◌⊎◌, inl, inr, ℕ, zero, suc, ◌+◌, ◌<◌, ◌≤◌, Bool, true, false, List, [], ◌∷◌, ◌++◌}
-use Rattle.std.proofs.Common.{length, Option, Some, None, refl, ap, sym, subst, ◌∙◌, arith, append-nil, length-append}
-use Rattle.std.specs.Prelude.{ℤ, not, nat_le, All, is_some, IfSome, if◌then◌else◌}
+use Rattle.std.proofs.Common.{◌≡◌, inl, inr, ℕ, suc, ◌+◌, ◌<◌, ◌≤◌, Bool, true, false, List, [], ◌∷◌, ◌++◌}
+use Rattle.std.proofs.Common.{length, Option, Some, None, refl, ap, sym, subst, ◌∙◌, arith, length-append}
+use Rattle.std.specs.Prelude.{ℤ, nat_le, All, is_some, IfSome}
 use Rattle.std.specs.Option.{option_map}
 use Rattle.bohm_txn.specs.declared.fault.CheckFault.{CheckFault}
 use Rattle.bohm_txn.specs.declared.fault.CheckKind.{CheckKind}
 use Rattle.bohm_txn.specs.declared.fault.CheckKind.TheVariants.{Order, Limit}
-use Rattle.bohm_types.specs.declared.edition.Edition.{Edition}
 use Rattle.bohm_types.specs.declared.edition.Edition.TheVariants.{One}
 use Rattle.bohm_types.specs.Txn.{Txn}
 use Rattle.bohm_types.specs.Document.{Document}
 use Rattle.bohm_types.specs.Keys.{rising, names_of}
-use Rattle.bohm_txn.specs.Faulty.{whole_faulty, WellFormed, IsFirstFault, IsWellFormedTxn}
-use Rattle.bohm_txn.specs.FirstFault.{least, found_or, first_from, find_txn, first_in_txn, first_in_log, first_in_doc, fault_of}
+use Rattle.bohm_txn.specs.Faulty.{WellFormed, IsFirstFault, IsWellFormedTxn}
+use Rattle.bohm_txn.specs.FirstFault.{found_or, first_from, find_txn, first_in_txn, first_in_log, first_in_doc, fault_of}
 use Rattle.bohm_txn.specs.Chunked.{store_fault, IsCheckedTo, IsCountOf}
 use Rattle.bohm_txn.proofs.FirstLaw.{well_formed, first_fault}
 use Rattle.bohm_txn.proofs.UseLaws.{all_in, rising_store}

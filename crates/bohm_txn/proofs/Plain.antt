@@ -94,18 +94,6 @@ writes_declared Remove b h = rw h refl
 writes_declared Show b h = refl
 writes_declared Fail b h = refl
 
-binds_none : (before : List Stmt) (a : Action) (b : Bool) (n : List ℕ) (x y z : List (Bool × Atom)) → is_placed a b ≡ true
-    → some_passes (is_bound before) (bound (stmt_made a n x y z)) ≡ false
-binds_none before Bind b n x y z h = absurd cc
-binds_none before (Need cmp) b n x y z h = refl
-binds_none before Has b n x y z h = refl
-binds_none before Lacks b n x y z h = refl
-binds_none before Put b n x y z h = refl
-binds_none before (PutWhen cmp) b n x y z h = refl
-binds_none before Remove b n x y z h = refl
-binds_none before Show b n x y z h = refl
-binds_none before Fail b n x y z h = refl
-
 -- ---- the three parts of the terms
 
 module _ (p : Parts) (f : Bool × Atom → Bool) where
@@ -179,9 +167,9 @@ module _ (p : Parts) (r : StmtRow) (few_reads : length p.reads ≤ 16) (few_writ
       tests_declared r.action r.declared placed,
     ) refl
 
-    misnamed : is_misnamed before (stmt_of p r) ≡ false
-    misnamed = rw (all_bound, binds_none before r.action r.declared _ first_sum second_sum third_sum placed) refl
+    misnamed : some_passes (is_bound before) (bound (stmt_of p r)) ≡ false → is_misnamed before (stmt_of p r) ≡ false
+    misnamed once = rw (all_bound, once) refl
 
-    pub is_faultless : least (stmt_faulty (txn_of e p) before (stmt_of p r)) ≡ None
-    is_faultless = no_least (stmt_faulty (txn_of e p) before (stmt_of p r)) refl unread
-        (unwritten_row p r few_writes row ∙ writes_declared r.action r.declared placed) misnamed (short_sums (both _ _ plain).1)
+    pub is_faultless : some_passes (is_bound before) (bound (stmt_of p r)) ≡ false → least (stmt_faulty (txn_of e p) before (stmt_of p r)) ≡ None
+    is_faultless once = no_least (stmt_faulty (txn_of e p) before (stmt_of p r)) refl unread
+        (unwritten_row p r few_writes row ∙ writes_declared r.action r.declared placed) (misnamed once) (short_sums (both _ _ plain).1)

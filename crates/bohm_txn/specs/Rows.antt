@@ -38,9 +38,9 @@ needs_no_name Read = true
 needs_no_name Unread = false
 needs_no_name Local = false
 
--- it binds no local, and its key is declared, if it has one
+-- its key is declared, if it has one
 abbrev pub is_placed : Action → Bool → Bool
-is_placed Bind declared = false
+is_placed Bind declared = true
 is_placed (Need cmp) declared = true
 is_placed Has declared = declared
 is_placed Lacks declared = declared

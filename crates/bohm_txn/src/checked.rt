@@ -1,6 +1,9 @@
 //! Documents that passed the check.
 
-ghost use Rattle.std.specs.Prelude.{◌≡◌, ◌<◌, ◌≤◌, true, length, All, IfOk, IfErr, OnOk, OnErr};
+ghost use Rattle.std.specs.Prelude.{◌≡◌, ◌≢◌, ◌<◌, ◌≤◌, ◌+◌, ◌^◌, true, length, All, IfOk, IfErr};
+ghost use Rattle.std.specs.Prelude.{OnOk, OnErr, Err};
+ghost use Rattle.bohm_log.specs.Sizes.{log_size, txn_size};
+ghost use Rattle.bohm_log.specs.declared.fault.LogFault.TheVariants.{Full};
 ghost use Rattle.bohm_types.specs.Appending.{empty_document, with_txn};
 ghost use Rattle.bohm_types.specs.Procedure.{instance};
 ghost use Rattle.bohm_types.specs.Keys.{rising, names_of};
@@ -10,7 +13,7 @@ ghost use Rattle.bohm_types.specs.Limits.{most_txns};
 
 use crate::fault::CheckFault;
 use crate::first_fault::first_fault;
-use bohm_log::{CallBuffer, Doc, HashSeed, KeyHandle, LogFault, LogPart, Template};
+use bohm_log::{CallPlaces, Doc, HashSeed, KeyHandle, LogFault, LogPart, Template};
 use bohm_types::{Edition, Key, Value};
 use std::alloc::Global;
 use std::marker::Model;
@@ -42,31 +45,14 @@ impl Checked {
         }
     }
 
-    /// Adds the instance of a procedure. An `Err` leaves the document as it was. The time grows
-    /// with what the instance holds.
+    /// Adds the instance of a procedure for the keys of these handles, none of which is hashed
+    /// where its number is its key's. `Full` comes only where the document's transactions and this
+    /// one, with their declared keys, terms and statements, are 2^26 or more. An `Err` leaves the
+    /// document as it was. The time grows with what the instance holds.
     pub fn push_call(
         &mut self,
         template: &Template,
-        buffer: &mut CallBuffer,
-        keys: &[Key],
-        values: &[Value],
-    ) -> Result<(), LogFault>
-        requires values { length values.now ≡ length template.now.values }
-        requires edition { template.now.edition ≡ self.old.edition }
-        requires well_formed { IsWellFormedTxn (instance template.now keys.now values.now) }
-        requires few { length self.old.log < most_txns }
-        ensures ok { OnOk result
-            (self.new ≡ with_txn self.old (instance template.now keys.now values.now)) }
-        ensures err { OnErr result (self.new ≡ self.old) }
-    {
-        self.doc.push_call(template, buffer, keys, values)
-    }
-
-    /// The same, for the keys of these handles.
-    pub fn push_named(
-        &mut self,
-        template: &Template,
-        buffer: &mut CallBuffer,
+        places: &mut CallPlaces,
         keys: &[KeyHandle],
         values: &[Value],
     ) -> Result<(), LogFault>
@@ -78,15 +64,28 @@ impl Checked {
         ensures ok { OnOk result
             (self.new ≡ with_txn self.old
             (instance template.now (keys_named keys.now) values.now)) }
+        ensures full { result ≡ Err Full → 2 ^ 26 ≤ log_size self.old.log
+            + txn_size (instance template.now (keys_named keys.now) values.now) }
         ensures err { OnErr result (self.new ≡ self.old) }
     {
-        self.doc.push_named(template, buffer, keys, values)
+        self.doc.push_call(template, places, keys, values)
     }
 
-    /// The handle of a key, which gets a number if it has none. The document stays as it is.
+    /// The handle of a key with the number that it is likely to have: the one that was noted last
+    /// for its hash. Nothing is searched for.
+    #[inline(always)]
+    pub fn noted_handle(&self, key: &Key) -> KeyHandle
+        ensures { result.key ≡ key.now }
+    {
+        self.doc.noted_handle(key)
+    }
+
+    /// The handle of a key, which gets a number if it has none and fewer than 2^30 keys have one. The
+    /// document stays as it is.
     pub fn handle(&mut self, key: &Key) -> Result<KeyHandle, LogFault>
         ensures key { IfOk result (λ h. h.key ≡ key.now) }
         ensures same { self.new ≡ self.old }
+        ensures never_full { result ≢ Err Full }
     {
         self.doc.handle(key)
     }

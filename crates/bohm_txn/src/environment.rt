@@ -1,7 +1,7 @@
 //! Evaluates the sums and conditions of a statement.
 
 ghost use Rattle.std.specs.Prelude.{◌≡◌, ◌≤◌, pos, ◌+◌, ◌+ℤ◌};
-ghost use Rattle.std.specs.Prelude.{◌≤ℤ◌, ◌^◌, length, map, reverse, true, All, IfSome};
+ghost use Rattle.std.specs.Prelude.{◌≤ℤ◌, ◌^◌, length, map, reverse, true, All, IfSome, Some};
 ghost use Rattle.std.specs.Option.{option_map, option_copied};
 ghost use Rattle.std.specs.List.{find};
 ghost use Rattle.std.specs.Str.{bytes_eq};
@@ -45,6 +45,10 @@ fn local_among(locals: &[(Key, Value)], name: &Key) -> Value
     }
 }
 
+/// Sixteen numbers that are no greater than this one, and no less than its negative, have a total of
+/// 64 bits.
+const SHORT: i64 = 1 << 58;
+
 fn compares(cmp: Cmp, ordering: Ordering) -> bool
     ensures { result ≡ compares cmp ordering }
 {
@@ -65,6 +69,32 @@ fn number_in(cell: Cell) -> Option<i128>
     match cell {
         Cell::Absent => None,
         Cell::Present(value) => Some(i128::from(value.get())),
+    }
+}
+
+/// The number in a cell, or the least one of 64 bits where there is none.
+#[inline(always)]
+fn number_or_least(cell: Cell) -> i64
+    ensures { neg_ℤ (pos (2 ^ 58)) ≤ℤ result → number_in cell ≡ Some result }
+{
+    match cell {
+        Cell::Absent => i64::MIN,
+        Cell::Present(value) => value.get(),
+    }
+}
+
+#[inline(always)]
+fn signed(total: i64, minus: bool, number: i64) -> i64
+    requires low { (neg_ℤ (pos (2 ^ 62)) ≤ℤ total) × (neg_ℤ (pos (2 ^ 58)) ≤ℤ number) }
+    requires high { (total ≤ℤ pos (2 ^ 62)) × (number ≤ℤ pos (2 ^ 58)) }
+    ensures value { result ≡ signed total minus number }
+    ensures low { (neg_ℤ (pos (2 ^ 58)) +ℤ total) ≤ℤ result }
+    ensures high { result ≤ℤ (total +ℤ pos (2 ^ 58)) }
+{
+    if minus {
+        total - number
+    } else {
+        total + number
     }
 }
 
@@ -112,6 +142,7 @@ impl Environment<'_> {
         })
     }
 
+    #[inline(never)]
     fn total(&self, terms: &[TermRow]) -> Option<i128>
         requires within { All (TermIn self.now.txn.now) terms.now }
         requires few { length terms.now ≤ most_terms }
@@ -126,6 +157,57 @@ impl Environment<'_> {
         Some(total)
     }
 
+    /// The number of a term's atom, or the least one of 64 bits where its key is missing or it has
+    /// more bits.
+    #[inline(never)]
+    fn other_or_least(&self, term: TermRow) -> i64
+        requires { TermIn self.now.txn.now term }
+        ensures { neg_ℤ (pos (2 ^ 58)) ≤ℤ result → atom_value (look_of self.now)
+            self.now.locals.now (term_of self.now.txn.now term).1 ≡ Some result }
+    {
+        match self.atom(term) {
+            Some(number) => i64::try_from(number).unwrap_or(i64::MIN),
+            None => i64::MIN,
+        }
+    }
+
+    /// The same. Most terms are of two kinds, which take a test each.
+    #[inline(always)]
+    fn atom_or_least(&self, term: TermRow) -> i64
+        requires { TermIn self.now.txn.now term }
+        ensures { neg_ℤ (pos (2 ^ 58)) ≤ℤ result → atom_value (look_of self.now)
+            self.now.locals.now (term_of self.now.txn.now term).1 ≡ Some result }
+    {
+        if let AtomKind::Read = term.kind {
+            number_or_least(self.cells[term.place as usize])
+        } else if let AtomKind::Small = term.kind {
+            i64::from(term.place)
+        } else {
+            self.other_or_least(term)
+        }
+    }
+
+    /// The exact total, if no key is missing and each number is short: nearly all are. It takes half
+    /// the time of a total of 128 bits.
+    #[inline(always)]
+    fn short_total(&self, terms: &[TermRow]) -> Option<i64>
+        requires within { All (TermIn self.now.txn.now) terms.now }
+        requires few { length terms.now ≤ most_terms }
+        ensures { IfSome result
+            (λ z. total_from (look_of self.now) self.now.locals.now (pos 0)
+            (map (term_of self.now.txn.now) terms.now) ≡ Some z) }
+    {
+        let mut total: i64 = 0;
+        for term in terms {
+            let number = self.atom_or_least(*term);
+            if number < -SHORT || SHORT < number {
+                return None;
+            }
+            total = signed(total, term.minus, number);
+        }
+        Some(total)
+    }
+
     /// The value of the sum of the terms between two offsets. A partial total may be out of range.
     pub fn sum(&self, from: u32, to: u32) -> Result<Value, Reason>
         requires rises { from ≤ to }
@@ -136,6 +218,9 @@ impl Environment<'_> {
             (sum_between self.now.txn.now from to) }
     {
         let terms = self.txn.terms(from, to);
+        if let Some(total) = self.short_total(terms) {
+            return Ok(Value::from(total));
+        }
         let total = self.total(terms).ok_or(Reason::Absent)?;
         match i64::try_from(total) {
             Ok(number) => Ok(Value::from(number)),

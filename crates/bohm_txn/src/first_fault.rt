@@ -15,7 +15,7 @@ ghost use Rattle.bohm_types.specs.Limits.{most_keys, most_shows, most_stmts, mos
 use crate::bound::Bound;
 use crate::fault::{CheckFault, CheckKind};
 use crate::glance::is_plain;
-use crate::rules::{is_long, is_misnamed, is_unread, is_unwritten};
+use crate::rules::{is_long, is_misnamed, is_unread, is_unwritten, rebinds};
 use crate::showing::shows;
 use bohm_log::{Doc, IndexedTxn, Keys, LogPart, StmtRow, TxnView};
 use bohm_types::{Key, MOST_KEYS, MOST_SHOWS, MOST_STMTS, MOST_TXNS, Value};
@@ -73,7 +73,7 @@ fn stmt_fault(
         (stmt_faulty (txn_of e txn.now) (map (stmt_of txn.now) before.now)
         (stmt_of txn.now row.now)) }
 {
-    if is_plain(txn, row) {
+    if is_plain(txn, row) && !rebinds(txn, before, noted, row) {
         None
     } else if is_unread(txn, row) {
         Some(CheckKind::Unread)

@@ -1,11 +1,13 @@
 //! Statements that a glance shows to have no fault: most of a log's are such.
 
-ghost use Rattle.std.specs.Prelude.{◌≡◌, ◌≤◌, List, None, true, length};
+ghost use Rattle.std.specs.Prelude.{◌≡◌, ◌≤◌, List, None, true, false, length};
 ghost use Rattle.std.specs.List.{list_all};
 ghost use Rattle.bohm_types.specs.Stmt.{Stmt};
 ghost use Rattle.bohm_types.specs.declared.edition.Edition.{Edition};
 ghost use Rattle.bohm_log.specs.Parts.{RowIn, stmt_of, txn_of};
-ghost use Rattle.bohm_txn.specs.Faulty.{stmt_faulty};
+ghost use Rattle.bohm_types.specs.Keys.{some_passes};
+ghost use Rattle.bohm_types.specs.Parts.{bound};
+ghost use Rattle.bohm_txn.specs.Faulty.{is_bound, stmt_faulty};
 ghost use Rattle.bohm_txn.specs.FirstFault.{least};
 ghost use Rattle.bohm_txn.specs.Rows.{has_short_sums, is_placed, is_plain_row, needs_no_name};
 ghost use Rattle.bohm_types.specs.Limits.{most_keys};
@@ -29,13 +31,12 @@ fn need_no_names(terms: &[TermRow]) -> bool
     terms.iter().all(|term| needs_no_name(term))
 }
 
-/// Whether a statement binds no local, and its key, if it has one, is declared.
+/// Whether a statement's key, if it has one, is declared.
 fn is_placed(row: &StmtRow) -> bool
     ensures { result ≡ is_placed row.now.action row.now.declared }
 {
     match row.action {
-        Action::Bind => false,
-        Action::Need(_) | Action::Show | Action::Fail => true,
+        Action::Bind | Action::Need(_) | Action::Show | Action::Fail => true,
         Action::Has | Action::Lacks | Action::Put | Action::PutWhen(_) | Action::Remove => {
             row.declared
         }
@@ -63,13 +64,14 @@ fn is_plain_row(row: &StmtRow) -> bool
     is_placed(row) && has_short_sums(row)
 }
 
-/// Whether the statement has no fault whatever stands before it, by what its row and terms alone
-/// show.
+/// Whether the statement's row and terms alone show that it has no fault, unless it binds a name that
+/// a statement before it binds.
 pub fn is_plain(txn: &IndexedTxn<'_>, row: &StmtRow) -> bool
     requires reads { length txn.now.reads ≤ most_keys }
     requires writes { length txn.now.writes ≤ most_keys }
     requires row { RowIn txn.now row.now }
     ensures { result ≡ true → (e : Edition) → (before : List Stmt)
+        → some_passes (is_bound before) (bound (stmt_of txn.now row.now)) ≡ false
         → least (stmt_faulty (txn_of e txn.now) before (stmt_of txn.now row.now)) ≡ None }
 {
     is_plain_row(row) && need_no_names(txn.terms(row.start, row.third))

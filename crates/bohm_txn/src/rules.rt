@@ -130,7 +130,7 @@ fn are_defined(txn: &IndexedTxn<'_>, before: &[StmtRow], noted: &Bound, terms: &
 }
 
 /// Whether the statement binds a name that one of these binds.
-fn rebinds(txn: &IndexedTxn<'_>, before: &[StmtRow], noted: &Bound, row: &StmtRow) -> bool
+pub fn rebinds(txn: &IndexedTxn<'_>, before: &[StmtRow], noted: &Bound, row: &StmtRow) -> bool
     requires row { RowIn txn.now row.now }
     requires before { All (RowIn txn.now) before.now }
     requires noted { AreNoted noted.now.noted before.now }

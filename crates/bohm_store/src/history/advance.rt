@@ -126,8 +126,7 @@ impl History {
         }
         let begin = self.numbered.top() + 1;
         list_versions(listed, begin, numbers, cells)?;
-        self.numbered
-            .advance_above(names, txn, listed.as_slice(), floor)?;
+        self.numbered.add_above(names, 1, listed.as_slice(), floor)?;
         Ok(())
     }
 }

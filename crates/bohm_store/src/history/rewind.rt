@@ -1,6 +1,9 @@
 //! Takes transactions back.
 
 ghost use Rattle.std.specs.Prelude.{◌≡◌, ◌≤◌, ℕ, List};
+ghost use Rattle.std.specs.List.{IsDistinct};
+ghost use Rattle.std.specs.Map.{keys_of};
+ghost use Rattle.std.specs.Str.{bytes_eq};
 ghost use Rattle.bohm_store.specs.Versions.{past, versions, versions_to};
 
 use crate::history::History;
@@ -17,7 +20,9 @@ impl History {
         ensures versions { (k : List ℕ) → versions self.new k ≡ versions_to ts
             (versions self.old k) }
         ensures past { (t : ℕ) → t ≤ ts → past self.new t ≡ past self.old t }
+        ensures distinct { IsDistinct bytes_eq (keys_of self.new.chains) }
     {
+        let _ = self.names.as_slice();
         self.numbered.rewind(ts);
     }
 }

@@ -27,30 +27,16 @@ impl History {
         ensures ok { OnOk result
             (IsSettled self.old self.new (txns_of (batch_of_finished finished.now))) }
     {
-        self.settle_with(alloc, &mut Seats::new(alloc), finished)
-    }
-
-    /// The same, with what the run keeps from batch to batch: a key is hashed only if its number
-    /// isn't the one that it had when it was last seen.
-    pub fn settle_with(
-        &mut self,
-        alloc: Global,
-        seats: &mut Seats,
-        finished: &Finished<'_>,
-    ) -> Result<(), NoMemory>
-        requires { IsNext self.old (batch_of_finished finished.now) }
-        ensures err { OnErr result (IsSame self.old self.new) }
-        ensures ok { OnOk result
-            (IsSettled self.old self.new (txns_of (batch_of_finished finished.now))) }
-    {
+        let mut seats = Seats::new(alloc);
         let writes = self.list_writes(alloc, &mut seats.hints, finished)?;
         self.settle_all(finished.batch(), &writes)?;
         Ok(())
     }
 
-    /// The same, and trims at a floor, which is at most the batch's end. Where it is the batch's
-    /// end, no version is kept but the newest one of each key that the batch writes, and none is
-    /// moved.
+    /// Settles the batch as `settle` does, with what the run keeps from batch to batch, and trims at a
+    /// floor, which is at most the batch's end. A key is hashed only if its number isn't the one that
+    /// it had when it was last seen. Where the floor is the batch's end, no version is kept but the
+    /// newest one of each key that the batch writes, and none is moved.
     ///
     /// An error changes nothing that is seen. The time grows with the number of the batch's
     /// declared writes and with how many earlier versions are dropped, on an error with the former
@@ -98,7 +84,8 @@ impl History {
     {
         self.numbered.cover(self.names.len())?;
         self.numbered
-            .settle_writes(self.names.as_slice(), batch, writes)
+            .add_writes(self.names.as_slice(), batch.len(), writes)?;
+        Ok(())
     }
 
     // The same, and trims at a floor.
@@ -116,11 +103,12 @@ impl History {
     {
         self.numbered.cover(self.names.len())?;
         let names = self.names.as_slice();
-        if floor == self.numbered.top() + batch.len() {
+        let count = batch.len();
+        if floor == self.numbered.top() + count {
             self.numbered.settle_newest(names, batch, writes);
             return Ok(());
         }
-        self.numbered.settle_above(names, batch, writes, floor)?;
+        self.numbered.add_above(names, count, writes, floor)?;
         Ok(())
     }
 }

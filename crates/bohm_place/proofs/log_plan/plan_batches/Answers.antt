@@ -1,7 +1,6 @@
-use Rattle.std.proofs.Common.{◌≡◌, ◌+◌, ◌<◌, ◌∷◌, [], length, length-append, ap, sym, ◌∙◌, subst, arith, ℕ}
+use Rattle.std.proofs.Common.{◌+◌, ◌<◌, ◌∷◌, [], length, length-append, ap, sym, arith}
 use Rattle.std.proofs.lemmas.List.Elements.{All-weaker}
 use Rattle.bohm_place.specs.declared.placeholder.Placeholder.{Placeholder}
-use Rattle.bohm_place.specs.Plans.{Planned}
 use Rattle.bohm_place.specs.CutLogs.{cutting_of}
 use Rattle.bohm_place.specs.Cuttings.{IsPlanAt}
 use Rattle.bohm_place.proofs.Plans.{plan_more}

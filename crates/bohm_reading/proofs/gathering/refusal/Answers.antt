@@ -1,6 +1,4 @@
-use Rattle.std.proofs.Common.{◌+◌, ◌≤◌, length, arith, subst, Err}
-use Rattle.bohm_text.specs.declared.fault.WindowFault.{WindowFault}
-use Rattle.bohm_text.specs.Windowing.{ReadsWindow}
+use Rattle.std.proofs.Common.{arith}
 use Rattle.bohm_reading.proofs.WaveLaws.{open_short}
 use Rattle.bohm_reading.proofs.gathering.refusal.Goals as goal
 

@@ -1,9 +1,9 @@
-use Rattle.std.proofs.Common.{◌≡◌, ◌+◌, ◌≤◌, ◌∷◌, [], ◌++◌, List, ℕ, length, ap, sym, subst, ◌∙◌, append_assoc, append-nil, arith}
+use Rattle.std.proofs.Common.{◌≡◌, ◌∷◌, [], ◌++◌, List, length, ap, sym, ◌∙◌, append_assoc, arith}
 use Rattle.std.specs.Vec.Iter.{into_iter_items}
 use Rattle.std.proofs.lemmas.Result.{err_from_is_err_and}
 use Rattle.bohm_reading.specs.declared.parsing.Parsed.{Parsed}
-use Rattle.bohm_reading.specs.Waves.{windows_of, bytes_of, TakesWave}
-use Rattle.bohm_reading.proofs.WaveLaws.{read_at, short_at, refused_at, wave_more, bytes_push}
+use Rattle.bohm_reading.specs.Waves.{windows_of, bytes_of}
+use Rattle.bohm_reading.proofs.WaveLaws.{read_at, refused_at, wave_more, bytes_push}
 use Rattle.bohm_reading.proofs.gathering.take_wave.Goals as goal
 
 pub take_one-requires-clause-read : goal.take_one-requires-clause-read

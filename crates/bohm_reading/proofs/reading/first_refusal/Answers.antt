@@ -1,4 +1,4 @@
-use Rattle.std.proofs.Common.{◌≡◌, ◌+◌, ◌≤◌, length, arith, subst, Err}
+use Rattle.std.proofs.Common.{arith, subst, Err}
 use Rattle.std.proofs.Sketches.{bounds}
 use Rattle.bohm_text.specs.declared.fault.WindowFault.{WindowFault}
 use Rattle.bohm_text.specs.Windowing.{ReadsFirst}

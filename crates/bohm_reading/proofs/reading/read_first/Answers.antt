@@ -1,4 +1,4 @@
-use Rattle.std.proofs.Common.{◌≡◌, List, ℕ, subst}
+use Rattle.std.proofs.Common.{List, ℕ, subst}
 use Rattle.bohm_reading.specs.Reading.{FirstRefused}
 use Rattle.bohm_reading.proofs.SegmentLaws.{first_last, first_drained}
 use Rattle.bohm_reading.proofs.reading.read_first.Goals as goal

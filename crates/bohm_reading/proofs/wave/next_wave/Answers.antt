@@ -1,4 +1,4 @@
-use Rattle.std.proofs.Common.{◌≡◌, ◌+◌, ◌≤◌, ◌∷◌, [], ◌++◌, List, ℕ, length, ap, sym, subst, refl, ◌∙◌, arith, length-append, Err}
+use Rattle.std.proofs.Common.{◌≡◌, ◌++◌, ap, refl, arith, length-append, Err}
 use Rattle.bohm_reading.specs.declared.fault.ReadingFault.{ReadingFault}
 use Rattle.bohm_reading.specs.declared.fault.ReadingFault.TheVariants.{TooLong}
 use Rattle.std.proofs.lemmas.Result.{err_from_is_err_and}

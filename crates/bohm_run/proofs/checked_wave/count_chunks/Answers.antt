@@ -16,7 +16,7 @@ loop-chunk-preserved c =
     let rest = into_iter_items c.next.new.self in
     let steps = c.in-Some.ensures.steps in
     let whole : at.yielded ++ x ∷ rest ≡ c.args.chunks.items = ap (λ (xs : List Chunk). at.yielded ++ xs) (sym steps.0) ∙ was.items in
-    let one : CountedChunk = record { chunk = x; count = at.before } in
+    let one : CountedChunk = record { chunk = x; count = at.before; seats = c.spare_seats.result } in
     let before = counted_places at.placed.items in
     let places : counted_places (at.placed.items ++ one ∷ []) ≡ before ++ (at.before, x.log) ∷ [] = counted_more at.placed.items one in
     let after : c.counted-after.result ≡ count_with at.before (length x.log) =

@@ -80,8 +80,8 @@ run_clean-requires-clause-plans g c κs within =
     c.in-Planned.plans.items) (sym c.part-in-Planned.ensures.same)
     (subst (λ (n : ℕ). ArePlans (record { first = n + 1; log = c.args.chunk.log; sizes = c.in-Planned.cuts }) c.in-Planned.plans.items) first known.planned)
 
-pub returns-clause-runs : goal.returns-clause-runs
-returns-clause-runs g c =
+pub returns-in_ok-run_clean-in-Planned-clause-runs : goal.returns-in_ok-run_clean-in-Planned-clause-runs
+returns-in_ok-run_clean-in-Planned-clause-runs g c =
     let count = c.counted-state.ensures ∙ (λ i. count_with (c.requires.next i) (c.len.ensures i)) in
     let none = no_some c.args.state.now.fault (sym c.is_some.ensures ∙ c.if-is_some.false) in
     let known : ArePlanned c.args.chunk.count c.args.chunk.log c.in-Planned.cuts c.in-Planned.plans.items =
@@ -94,8 +94,8 @@ returns-clause-runs g c =
     chunk_ran c.args.chunk.log was _ refl c.run_clean.ensures.keep count none none (omega (arith, known.ready.few, c.requires.next))
     (subst (λ (n : ℕ). IsFaultBehind n c.args.chunk.log None) c.requires.next known.ready.checked) (c.requires.level none few) part
 
-pub returns-clause-count : goal.returns-clause-count
-returns-clause-count g c = c.counted-state.ensures ∙ (λ i. count_with (c.requires.next i) (c.len.ensures i))
+pub returns-in_ok-run_clean-in-Planned-clause-count : goal.returns-in_ok-run_clean-in-Planned-clause-count
+returns-in_ok-run_clean-in-Planned-clause-count g c = c.counted-state.ensures ∙ (λ i. count_with (c.requires.next i) (c.len.ensures i))
 
 pub run_to_text-requires-clause-few : goal.run_to_text-requires-clause-few
 run_to_text-requires-clause-few g c =
@@ -109,8 +109,8 @@ run_to_text-requires-clause-formed g c =
     let known : AreReady c.args.chunk.count c.args.chunk.log = subst (IsPrepared c.args.chunk.count c.args.chunk.log) c.in-Ready.is c.requires.prepared in
     subst (λ (log : List Txn). All IsWellFormedTxn log) (sym c.part-in-Ready.ensures.same) known.formed
 
-pub returns-in-Ready-clause-runs : goal.returns-in-Ready-clause-runs
-returns-in-Ready-clause-runs g c =
+pub returns-in_ok-run_to_text-in-Ready-clause-runs : goal.returns-in_ok-run_to_text-in-Ready-clause-runs
+returns-in_ok-run_to_text-in-Ready-clause-runs g c =
     let count = c.counted-state.ensures ∙ (λ i. count_with (c.requires.next i) (c.len.ensures i)) in
     let none = no_some c.args.state.now.fault (sym c.is_some.ensures ∙ c.if-is_some.false) in
     let known : AreReady c.args.chunk.count c.args.chunk.log = subst (IsPrepared c.args.chunk.count c.args.chunk.log) c.in-Ready.is c.requires.prepared in
@@ -122,5 +122,5 @@ returns-in-Ready-clause-runs g c =
     chunk_ran c.args.chunk.log was _ refl refl count none none (omega (arith, known.few, c.requires.next))
     (subst (λ (n : ℕ). IsFaultBehind n c.args.chunk.log None) c.requires.next known.checked) (c.requires.level none few) part
 
-pub returns-in-Ready-clause-count : goal.returns-in-Ready-clause-count
-returns-in-Ready-clause-count g c = c.counted-state.ensures ∙ (λ i. count_with (c.requires.next i) (c.len.ensures i))
+pub returns-in_ok-run_to_text-in-Ready-clause-count : goal.returns-in_ok-run_to_text-in-Ready-clause-count
+returns-in_ok-run_to_text-in-Ready-clause-count g c = c.counted-state.ensures ∙ (λ i. count_with (c.requires.next i) (c.len.ensures i))

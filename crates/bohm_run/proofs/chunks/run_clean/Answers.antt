@@ -17,9 +17,9 @@ put_replies-requires g c =
     let was = c.args.progress.now.history in
     let more = replies (past was was.top) c.args.part.now in
     let ran = subst
-    (λ (k : Cutting). GoesOn (record { history = was; replies = c.truncate.new.self }) c.run_planned.new.progress k.log c.args.executor.now.keep)
+    (λ (k : Cutting). GoesOn (record { history = was; replies = c.clear.new.self }) c.run_planned.new.progress k.log c.args.executor.now.keep)
     c.new-log.ensures c.in_ok-run_planned.ensures.ran in
-    let is : c.run_planned.new.progress.replies ≡ more = ran.replies ∙ ap (λ (a : List Reply). a ++ more) c.truncate.ensures in
+    let is : c.run_planned.new.progress.replies ≡ more = ran.replies ∙ ap (λ (a : List Reply). a ++ more) c.clear.ensures in
     omega (arith, ap length is, length-replies (past was was.top) c.args.part.now, c.top-first.ensures.top, c.requires.few)
 
 pub returns-clause-run : goal.returns-clause-run
@@ -27,9 +27,9 @@ returns-clause-run g c =
     let was = c.args.progress.now.history in
     let now = c.run_planned.new.progress in
     let more = replies (past was was.top) c.args.part.now in
-    let ran = subst (λ (k : Cutting). GoesOn (record { history = was; replies = c.truncate.new.self }) now k.log c.args.executor.now.keep) c.new-log.ensures
+    let ran = subst (λ (k : Cutting). GoesOn (record { history = was; replies = c.clear.new.self }) now k.log c.args.executor.now.keep) c.new-log.ensures
     c.in_ok-run_planned.ensures.ran in
-    let is : now.replies ≡ more = ran.replies ∙ ap (λ (a : List Reply). a ++ more) c.truncate.ensures in
+    let is : now.replies ≡ more = ran.replies ∙ ap (λ (a : List Reply). a ++ more) c.clear.ensures in
     record {
       answered = now.replies;
       applied = subst (λ (a : List Reply). IsApplied was now.history c.args.part.now c.args.executor.now.keep a) (sym is) ran.applied;

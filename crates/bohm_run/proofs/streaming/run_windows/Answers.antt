@@ -50,7 +50,7 @@ returns-in_err-chunks-2-clause-err g c =
     (txns_of c.waves.chunks.items) c.args.state.now c.waves.state c.waves.invariant.streams _ fault h)
 
 pub waves-smaller : goal.waves-smaller
-waves-smaller g c = (IfOk-at_ok _ c.in_ok-chunks-2.was c.run_and_read-ran.ensures.ok).read.less
+waves-smaller g c = rw c.keep.ensures.source ((IfOk-at_ok _ c.in_ok-chunks-2.was c.run_and_read-ran.ensures.ok).read.less)
 
 pub waves-preserved : goal.waves-preserved
 waves-preserved g c =
@@ -63,7 +63,7 @@ waves-preserved g c =
     let wave = subst
     (λ (e : Edition). ReadsWave e (g.R.Read.remaining c.waves.reader)
     (g.R.Read.remaining c.run_and_read-ran.new.reader) c.waves.log_reader.source source read.chunks) was.edition read.read in
-    record {
+    rw (c.keep.ensures.source, c.keep.ensures.edition, c.keep.ensures.count) (record {
       ready = read.read.ready;
       edition = read.edition ∙ was.edition;
       next = record {
@@ -75,7 +75,7 @@ waves-preserved g c =
       streams = go_on c.args.log_reader.edition c.args.first.log _ _ c.args.log_reader.source c.waves.log_reader.source
           (txns_of c.waves.chunks.items) c.args.state.now c.waves.state was.streams
           _ source read.chunks (txns_of next) c.run_and_read-ran.new.state read.prepared.txns ran.runs wave;
-    }
+    })
 
 pub returns-clause-ok : goal.returns-clause-ok
 returns-clause-ok g c = at_end c.args.log_reader.edition c.args.first.log _ _ c.args.log_reader.source c.waves.log_reader.source

@@ -1,6 +1,5 @@
 -- One read more.
-use Rattle.std.proofs.Common.{rules, ◌≡◌, ◌++◌, ◌∷◌, [], List, ap, append_assoc, arith, length, length-append}
-use Rattle.bohm_types.specs.declared.cell.Cell.{Cell}
+use Rattle.std.proofs.Common.{rules, ◌≡◌, ◌++◌, ◌∷◌, [], ap, append_assoc, arith, length, length-append}
 use Rattle.bohm_txn.specs.Results.{Results}
 use Rattle.bohm_txn.proofs.ForCallers.{drop_at}
 use Rattle.bohm_store.proofs.base.push_reads.Goals as goal

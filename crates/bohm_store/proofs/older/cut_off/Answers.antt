@@ -1,5 +1,5 @@
 use Rattle.std.proofs.Common.{◌≡◌, ◌∙◌, ◌++◌, ◌∷◌, [], ap, refl, sym, arith, length, length-append}
-use Rattle.bohm_store.specs.Numbered.{EndsRise, ended_by}
+use Rattle.bohm_store.specs.Numbered.{ended_by}
 use Rattle.bohm_store.proofs.Rewound.{climbs_front, cut_one, uncut}
 use Rattle.bohm_store.proofs.older.cut_off.Goals as goal
 

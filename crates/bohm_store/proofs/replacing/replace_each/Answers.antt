@@ -1,5 +1,5 @@
 -- Each replacement is that by the next one of the list of the writes.
-use Rattle.std.proofs.Common.{◌≡◌, ◌∙◌, ◌++◌, ◌==◌, ◌+◌, ◌∷◌, if◌then◌else◌, List, [], take, get_or, sym, ap, arith, append-nil}
+use Rattle.std.proofs.Common.{◌≡◌, ◌∙◌, ◌++◌, ◌==◌, ◌+◌, ◌∷◌, if◌then◌else◌, List, [], take, sym, ap, arith, append-nil}
 use Rattle.std.specs.Prelude.{slice_index}
 use Rattle.std.proofs.lemmas.List.{take_all}
 use Rattle.bohm_store.specs.declared.version.Version.{Version}

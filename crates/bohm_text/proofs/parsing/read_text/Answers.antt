@@ -1,18 +1,19 @@
-use Rattle.std.proofs.Common.{◌≡◌, ◌+◌, ◌∷◌, ◌++◌, List, ℕ, length, ap, sym, subst, ◌∙◌, arith, Ok, Err, length-append}
+use Rattle.std.proofs.Common.{◌≡◌, ◌+◌, ◌∷◌, List, ℕ, length, ap, sym, subst, ◌∙◌, arith, Err, length-append}
 use Rattle.std.proofs.Sketches.{bounds}
 use Rattle.bohm_text.specs.Cut.{whole_lines}
-use Rattle.bohm_text.specs.Step.{Nothing}
+use Rattle.bohm_text.specs.Step.{Nothing, step}
 use Rattle.bohm_text.specs.declared.fault.WindowFault.{WindowFault}
 use Rattle.bohm_text.specs.Parse.{IsFirstFault, IsUnfinished, IsReadAs, ReadsBehind}
 use Rattle.bohm_text.specs.Windows.{headed}
-use Rattle.bohm_text.proofs.Lines.{read_none, line_fault, step-head_bad}
+use Rattle.bohm_text.proofs.Lines.{step-head_bad}
+use Rattle.bohm_text.proofs.Stepping.{read_none, line_fault}
 use Rattle.bohm_text.proofs.Headed.{is_headed, lines_headed}
 use Rattle.bohm_text.proofs.Placed.{lines_short}
 use Rattle.bohm_text.proofs.parsing.read_text.Goals as goal
 
 pub returns-in_default-read_head : goal.returns-in_default-read_head
 returns-in_default-read_head c =
-    line_fault c.args.text.now 0 c.args.text.now Nothing (read_none c.args.text.now) c.in-Some.head.now c.in-Some.others.now c.in-Some.ensures.lines
+    line_fault (read_none step Nothing c.args.text.now) c.in-Some.head.now c.in-Some.others.now c.in-Some.ensures.lines
     (step-head_bad c.in-Some.head.now (sym c.read_head.ensures ∙ c.in_default-read_head.is))
 
 pub overflow_add-result : goal.overflow_add-result

@@ -1,4 +1,4 @@
-use Rattle.std.proofs.Common.{◌≡◌, Err, sym, subst, ◌∙◌}
+use Rattle.std.proofs.Common.{subst}
 use Rattle.std.specs.Prelude.{Result}
 use Rattle.bohm_text.specs.declared.fault.TextFault.{TextFault}
 use Rattle.bohm_text.specs.declared.procedures.ProcedureReader.{ProcedureReader}

@@ -1,8 +1,6 @@
-use Rattle.std.proofs.Common.{◌≡◌, subst}
 use Rattle.std.proofs.lemmas.Result.{err_from_is_err_and}
 use Rattle.bohm_types.specs.Document.{Document}
 use Rattle.bohm_text.specs.Step.{document_in}
-use Rattle.bohm_text.specs.Windowing.{IsTextOf}
 use Rattle.bohm_text.proofs.TextLaws.{found}
 use Rattle.bohm_text.proofs.Placed.{first_fault}
 use Rattle.bohm_text.proofs.windows.parse_first_window.Goals as goal

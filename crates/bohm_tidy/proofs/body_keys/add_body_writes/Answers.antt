@@ -1,4 +1,4 @@
-use Rattle.std.proofs.Common.{◌≡◌, ◌++◌, ap, ◌∙◌}
+use Rattle.std.proofs.Common.{◌++◌, ap, ◌∙◌}
 use Rattle.std.specs.Prelude.{Option, List, ℕ}
 use Rattle.bohm_types.specs.Parts.{target}
 use Rattle.bohm_types.specs.Stmt.{Stmt}

@@ -1,5 +1,4 @@
 use Rattle.std.proofs.Common.{◌≡◌, ◌≤◌, length}
-use Rattle.std.specs.Prelude.{List, ℕ}
 use Rattle.bohm_text.specs.Cut.{split}
 use Rattle.bohm_tidy.specs.Plain.{written, written_of, fed_all}
 use Rattle.bohm_tidy.proofs.plain.plain_text.Given as goal

@@ -13,7 +13,7 @@ returns-clause-listed c =
     let moved : IsPermutation c.args.store.now sorted =
     subst (λ (es : List (List ℕ × ℤ)). IsPermutation es sorted) copied c.sort_unstable_by.ensures.permutation in
     let rises : rising (names_of sorted) ≡ true =
-    ap (λ (es : List (List ℕ × ℤ)). rising (names_of es)) (sym c.as_slice.ensures.value) ∙ sym c.if-not-is_rising.ensures in
+    ap (λ (es : List (List ℕ × ℤ)). rising (names_of es)) (sym c.as_slice.ensures.value) ∙ sym c.if-not-is_store_rising.ensures in
     entries_moved c.args.store.now sorted moved rises
 
 pub returns-clause-distinct : goal.returns-clause-distinct
@@ -24,5 +24,5 @@ returns-clause-distinct c =
     let moved : IsPermutation c.args.store.now sorted =
     subst (λ (es : List (List ℕ × ℤ)). IsPermutation es sorted) copied c.sort_unstable_by.ensures.permutation in
     let rises : rising (names_of sorted) ≡ true =
-    ap (λ (es : List (List ℕ × ℤ)). rising (names_of es)) (sym c.as_slice.ensures.value) ∙ sym c.if-not-is_rising.ensures in
+    ap (λ (es : List (List ℕ × ℤ)). rising (names_of es)) (sym c.as_slice.ensures.value) ∙ sym c.if-not-is_store_rising.ensures in
     distinct_moved c.args.store.now sorted moved rises

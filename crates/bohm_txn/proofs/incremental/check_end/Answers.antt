@@ -1,4 +1,4 @@
-use Rattle.std.proofs.Common.{◌≡◌, ◌≤◌, length, ap, sym, ◌∙◌, arith}
+use Rattle.std.proofs.Common.{sym, ◌∙◌}
 use Rattle.bohm_txn.proofs.Chunked.{end_none, end_some, store_some, some_not, limit_fault, is_none}
 use Rattle.bohm_txn.proofs.incremental.check_end.Goals as goal
 

@@ -1,5 +1,5 @@
-use Rattle.std.proofs.Common.{◌≡◌, ◌+◌, ◌≤◌, None, Some, refl, length, sym, ◌∙◌, arith}
-use Rattle.bohm_txn.proofs.Chunked.{checked_kept, is_none, some_not, more_none, more_some, too_many, formed_chunk, fault_within}
+use Rattle.std.proofs.Common.{refl, sym, ◌∙◌, arith}
+use Rattle.bohm_txn.proofs.Chunked.{checked_kept, is_none, some_not, more_none, more_some, formed_chunk, fault_within}
 use Rattle.bohm_txn.specs.FirstFault.{first_in_log}
 use Rattle.bohm_txn.proofs.incremental.check_more.Goals as goal
 

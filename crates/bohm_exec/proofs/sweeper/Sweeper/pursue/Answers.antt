@@ -9,9 +9,11 @@ use Rattle.bohm_board.specs.Batches.{Wants}
 use Rattle.bohm_board.specs.Passes.{batch_of, view}
 use Rattle.bohm_board.proofs.ForCallers.{keeps_same, keeps_then}
 use Rattle.bohm_exec.specs.Steps.{IsFree}
-use Rattle.bohm_exec.proofs.Descents.{shorter, IsDescent, starts, pushed, last_of, top_is, only, pop_falls, push_falls, fits_below}
+use Rattle.bohm_exec.proofs.Descents.{shorter, IsDescent, starts, pushed, last_of, top_of, left_to_do, top_is, only, pop_falls, push_falls, fits_below}
 use Rattle.bohm_exec.proofs.Steppers.{same_then}
+use Rattle.bohm_exec.proofs.sweeper.Sweeper.pursue.Given as given
 use Rattle.bohm_exec.proofs.sweeper.Sweeper.pursue.Goals as goal
+use Rattle.bohm_exec.proofs.sweeper.Sweeper.pursue.Goals.{After-pop, In-Needs}
 
 pub descent-init : goal.descent-init
 descent-init g c =
@@ -27,6 +29,38 @@ descent-init g c =
           (starts b c.args.start done c.requires.start.inside);
     }
 
+-- the top was taken off
+top_taken : (g : given.Over) (c : After-pop g) → c.descent.self.stack.now.items ≡ c.pop.new.self.items ++ top_of c.descent.self.stack.now.items ∷ []
+top_taken g c =
+    let xs = c.descent.self.stack.now.items in
+    let ys = c.pop.new.self.items in
+    let some = c.descent.invariant.stack.some in
+    let kept = c.step_on.ensures.stack in
+    let cases = subst
+    (λ (z : Vec ℕ Global). MatchOption c.pop.result ((vec_len z ≡ 0) × (vec_len c.pop.new.self ≡ 0)) (λ _. vec_len c.pop.new.self + 1 ≡ vec_len z)) kept
+    c.pop.ensures.cases in
+    let less = shorter _ (vec_len c.descent.self.stack.now) (vec_len c.pop.new.self) cases (search (rules, some)) in
+    let less' : length ys < length xs = search (rules, less) in
+    last_of xs ys c.pop.result (ap (λ (z : Vec ℕ Global). z.items) (sym kept) ∙ c.pop.ensures.items) less'
+
+-- the top wants the one that goes on the stack
+wanted : (g : given.Over) (c : In-Needs g) → Wants (batch_of c.args.self.now.stepper.board.now) (top_of c.descent.self.stack.now.items) c.in-Needs.u
+wanted g c =
+    let inv = c.descent.invariant in
+    let top = top_is c.descent.self.stack.now.items c.len.result c.index-top.result.now inv.stack.some (search rules) c.index-top.ensures in
+    subst (λ (z : ℕ × Bor Board). Wants (batch_of z.1.now) z.0 c.in-Needs.u) (λ i. (top i, inv.same.board i)) c.in-Needs.ensures.step_on.took.wants
+
+-- the rest of the stack is nearer to its end
+popped : (g : given.Over) (c : After-pop g) → 0 < length c.pop.new.self.items
+    → (left_to_do (batch_of c.args.self.now.stepper.board.now) (view c.step_on.new.self.stepper.pass.now).done c.pop.new.self.items
+    < left_to_do (batch_of c.args.self.now.stepper.board.now) (view c.descent.self.stepper.pass.now).done c.descent.self.stack.now.items)
+    × IsDescent (batch_of c.args.self.now.stepper.board.now) c.args.start (view c.step_on.new.self.stepper.pass.now).done c.pop.new.self.items
+popped g c = pop_falls (batch_of c.args.self.now.stepper.board.now) c.args.start (view c.descent.self.stepper.pass.now).done
+    (view c.step_on.new.self.stepper.pass.now).done c.descent.self.stack.now.items c.pop.new.self.items c.index-top.result.now
+    c.descent.invariant.stack (top_taken g c)
+    (top_is c.descent.self.stack.now.items c.len.result c.index-top.result.now c.descent.invariant.stack.some (search rules) c.index-top.ensures)
+    c.in-Done.ensures.step_on.took.done
+
 pub returns-then-is_empty-clause-done : goal.returns-then-is_empty-clause-done
 returns-then-is_empty-clause-done g c =
     let b = batch_of c.args.self.now.stepper.board.now in
@@ -34,68 +68,28 @@ returns-then-is_empty-clause-done g c =
     let ys = c.pop.new.self.items in
     let done = (view c.descent.self.stepper.pass.now).done in
     let d = c.descent.invariant.stack in
-    let some = d.some in
-    let kept = c.step_on.ensures.stack in
-    let cases = subst
-    (λ (z : Vec ℕ Global). MatchOption c.pop.result ((vec_len z ≡ 0) × (vec_len c.pop.new.self ≡ 0)) (λ _. vec_len c.pop.new.self + 1 ≡ vec_len z)) kept
-    c.pop.ensures.cases in
-    let less = shorter _ (vec_len c.descent.self.stack.now) (vec_len c.pop.new.self) cases (search (rules, some)) in
-    let less' : length ys < length xs = search (rules, less) in
-    let e = last_of xs ys c.pop.result (ap (λ (z : Vec ℕ Global). z.items) (sym kept) ∙ c.pop.ensures.items) less' in
     let top = top_is xs c.len.result c.index-top.result.now d.some (search rules) c.index-top.ensures in
-    let none : length ys ≡ 0 = search rules in
-    let first = only b c.args.start done xs ys d e none in
+    let first = only b c.args.start done xs ys d (top_taken g (goal.at.returns-then-is_empty-clause-done g c).After-pop) (search rules) in
     let here : Contains (done ++ c.index-top.result.now ∷ []) c.args.start =
     subst (λ (z : ℕ). Contains (done ++ c.index-top.result.now ∷ []) z) (top ∙ first) (Contains-push _ _) in
     subst (λ (z : List ℕ). Contains z c.args.start) (sym c.in-Done.ensures.step_on.took.done) here
 
 pub descent-smaller-else-is_empty : goal.descent-smaller-else-is_empty
-descent-smaller-else-is_empty g c =
-    let b = batch_of c.args.self.now.stepper.board.now in
-    let xs = c.descent.self.stack.now.items in
-    let ys = c.pop.new.self.items in
-    let d = c.descent.invariant.stack in
-    let some = d.some in
-    let kept = c.step_on.ensures.stack in
-    let cases = subst
-    (λ (z : Vec ℕ Global). MatchOption c.pop.result ((vec_len z ≡ 0) × (vec_len c.pop.new.self ≡ 0)) (λ _. vec_len c.pop.new.self + 1 ≡ vec_len z)) kept
-    c.pop.ensures.cases in
-    let less = shorter _ (vec_len c.descent.self.stack.now) (vec_len c.pop.new.self) cases (search (rules, some)) in
-    let less' : length ys < length xs = search (rules, less) in
-    let e = last_of xs ys c.pop.result (ap (λ (z : Vec ℕ Global). z.items) (sym kept) ∙ c.pop.ensures.items) less' in
-    let top = top_is xs c.len.result c.index-top.result.now d.some (search rules) c.index-top.ensures in
-    let left : 0 < length ys = search rules in
-    (pop_falls b c.args.start (view c.descent.self.stepper.pass.now).done
-    (view c.step_on.new.self.stepper.pass.now).done xs ys c.index-top.result.now d e top c.in-Done.ensures.step_on.took.done left).0
+descent-smaller-else-is_empty g c = (popped g (goal.at.descent-smaller-else-is_empty g c).After-pop (search rules)).0
 
 pub descent-preserved-else-is_empty : goal.descent-preserved-else-is_empty
 descent-preserved-else-is_empty g c =
     let s = c.args.self.now.stepper in
     let now = c.descent.self.stepper in
     let new = c.step_on.new.self.stepper in
-    let b = batch_of s.board.now in
-    let xs = c.descent.self.stack.now.items in
-    let ys = c.pop.new.self.items in
     let inv = c.descent.invariant in
-    let d = inv.stack in
-    let some = d.some in
-    let kept = c.step_on.ensures.stack in
-    let cases = subst
-    (λ (z : Vec ℕ Global). MatchOption c.pop.result ((vec_len z ≡ 0) × (vec_len c.pop.new.self ≡ 0)) (λ _. vec_len c.pop.new.self + 1 ≡ vec_len z)) kept
-    c.pop.ensures.cases in
-    let less = shorter _ (vec_len c.descent.self.stack.now) (vec_len c.pop.new.self) cases (search (rules, some)) in
-    let less' : length ys < length xs = search (rules, less) in
-    let e = last_of xs ys c.pop.result (ap (λ (z : Vec ℕ Global). z.items) (sym kept) ∙ c.pop.ensures.items) less' in
-    let top = top_is xs c.len.result c.index-top.result.now d.some (search rules) c.index-top.ensures in
-    let wide = ap (λ (z : Vec ℕ Global). vec_capacity z) kept in
-    let left : 0 < length ys = search rules in record {
+    let wide = ap (λ (z : Vec ℕ Global). vec_capacity z) c.step_on.ensures.stack in record {
       same = same_then s now new inv.same c.step_on.ensures.step_on.same;
       free = subst (λ (z : Bor Board). IsFree z.now new.pass.now) inv.same.board c.step_on.ensures.step_on.free;
       room = search (rules, wide);
       keeps = keeps_then (view s.pass.now) (view now.pass.now) (view new.pass.now) inv.keeps c.step_on.ensures.step_on.keeps;
       busy = c.in-Done.ensures.step_on.took.busy ∙ inv.busy;
-      stack = (pop_falls b c.args.start (view now.pass.now).done
-          (view new.pass.now).done xs ys c.index-top.result.now d e top c.in-Done.ensures.step_on.took.done left).1;
+      stack = (popped g (goal.at.descent-preserved-else-is_empty g c).After-pop (search rules)).1;
     }
 
 pub descent-smaller : goal.descent-smaller
@@ -105,8 +99,7 @@ descent-smaller g c =
     let u = c.in-Needs.u in
     let need = c.in-Needs.ensures.step_on.took in
     let inv = c.descent.invariant in
-    let top = top_is xs c.len.result c.index-top.result.now inv.stack.some (search rules) c.index-top.ensures in
-    let wants = subst (λ (z : ℕ × Bor Board). Wants (batch_of z.1.now) z.0 u) (λ i. (top i, inv.same.board i)) need.wants in
+    let wants = wanted g (goal.at.descent-smaller g c).In-Needs in
     let grown = c.in-Ok-push.ensures.items ∙ ap (λ (z : Vec ℕ Global). z.items ++ u ∷ []) c.step_on.ensures.stack in
     push_falls b c.args.start (view c.descent.self.stepper.pass.now).done
     (view c.step_on.new.self.stepper.pass.now).done xs c.push-in-Needs.new.self.items u inv.stack grown wants need.done
@@ -121,8 +114,7 @@ descent-preserved g c =
     let u = c.in-Needs.u in
     let need = c.in-Needs.ensures.step_on.took in
     let inv = c.descent.invariant in
-    let top = top_is xs c.len.result c.index-top.result.now inv.stack.some (search rules) c.index-top.ensures in
-    let wants = subst (λ (z : ℕ × Bor Board). Wants (batch_of z.1.now) z.0 u) (λ i. (top i, inv.same.board i)) need.wants in
+    let wants = wanted g (goal.at.descent-preserved g c).In-Needs in
     let grown = c.in-Ok-push.ensures.items ∙ ap (λ (z : Vec ℕ Global). z.items ++ u ∷ []) c.step_on.ensures.stack in
     let wide = ap (λ (z : Vec ℕ Global). vec_capacity z) c.step_on.ensures.stack in
     let d' = pushed b c.args.start (view now.pass.now).done xs u inv.stack wants need.undone in record {
@@ -139,10 +131,8 @@ unreachable-requires-in_default-push g c =
     let b = batch_of c.args.self.now.stepper.board.now in
     let xs = c.descent.self.stack.now.items in
     let u = c.in-Needs.u in
-    let need = c.in-Needs.ensures.step_on.took in
     let inv = c.descent.invariant in
-    let top = top_is xs c.len.result c.index-top.result.now inv.stack.some (search rules) c.index-top.ensures in
-    let wants = subst (λ (z : ℕ × Bor Board). Wants (batch_of z.1.now) z.0 u) (λ i. (top i, inv.same.board i)) need.wants in
+    let wants = wanted g (goal.at.unreachable-requires-in_default-push g c).In-Needs in
     let fits = fits_below b c.args.start (view c.descent.self.stepper.pass.now).done xs u inv.stack wants in
     let full = c.in_default-push.ensures.full in
     let room = c.requires.stack.room in

@@ -5,4 +5,4 @@ use Rattle.bohm_log.proofs.columns.Columns.add_arguments.Goals as goal
 pub returns-in_err-add_argument-clause-err : goal.returns-in_err-add_argument-clause-err
 returns-in_err-add_argument-clause-err g c =
     let p = err_from_is_err_and c.from_residual.result c.from_residual.ensures.1 in
-    rw p.1 (interns_both _ _ _ c.loop-name.invariant.interns c.in_err-add_argument.ensures.err)
+    rw p.1 (interns_both _ _ _ c.loop-name.invariant.0.interns c.in_err-add_argument.ensures.err)

@@ -1,4 +1,4 @@
-use Rattle.std.proofs.Common.{ℕ, List, map, subst, arith}
+use Rattle.std.proofs.Common.{ℕ, List, map, ap, length, subst, arith}
 use Rattle.std.proofs.lemmas.Result.{err_from_is_err_and}
 use Rattle.bohm_types.specs.KeySets.{key_set}
 use Rattle.bohm_log.specs.Calling.{argument_of}
@@ -24,8 +24,17 @@ returns-clause-ok g c =
     let reads : NumbersCome (shared_of c.args.self.now) (shared_of c.add_set.new.self) (key_set (map f c.args.body.now.reads.items)) =
     subst (λ (ns : List DeclaredName). NumbersCome (shared_of c.args.self.now) (shared_of c.add_set.new.self) (key_set (map f ns)))
     c.as_slice.ensures.value c.in_ok-add_set.ensures.ok in
-    sets_come (shared_of c.args.self.now) (shared_of c.add_set.new.self) (shared_of c.add_written_set.new.self) _ _ _ _ _ (omega arith) reads
-    (omega arith) c.in_ok-add_written_set.ensures.ok (omega arith)
+    sets_come (shared_of c.args.self.now) (shared_of c.add_set.new.self) (shared_of c.add_written_set.new.self) _ _ _ _ _
+    (omega (arith, c.in_ok-start.ensures.ok)) reads
+    (omega (arith, c.in_ok-middle.ensures.ok)) c.in_ok-add_written_set.ensures.ok (omega (arith, c.in_ok-end.ensures.ok))
+    (omega (
+      arith,
+      c.in_ok-add_set.ensures.few,
+      c.in_ok-add_written_set.ensures.few,
+      ap length c.as_slice.ensures.value,
+      c.requires.reads,
+      c.requires.writes,
+    ))
 
 pub add_written_set-requires-clause-end : goal.add_written_set-requires-clause-end
 add_written_set-requires-clause-end g c =
@@ -33,4 +42,4 @@ add_written_set-requires-clause-end g c =
     let reads : NumbersCome (shared_of c.args.self.now) (shared_of c.add_set.new.self) (key_set (map f c.args.body.now.reads.items)) =
     subst (λ (ns : List DeclaredName). NumbersCome (shared_of c.args.self.now) (shared_of c.add_set.new.self) (key_set (map f ns)))
     c.as_slice.ensures.value c.in_ok-add_set.ensures.ok in
-    come_last _ _ _ c.in_ok-start.start (omega arith) reads
+    come_last _ _ _ c.in_ok-start.start (omega (arith, c.in_ok-start.ensures.ok)) reads

@@ -35,14 +35,14 @@ returns-then-places-clause-ok g c =
     let start : c.len-start.result ≡ length c.args.self.now.ids.items = omega arith in
     itself_comes _ _ _ _ _ _ _ start c.in_ok-add_arguments.ensures.ok c.as_slice.ensures.names
     (ids_behind c.as_slice-2.result.now _ c.len-start.result c.as_slice-2.ensures.value)
-    c.in_ok-settle.ensures c.if-places.true
+    c.in_ok-settle.ensures.ok c.if-places.true
 
 pub returns-then-places-clause-places : goal.returns-then-places-clause-places
 returns-then-places-clause-places g c =
     let start : c.len-start.result ≡ length c.args.self.now.ids.items = omega arith in
     places_come _ _ _ _ _ _ _ start c.in_ok-add_arguments.ensures.ok c.as_slice.ensures.names
     (ids_behind c.as_slice-2.result.now _ c.len-start.result c.as_slice-2.ensures.value)
-    c.in_ok-settle.ensures
+    c.in_ok-settle.ensures.ok
 
 pub returns-in_err-extend_from_slice-clause-err : goal.returns-in_err-extend_from_slice-clause-err
 returns-in_err-extend_from_slice-clause-err g c =
@@ -66,7 +66,7 @@ returns-clause-ok g c =
     let ids = c.in_ok-extend_from_slice.ensures.items ∙ (λ j. c.truncate.ensures.items j ++ c.as_slice-3.ensures.value j) in
     sorted_comes _ d _ _ _ _ _ _ start c.in_ok-add_arguments.ensures.ok c.as_slice.ensures.names
     (ids_behind c.as_slice-2.result.now _ c.len-start.result c.as_slice-2.ensures.value)
-    c.in_ok-settle.ensures c.if-places.false
+    c.in_ok-settle.ensures.ok c.if-places.false
     (λ i. record { names = d.names; ids = ids i; others = d.others; large = d.large; terms = d.terms; rows = d.rows })
 
 pub returns-clause-places : goal.returns-clause-places
@@ -74,4 +74,4 @@ returns-clause-places g c =
     let start : c.len-start.result ≡ length c.args.self.now.ids.items = omega arith in
     places_come _ _ _ _ _ _ _ start c.in_ok-add_arguments.ensures.ok c.as_slice.ensures.names
     (ids_behind c.as_slice-2.result.now _ c.len-start.result c.as_slice-2.ensures.value)
-    c.in_ok-settle.ensures
+    c.in_ok-settle.ensures.ok

@@ -17,7 +17,9 @@ returns-in_err-end-clause-err g c =
 pub returns-clause-ok : goal.returns-clause-ok
 returns-clause-ok g c =
     sets_come (shared_of c.args.self.now) (shared_of c.add_names.new.self) (shared_of c.add_written.new.self) _ _ _ _ _
-    (omega arith) c.in_ok-add_names.ensures.ok (omega arith) c.in_ok-add_written.ensures.ok (omega arith)
+    (omega (arith, c.in_ok-start.ensures.ok)) c.in_ok-add_names.ensures.ok (omega (arith, c.in_ok-middle.ensures.ok))
+    c.in_ok-add_written.ensures.ok (omega (arith, c.in_ok-end.ensures.ok))
+    (omega (arith, c.in_ok-add_names.ensures.few, c.in_ok-add_written.ensures.few))
 
 pub add_written-requires : goal.add_written-requires
-add_written-requires g c = come_last _ _ c.args.reads.now c.in_ok-start.start (omega arith) c.in_ok-add_names.ensures.ok
+add_written-requires g c = come_last _ _ c.args.reads.now c.in_ok-start.start (omega (arith, c.in_ok-start.ensures.ok)) c.in_ok-add_names.ensures.ok

@@ -1,3 +1,4 @@
+use Rattle.std.proofs.Common.{arith}
 use Rattle.std.proofs.lemmas.Result.{err_from_is_err_and}
 use Rattle.bohm_log.proofs.Widening.{interns_both, numbered_next, still_stand}
 use Rattle.bohm_log.proofs.columns.Columns.add_writes.Goals as goal
@@ -5,11 +6,14 @@ use Rattle.bohm_log.proofs.columns.Columns.add_writes.Goals as goal
 pub returns-in_err-add_write-clause-err : goal.returns-in_err-add_write-clause-err
 returns-in_err-add_write-clause-err g c =
     let p = err_from_is_err_and c.from_residual.result c.from_residual.ensures.1 in
-    rw p.1 (interns_both _ _ _ c.loop-name.invariant.interns c.in_err-add_write.ensures.err)
+    rw p.1 (interns_both _ _ _ c.loop-name.invariant.0.interns c.in_err-add_write.ensures.err)
 
 pub loop-name-preserved : goal.loop-name-preserved
-loop-name-preserved g c = numbered_next _ _ _ c.args.writes.now c.loop-name.name-index c.name-item.result c.loop-name-test.true c.name-item.is
-    c.loop-name.invariant c.in_ok-add_write.ensures.ok
+loop-name-preserved g c = (
+  numbered_next _ _ _ c.args.writes.now c.loop-name.name-index c.name-item.result c.loop-name-test.true c.name-item.is
+      c.loop-name.invariant.0 c.in_ok-add_write.ensures.ok,
+  omega (arith, c.loop-name.invariant.1, c.in_ok-add_write.ensures.few),
+)
 
 pub add_write-requires : goal.add_write-requires
-add_write-requires g c = still_stand _ _ c.args.reads.now c.args.start c.loop-name.invariant.interns.widens c.requires
+add_write-requires g c = still_stand _ _ c.args.reads.now c.args.start c.loop-name.invariant.0.interns.widens c.requires

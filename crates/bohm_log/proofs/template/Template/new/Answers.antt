@@ -1,4 +1,4 @@
-use Rattle.std.proofs.Common.{◌≡◌, ℕ, List, ◌∙◌, refl, sym, subst, ap, map, rules}
+use Rattle.std.proofs.Common.{◌≡◌, ℕ, List, ◌∙◌, refl, sym, subst, ap, map, length, arith, rules}
 use Rattle.std.specs.List.{IsDistinct}
 use Rattle.std.specs.Str.{bytes_eq}
 use Rattle.bohm_log.specs.declared.template.BodyColumns.{BodyColumns}
@@ -11,6 +11,7 @@ use Rattle.bohm_log.specs.SoundLogs.{AreNames, IsSoundProcedure}
 use Rattle.bohm_log.proofs.InstanceSound.{procedure_sound}
 use Rattle.bohm_log.proofs.Standing.{with_others}
 use Rattle.bohm_log.proofs.Locals.{made, made_well}
+use Rattle.bohm_log.proofs.Measuring.{filled_made}
 use Rattle.bohm_log.proofs.Arguments.{parts_made, stays_made, template_made}
 use Rattle.bohm_log.proofs.template.Template.new.Goals as goal
 
@@ -54,6 +55,8 @@ invariant_of-result g c =
           (λ is. stays_made body _ _ _ _ c.as_slice-6.ensures.value c.as_slice-7.ensures.value (search rules) (search rules)
           (c.body_stays-stays.ensures.terms is) (c.body_stays-stays.ensures.rows is)),
       subst IsSoundProcedure (sym is) (procedure_sound c.args.draft.txn keys c.args.values.now c.into_parts-edition.ensures.sound named c.are_names-2.ensures),
+      filled_made p (parts_in body) c.args.draft keys c.args.values.now _ c.into_parts-edition.ensures.counted refl refl refl
+          (omega (arith, ap length same, c.in_ok-place_names.ensures.longer)) is c.requires.short,
     )
 
 pub returns-clause-ok : goal.returns-clause-ok

@@ -1,5 +1,6 @@
 use Rattle.std.proofs.Common.{◌≡◌, ◌∙◌, sym, ap, length}
 use Rattle.bohm_types.specs.Procedure.{Procedure}
+use Rattle.bohm_log.specs.Handles.{keys_named}
 use Rattle.bohm_procedures.proofs.InstanceLaw.{instance_well}
 use Rattle.bohm_procedures.proofs.calls.Calls.push.Goals as goal
 
@@ -7,4 +8,4 @@ pub push_call-requires-clause-well_formed : goal.push_call-requires-clause-well_
 push_call-requires-clause-well_formed c =
     let count : length c.args.values.now ≡ length c.template-template.result.now.values =
     c.requires.values ∙ ap (λ (p : Procedure). length p.values) (sym c.template-template.ensures.same) in
-    instance_well c.template-template.result.now c.args.keys.now c.args.values.now c.template-template.ensures.accepted count
+    instance_well c.template-template.result.now (keys_named c.as_slice-handles.result.now) c.args.values.now c.template-template.ensures.accepted count

@@ -1,8 +1,7 @@
-use Rattle.std.proofs.Common.{◌≡◌, ℕ, List, Err, ap, sym, subst, ◌∙◌}
+use Rattle.std.proofs.Common.{◌≡◌, ℕ, Err, ap, sym, subst}
 use Rattle.std.proofs.lemmas.Result.{err_from_is_err_and}
 use Rattle.bohm_procedures.specs.declared.fault.ProcedureFault.TheVariants as faults
 use Rattle.bohm_types.specs.Txn.{Txn}
-use Rattle.bohm_types.specs.Procedure.{Procedure}
 use Rattle.bohm_txn.specs.Faulty.{IsFirstFault, alone}
 use Rattle.bohm_text.specs.Cut.{whole_lines}
 use Rattle.bohm_text.specs.ProcedureFaults.{IsFirstBadLine}

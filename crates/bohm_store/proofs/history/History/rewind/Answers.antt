@@ -1,8 +1,11 @@
-use Rattle.std.proofs.Common.{◌≡◌, ◌≤◌, ◌∙◌, List, ℕ, ap, refl}
+use Rattle.std.proofs.Common.{◌≡◌, ◌∙◌, List, ℕ, ap, refl, subst, sym}
+use Rattle.std.specs.List.{IsDistinct}
+use Rattle.std.specs.Str.{bytes_eq}
 use Rattle.bohm_types.specs.declared.cell.Cell.TheVariants.{Absent}
 use Rattle.bohm_store.specs.declared.version.Version.{Version}
 use Rattle.bohm_store.specs.Versions.{cell_at, versions, versions_to}
 use Rattle.bohm_store.specs.Numbered.{timeline, versions_at}
+use Rattle.bohm_store.proofs.Entries.{keys_named}
 use Rattle.bohm_store.proofs.Named.{mapped_versions}
 use Rattle.bohm_store.proofs.Rewound.{cell_to}
 use Rattle.bohm_store.proofs.history.History.rewind.Goals as goal
@@ -21,3 +24,8 @@ returns-clause-past c =
     λ k. mapped_versions (versions_at c.rewind.new.self) (versions_at h) (versions_to c.args.ts) names k refl c.rewind.ensures.versions in
     rw (← c.self.view_is) (λ t le. (let each : (k : List ℕ) → _ =
     λ k. ap (λ (vs : List Version). cell_at t vs Absent) (less k) ∙ cell_to c.args.ts t (versions (timeline names h) k) Absent le in λ i k. each k i))
+
+pub returns-clause-distinct : goal.returns-clause-distinct
+returns-clause-distinct c =
+    subst (λ (keys : List (List ℕ)). IsDistinct bytes_eq keys) (sym (keys_named (versions_at c.rewind.new.self) 0 c.self.inside.names))
+    c.as_slice.ensures.apart

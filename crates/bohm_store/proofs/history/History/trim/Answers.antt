@@ -4,7 +4,7 @@ use Rattle.bohm_types.specs.declared.cell.Cell.TheVariants.{Absent}
 use Rattle.bohm_store.specs.declared.version.Version.{Version}
 use Rattle.bohm_store.specs.Versions.{Rises, cell_at, kept_versions, versions}
 use Rattle.bohm_store.specs.Numbered.{timeline, versions_at}
-use Rattle.bohm_store.proofs.Bounds.{kept_no_more, named_no_more}
+use Rattle.bohm_store.proofs.Bounds.{trimmed_no_more}
 use Rattle.bohm_store.proofs.Past.{cell_at-kept}
 use Rattle.bohm_store.proofs.Named.{all_versions, mapped_versions}
 use Rattle.bohm_store.proofs.NewestVersion.{kept_members}
@@ -45,8 +45,5 @@ returns-clause-past c =
 
 pub returns-clause-count : goal.returns-clause-count
 returns-clause-count c =
-    let old = c.self.inside.numbered in
-    rw (← c.self.view_is) (named_no_more (versions_at c.trim.new.self) (versions_at old) 0 c.self.inside.names (λ n. ⊎_elim
-    (λ (lt : old.floor < c.args.floor). (let is = c.trim.ensures.versions lt n in rw is (kept_no_more c.args.floor (versions_at old n))))
-    (λ (le : c.args.floor ≤ old.floor). (let is = c.trim.ensures.unchanged le n in rw is (omega arith)))
-    (cases_lt old.floor c.args.floor)))
+    rw (← c.self.view_is) (trimmed_no_more (versions_at c.trim.new.self) (versions_at c.self.inside.numbered) c.self.inside.numbered.floor c.args.floor
+    c.self.inside.names c.trim.ensures.versions c.trim.ensures.unchanged)

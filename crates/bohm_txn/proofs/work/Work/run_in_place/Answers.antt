@@ -9,7 +9,7 @@ use Rattle.bohm_log.specs.Parts.{Parts, stmt_of, txn_of}
 use Rattle.bohm_types.specs.Accesses.{StmtWrites}
 use Rattle.bohm_txn.specs.Declares.{AllShort, shows_in}
 use Rattle.bohm_txn.specs.Room.{tables_of}
-use Rattle.bohm_txn.specs.Tables.{Tables, step}
+use Rattle.bohm_txn.specs.Tables.{step}
 use Rattle.bohm_txn.proofs.Bodies.{shows_first, step_shows}
 use Rattle.bohm_txn.proofs.Lists.{drop_at}
 use Rattle.bohm_txn.proofs.Evaluating.{each_at}

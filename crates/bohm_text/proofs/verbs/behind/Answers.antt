@@ -1,5 +1,0 @@
-use Rattle.bohm_text.proofs.Fronts.{behind_front}
-use Rattle.bohm_text.proofs.verbs.behind.Goals as goal
-
-pub returns : goal.returns
-returns c = behind_front c.args.line.now c.args.front.now c.strip_prefix.result c.strip_prefix.ensures.cases
