@@ -22,7 +22,7 @@
 
 /* The version, and the checksum of the sources that the library is built from. */
 #define BOHM_VERSION "0.1.0"
-#define BOHM_SOURCES "3ebc7d5870b1738ba1edaf9c38e64a402d5b55aedbd203f0ae28a64604108812"
+#define BOHM_SOURCES "037c8262923f21e2549b9d5c8953d7cb718edc17f474d1a0c29ad023f8db7dc9"
 
 /* The same, of the library that the program is linked with. */
 extern const char bohm_version[16], bohm_sources[65];

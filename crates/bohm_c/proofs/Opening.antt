@@ -1,5 +1,5 @@
 -- What is told of a snapshot that was read.
-use Rattle.std.proofs.Common.{◌≡◌, ℕ, List, Result, Ok, Err, IfOk, IfErr, sym, subst}
+use Rattle.std.proofs.Common.{ℕ, List, Result, Ok, Err, IfOk, IfErr, sym, subst}
 use Rattle.bohm_types.specs.Document.{Document}
 use Rattle.bohm_c.specs.Keeping.{IsOpened, IsOpening, IsRefusedOpening, IsUnopened}
 use Rattle.bohm_c.specs.Reading.{IsRead, IsRefused}

@@ -1,5 +1,5 @@
 -- Faults that are added one after another, until there are enough.
-use Rattle.std.proofs.Common.{◌≡◌, ℕ, suc, ◌+◌, ◌<◌, ◌≤◌, List, [], ◌∷◌, ◌++◌, length, take, drop, Some, refl, ap, sym, ◌∙◌}
+use Rattle.std.proofs.Common.{◌≡◌, ℕ, ◌+◌, ◌≤◌, List, [], ◌++◌, length, take, drop, Some, refl, ap, sym, ◌∙◌}
 use Rattle.std.specs.List.{slice_get}
 use Rattle.std.proofs.lemmas.List.{append_assoc, append-nil, drop_all}
 use Rattle.bohm_txn.proofs.ForCallers.{drop_at}

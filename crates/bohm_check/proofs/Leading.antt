@@ -1,8 +1,7 @@
 -- The first fault in the list is the one that the search finds.
-use Rattle.std.proofs.Common.{◌≡◌, ℕ, zero, suc, ◌+◌, List, [], ◌∷◌, ◌++◌, take, Bool, true, false, Option, Some, None, refl, ap, sym, ◌∙◌, subst}
+use Rattle.std.proofs.Common.{◌≡◌, ℕ, ◌+◌, List, [], ◌∷◌, ◌++◌, take, Bool, true, false, Option, Some, None, refl, ap, sym, subst}
 use Rattle.std.specs.Prelude.{if◌then◌else◌}
 use Rattle.std.specs.Option.{option_map}
-use Rattle.bohm_types.specs.Stmt.{Stmt}
 use Rattle.bohm_types.specs.Txn.{Txn}
 use Rattle.bohm_types.specs.Document.{Document}
 use Rattle.bohm_txn.specs.declared.fault.CheckFault.{CheckFault}

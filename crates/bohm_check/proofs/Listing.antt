@@ -1,19 +1,18 @@
 -- Each fault in the list of a document's faults is one, with its line, and each fault is in it.
-use Rattle.std.proofs.Common.{◌≡◌, ℕ, zero, suc, ◌+◌, ◌<◌, ◌≤◌, List, [], ◌∷◌, ◌++◌, take, length, Bool, true}
+use Rattle.std.proofs.Common.{◌≡◌, ℕ, zero, suc, ◌+◌, ◌<◌, ◌≤◌, List, [], ◌∷◌, take, length, Bool, true}
 use Rattle.std.proofs.Common.{false, Some, Contains, refl, ap, sym, ◌∙◌, subst, zero-add, add-one, arith}
 use Rattle.std.specs.List.{All, slice_get}
-use Rattle.std.proofs.lemmas.List.{take_all, length-take}
 use Rattle.std.proofs.lemmas.List.Elements.{All-append, All-take, Contains-append_left, Contains-append_right}
 use Rattle.bohm_types.specs.Stmt.{Stmt}
 use Rattle.bohm_types.specs.Txn.{Txn}
 use Rattle.bohm_types.specs.Document.{Document}
 use Rattle.bohm_txn.specs.declared.fault.CheckKind.{CheckKind}
 use Rattle.bohm_txn.specs.declared.fault.CheckKind.TheVariants.{Order, Unread, Unwritten, Local, Limit}
-use Rattle.bohm_txn.specs.Faulty.{Faulty, faulty, txn_faulty, whole_faulty, sets_faulty, stmt_faulty}
+use Rattle.bohm_txn.specs.Faulty.{Faulty, txn_faulty, whole_faulty, sets_faulty, stmt_faulty}
 use Rattle.bohm_check.specs.declared.told.Told.{Told}
 use Rattle.bohm_check.specs.Lines.{line_in, line_of, opening_line, sets_line, whole_line}
 use Rattle.bohm_check.specs.Faults.{IsTold, told_at}
-use Rattle.bohm_check.specs.All.{told_of, told_if, kinds_told, each_from, stmt_told, body_told, txn_told, log_told, doc_told}
+use Rattle.bohm_check.specs.All.{told_of, told_if, kinds_told, each_from, stmt_told, txn_told, doc_told}
 use Rattle.bohm_check.proofs.Lists.{single, none, it, passes, passed}
 
 -- ---- each in the list is a fault

@@ -10,7 +10,7 @@ use Rattle.std.specs.BTreeSet.{BTreeSet, IsEmpty, Updates}
 use Rattle.std.specs.Cmp.Lexicographic.{slice_cmp}
 use Rattle.std.specs.Ordering.{nat_cmp}
 use Rattle.std.proofs.lemmas.Map.Text.{is_eq-slice_cmp}
-use Rattle.bohm_types.specs.Keys.{is_among, some_passes}
+use Rattle.bohm_types.specs.Keys.{some_passes}
 use Rattle.bohm_types.specs.Parts.{sums, tested, target, bound}
 use Rattle.bohm_types.specs.Stmt.{Stmt}
 use Rattle.bohm_types.specs.Term.{Atom, Lit, Read, Local}

@@ -4,7 +4,7 @@ use Rattle.std.specs.FinMap.{entries}
 use Rattle.sha2.specs.Sha256.{sha256}
 use Rattle.bohm_text.specs.Print.{print_store}
 use Rattle.bohm_txn.specs.Meaning.{Look}
-use Rattle.bohm_txn.specs.Stores.{Store, cell_in, store_of}
+use Rattle.bohm_txn.specs.Stores.{Store, store_of}
 use Rattle.bohm_txn.proofs.ForCallers.{same_store}
 use Rattle.bohm_machine.specs.Digests.{IsDigest}
 

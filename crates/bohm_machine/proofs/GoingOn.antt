@@ -1,5 +1,5 @@
 -- What a machine had run, and what it runs on.
-use Rattle.std.proofs.Common.{◌≡◌, ℕ, zero, suc, ◌+◌, ◌-◌, ◌<◌, ◌≤◌, ◌^◌, ◌++◌, List, [], length, length-append, take, refl, ap, sym, ◌∙◌, arith, ⊎_elim}
+use Rattle.std.proofs.Common.{◌≡◌, ℕ, ◌+◌, ◌-◌, ◌<◌, ◌≤◌, ◌^◌, ◌++◌, List, [], length, length-append, take, refl, ap, sym, ◌∙◌, arith, ⊎_elim}
 use Rattle.std.proofs.lemmas.List.{length-take}
 use Rattle.std.proofs.lemmas.Bool.{cases_lt}
 use Rattle.bohm_types.specs.Txn.{Txn}

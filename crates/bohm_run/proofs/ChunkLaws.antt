@@ -1,15 +1,14 @@
 -- Chunk after chunk is the whole log.
-use Rattle.std.proofs.Common.{◌≡◌, ◌⊎◌, inl, inr, ⊎_elim, ℕ, ◌+◌, ◌≤◌, ◌<◌, ◌++◌, List, [], ◌∷◌, length}
+use Rattle.std.proofs.Common.{◌≡◌, inl, inr, ⊎_elim, ℕ, ◌+◌, ◌≤◌, ◌<◌, ◌++◌, List, [], ◌∷◌, length}
 use Rattle.std.proofs.Common.{length-append, append_assoc, append-nil, refl, ap, sym, subst, ◌∙◌, arith}
 use Rattle.std.specs.Prelude.{Option, Some, None, true, false, is_some}
 use Rattle.std.proofs.lemmas.Bool.{cases_lt}
 use Rattle.bohm_types.specs.Document.{Document}
 use Rattle.bohm_types.specs.Txn.{Txn}
 use Rattle.bohm_txn.specs.declared.fault.CheckFault.{CheckFault}
-use Rattle.bohm_txn.specs.declared.outcome.Reply.{Reply}
 use Rattle.bohm_txn.specs.Chunked.{IsCheckedTo, IsCountOf}
 use Rattle.bohm_txn.proofs.ForCallers.{length-replies}
-use Rattle.bohm_store.specs.Versions.{Timeline, past}
+use Rattle.bohm_store.specs.Versions.{past}
 use Rattle.bohm_text.specs.Print.{print_numbered}
 use Rattle.bohm_text.specs.Windows.{with_log}
 use Rattle.bohm_text.proofs.ForCallers.{numbered-append}

@@ -1,5 +1,5 @@
 -- Bytes written in parts, and a part of which the writer refused some.
-use Rattle.std.proofs.Common.{◌≡◌, List, ℕ, [], ◌++◌, Result, Ok, Err, Some, None, OnOk, OnErr, sym, ap, ◌∙◌, append_assoc, append-nil}
+use Rattle.std.proofs.Common.{List, ℕ, [], ◌++◌, Result, Ok, Err, Some, None, OnOk, OnErr, sym, ap, ◌∙◌, append_assoc, append-nil}
 use Rattle.std.specs.Prelude.{Option}
 use Rattle.std.specs.Io.KnownBytes.{Appends, Keeps}
 use Rattle.bohm_run.specs.FaultLine.{AppendsFront}

@@ -1,12 +1,10 @@
 -- Wave after wave, read and run.
-use Rattle.std.proofs.Common.{◌≡◌, ◌⊎◌, inl, inr, ℕ, ℤ, ◌+◌, ◌≤◌, ◌++◌, List, [], ◌∷◌, Bool, true, false, length}
-use Rattle.std.proofs.Common.{length-append, refl, append_assoc, append-nil, ap, sym, subst, ◌∙◌, arith, take}
-use Rattle.std.specs.Prelude.{Option, Some, None, not}
-use Rattle.std.specs.FinMap.{entries}
+use Rattle.std.proofs.Common.{◌≡◌, inl, ℕ, ◌≤◌, ◌++◌, List, [], Bool, true, length}
+use Rattle.std.proofs.Common.{refl, append_assoc, append-nil, ap, sym, subst, ◌∙◌, arith, take}
+use Rattle.std.specs.Prelude.{Option, None}
 use Rattle.std.proofs.Math.Seq.{take-length}
 use Rattle.std.proofs.lemmas.Grind.{flat_map-append}
 use Rattle.bohm_types.specs.Document.{Document}
-use Rattle.bohm_types.specs.Keys.{rising, names_of}
 use Rattle.bohm_types.specs.Txn.{Txn}
 use Rattle.bohm_types.specs.declared.edition.Edition.{Edition}
 use Rattle.bohm_txn.specs.Chunked.{IsCheckedTo, IsCountOf, store_fault}
@@ -14,28 +12,27 @@ use Rattle.bohm_txn.specs.Faulty.{WellFormed, IsFirstFault}
 use Rattle.bohm_txn.specs.Stores.{cell_in, store_of}
 use Rattle.bohm_txn.specs.declared.fault.CheckFault.{CheckFault}
 use Rattle.bohm_txn.proofs.ForCallers.{store_checked, few_txns, no_store_fault_of, length-replies}
-use Rattle.bohm_store.specs.Versions.{Timeline, past}
+use Rattle.bohm_store.specs.Versions.{past}
 use Rattle.bohm_text.specs.Print.{print_doc}
 use Rattle.bohm_text.specs.Windows.{with_log}
 use Rattle.bohm_text.specs.Windowing.{document_of_first}
-use Rattle.bohm_text.specs.declared.fault.TextFault.TheVariants as texts
 use Rattle.bohm_text.specs.declared.windows.Chunk.{Chunk}
 use Rattle.bohm_text.specs.declared.windows.FirstWindow.{FirstWindow}
 use Rattle.bohm_reading.specs.declared.fault.ReadingFault.{ReadingFault}
 use Rattle.bohm_reading.specs.declared.fault.ReadingFault.TheVariants as reading
 use Rattle.bohm_reading.specs.declared.reading.Source.{Source}
-use Rattle.bohm_reading.specs.Reading.{IsReadOn, ReadsBeginning, ReadsTextOf, RefusesReading, ReadsWave, RefusesWaveBehind, RefusesOn}
+use Rattle.bohm_reading.specs.Reading.{IsReadOn, ReadsBeginning, ReadsTextOf, RefusesReading, ReadsWave, RefusesWaveBehind}
 use Rattle.bohm_reading.specs.Waves.{logs_of}
-use Rattle.bohm_reading.proofs.ForCallers.{on_none, on_end, going_on, later_refused, later_read}
+use Rattle.bohm_reading.proofs.ForCallers.{on_none, on_end, later_refused, later_read}
 use Rattle.bohm_run.specs.Bytes.{ReadsAll}
 use Rattle.bohm_run.specs.Given.{Given}
-use Rattle.bohm_run.specs.Headline.{ReadsDocument, Refuses, IsBeforeWriting}
+use Rattle.bohm_run.specs.Headline.{Refuses, IsBeforeWriting}
 use Rattle.bohm_run.specs.Refusing.{reading_refusal_of}
 use Rattle.bohm_run.specs.declared.chunks.RunState.{RunState}
 use Rattle.bohm_run.specs.declared.fault.RunFault.TheVariants.{Check}
 use Rattle.bohm_run.specs.Runs.{IsApplied}
-use Rattle.bohm_run.specs.Chunks.{IsRun, IsRunTo, IsStarted, RunsChunk}
-use Rattle.bohm_run.specs.Streaming.{IsBegun, IsLogRun, RefusesLog, RunsBehind, RunsBehindTo, StreamsOn, StreamsTo}
+use Rattle.bohm_run.specs.Chunks.{IsRunTo, IsStarted, RunsChunk}
+use Rattle.bohm_run.specs.Streaming.{IsBegun, IsLogRun, RefusesLog, RunsBehind, RunsBehindTo, StreamsOn}
 use Rattle.bohm_run.proofs.ChunkLaws.{exact, runs_none, runs_on}
 use Rattle.bohm_run.proofs.Going.{at_rest}
 use Rattle.bohm_run.proofs.Walks.{whole_run}

@@ -1,5 +1,5 @@
 -- A log that is checked and run chunk after chunk.
-use Rattle.std.specs.Prelude.{◌≡◌, ℤ, ℕ, ◌+◌, ◌≤◌, List, [], ◌++◌, length, Option, None}
+use Rattle.std.specs.Prelude.{◌≡◌, ℤ, ℕ, ◌≤◌, List, [], ◌++◌, length, None}
 use Rattle.bohm_types.specs.Document.{Document}
 use Rattle.bohm_types.specs.Txn.{Txn}
 use Rattle.bohm_txn.specs.declared.outcome.Reply.{Reply}

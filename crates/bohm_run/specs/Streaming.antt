@@ -1,12 +1,9 @@
 -- A log that is run as it is read.
-use Rattle.std.specs.Prelude.{◌≡◌, ℕ, ◌≤◌, List, [], ◌++◌, Bool, length, Option, None}
+use Rattle.std.specs.Prelude.{◌≡◌, ℕ, List, ◌++◌, length, Option}
 use Rattle.bohm_types.specs.Document.{Document}
-use Rattle.bohm_types.specs.Sound.{IsDocument}
 use Rattle.bohm_types.specs.Txn.{Txn}
 use Rattle.bohm_types.specs.declared.edition.Edition.{Edition}
-use Rattle.bohm_txn.specs.Faulty.{WellFormed}
 use Rattle.bohm_txn.specs.Stores.{cell_in, store_of}
-use Rattle.bohm_store.specs.Versions.{Timeline, past}
 use Rattle.bohm_text.specs.declared.windows.Chunk.{Chunk}
 use Rattle.bohm_text.specs.Print.{print_doc, print_numbered}
 use Rattle.bohm_txn.specs.Serial.{replies}

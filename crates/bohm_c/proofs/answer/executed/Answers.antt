@@ -1,5 +1,4 @@
 use Rattle.std.proofs.Common.{◌≡◌, ◌∙◌, ◌++◌, List, ap, arith}
-use Rattle.bohm_types.specs.Txn.{Txn}
 use Rattle.bohm_txn.specs.declared.outcome.Reply.{Reply}
 use Rattle.bohm_txn.specs.Serial.{replies}
 use Rattle.bohm_txn.specs.Stores.{cell_in, store_of}

@@ -1,4 +1,4 @@
-use Rattle.std.proofs.Common.{rules, arith, ◌∙◌}
+use Rattle.std.proofs.Common.{rules, ◌∙◌}
 use Rattle.bohm_run.specs.Runs.{cutting_behind}
 use Rattle.bohm_run.proofs.Walks.{walk_rests}
 use Rattle.bohm_run.proofs.applying.apply_on.Goals as goal

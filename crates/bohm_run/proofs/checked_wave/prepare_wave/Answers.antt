@@ -1,4 +1,3 @@
-use Rattle.std.proofs.Common.{◌≡◌, length, sym, ap, ◌∙◌, arith}
 use Rattle.bohm_run.proofs.CheckedWaveLaws.{each_checked, wave_prepared}
 use Rattle.bohm_run.proofs.checked_wave.prepare_wave.Goals as goal
 

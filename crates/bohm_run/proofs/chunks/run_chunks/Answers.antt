@@ -1,10 +1,10 @@
-use Rattle.std.proofs.Common.{◌≡◌, ℕ, ◌++◌, ◌∷◌, [], List, length, refl, ap, sym, subst, ◌∙◌, append_assoc, append-nil, arith}
+use Rattle.std.proofs.Common.{◌≡◌, ℕ, ◌++◌, ◌∷◌, [], List, length, ap, sym, subst, ◌∙◌, append_assoc, append-nil, arith}
 use Rattle.std.specs.Vec.Iter.{into_iter_items}
 use Rattle.bohm_types.specs.Txn.{Txn}
 use Rattle.bohm_run.specs.declared.checked_chunk.CheckedChunk.{CheckedChunk}
 use Rattle.bohm_run.specs.CheckedWaves.{placed, txns_of, count_behind, AreBehind, ArePrepared}
 use Rattle.bohm_run.specs.Chunks.{RunsChunk}
-use Rattle.bohm_run.proofs.ChunkLaws.{runs_none, runs_on, txns_more}
+use Rattle.bohm_run.proofs.ChunkLaws.{runs_on, txns_more}
 use Rattle.bohm_run.proofs.Swept.{nothing_left}
 use Rattle.bohm_run.proofs.chunks.run_chunks.Goals as goal
 

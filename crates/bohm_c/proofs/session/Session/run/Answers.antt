@@ -1,4 +1,4 @@
-use Rattle.std.proofs.Common.{◌+◌, ◌≤◌, ap, ◌∙◌, length, arith, rules}
+use Rattle.std.proofs.Common.{◌+◌, ◌≤◌, ap, ◌∙◌, length, arith}
 use Rattle.bohm_text.specs.Print.{print_numbered}
 use Rattle.bohm_machine.specs.Machines.{now_of}
 use Rattle.bohm_c.proofs.Ran.{no_more}

@@ -1,4 +1,4 @@
-use Rattle.std.proofs.Common.{◌≡◌, Some, None, refl, sym, ◌∙◌}
+use Rattle.std.proofs.Common.{◌≡◌, Some, None, refl}
 use Rattle.bohm_types.specs.Parts.{bound}
 use Rattle.bohm_check.proofs.Scoped.{with_one, with_none}
 use Rattle.bohm_check.proofs.scope.Scope.pass.Goals as goal

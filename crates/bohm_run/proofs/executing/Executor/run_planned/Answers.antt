@@ -1,4 +1,4 @@
-use Rattle.std.proofs.Common.{◌≡◌, ℕ, ◌+◌, ◌<◌, ◌≤◌, ◌++◌, ◌∷◌, [], List, length, take, ap, sym, subst, ◌∙◌, append_assoc, append-nil, length-append, arith}
+use Rattle.std.proofs.Common.{◌≡◌, ℕ, ◌++◌, ◌∷◌, [], List, length, take, ap, sym, subst, ◌∙◌, append_assoc, append-nil, length-append, arith}
 use Rattle.std.specs.Vec.Iter.{into_iter_items}
 use Rattle.std.proofs.lemmas.List.{length-take-le}
 use Rattle.bohm_types.specs.Txn.{Txn}
@@ -7,7 +7,7 @@ use Rattle.bohm_place.specs.CutLogs.{cutting_of}
 use Rattle.bohm_place.specs.Cuttings.{ahead}
 use Rattle.bohm_run.specs.Progresses.{GoesOn}
 use Rattle.bohm_run.proofs.Swept.{nothing_left}
-use Rattle.bohm_run.proofs.Walks.{all_ahead, goes_nowhere, goes_on_more, inside, plan_there}
+use Rattle.bohm_run.proofs.Walks.{all_ahead, goes_on_more, inside, plan_there}
 use Rattle.bohm_run.proofs.executing.Executor.run_planned.Goals as goal
 
 pub batch-txns-requires-clause-place : goal.batch-txns-requires-clause-place
