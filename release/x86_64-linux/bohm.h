@@ -22,7 +22,7 @@
 
 /* The version, and the checksum of the sources that the library is built from. */
 #define BOHM_VERSION "0.1.0"
-#define BOHM_SOURCES "037c8262923f21e2549b9d5c8953d7cb718edc17f474d1a0c29ad023f8db7dc9"
+#define BOHM_SOURCES "e0dfbb13b3b42674909da979363b316e60527b6bdfcd969db8b5aad1c78bf2f5"
 
 /* The same, of the library that the program is linked with. */
 extern const char bohm_version[16], bohm_sources[65];

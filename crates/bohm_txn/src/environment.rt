@@ -187,8 +187,8 @@ impl Environment<'_> {
         }
     }
 
-    /// The exact total, if no key is missing and each number is short: nearly all are. It takes half
-    /// the time of a total of 128 bits.
+    /// The exact total, if no key is missing and each number is short: nearly all are. It takes a fifth
+    /// fewer instructions than a total of 128 bits.
     #[inline(always)]
     fn short_total(&self, terms: &[TermRow]) -> Option<i64>
         requires within { All (TermIn self.now.txn.now) terms.now }
