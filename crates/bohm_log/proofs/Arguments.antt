@@ -54,13 +54,13 @@ pub few_writes : (params : List (List ℕ)) (body : BodyColumns) (locals : List 
 few_writes params body locals t = omega (arith, t.own.few_writes, length-map body.writes.items (λ (n : DeclaredName). n.name))
 
 -- the parts that a body's columns are, where its names are these ones declared
-pub parts_made : (params : List (List ℕ)) (body : BodyColumns) (p : Parts) → body.reads.items ≡ map (declared_name params) p.reads
-    → body.writes.items ≡ map (declared_name params) p.writes → body.others.items ≡ p.others → body.large.items ≡ p.large
-    → body.terms.items ≡ p.terms → body.rows.items ≡ p.rows → parts_in body ≡ p
-parts_made params body p r w others large terms rows =
-    let reads : names_in body.reads.items ≡ p.reads = names_declared params p.reads body.reads.items r in
-    let writes : names_in body.writes.items ≡ p.writes = names_declared params p.writes body.writes.items w in
-    λ j. record { reads = reads j; writes = writes j; others = others j; large = large j; terms = terms j; rows = rows j }
+pub parts_made : (params : List (List ℕ)) (reads writes : List DeclaredName) (others : List (List ℕ)) (p : Parts) → reads ≡ map (declared_name params) p.reads
+    → writes ≡ map (declared_name params) p.writes → others ≡ p.others
+    → record { reads = names_in reads; writes = names_in writes; others = others; large = p.large; terms = p.terms; rows = p.rows } ≡ p
+parts_made params reads writes others p r w o =
+    let rs : names_in reads ≡ p.reads = names_declared params p.reads reads r in
+    let ws : names_in writes ≡ p.writes = names_declared params p.writes writes w in
+    λ j. record { reads = rs j; writes = ws j; others = o j; large = p.large; terms = p.terms; rows = p.rows }
 
 -- terms and statements that stay as they are, in slices
 pub stays_made : (body : BodyColumns) (terms : List TermRow) (rows : List StmtRow) (reads writes : ℕ) → terms ≡ body.terms.items → rows ≡ body.rows.items

@@ -15,32 +15,7 @@ use Rattle.bohm_log.specs.Drafting.{Drafted, NamesGrow, AddsTerm, AddsRow, with_
 use Rattle.bohm_log.specs.declared.row.Step.{Step}
 use Rattle.bohm_log.specs.declared.row.Step.TheVariants.{Whole, Left, Right}
 use Rattle.bohm_log.specs.declared.row.Pending.{Pending}
-use Rattle.bohm_log.proofs.Drafts.{names_unseen, Declares}
 use Rattle.bohm_log.specs.Sizes.{stmt_terms, open_terms, terms_in, IsCompact, IsCounted}
-
--- no term and no statement came
-counted_same : (p q : Parts) (d e : Drafted) → e ≡ d → length q.terms ≡ length p.terms → length q.rows ≡ length p.rows → IsCompact q → IsCounted p d
-    → IsCounted q e
-counted_same p q d e same terms rows compact h = record {
-  terms = terms ∙ h.terms ∙ sym (ap terms_in same);
-  rows = rows ∙ h.rows ∙ sym (ap (λ (x : Drafted). length x.txn.body) same);
-  compact = compact;
-}
-
--- names that come are unseen
-pub counted_unseen : (e : Edition) (p q : Parts) (o : Pending) → NamesGrow p q → IsCompact q → IsDrafted p o → IsCounted p (drafted_of e p o)
-    → IsCounted q (drafted_of e q o)
-counted_unseen e p q o g compact h counted =
-    counted_same p q (drafted_of e p o) (drafted_of e q o) (names_unseen e p q o g h) (ap length g.terms) (ap length g.rows) compact counted
-
--- declared keys are no terms
-pub counted_declared : (p q r : Parts) (d e f : Drafted) → e ≡ f → terms_in f ≡ terms_in d → length f.txn.body ≡ length d.txn.body → Declares p r → q ≡ r
-    → IsCompact r → IsCounted p d → IsCounted q e
-counted_declared p q r d e f is terms body same made compact h = subst (λ x. IsCounted x e) (sym made) (record {
-  terms = ap length same.terms ∙ h.terms ∙ sym (ap terms_in is ∙ terms);
-  rows = ap length same.rows ∙ h.rows ∙ sym (ap (λ (x : Drafted). length x.txn.body) is ∙ body);
-  compact = compact;
-})
 
 pub counted_term : (p q : Parts) (d e : Drafted) (minus : Bool) (atom : Atom) → e ≡ with_term d minus atom → AddsTerm p q minus atom → IsCompact q
     → IsCounted p d → IsCounted q e

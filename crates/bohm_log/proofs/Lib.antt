@@ -16,6 +16,8 @@ mod Arguments
 mod Appending
 mod SoundDrafts
 mod Counting
+mod Keeping
+mod Failing
 mod InstanceSound
 mod Documents
 pub mod ForCallers

@@ -40,16 +40,16 @@ place_next a b c names places new i id k h inside is more longer at e =
       },
     )
 
-pub made : (e : Edition) (p : Parts) (others : List (List ℕ)) (t : Txn) (keys values : List (List ℕ)) (places : List ℕ) → txn_of e p ≡ t
-    → IsWithin p → Begins p.others others → ArePlacesOf others values places
-    → procedure_of e keys places (with_others p others) ≡ procedure_with t keys values
-made e p others t keys values places same within grow at =
+pub made : (e : Edition) (p q : Parts) (others : List (List ℕ)) (t : Txn) (keys values : List (List ℕ)) (places : List ℕ) → q ≡ with_others p others
+    → txn_of e p ≡ t → IsWithin p → Begins p.others others → ArePlacesOf others values places → procedure_of e keys places q ≡ procedure_with t keys values
+made e p q others t keys values places parts same within grow at =
     let body : map (stmt_of (with_others p others)) p.rows
     ≡ map (stmt_of p) p.rows = body_steady p (with_others p others) (others_grow p others grow).grows refl within in
     let count : length places ≡ length values = sym (length-map places (name_at others)) ∙ ap length at.same in
     let rest : map (stmt_of (with_others p others)) (drop (length places) p.rows) ≡ drop (length values) (map (stmt_of p) p.rows) =
     sym (drop-map (stmt_of (with_others p others)) (length places) p.rows) ∙ (λ j. drop (count j) (body j)) in
-    (λ j. record { edition = e; keys = keys; values = at.same j; reads = p.reads; writes = p.writes; body = rest j })
+    ap (procedure_of e keys places) parts
+    ∙ (λ j. record { edition = e; keys = keys; values = at.same j; reads = p.reads; writes = p.writes; body = rest j })
     ∙ ap (λ (u : Txn). procedure_with u keys values) same
 
 pub made_well : (e : Edition) (p : Parts) (others : List (List ℕ)) (t : Txn) (values : List (List ℕ)) (places : List ℕ) → txn_of e p ≡ t

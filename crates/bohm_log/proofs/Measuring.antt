@@ -158,19 +158,34 @@ pub record Fits (p : Parts) (t : Txn) : Type 0 where
   pub names : most_names (length p.reads) (length p.writes) ≤ 32 * txn_size t
   pub entries : entries_of p ≤ 16 * txn_size t
 
-pub fits_closed : (e : Edition) (p : Parts) (d : Drafted) → txn_of e p ≡ d.txn → open_terms d ≡ 0 → IsCounted p d → Fits p d.txn
-fits_closed e p d same none h =
+-- parts that a log may take are this transaction
+pub record Adds (e : Edition) (p : Parts) (t : Txn) : Type 0 where
+  pub same : txn_of e p ≡ t
+  pub within : IsWithin p
+  pub apart : IsDistinct bytes_eq p.others
+  pub sound : IsTxn t.edition t
+  pub fits : Fits p t
+
+pub adds_closed : (e : Edition) (p : Parts) (d : Drafted) → txn_of e p ≡ d.txn → IsWithin p → IsDistinct bytes_eq p.others → IsTxn d.txn.edition d.txn
+    → open_terms d ≡ 0 → IsCounted p d → Adds e p d.txn
+adds_closed e p d same within apart sound none h =
     let reads = ap (λ (t : Txn). length t.reads) same in
     let writes = ap (λ (t : Txn). length t.writes) same in
     record {
-      names = omega (arith, reads, writes);
-      entries = omega (arith, reads, writes, none, h.terms, h.rows, h.compact.others, h.compact.large);
+      same = same;
+      within = within;
+      apart = apart;
+      sound = sound;
+      fits = record {
+        names = omega (arith, reads, writes);
+        entries = omega (arith, reads, writes, none, h.terms, h.rows, h.compact.others, h.compact.large);
+      };
     }
 
-pub fits_called : (e : Edition) (keys : List (List ℕ)) (body : BodyColumns) (locals : List ℕ) (args : List (List ℕ)) (vs : List ℤ) (places : CallPlaces)
-    → IsTemplate keys body locals → IsFilled (parts_in body) (procedure_of e keys locals (parts_in body)) → length vs ≡ length locals
-    → Fits (parts_called args body locals vs places) (instance (procedure_of e keys locals (parts_in body)) args vs)
-fits_called e keys body locals args vs places t h same =
+pub fits_called : (e : Edition) (keys : List (List ℕ)) (body : BodyColumns) (locals xs : List ℕ) (args : List (List ℕ)) (vs : List ℤ) (places : CallPlaces)
+    → IsTemplate keys body locals → IsFilled (parts_in body) (procedure_of e keys locals (parts_in body)) → xs ≡ locals → length vs ≡ length locals
+    → Fits (parts_called args body xs vs places) (instance (procedure_of e keys locals (parts_in body)) args vs)
+fits_called e keys body locals xs args vs places t h is same =
     let p : Parts = parts_in body in
     let f : List ℕ → List ℕ = stands_for keys args in
     let rest : List Stmt = map (stmt_of p) (drop (length locals) p.rows) in
@@ -195,7 +210,7 @@ fits_called e keys body locals args vs places t h same =
       length-drop (length locals) p.rows,
       t.own.lets,
     ) in
-    record {
+    subst (λ (ys : List ℕ). Fits (parts_called args body ys vs places) (instance (procedure_of e keys locals p) args vs)) (sym is) (record {
       names = omega (arith, reads, writes);
       entries = omega (
         arith,
@@ -215,7 +230,7 @@ fits_called e keys body locals args vs places t h same =
         called_terms places.reads.places.items body.terms.items (length body.large.items) vs,
         called_rows places.reads.places.items (written body places).places.items locals body.rows.items (length body.terms.items) vs same t.own.lets,
       );
-    }
+    })
 
 -- a call has a value for each of its procedure's
 pub values_many : (procedure : Procedure) (e : Edition) (keys : List (List ℕ)) (locals : List ℕ) (p : Parts) (vs : List ℤ)
@@ -255,18 +270,17 @@ met_ok (Ok x) P Q is met = met
 met_ok (Err f) P Q is met = absurd is
 
 -- a log with one transaction more
-module _ (c d : Shared) (hs new : List Head) (e : Edition) (p : Parts) (t : Txn) (same : txn_of e p ≡ t) (within : IsWithin p)
-    (apart : IsDistinct bytes_eq p.others) (sound : IsTxn t.edition t) (fits : Fits p t) (h : Keeps c hs) where
+module _ (c d : Shared) (hs new : List Head) (e : Edition) (p : Parts) (t : Txn) (one : Adds e p t) (h : Keeps c hs) where
   longer : (r : Result Head LogFault) → IsOkAnd r (λ x. new ≡ hs ++ x ∷ []) → IfOk r (λ x. Appends c d x e p)
       → Keeps d new × (map (txn_at d) new ≡ map (txn_at c) hs ++ t ∷ [])
   longer (Ok x) is a =
       let more : map (txn_at d) (hs ++ x ∷ []) ≡ map (txn_at c) hs ++ t ∷ [] =
-      log_more c d hs x e p a h.0 ∙ ap (λ u. map (txn_at c) hs ++ u ∷ []) same in
+      log_more c d hs x e p a h.0 ∙ ap (λ u. map (txn_at c) hs ++ u ∷ []) one.same in
       subst (λ (xs : List Head). Keeps d xs × (map (txn_at d) xs ≡ map (txn_at c) hs ++ t ∷ [])) (sym is) (
         (
-          logged_more c d hs x e p a h.0 within apart,
-          subst AreTxns (sym more) (sound_log (map (txn_at c) hs) t h.1 sound),
-          subst (IsMeasured d) (sym more) (measured_more c d (map (txn_at c) hs) p t a.longer fits h.2),
+          logged_more c d hs x e p a h.0 one.within one.apart,
+          subst AreTxns (sym more) (sound_log (map (txn_at c) hs) t h.1 one.sound),
+          subst (IsMeasured d) (sym more) (measured_more c d (map (txn_at c) hs) p t a.longer one.fits h.2),
         ),
         more,
       )

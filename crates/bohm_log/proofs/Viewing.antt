@@ -1,5 +1,9 @@
 -- An element of a mapped list.
-use Rattle.std.proofs.Common.{◌≡◌, ℕ, suc, ◌<◌, ◌+◌, List, [], ◌∷◌, length, get_or, map, Some, ap, sym, ◌∙◌, arith, slice_get, drop, add-one, drop-cons}
+use Rattle.std.proofs.Common.{◌≡◌, ℕ, suc, ◌<◌, ◌+◌, List, [], ◌∷◌, length, get_or, map, Some, ap, sym, ◌∙◌, arith, slice_get, drop, add-one, drop-cons, refl, true}
+use Rattle.std.specs.Prelude.{◌==◌}
+use Rattle.std.specs.Cmp.Lexicographic.{pointwise}
+use Rattle.std.proofs.lemmas.Bool.Decides.{Decides-eqb}
+use Rattle.std.proofs.lemmas.Slice.Eq.{slice_eq-Decides}
 use Rattle.std.proofs.lemmas.List.{length-map, get_or-map, get_or_default}
 use Rattle.std.specs.List.{All}
 use Rattle.bohm_log.specs.declared.row.StmtRow.{StmtRow}
@@ -31,3 +35,6 @@ mapped_length f xs = length-map xs f
 
 pub row_in : (p : Parts) (rs : List StmtRow) (i : ℕ) (d : StmtRow) → i < length rs → All (RowIn p) rs → RowIn p (get_or rs i d)
 row_in p rs i d h all = all i d h
+
+pub same_numbers : (names : List (List ℕ)) (xs ys : List ℕ) → true ≡ pointwise (λ x y. x == y) xs ys → map (name_at names) xs ≡ map (name_at names) ys
+same_numbers names xs ys e = ap (map (name_at names)) ((slice_eq-Decides Decides-eqb xs ys true e).0 refl)

@@ -52,20 +52,15 @@ fn place_or_none(places: &[u32], i: u32) -> u32
 fn term_to(places: &[u32], term: &TermRow) -> TermRow
     ensures { result ≡ term_to places.now term.now }
 {
-    match term.kind {
-        AtomKind::Read => TermRow {
-            kind: AtomKind::Read,
-            minus: term.minus,
-            place: place_or_none(places, term.place),
-        },
-        AtomKind::Unread => TermRow {
-            kind: AtomKind::Small,
-            minus: term.minus,
-            place: 0,
-        },
-        // The kinds aren't listed: two tests are faster than a jump by the kind.
-        _ => *term,
+    let mut moved = *term;
+    // Two tests are faster than a jump by the kind.
+    if let AtomKind::Read = term.kind {
+        moved.place = place_or_none(places, term.place);
+    } else if let AtomKind::Unread = term.kind {
+        moved.kind = AtomKind::Small;
+        moved.place = 0;
     }
+    moved
 }
 
 /// The place of a statement's name over other keys.
@@ -82,15 +77,9 @@ fn name_to(reads: &[u32], writes: &[u32], action: Action, name: u32) -> u32
 fn row_to(reads: &[u32], writes: &[u32], row: &StmtRow) -> StmtRow
     ensures { result ≡ row_to reads.now writes.now row.now }
 {
-    StmtRow {
-        action: row.action,
-        declared: row.declared,
-        name: name_to(reads, writes, row.action, row.name),
-        start: row.start,
-        first: row.first,
-        second: row.second,
-        third: row.third,
-    }
+    let mut moved = *row;
+    moved.name = name_to(reads, writes, row.action, row.name);
+    moved
 }
 
 /// Adds terms over other keys.

@@ -1,6 +1,6 @@
 //! A transaction as a view of the columns.
 
-ghost use Rattle.std.specs.Prelude.{◌≡◌, ◌<◌, length, Some, slice_get};
+ghost use Rattle.std.specs.Prelude.{◌≡◌, ◌<◌, length, true, Some, slice_get};
 ghost use Rattle.bohm_log.specs.Parts.{txn_of};
 
 use crate::indexed::IndexedTxn;
@@ -54,6 +54,15 @@ impl<'a> TxnView<'a> {
             names: self.seen.names,
             ids: self.seen.writes,
         }
+    }
+
+    /// Whether the numbers of its declared reads are those of its declared writes, in the same order:
+    /// then it writes the keys that it reads. The time grows with how many they are.
+    #[tactic(auto, using(crate::proofs::Viewing::same_numbers))]
+    pub fn writes_its_reads(&self) -> bool
+        ensures { result ≡ true → self.now.reads ≡ self.now.writes }
+    {
+        self.seen.reads == self.seen.writes
     }
 }
 

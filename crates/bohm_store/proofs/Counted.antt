@@ -1,9 +1,9 @@
 -- How many versions there are, by number and by key.
-use Rattle.std.proofs.Common.{◌≡◌, ℕ, zero, suc, ◌+◌, ◌<◌, ◌≤◌, ◌==◌, ◌∙◌, true, false, List, [], ◌∷◌, ◌++◌, length, take, drop, get_or}
+use Rattle.std.proofs.Common.{◌≡◌, ℕ, suc, ◌+◌, ◌<◌, ◌≤◌, ◌==◌, ◌∙◌, true, false, List, [], ◌∷◌, ◌++◌, length, take, drop, get_or}
 use Rattle.std.proofs.Common.{refl, sym, ap, ⊎_elim, arith, if◌then◌else◌, All, add-one, drop-cons}
 use Rattle.std.proofs.lemmas.Bool.{cases_eq, cases_lt}
 use Rattle.std.proofs.lemmas.Bool.Decides.{nat_tests}
-use Rattle.std.proofs.lemmas.List.{get_or_past, take_more}
+use Rattle.std.proofs.lemmas.List.{drop_all, get_or_past, take_more}
 use Rattle.std.proofs.lemmas.List.Elements.{All-cons, All-nil, All-head, All-tail}
 use Rattle.bohm_store.specs.declared.version.Version.{Version}
 use Rattle.bohm_store.specs.declared.held.Held.{Held}
@@ -26,27 +26,15 @@ none_filled now from (k ∷ names) le =
 
 total_filled : (now : List Held) (from : ℕ) (names : List (List ℕ)) → length now ≤ from + length names
     → total (named (held_at now) from names) ≡ filled (drop from now)
-total_filled now from [] le = sym (ap filled (all_gone from now (omega arith)))
-  where
-    all_gone : (n : ℕ) (vs : List Held) → length vs ≤ n → drop n vs ≡ []
-    all_gone zero [] le = refl
-    all_gone zero (v ∷ vs) le = absurd (omega arith)
-    all_gone (suc n) [] le = refl
-    all_gone (suc n) (v ∷ vs) le = all_gone n vs (omega arith)
+total_filled now from [] le = sym (ap filled (drop_all from now (omega arith)))
 total_filled now from (k ∷ names) le = ⊎_elim
     (λ (lt : from < length now).
     let more = total_filled now (from + 1) names (omega arith) in
     let here : drop from now ≡ get_or now from Never ∷ drop (from + 1) now = rw add-one (drop-cons now from Never lt) in
     rw here (ap (λ (n : ℕ). length (held_at now from) + n) more))
     (λ (ge : length now ≤ from).
-    none_filled now from (k ∷ names) ge ∙ sym (ap filled (past from now ge)))
+    none_filled now from (k ∷ names) ge ∙ sym (ap filled (drop_all from now ge)))
     (cases_lt from (length now))
-  where
-    past : (n : ℕ) (vs : List Held) → length vs ≤ n → drop n vs ≡ []
-    past zero [] le = refl
-    past zero (v ∷ vs) le = absurd (omega arith)
-    past (suc n) [] le = refl
-    past (suc n) (v ∷ vs) le = past n vs (omega arith)
 
 filled-append : (vs ws : List Held) → filled (vs ++ ws) ≡ filled vs + filled ws
 filled-append [] ws = let none : 0 + filled ws ≡ filled ws = omega arith in sym none

@@ -1,5 +1,5 @@
 -- What the keys with numbers hold at a time.
-use Rattle.std.proofs.Common.{◌≡◌, ◌≢◌, ℕ, zero, suc, ◌+◌, ◌<◌, ◌≤◌, ◌==◌, ◌∙◌, true, false, List, [], ◌∷◌, ◌++◌, length, drop, get_or}
+use Rattle.std.proofs.Common.{◌≡◌, ◌≢◌, ℕ, ◌+◌, ◌<◌, ◌≤◌, ◌==◌, ◌∙◌, true, false, List, [], ◌∷◌, ◌++◌, length, drop, get_or}
 use Rattle.std.proofs.Common.{slice_set, refl, sym, ap, ⊎_elim, arith, if◌then◌else◌, append_assoc, add-one, drop-cons}
 use Rattle.std.specs.Prelude.{ℤ}
 use Rattle.std.specs.Map.{keys_of}
@@ -59,9 +59,3 @@ put_back now number n v x inside is = ⊎_elim
     let no : (number == n) ≡ false = grind (arith, nat_tests) in
     ap held_versions (get_or-set_other now number n v Never other) ∙ rw no refl)
     (cases_eq n number)
-
-pub drop_end : {A : Type 0} (xs : List A) (i : ℕ) → length xs ≤ i → drop i xs ≡ []
-drop_end [] zero le = refl
-drop_end [] (suc i) le = refl
-drop_end (x ∷ xs) zero le = absurd (omega arith)
-drop_end (x ∷ xs) (suc i) le = drop_end xs i (omega arith)

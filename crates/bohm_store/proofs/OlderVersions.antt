@@ -1,5 +1,5 @@
 -- Older versions: what a trim leaves, what comes, and what they say of a time.
-use Rattle.std.proofs.Common.{◌≡◌, ◌≢◌, ℕ, zero, suc, ◌+◌, ◌<◌, ◌≤◌, ◌==◌, ◌&&◌, ◌∙◌, Bool, true, false, List, [], ◌∷◌, ◌++◌, length, drop}
+use Rattle.std.proofs.Common.{◌≡◌, ◌≢◌, ℕ, zero, suc, ◌+◌, ◌-◌, ◌<◌, ◌≤◌, ◌==◌, ◌&&◌, ◌∙◌, Bool, true, false, List, [], ◌∷◌, ◌++◌, length, drop}
 use Rattle.std.proofs.Common.{get_or, slice_set, refl, sym, ap, ⊎_elim, arith, if◌then◌else◌, nat_le, nat_lt, All, append-nil, append_assoc}
 use Rattle.std.proofs.Common.{add-one, drop-cons}
 use Rattle.std.proofs.lemmas.Bool.{cases_eq}
@@ -55,7 +55,7 @@ ends_above_by : (floor : ℕ) (o : Older) (os : List Older) (n : ℕ) (b : Bool)
 ends_above_by floor o os n true e lt more = rw e (All-cons (λ x. floor < x) o.end (ends_of os n) lt more)
 ends_above_by floor o os n false e lt more = rw e more
 
-ends_above : (floor : ℕ) (os : List Older) (n : ℕ) → All (λ o. floor < o.end) os → All (λ e. floor < e) (ends_of os n)
+pub ends_above : (floor : ℕ) (os : List Older) (n : ℕ) → All (λ o. floor < o.end) os → All (λ e. floor < e) (ends_of os n)
 ends_above floor [] n h = All-nil (λ e. floor < e)
 ends_above floor (o ∷ os) n h =
     ends_above_by floor o os n (o.number == n) refl (All-head (λ p. floor < p.end) o os h) (ends_above floor os n (All-tail (λ p. floor < p.end) o os h))
@@ -186,14 +186,20 @@ skip_by ts o os n held true e = rw e refl
 skip_by ts o os n held false e = refl
 
 -- where one ended at or below the time, those before it did too
-pub first_skips : (ts top : ℕ) (os : List Older) (n : ℕ) (held : List Version) (i : ℕ) (d : Older) → EndsRise top os → i < length os
+skips_to : (ts top : ℕ) (os : List Older) (n : ℕ) (held : List Version) (i : ℕ) (d : Older) → EndsRise top os → i < length os
     → (get_or os i d).end ≤ ts → first_after ts os n held ≡ first_after ts (drop (suc i) os) n held
-first_skips ts top [] n held i d r lt le = absurd (omega arith)
-first_skips ts top (o ∷ os) n held zero d r lt le = let past : nat_lt ts o.end ≡ false = grind (arith, nat_tests) in skip_by ts o os n held (o.number == n) past
-first_skips ts top (o ∷ os) n held (suc i) d r lt le =
+skips_to ts top [] n held i d r lt le = absurd (omega arith)
+skips_to ts top (o ∷ os) n held zero d r lt le = let past : nat_lt ts o.end ≡ false = grind (arith, nat_tests) in skip_by ts o os n held (o.number == n) past
+skips_to ts top (o ∷ os) n held (suc i) d r lt le =
     let lower : o.end ≤ (get_or os i d).end = r.1 i d (omega arith) in
     let past : nat_lt ts o.end ≡ false = grind (arith, nat_tests) in
-    skip_by ts o os n held (o.number == n) past ∙ first_skips ts top os n held i d r.2 (omega arith) le
+    skip_by ts o os n held (o.number == n) past ∙ skips_to ts top os n held i d r.2 (omega arith) le
+
+pub first_skips : (ts top : ℕ) (os : List Older) (n : ℕ) (held : List Version) (i : ℕ) (d : Older) → EndsRise top os → 0 < i → i ≤ length os
+    → d ≡ get_or os (i - 1) d → d.end ≤ ts → first_after ts os n held ≡ first_after ts (drop i os) n held
+first_skips ts top os n held i d r some le is low =
+    let next : suc (i - 1) ≡ i = omega (arith, some) in
+    skips_to ts top os n held (i - 1) d r (omega (arith, some, le)) (rw (← is) low) ∙ ap (λ (j : ℕ). first_after ts (drop j os) n held) next
 
 -- one that ended above the time comes first, where it is of the number
 step_by : (ts : ℕ) (o : Older) (os : List Older) (n : ℕ) (held : List Version) (b : Bool) → (o.number == n) ≡ b → ts < o.end
@@ -201,12 +207,12 @@ step_by : (ts : ℕ) (o : Older) (os : List Older) (n : ℕ) (held : List Versio
 step_by ts o os n held true e lt = let yes : nat_lt ts o.end ≡ true = grind (arith, nat_tests) in rw (e, yes) refl
 step_by ts o os n held false e lt = rw e refl
 
-pub first_step : (ts : ℕ) (os : List Older) (n : ℕ) (held : List Version) (i : ℕ) (d : Older) (b : Bool) → i < length os
-    → ((get_or os i d).number == n) ≡ b → ts < (get_or os i d).end
-    → first_after ts (drop i os) n held ≡ (if b then version_of (get_or os i d) ∷ [] else first_after ts (drop (i + 1) os) n held)
-first_step ts os n held i d b lt e late =
-    let at : drop i os ≡ get_or os i d ∷ drop (i + 1) os = rw add-one (drop-cons os i d lt) in
-    rw at (step_by ts (get_or os i d) (drop (i + 1) os) n held b e late)
+pub first_step : (ts : ℕ) (os : List Older) (n : ℕ) (held : List Version) (i : ℕ) (d : Older) (b : Bool) → i < length os → d ≡ get_or os i d
+    → (d.number == n) ≡ b → ts < d.end
+    → first_after ts (drop i os) n held ≡ (if b then version_of d ∷ [] else first_after ts (drop (i + 1) os) n held)
+first_step ts os n held i d b lt is e late =
+    let at : drop i os ≡ d ∷ drop (i + 1) os = rw add-one (drop-cons os i d lt) ∙ ap (λ (o : Older). o ∷ drop (i + 1) os) (sym is) in
+    rw at (step_by ts d (drop (i + 1) os) n held b e late)
 
 -- those that are not of the number say nothing
 pub first_passes : (ts : ℕ) (os : List Older) (n : ℕ) (held : List Version) (d : Older) (i more : ℕ) → i + more ≤ length os

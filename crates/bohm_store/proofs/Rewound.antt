@@ -12,6 +12,7 @@ use Rattle.bohm_store.specs.declared.older.Older.{Older}
 use Rattle.bohm_store.specs.Versions.{Rises, cell_at, versions_to}
 use Rattle.bohm_store.specs.Chains.{Above, UpTo, later_begins}
 use Rattle.bohm_store.proofs.Linked.{as_many, none_older}
+use Rattle.bohm_store.proofs.OlderVersions.{ends_above}
 use Rattle.bohm_store.specs.declared.held.Held.{Held}
 use Rattle.bohm_store.specs.declared.held.Held.TheVariants.{Never}
 use Rattle.bohm_store.specs.Held.{held_at, held_versions}
@@ -221,16 +222,6 @@ later_by ts v vs false e rises =
 later_to : (ts : ℕ) (vs : List Version) → Rises vs → later_begins (versions_to ts vs) ≡ numbers_to ts (later_begins vs)
 later_to ts [] rises = refl
 later_to ts (v ∷ vs) rises = later_by ts v vs (nat_le v.begin ts) refl rises
-
-ends_above_by : (ts : ℕ) (o : Older) (os : List Older) (n : ℕ) (b : Bool) → (o.number == n) ≡ b → ts < o.end
-    → All (λ e. ts < e) (ends_of os n) → All (λ e. ts < e) (ends_of (o ∷ os) n)
-ends_above_by ts o os n true e lt more = rw e (All-cons (λ x. ts < x) o.end (ends_of os n) lt more)
-ends_above_by ts o os n false e lt more = rw e more
-
-ends_above : (ts : ℕ) (os : List Older) (n : ℕ) → All (λ o. ts < o.end) os → All (λ e. ts < e) (ends_of os n)
-ends_above ts [] n h = All-nil (λ e. ts < e)
-ends_above ts (o ∷ os) n h =
-    ends_above_by ts o os n (o.number == n) refl (All-head (λ p. ts < p.end) o os h) (ends_above ts os n (All-tail (λ p. ts < p.end) o os h))
 
 ends_by : (ts : ℕ) (o : Older) (os : List Older) (n : ℕ) (own low : Bool) → (o.number == n) ≡ own → nat_le o.end ts ≡ low
     → All (λ p. o.end ≤ p.end) os → ends_of (ended_by ts os) n ≡ numbers_to ts (ends_of os n)

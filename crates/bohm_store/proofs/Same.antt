@@ -4,15 +4,13 @@ use Rattle.std.proofs.lemmas.List.{length-take-le, take-append-drop}
 use Rattle.bohm_types.specs.declared.cell.Cell.TheVariants.{Absent}
 use Rattle.bohm_types.specs.Txn.{Txn}
 use Rattle.bohm_txn.specs.Meaning.{Look}
-use Rattle.bohm_txn.specs.Serial.{after, state}
+use Rattle.bohm_txn.specs.Serial.{state}
 use Rattle.bohm_log.specs.Parts.{Begins}
 use Rattle.bohm_board.specs.declared.batch.Batch.{Batch}
 use Rattle.bohm_store.specs.declared.version.Version.{Version}
 use Rattle.bohm_store.specs.Versions.{Timeline, cell_at, kept_versions, past, produced_versions, total, versions}
 use Rattle.bohm_store.specs.Nexts.{IsNext, IsSame, IsSettled, IsSettledKept, grown_versions}
 use Rattle.bohm_store.specs.Numbered.{Numbered, named, timeline, versions_at}
-use Rattle.bohm_store.specs.Writes.{AreTxnWrites, txn_writes}
-use Rattle.bohm_store.specs.declared.numbered_write.NumberedWrite.{NumberedWrite}
 use Rattle.bohm_store.proofs.Longer.{longer_names, longer_total}
 use Rattle.bohm_store.proofs.Named.{mapped_versions}
 
@@ -57,14 +55,6 @@ pub next_same : (t r : Timeline) (b : Batch) → IsSame t r → IsNext t b → I
 next_same t r b h next = record {
   first = next.first ∙ ap (λ (n : ℕ). n + 1) (sym h.top);
   base = λ k declared. next.base k declared ∙ ap (λ (look : Look). look k) (sym (same_top t r h));
-}
-
--- a transaction's writes stay its writes
-pub txn_same : (names : List (List ℕ)) (t r : Timeline) (x : Txn) (ws : List NumberedWrite) → IsSame t r
-    → AreTxnWrites names (t.top + 1) (past t t.top) x ws → AreTxnWrites names (r.top + 1) (past r r.top) x ws
-txn_same names t r x ws h writes = record {
-  below = writes.below;
-  listed = writes.listed ∙ (λ i. txn_writes (sym h.top i + 1) (after (sym (same_top t r h) i) x) x.writes);
 }
 
 grown_same : (t r : Timeline) (txns : List Txn) (k : List ℕ) → IsSame t r → grown_versions r txns k ≡ grown_versions t txns k

@@ -90,7 +90,7 @@ module _ (names : List (List ℕ)) (base : Look) (txns : List Txn) (well : All I
   rising_of : (n : ℕ) → Rises (versions_at new n)
   rising_of n = subst Rises (sym (alone n)) (rises_held (get_or new.newest n Never))
 
-  pub numbered : IsNumbered new
+  numbered : IsNumbered new
   numbered = record {
     ordered = omega (arith, floor, top);
     low = λ n. rw top (low_of n);
@@ -107,7 +107,7 @@ module _ (names : List (List ℕ)) (base : Look) (txns : List Txn) (well : All I
       sym (made names base txns well some old ws h apart agree below listed k) ∙ unnamed_versions names ws k below absent in
       ap (λ (vs : List Version). kept_versions (old.top + length txns) ([] ++ vs)) none
 
-  pub settled_kept : IsSettledKept (timeline names old) (timeline names new) txns (old.top + length txns)
+  settled_kept : IsSettledKept (timeline names old) (timeline names new) txns (old.top + length txns)
   settled_kept = kept_settled (timeline names old) (timeline names new) txns (old.top + length txns) well
       (by_key names old (λ k vs. UpTo old.top vs) apart (λ n lt. h.low n) (λ k absent. All-nil (λ (v : Version). v.begin ≤ old.top)))
       (omega (arith, floor, h.ordered)) top
@@ -115,3 +115,7 @@ module _ (names : List (List ℕ)) (base : Look) (txns : List Txn) (well : All I
       (λ lt. grown_by_key names old new (λ k vs. kept_versions (old.top + length txns)
       (vs ++ produced_versions (old.top + 1) (past (timeline names old) old.top) txns k)) apart grown none_grown)
       (subst (λ (ks : List (List ℕ)). IsDistinct bytes_eq ks) (sym (keys_named (versions_at new) 0 names)) apart)
+
+  -- both
+  pub settled : IsNumbered new × IsSettledKept (timeline names old) (timeline names new) txns (old.top + length txns)
+  settled = (numbered, settled_kept)

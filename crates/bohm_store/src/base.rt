@@ -1,6 +1,7 @@
 //! What keys hold at the top, and held before.
 
-ghost use Rattle.std.specs.Prelude.{◌≡◌, ◌≤◌, [], length, map, IfOk};
+ghost use Rattle.std.specs.Prelude.{◌≡◌, ◌<◌, ◌≤◌, ◌++◌, ◌∷◌, [], length, map, IfOk};
+ghost use Rattle.bohm_types.specs.Limits.{most_keys};
 ghost use Rattle.bohm_types.specs.declared.cell.Cell.TheVariants.{Absent};
 ghost use Rattle.bohm_store.specs.Versions.{IsCellAt, cell_at, past, versions};
 ghost use Rattle.bohm_store.specs.Numbered.{timeline, versions_at};
@@ -103,5 +104,32 @@ pub fn push_cells(numbered: &NumberedHistory, numbers: &[u32], scratch: &mut Scr
 {
     for number in numbers {
         scratch.push_cell(numbered.cell(*number));
+    }
+}
+
+// Hands a scratch a cell, of the next declared read and of the next declared write.
+fn push_read_and_cell(scratch: &mut Scratch, cell: &Cell)
+    requires few_reads { length scratch.old.seen < most_keys }
+    requires few_writes { length scratch.old.cells < most_keys }
+    ensures seen { scratch.new.seen ≡ scratch.old.seen ++ cell.now ∷ [] }
+    ensures cells { scratch.new.cells ≡ scratch.old.cells ++ cell.now ∷ [] }
+{
+    scratch.push_read(*cell);
+    scratch.push_cell(*cell);
+}
+
+/// Hands a scratch what the keys with these numbers hold at the top, as reads and as cells.
+pub fn push_reads_and_cells(numbered: &NumberedHistory, numbers: &[u32], scratch: &mut Scratch)
+    requires few { length numbers.now ≤ 16 }
+    requires none { scratch.old.seen ≡ [] }
+    requires neither { scratch.old.cells ≡ [] }
+    ensures seen { scratch.new.seen
+        ≡ map (λ n. cell_at numbered.now.top (versions_at numbered.now n) Absent) numbers.now }
+    ensures cells { scratch.new.cells
+        ≡ map (λ n. cell_at numbered.now.top (versions_at numbered.now n) Absent) numbers.now }
+{
+    for number in numbers {
+        let cell = numbered.cell(*number);
+        push_read_and_cell(scratch, &cell);
     }
 }

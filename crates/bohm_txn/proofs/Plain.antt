@@ -1,7 +1,9 @@
--- A statement has no fault whose terms are literals and declared reads, whose key is declared and whose sums are short.
-use Rattle.std.proofs.Common.{◌≡◌, ℕ, ◌-◌, ◌≤◌, Bool, true, false, List, [], ◌∷◌, length, drop, map, All, None, refl, ap, sym, ◌∙◌, arith}
+-- A statement has no fault whose terms are at hand, whose key is declared and whose sums are short.
+use Rattle.std.proofs.Common.{◌≡◌, ℕ, suc, ◌-◌, ◌≤◌, Bool, true, false, List, [], ◌∷◌, length, drop, map, All, None, refl, ap, sym, ◌∙◌, arith}
 use Rattle.std.specs.Prelude.{not, ◌&&◌, nat_le}
-use Rattle.std.specs.List.{between, list_all}
+use Rattle.std.specs.List.{IsDistinct, between, list_all}
+use Rattle.std.specs.Str.{bytes_eq}
+use Rattle.std.proofs.lemmas.Bool.{ltb-true}
 use Rattle.std.proofs.lemmas.List.{length-map, length-take-le, length-drop}
 use Rattle.std.proofs.lemmas.List.Folds.{list_all-append}
 use Rattle.bohm_types.specs.declared.edition.Edition.{Edition}
@@ -15,13 +17,13 @@ use Rattle.bohm_log.specs.declared.row.AtomKind.{AtomKind}
 use Rattle.bohm_log.specs.declared.row.AtomKind.TheVariants as kinds
 use Rattle.bohm_log.specs.declared.row.StmtRow.{StmtRow}
 use Rattle.bohm_log.specs.declared.row.TermRow.{TermRow}
-use Rattle.bohm_log.specs.Parts.{Parts, RowIn, TermIn, atom_at, stmt_made, stmt_of, sum_between, term_of, txn_of}
+use Rattle.bohm_log.specs.Parts.{Parts, PlaceIn, RowIn, TermIn, atom_at, stmt_made, stmt_of, sum_between, term_of, txn_of}
 use Rattle.bohm_txn.specs.declared.fault.CheckKind.{CheckKind}
 use Rattle.bohm_txn.specs.declared.fault.CheckKind.TheVariants.{Order, Unread, Unwritten, Local, Limit}
 use Rattle.bohm_txn.specs.Faulty.{reads_among, locals_bound, is_bound, is_unread, is_misnamed, is_long, stmt_faulty}
 use Rattle.bohm_txn.specs.FirstFault.{least}
-use Rattle.bohm_txn.specs.Rows.{has_short_sums, is_declared, is_placed, is_plain_row, needs_no_name, tests_key, writes_key}
-use Rattle.bohm_txn.proofs.Placing.{two_sums, terms_declared, test_declared, unwritten_row}
+use Rattle.bohm_txn.specs.Rows.{AreNoted, has_short_sums, is_at_hand, is_declared, is_placed, is_plain_row, tests_key, writes_key}
+use Rattle.bohm_txn.proofs.Placing.{bound_at, two_sums, terms_declared, test_declared, unwritten_row}
 
 -- ---- all sums of a statement
 
@@ -37,38 +39,45 @@ all_sums f Remove n x y z a b c = refl
 all_sums f Show n x y z a b c = rw a refl
 all_sums f Fail n x y z a b c = refl
 
--- ---- terms that need no name
+-- ---- terms at hand
 
 both : (a b : Bool) → (a && b) ≡ true → (a ≡ true) × (b ≡ true)
 both true b h = (refl, h)
 both false b h = absurd cc
 
-declared_kind : (k : AtomKind) → needs_no_name k ≡ true → is_declared k ≡ true
-declared_kind kinds.Small h = refl
-declared_kind kinds.Large h = refl
-declared_kind kinds.Read h = refl
-declared_kind kinds.Unread h = absurd cc
-declared_kind kinds.Local h = refl
+module _ (noted : List Bool) where
+  declared_kind : (k : AtomKind) (i : ℕ) → is_at_hand noted k i ≡ true → is_declared k ≡ true
+  declared_kind kinds.Small i h = refl
+  declared_kind kinds.Large i h = refl
+  declared_kind kinds.Read i h = refl
+  declared_kind kinds.Unread i h = absurd cc
+  declared_kind kinds.Local i h = refl
 
-are_declared : (ts : List TermRow) → list_all (λ t. needs_no_name t.kind) ts ≡ true → list_all (λ t. is_declared t.kind) ts ≡ true
-are_declared [] h = refl
-are_declared (t ∷ ts) h =
-    let (here, later) = both _ _ h in
-    rw (declared_kind t.kind here, are_declared ts later) refl
-
-module _ (p : Parts) (before : List Stmt) where
-  no_local : (k : AtomKind) (i : ℕ) → needs_no_name k ≡ true → locals_bound before (atom_at p k i) ≡ true
-  no_local kinds.Small i h = refl
-  no_local kinds.Large i h = refl
-  no_local kinds.Read i h = refl
-  no_local kinds.Unread i h = absurd cc
-  no_local kinds.Local i h = absurd cc
-
-  no_locals : (ts : List TermRow) → list_all (λ t. needs_no_name t.kind) ts ≡ true → list_all (λ term. locals_bound before term.1) (map (term_of p) ts) ≡ true
-  no_locals [] h = refl
-  no_locals (t ∷ ts) h =
+  are_declared : (ts : List TermRow) → list_all (λ t. is_at_hand noted t.kind t.place) ts ≡ true → list_all (λ t. is_declared t.kind) ts ≡ true
+  are_declared [] h = refl
+  are_declared (t ∷ ts) h =
       let (here, later) = both _ _ h in
-      rw (no_local t.kind t.place here, no_locals ts later) refl
+      rw (declared_kind t.kind t.place here, are_declared ts later) refl
+
+  module _ (p : Parts) (before : List StmtRow) (apart : IsDistinct bytes_eq p.others) (rows : All (RowIn p) before) (are : AreNoted noted before) where
+    abbrev bodies : List Stmt
+    bodies = map (stmt_of p) before
+
+    local_bound : (k : AtomKind) (i : ℕ) → PlaceIn p k i → is_at_hand noted k i ≡ true → locals_bound bodies (atom_at p k i) ≡ true
+    local_bound kinds.Small i inside h = refl
+    local_bound kinds.Large i inside h = refl
+    local_bound kinds.Read i inside h = refl
+    local_bound kinds.Unread i inside h = absurd cc
+    local_bound kinds.Local i inside h =
+        let (few, note) = both _ _ h in
+        bound_at p before i apart inside rows ∙ (sym (are i (ltb-true i 64 few)) ∙ note)
+
+    locals_are_bound : (ts : List TermRow) → All (TermIn p) ts → list_all (λ t. is_at_hand noted t.kind t.place) ts ≡ true
+        → list_all (λ term. locals_bound bodies term.1) (map (term_of p) ts) ≡ true
+    locals_are_bound [] within h = refl
+    locals_are_bound (t ∷ ts) within h =
+        let (here, later) = both _ _ h in
+        rw (local_bound t.kind t.place (within 0 t (omega arith)) here, locals_are_bound ts (λ i d l. within (suc i) d (omega arith)) later) refl
 
 -- ---- placed names
 
@@ -118,7 +127,10 @@ module _ (p : Parts) (i j : ℕ) (rises : i ≤ j) (within : j ≤ length p.term
   is_short h = rw sum_length h
 
 module _ (p : Parts) (r : StmtRow) (few_reads : length p.reads ≤ 16) (few_writes : length p.writes ≤ 16) (row : RowIn p r) (e : Edition)
-    (before : List Stmt) where
+    (noted : List Bool) (rows : List StmtRow) (apart : IsDistinct bytes_eq p.others) (before_in : All (RowIn p) rows) (are : AreNoted noted rows) where
+  abbrev before : List Stmt
+  before = map (stmt_of p) rows
+
   abbrev first_sum : List (Bool × Atom)
   first_sum = sum_between p r.start r.first
 
@@ -150,15 +162,15 @@ module _ (p : Parts) (r : StmtRow) (few_reads : length p.reads ≤ 16) (few_writ
   abbrev terms : List TermRow
   terms = between r.start r.third p.terms
 
-  module _ (plain : is_plain_row r ≡ true) (nameless : list_all (λ t. needs_no_name t.kind) terms ≡ true) (within : All (TermIn p) terms) where
+  module _ (plain : is_plain_row r ≡ true) (at_hand : list_all (λ t. is_at_hand noted t.kind t.place) terms ≡ true) (within : All (TermIn p) terms) where
     placed : is_placed r.action r.declared ≡ true
     placed = (both _ _ plain).0
 
     all_read : list_all (list_all (λ term. reads_among p.reads term.1)) (sums (stmt_of p r)) ≡ true
-    all_read = plain_terms (λ term. reads_among p.reads term.1) (terms_declared p terms few_reads within ∙ are_declared terms nameless)
+    all_read = plain_terms (λ term. reads_among p.reads term.1) (terms_declared p terms few_reads within ∙ are_declared noted terms at_hand)
 
     all_bound : list_all (list_all (λ term. locals_bound before term.1)) (sums (stmt_of p r)) ≡ true
-    all_bound = plain_terms (λ term. locals_bound before term.1) (no_locals p before terms nameless)
+    all_bound = plain_terms (λ term. locals_bound before term.1) (locals_are_bound noted p rows apart before_in are terms within at_hand)
 
     unread : is_unread p.reads (stmt_of p r) ≡ false
     unread = rw (

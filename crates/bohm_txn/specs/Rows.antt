@@ -1,5 +1,5 @@
 -- The effect of a statement's row, and which of the transaction's terms it has.
-use Rattle.std.specs.Prelude.{◌≡◌, ℕ, ◌<◌, ◌-◌, ◌&&◌, List, Bool, true, false, ◌==◌, get_or, nat_le}
+use Rattle.std.specs.Prelude.{◌≡◌, ℕ, ◌<◌, ◌-◌, ◌&&◌, List, Bool, true, false, ◌==◌, get_or, nat_le, nat_lt}
 use Rattle.std.specs.List.{list_any}
 use Rattle.bohm_log.specs.declared.row.Action.{Action}
 use Rattle.bohm_log.specs.declared.row.Action.TheVariants.{Bind, Need, Has, Lacks, Put, PutWhen, Remove, Show, Fail}
@@ -30,13 +30,17 @@ is_declared Read = true
 is_declared Unread = false
 is_declared Local = true
 
--- a term of this kind is a literal or a declared read
-abbrev pub needs_no_name : AtomKind → Bool
-needs_no_name Small = true
-needs_no_name Large = true
-needs_no_name Read = true
-needs_no_name Unread = false
-needs_no_name Local = false
+-- the name at this index has a note
+abbrev pub has_note : List Bool → ℕ → Bool
+has_note noted i = nat_lt i 64 && get_or noted i false
+
+-- a term of this kind, with this index, is a literal, a declared read, or a local with a note
+abbrev pub is_at_hand : List Bool → AtomKind → ℕ → Bool
+is_at_hand noted Small i = true
+is_at_hand noted Large i = true
+is_at_hand noted Read i = true
+is_at_hand noted Unread i = false
+is_at_hand noted Local i = has_note noted i
 
 -- its key is declared, if it has one
 abbrev pub is_placed : Action → Bool → Bool

@@ -3,7 +3,7 @@
 ghost use Rattle.std.specs.Prelude.{◌≡◌, ◌∷◌, ◌++◌, [], List};
 ghost use Rattle.std.specs.List.{list_any};
 ghost use Rattle.bohm_log.specs.declared.row.StmtRow.{StmtRow};
-ghost use Rattle.bohm_txn.specs.Rows.{AreNoted, binds_at};
+ghost use Rattle.bohm_txn.specs.Rows.{AreNoted, binds_at, has_note};
 
 use bohm_log::{Action, StmtRow};
 
@@ -47,6 +47,13 @@ impl Bound {
         if (row.name as usize) < NOTED && binds(row, row.name) {
             self.noted[row.name as usize] = true;
         }
+    }
+
+    /// Whether the name at an index has a note that it is bound.
+    pub fn has(&self, place: u32) -> bool
+        ensures { result ≡ has_note self.now.noted place }
+    {
+        (place as usize) < NOTED && self.noted[place as usize]
     }
 
     /// Whether one of the statements so far binds the name at an index.

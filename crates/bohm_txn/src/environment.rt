@@ -36,6 +36,7 @@ fn last_bound<'a>(locals: &'a [(Key, Value)], name: &Key) -> Option<&'a (Key, Va
 }
 
 /// The value last bound to a name, or 0.
+#[inline(never)]
 fn local_among(locals: &[(Key, Value)], name: &Key) -> Value
     ensures { result ≡ newest locals.now name.now (pos 0) }
 {
@@ -142,7 +143,6 @@ impl Environment<'_> {
         })
     }
 
-    #[inline(never)]
     fn total(&self, terms: &[TermRow]) -> Option<i128>
         requires within { All (TermIn self.now.txn.now) terms.now }
         requires few { length terms.now ≤ most_terms }
@@ -157,33 +157,23 @@ impl Environment<'_> {
         Some(total)
     }
 
-    /// The number of a term's atom, or the least one of 64 bits where its key is missing or it has
-    /// more bits.
-    #[inline(never)]
-    fn other_or_least(&self, term: TermRow) -> i64
-        requires { TermIn self.now.txn.now term }
-        ensures { neg_ℤ (pos (2 ^ 58)) ≤ℤ result → atom_value (look_of self.now)
-            self.now.locals.now (term_of self.now.txn.now term).1 ≡ Some result }
-    {
-        match self.atom(term) {
-            Some(number) => i64::try_from(number).unwrap_or(i64::MIN),
-            None => i64::MIN,
-        }
-    }
-
-    /// The same. Most terms are of two kinds, which take a test each.
+    /// The number of a term's atom, or the least one of 64 bits where its key is missing or the term is
+    /// of a rare kind. The others take a test each.
     #[inline(always)]
     fn atom_or_least(&self, term: TermRow) -> i64
         requires { TermIn self.now.txn.now term }
         ensures { neg_ℤ (pos (2 ^ 58)) ≤ℤ result → atom_value (look_of self.now)
             self.now.locals.now (term_of self.now.txn.now term).1 ≡ Some result }
     {
+        let place = term.place as usize;
         if let AtomKind::Read = term.kind {
-            number_or_least(self.cells[term.place as usize])
+            number_or_least(self.cells[place])
         } else if let AtomKind::Small = term.kind {
             i64::from(term.place)
+        } else if let AtomKind::Local = term.kind {
+            local_among(self.locals, &self.txn.others()[place]).get()
         } else {
-            self.other_or_least(term)
+            i64::MIN
         }
     }
 
@@ -208,7 +198,26 @@ impl Environment<'_> {
         Some(total)
     }
 
+    /// The value of the sum of the terms between two offsets, whatever its numbers. `self` comes by
+    /// value, so that `sum`, which seldom calls it, can keep the fields in registers.
+    #[inline(never)]
+    fn long_sum(self, from: u32, to: u32) -> Result<Value, Reason>
+        requires rises { from ≤ to }
+        requires end { to ≤ length self.txn.now.terms }
+        requires few { to ≤ from + most_terms }
+        ensures { result
+            ≡ sum_value (look_of self.entry) self.entry.locals.now
+            (sum_between self.entry.txn.now from to) }
+    {
+        let total = self.total(self.txn.terms(from, to)).ok_or(Reason::Absent)?;
+        match i64::try_from(total) {
+            Ok(number) => Ok(Value::from(number)),
+            Err(_) => Err(Reason::Range),
+        }
+    }
+
     /// The value of the sum of the terms between two offsets. A partial total may be out of range.
+    #[inline(always)]
     pub fn sum(&self, from: u32, to: u32) -> Result<Value, Reason>
         requires rises { from ≤ to }
         requires end { to ≤ length self.now.txn.now.terms }
@@ -217,14 +226,9 @@ impl Environment<'_> {
             ≡ sum_value (look_of self.now) self.now.locals.now
             (sum_between self.now.txn.now from to) }
     {
-        let terms = self.txn.terms(from, to);
-        if let Some(total) = self.short_total(terms) {
-            return Ok(Value::from(total));
-        }
-        let total = self.total(terms).ok_or(Reason::Absent)?;
-        match i64::try_from(total) {
-            Ok(number) => Ok(Value::from(number)),
-            Err(_) => Err(Reason::Range),
+        match self.short_total(self.txn.terms(from, to)) {
+            Some(total) => Ok(Value::from(total)),
+            None => self.long_sum(from, to),
         }
     }
 

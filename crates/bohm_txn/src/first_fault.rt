@@ -73,7 +73,7 @@ fn stmt_fault(
         (stmt_faulty (txn_of e txn.now) (map (stmt_of txn.now) before.now)
         (stmt_of txn.now row.now)) }
 {
-    if is_plain(txn, row) && !rebinds(txn, before, noted, row) {
+    if is_plain(txn, noted, row) && !rebinds(txn, before, noted, row) {
         None
     } else if is_unread(txn, row) {
         Some(CheckKind::Unread)

@@ -10,7 +10,7 @@ ghost use Rattle.bohm_store.specs.Nexts.{IsSame, IsSettledKept};
 ghost use Rattle.bohm_store.specs.Versions.{past};
 ghost use Rattle.bohm_store.specs.Writes.{AreNumbersOf};
 
-use crate::base::{push_cells, push_reads};
+use crate::base::{push_cells, push_reads, push_reads_and_cells};
 use crate::history::History;
 use crate::numbered_write::NumberedWrite;
 use crate::numbering::number_all;
@@ -71,6 +71,31 @@ impl History {
         number_all(&mut self.names, hints, keys, numbers)
     }
 
+    // Hands a scratch what a transaction's declared reads hold at the top, and its declared writes,
+    // which have these numbers. Where these are the same keys, each is looked up once.
+    fn push_held(
+        &self,
+        txn: &TxnView<'_>,
+        hints: &mut Hints,
+        numbers: &[u32],
+        scratch: &mut Scratch,
+    )
+        requires well { IsWellFormedTxn txn.now }
+        requires numbers { AreNumbersOf (keys_of self.now.chains) numbers.now txn.now.writes }
+        requires none { scratch.old.seen ≡ [] }
+        requires neither { scratch.old.cells ≡ [] }
+        ensures seen { map (past self.now self.now.top) txn.now.reads ≡ scratch.new.seen }
+        ensures cells { map (past self.now self.now.top) txn.now.writes ≡ scratch.new.cells }
+    {
+        let _ = self.names.as_slice();
+        if txn.writes_its_reads() {
+            push_reads_and_cells(&self.numbered, numbers, scratch);
+        } else {
+            push_reads(&self.names, &self.numbered, hints, &txn.reads(), scratch);
+            push_cells(&self.numbered, numbers, scratch);
+        }
+    }
+
     // Runs a transaction on what its keys hold at the top, where its declared writes have these
     // numbers.
     fn evaluate(
@@ -89,8 +114,7 @@ impl History {
     {
         let _ = self.names.as_slice();
         scratch.clear();
-        push_reads(&self.names, &self.numbered, hints, &txn.reads(), scratch);
-        push_cells(&self.numbered, numbers, scratch);
+        self.push_held(txn, hints, numbers, scratch);
         let outcome = eval_in_place(txn, scratch);
         match outcome {
             Outcome::Commit => {}

@@ -7,35 +7,28 @@ use Rattle.bohm_store.proofs.Kept.{past_named, past_unnamed}
 use Rattle.bohm_store.proofs.Names.{found_at, not_found, versions_named, versions_none}
 use Rattle.bohm_store.proofs.base.cell_of.Goals as goal
 
-pub returns-in-Some-clause-cell : goal.returns-in-Some-clause-cell
-returns-in-Some-clause-cell c =
+pub returns-in-Some : goal.returns-in-Some
+returns-in-Some c =
     let names = c.args.names.now in
     let h = c.args.numbered.now in
     let n = c.in-Some.number in
-    let k = c.args.key.now in
-    let (inside, is) = found_at names k n (sym c.find.ensures ∙ c.in-Some.is) in
-    c.cell_at.ensures.cell ∙ sym (past_named names h c.args.ts n k c.as_slice.ensures.apart inside is)
+    let apart = c.as_slice.ensures.apart in
+    let (inside, is) = found_at names c.args.key.now n (sym c.find.ensures ∙ c.in-Some.is) in
+    let here : versions (timeline names h) c.args.key.now ≡ versions_at h n =
+    ap (λ (k : List ℕ). versions (timeline names h) k) (sym is) ∙ versions_named (versions_at h) names n apart inside in
+    record {
+      cell = c.cell_at.ensures.cell ∙ sym (past_named names h c.args.ts n _ apart inside is);
+      newest = subst (λ (vs : List Version). IsCellAt c.args.ts vs c.cell_at.result) (sym here) c.cell_at.ensures.newest;
+    }
 
-pub returns-in-Some-clause-newest : goal.returns-in-Some-clause-newest
-returns-in-Some-clause-newest c =
+pub returns-in-None : goal.returns-in-None
+returns-in-None c =
     let names = c.args.names.now in
     let h = c.args.numbered.now in
-    let n = c.in-Some.number in
     let k = c.args.key.now in
-    let (inside, is) = found_at names k n (sym c.find.ensures ∙ c.in-Some.is) in
-    let here : versions (timeline names h) k ≡ versions_at h n =
-    ap (λ (j : List ℕ). versions (timeline names h) j) (sym is) ∙ versions_named (versions_at h) names n c.as_slice.ensures.apart inside in
-    subst (λ (vs : List Version). IsCellAt c.args.ts vs c.cell_at.result) (sym here) c.cell_at.ensures.newest
-
-pub returns-in-None-clause-cell : goal.returns-in-None-clause-cell
-returns-in-None-clause-cell c =
-    sym (past_unnamed c.args.names.now c.args.numbered.now c.args.ts c.args.key.now
-    (not_found c.args.names.now c.args.key.now (sym c.find.ensures ∙ c.in-None.is)))
-
-pub returns-in-None-clause-newest : goal.returns-in-None-clause-newest
-returns-in-None-clause-newest c =
-    let names = c.args.names.now in
-    let k = c.args.key.now in
-    let none : versions (timeline names c.args.numbered.now) k ≡ [] =
-    versions_none (versions_at c.args.numbered.now) names k (not_found names k (sym c.find.ensures ∙ c.in-None.is)) in
-    rw none (inr (All-nil (λ (v : Version). c.args.ts < v.begin), refl))
+    let absent = not_found names k (sym c.find.ensures ∙ c.in-None.is) in
+    let none : versions (timeline names h) k ≡ [] = versions_none (versions_at h) names k absent in
+    record {
+      cell = sym (past_unnamed names h c.args.ts k absent);
+      newest = rw none (inr (All-nil (λ (v : Version). c.args.ts < v.begin), refl));
+    }

@@ -1,5 +1,5 @@
 use Rattle.std.proofs.Common.{◌≡◌, ◌∙◌, ◌++◌, [], ◌<◌, ℕ, List, length, drop, get_or, ap, sym, append-nil, arith}
-use Rattle.std.proofs.lemmas.List.{get_or_default}
+use Rattle.std.proofs.lemmas.List.{drop_all, get_or_default}
 use Rattle.bohm_types.specs.declared.cell.Cell.TheVariants as cells
 use Rattle.bohm_store.specs.Versions.{cell_at}
 use Rattle.bohm_store.specs.Chains.{cell_entry, timeline_entries_at}
@@ -7,7 +7,7 @@ use Rattle.bohm_store.specs.declared.held.Held.{Held}
 use Rattle.bohm_store.specs.declared.held.Held.TheVariants.{Never}
 use Rattle.bohm_store.specs.Held.{held_at, held_versions}
 use Rattle.bohm_store.specs.Numbered.{named}
-use Rattle.bohm_store.proofs.Entries.{listed_more, drop_end}
+use Rattle.bohm_store.proofs.Entries.{listed_more}
 use Rattle.bohm_store.proofs.listing.present.Goals as goal
 
 pub loop-i-preserved : goal.loop-i-preserved
@@ -28,7 +28,7 @@ loop-i-preserved c =
 pub returns : goal.returns
 returns c =
     let names = c.args.names.now in
-    let none : drop c.loop-i.i names ≡ [] = drop_end names c.loop-i.i c.loop-i-test.false in
+    let none : drop c.loop-i.i names ≡ [] = drop_all c.loop-i.i names c.loop-i-test.false in
     sym (append-nil c.loop-i.out.items)
     ∙ sym (ap (λ (ks : List (List ℕ)). c.loop-i.out.items ++ timeline_entries_at c.args.ts (named (held_at c.args.newest.now) c.loop-i.i ks)) none)
     ∙ c.loop-i.invariant

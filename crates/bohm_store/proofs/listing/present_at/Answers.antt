@@ -7,32 +7,26 @@ use Rattle.bohm_store.specs.declared.held.Held.{Held}
 use Rattle.bohm_store.specs.Held.{held_at}
 use Rattle.bohm_store.specs.Numbered.{first_after}
 use Rattle.bohm_store.proofs.Entries.{entries_same}
+use Rattle.bohm_store.proofs.listing.present_at.Goals.{After-deref}
 use Rattle.bohm_store.proofs.listing.present_at.Goals as goal
+
+-- what is put back is what is held, and what is listed is what that left
+same : (c : After-deref) → (c.as_mut_slice.result.now ≡ c.args.newest.now) × (c.deref.result.now ≡ c.rewind.new.newest)
+same c =
+    let now = c.args.newest.now in
+    let given = c.as_mut_slice.ensures.value ∙ c.in_ok-extend_from_slice.ensures.items ∙ ap (λ (xs : List Held). xs ++ now) c.in_ok-then.ensures.items in
+    let is = with_items_is c.extend_from_slice.new.self c.rewind.new.newest (omega (arith, c.rewind.auto.newest, c.as_mut_slice.ensures.len)) in
+    (given, c.deref.ensures.value ∙ is)
 
 pub present-requires : goal.present-requires
 present-requires c =
-    let now = c.args.newest.now in
-    let then = c.rewind.new.newest in
-    let copied : c.extend_from_slice.new.self.items ≡ now =
-    c.in_ok-extend_from_slice.ensures.items ∙ ap (λ (xs : List Held). xs ++ now) c.in_ok-then.ensures.items in
-    let given : c.as_mut_slice.result.now ≡ now = c.as_mut_slice.ensures.value ∙ copied in
-    let same = c.rewind.auto.newest in
-    let is = with_items_is c.extend_from_slice.new.self then (omega (arith, same, c.as_mut_slice.ensures.len)) in
-    let at : c.deref.result.now ≡ then = c.deref.ensures.value ∙ is in
-    let long : length then ≡ length now = omega (arith, same, ap length given) in
-    omega (arith, ap length at, long, c.requires.long)
+    let (given, at) = same c in
+    omega (arith, c.rewind.auto.newest, ap length given, ap length at, c.requires.long)
 
 pub returns : goal.returns
 returns c =
+    let (given, at) = same (goal.at.returns c).After-deref in
     let now = c.args.newest.now in
-    let then = c.rewind.new.newest in
-    let copied : c.extend_from_slice.new.self.items ≡ now =
-    c.in_ok-extend_from_slice.ensures.items ∙ ap (λ (xs : List Held). xs ++ now) c.in_ok-then.ensures.items in
-    let given : c.as_mut_slice.result.now ≡ now = c.as_mut_slice.ensures.value ∙ copied in
-    let same = c.rewind.auto.newest in
-    let is = with_items_is c.extend_from_slice.new.self then (omega (arith, same, c.as_mut_slice.ensures.len)) in
-    let at : c.deref.result.now ≡ then = c.deref.ensures.value ∙ is in
-    let long : length then ≡ length now = omega (arith, same, ap length given) in
     let names = c.args.names.now in
     let ts = c.args.ts in
     let os = c.args.older.now.items in

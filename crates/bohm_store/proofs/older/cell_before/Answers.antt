@@ -1,4 +1,4 @@
-use Rattle.std.proofs.Common.{◌≡◌, ◌∙◌, ◌+◌, ◌-◌, ◌≤◌, ◌==◌, ◌∷◌, [], true, false, ℕ, suc, List, length, drop, get_or, ap, sym, arith}
+use Rattle.std.proofs.Common.{◌≡◌, ◌∙◌, ◌+◌, ◌-◌, ◌≤◌, ◌==◌, ◌∷◌, [], true, false, ℕ, List, length, drop, ap, sym, arith}
 use Rattle.std.proofs.lemmas.Bool.Decides.{nat_tests}
 use Rattle.std.proofs.lemmas.List.{drop_all}
 use Rattle.bohm_types.specs.declared.cell.Cell.TheVariants as cells
@@ -12,18 +12,10 @@ use Rattle.bohm_store.proofs.older.cell_before.Goals as goal
 
 pub returns-then-one-ts : goal.returns-then-one-ts
 returns-then-one-ts c =
-    let os = c.args.older.now.items in
-    let n = c.args.number in
-    let held = held_versions c.args.newest in
-    let i = c.loop-i.i - 1 in
-    let d = c.at-one.result in
-    let is : d ≡ get_or os i d = c.at-one.ensures.item in
-    let low : (get_or os i d).end ≤ c.args.ts = rw (← is) (omega arith) in
     let (top, rise) = c.requires in
-    let next : suc i ≡ c.loop-i.i = omega arith in
-    let skip = first_skips c.args.ts top os n held i d rise (omega (arith, c.loop-i.invariant.inside)) low in
     c.loop-i.invariant.cell
-    ∙ ap (λ (vs : List Version). cell_at c.args.ts vs cells.Absent) (sym (skip ∙ ap (λ (j : ℕ). first_after c.args.ts (drop j os) n held) next))
+    ∙ ap (λ (vs : List Version). cell_at c.args.ts vs cells.Absent) (sym (first_skips c.args.ts top c.args.older.now.items c.args.number
+    (held_versions c.args.newest) c.loop-i.i c.at-one.result rise (omega arith) c.loop-i.invariant.inside c.at-one.ensures.item (omega arith)))
 
 pub loop-i-init : goal.loop-i-init
 loop-i-init c =
@@ -47,9 +39,8 @@ loop-i-preserved-then-one-number c =
     let held = held_versions c.args.newest in
     let i = c.loop-i.i - 1 in
     let d = c.at-one.result in
-    let is : d ≡ get_or os i d = c.at-one.ensures.item in
     let own : (d.number == n) ≡ true = (let e = c.if-one-number.true in grind (arith, nat_tests)) in
-    let step = rw (← is) at (first_step c.args.ts os n held i d true (omega (arith, c.loop-i.invariant.inside)) (rw (← is) own) (rw (← is) (omega arith))) in
+    let step = first_step c.args.ts os n held i d true (omega (arith, c.loop-i.invariant.inside)) c.at-one.ensures.item own (omega arith) in
     let from = c.saturating_sub-i.result in
     let near : from ≡ i - d.others = c.saturating_sub-i.ensures in
     let next : from + (i - from) ≡ i = omega arith in
@@ -69,10 +60,9 @@ loop-i-preserved c =
     let held = held_versions c.args.newest in
     let i = c.loop-i.i - 1 in
     let d = c.at-one.result in
-    let is : d ≡ get_or os i d = c.at-one.ensures.item in
     let other : (d.number == n) ≡ false = (let e = c.if-one-number.false in grind (arith, nat_tests)) in
     let next : i + 1 ≡ c.loop-i.i = omega arith in
-    let step = first_step c.args.ts os n held i d false (omega (arith, c.loop-i.invariant.inside)) (rw (← is) other) (rw (← is) (omega arith)) in
+    let step = first_step c.args.ts os n held i d false (omega (arith, c.loop-i.invariant.inside)) c.at-one.ensures.item other (omega arith) in
     record {
       inside = omega (arith, c.loop-i.invariant.inside);
       cell =

@@ -1,17 +1,21 @@
-use Rattle.std.proofs.Common.{◌≡◌, ◌∷◌, [], ◌∙◌, ◌<◌, ap, refl, sym, arith}
+use Rattle.std.proofs.Common.{◌≡◌, ◌∷◌, [], ◌++◌, ◌∙◌, ◌<◌, ◌==◌, ℕ, ap, refl, sym, arith, slice_set, if◌then◌else◌}
 use Rattle.std.specs.Prelude.{option_to_list}
 use Rattle.std.proofs.lemmas.List.Elements.{All-push}
 use Rattle.bohm_store.specs.declared.older.Older.{Older}
 use Rattle.bohm_store.specs.declared.version.Version.{Version}
 use Rattle.bohm_store.specs.Held.{held_at}
-use Rattle.bohm_store.specs.Numbered.{version_of}
+use Rattle.bohm_store.specs.Numbered.{IsLinked, older_of, version_of}
 use Rattle.bohm_store.specs.Places.{OlderList}
 use Rattle.bohm_store.proofs.OlderVersions.{had, displaced_one, displaced_none, rise_higher, rise_push}
-use Rattle.bohm_store.proofs.older.displace.Goals.{in-Some, in_default}
+use Rattle.bohm_store.proofs.older.displace.Goals.{After-new, in-Some, in_default}
 use Rattle.bohm_store.proofs.older.displace.Goals as goal
 
-pub returns-clause-versions : goal.returns-clause-versions
-returns-clause-versions c n linked =
+-- the versions by a number, and how they are linked
+displaced : (c : After-new) (n : ℕ) → IsLinked c.args.older.now.items n (held_at c.args.newest.now n)
+    → let more = c.match-version.older.items in let new = slice_set c.args.newest.now c.args.write.number c.new.result in
+    (older_of more n ++ held_at new n ≡ (older_of c.args.older.now.items n ++ held_at c.args.newest.now n)
+    ++ (if (c.args.write.number == n) then c.args.write.version ∷ [] else [])) × IsLinked more n (held_at new n)
+displaced c n linked =
     let now = c.args.newest.now in
     let os = c.args.older.now.items in
     let number = c.args.write.number in
@@ -23,32 +27,18 @@ returns-clause-versions c n linked =
           let (o, pushed, own, ended, said) = w.push.ensures.items in
           let was : held_at now number ≡ version_of o ∷ [] = held ∙ ap option_to_list w.in-Some.is ∙ ap (λ (v : Version). v ∷ []) (sym said) in
           let more = ap (λ (l : OlderList). l.items) w.older-is ∙ pushed in
-          (displaced_one os olds now _ number v c.new.result c.requires.number refl c.new.ensures o was own ended more n linked).0
+          displaced_one os olds now _ number v c.new.result c.requires.number refl c.new.ensures o was own ended more n linked
       | in_default w ↦
           let was : held_at now number ≡ [] = held ∙ ap option_to_list w.in_default.is in
           let more = ap (λ (l : OlderList). l.items) w.older-is in
-          (displaced_none os olds now _ number v c.new.result c.requires.number refl c.new.ensures was more n linked).0
+          displaced_none os olds now _ number v c.new.result c.requires.number refl c.new.ensures was more n linked
     ]
 
+pub returns-clause-versions : goal.returns-clause-versions
+returns-clause-versions c n linked = (displaced c n linked).0
+
 pub returns-clause-linked : goal.returns-clause-linked
-returns-clause-linked c n linked =
-    let now = c.args.newest.now in
-    let os = c.args.older.now.items in
-    let number = c.args.write.number in
-    let v = c.args.write.version in
-    let olds = c.match-version.older.items in
-    let held = had now number c.index-newest-number.result c.version.result c.index-newest-number.is c.requires.number c.version.ensures in
-    elim c.match-version.branch [
-      | in-Some w ↦
-          let (o, pushed, own, ended, said) = w.push.ensures.items in
-          let was : held_at now number ≡ version_of o ∷ [] = held ∙ ap option_to_list w.in-Some.is ∙ ap (λ (v : Version). v ∷ []) (sym said) in
-          let more = ap (λ (l : OlderList). l.items) w.older-is ∙ pushed in
-          (displaced_one os olds now _ number v c.new.result c.requires.number refl c.new.ensures o was own ended more n linked).1
-      | in_default w ↦
-          let was : held_at now number ≡ [] = held ∙ ap option_to_list w.in_default.is in
-          let more = ap (λ (l : OlderList). l.items) w.older-is in
-          (displaced_none os olds now _ number v c.new.result c.requires.number refl c.new.ensures was more n linked).1
-    ]
+returns-clause-linked c n linked = (displaced c n linked).1
 
 pub returns-clause-climbs : goal.returns-clause-climbs
 returns-clause-climbs c top rise le =

@@ -14,8 +14,7 @@ loop-i-init c = record {
   room = omega (arith, c.requires.room);
   places = c.requires.places;
   versions = λ n linked. (sym (append-nil (older_of c.args.older.now.items n ++ held_at c.args.newest.now n)), linked);
-  climbs = λ n top rise climb. (n, omega arith, rise, climb);
-  due = λ floor n top rise climb h lt. h;
+  climbs = λ n top rise climb. (n, omega arith, rise, climb, λ floor h lt. h);
 }
 
 pub displace-requires-clause-number : goal.displace-requires-clause-number
@@ -46,13 +45,9 @@ loop-i-preserved c =
             made.linked n link,
           ));
       climbs = λ n top rise climb. (
-          let (m, le, risen, left) = was.climbs n top rise climb in
+          let (m, le, risen, left, late) = was.climbs n top rise climb in
           let (low, more) = climb_more ws i m top w lt c.index-writes-i.is left in
-          (w.version.begin, omega arith, made.climbs m risen low, more));
-      due = λ floor n top rise climb h above. (
-          let (m, le, risen, left) = was.climbs n top rise climb in
-          let (low, more) = climb_more ws i m top w lt c.index-writes-i.is left in
-          made.due floor (was.due floor n top rise climb h above) (omega arith));
+          (w.version.begin, omega arith, made.climbs m risen low, more, λ floor h above. made.due floor (late floor h above) (omega arith)));
     }
 
 pub returns-clause-versions : goal.returns-clause-versions
@@ -64,8 +59,10 @@ returns-clause-versions c n linked =
 
 pub returns-clause-climbs : goal.returns-clause-climbs
 returns-clause-climbs c n top rise climb =
-    let (m, le, risen, left) = c.loop-i.invariant.climbs n top rise climb in
+    let (m, le, risen, left, late) = c.loop-i.invariant.climbs n top rise climb in
     rise_higher m top c.loop-i.older.items risen (climb_end m top (drop c.loop-i.i c.args.writes.now) left)
 
 pub returns-clause-due : goal.returns-clause-due
-returns-clause-due c floor n top rise climb h lt = c.loop-i.invariant.due floor n top rise climb h lt
+returns-clause-due c floor n top rise climb h lt =
+    let (m, le, risen, left, late) = c.loop-i.invariant.climbs n top rise climb in
+    late floor h lt

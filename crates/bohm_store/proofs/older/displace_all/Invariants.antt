@@ -12,7 +12,6 @@ invariant-loop-i l = record {
       → (older_of l.older.items n ++ held_at l.newest n ≡ (older_of l.initial.older.items n ++ held_at l.initial.newest n) ++ versions_by (take l.i l.writes) n)
       × IsLinked l.older.items n (held_at l.newest n);
   climbs : (n top : ℕ) → EndsRise n l.initial.older.items → ClimbTo n top l.writes
-      → (m : ℕ) × (n ≤ m) × EndsRise m l.older.items × ClimbTo m top (drop l.i l.writes);
-  due : (floor n top : ℕ) → EndsRise n l.initial.older.items → ClimbTo n top l.writes → All (λ o. floor < o.end) l.initial.older.items
-      → floor < n → All (λ o. floor < o.end) l.older.items;
+      → (m : ℕ) × (n ≤ m) × EndsRise m l.older.items × ClimbTo m top (drop l.i l.writes)
+      × ((floor : ℕ) → All (λ o. floor < o.end) l.initial.older.items → floor < n → All (λ o. floor < o.end) l.older.items);
 }

@@ -1,22 +1,16 @@
 -- Each replacement is that by the next one of the list of the writes.
-use Rattle.std.proofs.Common.{◌≡◌, ◌∙◌, ◌++◌, ◌==◌, ◌+◌, ◌∷◌, if◌then◌else◌, List, [], take, sym, ap, arith, append-nil}
+use Rattle.std.proofs.Common.{◌≡◌, take, ap, arith}
 use Rattle.std.specs.Prelude.{slice_index}
 use Rattle.std.proofs.lemmas.List.{take_all}
-use Rattle.bohm_store.specs.declared.version.Version.{Version}
 use Rattle.bohm_store.specs.declared.numbered_write.NumberedWrite.{NumberedWrite}
-use Rattle.bohm_store.specs.Chains.{newest_only}
 use Rattle.bohm_store.specs.Held.{held_at}
-use Rattle.bohm_store.specs.Writes.{versions_by, writes_by}
+use Rattle.bohm_store.specs.Writes.{writes_by}
 use Rattle.bohm_store.proofs.Advanced.{write_at, writes_long}
-use Rattle.bohm_store.proofs.Linked.{single_at}
-use Rattle.bohm_store.proofs.NewestOnly.{newest_single, replaced_by}
-use Rattle.bohm_store.proofs.NumberedWrites.{by_more}
+use Rattle.bohm_store.proofs.NewestOnly.{replaced_none, replaced_more}
 use Rattle.bohm_store.proofs.replacing.replace_each.Goals as goal
 
 pub loop-i-init : goal.loop-i-init
-loop-i-init c n =
-    let held = held_at c.args.newest.now n in
-    sym (ap newest_only (append-nil held) ∙ newest_single held (single_at c.args.newest.now n))
+loop-i-init c n = replaced_none c.args.newest.now n
 
 pub replace-requires : goal.replace-requires
 replace-requires c =
@@ -39,12 +33,8 @@ loop-i-preserved c n =
     let i = c.loop-i.i in
     let w : NumberedWrite = record { number = slice_index ns i; version = record { begin = u; cell = c.index-cells-i.result } } in
     let at = write_at u ns cs i c.index-cells-i.result w c.loop-i-test.true c.requires.paired c.index-cells-i.is in
-    let old = held_at c.args.newest.now n in
-    let more : versions_by (take (i + 1) ws) n ≡ versions_by (take i ws) n ++ (if (w.number == n) then w.version ∷ [] else []) =
-    by_more ws i w n (omega (arith, c.loop-i-test.true, writes_long u ns cs c.requires.paired)) at in
-    replaced_by old (versions_by (take i ws) n) (held_at c.loop-i.newest n) (held_at c.replace.new.newest n) w.version (w.number == n)
-    (c.loop-i.invariant n) (c.replace.ensures n)
-    ∙ ap (λ (vs : List Version). newest_only (old ++ vs)) (sym more)
+    replaced_more (held_at c.args.newest.now n) (held_at c.loop-i.newest n) (held_at c.replace.new.newest n) ws i w n
+    (omega (arith, c.loop-i-test.true, writes_long u ns cs c.requires.paired)) at (c.loop-i.invariant n) (c.replace.ensures n)
 
 pub returns : goal.returns
 returns c n =

@@ -1,77 +1,56 @@
-use Rattle.std.proofs.Common.{◌≡◌, ◌∙◌, length, ◌++◌, arith}
+use Rattle.std.proofs.Common.{◌∙◌, ◌++◌, arith}
 use Rattle.std.proofs.lemmas.List.{length-map}
-use Rattle.std.proofs.lemmas.Result.{err_from_is_err_and}
 use Rattle.bohm_log.specs.Calling.{argument_of}
 use Rattle.bohm_log.specs.Columns.{Shared, shared_of}
 use Rattle.bohm_log.specs.Handles.{keys_named}
+use Rattle.bohm_log.proofs.Failing.{on_err}
 use Rattle.bohm_log.proofs.Settling.{ids_behind, come_named, come_few, places_come, itself_comes, sorted_comes}
 use Rattle.bohm_log.proofs.Widening.{cut_back}
 use Rattle.bohm_log.proofs.columns.Columns.add_set.Goals as goal
 
 pub settle-requires-clause-few : goal.settle-requires-clause-few
 settle-requires-clause-few g c =
-    let start : c.len-start.result ≡ length c.args.self.now.ids.items = omega arith in
     omega (
       arith,
       c.requires,
       length-map c.args.names.now (argument_of (keys_named c.args.args.now)),
-      come_few _ _ _ c.len-start.result _ start c.in_ok-add_arguments.ensures.ok
+      come_few _ _ _ c.len-start.result _ (omega arith) c.in_ok-add_arguments.ensures.ok
           (ids_behind c.as_slice-2.result.now _ c.len-start.result c.as_slice-2.ensures.value),
     )
 
 pub settle-requires-clause-named : goal.settle-requires-clause-named
 settle-requires-clause-named g c =
-    let start : c.len-start.result ≡ length c.args.self.now.ids.items = omega arith in
-    come_named _ _ _ _ _ _ start c.in_ok-add_arguments.ensures.ok c.as_slice.ensures.names
+    come_named _ _ _ _ _ _ (omega arith) c.in_ok-add_arguments.ensures.ok c.as_slice.ensures.names
     (ids_behind c.as_slice-2.result.now _ c.len-start.result c.as_slice-2.ensures.value)
 
 pub returns-in_err-settle-clause-err : goal.returns-in_err-settle-clause-err
-returns-in_err-settle-clause-err g c =
-    let p = err_from_is_err_and c.from_residual-in_err-settle.result c.from_residual-in_err-settle.ensures.1 in
-    rw p.1 c.in_ok-add_arguments.ensures.ok.interns
+returns-in_err-settle-clause-err g c = on_err _ c.in_ok-add_arguments.ensures.ok.interns
 
 pub returns-then-places-clause-ok : goal.returns-then-places-clause-ok
 returns-then-places-clause-ok g c =
-    let start : c.len-start.result ≡ length c.args.self.now.ids.items = omega arith in
-    itself_comes _ _ _ _ _ _ _ start c.in_ok-add_arguments.ensures.ok c.as_slice.ensures.names
-    (ids_behind c.as_slice-2.result.now _ c.len-start.result c.as_slice-2.ensures.value)
-    c.in_ok-settle.ensures.ok c.if-places.true
+    itself_comes _ _ _ _ _ _ _ (omega arith) c.in_ok-add_arguments.ensures.ok c.as_slice.ensures.names
+    (ids_behind c.as_slice-2.result.now _ c.len-start.result c.as_slice-2.ensures.value) c.in_ok-settle.ensures.ok c.if-places.true
 
 pub returns-then-places-clause-places : goal.returns-then-places-clause-places
 returns-then-places-clause-places g c =
-    let start : c.len-start.result ≡ length c.args.self.now.ids.items = omega arith in
-    places_come _ _ _ _ _ _ _ start c.in_ok-add_arguments.ensures.ok c.as_slice.ensures.names
-    (ids_behind c.as_slice-2.result.now _ c.len-start.result c.as_slice-2.ensures.value)
-    c.in_ok-settle.ensures.ok
+    places_come _ _ _ _ _ _ _ (omega arith) c.in_ok-add_arguments.ensures.ok c.as_slice.ensures.names
+    (ids_behind c.as_slice-2.result.now _ c.len-start.result c.as_slice-2.ensures.value) c.in_ok-settle.ensures.ok
 
 pub returns-in_err-extend_from_slice-clause-err : goal.returns-in_err-extend_from_slice-clause-err
 returns-in_err-extend_from_slice-clause-err g c =
-    let p = err_from_is_err_and c.from_residual-in_err-extend_from_slice.result c.from_residual-in_err-extend_from_slice.ensures.1 in
-    let start : c.len-start.result ≡ length c.args.self.now.ids.items = omega arith in
     let d : Shared = shared_of c.add_arguments.new.self in
-    rw p.1 (cut_back _ d _ _ c.len-start.result start c.in_ok-add_arguments.ensures.ok
-    (λ i. record {
-      names = d.names;
-      ids = (c.in_err-extend_from_slice.ensures.items ∙ c.truncate.ensures.items) i;
-      others = d.others;
-      large = d.large;
-      terms = d.terms;
-      rows = d.rows;
-    }))
+    on_err _ (cut_back _ d _ _ c.len-start.result (omega arith) c.in_ok-add_arguments.ensures.ok
+    (λ i. record d { ids = (c.in_err-extend_from_slice.ensures.items ∙ c.truncate.ensures.items) i }))
 
 pub returns-clause-ok : goal.returns-clause-ok
 returns-clause-ok g c =
-    let start : c.len-start.result ≡ length c.args.self.now.ids.items = omega arith in
     let d : Shared = shared_of c.add_arguments.new.self in
     let ids = c.in_ok-extend_from_slice.ensures.items ∙ (λ j. c.truncate.ensures.items j ++ c.as_slice-3.ensures.value j) in
-    sorted_comes _ d _ _ _ _ _ _ start c.in_ok-add_arguments.ensures.ok c.as_slice.ensures.names
-    (ids_behind c.as_slice-2.result.now _ c.len-start.result c.as_slice-2.ensures.value)
-    c.in_ok-settle.ensures.ok c.if-places.false
-    (λ i. record { names = d.names; ids = ids i; others = d.others; large = d.large; terms = d.terms; rows = d.rows })
+    sorted_comes _ d _ _ _ _ _ _ (omega arith) c.in_ok-add_arguments.ensures.ok c.as_slice.ensures.names
+    (ids_behind c.as_slice-2.result.now _ c.len-start.result c.as_slice-2.ensures.value) c.in_ok-settle.ensures.ok c.if-places.false
+    (λ i. record d { ids = ids i })
 
 pub returns-clause-places : goal.returns-clause-places
 returns-clause-places g c =
-    let start : c.len-start.result ≡ length c.args.self.now.ids.items = omega arith in
-    places_come _ _ _ _ _ _ _ start c.in_ok-add_arguments.ensures.ok c.as_slice.ensures.names
-    (ids_behind c.as_slice-2.result.now _ c.len-start.result c.as_slice-2.ensures.value)
-    c.in_ok-settle.ensures.ok
+    places_come _ _ _ _ _ _ _ (omega arith) c.in_ok-add_arguments.ensures.ok c.as_slice.ensures.names
+    (ids_behind c.as_slice-2.result.now _ c.len-start.result c.as_slice-2.ensures.value) c.in_ok-settle.ensures.ok

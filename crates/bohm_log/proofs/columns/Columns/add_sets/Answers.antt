@@ -1,18 +1,14 @@
 use Rattle.std.proofs.Common.{arith}
-use Rattle.std.proofs.lemmas.Result.{err_from_is_err_and}
 use Rattle.bohm_log.specs.Columns.{shared_of}
+use Rattle.bohm_log.proofs.Failing.{on_err}
 use Rattle.bohm_log.proofs.Widening.{interns_both, sets_come, come_last}
 use Rattle.bohm_log.proofs.columns.Columns.add_sets.Goals as goal
 
 pub returns-in_err-add_written-clause-err : goal.returns-in_err-add_written-clause-err
-returns-in_err-add_written-clause-err g c =
-    let p = err_from_is_err_and c.from_residual-in_err-add_written.result c.from_residual-in_err-add_written.ensures.1 in
-    rw p.1 (interns_both _ _ _ c.in_ok-add_names.ensures.ok.interns c.in_err-add_written.ensures.err)
+returns-in_err-add_written-clause-err g c = on_err _ (interns_both _ _ _ c.in_ok-add_names.ensures.ok.interns c.in_err-add_written.ensures.err)
 
 pub returns-in_err-end-clause-err : goal.returns-in_err-end-clause-err
-returns-in_err-end-clause-err g c =
-    let p = err_from_is_err_and c.from_residual-in_err-end.result c.from_residual-in_err-end.ensures.1 in
-    rw p.1 (interns_both _ _ _ c.in_ok-add_names.ensures.ok.interns c.in_ok-add_written.ensures.ok.interns)
+returns-in_err-end-clause-err g c = on_err _ (interns_both _ _ _ c.in_ok-add_names.ensures.ok.interns c.in_ok-add_written.ensures.ok.interns)
 
 pub returns-clause-ok : goal.returns-clause-ok
 returns-clause-ok g c =

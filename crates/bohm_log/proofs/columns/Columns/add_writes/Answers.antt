@@ -1,12 +1,10 @@
 use Rattle.std.proofs.Common.{arith}
-use Rattle.std.proofs.lemmas.Result.{err_from_is_err_and}
+use Rattle.bohm_log.proofs.Failing.{on_err}
 use Rattle.bohm_log.proofs.Widening.{interns_both, numbered_next, still_stand}
 use Rattle.bohm_log.proofs.columns.Columns.add_writes.Goals as goal
 
 pub returns-in_err-add_write-clause-err : goal.returns-in_err-add_write-clause-err
-returns-in_err-add_write-clause-err g c =
-    let p = err_from_is_err_and c.from_residual.result c.from_residual.ensures.1 in
-    rw p.1 (interns_both _ _ _ c.loop-name.invariant.0.interns c.in_err-add_write.ensures.err)
+returns-in_err-add_write-clause-err g c = on_err _ (interns_both _ _ _ c.loop-name.invariant.0.interns c.in_err-add_write.ensures.err)
 
 pub loop-name-preserved : goal.loop-name-preserved
 loop-name-preserved g c = (

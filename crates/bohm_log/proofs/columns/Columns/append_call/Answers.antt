@@ -6,6 +6,7 @@ use Rattle.bohm_log.specs.Calling.{argument_of, let_large, let_terms, let_rows, 
 use Rattle.bohm_log.specs.CallPlaces.{written}
 use Rattle.bohm_log.specs.Handles.{keys_named}
 use Rattle.bohm_log.specs.declared.fault.LogFault.TheVariants.{Full}
+use Rattle.bohm_log.proofs.Failing.{on_err}
 use Rattle.bohm_log.proofs.Lets.{terms_many}
 use Rattle.bohm_log.proofs.Growth.{Begins-itself}
 use Rattle.bohm_log.proofs.Measuring.{called_terms, called_rows}
@@ -22,27 +23,22 @@ moves_by-requires-clause-writes g c = λ e. c.in_ok-ids.ensures.places.writes.in
 
 pub returns-in_err-others_from-clause-err : goal.returns-in_err-others_from-clause-err
 returns-in_err-others_from-clause-err g c =
-    let p = err_from_is_err_and c.from_residual-in_err-others_from.result c.from_residual-in_err-others_from.ensures.1 in
-    rw p.1 (interns_wider _ _ _ c.in_ok-ids.ensures.ok.interns refl refl c.in_err-others_from.ensures.begins (Begins-itself _) (Begins-itself _)
-    (Begins-itself _))
+    on_err _ (interns_wider _ _ c.in_err-others_from.ensures.begins (Begins-itself _) (Begins-itself _) (Begins-itself _) c.in_ok-ids.ensures.ok.interns)
 
 pub returns-in_err-large_from-clause-err : goal.returns-in_err-large_from-clause-err
 returns-in_err-large_from-clause-err g c =
-    let p = err_from_is_err_and c.from_residual-in_err-large_from.result c.from_residual-in_err-large_from.ensures.1 in
-    rw p.1 (interns_wider _ _ _ c.in_ok-ids.ensures.ok.interns refl refl c.in_ok-others_from.ensures.begins c.in_err-large_from.ensures.begins
-    (Begins-itself _) (Begins-itself _))
+    on_err _ (interns_wider _ _ c.in_ok-others_from.ensures.begins c.in_err-large_from.ensures.begins (Begins-itself _)
+    (Begins-itself _) c.in_ok-ids.ensures.ok.interns)
 
 pub returns-in_err-terms_from-clause-err : goal.returns-in_err-terms_from-clause-err
 returns-in_err-terms_from-clause-err g c =
-    let p = err_from_is_err_and c.from_residual-in_err-terms_from.result c.from_residual-in_err-terms_from.ensures.1 in
-    rw p.1 (interns_wider _ _ _ c.in_ok-ids.ensures.ok.interns refl refl c.in_ok-others_from.ensures.begins c.in_ok-large_from.ensures.begins
-    c.in_err-terms_from.ensures.begins (Begins-itself _))
+    on_err _ (interns_wider _ _ c.in_ok-others_from.ensures.begins c.in_ok-large_from.ensures.begins c.in_err-terms_from.ensures.begins
+    (Begins-itself _) c.in_ok-ids.ensures.ok.interns)
 
 pub returns-in_err-rows_from-clause-err : goal.returns-in_err-rows_from-clause-err
 returns-in_err-rows_from-clause-err g c =
-    let p = err_from_is_err_and c.from_residual-in_err-rows_from.result c.from_residual-in_err-rows_from.ensures.1 in
-    rw p.1 (interns_wider _ _ _ c.in_ok-ids.ensures.ok.interns refl refl c.in_ok-others_from.ensures.begins c.in_ok-large_from.ensures.begins
-    c.in_ok-terms_from.ensures.begins c.in_err-rows_from.ensures.begins)
+    on_err _ (interns_wider _ _ c.in_ok-others_from.ensures.begins c.in_ok-large_from.ensures.begins c.in_ok-terms_from.ensures.begins
+    c.in_err-rows_from.ensures.begins c.in_ok-ids.ensures.ok.interns)
 
 pub returns-in_err-terms_from-clause-full : goal.returns-in_err-terms_from-clause-full
 returns-in_err-terms_from-clause-full g c e =
@@ -81,8 +77,8 @@ returns-clause-ok g c =
     let locals = c.args.locals.now in
     let vs = c.args.values.now in
     let m = c.moves_by.ensures in
-    appended _ _ _ _ _ _ c.in_ok-ids.ensures.ok refl refl refl c.in_ok-others_from.ensures.begins c.in_ok-large_from.ensures.begins
-    c.in_ok-terms_from.ensures.begins c.in_ok-rows_from.ensures.begins
+    appended _ _ c.in_ok-others_from.ensures.begins c.in_ok-large_from.ensures.begins c.in_ok-terms_from.ensures.begins c.in_ok-rows_from.ensures.begins
+    _ _ _ c.in_ok-ids.ensures.ok refl
     (lands_same _ _ _ _ _ c.as_slice.ensures.value c.in_ok-others_from.ensures.ok)
     (lands_same _ _ _ _ _ (ap (λ (xs : List ℕ). xs ++ let_large vs) c.as_slice-2.ensures.value) c.in_ok-large_from.ensures.ok)
     (lands_same _ _ _ _ _ (ap (λ (ps : List ℕ). map (term_to ps) body.terms.items ++ let_terms (length body.large.items) vs) m.reads)

@@ -1,33 +1,20 @@
-use Rattle.std.proofs.Common.{ap, sym, subst, ◌∙◌, arith}
-use Rattle.std.proofs.lemmas.Result.{err_from_is_err_and}
+use Rattle.std.proofs.Common.{ap, ◌∙◌, arith}
 use Rattle.bohm_log.specs.Drafting.{with_term, Drafted}
 use Rattle.bohm_log.specs.Seeing.{atom_shown}
-use Rattle.bohm_log.proofs.Drafts.{names_unseen, names_within, term_added, term_within}
-use Rattle.bohm_log.specs.SoundLogs.{IsSoundDraft}
-use Rattle.bohm_log.proofs.Counting.{counted_unseen, counted_term}
-use Rattle.bohm_log.proofs.SoundDrafts.{sound_term}
+use Rattle.bohm_log.proofs.Drafts.{names_unseen, term_added}
+use Rattle.bohm_log.proofs.Failing.{on_err}
+use Rattle.bohm_log.proofs.Keeping.{unseen_keeps, term_keeps}
 use Rattle.bohm_log.proofs.draft.Draft.add_term.Goals as goal
 
 pub returns-in_err-add_term-clause-err : goal.returns-in_err-add_term-clause-err
-returns-in_err-add_term-clause-err g c =
-    let p = err_from_is_err_and c.from_residual.result c.from_residual.ensures.1 in
-    rw p.1 (names_unseen _ _ _ _ c.in_err-add_term.ensures.err c.self.invariant.0 ∙ c.self.view_is)
+returns-in_err-add_term-clause-err g c = on_err _ (names_unseen _ _ _ _ c.in_err-add_term.ensures.err c.self.invariant.0 ∙ c.self.view_is)
 
 pub invariant_of-self : goal.invariant_of-self
-invariant_of-self g c = (
-  names_within _ _ _ c.in_err-add_term.ensures.err c.self.invariant.0,
-  subst IsSoundDraft (sym (names_unseen _ _ _ _ c.in_err-add_term.ensures.err c.self.invariant.0)) c.self.invariant.1,
-  counted_unseen _ _ _ _ c.in_err-add_term.ensures.err c.in_err-add_term.ensures.compact c.self.invariant.0 c.self.invariant.2,
-)
+invariant_of-self g c = unseen_keeps _ _ _ _ c.in_err-add_term.ensures.err c.in_err-add_term.ensures.compact c.self.invariant
 
 pub invariant_of-self-2 : goal.invariant_of-self-2
-invariant_of-self-2 g c = (
-  term_within _ _ _ _ _ c.in_ok-add_term.ensures.ok c.self.invariant.0 (omega arith),
-  subst IsSoundDraft (sym (term_added _ _ _ _ _ _ c.in_ok-add_term.ensures.ok c.self.invariant.0))
-      (sound_term _ c.args.minus (atom_shown c.args.atom) c.self.invariant.1 c.requires),
-  counted_term _ _ _ _ _ _ (term_added _ _ _ _ _ _ c.in_ok-add_term.ensures.ok c.self.invariant.0) c.in_ok-add_term.ensures.ok c.in_ok-add_term.ensures.compact
-      c.self.invariant.2,
-)
+invariant_of-self-2 g c =
+    term_keeps _ _ _ _ _ _ c.in_ok-add_term.ensures.ok c.in_ok-add_term.ensures.compact c.requires (omega arith) c.self.invariant
 
 pub returns-clause-ok : goal.returns-clause-ok
 returns-clause-ok g c =

@@ -1,13 +1,11 @@
 use Rattle.std.proofs.Common.{◌∙◌, List, ℕ, subst}
-use Rattle.std.proofs.lemmas.Result.{err_from_is_err_and}
 use Rattle.bohm_log.specs.Drafting.{parts_of, KeyStands, keys_of}
+use Rattle.bohm_log.proofs.Failing.{on_err}
 use Rattle.bohm_log.proofs.Standing.{others_grow, name_stands, named_came, row_unseen, with_others}
 use Rattle.bohm_log.proofs.draft_columns.DraftColumns.add_named.Goals as goal
 
 pub returns-in_err-declared-clause-err : goal.returns-in_err-declared-clause-err
-returns-in_err-declared-clause-err g c =
-    let p = err_from_is_err_and c.from_residual.result c.from_residual.ensures.1 in
-    rw p.1 (others_grow (parts_of c.args.self.now) c.place_name.new.others c.in_err-declared.ensures.grows)
+returns-in_err-declared-clause-err g c = on_err _ (others_grow (parts_of c.args.self.now) c.place_name.new.others c.in_err-declared.ensures.grows)
 
 pub returns-in-Err-clause-err : goal.returns-in-Err-clause-err
 returns-in-Err-clause-err g c =

@@ -1,83 +1,72 @@
 -- The versions of one transaction, by the numbers of its writes and the cells that it leaves.
-use Rattle.std.proofs.Common.{◌≡◌, ◌∙◌, ◌+◌, ◌∷◌, [], ℕ, List, ap, arith, map, subst}
-use Rattle.bohm_types.specs.declared.cell.Cell.{Cell}
-use Rattle.bohm_types.specs.Txn.{Txn}
-use Rattle.bohm_txn.specs.Faulty.{IsWellFormedTxn}
+use Rattle.std.proofs.Common.{◌≡◌, length, ◌∙◌, ◌+◌, ◌∷◌, [], ℕ, List, ap, arith, map, subst}
 use Rattle.bohm_txn.specs.Meaning.{Look}
 use Rattle.bohm_txn.specs.Serial.{after}
 use Rattle.bohm_store.specs.Nexts.{IsSettledKept}
-use Rattle.bohm_store.specs.Numbered.{Numbered, timeline, versions_at}
+use Rattle.bohm_store.specs.Numbered.{timeline, versions_at}
 use Rattle.bohm_store.specs.Versions.{past}
-use Rattle.bohm_store.specs.Writes.{AreNumbersOf, AreWritesBehind, writes_by}
+use Rattle.bohm_store.specs.Writes.{AreTxnWrites, AreWritesBehind, writes_by}
 use Rattle.bohm_store.specs.declared.numbered_write.NumberedWrite.{NumberedWrite}
 use Rattle.bohm_store.proofs.Advanced.{numbers_paired, txn_written}
 use Rattle.bohm_store.proofs.Entries.{keys_named}
 use Rattle.bohm_store.proofs.Grown.{txn_behind}
 use Rattle.bohm_store.proofs.Same.{covered_same, kept_same, same_top}
+use Rattle.bohm_store.proofs.history.History.add_versions.Goals.{After-as_slice, After-cover}
 use Rattle.bohm_store.proofs.history.History.add_versions.Goals as goal
 
--- what a transaction leaves, over the history with more room
-leaves_over : (names : List (List ℕ)) (old mid : Numbered) (t : Txn) (cells : List Cell) → mid.floor ≡ old.floor → mid.top ≡ old.top
-    → ((n : ℕ) → versions_at mid n ≡ versions_at old n) → map (after (past (timeline names old) old.top) t) t.writes ≡ cells
-    → map (after (past (timeline names mid) mid.top) t) t.writes ≡ cells
-leaves_over names old mid t cells floor top versions leaves =
-    ap (λ (look : Look). map (after look t) t.writes)
-    (same_top (timeline names old) (timeline names mid) (covered_same names old mid floor top versions))
-    ∙ leaves
-
-pub list_versions-requires : goal.list_versions-requires
-list_versions-requires c =
-    let names = c.self.inside.names in
-    let old = c.self.inside.numbered in
-    let are = rw (← c.self.view_is, keys_named (versions_at old) 0 names) at c.requires.numbers in
-    let leaves = rw (← c.self.view_is) at c.requires.cells in
-    numbers_paired names c.args.numbers.now c.args.txn.now.writes (after (past (timeline names old) old.top) c.args.txn.now) c.args.cells.now are leaves
-
-pub advance_newest-requires : goal.advance_newest-requires
-advance_newest-requires c =
+-- over the history with more room, the cells are those that the transaction leaves, one for each number
+covered : (c : After-cover) → let names = c.self.inside.names in let mid = c.cover.new.self in (length c.args.numbers.now ≡ length c.args.cells.now)
+    × AreTxnWrites names (mid.top + 1) (past (timeline names mid) mid.top) c.args.txn.now (writes_by (mid.top + 1) c.args.numbers.now c.args.cells.now)
+covered c =
     let names = c.self.inside.names in
     let old = c.self.inside.numbered in
     let mid = c.cover.new.self in
+    let t = c.args.txn.now in
     let are = rw (← c.self.view_is, keys_named (versions_at old) 0 names) at c.requires.numbers in
-    let leaves = leaves_over names old mid c.args.txn.now c.args.cells.now c.cover.ensures.floor c.cover.ensures.top c.cover.ensures.versions
-    (rw (← c.self.view_is) at c.requires.cells) in
-    let look : Look = past (timeline names mid) mid.top in
-    let writes = txn_written names (mid.top + 1) look c.args.txn.now c.args.numbers.now c.args.cells.now are leaves in
+    let same = covered_same names old mid c.cover.ensures.floor c.cover.ensures.top c.cover.ensures.versions in
+    let leaves = ap (λ (look : Look). map (after look t) t.writes) (same_top (timeline names old) (timeline names mid) same)
+    ∙ rw (← c.self.view_is) at c.requires.cells in
+    let look : Look = past (timeline names mid) mid.top in (
+      numbers_paired names c.args.numbers.now t.writes (after look t) c.args.cells.now are leaves,
+      txn_written names (mid.top + 1) look t c.args.numbers.now c.args.cells.now are leaves,
+    )
+
+pub list_versions-requires : goal.list_versions-requires
+list_versions-requires c = (covered (goal.at.list_versions-requires c).After-cover).0
+
+pub advance_newest-requires : goal.advance_newest-requires
+advance_newest-requires c =
+    let (paired, writes) = covered (goal.at.advance_newest-requires c).After-cover in
     let room = rw (← c.self.view_is) at c.requires.timestamp in
     rw c.as_slice-names.ensures.names (record {
       names = c.as_slice-names.ensures.apart;
       long = omega (arith, c.in_ok-cover.ensures, c.len.ensures);
       well = c.requires.well;
       timestamp = omega (arith, room, c.cover.ensures.top);
-      paired = numbers_paired names c.args.numbers.now c.args.txn.now.writes (after look c.args.txn.now) c.args.cells.now are leaves;
+      paired = paired;
       writes = writes;
     })
 
--- its listed writes, over the history with more room
-behind : (names : List (List ℕ)) (old mid : Numbered) (t : Txn) (ns : List ℕ) (cells : List Cell) (ws : List NumberedWrite) → mid.floor ≡ old.floor
-    → mid.top ≡ old.top → ((n : ℕ) → versions_at mid n ≡ versions_at old n) → IsWellFormedTxn t → AreNumbersOf names ns t.writes
-    → map (after (past (timeline names old) old.top) t) t.writes ≡ cells → ws ≡ writes_by (mid.top + 1) ns cells
-    → AreWritesBehind names (timeline names mid) 1 (t ∷ []) ws
-behind names old mid t ns cells ws floor top versions well are leaves is =
-    rw is (txn_behind names (timeline names mid) t (writes_by (mid.top + 1) ns cells) well
-    (txn_written names (mid.top + 1) (past (timeline names mid) mid.top) t ns cells are (leaves_over names old mid t cells floor top versions leaves)))
+-- its listed writes
+behind : (c : After-as_slice)
+    → AreWritesBehind c.self.inside.names (timeline c.self.inside.names c.cover.new.self) 1 (c.args.txn.now ∷ []) c.as_slice.result.now
+behind c =
+    let names = c.self.inside.names in
+    let written : ℕ → List NumberedWrite = λ n. writes_by (n + 1) c.args.numbers.now c.args.cells.now in
+    let is : c.as_slice.result.now ≡ written c.cover.new.self.top =
+    c.as_slice.ensures.value ∙ c.in_ok-list_versions.ensures ∙ ap written c.top-begin.ensures.top in
+    rw is (txn_behind names (timeline names c.cover.new.self) c.args.txn.now (written c.cover.new.self.top) c.requires.well
+    (covered (goal.at.add_above-requires c).After-cover).1)
 
 pub add_above-requires : goal.add_above-requires
 add_above-requires c =
-    let names = c.self.inside.names in
     let room = rw (← c.self.view_is) at c.requires.timestamp in
     let low = rw (← c.self.view_is) at c.requires.floor in
-    let are = rw (← c.self.view_is, keys_named (versions_at c.self.inside.numbered) 0 names) at c.requires.numbers in
-    let leaves = rw (← c.self.view_is) at c.requires.cells in
-    let is : c.as_slice.result.now ≡ writes_by (c.cover.new.self.top + 1) c.args.numbers.now c.args.cells.now = c.as_slice.ensures.value
-    ∙ (c.in_ok-list_versions.ensures ∙ ap (λ (n : ℕ). writes_by (n + 1) c.args.numbers.now c.args.cells.now) c.top-begin.ensures.top) in
-    let writes = behind names c.self.inside.numbered c.cover.new.self c.args.txn.now c.args.numbers.now c.args.cells.now c.as_slice.result.now
-    c.cover.ensures.floor c.cover.ensures.top c.cover.ensures.versions c.requires.well are leaves is in
     rw c.as_slice-names.ensures.names (record {
       names = c.as_slice-names.ensures.apart;
       long = omega (arith, c.in_ok-cover.ensures, c.len.ensures);
       timestamps = omega (arith, room, c.cover.ensures.top);
-      writes = (c.args.txn.now ∷ [], writes);
+      writes = (c.args.txn.now ∷ [], behind c);
       floor = omega (arith, low, c.cover.ensures.top);
     })
 
@@ -99,13 +88,7 @@ returns-clause-ok c =
     let names = c.self.inside.names in
     let old = c.self.inside.numbered in
     let mid = c.cover.new.self in
-    let new = c.add_above.new.self in
-    let are = rw (← c.self.view_is, keys_named (versions_at c.self.inside.numbered) 0 names) at c.requires.numbers in
-    let leaves = rw (← c.self.view_is) at c.requires.cells in
-    let is : c.as_slice.result.now ≡ writes_by (c.cover.new.self.top + 1) c.args.numbers.now c.args.cells.now = c.as_slice.ensures.value
-    ∙ (c.in_ok-list_versions.ensures ∙ ap (λ (n : ℕ). writes_by (n + 1) c.args.numbers.now c.args.cells.now) c.top-begin.ensures.top) in
-    let writes = behind names c.self.inside.numbered c.cover.new.self c.args.txn.now c.args.numbers.now c.args.cells.now c.as_slice.result.now
-    c.cover.ensures.floor c.cover.ensures.top c.cover.ensures.versions c.requires.well are leaves is in
     let told = rw c.as_slice-names.ensures.names at c.in_ok-add_above.ensures.ok in
-    rw (← c.self.view_is) (kept_same (timeline names old) (timeline names mid) (timeline names new) (c.args.txn.now ∷ []) c.args.floor
-    (covered_same names old mid c.cover.ensures.floor c.cover.ensures.top c.cover.ensures.versions) (told (c.args.txn.now ∷ []) writes))
+    rw (← c.self.view_is) (kept_same (timeline names old) (timeline names mid) (timeline names c.add_above.new.self) (c.args.txn.now ∷ []) c.args.floor
+    (covered_same names old mid c.cover.ensures.floor c.cover.ensures.top c.cover.ensures.versions)
+    (told (c.args.txn.now ∷ []) (behind (goal.at.returns-clause-ok c).After-as_slice)))

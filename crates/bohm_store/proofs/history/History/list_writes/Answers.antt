@@ -9,9 +9,7 @@ use Rattle.bohm_store.proofs.history.History.list_writes.Goals as goal
 
 pub returns-clause-same : goal.returns-clause-same
 returns-clause-same c =
-    let h = c.self.inside.numbered in
-    let more = c.numbered_writes.new.names in
-    rw (← c.self.view_is) (named_more h c.self.inside.names more c.self.invariant c.len.ensures.behind c.numbered_writes.ensures.longer)
+    rw (← c.self.view_is) (named_more c.self.inside.numbered _ _ c.self.invariant c.len.ensures.behind c.numbered_writes.ensures.longer)
 
 pub returns-clause-writes : goal.returns-clause-writes
 returns-clause-writes c =

@@ -8,9 +8,7 @@ use Rattle.bohm_store.proofs.history.History.number_writes.Goals as goal
 
 pub returns-clause-same : goal.returns-clause-same
 returns-clause-same c =
-    let h = c.self.inside.numbered in
-    let more = c.number_all.new.names in
-    rw (← c.self.view_is) (named_more h c.self.inside.names more c.self.invariant c.len.ensures.behind c.number_all.ensures.longer)
+    rw (← c.self.view_is) (named_more c.self.inside.numbered _ _ c.self.invariant c.len.ensures.behind c.number_all.ensures.longer)
 
 pub returns-clause-numbers : goal.returns-clause-numbers
 returns-clause-numbers c =

@@ -1,41 +1,43 @@
 use Rattle.std.proofs.Common.{◌≡◌, ◌+◌, ℕ, length, arith, subst}
 use Rattle.bohm_board.specs.Batches.{txns_of}
-use Rattle.bohm_store.specs.Nexts.{IsNext, IsSettledKept}
+use Rattle.bohm_store.specs.Nexts.{IsNext, IsSame, IsSettledKept}
 use Rattle.bohm_store.specs.Numbered.{timeline, versions_at}
 use Rattle.bohm_store.proofs.Entries.{keys_named}
 use Rattle.bohm_store.proofs.Grown.{batch_behind}
 use Rattle.bohm_store.proofs.Same.{covered_same, kept_same, next_same}
+use Rattle.bohm_store.specs.Writes.{AreWritesOf}
+use Rattle.bohm_store.proofs.history.History.settle_listed.Goals.{After-cover}
 use Rattle.bohm_store.proofs.history.History.settle_listed.Goals as goal
+
+-- the history with more room is the same, the batch is its next one too, and the writes are the batch's
+covered : (c : After-cover) → let names = c.self.inside.names in let mid = timeline names c.cover.new.self in
+    IsSame (timeline names c.self.inside.numbered) mid × IsNext mid c.args.batch.now × AreWritesOf names c.args.batch.now c.args.writes.now
+covered c =
+    let names = c.self.inside.names in
+    let old = c.self.inside.numbered in
+    let same = covered_same names old c.cover.new.self c.cover.ensures.floor c.cover.ensures.top c.cover.ensures.versions in
+    let next = rw (← c.self.view_is) at c.requires.next in
+    (same, next_same _ _ c.args.batch.now same next, rw (← c.self.view_is, keys_named (versions_at old) 0 names) at c.requires.writes)
 
 pub settle_newest-requires : goal.settle_newest-requires
 settle_newest-requires c =
-    let names = c.self.inside.names in
-    let next = rw (← c.self.view_is) at c.requires.next in
-    let writes = rw (← c.self.view_is, keys_named (versions_at c.self.inside.numbered) 0 names) at c.requires.writes in
+    let (same, next, writes) = covered (goal.at.settle_newest-requires c).After-cover in
     rw c.as_slice-names.ensures.names (record {
       names = c.as_slice-names.ensures.apart;
       long = omega (arith, c.in_ok-cover.ensures, c.len.ensures);
-      next =
-          next_same (timeline names c.self.inside.numbered) (timeline names c.cover.new.self) c.args.batch.now
-          (covered_same names c.self.inside.numbered c.cover.new.self c.cover.ensures.floor c.cover.ensures.top c.cover.ensures.versions) next;
+      next = next;
       writes = writes;
     })
 
 pub add_above-requires : goal.add_above-requires
 add_above-requires c =
-    let names = c.self.inside.names in
-    let old = c.self.inside.numbered in
-    let b = c.args.batch.now in
-    let mid = timeline names c.cover.new.self in
+    let (same, next, writes) = covered (goal.at.add_above-requires c).After-cover in
     let low = rw (← c.self.view_is) at c.requires.floor in
-    let writes = rw (← c.self.view_is, keys_named (versions_at old) 0 names) at c.requires.writes in
-    let next : IsNext mid b = next_same (timeline names old) mid b
-    (covered_same names old c.cover.new.self c.cover.ensures.floor c.cover.ensures.top c.cover.ensures.versions) (rw (← c.self.view_is) at c.requires.next) in
     rw c.as_slice-names.ensures.names (record {
       names = c.as_slice-names.ensures.apart;
       long = omega (arith, c.in_ok-cover.ensures, c.len.ensures);
-      timestamps = omega (arith, b.batched.timestamps, next.first, c.len-count.ensures);
-      writes = (txns_of b, rw c.len-count.ensures (batch_behind names mid b c.args.writes.now next writes));
+      timestamps = omega (arith, c.args.batch.now.batched.timestamps, next.first, c.len-count.ensures);
+      writes = (txns_of c.args.batch.now, rw c.len-count.ensures (batch_behind _ _ _ _ next writes));
       floor = omega (arith, low, c.cover.ensures.top, c.len-count.ensures);
     })
 
@@ -49,18 +51,14 @@ returns-then-floor-top-clause-ok c =
     let told = rw c.as_slice-names.ensures.names at c.settle_newest.ensures.settled in
     let end : mid.top + length txns ≡ c.args.floor = omega (arith, c.if-floor-top.true, c.top.ensures.top, c.len-count.ensures) in
     rw (← c.self.view_is) (kept_same (timeline names old) (timeline names mid) (timeline names new) txns c.args.floor
-    (covered_same names old mid c.cover.ensures.floor c.cover.ensures.top c.cover.ensures.versions)
+    (covered (goal.at.returns-then-floor-top-clause-ok c).After-cover).0
     (subst (λ (low : ℕ). IsSettledKept (timeline names mid) (timeline names new) txns low) end told))
 
 pub returns-clause-ok : goal.returns-clause-ok
 returns-clause-ok c =
     let names = c.self.inside.names in
-    let old = c.self.inside.numbered in
     let b = c.args.batch.now in
-    let mid = timeline names c.cover.new.self in
-    let same = covered_same names old c.cover.new.self c.cover.ensures.floor c.cover.ensures.top c.cover.ensures.versions in
-    let writes = rw (← c.self.view_is, keys_named (versions_at old) 0 names) at c.requires.writes in
-    let next : IsNext mid b = next_same (timeline names old) mid b same (rw (← c.self.view_is) at c.requires.next) in
+    let (same, next, writes) = covered (goal.at.returns-clause-ok c).After-cover in
     let told = rw c.as_slice-names.ensures.names at c.in_ok-add_above.ensures.ok in
-    rw (← c.self.view_is) (kept_same (timeline names old) mid (timeline names c.add_above.new.self) (txns_of b) c.args.floor same
-    (told (txns_of b) (rw c.len-count.ensures (batch_behind names mid b c.args.writes.now next writes))))
+    rw (← c.self.view_is) (kept_same _ (timeline names c.cover.new.self) (timeline names c.add_above.new.self) (txns_of b) c.args.floor same
+    (told (txns_of b) (rw c.len-count.ensures (batch_behind _ _ _ _ next writes))))

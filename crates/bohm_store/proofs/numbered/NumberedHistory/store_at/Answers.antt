@@ -25,8 +25,8 @@ present_at-requires c =
     let long = rw (← c.self.view_is) at c.requires.long in
     record { long = omega (arith, ap length c.deref.ensures.value, long); climbs = (c.self.inside.top, c.self.invariant.climbs) }
 
-pub returns-in-Ok-clause-past : goal.returns-in-Ok-clause-past
-returns-in-Ok-clause-past c =
+pub returns-in-Ok : goal.returns-in-Ok
+returns-in-Ok c =
     let ts = c.args.ts in
     let names = c.args.names.now in
     let items = c.self.inside.newest.items in
@@ -44,25 +44,9 @@ returns-in-Ok-clause-past c =
     subst (λ (xs : List (List ℕ × ℤ)). IsPermutation xs sorted) is c.sort_unstable_by.ensures.permutation in
     let same : (k : List ℕ) → _ =
     λ k. ap (λ (s : Store). cell_in s k) (same_moved (timeline_entries_at ts es) sorted moved (distinct_held ts es unique)) ∙ cell_held ts k es unique in
-    rw (← c.self.view_is) (λ i k. same k i)
-
-pub returns-in-Ok-clause-entries : goal.returns-in-Ok-clause-entries
-returns-in-Ok-clause-entries c =
-    let ts = c.args.ts in
-    let names = c.args.names.now in
-    let items = c.self.inside.newest.items in
-    let os = c.self.inside.older.items in
-    let h : Numbered = record { floor = c.self.inside.floor; top = c.self.inside.top; newest = items; older = os } in
-    let es = named (versions_at h) 0 names in
-    let sorted = c.sort_unstable_by.new.self.items in
-    let unique : IsDistinct bytes_eq (keys_of es) = rw (keys_named (versions_at h) 0 names) c.requires.names in
-    let each : (n : ℕ) → cell_at ts (first_after ts os n (held_at c.deref.result.now n)) cells.Absent ≡ cell_at ts (versions_at h n) cells.Absent =
-    λ n. ap (λ (xs : List Held). cell_at ts (first_after ts os n (held_at xs n)) cells.Absent) c.deref.ensures.value
-    ∙ sym (first_seen ts os n (held_at items n) (c.self.invariant.rising n) (c.self.invariant.linked n)) in
-    let is : c.in-Ok.list.items ≡ timeline_entries_at ts es =
-    c.in-Ok.ensures ∙ entries_same ts (λ n. first_after ts os n (held_at c.deref.result.now n)) (versions_at h) 0 names (λ n low high. each n) in
-    let moved : IsPermutation (timeline_entries_at ts es) sorted =
-    subst (λ (xs : List (List ℕ × ℤ)). IsPermutation xs sorted) is c.sort_unstable_by.ensures.permutation in
-    entries_listed (timeline_entries_at ts es) sorted moved (distinct_held ts es unique)
-    (c.sort_unstable_by.ensures.sorted (λ x y. is_lt (slice_cmp nat_cmp x.0 y.0)) (ranks_by nat_list_cmp_total (λ e. e.0))
-    (answers_always _ (λ a r. is_lt r ≡ is_lt (slice_cmp nat_cmp a.0.now.0 a.1.0.now.0)) _ (λ f a r g q. search rules)))
+    record {
+      past = rw (← c.self.view_is) (λ i k. same k i);
+      entries = entries_listed (timeline_entries_at ts es) sorted moved (distinct_held ts es unique)
+          (c.sort_unstable_by.ensures.sorted (λ x y. is_lt (slice_cmp nat_cmp x.0 y.0)) (ranks_by nat_list_cmp_total (λ e. e.0))
+          (answers_always _ (λ a r. is_lt r ≡ is_lt (slice_cmp nat_cmp a.0.now.0 a.1.0.now.0)) _ (λ f a r g q. search rules)));
+    }

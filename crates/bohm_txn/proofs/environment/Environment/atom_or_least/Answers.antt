@@ -13,5 +13,5 @@ returns-in-Read c =
     let number : ℤ = c.number_or_least.result in
     let same : to_z w64 (of_z w64 number) ≡ number = to_z-of_z w64 number (record { sfits = c.number_or_least.type_inv }) in
     rw same (subst (λ (o : Option ℤ). neg_ℤ (pos (2 ^ 58)) ≤ℤ number → o ≡ Some number)
-    (read_number view.txn.now view.cells.now view.locals.now c.args.term.kind c.args.term.place c.index-self-term.result
+    (read_number view.txn.now view.cells.now view.locals.now c.args.term.kind c.args.term.place c.index-self-place.result
     view.rising view.paired c.requires c.in-Read.is) c.number_or_least.ensures)
