@@ -1,5 +1,6 @@
 -- An element of a mapped list.
-use Rattle.std.proofs.Common.{◌≡◌, ℕ, suc, ◌<◌, ◌+◌, List, [], ◌∷◌, length, get_or, map, Some, ap, sym, ◌∙◌, arith, slice_get, drop, add-one, drop-cons, refl, true}
+use Rattle.std.proofs.Common.{◌≡◌, ℕ, suc, ◌<◌, ◌+◌, List, [], ◌∷◌, length, get_or, map, Some, true, refl, ap, sym, ◌∙◌, arith}
+use Rattle.std.proofs.Common.{slice_get, drop, add-one, drop-cons}
 use Rattle.std.specs.Prelude.{◌==◌}
 use Rattle.std.specs.Cmp.Lexicographic.{pointwise}
 use Rattle.std.proofs.lemmas.Bool.Decides.{Decides-eqb}
