@@ -2,7 +2,6 @@
 use Rattle.std.specs.Prelude.{◌≡◌, codes}
 use Rattle.bohm_command.specs.declared.ending.NoAnswer.{NoAnswer}
 use Rattle.bohm_command.specs.declared.ending.NoAnswer.TheVariants as ending
-use Rattle.bohm_command.specs.Endings.{text_of}
 use Rattle.bohm_explain_cli.specs.declared.fault.ExplainFault.{ExplainFault}
 use Rattle.bohm_explain_cli.specs.declared.fault.ExplainFault.TheVariants.{Run, NoBatch}
 

@@ -1,4 +1,4 @@
-use Rattle.std.proofs.Common.{◌≡◌, ℤ, ◌+◌, drop, get_or, map, ap, sym, ◌∙◌, arith, false, Option, Some}
+use Rattle.std.proofs.Common.{◌≡◌, ℤ, ◌+◌, drop, get_or, map, ap, sym, ◌∙◌, arith, false, Some}
 use Rattle.std.specs.Option.{option_map}
 use Rattle.std.proofs.lemmas.Int.{to_z-of_z, ints}
 use Rattle.std.proofs.lemmas.Option.{slice_get-get_or}
