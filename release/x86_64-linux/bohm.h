@@ -22,7 +22,7 @@
 
 /* The version, and the checksum of the sources that the library is built from. */
 #define BOHM_VERSION "0.1.0"
-#define BOHM_SOURCES "6763f3933ad372bbc444a8721f986f2e8d3cc3a36f16cb335d727440edac1a40"
+#define BOHM_SOURCES "3da7d8ca398bd5cc10ad1ca5b6bb6e2559b69490d99f8d01ec79b9f5449cc880"
 
 /* The same, of the library that the program is linked with. */
 extern const char bohm_version[16], bohm_sources[65];

@@ -1,8 +1,8 @@
 //! What keys hold at the top, and held before.
 
 ghost use Rattle.std.specs.Prelude.{◌≡◌, ◌<◌, ◌≤◌, ◌++◌, ◌∷◌, [], length, map, IfOk};
-ghost use Rattle.bohm_types.specs.Limits.{most_keys};
 ghost use Rattle.bohm_types.specs.declared.cell.Cell.TheVariants.{Absent};
+ghost use Rattle.bohm_types.specs.Limits.{most_keys};
 ghost use Rattle.bohm_store.specs.Versions.{IsCellAt, cell_at, past, versions};
 ghost use Rattle.bohm_store.specs.Numbered.{timeline, versions_at};
 
@@ -82,7 +82,7 @@ pub fn push_reads(
     keys: &Keys<'_>,
     scratch: &mut Scratch,
 )
-    requires few { length keys.now ≤ 16 }
+    requires few { length keys.now ≤ most_keys }
     requires none { scratch.old.seen ≡ [] }
     ensures seen { scratch.new.seen
         ≡ map (past (timeline names.now numbered.now) numbered.now.top) keys.now }
@@ -95,7 +95,7 @@ pub fn push_reads(
 
 /// Hands a scratch what the keys with these numbers hold at the top.
 pub fn push_cells(numbered: &NumberedHistory, numbers: &[u32], scratch: &mut Scratch)
-    requires few { length numbers.now ≤ 16 }
+    requires few { length numbers.now ≤ most_keys }
     requires none { scratch.old.cells ≡ [] }
     ensures cells { scratch.new.cells
         ≡ map (λ n. cell_at numbered.now.top (versions_at numbered.now n) Absent) numbers.now }
@@ -120,7 +120,7 @@ fn push_read_and_cell(scratch: &mut Scratch, cell: &Cell)
 
 /// Hands a scratch what the keys with these numbers hold at the top, as reads and as cells.
 pub fn push_reads_and_cells(numbered: &NumberedHistory, numbers: &[u32], scratch: &mut Scratch)
-    requires few { length numbers.now ≤ 16 }
+    requires few { length numbers.now ≤ most_keys }
     requires none { scratch.old.seen ≡ [] }
     requires neither { scratch.old.cells ≡ [] }
     ensures seen { scratch.new.seen
