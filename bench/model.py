@@ -5,14 +5,14 @@ from itertools import product
 # The most workers of each side that the program takes.
 MOST_WORKERS = 16
 
-# Where a part is done: `before` and `behind` the rest on one thread, on the planning or the executing side by one
-# thread in the log's order, or there by all workers of the side.
-BEFORE, PLANNING_ORDER, PLANNING, EXECUTING_ORDER, EXECUTING, BEHIND = (
-    "before", "planning in order", "planning", "executing in order", "executing", "behind")
+# Where a part is done: `before` and `behind` the rest on one thread, by all workers of the planning or the executing
+# side, or by one thread of the executing side in the log's order.
+BEFORE, PLANNING, EXECUTING_ORDER, EXECUTING, BEHIND = ("before", "planning", "executing in order", "executing", "behind")
 
 DESIGNS = {
-    # Windows are read, checked and planned by the planning side's workers while the executing side runs those before.
-    "windows": {"input": PLANNING_ORDER, "reading": PLANNING, "planning": PLANNING, "merging": EXECUTING_ORDER,
+    # The planning side's workers parse windows. The executing side reads them, takes and checks the parsed ones, and
+    # runs them.
+    "windows": {"input": EXECUTING_ORDER, "reading": PLANNING, "planning": PLANNING, "merging": EXECUTING_ORDER,
                 "sweep": EXECUTING, "settling": EXECUTING, "printing": EXECUTING, "rest": EXECUTING_ORDER},
     # The whole text is read first, on one thread.
     "whole": {"input": BEFORE, "reading": BEFORE, "planning": PLANNING, "merging": EXECUTING_ORDER,
@@ -54,7 +54,7 @@ class Point:
 
 def terms(measured, places, cores, planners, executors):
     """The terms of a transaction's time, of which the sides' and the cores' are beside one another."""
-    sums = dict.fromkeys((BEFORE, PLANNING_ORDER, PLANNING, EXECUTING_ORDER, EXECUTING, BEHIND), 0.0)
+    sums = dict.fromkeys((BEFORE, PLANNING, EXECUTING_ORDER, EXECUTING, BEHIND), 0.0)
     for part, seconds in measured.parts.items():
         sums[places[part]] += seconds
     others = sums[EXECUTING] - measured.parts["sweep"]
@@ -62,7 +62,7 @@ def terms(measured, places, cores, planners, executors):
     alone = {"start, store and writing": measured.fixed / measured.txns,
              "one thread before": sums[BEFORE], "one thread behind": sums[BEHIND]}
     is_chain = measured.chain * executors > 1 and measured.parts["sweep"] * measured.chain > others / executors
-    beside = [{"planning side, in order": sums[PLANNING_ORDER], "planning side, its workers": sums[PLANNING] / planners},
+    beside = [{"planning side, its workers": sums[PLANNING] / planners},
               {"executing side, in order": sums[EXECUTING_ORDER],
                "chain of the log" if is_chain else "executing side, its workers": shared},
               {"all cores at work": (sum(measured.parts.values()) - sums[BEFORE] - sums[BEHIND]) / cores}]

@@ -22,7 +22,7 @@
 
 /* The version, and the checksum of the sources that the library is built from. */
 #define BOHM_VERSION "0.1.0"
-#define BOHM_SOURCES "3da7d8ca398bd5cc10ad1ca5b6bb6e2559b69490d99f8d01ec79b9f5449cc880"
+#define BOHM_SOURCES "7b4ac90981d8947f639f65687f7376a663516837ab472b6f51811a25da62b3da"
 
 /* The same, of the library that the program is linked with. */
 extern const char bohm_version[16], bohm_sources[65];

@@ -1,5 +1,5 @@
 mod CutLaws
-mod WaveLaws
+mod InOrderLaws
 mod ReadingLaws
 mod SegmentLaws
 pub mod ForCallers

@@ -1,18 +1,16 @@
 -- Windows from a reader.
-use Rattle.std.proofs.Common.{◌≡◌, ◌⊎◌, inl, inr, ℕ, zero, suc, ◌+◌, ◌-◌, ◌<◌, ◌≤◌, Bool, true, false, List, [], ◌∷◌, ◌++◌, length}
+use Rattle.std.proofs.Common.{◌≡◌, inl, inr, ℕ, ◌+◌, ◌<◌, ◌≤◌, Bool, true, false, List, [], ◌∷◌, ◌++◌, length}
 use Rattle.std.proofs.Common.{take, drop, Some, None, refl, ap, sym, subst, ◌∙◌, arith, append_assoc, append-nil, length-append}
-use Rattle.std.specs.Prelude.{codes, cond, not, Option}
+use Rattle.std.specs.Prelude.{codes, Option}
 use Rattle.std.specs.Io.KnownBytes.{Consumes, IsAtEnd}
 use Rattle.std.proofs.lemmas.Grind.{flat_map-append}
 use Rattle.std.proofs.lemmas.List.{take-append-le, take-append-drop}
 use Rattle.bohm_text.specs.Windows.{IsWindow}
 use Rattle.bohm_text.specs.Windowing.{IsWhole}
-use Rattle.bohm_text.proofs.ForCallers.{longer, lines_short}
+use Rattle.bohm_text.proofs.ForCallers.{longer, lines_short, chunk_placed}
 use Rattle.bohm_reading.specs.declared.source.Piece.{Piece}
-use Rattle.bohm_reading.specs.declared.parsing.Window.{Window}
-use Rattle.bohm_reading.specs.declared.wave.Wave.{Wave}
+use Rattle.bohm_reading.specs.declared.window.Window.{Window}
 use Rattle.bohm_reading.specs.Pieces.{IsPiece}
-use Rattle.std.specs.Prelude.{All}
 use Rattle.bohm_types.specs.declared.edition.Edition.{Edition}
 use Rattle.bohm_types.specs.Document.{Document}
 use Rattle.bohm_types.specs.Txn.{Txn}
@@ -20,11 +18,12 @@ use Rattle.bohm_text.specs.declared.windows.Chunk.{Chunk}
 use Rattle.bohm_text.specs.Cut.{whole_lines}
 use Rattle.bohm_text.specs.Print.{print_doc}
 use Rattle.bohm_text.specs.Windows.{with_log}
-use Rattle.bohm_text.specs.Windowing.{IsTextOf}
+use Rattle.bohm_text.specs.Windowing.{IsChunkOf, IsTextOf}
 use Rattle.bohm_reading.specs.declared.fault.ReadingFault.{ReadingFault}
 use Rattle.bohm_reading.specs.declared.fault.ReadingFault.TheVariants.{Read, TooLong, Line, Short, NoMemory}
-use Rattle.bohm_reading.specs.Waves.{bytes_of, AreInOrder, logs_of, TakesWave, RefusesText, RefusesWave}
-use Rattle.bohm_reading.specs.Reading.{IsWave, IsTooLong, IsGathered, IsReading, IsReady, IsSourceFault, Drains, ReadsOn, RefusesAll, RefusesOn, IsReadOn}
+use Rattle.bohm_reading.specs.InOrder.{bytes_of, AreInOrder, logs_of, RefusesText, RefusesWindow}
+use Rattle.bohm_reading.proofs.InOrderLaws.{told}
+use Rattle.bohm_reading.specs.Reading.{IsTooLong, IsReading, IsReady, IsSourceFault, Drains, left_of, ReadsOn, RefusesAll, RefusesOn, IsReadOn}
 use Rattle.bohm_reading.specs.declared.reading.Source.{Source}
 
 pub Consumes-none : (u : Option (List ℕ)) → Consumes u u []
@@ -76,252 +75,91 @@ order_push (v ∷ vs) w tail ahead same order begins inner last =
 bytes_push : (vs : List Window) (w : Window) → bytes_of (vs ++ w ∷ []) ≡ bytes_of vs ++ w.text.items
 bytes_push vs w = flat_map-append (λ (x : Window). x.text.items) vs (w ∷ []) ∙ ap (λ (b : List ℕ). bytes_of vs ++ b) (append-nil w.text.items)
 
--- ---- a wave
-
-pub gathered_none : (u : Option (List ℕ)) (w : Wave) → w.windows.items ≡ [] → w.ended ≡ false → w.total ≤ 67108864 → IsWindow w.rest.items
-    → IsGathered u u w.rest.items w.total w
-gathered_none u w none going short next = record {
-  more = [];
-  read = Consumes-none u;
-  same = rw none (sym (append-nil w.rest.items));
-  total = omega arith;
-  short = short;
-  some = λ o. absurd (nothing o);
-  order = λ ahead e. rw none tt;
-  next = λ e. next;
-  last = λ e. absurd cc;
-}
-  where
-    nothing : (w.ended ≡ true) ⊎ (0 < length w.windows.items) → ⊥
-    nothing (inl e) = cc
-    nothing (inr l) = omega (arith, l, ap length none)
-
-module _ (u v x : Option (List ℕ)) (begun : List ℕ) (before : ℕ) (w : Wave) (p : Piece) (so_far : IsGathered u v begun before w) (going : w.ended ≡ false)
-    (is : IsPiece v x w.rest.items w.total p) where
-  pub gathered_more : (now : Wave) (window : Window) → now.windows.items ≡ w.windows.items ++ window ∷ [] → window.text.items ≡ p.text.items
-      → window.last ≡ p.ended → now.rest.items ≡ p.rest.items → now.total ≡ p.total → now.ended ≡ p.ended → IsGathered u x begun before now
-  gathered_more now window windows text last rest total ended =
-      let begins : IsWindow window.text.items = rw text (piece_begins v x w.rest.items w.total p (so_far.next going) is) in
-      let all : bytes_of now.windows.items ≡ bytes_of w.windows.items ++ p.text.items =
-      ap bytes_of windows ∙ (bytes_push w.windows.items window ∙ ap (λ (b : List ℕ). bytes_of w.windows.items ++ b) text) in
-      record {
-        more = so_far.more ++ is.more;
-        read = Consumes-more u v x so_far.more is.more so_far.read is.read;
-        same = rw (all, rest)
-            (append_assoc (bytes_of w.windows.items) p.text.items p.rest.items
-            ∙ (ap (λ (r : List ℕ). bytes_of w.windows.items ++ r) is.same ∙ (sym (append_assoc (bytes_of w.windows.items) w.rest.items is.more)
-            ∙ (ap (λ (r : List ℕ). r ++ is.more) so_far.same ∙ append_assoc begun so_far.more is.more))));
-        total = omega (arith, total, is.total, so_far.total, length-append so_far.more is.more);
-        short = omega (arith, total, is.short);
-        some = λ o. omega (arith, ap length all, ap length text, length-append (bytes_of w.windows.items) p.text.items, window_long window.text.items begins);
-        order = λ ahead none.
-            let tail : List ℕ = w.rest.items ++ (is.more ++ ahead) in
-            let same : window.text.items ++ (now.rest.items ++ ahead) ≡ tail = rw (text, rest)
-            (sym (append_assoc p.text.items p.rest.items ahead) ∙ (ap (λ (r : List ℕ). r ++ ahead) is.same ∙ append_assoc w.rest.items is.more ahead)) in
-            rw windows (order_push w.windows.items window tail (now.rest.items ++ ahead) same (so_far.order (is.more ++ ahead) (λ e. absurd cc)) begins
-            (λ e. let inner = is.inner (sym last ∙ e) in (rw text inner.whole, rw rest (longer p.rest.items ahead inner.next)))
-            (λ e. let end = is.last (sym last ∙ e) in rw (rest, end.none, none (ended ∙ (sym last ∙ e))) refl));
-        next = λ e. let inner = is.inner (sym ended ∙ e) in rw rest inner.next;
-        last = λ e. let end = is.last (sym ended ∙ e) in record { none = rest ∙ end.none; at_end = end.at_end };
-      }
-
--- ---- wave after wave
-
-pub order_windows : (ws : List Window) (tail : List ℕ) → AreInOrder ws tail → All (λ (w : Window). IsWindow w.text.items) ws
-order_windows [] tail order k e low = absurd (omega (arith, low))
-order_windows (w ∷ ws) tail order zero e low = order.0
-order_windows (w ∷ ws) tail order (suc k) e low = order_windows ws tail order.3 k e (omega (arith, low))
+-- ---- window after window
 
 same_log : (d : Document) → with_log d [] ≡ d
 same_log d = ap (λ (log : List Txn). record d { log = log }) (append-nil d.log)
 
-pub on_none : (u : Option (List ℕ)) (d : Document) (count : ℕ) (rest : List ℕ) (bytes : ℕ) (ended : Bool) → IsReading u d count rest bytes ended
-    → IsReadOn u u d rest [] count rest bytes ended
-on_none u d count rest bytes ended is = record {
+pub on_none : (u : Option (List ℕ)) (d : Document) (s : Source) → IsReading u d [] s → IsReadOn u u d s.rest.items [] [] s
+on_none u d s is = record {
   more = [];
   read = Consumes-none u;
-  is = subst (λ (e : Document). IsReading u e count rest bytes ended) (sym (same_log d)) is;
-  same = ap (λ (e : Document). print_doc e ++ rest) (same_log d) ∙ ap (λ (r : List ℕ). print_doc d ++ r) (sym (append-nil rest));
+  is = subst (λ (e : Document). IsReading u e [] s) (sym (same_log d)) is;
+  same = ap (λ (e : Document). print_doc e ++ s.rest.items) (same_log d) ∙ ap (λ (r : List ℕ). print_doc d ++ r) (sym (append-nil s.rest.items));
 }
 
-text_so_far : (u : Option (List ℕ)) (d : Document) (count : ℕ) (rest : List ℕ) (bytes : ℕ) (ended : Bool) → IsReading u d count rest bytes ended
-    → IsTextOf (print_doc d) count d
-text_so_far u d count rest bytes ended is = record { sound = is.sound; print = refl; lines = is.lines }
+pub ready : (u : Option (List ℕ)) (d : Document) (s : Source) → IsReading u d [] s → IsReady s
+ready u d s is = record { next = is.next; short = is.short }
 
--- the windows' lines can be counted
-pub room_for : (v x : Option (List ℕ)) (lines total : ℕ) (rest : List ℕ) (w : Wave) → lines + length rest ≤ total → IsWave v x rest total w
-    → lines + length (bytes_of w.windows.items) ≤ 67108864
-room_for v x lines total rest w room is = omega (
-  arith,
-  room,
-  is.total,
-  is.short,
-  ap length is.same,
-  length-append (bytes_of w.windows.items) w.rest.items,
-  length-append rest is.more,
-)
+-- a window that was read
+module _ (v x : Option (List ℕ)) (was now : Source) (p : Piece) (is : IsPiece v x was.rest.items was.total p) (w : Window) (text : w.text.items ≡ p.text.items)
+    (last : w.last ≡ p.ended) (rest : now.rest.items ≡ p.rest.items) (total : now.total ≡ p.total) (ended : now.ended ≡ p.ended) where
+  all_read : (ahead : List Window) → bytes_of (ahead ++ w ∷ []) ++ now.rest.items ≡ (bytes_of ahead ++ was.rest.items) ++ is.more
+  all_read ahead =
+      let one : w.text.items ++ now.rest.items ≡ was.rest.items ++ is.more = rw (text, rest) is.same in
+      ap (λ (b : List ℕ). b ++ now.rest.items) (bytes_push ahead w)
+      ∙ (append_assoc (bytes_of ahead) w.text.items now.rest.items
+      ∙ (ap (λ (r : List ℕ). bytes_of ahead ++ r) one ∙ sym (append_assoc (bytes_of ahead) was.rest.items is.more)))
 
--- less may come than before the wave
-pub fewer : (v x : Option (List ℕ)) (rest : List ℕ) (total : ℕ) (w : Wave) → IsWave v x rest total w
-    → cond w.ended 0 (1 + (67108864 - w.total) + length w.rest.items) < 1 + (67108864 - total) + length rest
-fewer v x rest total w is = by_end w.ended
-  where
-    by_end : (e : Bool) → cond e 0 (1 + (67108864 - w.total) + length w.rest.items) < 1 + (67108864 - total) + length rest
-    by_end true = omega arith
-    by_end false = omega (
-      arith,
-      is.total,
-      is.short,
-      is.some,
-      ap length is.same,
-      length-append (bytes_of w.windows.items) w.rest.items,
-      length-append rest is.more,
-    )
+  pub window_begins : IsWindow was.rest.items → IsWindow w.text.items
+  window_begins next = rw text (piece_begins v x was.rest.items was.total p next is)
 
--- a wave's chunks behind others
-pub behind_others : (none before now : List Chunk) (e : Edition) (windows : List ℕ) (a b : ℕ) → none ≡ [] → TakesWave none now e windows a b
-    → TakesWave before (before ++ now) e windows a b
-behind_others none before now e windows a b empty h = record {
-  chunks = h.chunks;
-  added = ap (λ (k : List Chunk). before ++ k) (h.added ∙ ap (λ (k : List Chunk). k ++ h.chunks) empty);
-  placed = h.placed;
-  short = h.short;
-}
+  pub ready_next : IsReady now
+  ready_next = record {
+    next = λ e. rw rest (is.inner (sym ended ∙ e)).next;
+    short = omega (arith, total, is.short);
+  }
 
-pub ready : (u : Option (List ℕ)) (d : Document) (s : Source) → IsReading u d s.lines s.rest.items s.total s.ended → IsReady s
-ready u d s is = record {
-  next = is.next;
-  short = is.short;
-  room = omega (arith, is.lines, lines_short (print_doc d), is.total, length-append (print_doc d) s.rest.items);
-}
+  pub left_next : (ahead : List Window) → left_of (ahead ++ w ∷ []) now ≡ left_of ahead was
+  left_next ahead =
+      omega (arith, total, is.total, is.short, ap length (all_read ahead), length-append (bytes_of ahead ++ was.rest.items) is.more)
 
-pub ready_next : (v x : Option (List ℕ)) (was now : Source) (w : Wave) → IsReady was → IsWave v x was.rest.items was.total w
-    → now.lines ≤ was.lines + length (bytes_of w.windows.items) → now.rest.items ≡ w.rest.items → now.total ≡ w.total → now.ended ≡ w.ended → IsReady now
-ready_next v x was now w is wave lines rest total ended = record {
-  next = λ e. rw rest (wave.next (sym ended ∙ e));
-  short = omega (arith, total, wave.short);
-  room = omega (
-    arith,
-    lines,
-    is.room,
-    total,
-    wave.total,
-    ap length rest,
-    ap length wave.same,
-    length-append (bytes_of w.windows.items) w.rest.items,
-    length-append was.rest.items wave.more,
-  );
-}
+  module _ (lines : now.lines ≡ was.lines) (going : was.ended ≡ false) (u : Option (List ℕ)) (d : Document) (first : List ℕ) (chunks : List Chunk)
+      (ahead : List Window) (so_far : IsReadOn u v d first chunks ahead was) where
+    abbrev doc : Document
+    doc = with_log d (logs_of chunks)
 
-module _ (u v x : Option (List ℕ)) (d : Document) (first : List ℕ) (chunks : List Chunk) (count : ℕ) (rest : List ℕ) (bytes : ℕ) (ended : Bool)
-    (so_far : IsReadOn u v d first chunks count rest bytes ended) (w : Wave) (is : IsWave v x rest bytes w) where
-  abbrev now : Document
-  now = with_log d (logs_of chunks)
+    order_next : (more : List ℕ) → (now.ended ≡ true → more ≡ []) → AreInOrder (ahead ++ w ∷ []) (now.rest.items ++ more)
+    order_next more none =
+        let same : w.text.items ++ (now.rest.items ++ more) ≡ was.rest.items ++ (is.more ++ more) = rw (text, rest)
+        (sym (append_assoc p.text.items p.rest.items more) ∙ (ap (λ (r : List ℕ). r ++ more) is.same ∙ append_assoc was.rest.items is.more more)) in
+        order_push ahead w (was.rest.items ++ (is.more ++ more)) (now.rest.items ++ more) same (so_far.is.order (is.more ++ more) (λ e. absurd cc))
+        (window_begins (so_far.is.next going))
+        (λ e. let inner = is.inner (sym last ∙ e) in (rw text inner.whole, rw rest (longer p.rest.items more inner.next)))
+        (λ e. let end = is.last (sym last ∙ e) in rw (rest, end.none, none (ended ∙ (sym last ∙ e))) refl)
 
-  -- the text before the wave, the wave, and what was read behind it
-  all_same : (ahead : List ℕ) → print_doc now ++ (bytes_of w.windows.items ++ (w.rest.items ++ ahead))
-      ≡ print_doc d ++ (first ++ ((so_far.more ++ is.more) ++ ahead))
-  all_same ahead =
-      let one : bytes_of w.windows.items ++ (w.rest.items ++ ahead) ≡ rest ++ (is.more ++ ahead) =
-      sym (append_assoc (bytes_of w.windows.items) w.rest.items ahead) ∙ (ap (λ (r : List ℕ). r ++ ahead) is.same ∙ append_assoc rest is.more ahead) in
-      ap (λ (r : List ℕ). print_doc now ++ r) one
-      ∙ (sym (append_assoc (print_doc now) rest (is.more ++ ahead)) ∙ (ap (λ (r : List ℕ). r ++ (is.more ++ ahead)) so_far.same ∙ simp append_assoc))
-
-  pub on_more : (e : Edition) (after : ℕ) (more : List Chunk) → d.edition ≡ e → TakesWave chunks more e (bytes_of w.windows.items) count after
-      → IsReadOn u x d first more after w.rest.items w.total w.ended
-  on_more e after more same took =
-      let placed : IsTextOf (print_doc now ++ bytes_of w.windows.items) after (with_log now (logs_of took.chunks)) =
-      took.placed (print_doc now) now same (text_so_far v now count rest bytes ended so_far.is) in
-      let log : logs_of more ≡ logs_of chunks ++ logs_of took.chunks = ap logs_of took.added ∙ flat_map-append (λ (k : Chunk). k.log) chunks took.chunks in
-      let next : with_log now (logs_of took.chunks) ≡ with_log d (logs_of more) = ap (λ (l : List Txn). record d { log = l })
-      (append_assoc d.log (logs_of chunks) (logs_of took.chunks) ∙ ap (λ (l : List Txn). d.log ++ l) (sym log)) in
-      let there : IsTextOf (print_doc now ++ bytes_of w.windows.items) after (with_log d (logs_of more)) =
-      subst (IsTextOf (print_doc now ++ bytes_of w.windows.items) after) next placed in
-      record {
-        more = so_far.more ++ is.more;
-        read = Consumes-more u v x so_far.more is.more so_far.read is.read;
-        is = record {
-          sound = there.sound;
-          lines = there.lines ∙ ap (λ (t : List ℕ). length (whole_lines t)) (sym there.print);
-          total = omega (
-            arith,
-            is.total,
-            so_far.is.total,
-            length-append (print_doc now) rest,
-            ap length there.print,
-            length-append (print_doc now)
-                (bytes_of w.windows.items),
-            ap length is.same,
-            length-append (bytes_of w.windows.items) w.rest.items,
-            length-append rest is.more,
-            length-append (print_doc (with_log d (logs_of more))) w.rest.items,
-          );
-          short = is.short;
-          next = is.next;
-          last = is.last;
-        };
-        same = ap (λ (t : List ℕ). t ++ w.rest.items) there.print
-            ∙ (append_assoc (print_doc now) (bytes_of w.windows.items) w.rest.items
-            ∙ (ap (λ (r : List ℕ). print_doc now ++ (bytes_of w.windows.items ++ r)) (sym (append-nil w.rest.items))
-            ∙ (all_same [] ∙ ap (λ (r : List ℕ). print_doc d ++ (first ++ r)) (append-nil (so_far.more ++ is.more)))));
-      }
-
-  pub on_fault : (e : Edition) (fault : ReadingFault) (y : Option (List ℕ)) (ahead : List ℕ) → d.edition ≡ e → RefusesWave e w.windows.items count fault
-      → Consumes x y ahead → IsAtEnd y → w.total + length ahead ≤ 67108864 → (w.ended ≡ true → ahead ≡ [])
-      → RefusesOn u y d first (length (print_doc d ++ first)) fault
-  on_fault e fault y ahead same refused read at_end short none =
-      let told : RefusesText (print_doc now ++ (bytes_of w.windows.items ++ (w.rest.items ++ ahead))) fault =
-      refused (print_doc now) now (w.rest.items ++ ahead) same (text_so_far v now count rest bytes ended so_far.is) (is.order ahead none) in
-      let told_all : RefusesText (print_doc d ++ (first ++ ((so_far.more ++ is.more) ++ ahead))) fault =
-      subst (λ (t : List ℕ). RefusesText t fault) (all_same ahead) told in
-      let all : RefusesAll u y d first fault = record {
-        more = (so_far.more ++ is.more) ++ ahead;
-        read = Consumes-more u x y (so_far.more ++ is.more) ahead (Consumes-more u v x so_far.more is.more so_far.read is.read) read;
-        at_end = at_end;
-        short = omega (
+    pub on_next : IsReadOn u x d first chunks (ahead ++ w ∷ []) now
+    on_next = record {
+      more = so_far.more ++ is.more;
+      read = Consumes-more u v x so_far.more is.more so_far.read is.read;
+      is = record {
+        sound = so_far.is.sound;
+        lines = lines ∙ so_far.is.lines;
+        total = omega (
           arith,
-          ap length (all_same ahead),
-          length-append (print_doc now) (bytes_of w.windows.items ++ (w.rest.items ++ ahead)),
-          length-append (bytes_of w.windows.items) (w.rest.items ++ ahead),
-          length-append w.rest.items ahead,
-          short,
+          total,
           is.total,
           so_far.is.total,
-          length-append (print_doc now) rest,
-          ap length is.same,
-          length-append (bytes_of w.windows.items) w.rest.items,
-          length-append rest is.more,
+          ap length (all_read ahead),
+          length-append (print_doc doc) (bytes_of (ahead ++ w ∷ []) ++ now.rest.items),
+          length-append (print_doc doc) (bytes_of ahead ++ was.rest.items),
+          length-append (bytes_of ahead ++ was.rest.items) is.more,
         );
-        is = told_all;
-      } in
-      by_fault fault all told_all
-    where
-      by_fault : (f : ReadingFault) → RefusesAll u y d first f → RefusesText (print_doc d ++ (first ++ ((so_far.more ++ is.more) ++ ahead))) f
-          → RefusesOn u y d first (length (print_doc d ++ first)) f
-      by_fault Read all told = absurd told
-      by_fault TooLong all told = absurd told
-      by_fault NoMemory all told = tt
-      by_fault (Line n) all told = all
-      by_fault Short all told = all
-
-pub on_end : (u v : Option (List ℕ)) (d : Document) (first : List ℕ) (chunks : List Chunk) (count : ℕ) (rest : List ℕ) (bytes : ℕ)
-    → IsReadOn u v d first chunks count rest bytes true → ReadsOn u v d first (logs_of chunks)
-on_end u v d first chunks count rest bytes so_far =
-    let last = so_far.is.last refl in
-    let print : print_doc (with_log d (logs_of chunks)) ≡ print_doc d ++ (first ++ so_far.more) = sym (append-nil (print_doc (with_log d (logs_of chunks))))
-    ∙ (ap (λ (r : List ℕ). print_doc (with_log d (logs_of chunks)) ++ r) (sym last.none) ∙ so_far.same) in
-    record {
-      more = so_far.more;
-      read = so_far.read;
-      at_end = last.at_end;
-      sound = so_far.is.sound;
-      print = print;
-      short = omega (arith, ap length print, so_far.is.total, so_far.is.short, length-append (print_doc (with_log d (logs_of chunks))) rest);
+        short = omega (arith, total, is.short);
+        order = order_next;
+        next = λ e. rw rest (is.inner (sym ended ∙ e)).next;
+        last = λ e. let end = is.last (sym ended ∙ e) in record { none = rest ∙ end.none; at_end = end.at_end };
+      };
+      same = ap (λ (r : List ℕ). print_doc doc ++ r) (all_read ahead)
+          ∙ (sym (append_assoc (print_doc doc) (bytes_of ahead ++ was.rest.items) is.more)
+          ∙ (ap (λ (r : List ℕ). r ++ is.more) so_far.same ∙ simp append_assoc));
     }
 
-pub on_long : (u v x : Option (List ℕ)) (d : Document) (first : List ℕ) (chunks : List Chunk) (count : ℕ) (rest : List ℕ) (bytes : ℕ) (ended : Bool)
-    → IsReadOn u v d first chunks count rest bytes ended → IsTooLong v x bytes → IsTooLong u x (length (print_doc d ++ first))
-on_long u v x d first chunks count rest bytes ended so_far long = record {
+-- ---- too long
+
+on_long : (u v x : Option (List ℕ)) (d : Document) (first : List ℕ) (chunks : List Chunk) (ahead : List Window) (s : Source)
+    → IsReadOn u v d first chunks ahead s → IsTooLong v x s.total → IsTooLong u x (length (print_doc d ++ first))
+on_long u v x d first chunks ahead s so_far long = record {
   more = so_far.more ++ long.more;
   long = omega (
     arith,
@@ -336,35 +174,141 @@ on_long u v x d first chunks count rest bytes ended so_far long = record {
   read = Consumes-more u v x so_far.more long.more so_far.read long.read;
 }
 
-pub source_refused : (u v x : Option (List ℕ)) (d : Document) (first : List ℕ) (chunks : List Chunk) (count : ℕ) (rest : List ℕ) (bytes : ℕ) (ended : Bool)
-    → IsReadOn u v d first chunks count rest bytes ended
-    → (fault : ReadingFault) → IsSourceFault fault → (fault ≡ TooLong → (more : List ℕ) × (67108864 < bytes + length more) × Consumes v x more)
+-- ---- the first of the windows that were read
+
+module _ (u v : Option (List ℕ)) (d : Document) (first : List ℕ) (chunks : List Chunk) (w : Window) (ahead : List Window) (was : Source)
+    (so_far : IsReadOn u v d first chunks (w ∷ ahead) was) where
+  abbrev before : Document
+  before = with_log d (logs_of chunks)
+
+  text_so_far : IsTextOf (print_doc before) was.lines before
+  text_so_far = record { sound = so_far.is.sound; print = refl; lines = so_far.is.lines }
+
+  -- its lines can be counted
+  pub room : was.lines + length w.text.items ≤ 67108864
+  room = omega (
+    arith,
+    so_far.is.lines,
+    lines_short (print_doc before),
+    so_far.is.total,
+    so_far.is.short,
+    length-append (print_doc before) (bytes_of (w ∷ ahead) ++ was.rest.items),
+    length-append (bytes_of (w ∷ ahead)) was.rest.items,
+    length-append w.text.items (bytes_of ahead),
+  )
+
+  pub on_taken : (e : Edition) (chunk : Chunk) (now : Source) → d.edition ≡ e → IsChunkOf e w.text.items chunk → now.lines ≡ was.lines + chunk.lines
+      → now.rest.items ≡ was.rest.items → now.total ≡ was.total → now.ended ≡ was.ended → IsReadOn u v d first (chunks ++ chunk ∷ []) ahead now
+  on_taken e chunk now edition is lines rest total ended =
+      let placed : IsTextOf (print_doc before ++ w.text.items) (was.lines + chunk.lines) (with_log before chunk.log) =
+      chunk_placed (print_doc before) was.lines before w.text.items chunk text_so_far
+      (subst (λ (f : Edition). IsChunkOf f w.text.items chunk) (sym edition) is) in
+      let log : logs_of (chunks ++ chunk ∷ []) ≡ logs_of chunks ++ chunk.log = flat_map-append (λ (k : Chunk). k.log) chunks (chunk ∷ [])
+      ∙ ap (λ (l : List Txn). logs_of chunks ++ l) (append-nil chunk.log) in
+      let next : with_log before chunk.log ≡ with_log d (logs_of (chunks ++ chunk ∷ [])) = ap (λ (l : List Txn). record d { log = l })
+      (append_assoc d.log (logs_of chunks) chunk.log ∙ ap (λ (l : List Txn). d.log ++ l) (sym log)) in
+      let there : IsTextOf (print_doc before ++ w.text.items) (was.lines + chunk.lines) (with_log d (logs_of (chunks ++ chunk ∷ []))) =
+      subst (IsTextOf (print_doc before ++ w.text.items) (was.lines + chunk.lines)) next placed in
+      let same : print_doc (with_log d (logs_of (chunks ++ chunk ∷ []))) ++ (bytes_of ahead ++ now.rest.items)
+      ≡ print_doc before ++ (bytes_of (w ∷ ahead) ++ was.rest.items) = rw (there.print, rest)
+      (append_assoc (print_doc before) w.text.items (bytes_of ahead ++ was.rest.items)
+      ∙ ap (λ (r : List ℕ). print_doc before ++ r) (sym (append_assoc w.text.items (bytes_of ahead) was.rest.items))) in
+      record {
+        more = so_far.more;
+        read = so_far.read;
+        is = record {
+          sound = there.sound;
+          lines = lines ∙ (there.lines ∙ ap (λ (t : List ℕ). length (whole_lines t)) (sym there.print));
+          total = total ∙ (so_far.is.total ∙ ap length (sym same));
+          short = omega (arith, total, so_far.is.short);
+          order = λ more none. rw rest (so_far.is.order more (λ e. none (ended ∙ e))).3;
+          next = λ e. rw rest (so_far.is.next (sym ended ∙ e));
+          last = λ e. rw rest (so_far.is.last (sym ended ∙ e));
+        };
+        same = same ∙ so_far.same;
+      }
+
+  -- the text so far, the window, and what was read behind it
+  all_same : (more : List ℕ) → print_doc before ++ (w.text.items ++ (bytes_of ahead ++ (was.rest.items ++ more))) ≡ print_doc d ++ (first ++ (so_far.more ++ more))
+  all_same more =
+      let one : w.text.items ++ (bytes_of ahead ++ (was.rest.items ++ more)) ≡ ((w.text.items ++ bytes_of ahead) ++ was.rest.items) ++ more =
+      simp append_assoc in
+      ap (λ (r : List ℕ). print_doc before ++ r) one
+      ∙ (sym (append_assoc (print_doc before) (bytes_of (w ∷ ahead) ++ was.rest.items) more)
+      ∙ (ap (λ (r : List ℕ). r ++ more) so_far.same ∙ simp append_assoc))
+
+  on_fault : (e : Edition) (fault : ReadingFault) (y : Option (List ℕ)) (more : List ℕ) → d.edition ≡ e
+      → RefusesWindow e w.text.items w.last was.lines fault → Consumes v y more → IsAtEnd y → was.total + length more ≤ 67108864
+      → (was.ended ≡ true → more ≡ []) → RefusesOn u y d first (length (print_doc d ++ first)) fault
+  on_fault e fault y more same refused read at_end short none =
+      let text : RefusesText (print_doc d ++ (first ++ (so_far.more ++ more))) fault = subst (λ (t : List ℕ). RefusesText t fault) (all_same more)
+      (told w ahead (was.rest.items ++ more) (print_doc before) was.lines before text_so_far (so_far.is.order more none) fault
+      (subst (λ (f : Edition). RefusesWindow f w.text.items w.last was.lines fault) (sym same) refused)) in
+      let all : RefusesAll u y d first fault = record {
+        more = so_far.more ++ more;
+        read = Consumes-more u v y so_far.more more so_far.read read;
+        at_end = at_end;
+        short = omega (
+          arith,
+          ap length so_far.same,
+          so_far.is.total,
+          short,
+          length-append (print_doc d) (first ++ so_far.more),
+          length-append first so_far.more,
+          length-append (print_doc d) (first ++ (so_far.more ++ more)),
+          length-append first (so_far.more ++ more),
+          length-append so_far.more more,
+        );
+        is = text;
+      } in
+      by_fault fault all text
+    where
+      by_fault : (f : ReadingFault) → RefusesAll u y d first f → RefusesText (print_doc d ++ (first ++ (so_far.more ++ more))) f
+          → RefusesOn u y d first (length (print_doc d ++ first)) f
+      by_fault Read all told = absurd told
+      by_fault TooLong all told = absurd told
+      by_fault NoMemory all told = tt
+      by_fault (Line n) all told = all
+      by_fault Short all told = all
+
+  -- nothing is left to read
+  pub refused_last : (e : Edition) (fault : ReadingFault) → d.edition ≡ e → RefusesWindow e w.text.items w.last was.lines fault → was.ended ≡ true
+      → RefusesOn u v d first (length (print_doc d ++ first)) fault
+  refused_last e fault same refused ended =
+      on_fault e fault v [] same refused (Consumes-none v) (so_far.is.last ended).at_end (omega (arith, so_far.is.short)) (λ t. refl)
+
+  -- the rest was drained
+  pub drained : (e : Edition) (fault result : ReadingFault) (y : Option (List ℕ)) → d.edition ≡ e → RefusesWindow e w.text.items w.last was.lines fault
+      → was.ended ≡ false → Drains v y was.total fault result → RefusesOn u y d first (length (print_doc d ++ first)) result
+  drained e fault result y same refused going (inl h) = subst (λ (f : ReadingFault). RefusesOn u y d first (length (print_doc d ++ first)) f) (sym h.0)
+      (on_fault e fault y h.1.more same refused h.1.read h.1.at_end h.1.short (λ t. absurd cc))
+  drained e fault result y same refused going (inr (inl h)) = rw h tt
+  drained e fault result y same refused going (inr (inr h)) = rw h.0 (on_long u v y d first chunks (w ∷ ahead) was so_far h.1)
+
+-- ---- the end
+
+pub on_end : (u v : Option (List ℕ)) (d : Document) (first : List ℕ) (chunks : List Chunk) (s : Source) → IsReadOn u v d first chunks [] s → s.ended ≡ true
+    → ReadsOn u v d first (logs_of chunks)
+on_end u v d first chunks s so_far ended =
+    let last = so_far.is.last ended in
+    let print : print_doc (with_log d (logs_of chunks)) ≡ print_doc d ++ (first ++ so_far.more) = sym (append-nil (print_doc (with_log d (logs_of chunks))))
+    ∙ (ap (λ (r : List ℕ). print_doc (with_log d (logs_of chunks)) ++ r) (sym last.none) ∙ so_far.same) in
+    record {
+      more = so_far.more;
+      read = so_far.read;
+      at_end = last.at_end;
+      sound = so_far.is.sound;
+      print = print;
+      short = omega (arith, ap length print, so_far.is.total, so_far.is.short, length-append (print_doc (with_log d (logs_of chunks))) s.rest.items);
+    }
+
+pub source_refused : (u v x : Option (List ℕ)) (d : Document) (first : List ℕ) (chunks : List Chunk) (ahead : List Window) (s : Source)
+    → IsReadOn u v d first chunks ahead s → (fault : ReadingFault) → IsSourceFault fault
+    → (fault ≡ TooLong → (more : List ℕ) × (67108864 < s.total + length more) × Consumes v x more)
     → RefusesOn u x d first (length (print_doc d ++ first)) fault
-source_refused u v x d first chunks count rest bytes ended so_far Read is long = tt
-source_refused u v x d first chunks count rest bytes ended so_far NoMemory is long = tt
-source_refused u v x d first chunks count rest bytes ended so_far TooLong is long =
-    let h = long refl in
-    on_long u v x d first chunks count rest bytes ended so_far (record { more = h.0; long = h.1; read = h.2 })
-source_refused u v x d first chunks count rest bytes ended so_far (Line n) is long = absurd is
-source_refused u v x d first chunks count rest bytes ended so_far Short is long = absurd is
-
--- the rest was drained behind a refused wave
-pub drained : (u v x y : Option (List ℕ)) (d : Document) (first : List ℕ) (chunks : List Chunk) (count : ℕ) (rest : List ℕ) (bytes : ℕ) (ended : Bool)
-    → IsReadOn u v d first chunks count rest bytes ended → (w : Wave) → IsWave v x rest bytes w → (e : Edition) (fault result : ReadingFault) → d.edition ≡ e
-    → RefusesWave e w.windows.items count fault → w.ended ≡ false → Drains x y w.total fault result
-    → RefusesOn u y d first (length (print_doc d ++ first)) result
-drained u v x y d first chunks count rest bytes ended so_far w is e fault result same refused going (inl h) =
-    subst (λ (f : ReadingFault). RefusesOn u y d first (length (print_doc d ++ first)) f) (sym h.0)
-    (on_fault u v x d first chunks count rest bytes ended so_far w is e fault y h.1.more same refused h.1.read h.1.at_end h.1.short (λ t. absurd cc))
-drained u v x y d first chunks count rest bytes ended so_far w is e fault result same refused going (inr (inl h)) = rw h tt
-drained u v x y d first chunks count rest bytes ended so_far w is e fault result same refused going (inr (inr h)) =
-    let long : IsTooLong v y bytes = record {
-      more = is.more ++ h.1.more;
-      long = omega (arith, h.1.long, is.total, length-append is.more h.1.more);
-      read = Consumes-more v x y is.more h.1.more is.read h.1.read;
-    } in
-    rw h.0 (on_long u v y d first chunks count rest bytes ended so_far long)
-
-pub going_on : (ended : Bool) → not ended ≡ true → ended ≡ false
-going_on true e = absurd cc
-going_on false e = refl
+source_refused u v x d first chunks ahead s so_far Read is long = tt
+source_refused u v x d first chunks ahead s so_far NoMemory is long = tt
+source_refused u v x d first chunks ahead s so_far TooLong is long =
+    let h = long refl in on_long u v x d first chunks ahead s so_far (record { more = h.0; long = h.1; read = h.2 })
+source_refused u v x d first chunks ahead s so_far (Line n) is long = absurd is
+source_refused u v x d first chunks ahead s so_far Short is long = absurd is

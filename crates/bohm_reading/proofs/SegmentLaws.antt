@@ -16,7 +16,7 @@ use Rattle.bohm_reading.specs.declared.fault.ReadingFault.TheVariants.{Read, Too
 use Rattle.bohm_reading.specs.declared.source.Piece.{Piece}
 use Rattle.bohm_reading.specs.declared.reading.Source.{Source}
 use Rattle.bohm_reading.specs.Pieces.{IsPiece}
-use Rattle.bohm_reading.specs.Waves.{RefusesText}
+use Rattle.bohm_reading.specs.InOrder.{RefusesText}
 use Rattle.bohm_reading.specs.Reading.{IsSourceFault, Drains, ReadsOn, RefusesAll, RefusesOn}
 use Rattle.bohm_reading.specs.Reading.{FirstRefused, ReadsTextOf, ReadsBeginning, RefusesReading}
 use Rattle.bohm_reading.proofs.ReadingLaws.{Consumes-more}
@@ -87,6 +87,7 @@ module _ (u v : Option (List ℕ)) (begun : List ℕ) (none : begun ≡ []) (p :
         length-append (print_doc (document_of_first first)) s.rest.items,
       );
       short = omega (arith, total, is.short);
+      order = λ more none. tt;
       next = λ e. rw rest (is.inner (sym ended ∙ e)).next;
       last = λ e. let end = is.last (sym ended ∙ e) in record { none = rest ∙ end.none; at_end = end.at_end };
     };

@@ -1,5 +1,5 @@
 -- A document from a reader, in windows.
-use Rattle.std.specs.Prelude.{◌≡◌, ◌⊎◌, ℕ, ◌+◌, ◌-◌, ◌<◌, ◌≤◌, List, [], ◌++◌, cond, Bool, true, false, length, Option}
+use Rattle.std.specs.Prelude.{◌≡◌, ◌⊎◌, ℕ, ◌+◌, ◌-◌, ◌<◌, ◌≤◌, List, [], ◌∷◌, ◌++◌, Bool, true, false, length, Option}
 use Rattle.std.specs.Io.KnownBytes.{Consumes, IsAtEnd}
 use Rattle.bohm_types.specs.Document.{Document}
 use Rattle.bohm_types.specs.Sound.{IsDocument}
@@ -13,23 +13,10 @@ use Rattle.bohm_text.specs.declared.windows.FirstWindow.{FirstWindow}
 use Rattle.bohm_reading.specs.declared.fault.ReadingFault.{ReadingFault}
 use Rattle.bohm_reading.specs.declared.fault.ReadingFault.TheVariants.{Read, TooLong, Line, Short, NoMemory}
 use Rattle.bohm_reading.specs.declared.reading.Source.{Source}
-use Rattle.bohm_reading.specs.declared.wave.Wave.{Wave}
+use Rattle.bohm_reading.specs.declared.window.Window.{Window}
 use Rattle.bohm_types.specs.declared.edition.Edition.{Edition}
 use Rattle.bohm_reading.specs.Pieces.{IsLast}
-use Rattle.bohm_reading.specs.Waves.{bytes_of, AreInOrder, logs_of, RefusesText}
-
--- windows that came from a reader, behind what was begun with
-pub record IsWave (unread unread' : Option (List ℕ)) (begun : List ℕ) (before : ℕ) (w : Wave) : Type 0 where
-  pub more : List ℕ
-  pub read : Consumes unread unread' more
-  pub same : bytes_of w.windows.items ++ w.rest.items ≡ begun ++ more
-  pub total : w.total ≡ before + length more
-  pub short : w.total ≤ 67108864
-  pub some : 4 ≤ length (bytes_of w.windows.items)
-  -- whatever comes behind
-  pub order : (ahead : List ℕ) → (w.ended ≡ true → ahead ≡ []) → AreInOrder w.windows.items (w.rest.items ++ ahead)
-  pub next : w.ended ≡ false → IsWindow w.rest.items
-  pub last : w.ended ≡ true → IsLast unread' w.rest.items
+use Rattle.bohm_reading.specs.InOrder.{bytes_of, AreInOrder, logs_of, RefusesText}
 
 -- more bytes came than a text may have, with so many before
 pub record IsTooLong (unread unread' : Option (List ℕ)) (before : ℕ) : Type 0 where
@@ -54,26 +41,16 @@ pub record IsCounted (unread unread' : Option (List ℕ)) (before : ℕ) (now : 
   pub read : Consumes unread unread' more
   pub total : now ≡ before + length more
 
--- windows so far
-pub record IsGathered (unread unread' : Option (List ℕ)) (begun : List ℕ) (before : ℕ) (w : Wave) : Type 0 where
-  pub more : List ℕ
-  pub read : Consumes unread unread' more
-  pub same : bytes_of w.windows.items ++ w.rest.items ≡ begun ++ more
-  pub total : w.total ≡ before + length more
-  pub short : w.total ≤ 67108864
-  pub some : (w.ended ≡ true) ⊎ (0 < length w.windows.items) → 4 ≤ length (bytes_of w.windows.items)
-  pub order : (ahead : List ℕ) → (w.ended ≡ true → ahead ≡ []) → AreInOrder w.windows.items (w.rest.items ++ ahead)
-  pub next : w.ended ≡ false → IsWindow w.rest.items
-  pub last : w.ended ≡ true → IsLast unread' w.rest.items
-
--- a document was read, of so many lines, and this behind it
-pub record IsReading (unread : Option (List ℕ)) (d : Document) (count : ℕ) (rest : List ℕ) (bytes : ℕ) (ended : Bool) : Type 0 where
+-- a document was read, these windows behind it, and this behind them
+pub record IsReading (unread : Option (List ℕ)) (d : Document) (ahead : List Window) (s : Source) : Type 0 where
   pub sound : IsDocument d
-  pub lines : count ≡ length (whole_lines (print_doc d))
-  pub total : bytes ≡ length (print_doc d ++ rest)
-  pub short : bytes ≤ 67108864
-  pub next : ended ≡ false → IsWindow rest
-  pub last : ended ≡ true → IsLast unread rest
+  pub lines : s.lines ≡ length (whole_lines (print_doc d))
+  pub total : s.total ≡ length (print_doc d ++ (bytes_of ahead ++ s.rest.items))
+  pub short : s.total ≤ 67108864
+  -- whatever comes behind
+  pub order : (more : List ℕ) → (s.ended ≡ true → more ≡ []) → AreInOrder ahead (s.rest.items ++ more)
+  pub next : s.ended ≡ false → IsWindow s.rest.items
+  pub last : s.ended ≡ true → IsLast unread s.rest.items
 
 -- behind a document and what was read already these transactions were read to the end
 pub record ReadsOn (unread unread' : Option (List ℕ)) (d : Document) (rest : List ℕ) (log : List Txn) : Type 0 where
@@ -99,13 +76,12 @@ RefusesOn unread unread' d rest before TooLong = IsTooLong unread unread' before
 RefusesOn unread unread' d rest before (Line n) = RefusesAll unread unread' d rest (Line n)
 RefusesOn unread unread' d rest before Short = RefusesAll unread unread' d rest Short
 
--- chunks came, and this is read behind them
-pub record IsReadOn (unread unread' : Option (List ℕ)) (d : Document) (first : List ℕ) (chunks : List Chunk) (count : ℕ) (rest : List ℕ) (bytes : ℕ)
-    (ended : Bool) : Type 0 where
+-- behind a document and what was read already the chunks came, these windows behind them, and this behind the windows
+pub record IsReadOn (unread unread' : Option (List ℕ)) (d : Document) (first : List ℕ) (chunks : List Chunk) (ahead : List Window) (s : Source) : Type 0 where
   pub more : List ℕ
   pub read : Consumes unread unread' more
-  pub is : IsReading unread' (with_log d (logs_of chunks)) count rest bytes ended
-  pub same : print_doc (with_log d (logs_of chunks)) ++ rest ≡ print_doc d ++ (first ++ more)
+  pub is : IsReading unread' (with_log d (logs_of chunks)) ahead s
+  pub same : print_doc (with_log d (logs_of chunks)) ++ (bytes_of ahead ++ s.rest.items) ≡ print_doc d ++ (first ++ more)
 
 -- a fault of the reader, and none of the text
 abbrev pub IsSourceFault : ReadingFault → Type 0
@@ -143,33 +119,43 @@ RefusesReading unread unread' Short = ReadsRefused unread unread' Short
 
 -- ---- the calls
 
--- windows can be read from here on
+-- a window can be read from here on
 pub record IsReady (s : Source) : Type 0 where
   pub next : s.ended ≡ false → IsWindow s.rest.items
   pub short : s.total ≤ 67108864
-  pub room : s.lines + length s.rest.items ≤ s.total
 
--- how much may come at most, which falls with each wave
-abbrev pub left_of : Source → ℕ
-left_of s = cond s.ended 0 (1 + (67108864 - s.total) + length s.rest.items)
+-- how many bytes may still be parsed: reading a window leaves them as they are, and taking it makes them fewer
+abbrev pub left_of : List Window → Source → ℕ
+left_of ahead s = (67108864 - s.total) + length (bytes_of ahead ++ s.rest.items)
 
 -- the first window was read: the document so far, and what came behind it
 pub record ReadsBeginning (unread unread' : Option (List ℕ)) (first : FirstWindow) (s : Source) : Type 0 where
   pub more : List ℕ
   pub read : Consumes unread unread' more
   pub same : print_doc (document_of_first first) ++ s.rest.items ≡ more
-  pub is : IsReading unread' (document_of_first first) s.lines s.rest.items s.total s.ended
+  pub is : IsReading unread' (document_of_first first) [] s
 
--- whatever was read of a text of this edition, the windows' chunks stand behind it, and less may still come
-pub record ReadsWave (e : Edition) (unread unread' : Option (List ℕ)) (was now : Source) (chunks : List Chunk) : Type 0 where
-  pub reads : (u : Option (List ℕ)) (d : Document) (first : List ℕ) (before : List Chunk) → d.edition ≡ e
-      → IsReadOn u unread d first before was.lines was.rest.items was.total was.ended
-      → IsReadOn u unread' d first (before ++ chunks) now.lines now.rest.items now.total now.ended
+-- whatever was read before, the window stands behind it
+pub record ReadsNext (unread unread' : Option (List ℕ)) (was now : Source) (w : Window) : Type 0 where
+  pub begins : IsWindow w.text.items
+  pub reads : (u : Option (List ℕ)) (d : Document) (first : List ℕ) (chunks : List Chunk) (ahead : List Window)
+      → IsReadOn u unread d first chunks ahead was → IsReadOn u unread' d first chunks (ahead ++ w ∷ []) now
   pub ready : IsReady now
-  pub less : left_of now < left_of was
+  pub left : (ahead : List Window) → left_of (ahead ++ w ∷ []) now ≡ left_of ahead was
 
--- whatever was read of a text of this edition, the text is refused so
-abbrev pub RefusesWaveBehind : Edition → Option (List ℕ) → Option (List ℕ) → Source → ReadingFault → Type 0
-RefusesWaveBehind e unread unread' was fault = (u : Option (List ℕ)) (d : Document) (first : List ℕ) (before : List Chunk) → d.edition ≡ e
-    → IsReadOn u unread d first before was.lines was.rest.items was.total was.ended
-    → RefusesOn u unread' d first (length (print_doc d ++ first)) fault
+-- whatever was read before, the text is refused so
+abbrev pub RefusesNext : Option (List ℕ) → Option (List ℕ) → Source → ReadingFault → Type 0
+RefusesNext unread unread' was fault = (u : Option (List ℕ)) (d : Document) (first : List ℕ) (chunks : List Chunk) (ahead : List Window)
+    → IsReadOn u unread d first chunks ahead was → RefusesOn u unread' d first (length (print_doc d ++ first)) fault
+
+-- whatever was read of a text of this edition up to the window, its chunk stands in its place
+pub record TakesWindow (e : Edition) (w : Window) (was now : Source) (chunk : Chunk) : Type 0 where
+  pub reads : (u v : Option (List ℕ)) (d : Document) (first : List ℕ) (chunks : List Chunk) (ahead : List Window) → d.edition ≡ e
+      → IsReadOn u v d first chunks (w ∷ ahead) was → IsReadOn u v d first (chunks ++ chunk ∷ []) ahead now
+  pub ready : IsReady now
+  pub left : (ahead : List Window) → left_of ahead now + length w.text.items ≡ left_of (w ∷ ahead) was
+
+-- whatever was read of a text of this edition up to the window, the text is refused so
+abbrev pub RefusesTaking : Edition → Window → Option (List ℕ) → Option (List ℕ) → Source → ReadingFault → Type 0
+RefusesTaking e w unread unread' was fault = (u : Option (List ℕ)) (d : Document) (first : List ℕ) (chunks : List Chunk) (ahead : List Window) → d.edition ≡ e
+    → IsReadOn u unread d first chunks (w ∷ ahead) was → RefusesOn u unread' d first (length (print_doc d ++ first)) fault

@@ -1,15 +1,14 @@
-//! A text read in windows, several of them side by side.
+//! A text read in windows.
 #![tactic(auto)]
 
 mod cutting;
 mod draining;
 mod fault;
-mod gathering;
-mod parsing;
 mod reading;
 mod source;
-mod wave;
+mod window;
 
 pub use fault::ReadingFault;
-pub use reading::{Source, read_first, read_wave};
+pub use reading::{Source, next_window, read_first, take_parsed};
 pub use source::LONGEST_TEXT;
+pub use window::{Parsed, Window};

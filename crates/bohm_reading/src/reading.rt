@@ -1,23 +1,22 @@
-//! A document from a reader: the first window, then wave after wave of windows.
+//! A document from a reader: the first window, then window after window.
 
-ghost use Rattle.std.specs.Prelude.{◌≡◌, ◌<◌, false, IfOk, IfErr, Err};
-ghost use Rattle.bohm_text.specs.Windowing.{ReadsFirst};
-ghost use Rattle.bohm_reading.specs.Reading.{FirstRefused, IsReady, ReadsBeginning, ReadsWave};
-ghost use Rattle.bohm_reading.specs.Reading.{RefusesWaveBehind, RefusesReading};
+ghost use Rattle.std.specs.Prelude.{◌≡◌, ◌+◌, ◌≤◌, false, length, IfOk, IfErr, OnOk, Err};
+ghost use Rattle.bohm_text.specs.Windowing.{ReadsFirst, ReadsWindow};
+ghost use Rattle.bohm_reading.specs.InOrder.{RefusesWindow};
+ghost use Rattle.bohm_reading.specs.Reading.{FirstRefused, IsReady, ReadsBeginning, ReadsNext};
+ghost use Rattle.bohm_reading.specs.Reading.{RefusesNext, RefusesReading, RefusesTaking};
+ghost use Rattle.bohm_reading.specs.Reading.{TakesWindow};
 
 use crate::draining::drain;
 use crate::fault::ReadingFault;
-use crate::gathering::take_wave;
-use crate::parsing::parse_wave;
 use crate::source::{Piece, next_piece};
-use crate::wave::{Wave, next_wave};
-use bohm_log::{DrawnSeed, HashSeed, Log};
+use crate::window::{Parsed, Window};
+use bohm_log::DrawnSeed;
 use bohm_text::{Chunk, FirstWindow, WindowFault, parse_first_window};
 use bohm_types::Edition;
 use std::alloc::Global;
 use std::io::Read;
 use std::mem;
-use std::thread::Threads;
 
 /// A reader's state after the windows that were read.
 #[derive(Drop)]
@@ -26,7 +25,7 @@ pub struct Source {
     pub rest: Vec<u8>,
     /// How many bytes were read so far.
     pub total: usize,
-    /// How many lines the windows have.
+    /// How many lines the windows have whose chunks were taken.
     pub lines: u64,
     /// Whether the reader is at its end. Then there is no next window.
     pub ended: bool,
@@ -90,69 +89,83 @@ pub fn read_first<R: Read>(
     Err(drain(reader, total, fault))
 }
 
-/// Reads the next windows of a text of this edition, at most this many; several are parsed in
-/// threads of their own. A window is cut before its last line `txn` once it has this many bytes; it
-/// is longer if a transaction is. If a window is refused, the rest of the text is read
-/// nevertheless, since a failed read and a text that is too long take precedence.
+/// Reads the next window of a text. It is cut before its last line `txn` once it has this many bytes;
+/// it is longer if a transaction is. After an `Err` reading can't continue.
 ///
-/// The chunks are returned in the order of their windows. The columns of spare logs are used again:
-/// the first window takes the last log, and so on, and each log that is taken leaves the list. After
-/// an `Err` reading can't continue.
-///
-/// The time grows with the length of the windows, spread over the threads except for reading and
-/// copying the bytes; the memory likewise.
-pub fn read_wave<R: Read, T: Threads + Sync>(
-    rt: &T,
+/// The time grows with the length of the window, and the memory too where no buffer is spare.
+pub fn next_window<R: Read>(
     alloc: Global,
-    seed: DrawnSeed,
     reader: &mut R,
-    edition: Edition,
     source: &mut Source,
-    spare: &mut Vec<Log<HashSeed>>,
     size: usize,
-    most: usize,
-) -> Result<Vec<Chunk>, ReadingFault>
-    requires some { 0 < most }
+) -> Result<Window, ReadingFault>
     requires going { source.old.ended ≡ false }
     requires ready { IsReady source.old }
     ensures ok { IfOk result
-        (λ chunks. ReadsWave edition (R.remaining reader.old) (R.remaining reader.new) source.old
-        source.new chunks.items) }
+        (ReadsNext (R.remaining reader.old) (R.remaining reader.new) source.old source.new) }
     ensures err { IfErr result
-        (RefusesWaveBehind edition (R.remaining reader.old) (R.remaining reader.new) source.old) }
+        (RefusesNext (R.remaining reader.old) (R.remaining reader.new) source.old) }
 {
     let begun = mem::replace(&mut source.rest, Vec::new(alloc));
-    let Wave {
-        windows,
+    let Piece {
+        text,
         rest,
         total,
         ended,
-    } = next_wave(
-        alloc,
-        reader,
-        &mut source.spare,
-        begun,
-        source.total,
-        size,
-        most,
-    )?;
-    let parsed = parse_wave(rt, alloc, seed, edition, windows, spare)?;
-    let mut chunks = Vec::new(alloc);
-    match take_wave(
-        edition,
-        &mut chunks,
-        &mut source.spare,
-        source.lines,
-        parsed,
-    ) {
-        Ok(lines) => {
-            source.rest = rest;
-            source.total = total;
-            source.lines = lines;
-            source.ended = ended;
-            Ok(chunks)
-        }
-        Err(fault) if ended => Err(fault),
-        Err(fault) => Err(drain(reader, total, fault)),
+    } = next_piece(alloc, reader, &mut source.spare, begun, source.total, size)?;
+    source.rest = rest;
+    source.total = total;
+    source.ended = ended;
+    Ok(Window { text, last: ended })
+}
+
+/// Why a window after this many lines is refused.
+fn refusal(edition: Edition, lines: u64, window: &Window, fault: WindowFault) -> ReadingFault
+    requires { ReadsWindow edition window.now.text.items (Err fault) }
+    ensures { lines + length window.now.text.items ≤ 67108864
+        → RefusesWindow edition window.now.text.items window.now.last lines result }
+{
+    // Only the contract needs the edition.
+    let _ = edition;
+    match fault {
+        WindowFault::Line(n) => ReadingFault::Line(lines.saturating_add(n)),
+        WindowFault::Open(_) if window.last => ReadingFault::Short,
+        WindowFault::Open(n) => ReadingFault::Line(lines.saturating_add(n).saturating_add(1)),
+        WindowFault::NoMemory => ReadingFault::NoMemory,
     }
+}
+
+/// Takes what was parsed of a window of a text of this edition: the first that was read and not taken
+/// so far. If it is refused, the rest of the text is read nevertheless, since a failed read and a text
+/// that is too long take precedence; after that reading can't continue. The window's buffer becomes
+/// spare.
+///
+/// The time is constant, or grows with the rest of a refused text.
+pub fn take_parsed<R: Read>(
+    reader: &mut R,
+    edition: Edition,
+    source: &mut Source,
+    parsed: Parsed,
+) -> Result<Chunk, ReadingFault>
+    requires ready { IsReady source.old }
+    requires read { ReadsWindow edition parsed.window.text.items parsed.result }
+    ensures ok { IfOk result (TakesWindow edition parsed.window source.old source.new) }
+    ensures unread { OnOk result (reader.new ≡ reader.old) }
+    ensures err { IfErr result
+        (RefusesTaking edition parsed.window (R.remaining reader.old) (R.remaining reader.new)
+        source.old) }
+{
+    let Parsed { window, result } = parsed;
+    let fault = match result {
+        Ok(chunk) => {
+            source.lines = source.lines.saturating_add(chunk.lines);
+            source.spare.push(window.text)?;
+            return Ok(chunk);
+        }
+        Err(fault) => refusal(edition, source.lines, &window, fault),
+    };
+    if source.ended {
+        return Err(fault);
+    }
+    Err(drain(reader, source.total, fault))
 }

@@ -7,8 +7,8 @@ mod Walks
 mod Replying
 mod Swept
 mod OneSweep
-mod CheckedWaveLaws
 mod ChunkLaws
+mod AheadLaws
 mod StreamLaws
 mod AnswerLaws
 pub mod ForCallers

@@ -1,5 +1,5 @@
--- Wave after wave, read and run.
-use Rattle.std.proofs.Common.{◌≡◌, inl, ℕ, ◌≤◌, ◌++◌, List, [], Bool, true, length}
+-- Window after window, read and run.
+use Rattle.std.proofs.Common.{◌≡◌, inl, ℕ, ◌≤◌, ◌++◌, List, [], ◌∷◌, true, length}
 use Rattle.std.proofs.Common.{refl, append_assoc, append-nil, ap, sym, subst, ◌∙◌, arith, take}
 use Rattle.std.specs.Prelude.{Option, None}
 use Rattle.std.proofs.Math.Seq.{take-length}
@@ -21,14 +21,17 @@ use Rattle.bohm_text.specs.declared.windows.FirstWindow.{FirstWindow}
 use Rattle.bohm_reading.specs.declared.fault.ReadingFault.{ReadingFault}
 use Rattle.bohm_reading.specs.declared.fault.ReadingFault.TheVariants as reading
 use Rattle.bohm_reading.specs.declared.reading.Source.{Source}
-use Rattle.bohm_reading.specs.Reading.{IsReadOn, ReadsBeginning, ReadsTextOf, RefusesReading, ReadsWave, RefusesWaveBehind}
-use Rattle.bohm_reading.specs.Waves.{logs_of}
+use Rattle.bohm_reading.specs.Reading.{ReadsBeginning, ReadsTextOf, RefusesReading}
+use Rattle.bohm_reading.specs.InOrder.{logs_of}
 use Rattle.bohm_reading.proofs.ForCallers.{on_none, on_end, later_refused, later_read}
 use Rattle.bohm_run.specs.Bytes.{ReadsAll}
 use Rattle.bohm_run.specs.Given.{Given}
 use Rattle.bohm_run.specs.Headline.{Refuses, IsBeforeWriting}
 use Rattle.bohm_run.specs.Refusing.{reading_refusal_of}
+use Rattle.bohm_run.specs.Reading.{ReadsChunk, RefusesChunk}
+use Rattle.bohm_run.specs.declared.checked_chunk.CheckedChunk.{CheckedChunk}
 use Rattle.bohm_run.specs.declared.chunks.RunState.{RunState}
+use Rattle.bohm_run.specs.declared.log_reader.LogReader.{LogReader}
 use Rattle.bohm_run.specs.declared.fault.RunFault.TheVariants.{Check}
 use Rattle.bohm_run.specs.Runs.{IsApplied}
 use Rattle.bohm_run.specs.Chunks.{IsRunTo, IsStarted, RunsChunk}
@@ -37,44 +40,51 @@ use Rattle.bohm_run.proofs.ChunkLaws.{exact, runs_none, runs_on}
 use Rattle.bohm_run.proofs.Going.{at_rest}
 use Rattle.bohm_run.proofs.Walks.{whole_run}
 
--- ---- wave after wave
+-- ---- window after window
 
-pub begin : (e : Edition) (log : List Txn) (u : Option (List ℕ)) (s : Source) (state : RunState) (pending : List Txn) → pending ≡ log
-    → RunsBehindTo e log u u s s pending state state
-begin e log u s state pending one = λ d begun. record {
+pub begin : (e : Edition) (log : List Txn) (u : Option (List ℕ)) (s : Source) (r : LogReader) (state : RunState) → r.source ≡ s → r.ahead.items ≡ []
+    → RunsBehindTo e log u u s r log state state
+begin e log u s r state same none = λ d begun. record {
   behind = [];
   ran = [];
-  read = on_none u d s.lines s.rest.items s.total s.ended begun.is;
-  all = one ∙ (sym begun.log ∙ sym (append-nil d.log));
+  read = rw (same, none) (on_none u d s begun.is);
+  all = sym begun.log ∙ sym (append-nil d.log);
   runs = runs_none state;
 }
 
-module _ (e : Edition) (log : List Txn) (u v : Option (List ℕ)) (s mid : Source) (pending : List Txn) (was state : RunState)
-    (so_far : RunsBehindTo e log u v s mid pending was state) where
-  pub go_on : (x : Option (List ℕ)) (now : Source) (chunks : List Chunk) (next : List Txn) (after : RunState) → next ≡ logs_of chunks
-      → RunsChunk pending state after → ReadsWave e v x mid now chunks → RunsBehindTo e log u x s now next was after
-  go_on x now chunks next after is ran read = λ d begun.
+module _ (e : Edition) (log : List Txn) (u v : Option (List ℕ)) (s : Source) (mid : LogReader) (pending : List Txn) (was state : RunState)
+    (edition : mid.edition ≡ e) (so_far : RunsBehindTo e log u v s mid pending was state) where
+  pub go_on : (x : Option (List ℕ)) (now : LogReader) (checked : CheckedChunk) (after : RunState) → RunsChunk pending state after
+      → ReadsChunk v x mid now checked → RunsBehindTo e log u x s now checked.log was after
+  go_on x now checked after ran read = λ d begun.
       let there = so_far d begun in
-      let behind : logs_of there.behind ++ next ≡ logs_of (there.behind ++ chunks) =
-      ap (λ (l : List Txn). logs_of there.behind ++ l) is ∙ sym (flat_map-append (λ (k : Chunk). k.log) there.behind chunks) in
+      let behind : logs_of there.behind ++ checked.log ≡ logs_of (there.behind ++ read.chunk ∷ []) =
+      ap (λ (l : List Txn). logs_of there.behind ++ l) (read.same ∙ sym (append-nil read.chunk.log))
+      ∙ sym (flat_map-append (λ (k : Chunk). k.log) there.behind (read.chunk ∷ [])) in
       record {
-        behind = there.behind ++ chunks;
+        behind = there.behind ++ read.chunk ∷ [];
         ran = there.ran ++ pending;
-        read = read.reads u d s.rest.items there.behind begun.edition there.read;
-        all = ap (λ (l : List Txn). l ++ next) there.all ∙ (append_assoc d.log (logs_of there.behind) next ∙ ap (λ (l : List Txn). d.log ++ l) behind);
+        read = read.reads u d s.rest.items there.behind (begun.edition ∙ sym edition) there.read;
+        all = ap (λ (l : List Txn). l ++ checked.log) there.all
+            ∙ (append_assoc d.log (logs_of there.behind) checked.log ∙ ap (λ (l : List Txn). d.log ++ l) behind);
         runs = runs_on there.ran pending was state after there.runs ran;
       }
 
-  pub refused : (x : Option (List ℕ)) (fault : ReadingFault) → RefusesWaveBehind e v x mid fault → RefusesLog e log u x s fault
-  refused x fault h = λ d begun. let there = so_far d begun in h u d s.rest.items there.behind begun.edition there.read
+  -- what the reader keeps for later windows doesn't matter
+  pub kept_on : (now : LogReader) → now.source ≡ mid.source → now.ahead.items ≡ mid.ahead.items → RunsBehindTo e log u v s now pending was state
+  kept_on now source items = λ d begun.
+      let there = so_far d begun in
+      record { behind = there.behind; ran = there.ran; read = rw (source, items) there.read; all = there.all; runs = there.runs }
 
-  pub at_end : mid.ended ≡ true → (next : RunState) → RunsChunk pending state next → RunsBehind e log u v s was next
-  at_end done next ran = λ d begun.
+  pub refused : (x : Option (List ℕ)) (fault : ReadingFault) → RefusesChunk v x mid fault → RefusesLog e log u x s fault
+  refused x fault h = λ d begun. let there = so_far d begun in h u d s.rest.items there.behind (begun.edition ∙ sym edition) there.read
+
+  pub at_end : mid.source.ended ≡ true → mid.ahead.items ≡ [] → (next : RunState) → RunsChunk pending state next → RunsBehind e log u v s was next
+  at_end done none next ran = λ d begun.
       let there = so_far d begun in
       record {
         log = logs_of there.behind;
-        read = on_end u v d s.rest.items there.behind mid.lines mid.rest.items mid.total
-            (subst (λ (b : Bool). IsReadOn u v d s.rest.items there.behind mid.lines mid.rest.items mid.total b) done there.read);
+        read = on_end u v d s.rest.items there.behind mid.source (let h = there.read in rw none at h) done;
         runs = subst (λ (l : List Txn). RunsChunk l was next) there.all (runs_on there.ran pending was state next there.runs ran);
       }
 

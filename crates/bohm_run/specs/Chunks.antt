@@ -10,7 +10,7 @@ use Rattle.bohm_text.specs.Print.{print_numbered}
 use Rattle.bohm_text.specs.Windows.{with_log}
 use Rattle.bohm_run.specs.declared.checked_chunk.CheckedChunk.{CheckedChunk}
 use Rattle.bohm_run.specs.declared.chunks.RunState.{RunState}
-use Rattle.bohm_run.specs.CheckedWaves.{placed, txns_of, count_behind, AreBehind, ArePrepared}
+use Rattle.bohm_run.specs.Preparing.{count_with, IsPrepared}
 use Rattle.bohm_run.specs.Runs.{IsApplied}
 use Rattle.bohm_types.specs.Limits.{most_txns}
 
@@ -54,13 +54,13 @@ pub record RunsChunk (txns : List Txn) (was now : RunState) : Type 0 where
   pub level : IsLevel was → IsLevel now
   pub runs : (opened : Timeline) (d : Document) → opened.floor ≤ opened.top → IsRunTo opened d was → IsRunTo opened (with_log d txns) now
 
--- these chunks are the next ones to be run
-pub record AreNext (s : RunState) (chunks : List CheckedChunk) : Type 0 where
+-- the chunk is the next one to be run
+pub record IsNext (s : RunState) (c : CheckedChunk) : Type 0 where
   pub level : IsLevel s
-  pub behind : AreBehind s.count (placed chunks)
-  pub prepared : ArePrepared chunks
+  pub behind : c.count ≡ s.count
+  pub prepared : IsPrepared s.count c.log c.prepared
 
--- these chunks were run
-pub record RunsWave (chunks : List CheckedChunk) (was now : RunState) : Type 0 where
-  pub runs : RunsChunk (txns_of chunks) was now
-  pub count : now.count ≡ count_behind was.count (placed chunks)
+-- the chunk was run
+pub record RunsNext (c : CheckedChunk) (was now : RunState) : Type 0 where
+  pub runs : RunsChunk c.log was now
+  pub count : now.count ≡ count_with was.count (length c.log)

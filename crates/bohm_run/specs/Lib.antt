@@ -10,7 +10,7 @@ pub mod Sweeps
 pub mod Times
 pub mod Sides
 pub mod Preparing
-pub mod CheckedWaves
+pub mod Parsing
 pub mod Reading
 pub mod Chunks
 pub mod Streaming

@@ -9,6 +9,7 @@ use Rattle.bohm_txn.specs.Faulty.{IsWellFormedTxn}
 use Rattle.bohm_text.specs.Windows.{with_log}
 use Rattle.bohm_place.specs.Plans as plans_are
 use Rattle.bohm_place.specs.Cuttings.{ArePlans}
+use Rattle.bohm_run.specs.declared.checked_chunk.CheckedChunk.{CheckedChunk}
 use Rattle.bohm_run.specs.declared.checked_chunk.Prepared.{Prepared}
 use Rattle.bohm_run.specs.declared.checked_chunk.Prepared.TheVariants.{Faulty, TooMany, Ready, Planned}
 use Rattle.bohm_types.specs.Limits.{most_txns}
@@ -39,3 +40,9 @@ IsPrepared count txns (Faulty fault) = IsFaultBehind count txns (Some fault)
 IsPrepared count txns TooMany = most_txns < count + length txns
 IsPrepared count txns Ready = AreReady count txns
 IsPrepared count txns (Planned cuts plans) = ArePlanned count txns cuts plans.items
+
+-- a chunk behind so many transactions was checked and planned, and with its own there are so many
+pub record IsCheckedBehind (before after : ℕ) (c : CheckedChunk) : Type 0 where
+  pub behind : c.count ≡ before
+  pub prepared : IsPrepared before c.log c.prepared
+  pub count : after ≡ count_with before (length c.log)

@@ -23,6 +23,7 @@ use bohm_types::{Key, MOST_TXNS, NoMemory, Value};
 use std::alloc::Global;
 use std::io::{Read, Write};
 use std::random::RandomSource;
+use std::sync::Wait;
 use std::thread::Threads;
 
 /// How many bytes a window of a text has at least, but for the last one.
@@ -100,20 +101,21 @@ fn answer(alloc: Global, state: RunState, ts: u32) -> Result<Vec<u8>, NoMemory>
 /// answer is made before the first byte is written. Every failure of a reader or a writer counts,
 /// an interrupted call too.
 ///
-/// The log is read in windows, and runs as it is read: while `exec` workers execute the transactions
-/// of some windows, the next ones are read and checked, `cc` of them side by side. One executing
-/// worker runs the transactions in log order, without plans and batches; for several the next windows
-/// are planned too, and share out the planning, so the partitions of the keys aren't used. A log of
-/// one window is read and run on the caller's thread where one worker executes.
+/// The log is read in windows, and runs as it is read: while the transactions of a window are executed,
+/// `cc` threads parse windows behind it. One executing worker is the caller's thread: it runs the
+/// transactions in log order, without plans and batches, and reads and checks the next window in between.
+/// For several the next window is checked and planned meanwhile, on one thread, so the partitions of the
+/// keys aren't used. A log of one window is read and run on the caller's thread where one worker executes.
+/// The call blocks while a window that is next isn't parsed. Where no thread can be started, it parses
+/// the windows itself.
 ///
 /// The time grows with the text and its answer, with the terms of the transactions and the keys that
-/// they declare, and with the number of the store's keys k as k log k. Reading, checking and planning
-/// are spread over `cc` threads, and the sweeps over `exec` threads; on one thread are the cutting of
-/// the windows, the bases and the settling of the batches, and the printing. The memory grows with
-/// the keys of the log, with the text of the answer, and with twice as many windows as are read side
-/// by side, a window being as long as the head and the store, or as a transaction, where these are
-/// longer than 256 KiB.
-pub fn run_text<T: Threads + Sync + RandomSource, R: Read, W: Write>(
+/// they declare, and with the number of the store's keys k as k log k. Parsing is spread over `cc`
+/// threads, and the sweeps over `exec` threads; all else is done by one thread, or by two where several
+/// workers execute. The memory grows with the keys of the log, with the text of the answer, and with
+/// `cc` + 3 windows, a window being as long as the head and the store, or as a transaction, where these
+/// are longer than 256 KiB.
+pub fn run_text<T: Threads + Wait + Sync + RandomSource + Copy + Send + 'static, R: Read, W: Write>(
     rt: &T,
     alloc: Global,
     reader: &mut R,
@@ -135,7 +137,11 @@ pub fn run_text<T: Threads + Sync + RandomSource, R: Read, W: Write>(
 
 /// Runs a text as `run_text` does, in windows of so many bytes at least but for the last one. The
 /// answer and the refusals are the same for every size.
-pub fn run_text_in_windows<T: Threads + Sync + RandomSource, R: Read, W: Write>(
+pub fn run_text_in_windows<
+    T: Threads + Wait + Sync + RandomSource + Copy + Send + 'static,
+    R: Read,
+    W: Write,
+>(
     rt: &T,
     alloc: Global,
     reader: &mut R,

@@ -8,9 +8,7 @@ ghost use Rattle.bohm_txn.specs.Stores.{cell_in, store_of};
 ghost use Rattle.bohm_store.specs.Versions.{past};
 ghost use Rattle.bohm_place.specs.Cuttings.{ArePlans};
 ghost use Rattle.bohm_run.specs.Runs.{cutting_behind};
-ghost use Rattle.bohm_run.specs.Preparing.{count_with, IsPrepared};
-ghost use Rattle.bohm_run.specs.Chunks.{AreNext, IsLevel, IsPartRun};
-ghost use Rattle.bohm_run.specs.Chunks.{IsStarted, RunsChunk, RunsWave};
+ghost use Rattle.bohm_run.specs.Chunks.{IsNext, IsPartRun, IsStarted, RunsNext};
 
 use crate::checked_chunk::{CheckedChunk, Prepared, counted};
 use crate::executing::{Executor, Progress};
@@ -18,7 +16,7 @@ use crate::serial_executor::SerialExecutor;
 use crate::settings::Settings;
 use crate::workers::ScratchPool;
 use bohm_exec::OpenGate;
-use bohm_log::{DrawnSeed, HashSeed, Log, LogPart};
+use bohm_log::{DrawnSeed, LogPart};
 use bohm_place::{CutLog, Cuts, Plan};
 use bohm_store::{History, Seats};
 use bohm_text::put_replies;
@@ -43,14 +41,6 @@ pub(crate) struct RunState {
     pub(crate) in_store: Option<CheckFault>,
     /// The first fault so far. Behind one nothing runs.
     pub(crate) fault: Option<CheckFault>,
-}
-
-/// The log and the seats of a chunk that is done, to be used again for another one.
-#[derive(Drop)]
-pub(crate) struct Spare {
-    pub(crate) log: Log<HashSeed>,
-    /// The numbers that its keys had in the history.
-    pub(crate) seats: Seats,
 }
 
 /// The history of a store, or of the empty one where the store has a fault.
@@ -134,80 +124,48 @@ fn run_clean<T: Threads + Sync>(
     Ok(())
 }
 
-/// Runs the next chunk, where the log has no fault so far and not too many transactions.
-fn run_chunk<T: Threads + Sync>(
+/// Runs the next chunk, where the log has no fault so far and not too many transactions. Its plans are
+/// used up.
+pub(crate) fn run_chunk<T: Threads + Sync>(
     rt: &T,
     alloc: Global,
     state: &mut RunState,
-    chunk: CheckedChunk,
-) -> Result<Spare, NoMemory>
-    requires level { IsLevel state.old }
-    requires next { chunk.count ≡ state.old.count }
-    requires prepared { IsPrepared chunk.count chunk.log chunk.prepared }
-    ensures runs { OnOk result (RunsChunk chunk.log state.old state.new) }
-    ensures count { OnOk result (state.new.count ≡ count_with state.old.count (length chunk.log)) }
+    chunk: &mut CheckedChunk,
+) -> Result<(), NoMemory>
+    requires { IsNext state.old chunk.old }
+    ensures { OnOk result (RunsNext chunk.old state.old state.new) }
 {
-    let CheckedChunk {
-        log,
-        count,
-        prepared,
-        mut seats,
-    } = chunk;
-    state.count = counted(count, log.len());
+    let log = chunk.log.part();
+    state.count = counted(chunk.count, log.len());
     if state.fault.is_some() {
         // The first fault stays, and this takes constant time.
-        state.fault = check_more(count, state.fault, &log.part());
-        return Ok(Spare { log, seats });
+        state.fault = check_more(chunk.count, state.fault, &log);
+        return Ok(());
     }
-    match prepared {
+    match mem::replace(&mut chunk.prepared, Prepared::Ready) {
         Prepared::Faulty(fault) => {
             state.fault = Some(fault);
-            Ok(Spare { log, seats })
+            Ok(())
         }
-        Prepared::TooMany => Ok(Spare { log, seats }),
-        Prepared::Ready => {
-            state.serial.run_to_text(
-                &mut state.progress.history,
-                &mut state.progress.replies,
-                &mut state.text,
-                &log.part(),
-                &mut seats,
-                state.executor.keep,
-            )?;
-            Ok(Spare { log, seats })
-        }
-        Prepared::Planned { cuts, plans } => {
-            run_clean(
-                rt,
-                alloc,
-                &mut state.progress,
-                &mut state.text,
-                &mut state.executor,
-                &log.part(),
-                &mut seats,
-                &cuts,
-                plans,
-            )?;
-            Ok(Spare { log, seats })
-        }
+        Prepared::TooMany => Ok(()),
+        Prepared::Ready => state.serial.run_to_text(
+            &mut state.progress.history,
+            &mut state.progress.replies,
+            &mut state.text,
+            &log,
+            &mut chunk.seats,
+            state.executor.keep,
+        ),
+        Prepared::Planned { cuts, plans } => run_clean(
+            rt,
+            alloc,
+            &mut state.progress,
+            &mut state.text,
+            &mut state.executor,
+            &log,
+            &mut chunk.seats,
+            &cuts,
+            plans,
+        ),
     }
-}
-
-/// Runs the chunks that are next, one after another, and returns what is left of them.
-#[tactic(auto, using(crate::proofs::ChunkLaws::runs_none))]
-pub(crate) fn run_chunks<T: Threads + Sync>(
-    rt: &T,
-    alloc: Global,
-    state: &mut RunState,
-    chunks: Vec<CheckedChunk>,
-) -> Result<Vec<Spare>, NoMemory>
-    requires { AreNext state.old chunks.items }
-    ensures { OnOk result (RunsWave chunks.items state.old state.new) }
-{
-    let mut spare = Vec::with_capacity(alloc, chunks.len())?;
-    for chunk in chunks {
-        let one = run_chunk(rt, alloc, state, chunk)?;
-        spare.push(one)?;
-    }
-    Ok(spare)
 }

@@ -1,105 +1,103 @@
-//! A log that is run as it is read: while the chunks of a wave of windows run, the next wave is read,
-//! checked and planned.
+//! A log that is run as it is read: while the chunk of a window runs, windows behind it are parsed.
 
-ghost use Rattle.std.specs.Prelude.{◌≡◌, false, None, IfOk, IfErr, OnOk};
+ghost use Rattle.std.specs.Prelude.{◌≡◌, [], None, IfOk, IfErr, OnOk};
 ghost use denote.Param.Send.{IsSync};
-ghost use Rattle.bohm_reading.specs.Reading.{IsReady, RefusesWaveBehind};
-ghost use Rattle.bohm_run.specs.Chunks.{AreNext, IsLevel, RunsWave};
+ghost use Rattle.bohm_reading.specs.Reading.{IsReady};
+ghost use Rattle.bohm_run.specs.Chunks.{IsLevel, IsNext, RunsNext};
 ghost use Rattle.bohm_run.specs.Given.{Given};
 ghost use Rattle.bohm_run.specs.Headline.{Refuses, IsBeforeWriting};
-ghost use Rattle.bohm_run.specs.Reading.{ReadsAhead};
+ghost use Rattle.bohm_run.specs.Reading.{HasMore, IsGoing, ReadsChunk, RefusesChunk};
 ghost use Rattle.bohm_run.specs.Streaming.{IsLogRun, RefusesLog, RunsBehind};
 
 use crate::checked_chunk::CheckedChunk;
-use crate::chunks::{RunState, Spare, run_chunks};
+use crate::chunks::{RunState, run_chunk};
 use crate::fault::RunFault;
 use crate::log_reader::LogReader;
+use crate::parsers::Parsers;
 use crate::settings::Settings;
 use bohm_log::DrawnSeed;
 use bohm_reading::{ReadingFault, read_first};
-use bohm_store::StoreNumbers;
+use bohm_store::{Seats, StoreNumbers};
 use bohm_text::{Chunk, FirstWindow};
 use bohm_txn::check_end;
 use bohm_types::{Key, NoMemory, Value};
 use std::alloc::Global;
+use std::collections::VecDeque;
 use std::io::Read;
 use std::mem;
 use std::random::RandomSource;
+use std::sync::Wait;
 use std::thread::{Threads, join_mut};
 
-/// Runs the chunks that are next in a thread of its own, and reads the next wave meanwhile. No chunk
-/// is left.
-fn run_and_read<R: Read, T: Threads + Sync>(
+/// Runs the chunk that is next, and reads the one behind it: one after the other where one worker
+/// executes, so that the history stays with one thread, and else side by side, since planning takes
+/// its time.
+fn run_and_read<R: Read, T: Threads + Wait + Sync>(
     rt: &T,
     alloc: Global,
     log_reader: &mut LogReader,
     reader: &mut R,
     state: &mut RunState,
-    chunks: &mut Vec<CheckedChunk>,
-) -> (
-    Result<Vec<Spare>, NoMemory>,
-    Result<Vec<CheckedChunk>, ReadingFault>,
-)
-    requires going { log_reader.old.source.ended ≡ false }
-    requires ready { IsReady log_reader.old.source }
-    requires next { AreNext state.old chunks.old.items }
-    ensures runs { OnOk result.0 (RunsWave chunks.old.items state.old state.new) }
+    chunk: &mut CheckedChunk,
+) -> (Result<(), NoMemory>, Result<CheckedChunk, ReadingFault>)
+    requires going { IsGoing log_reader.old }
+    requires more { HasMore log_reader.old }
+    requires next { IsNext state.old chunk.old }
+    ensures runs { OnOk result.0 (RunsNext chunk.old state.old state.new) }
     ensures ok { IfOk result.1
-        (λ next. ReadsAhead (R.remaining reader.old) (R.remaining reader.new) log_reader.old
-        log_reader.new next.items) }
+        (ReadsChunk (R.remaining reader.old) (R.remaining reader.new) log_reader.old log_reader.new) }
     ensures err { IfErr result.1
-        (RefusesWaveBehind log_reader.old.edition (R.remaining reader.old) (R.remaining reader.new)
-        log_reader.old.source) }
+        (RefusesChunk (R.remaining reader.old) (R.remaining reader.new) log_reader.old) }
 {
+    if log_reader.settings.exec().count() == 1 {
+        let read = log_reader.next_chunk(rt, alloc, reader);
+        return (run_chunk(rt, alloc, state, chunk), read);
+    }
     join_mut(
         rt,
-        &mut || -> Result<Vec<Spare>, NoMemory>
-            requires { IsSync T.row × AreNext state.now chunks.now.items }
-            ensures { OnOk result
-                (RunsWave chunks.entry.now.items state.entry.now state.exit.now) }
-        { run_chunks(rt, alloc, state, mem::replace(chunks, Vec::new(alloc))) },
-        &mut || -> Result<Vec<CheckedChunk>, ReadingFault>
-            requires { IsSync T.row × (log_reader.now.source.ended ≡ false)
-                × IsReady log_reader.now.source }
+        &mut || -> Result<(), NoMemory>
+            requires { IsSync T.row × IsNext state.now chunk.now }
+            ensures { OnOk result (RunsNext chunk.entry.now state.entry.now state.exit.now) }
+        { run_chunk(rt, alloc, state, chunk) },
+        &mut || -> Result<CheckedChunk, ReadingFault>
+            requires { IsSync T.row × IsGoing log_reader.now × HasMore log_reader.now }
             ensures { IfOk result
-                (λ next. ReadsAhead (R.remaining reader.entry.now) (R.remaining reader.exit.now)
-                log_reader.entry.now log_reader.exit.now next.items)
-                × IfErr result (RefusesWaveBehind log_reader.entry.now.edition
-                (R.remaining reader.entry.now) (R.remaining reader.exit.now)
-                log_reader.entry.now.source) }
-        { log_reader.next_wave(rt, alloc, reader) },
+                (ReadsChunk (R.remaining reader.entry.now) (R.remaining reader.exit.now)
+                log_reader.entry.now log_reader.exit.now)
+                × IfErr result (RefusesChunk (R.remaining reader.entry.now)
+                (R.remaining reader.exit.now) log_reader.entry.now) }
+        { log_reader.next_chunk(rt, alloc, reader) },
     )
 }
 
 /// Runs a log's first chunk, and reads and runs all that stands behind it, to the reader's end.
-fn run_windows<R: Read, T: Threads + Sync>(
+fn run_windows<R: Read, T: Threads + Wait + Sync>(
     rt: &T,
     alloc: Global,
-    log_reader: LogReader,
+    log_reader: &mut LogReader,
     reader: &mut R,
     first: Chunk,
     state: &mut RunState,
 ) -> Result<(), ReadingFault>
-    requires ready { IsReady log_reader.source }
-    requires count { log_reader.count ≡ state.old.count }
+    requires ready { IsReady log_reader.old.source }
+    requires none { log_reader.old.ahead.items ≡ [] }
+    requires count { log_reader.old.count ≡ state.old.count }
     requires level { IsLevel state.old }
     ensures ok { OnOk result
-        (RunsBehind log_reader.edition first.log (R.remaining reader.old) (R.remaining reader.new)
-        log_reader.source state.old state.new) }
+        (RunsBehind log_reader.old.edition first.log (R.remaining reader.old) (R.remaining reader.new)
+        log_reader.old.source state.old state.new) }
     ensures err { IfErr result
-        (RefusesLog log_reader.edition first.log (R.remaining reader.old) (R.remaining reader.new)
-        log_reader.source) }
+        (RefusesLog log_reader.old.edition first.log (R.remaining reader.old) (R.remaining reader.new)
+        log_reader.old.source) }
 {
-    let mut log_reader = log_reader;
-    let mut begun = Vec::new(alloc);
-    begun.push(first)?;
-    let mut chunks = log_reader.prepare(rt, alloc, begun)?;
-    'waves: while !log_reader.source.ended {
-        let (ran, read) = run_and_read(rt, alloc, &mut log_reader, reader, state, &mut chunks);
-        chunks = read?;
-        log_reader.keep(ran?)?;
+    let mut chunk = log_reader.check(alloc, first, Seats::new(alloc))?;
+    'windows: while log_reader.is_going() {
+        let (ran, read) = run_and_read(rt, alloc, log_reader, reader, state, &mut chunk);
+        let done = mem::replace(&mut chunk, read?);
+        ran?;
+        log_reader.keep(done)?;
     }
-    run_chunks(rt, alloc, state, chunks)?;
+    run_chunk(rt, alloc, state, &mut chunk)?;
     Ok(())
 }
 
@@ -121,7 +119,7 @@ fn known_keys(
 
 /// Reads a log to the reader's end, in windows of so many bytes, checks it, and runs it as it is
 /// read. A refused text is read to its end all the same, and nothing runs behind a fault.
-pub(crate) fn run_log<R: Read, T: Threads + Sync + RandomSource>(
+pub(crate) fn run_log<R: Read, T: Threads + Wait + Sync + RandomSource + Copy + Send + 'static>(
     rt: &T,
     alloc: Global,
     reader: &mut R,
@@ -144,18 +142,27 @@ pub(crate) fn run_log<R: Read, T: Threads + Sync + RandomSource>(
     } = first;
     let known = known_keys(alloc, store.as_slice(), seed, settings, source.ended)?;
     let mut state = RunState::start(alloc, seed, store, settings)?;
-    let log_reader = LogReader {
+    // A log of one window needs no threads.
+    let threads = if source.ended {
+        0
+    } else {
+        settings.cc().count()
+    };
+    let mut log_reader = LogReader {
+        parsers: Parsers::start(rt, alloc, threads)?,
         seed,
         edition,
         source,
+        ahead: VecDeque::new(alloc),
         count: 0,
         size,
         settings,
         known,
-        logs: Vec::new(alloc),
-        seats: Vec::new(alloc),
+        spare: Vec::new(alloc),
     };
-    run_windows(rt, alloc, log_reader, reader, chunk, &mut state)?;
+    let ran = run_windows(rt, alloc, &mut log_reader, reader, chunk, &mut state);
+    log_reader.end(rt);
+    ran?;
     match check_end(state.in_store, state.count, state.fault) {
         None => Ok(state),
         Some(fault) => Err(RunFault::Check(fault)),

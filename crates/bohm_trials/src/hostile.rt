@@ -19,7 +19,7 @@ const ANSWER: &[u8] = b"1 commit 5\n--\na 6\n";
 const TWICE: [&str; 2] = ["", "exec 2 batch 1"];
 
 /// The fault of a run of the log with this writer.
-fn fault_at<R: AllocGlobal + Threads + Wait + Sync + RandomSource>(
+fn fault_at<R: AllocGlobal + Threads + Wait + Sync + RandomSource + Copy + Send + 'static>(
     rt: &R,
     writer: &mut FakeWriter,
     settings: Settings,
@@ -29,11 +29,9 @@ fn fault_at<R: AllocGlobal + Threads + Wait + Sync + RandomSource>(
 }
 
 /// The result of a reader that returns a byte a call and fails at one of its calls.
-fn read_failing<R: Abort + AllocGlobal + Threads + Wait + Sync + RandomSource>(
-    rt: &R,
-    failure: Failure,
-    settings: Settings,
-) -> Option<RunFault> {
+fn read_failing<
+    R: Abort + AllocGlobal + Threads + Wait + Sync + RandomSource + Copy + Send + 'static,
+>(rt: &R, failure: Failure, settings: Settings) -> Option<RunFault> {
     let mut reader = FakeReader {
         bytes: LOG,
         most: 1,
@@ -70,7 +68,7 @@ fn readers_fail_at_each_call(rt: HostRuntime) {
 }
 
 // Asserts that the whole log is read and its answer written, with at most this many bytes a call.
-fn passes<R: Abort + AllocGlobal + Threads + Wait + Sync + RandomSource>(
+fn passes<R: Abort + AllocGlobal + Threads + Wait + Sync + RandomSource + Copy + Send + 'static>(
     rt: &R,
     most: usize,
     settings: Settings,
@@ -96,7 +94,7 @@ fn readers_and_writers_take_parts(rt: HostRuntime) {
 }
 
 /// The writer takes the answer's first bytes and then fails.
-fn sends<R: Abort + AllocGlobal + Threads + Wait + Sync + RandomSource>(
+fn sends<R: Abort + AllocGlobal + Threads + Wait + Sync + RandomSource + Copy + Send + 'static>(
     rt: &R,
     mut writer: FakeWriter,
     sent: u32,

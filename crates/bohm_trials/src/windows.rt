@@ -37,7 +37,10 @@ fn plainly(rt: &impl Abort, alloc: Global, text: &[u8]) -> Result<Vec<u8>, RunFa
 }
 
 /// The same text in windows of each size, for each number of readers.
-fn agree<R: Abort + AllocGlobal + Threads + Wait + Sync + RandomSource>(rt: &R, text: &[u8]) {
+fn agree<R: Abort + AllocGlobal + Threads + Wait + Sync + RandomSource + Copy + Send + 'static>(
+    rt: &R,
+    text: &[u8],
+) {
     let (fault, wanted) = match plainly(rt, rt.alloc(), text) {
         Ok(answer) => (None, answer),
         Err(fault) => (Some(fault), Vec::new(rt.alloc())),
@@ -66,11 +69,9 @@ fn agree<R: Abort + AllocGlobal + Threads + Wait + Sync + RandomSource>(rt: &R, 
 }
 
 /// Drawn transactions with two of the pieces among them.
-fn agree_with<R: Abort + AllocGlobal + Threads + Wait + Sync + RandomSource>(
-    rt: &R,
-    first: &[u8],
-    second: &[u8],
-) {
+fn agree_with<
+    R: Abort + AllocGlobal + Threads + Wait + Sync + RandomSource + Copy + Send + 'static,
+>(rt: &R, first: &[u8], second: &[u8]) {
     for seed in 0..4 {
         let mut text = drawn_text(rt, rt.alloc(), seed, 9);
         text.extend_from_slice(first).expect(rt, "memory");

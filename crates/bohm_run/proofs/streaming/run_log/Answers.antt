@@ -15,29 +15,37 @@ returns-in_err-first-clause-before g c =
     let p = err_from_is_err_and c.from_residual.result c.from_residual.ensures.1 in
     rw (p.1, p.2) (reading_before c.in_err-first.field-0.0)
 
-pub run_windows-requires-clause-ready : goal.run_windows-requires-clause-ready
-run_windows-requires-clause-ready g c κs within = ready _ (document_of_first c.in_ok-first.first) c.in_ok-first.source c.in_ok-first.ensures.ok.is
+pub run_windows-ran-requires-clause-ready : goal.run_windows-ran-requires-clause-ready
+run_windows-ran-requires-clause-ready g c κs within = ready _ (document_of_first c.in_ok-first.first) c.in_ok-first.source c.in_ok-first.ensures.ok.is
 
-pub run_windows-requires-clause-level : goal.run_windows-requires-clause-level
-run_windows-requires-clause-level g c κs within = λ none few. omega (arith, c.in_ok-state.ensures.top, c.in_ok-state.ensures.count)
+pub run_windows-ran-requires-clause-level : goal.run_windows-ran-requires-clause-level
+run_windows-ran-requires-clause-level g c κs within = λ none few. omega (arith, c.in_ok-state.ensures.top, c.in_ok-state.ensures.count)
 
-pub returns-in_err-run_windows-clause-err : goal.returns-in_err-run_windows-clause-err
-returns-in_err-run_windows-clause-err g c =
-    let p = err_from_is_err_and c.from_residual-in_err-run_windows.result c.from_residual-in_err-run_windows.ensures.1 in
+pub returns-in_err-ran-clause-err : goal.returns-in_err-ran-clause-err
+returns-in_err-ran-clause-err g c =
+    let p = err_from_is_err_and c.from_residual-in_err-ran.result c.from_residual-in_err-ran.ensures.1 in
     rw (p.1, p.2)
-    (λ given. log_refused _ _ _ c.in_ok-first.first c.in_ok-first.source c.in_ok-first.ensures.ok given c.in_err-run_windows.field-0.0
-    c.in_err-run_windows.ensures.err)
+    (λ given. log_refused _ _ _ c.in_ok-first.first c.in_ok-first.source c.in_ok-first.ensures.ok given c.in_err-ran.field-0.0
+    c.in_err-ran.ensures.err)
 
-pub returns-in_err-run_windows-clause-before : goal.returns-in_err-run_windows-clause-before
-returns-in_err-run_windows-clause-before g c =
-    let p = err_from_is_err_and c.from_residual-in_err-run_windows.result c.from_residual-in_err-run_windows.ensures.1 in
-    rw (p.1, p.2) (reading_before c.in_err-run_windows.field-0.0)
+pub returns-in_err-ran-clause-before : goal.returns-in_err-ran-clause-before
+returns-in_err-ran-clause-before g c =
+    let p = err_from_is_err_and c.from_residual-in_err-ran.result c.from_residual-in_err-ran.ensures.1 in
+    rw (p.1, p.2) (reading_before c.in_err-ran.field-0.0)
 
 pub returns-in-None-clause-ok : goal.returns-in-None-clause-ok
 returns-in-None-clause-ok g c = log_run _ _ _ c.in_ok-first.first c.in_ok-first.source c.in_ok-first.ensures.ok c.args.settings.keep c.in_ok-state.state
-    c.run_windows.new.state c.in_ok-state.ensures c.in_ok-run_windows.ensures.ok (c.check_end.ensures.none c.in-None.is)
+    c.run_windows-ran.new.state c.in_ok-state.ensures c.in_ok-ran.ensures.ok (c.check_end.ensures.none c.in-None.is)
     (c.check_end.ensures.kept c.in-None.is)
 
 pub returns-in-Some-clause-err : goal.returns-in-Some-clause-err
 returns-in-Some-clause-err g c = λ given. log_faulty _ _ _ c.in_ok-first.first c.in_ok-first.source c.in_ok-first.ensures.ok c.args.settings.keep
-    c.in_ok-state.state c.run_windows.new.state c.in_ok-state.ensures c.in_ok-run_windows.ensures.ok given c.in-Some.fault c.in-Some.ensures.some
+    c.in_ok-state.state c.run_windows-ran.new.state c.in_ok-state.ensures c.in_ok-ran.ensures.ok given c.in-Some.fault c.in-Some.ensures.some
+
+pub returns-in_err-start-clause-err : goal.returns-in_err-start-clause-err
+returns-in_err-start-clause-err g c =
+    let p = err_from_is_err_and c.from_residual-in_err-start.result c.from_residual-in_err-start.ensures.1 in rw (p.1, p.2) (λ given. tt)
+
+pub returns-in_err-start-clause-before : goal.returns-in_err-start-clause-before
+returns-in_err-start-clause-before g c =
+    let p = err_from_is_err_and c.from_residual-in_err-start.result c.from_residual-in_err-start.ensures.1 in rw (p.1, p.2) tt

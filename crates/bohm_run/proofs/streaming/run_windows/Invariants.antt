@@ -1,19 +1,19 @@
-use Rattle.std.proofs.Common.{◌≡◌}
-use Rattle.bohm_reading.specs.Reading.{left_of, IsReady}
-use Rattle.bohm_run.specs.CheckedWaves.{placed, txns_of, count_behind}
-use Rattle.bohm_run.specs.Chunks.{AreNext}
+use Rattle.std.proofs.Common.{◌≡◌, length}
+use Rattle.bohm_run.specs.Chunks.{IsNext}
+use Rattle.bohm_run.specs.Preparing.{count_with}
+use Rattle.bohm_run.specs.Reading.{IsGoing, left}
 use Rattle.bohm_run.specs.Streaming.{RunsBehindTo}
 use Rattle.bohm_run.proofs.streaming.run_windows.Given as goal
 
-abbrev pub invariant-waves : goal.invariant-waves
-invariant-waves g l = record {
-  ready : IsReady l.log_reader.source;
+abbrev pub invariant-windows : goal.invariant-windows
+invariant-windows g l = record {
   edition : l.log_reader.edition ≡ l.fn.log_reader.edition;
-  next : AreNext l.state l.chunks.items;
-  count : l.log_reader.count ≡ count_behind l.state.count (placed l.chunks.items);
+  going : IsGoing l.log_reader;
+  next : IsNext l.state l.chunk;
+  count : l.log_reader.count ≡ count_with l.state.count (length l.chunk.log);
   streams : RunsBehindTo l.fn.log_reader.edition l.fn.first.log (g.R.Read.remaining l.initial.reader)
-      (g.R.Read.remaining l.reader) l.fn.log_reader.source l.log_reader.source (txns_of l.chunks.items) l.fn.state l.state;
+      (g.R.Read.remaining l.reader) l.fn.log_reader.source l.log_reader l.chunk.log l.fn.state l.state;
 }
 
-abbrev pub decreases-waves : goal.decreases-waves
-decreases-waves g l = left_of l.log_reader.source
+abbrev pub decreases-windows : goal.decreases-windows
+decreases-windows g l = left l.log_reader

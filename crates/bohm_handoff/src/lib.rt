@@ -1,0 +1,7 @@
+//! A value that one thread hands to another, and that keeps a promise.
+#![tactic(auto)]
+
+mod ends;
+mod rule;
+
+pub use ends::{Giver, Taker, handoff};
