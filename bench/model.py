@@ -10,12 +10,11 @@ MOST_WORKERS = 16
 BEFORE, PLANNING, EXECUTING_ORDER, EXECUTING, BEHIND = ("before", "planning", "executing in order", "executing", "behind")
 
 DESIGNS = {
-    # The planning side's workers parse windows. The executing side reads them, takes and checks the parsed ones, and
-    # runs them.
-    "windows": {"input": EXECUTING_ORDER, "reading": PLANNING, "planning": PLANNING, "merging": EXECUTING_ORDER,
+    # The planning side's workers parse and check windows. The executing side reads and runs them.
+    "windows": {"input": EXECUTING_ORDER, "reading": PLANNING, "checking": PLANNING, "planning": PLANNING,
                 "sweep": EXECUTING, "settling": EXECUTING, "printing": EXECUTING, "rest": EXECUTING_ORDER},
     # The whole text is read first, on one thread.
-    "whole": {"input": BEFORE, "reading": BEFORE, "planning": PLANNING, "merging": EXECUTING_ORDER,
+    "whole": {"input": BEFORE, "reading": BEFORE, "checking": BEFORE, "planning": PLANNING,
               "sweep": EXECUTING, "settling": EXECUTING_ORDER, "printing": BEHIND, "rest": BEHIND},
 }
 # The terms that more workers make shorter.

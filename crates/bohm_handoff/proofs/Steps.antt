@@ -1,10 +1,10 @@
 -- Each step of a handoff keeps its rule.
-use Rattle.std.proofs.Common.{◌≡◌, ◌⊎◌, inl, inr, ℕ, List, [], ◌∷◌, ◌++◌, Bool, true, false, get_or, sym, refl, ◌∙◌, ap, set, subst, arith, Option, Some, None, length-set, get_or-set_same}
+use Rattle.std.proofs.Common.{◌≡◌, inl, inr, ℕ, [], ◌∷◌, ◌++◌, true, false, get_or, refl, ◌∙◌, ap, set, arith, Option, Some, None, length-set, get_or-set_same}
 use mathlib.Core.Logic.{dite}
-use mathlib.Core.Option.{some, none}
+use mathlib.Core.Option.{some}
 use native.Mathlib.Decide.{ℕ_discrete}
 use lib.ListN.{get_elem?}
-use Rattle.atomic_table.specs.Table.{Me, State, keeps, takes, gives, Allows, Arrives}
+use Rattle.atomic_table.specs.Table.{State, keeps, takes, gives, Allows, Arrives}
 use Rattle.atomic_table.proofs.Lists.{at_set, at_snoc, set_here}
 use Rattle.bohm_handoff.specs.declared.rule.Side.{Side}
 use Rattle.bohm_handoff.specs.Handoffs.{side, IsHandoff, HasEmpty, HasValue}

@@ -2,6 +2,8 @@
 #![tactic(auto)]
 
 mod ends;
+mod passing;
 mod rule;
 
-pub use ends::{Giver, Taker, handoff};
+pub use ends::{Giver, Taker};
+pub use passing::handoff;

@@ -1,6 +1,6 @@
 //! A document from a reader: the first window, then window after window.
 
-ghost use Rattle.std.specs.Prelude.{◌≡◌, ◌+◌, ◌≤◌, false, length, IfOk, IfErr, OnOk, Err};
+ghost use Rattle.std.specs.Prelude.{◌≡◌, ◌+◌, ◌≤◌, false, length, IfOk, IfErr, OnOk, Ok, Err};
 ghost use Rattle.bohm_text.specs.Windowing.{ReadsFirst, ReadsWindow};
 ghost use Rattle.bohm_reading.specs.InOrder.{RefusesWindow};
 ghost use Rattle.bohm_reading.specs.Reading.{FirstRefused, IsReady, ReadsBeginning, ReadsNext};
@@ -150,6 +150,7 @@ pub fn take_parsed<R: Read>(
     requires ready { IsReady source.old }
     requires read { ReadsWindow edition parsed.window.text.items parsed.result }
     ensures ok { IfOk result (TakesWindow edition parsed.window source.old source.new) }
+    ensures chunk { IfOk result (λ c. parsed.result ≡ Ok c) }
     ensures unread { OnOk result (reader.new ≡ reader.old) }
     ensures err { IfErr result
         (RefusesTaking edition parsed.window (R.remaining reader.old) (R.remaining reader.new)

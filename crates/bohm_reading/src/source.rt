@@ -1,9 +1,9 @@
 //! The bytes of a text, window by window.
 
-ghost use Rattle.std.specs.Prelude.{◌≡◌, ◌+◌, ◌++◌, ◌<◌, ◌≤◌, ℕ, List, []};
-ghost use Rattle.std.specs.Prelude.{length, take, drop, IfOk, IfErr, Err};
+ghost use Rattle.std.specs.Prelude.{◌≡◌, ◌+◌, ◌++◌, ◌<◌, ◌≤◌, ℕ, List};
+ghost use Rattle.std.specs.Prelude.{length, take, drop, IfOk, IfErr, OnOk, Err};
 ghost use Rattle.std.specs.Io.KnownBytes.{Consumes};
-ghost use Rattle.bohm_reading.specs.Pieces.{IsPiece};
+ghost use Rattle.bohm_reading.specs.Pieces.{IsPiece, ReadsBehind};
 ghost use Rattle.bohm_reading.specs.Reading.{IsSourceFault};
 
 use crate::cutting::{OPENING, cut_at};
@@ -32,37 +32,82 @@ pub(crate) struct Piece {
     pub ended: bool,
 }
 
-/// An empty buffer: a spare one, if there is any.
-fn buffer_from(alloc: Global, spare: &mut Vec<Vec<u8>>) -> Vec<u8>
-    ensures { result.items ≡ [] }
+/// Makes a buffer at least so long.
+fn make_room(buffer: &mut Vec<u8>, count: usize) -> Result<(), NoMemory>
+    ensures room { OnOk result (count ≤ length buffer.new.items) }
+    ensures same { (n : ℕ) → n ≤ length buffer.old.items
+        → take n buffer.new.items ≡ take n buffer.old.items }
 {
-    match spare.pop() {
-        Some(mut buffer) => {
-            buffer.clear();
-            buffer
-        }
-        None => Vec::new(alloc),
+    if buffer.len() < count {
+        buffer.resize(count, 0)?;
     }
+    Ok(())
 }
 
-/// The text up to an offset, and the rest in a buffer of its own.
-fn divided(
+/// A buffer that begins with these bytes: a spare one, or a new one with this capacity. What stands
+/// behind them is room.
+fn begun_with(
     alloc: Global,
     spare: &mut Vec<Vec<u8>>,
+    begun: &[u8],
+    capacity: usize,
+) -> Result<Vec<u8>, NoMemory>
+    ensures room { IfOk result (λ b. length begun.now ≤ length b.items) }
+    ensures begun { IfOk result (λ b. take (length begun.now) b.items ≡ begun.now) }
+{
+    let mut buffer = match spare.pop() {
+        Some(buffer) => buffer,
+        None => Vec::with_capacity(alloc, capacity)?,
+    };
+    make_room(&mut buffer, begun.len())?;
+    buffer[0..begun.len()].copy_from_slice(begun);
+    Ok(buffer)
+}
+
+/// Reads at most so many bytes behind the first ones of a buffer, which is made longer where it has
+/// no room for them.
+fn read_behind<R: Read>(
+    reader: &mut R,
+    buffer: &mut Vec<u8>,
+    filled: usize,
+    most: usize,
+) -> Result<usize, ReadingFault>
+    requires filled { filled ≤ length buffer.old.items }
+    requires some { 0 < most }
+    requires most { most ≤ READ_SIZE }
+    ensures ok { IfOk result
+        (ReadsBehind (R.remaining reader.old) (R.remaining reader.new) filled buffer.old.items
+        buffer.new.items) }
+    ensures err { IfErr result IsSourceFault }
+    ensures long { result ≡ Err ReadingFault.TooLong → ⊥ }
+{
+    make_room(buffer, filled + most)?;
+    let Ok(count) = reader.read(&mut buffer[filled..filled + most]) else {
+        return Err(ReadingFault::Read);
+    };
+    Ok(count)
+}
+
+/// The first bytes of a buffer up to an offset as the text, and the others in what held the rest
+/// before.
+fn divided(
     mut text: Vec<u8>,
+    mut rest: Vec<u8>,
+    filled: usize,
     at: usize,
     total: usize,
     ended: bool,
 ) -> Result<Piece, NoMemory>
-    requires { at ≤ length text.items }
-    ensures same { IfOk result (λ p. p.text.items ++ p.rest.items ≡ text.items) }
+    requires at { at ≤ filled }
+    requires filled { filled ≤ length text.items }
+    ensures same { IfOk result (λ p. p.text.items ++ p.rest.items ≡ take filled text.items) }
     ensures text { IfOk result (λ p. p.text.items ≡ take at text.items) }
-    ensures rest { IfOk result (λ p. p.rest.items ≡ drop at text.items) }
+    ensures rest { IfOk result (λ p. p.rest.items ≡ drop at (take filled text.items)) }
     ensures total { IfOk result (λ p. p.total ≡ total) }
     ensures ended { IfOk result (λ p. p.ended ≡ ended) }
 {
-    let mut rest = buffer_from(alloc, spare);
-    rest.extend_from_slice(&text.as_slice()[at..])?;
+    rest.clear();
+    rest.extend_from_slice(&text[at..filled])?;
     text.truncate(at);
     Ok(Piece {
         text,
@@ -91,30 +136,27 @@ pub(crate) fn next_piece<R: Read>(
         × Consumes (R.remaining reader.old) (R.remaining reader.new) more }
     ensures refusals { IfErr result IsSourceFault }
 {
-    let mut text = begun;
+    let capacity = size.min(LONGEST_TEXT) + READ_SIZE;
+    let mut text = begun_with(alloc, spare, &begun, capacity)?;
+    let mut filled = begun.len();
     let mut total = total;
     // Up to where there is no cut.
     let mut seen = 0usize;
-    text.reserve(size.min(LONGEST_TEXT) + READ_SIZE)?;
-    let mut buffer = [0u8; READ_SIZE];
     // At most a window's size, so that small windows stay small.
-    let part = &mut buffer[..size.clamp(1, READ_SIZE)];
+    let most = size.clamp(1, READ_SIZE);
     'reads: while total <= LONGEST_TEXT {
-        if text.len() >= size {
+        if filled >= size {
             let from = if seen < OPENING { OPENING } else { seen };
-            if let Some(at) = cut_at(text.as_slice(), from) {
-                return Ok(divided(alloc, spare, text, at, total, false)?);
+            if let Some(at) = cut_at(&text[..filled], from) {
+                return Ok(divided(text, begun, filled, at, total, false)?);
             }
-            seen = text.len().saturating_sub(HALF_CUT);
+            seen = filled.saturating_sub(HALF_CUT);
         }
-        let Ok(count) = reader.read(part) else {
-            return Err(ReadingFault::Read);
-        };
+        let count = read_behind(reader, &mut text, filled, most)?;
         if count == 0 {
-            let at = text.len();
-            return Ok(divided(alloc, spare, text, at, total, true)?);
+            return Ok(divided(text, begun, filled, filled, total, true)?);
         }
-        text.extend_from_slice(&part[..count])?;
+        filled += count;
         total += count;
     }
     Err(ReadingFault::TooLong)

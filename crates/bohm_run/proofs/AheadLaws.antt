@@ -3,28 +3,28 @@ use Rattle.std.proofs.Common.{◌≡◌, inr, ℕ, ◌<◌, ◌++◌, List, [], 
 use Rattle.std.proofs.Common.{refl, ap, sym, subst, ◌∙◌, arith, length-append}
 use Rattle.std.specs.Prelude.{Option}
 use Rattle.std.proofs.lemmas.List.{map-append}
+use Rattle.bohm_types.specs.Document.{Document}
 use Rattle.bohm_types.specs.declared.edition.Edition.{Edition}
 use Rattle.bohm_text.specs.Windows.{IsWindow}
 use Rattle.bohm_text.specs.declared.windows.Chunk.{Chunk}
 use Rattle.bohm_reading.specs.declared.fault.ReadingFault.{ReadingFault}
 use Rattle.bohm_reading.specs.declared.window.Window.{Window}
-use Rattle.bohm_reading.specs.Reading.{ReadsNext, RefusesNext, RefusesTaking, TakesWindow, left_of}
+use Rattle.bohm_reading.specs.Reading.{IsReadOn, ReadsNext, RefusesNext, RefusesTaking, TakesWindow, left_of}
 use Rattle.bohm_run.specs.declared.checked_chunk.CheckedChunk.{CheckedChunk}
-use Rattle.bohm_run.specs.declared.log_reader.Ahead.{Ahead}
 use Rattle.bohm_run.specs.declared.log_reader.LogReader.{LogReader}
 use Rattle.bohm_run.specs.declared.parsing.Parsing.{Parsing}
 use Rattle.bohm_run.specs.declared.parsing.Parsing.TheVariants.{There, Here}
 use Rattle.bohm_run.specs.Parsing.{AreParsing, IsParsing, window_of, windows_of}
 use Rattle.bohm_run.specs.Preparing.{IsCheckedBehind}
-use Rattle.bohm_run.specs.Reading.{IsGoing, ReadsAhead, ReadsChunk, RefusesChunk, left}
+use Rattle.bohm_run.specs.Reading.{IsGoing, IsTaken, ReadsAhead, ReadsChunk, RefusesChunk, left}
 
-parsing_more : (e : Edition) (all : List Ahead) (a : Ahead) → AreParsing e all → IsParsing e a.parsing → AreParsing e (all ++ a ∷ [])
+parsing_more : (e : Edition) (all : List Parsing) (a : Parsing) → AreParsing e all → IsParsing e a → AreParsing e (all ++ a ∷ [])
 parsing_more e [] a are one = (one, tt)
 parsing_more e (b ∷ all) a are one = (are.0, parsing_more e all a are.1 one)
 
 begins : (e : Edition) (p : Parsing) → IsParsing e p → IsWindow (window_of p).text.items
 begins e (There taker) is = is.0
-begins e (Here parsed) is = is.0
+begins e (Here checked) is = is.0
 
 -- ---- more windows
 
@@ -39,12 +39,12 @@ none_ahead v r going = record {
 }
 
 module _ (v x : Option (List ℕ)) (was mid : LogReader) (so_far : ReadsAhead v x was mid) (y : Option (List ℕ)) where
-  pub one_ahead : (now : LogReader) (w : Window) (a : Ahead) → ReadsNext x y mid.source now.source w → window_of a.parsing ≡ w
-      → IsParsing mid.edition a.parsing → now.ahead.items ≡ mid.ahead.items ++ a ∷ [] → now.edition ≡ mid.edition → now.count ≡ mid.count
+  pub one_ahead : (now : LogReader) (w : Window) (a : Parsing) → ReadsNext x y mid.source now.source w → window_of a ≡ w
+      → IsParsing mid.edition a → now.ahead.items ≡ mid.ahead.items ++ a ∷ [] → now.edition ≡ mid.edition → now.count ≡ mid.count
       → ReadsAhead v y was now
   one_ahead now w a read same one items edition count =
       let windows : windows_of now.ahead.items ≡ windows_of mid.ahead.items ++ w ∷ [] = ap windows_of items
-      ∙ (map-append (λ (b : Ahead). window_of b.parsing) mid.ahead.items (a ∷ []) ∙ ap (λ (b : Window). windows_of mid.ahead.items ++ b ∷ []) same) in
+      ∙ (map-append window_of mid.ahead.items (a ∷ []) ∙ ap (λ (b : Window). windows_of mid.ahead.items ++ b ∷ []) same) in
       record {
         edition = edition ∙ so_far.edition;
         count = count ∙ so_far.count;
@@ -62,29 +62,36 @@ module _ (v x : Option (List ℕ)) (was mid : LogReader) (so_far : ReadsAhead v 
 
 -- ---- the first of them
 
-module _ (v x : Option (List ℕ)) (was mid : LogReader) (so_far : ReadsAhead v x was mid) (a : Ahead) (rest : List Ahead)
-    (items : mid.ahead.items ≡ a ∷ rest) where
-  abbrev w : Window
-  w = window_of a.parsing
-
-  pub first_parsing : IsParsing mid.edition a.parsing × AreParsing mid.edition rest
+module _ (v x : Option (List ℕ)) (was mid : LogReader) (so_far : ReadsAhead v x was mid) (a : Parsing) (rest : List Parsing)
+    (items : mid.ahead.items ≡ a ∷ rest) (w : Window) (same_window : w ≡ window_of a) where
+  pub first_parsing : IsParsing mid.edition a × AreParsing mid.edition rest
   first_parsing = let h = so_far.going.parsing in rw items at h
+
+  -- what was read of a text ends with the windows that are ahead
+  there : (u : Option (List ℕ)) (d : Document) (first : List ℕ) (chunks : List Chunk) → IsTaken u v d first chunks was
+      → IsReadOn u x d first chunks (w ∷ windows_of rest) mid.source
+  there u d first chunks taken =
+      let h = so_far.reads u d first chunks taken in
+      subst (λ (ws : List Window). IsReadOn u x d first chunks ws mid.source)
+      (ap windows_of items ∙ ap (λ (b : Window). b ∷ windows_of rest) (sym same_window)) h
 
   pub refused_first : (y : Option (List ℕ)) (fault : ReadingFault) → RefusesTaking mid.edition w x y mid.source fault → RefusesChunk v y was fault
   refused_first y fault h = λ u d first chunks edition taken. h u d first chunks (windows_of rest) (edition ∙ sym so_far.edition)
-      (let there = so_far.reads u d first chunks taken in rw items at there)
+      (there u d first chunks taken)
 
+  -- it was taken, and nothing was read
   module _ (then : LogReader) (chunk : Chunk) (took : TakesWindow mid.edition w mid.source then.source chunk) (others : then.ahead.items ≡ rest)
-      (edition : then.edition ≡ mid.edition) (count : then.count ≡ mid.count) where
-    pub going_first : IsGoing then
-    going_first = record { ready = took.ready; parsing = rw (edition, others) first_parsing.1 }
+      (edition : then.edition ≡ mid.edition) (count : then.count ≡ mid.count) (z : Option (List ℕ)) (unread : z ≡ x) where
+    then_there : (u : Option (List ℕ)) (d : Document) (first : List ℕ) (chunks : List Chunk) → d.edition ≡ was.edition → IsTaken u v d first chunks was
+        → IsTaken u z d first (chunks ++ chunk ∷ []) then
+    then_there u d first chunks same taken = rw (others, unread) (took.reads u x d first chunks (windows_of rest) (same ∙ sym so_far.edition)
+        (there u d first chunks taken))
 
-    pub refused_later : (y : Option (List ℕ)) (fault : ReadingFault) → RefusesChunk x y then fault → RefusesChunk v y was fault
+    pub refused_later : (y : Option (List ℕ)) (fault : ReadingFault) → RefusesChunk z y then fault → RefusesChunk v y was fault
     refused_later y fault h = λ u d first chunks same taken. h u d first (chunks ++ chunk ∷ []) (same ∙ sym (edition ∙ so_far.edition))
-        (rw others (took.reads u x d first chunks (windows_of rest) (same ∙ sym so_far.edition)
-        (let there = so_far.reads u d first chunks taken in rw items at there)))
+        (then_there u d first chunks same taken)
 
-    module _ (y : Option (List ℕ)) (end : LogReader) (later : ReadsAhead x y then end) where
+    module _ (y : Option (List ℕ)) (end : LogReader) (later : ReadsAhead z y then end) where
       pub one_chunk : (now : LogReader) (checked : CheckedChunk) → now.source ≡ end.source → now.ahead ≡ end.ahead → now.edition ≡ end.edition
           → checked.log ≡ chunk.log → IsCheckedBehind end.count now.count checked → ReadsChunk v y was now checked
       one_chunk now checked source ahead editions log place = record {
@@ -95,8 +102,7 @@ module _ (v x : Option (List ℕ)) (was mid : LogReader) (so_far : ReadsAhead v 
         chunk = chunk;
         same = log;
         reads = λ u d first chunks same taken. rw (source, ahead)
-            (later.reads u d first (chunks ++ chunk ∷ []) (rw others (took.reads u x d first chunks (windows_of rest) (same ∙ sym so_far.edition)
-            (let there = so_far.reads u d first chunks taken in rw items at there))));
+            (later.reads u d first (chunks ++ chunk ∷ []) (then_there u d first chunks same taken));
       }
         where
           same_left : left now ≡ left then
@@ -107,8 +113,29 @@ module _ (v x : Option (List ℕ)) (was mid : LogReader) (so_far : ReadsAhead v 
             arith,
             same_left,
             so_far.left,
-            ap (λ (all : List Ahead). left_of (windows_of all) mid.source) items,
-            ap (λ (all : List Ahead). left_of (windows_of all) then.source) others,
+            ap (λ (all : List Parsing). left_of (windows_of all) mid.source) items,
+            ap (λ (all : List Parsing). left_of (windows_of all) then.source) others,
+            ap (λ (b : Window). left_of (b ∷ windows_of rest) mid.source) same_window,
+            ap (λ (b : Window). length b.text.items) same_window,
             took.left (windows_of rest),
-            ap length (begins mid.edition a.parsing first_parsing.0).begins,
+            ap length (begins mid.edition a first_parsing.0).begins,
           )
+
+-- ---- logs that are kept for later windows
+
+module _ (v y : Option (List ℕ)) (was now : LogReader) (checked : CheckedChunk) where
+  pub kept_before : (mid : LogReader) → mid ≡ record was { spare = mid.spare } → ReadsChunk v y mid now checked → ReadsChunk v y was now checked
+  kept_before mid same read =
+      let h = subst (λ (r : LogReader). ReadsChunk v y r now checked) same read in
+      record { edition = h.edition; going = h.going; less = h.less; place = h.place; chunk = h.chunk; same = h.same; reads = h.reads }
+
+  pub kept_after : (after : LogReader) → after ≡ record now { spare = after.spare } → ReadsChunk v y was now checked → ReadsChunk v y was after checked
+  kept_after after same h = subst (λ (r : LogReader). ReadsChunk v y was r checked) (sym same) (record {
+    edition = h.edition;
+    going = record { ready = h.going.ready; parsing = h.going.parsing };
+    less = h.less;
+    place = h.place;
+    chunk = h.chunk;
+    same = h.same;
+    reads = h.reads;
+  })

@@ -7,16 +7,15 @@ use Rattle.bohm_types.specs.Document.{Document}
 use Rattle.bohm_types.specs.Txn.{Txn}
 use Rattle.bohm_txn.specs.declared.fault.CheckFault.{CheckFault}
 use Rattle.bohm_txn.specs.Chunked.{IsCheckedTo, IsCountOf}
-use Rattle.bohm_txn.proofs.ForCallers.{length-replies}
+use Rattle.bohm_txn.proofs.ForCallers.{checked_kept, length-replies}
 use Rattle.bohm_store.specs.Versions.{past}
 use Rattle.bohm_text.specs.Print.{print_numbered}
 use Rattle.bohm_text.specs.Windows.{with_log}
 use Rattle.bohm_text.proofs.ForCallers.{numbered-append}
 use Rattle.bohm_run.specs.declared.chunks.RunState.{RunState}
 use Rattle.bohm_run.specs.declared.checked_chunk.CheckedChunk.{CheckedChunk}
-use Rattle.bohm_run.specs.declared.checked_chunk.Prepared.TheVariants.{Faulty, TooMany}
 use Rattle.bohm_run.specs.Runs.{IsApplied}
-use Rattle.bohm_run.specs.Preparing.{count_with, AreReady, IsFaultBehind, IsPrepared}
+use Rattle.bohm_run.specs.Preparing.{count_with, AreReady, IsFaultBehind}
 use Rattle.bohm_run.specs.Chunks.{IsNext, IsPartRun, IsRunTo, RunsChunk, RunsNext}
 use Rattle.bohm_run.proofs.Going.{went_on}
 
@@ -128,31 +127,13 @@ runs_on xs ys was mid now one two = record {
 module _ (was now : RunState) (chunk : CheckedChunk) (next : IsNext was chunk) (same : now.in_store ≡ was.in_store)
     (keeps : now.executor.keep ≡ was.executor.keep) (count : now.count ≡ count_with was.count (length chunk.log)) where
   -- behind a fault nothing runs
-  pub next_skipped : is_some was.fault ≡ true → (now.fault ≡ None → was.fault ≡ None)
-      → ((d : Document) → IsCountOf (length d.log) was.count → IsCheckedTo d was.fault → IsCheckedTo (with_log d chunk.log) now.fault) → RunsNext chunk was now
-  next_skipped found kept checked = record {
-    runs = chunk_skipped chunk.log was now same keeps count checked (λ none. absurd (some_not was.fault found (kept none)));
+  pub next_skipped : is_some was.fault ≡ true → now.fault ≡ was.fault → RunsNext chunk was now
+  next_skipped found kept = record {
+    runs = chunk_skipped chunk.log was now same keeps count
+        (λ d counted so_far. subst (IsCheckedTo (with_log d chunk.log)) (sym kept) (checked_kept d chunk.log was.fault found so_far))
+        (λ none. absurd (some_not was.fault found (sym kept ∙ none)));
     count = count;
   }
-
-  pub next_faulty : (fault : CheckFault) → chunk.prepared ≡ Faulty fault → was.fault ≡ None → now.fault ≡ Some fault → RunsNext chunk was now
-  next_faulty fault is none found =
-      let known : IsFaultBehind was.count chunk.log (Some fault) = subst (IsPrepared was.count chunk.log) is next.prepared in
-      record {
-        runs = chunk_skipped chunk.log was now same keeps count
-            (λ d counted so_far. subst (IsCheckedTo (with_log d chunk.log)) (sym found) (known d counted (subst (IsCheckedTo d) none so_far)))
-            (λ no. absurd (some_not (Some fault) refl (sym found ∙ no)));
-        count = count;
-      }
-
-  pub next_too_many : chunk.prepared ≡ TooMany → RunsNext chunk was now
-  next_too_many is =
-      let known : 1000000 < was.count + length chunk.log = subst (IsPrepared was.count chunk.log) is next.prepared in
-      record {
-        runs = chunk_skipped chunk.log was now same keeps count
-            (λ d counted so_far short. absurd (too_many d chunk.log was.count known counted short)) (λ none. omega (arith, known, count));
-        count = count;
-      }
 
   pub next_ran : AreReady was.count chunk.log → was.fault ≡ None → now.fault ≡ None
       → IsPartRun was.progress.history now.progress.history chunk.log was.executor.keep (was.progress.history.top + 1) was.text.items now.text.items
@@ -163,8 +144,3 @@ module _ (was now : RunState) (chunk : CheckedChunk) (next : IsNext was chunk) (
         runs = chunk_ran chunk.log was now same keeps count clean still (omega (arith, ready.few)) ready.checked (next.level clean few) part;
         count = count;
       }
-
--- a chunk that is ready follows the history
-pub ready_top : (was : RunState) (chunk : CheckedChunk) → IsNext was chunk → was.fault ≡ None → AreReady was.count chunk.log
-    → was.progress.history.top ≡ was.count
-ready_top was chunk next clean ready = next.level clean (omega (arith, ready.few))

@@ -28,7 +28,7 @@ use Rattle.bohm_run.specs.Bytes.{ReadsAll}
 use Rattle.bohm_run.specs.Given.{Given}
 use Rattle.bohm_run.specs.Headline.{Refuses, IsBeforeWriting}
 use Rattle.bohm_run.specs.Refusing.{reading_refusal_of}
-use Rattle.bohm_run.specs.Reading.{ReadsChunk, RefusesChunk}
+use Rattle.bohm_run.specs.Reading.{ReadsAhead, ReadsChunk, RefusesChunk}
 use Rattle.bohm_run.specs.declared.checked_chunk.CheckedChunk.{CheckedChunk}
 use Rattle.bohm_run.specs.declared.chunks.RunState.{RunState}
 use Rattle.bohm_run.specs.declared.log_reader.LogReader.{LogReader}
@@ -52,6 +52,12 @@ begin e log u s r state same none = λ d begun. record {
   runs = runs_none state;
 }
 
+-- a window behind the first one is refused
+pub refused_first : (e : Edition) (log : List Txn) (u : Option (List ℕ)) (s : Source) (r : LogReader) → r.edition ≡ e → r.source ≡ s
+    → r.ahead.items ≡ [] → (x : Option (List ℕ)) (fault : ReadingFault) → RefusesChunk u x r fault → RefusesLog e log u x s fault
+refused_first e log u s r edition same none x fault h = λ d begun. h u d s.rest.items [] (begun.edition ∙ sym edition)
+    (rw (same, none) (on_none u d s begun.is))
+
 module _ (e : Edition) (log : List Txn) (u v : Option (List ℕ)) (s : Source) (mid : LogReader) (pending : List Txn) (was state : RunState)
     (edition : mid.edition ≡ e) (so_far : RunsBehindTo e log u v s mid pending was state) where
   pub go_on : (x : Option (List ℕ)) (now : LogReader) (checked : CheckedChunk) (after : RunState) → RunsChunk pending state after
@@ -70,11 +76,16 @@ module _ (e : Edition) (log : List Txn) (u v : Option (List ℕ)) (s : Source) (
         runs = runs_on there.ran pending was state after there.runs ran;
       }
 
-  -- what the reader keeps for later windows doesn't matter
-  pub kept_on : (now : LogReader) → now.source ≡ mid.source → now.ahead.items ≡ mid.ahead.items → RunsBehindTo e log u v s now pending was state
-  kept_on now source items = λ d begun.
+  pub ahead_on : (x : Option (List ℕ)) (now : LogReader) → ReadsAhead v x mid now → RunsBehindTo e log u x s now pending was state
+  ahead_on x now ahead = λ d begun.
       let there = so_far d begun in
-      record { behind = there.behind; ran = there.ran; read = rw (source, items) there.read; all = there.all; runs = there.runs }
+      record {
+        behind = there.behind;
+        ran = there.ran;
+        read = ahead.reads u d s.rest.items there.behind there.read;
+        all = there.all;
+        runs = there.runs;
+      }
 
   pub refused : (x : Option (List ℕ)) (fault : ReadingFault) → RefusesChunk v x mid fault → RefusesLog e log u x s fault
   refused x fault h = λ d begun. let there = so_far d begun in h u d s.rest.items there.behind (begun.edition ∙ sym edition) there.read

@@ -1,5 +1,5 @@
 -- A log that is run as it is read.
-use Rattle.std.specs.Prelude.{◌≡◌, ℕ, List, [], ◌++◌, length, Option}
+use Rattle.std.specs.Prelude.{◌≡◌, ℤ, ℕ, List, [], ◌++◌, length, Option}
 use Rattle.bohm_types.specs.Document.{Document}
 use Rattle.bohm_types.specs.Txn.{Txn}
 use Rattle.bohm_types.specs.declared.edition.Edition.{Edition}
@@ -13,7 +13,7 @@ use Rattle.bohm_reading.specs.Reading.{IsReading, ReadsOn, RefusesOn}
 use Rattle.bohm_reading.specs.InOrder.{logs_of}
 use Rattle.bohm_run.specs.declared.chunks.RunState.{RunState}
 use Rattle.bohm_run.specs.declared.log_reader.LogReader.{LogReader}
-use Rattle.bohm_run.specs.Chunks.{RunsChunk}
+use Rattle.bohm_run.specs.Chunks.{IsStarted, RunsChunk}
 use Rattle.bohm_run.specs.Headline.{ReadsDocument}
 use Rattle.bohm_run.specs.Reading.{IsTaken}
 use Rattle.bohm_run.specs.Runs.{IsHistoryOf}
@@ -41,6 +41,12 @@ pub record StreamsTo (unread unread' : Option (List ℕ)) (d : Document) (first 
 -- the same, whichever document was read before
 abbrev pub RunsBehind : Edition → List Txn → Option (List ℕ) → Option (List ℕ) → Source → RunState → RunState → Type 0
 RunsBehind e log unread unread' s was now = (d : Document) → IsBegun e log unread s d → StreamsOn unread unread' d s.rest.items was now
+
+-- the history of a store was opened, and the log was run from it
+pub record RunsFrom (keep : ℕ) (store : List (List ℕ × ℤ)) (e : Edition) (log : List Txn) (unread unread' : Option (List ℕ)) (s : Source) (now : RunState) : Type 0 where
+  pub start : RunState
+  pub started : IsStarted keep store start
+  pub runs : RunsBehind e log unread unread' s start now
 
 abbrev pub RunsBehindTo : Edition → List Txn → Option (List ℕ) → Option (List ℕ) → Source → LogReader → List Txn → RunState → RunState → Type 0
 RunsBehindTo e log unread unread' s r pending was now = (d : Document) → IsBegun e log unread s d → StreamsTo unread unread' d s.rest.items r pending was now

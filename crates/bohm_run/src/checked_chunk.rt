@@ -1,12 +1,13 @@
 //! A chunk of a log that is checked and planned ahead of its execution.
 
 ghost use Rattle.std.specs.Prelude.{◌≡◌, IfOk};
+ghost use Rattle.bohm_txn.specs.Chunked.{IsLogCheckedTo};
 ghost use Rattle.bohm_run.specs.Preparing.{count_with, IsPrepared};
 
 use crate::settings::Settings;
 use bohm_log::{HashSeed, Log, LogPart};
 use bohm_place::{CutLog, Cuts, Plan, plan_batches};
-use bohm_store::{Seats, StoreNumbers};
+use bohm_store::Seats;
 use bohm_text::Chunk;
 use bohm_txn::{CheckFault, check_more};
 use bohm_types::{MOST_TXNS, NoMemory};
@@ -44,17 +45,19 @@ pub(crate) fn counted(count: usize, more: usize) -> usize
     count.saturating_add(more).min(MOST_TXNS + 1)
 }
 
-/// Checks transactions that stand behind so many others, and plans them where several workers are to
-/// execute them.
+/// Finds what is known of transactions with this first fault that stand behind so many others, and
+/// plans them where several workers are to execute them.
 fn prepare(
     alloc: Global,
     part: &LogPart<'_>,
+    fault: Option<CheckFault>,
     count: usize,
     settings: Settings,
 ) -> Result<Prepared, NoMemory>
+    requires { IsLogCheckedTo part.now fault }
     ensures { IfOk result (IsPrepared count part.entry.now) }
 {
-    if let Some(fault) = check_more(count, None, part) {
+    if let Some(fault) = check_more(count, part, fault) {
         return Ok(Prepared::Faulty(fault));
     }
     if counted(count, part.len()) > MOST_TXNS {
@@ -68,40 +71,25 @@ fn prepare(
     Ok(Prepared::Planned { cuts, plans })
 }
 
-/// Notes the numbers that a chunk's keys are expected to have in the history. The seats are those of
-/// the log whose columns the chunk's log has: they stay, unless all keys were numbered anew. The keys
-/// that they don't cover are looked up among a store's, where these are known.
-fn note_seats(seats: &mut Seats, chunk: &Chunk, known: &StoreNumbers) -> Result<(), NoMemory> {
-    if chunk.renumbered {
-        seats.clear();
-    }
-    if known.is_empty() {
-        return Ok(());
-    }
-    known.note(seats, chunk.log.part().keys().names())
-}
-
 impl CheckedChunk {
-    /// Checks a chunk that stands behind so many transactions, and plans it in batches of the size
-    /// that the settings give where they have several executing workers. The seats are those of the log
-    /// whose columns the chunk's log has; other keys are looked up among the known ones. The time and
-    /// memory grow with the number of the log's keys, those that it kept included, and of its terms and
-    /// statements.
+    /// A chunk with this first fault that stands behind so many transactions, planned in batches of the
+    /// size that the settings give where they have several executing workers. The seats are those of
+    /// its keys. The time and memory are constant, and where it is planned they grow with the number of
+    /// the log's keys, those that it kept included, and of its transactions.
     pub(crate) fn new(
         alloc: Global,
         chunk: Chunk,
+        fault: Option<CheckFault>,
         count: usize,
         seats: Seats,
         settings: Settings,
-        known: &StoreNumbers,
     ) -> Result<CheckedChunk, NoMemory>
+        requires { IsLogCheckedTo chunk.log fault }
         ensures log { IfOk result (λ c. c.log ≡ chunk.log) }
         ensures count { IfOk result (λ c. c.count ≡ count) }
         ensures prepared { IfOk result (λ c. IsPrepared count chunk.log c.prepared) }
     {
-        let prepared = prepare(alloc, &chunk.log.part(), count, settings)?;
-        let mut seats = seats;
-        note_seats(&mut seats, &chunk, known)?;
+        let prepared = prepare(alloc, &chunk.log.part(), fault, count, settings)?;
         Ok(CheckedChunk {
             log: chunk.log,
             count,

@@ -20,7 +20,7 @@ use bohm_log::{DrawnSeed, LogPart};
 use bohm_place::{CutLog, Cuts, Plan};
 use bohm_store::{History, Seats};
 use bohm_text::put_replies;
-use bohm_txn::{CheckFault, Replies, check_more, check_store};
+use bohm_txn::{CheckFault, Replies, check_store};
 use bohm_types::{Key, MOST_TXNS, NoMemory, Value};
 use std::alloc::Global;
 use std::mem;
@@ -138,8 +138,6 @@ pub(crate) fn run_chunk<T: Threads + Sync>(
     let log = chunk.log.part();
     state.count = counted(chunk.count, log.len());
     if state.fault.is_some() {
-        // The first fault stays, and this takes constant time.
-        state.fault = check_more(chunk.count, state.fault, &log);
         return Ok(());
     }
     match mem::replace(&mut chunk.prepared, Prepared::Ready) {

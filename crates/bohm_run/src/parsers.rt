@@ -1,68 +1,41 @@
 //! Threads that parse windows.
 
-ghost use Rattle.std.specs.Prelude.{◌≡◌, ◌++◌, ◌∷◌, [], codes, take};
-ghost use Rattle.bohm_text.specs.Windows.{IsWindow};
-ghost use Rattle.bohm_reading.specs.InOrder.{IsParsed};
+ghost use Rattle.std.specs.Prelude.{◌≡◌};
+ghost use Rattle.bohm_handoff.specs.Ends.{promised};
 
+use crate::checked_window::CheckedWindow;
+use crate::parse_task::ParseTask;
 use crate::promise::ParseOf;
 use bohm_handoff::Giver;
-use bohm_log::{DrawnSeed, HashSeed, Log};
-use bohm_reading::{Parsed, Window};
-use bohm_text::parse_window;
-use bohm_types::{Edition, NoMemory};
+use bohm_types::NoMemory;
 use crossbeam_channel::{Receiver, Sender, bounded};
 use std::alloc::Global;
 use std::sync::Wait;
 use std::thread;
 use std::thread::{JoinHandle, Threads};
 
-/// A window of a text of this edition that is to be parsed, and where the result goes.
+/// A task, and where its result goes.
 #[derive(Drop)]
 pub(crate) struct ParseJob {
-    pub(crate) alloc: Global,
-    pub(crate) seed: DrawnSeed,
-    pub(crate) edition: Edition,
-    pub(crate) window: Window,
-    /// A log whose columns are used again, if there is one.
-    pub(crate) spare: Option<Log<HashSeed>>,
-    pub(crate) giver: Giver<Parsed, ParseOf>,
-    ghost begins: { take 4 window.text.items ≡ codes "txn" ++ 10 ∷ [] },
-    ghost edition_promised: { giver.place.value.shared.key.edition ≡ edition },
-    ghost window_promised: { giver.place.value.shared.key.window.value ≡ window },
+    pub(crate) task: ParseTask,
+    pub(crate) giver: Giver<CheckedWindow, ParseOf>,
+    ghost edition: { (promised giver).edition ≡ task.edition },
+    ghost window: { (promised giver).window.value ≡ task.window },
+}
+
+impl ParseJob {
+    /// Runs the task, and gives its result.
+    fn carry_out(self) {
+        let ParseJob { task, giver } = self;
+        giver.give(task.run());
+    }
 }
 
 /// Threads that parse windows, and the queue from which they take them.
 #[derive(Drop)]
 pub(crate) struct Parsers {
-    pub(crate) jobs: Sender<ParseJob, Global>,
+    jobs: Sender<ParseJob, Global>,
     threads: Vec<JoinHandle<()>>,
-}
-
-pub(crate) fn parse(
-    alloc: Global,
-    seed: DrawnSeed,
-    edition: Edition,
-    window: Window,
-    spare: Option<Log<HashSeed>>,
-) -> Parsed
-    requires { IsWindow window.text.items }
-    ensures { IsParsed edition window result }
-{
-    let result = parse_window(alloc, seed, edition, spare, window.text.as_slice());
-    Parsed { window, result }
-}
-
-/// Parses the window, and gives the result.
-pub(crate) fn carry_out(job: ParseJob) {
-    let ParseJob {
-        alloc,
-        seed,
-        edition,
-        window,
-        spare,
-        giver,
-    } = job;
-    giver.give(parse(alloc, seed, edition, window, spare));
 }
 
 /// Carries jobs out until no more can come.
@@ -71,7 +44,7 @@ fn work<R: Wait>(rt: &R, jobs: &Receiver<ParseJob, Global>) {
         let Ok(job) = jobs.recv(rt) else {
             return;
         };
-        carry_out(job);
+        job.carry_out();
     }
 }
 
@@ -93,6 +66,13 @@ impl Parsers {
             threads.push(thread)?;
         }
         Ok(Parsers { jobs, threads })
+    }
+
+    /// Has a thread carry the job out, or does so at once where there is none.
+    pub(crate) fn send<R: Wait>(&self, rt: &R, job: ParseJob) {
+        if let Err(refused) = self.jobs.send(rt, job) {
+            refused.into_inner().carry_out();
+        }
     }
 
     /// Has the threads end, and waits for them.

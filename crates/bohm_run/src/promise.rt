@@ -1,19 +1,20 @@
 //! What a thread promises that parses a window.
 
-ghost use Rattle.bohm_reading.specs.InOrder.{IsParsed};
+ghost use Rattle.bohm_run.specs.Parsing.{IsChecked};
 
-use bohm_reading::{Parsed, Window};
+use crate::checked_window::CheckedWindow;
+use bohm_reading::Window;
 use bohm_types::Edition;
 use std::snapshot::Snapshot;
 use std::thread::Promise;
 
-/// What is parsed, of a text of this edition.
+/// What is parsed and checked, of a text of this edition.
 #[derive(Drop)]
 pub(crate) struct ParseOf {
     pub(crate) edition: Edition,
     pub(crate) window: Snapshot<Window>,
 }
 
-impl Promise<Parsed> for ParseOf {
-    ghost kept_by = { λ p r. IsParsed p.edition p.window.value r };
+impl Promise<CheckedWindow> for ParseOf {
+    ghost kept_by = { λ p r. IsChecked p.edition p.window.value r };
 }

@@ -3,11 +3,11 @@
 ghost use Rattle.std.specs.Prelude.{◌≡◌, [], None, IfOk, IfErr, OnOk};
 ghost use denote.Param.Send.{IsSync};
 ghost use Rattle.bohm_reading.specs.Reading.{IsReady};
-ghost use Rattle.bohm_run.specs.Chunks.{IsLevel, IsNext, RunsNext};
+ghost use Rattle.bohm_run.specs.Chunks.{IsNext, RunsNext};
 ghost use Rattle.bohm_run.specs.Given.{Given};
 ghost use Rattle.bohm_run.specs.Headline.{Refuses, IsBeforeWriting};
 ghost use Rattle.bohm_run.specs.Reading.{HasMore, IsGoing, ReadsChunk, RefusesChunk};
-ghost use Rattle.bohm_run.specs.Streaming.{IsLogRun, RefusesLog, RunsBehind};
+ghost use Rattle.bohm_run.specs.Streaming.{IsLogRun, RefusesLog, RunsFrom};
 
 use crate::checked_chunk::CheckedChunk;
 use crate::chunks::{RunState, run_chunk};
@@ -19,20 +19,17 @@ use bohm_log::DrawnSeed;
 use bohm_reading::{ReadingFault, read_first};
 use bohm_store::{Seats, StoreNumbers};
 use bohm_text::{Chunk, FirstWindow};
-use bohm_txn::check_end;
+use bohm_txn::{check_chunk, check_end};
 use bohm_types::{Key, NoMemory, Value};
 use std::alloc::Global;
 use std::collections::VecDeque;
 use std::io::Read;
-use std::mem;
 use std::random::RandomSource;
-use std::sync::Wait;
+use std::sync::{Arc, Wait};
 use std::thread::{Threads, join_mut};
 
-/// Runs the chunk that is next, and reads the one behind it: one after the other where one worker
-/// executes, so that the history stays with one thread, and else side by side, since planning takes
-/// its time.
-fn run_and_read<R: Read, T: Threads + Wait + Sync>(
+/// Runs the chunk that is next beside the reading of the one behind it.
+fn run_beside_reading<R: Read, T: Threads + Wait + Sync>(
     rt: &T,
     alloc: Global,
     log_reader: &mut LogReader,
@@ -49,10 +46,6 @@ fn run_and_read<R: Read, T: Threads + Wait + Sync>(
     ensures err { IfErr result.1
         (RefusesChunk (R.remaining reader.old) (R.remaining reader.new) log_reader.old) }
 {
-    if log_reader.settings.exec().count() == 1 {
-        let read = log_reader.next_chunk(rt, alloc, reader);
-        return (run_chunk(rt, alloc, state, chunk), read);
-    }
     join_mut(
         rt,
         &mut || -> Result<(), NoMemory>
@@ -70,51 +63,87 @@ fn run_and_read<R: Read, T: Threads + Wait + Sync>(
     )
 }
 
-/// Runs a log's first chunk, and reads and runs all that stands behind it, to the reader's end.
+/// Runs the chunk that is next, and reads the one behind it: one after the other where one worker
+/// executes, so that the history stays with one thread, and else side by side, since planning takes
+/// its time.
+fn run_and_read<R: Read, T: Threads + Wait + Sync>(
+    rt: &T,
+    alloc: Global,
+    log_reader: &mut LogReader,
+    reader: &mut R,
+    state: &mut RunState,
+    chunk: CheckedChunk,
+) -> Result<CheckedChunk, ReadingFault>
+    requires going { IsGoing log_reader.old }
+    requires more { HasMore log_reader.old }
+    requires next { IsNext state.old chunk }
+    ensures runs { OnOk result (RunsNext chunk state.old state.new) }
+    ensures ok { IfOk result
+        (ReadsChunk (R.remaining reader.old) (R.remaining reader.new) log_reader.old log_reader.new) }
+    ensures err { IfErr result
+        (RefusesChunk (R.remaining reader.old) (R.remaining reader.new) log_reader.old) }
+{
+    let mut chunk = chunk;
+    if log_reader.settings.exec().count() > 1 {
+        let (ran, read) = run_beside_reading(rt, alloc, log_reader, reader, state, &mut chunk);
+        let next = read?;
+        ran?;
+        log_reader.keep(chunk)?;
+        return Ok(next);
+    }
+    run_chunk(rt, alloc, state, &mut chunk)?;
+    log_reader.keep(chunk)?;
+    log_reader.next_chunk(rt, alloc, reader)
+}
+
+/// Opens the history of a starting store, runs a log's first chunk, and reads and runs all that stands
+/// behind it, to the reader's end. Windows are parsed while the history is opened.
 fn run_windows<R: Read, T: Threads + Wait + Sync>(
     rt: &T,
     alloc: Global,
     log_reader: &mut LogReader,
     reader: &mut R,
+    store: Vec<(Key, Value)>,
     first: Chunk,
-    state: &mut RunState,
-) -> Result<(), ReadingFault>
+) -> Result<RunState, ReadingFault>
     requires ready { IsReady log_reader.old.source }
     requires none { log_reader.old.ahead.items ≡ [] }
-    requires count { log_reader.old.count ≡ state.old.count }
-    requires level { IsLevel state.old }
-    ensures ok { OnOk result
-        (RunsBehind log_reader.old.edition first.log (R.remaining reader.old) (R.remaining reader.new)
-        log_reader.old.source state.old state.new) }
+    requires count { log_reader.old.count ≡ 0 }
+    ensures ok { IfOk result
+        (RunsFrom log_reader.old.settings.keep store.items log_reader.old.edition first.log
+        (R.remaining reader.old) (R.remaining reader.new) log_reader.old.source) }
     ensures err { IfErr result
         (RefusesLog log_reader.old.edition first.log (R.remaining reader.old) (R.remaining reader.new)
         log_reader.old.source) }
 {
-    let mut chunk = log_reader.check(alloc, first, Seats::new(alloc))?;
+    let (seed, settings) = (log_reader.seed, log_reader.settings);
+    let fault = check_chunk(&first.log.part());
+    let mut chunk = log_reader.prepare(alloc, first, fault, Seats::new(alloc))?;
+    log_reader.read_ahead(rt, alloc, reader)?;
+    let mut state = RunState::start(alloc, seed, store, settings)?;
     'windows: while log_reader.is_going() {
-        let (ran, read) = run_and_read(rt, alloc, log_reader, reader, state, &mut chunk);
-        let done = mem::replace(&mut chunk, read?);
-        ran?;
-        log_reader.keep(done)?;
+        chunk = run_and_read(rt, alloc, log_reader, reader, &mut state, chunk)?;
     }
-    run_chunk(rt, alloc, state, &mut chunk)?;
-    Ok(())
+    run_chunk(rt, alloc, &mut state, &mut chunk)?;
+    Ok(state)
 }
 
-/// The keys that readers look up for the executing thread: those of the starting store where several
-/// threads read and one executes, and else none. None of a log of one window, which no thread reads
-/// while another one runs.
+/// The keys that are looked up for the executing thread by those that parse: the ones of the starting
+/// store where several parse and one executes, and else none. None of a log of one window, which no
+/// thread parses while another one runs.
 fn known_keys(
     alloc: Global,
     store: &[(Key, Value)],
     seed: DrawnSeed,
     settings: Settings,
     ended: bool,
-) -> Result<StoreNumbers, NoMemory> {
-    if ended || settings.cc().count() == 1 || settings.exec().count() > 1 {
-        return Ok(StoreNumbers::none(alloc, seed));
-    }
-    StoreNumbers::new(alloc, store, seed)
+) -> Result<Arc<StoreNumbers>, NoMemory> {
+    let known = if ended || settings.cc().count() == 1 || settings.exec().count() > 1 {
+        StoreNumbers::none(alloc, seed)
+    } else {
+        StoreNumbers::new(alloc, store, seed)?
+    };
+    Ok(Arc::new(alloc, known)?)
 }
 
 /// Reads a log to the reader's end, in windows of so many bytes, checks it, and runs it as it is
@@ -140,8 +169,6 @@ pub(crate) fn run_log<R: Read, T: Threads + Wait + Sync + RandomSource + Copy + 
         store,
         chunk,
     } = first;
-    let known = known_keys(alloc, store.as_slice(), seed, settings, source.ended)?;
-    let mut state = RunState::start(alloc, seed, store, settings)?;
     // A log of one window needs no threads.
     let threads = if source.ended {
         0
@@ -152,17 +179,17 @@ pub(crate) fn run_log<R: Read, T: Threads + Wait + Sync + RandomSource + Copy + 
         parsers: Parsers::start(rt, alloc, threads)?,
         seed,
         edition,
+        known: known_keys(alloc, store.as_slice(), seed, settings, source.ended)?,
         source,
         ahead: VecDeque::new(alloc),
         count: 0,
         size,
         settings,
-        known,
         spare: Vec::new(alloc),
     };
-    let ran = run_windows(rt, alloc, &mut log_reader, reader, chunk, &mut state);
+    let ran = run_windows(rt, alloc, &mut log_reader, reader, store, chunk);
     log_reader.end(rt);
-    ran?;
+    let state = ran?;
     match check_end(state.in_store, state.count, state.fault) {
         None => Ok(state),
         Some(fault) => Err(RunFault::Check(fault)),

@@ -12,7 +12,7 @@ use Rattle.bohm_types.specs.Document.{Document}
 use Rattle.bohm_types.specs.Keys.{rising, names_of}
 use Rattle.bohm_txn.specs.Faulty.{WellFormed, IsFirstFault, IsWellFormedTxn}
 use Rattle.bohm_txn.specs.FirstFault.{found_or, first_from, find_txn, first_in_txn, first_in_log, first_in_doc, fault_of}
-use Rattle.bohm_txn.specs.Chunked.{store_fault, IsCheckedTo, IsCountOf}
+use Rattle.bohm_txn.specs.Chunked.{store_fault, IsCheckedTo, IsCountOf, IsLogCheckedTo}
 use Rattle.bohm_txn.proofs.FirstLaw.{well_formed, first_fault}
 use Rattle.bohm_txn.proofs.UseLaws.{all_in, rising_store}
 use Rattle.std.proofs.lemmas.Bool.Decides.{nat_tests}
@@ -89,10 +89,6 @@ by_store d P rises falls = cases (rising (names_of d.store)) refl
     cases true e = rises e
     cases false e = falls e
 
--- the log's first fault, as long as there are not too many transactions
-abbrev IsLogCheckedTo : List Txn → Option CheckFault → Type 0
-IsLogCheckedTo log found = length log ≤ 1000000 → found ≡ option_map fault_of (first_in_log log)
-
 to_log : (d : Document) (found : Option CheckFault) → rising (names_of d.store) ≡ true → IsCheckedTo d found → IsLogCheckedTo d.log found
 to_log d found rises is few = is few ∙ ap (option_map fault_of) (in_rising d rises few)
 
@@ -136,11 +132,11 @@ checked_kept d ys (Some f) some is =
     (λ falls few. is (omega (arith, few, length-append d.log ys)) ∙ (in_falling d falls ∙ sym (in_falling (more d ys) falls)))
 
 -- a document without a fault so far, and what was found in the chunk
-pub checked_more : (d : Document) (ys : List Txn) (found : Option CheckFault) → IsCheckedTo d None → found ≡ option_map fault_of (first_in_log ys)
+checked_more : (d : Document) (ys : List Txn) (found : Option CheckFault) → IsCheckedTo d None → IsLogCheckedTo ys found
     → IsCheckedTo (more d ys) (option_map (counted_up (length d.log)) found)
 checked_more d ys found is here =
     by_store d (IsCheckedTo (more d ys) (option_map (counted_up (length d.log)) found))
-    (λ rises. to_doc (more d ys) (option_map (counted_up (length d.log)) found) rises (log_more d.log ys found (to_log d None rises is) (λ few. here)))
+    (λ rises. to_doc (more d ys) (option_map (counted_up (length d.log)) found) rises (log_more d.log ys found (to_log d None rises is) here))
     (λ falls few. absurd (none_order (is (omega (arith, few, length-append d.log ys)) ∙ in_falling d falls)))
   where
     none_order : None ≡ Some order → ⊥
@@ -154,20 +150,19 @@ pub is_none : (o : Option CheckFault) → is_some o ≡ false → o ≡ None
 is_none None e = refl
 is_none (Some f) e = absurd cc
 
-pub more_none : (d : Document) (ys : List Txn) (o r : Option CheckFault) → o ≡ None → IsCheckedTo d o → r ≡ option_map fault_of (first_in_log ys) → r ≡ None
-    → IsCheckedTo (more d ys) None
-more_none d ys o r none so_far is e = checked_more d ys None (subst (IsCheckedTo d) none so_far) (sym e ∙ is)
+pub more_none : (d : Document) (ys : List Txn) (r : Option CheckFault) → IsCheckedTo d None → IsLogCheckedTo ys r → r ≡ None → IsCheckedTo (more d ys) None
+more_none d ys r so_far is e = checked_more d ys None so_far (subst (IsLogCheckedTo ys) e is)
 
 -- the count is that of the transactions, if there are not too many
 pub exact : (n count : ℕ) → IsCountOf n count → count ≤ 1000000 → count ≡ n
 exact n count (inl e) few = e
 exact n count (inr many) few = absurd (omega (arith, many.1, few))
 
-pub more_some : (count : ℕ) (d : Document) (ys : List Txn) (o r : Option CheckFault) (f : CheckFault) → IsCountOf (length d.log) count → count ≤ 1000000
-    → o ≡ None → IsCheckedTo d o → r ≡ option_map fault_of (first_in_log ys) → r ≡ Some f → IsCheckedTo (more d ys) (Some (counted_up count f))
-more_some count d ys o r f counted few none so_far is e =
+pub more_some : (count : ℕ) (d : Document) (ys : List Txn) (r : Option CheckFault) (f : CheckFault) → IsCountOf (length d.log) count → count ≤ 1000000
+    → IsCheckedTo d None → IsLogCheckedTo ys r → r ≡ Some f → IsCheckedTo (more d ys) (Some (counted_up count f))
+more_some count d ys r f counted few so_far is e =
     subst (λ (m : ℕ). IsCheckedTo (more d ys) (Some (counted_up m f))) (sym (exact (length d.log) count counted few))
-    (checked_more d ys (Some f) (subst (IsCheckedTo d) none so_far) (sym e ∙ is))
+    (checked_more d ys (Some f) so_far (subst (IsLogCheckedTo ys) e is))
 
 -- nothing is promised of too many
 pub too_many : (d : Document) (ys : List Txn) (count : ℕ) (found : Option CheckFault) → IsCountOf (length d.log) count → 1000000 < count + length ys

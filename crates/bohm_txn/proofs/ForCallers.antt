@@ -20,7 +20,7 @@ pub use Rattle.bohm_txn.proofs.Stores.{tested, cell_in-put_all, cell_in-after, s
 pub use Rattle.bohm_txn.proofs.Entries.{get-store_of, store_of-insert, store_of-remove, store_of-take}
 pub use Rattle.bohm_txn.proofs.Listed.{same_moved, entries_listed}
 -- the check of a log in chunks
-pub use Rattle.bohm_txn.proofs.Chunked.{store_checked, no_store_fault, no_store_fault_of}
+pub use Rattle.bohm_txn.proofs.Chunked.{store_checked, checked_kept, no_store_fault, no_store_fault_of}
 pub use Rattle.bohm_txn.proofs.UseLaws.{few_txns}
 -- the first fault of a document, of a transaction and of a statement
 pub use Rattle.bohm_txn.proofs.FirstLaw.{well_formed, first_fault}

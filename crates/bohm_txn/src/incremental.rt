@@ -3,7 +3,7 @@
 
 ghost use Rattle.std.specs.Prelude.{◌≡◌, ◌+◌, ◌++◌, ◌≤◌, None, length, All, IfSome};
 ghost use Rattle.bohm_types.specs.Document.{Document};
-ghost use Rattle.bohm_txn.specs.Chunked.{store_fault, IsCheckedTo, IsCountOf};
+ghost use Rattle.bohm_txn.specs.Chunked.{store_fault, IsCheckedTo, IsCountOf, IsLogCheckedTo};
 ghost use Rattle.bohm_txn.specs.Faulty.{WellFormed, IsFirstFault, IsWellFormedTxn};
 ghost use Rattle.bohm_types.specs.Limits.{most_txns};
 
@@ -35,30 +35,37 @@ pub fn check_store(store: &[(Key, Value)]) -> Option<CheckFault>
     }
 }
 
-/// The first fault of a document extended by a chunk, given the number of transactions before the
-/// chunk and the first fault among them. Above the most transactions of a log the result is
-/// unspecified.
+/// The first fault of a chunk's transactions, counted from 1, wherever they stand in a log. Above the
+/// most transactions of a log the result is unspecified.
 ///
-/// The time grows with the number of the chunk's keys, terms and statements, and is constant after
-/// a fault.
+/// The time grows with the number of the chunk's keys, terms and statements.
+pub fn check_chunk(chunk: &LogPart<'_>) -> Option<CheckFault>
+    ensures { IsLogCheckedTo chunk.now result }
+{
+    if chunk.len() > MOST_TXNS {
+        return None;
+    }
+    first_in_log(chunk)
+}
+
+/// The first fault of a document without one, extended by a chunk, given the number of transactions
+/// before the chunk and the chunk's own first fault. Above the most transactions of a log the result
+/// is unspecified. The time is constant.
 pub fn check_more(
     count: usize,
-    found: Option<CheckFault>,
     chunk: &LogPart<'_>,
+    in_chunk: Option<CheckFault>,
 ) -> Option<CheckFault>
-    ensures checked { (d : Document) → IsCountOf (length d.log) count → IsCheckedTo d found
+    requires { IsLogCheckedTo chunk.now in_chunk }
+    ensures checked { (d : Document) → IsCountOf (length d.log) count → IsCheckedTo d None
         → IsCheckedTo (record d { log = d.log ++ chunk.now }) result }
-    ensures kept { result ≡ None → found ≡ None }
-    ensures formed { found ≡ None → result ≡ None → count + length chunk.now ≤ most_txns
+    ensures formed { result ≡ None → count + length chunk.now ≤ most_txns
         → All IsWellFormedTxn chunk.now }
 {
-    if found.is_some() {
-        return found;
-    }
     if count > MOST_TXNS || chunk.len() > MOST_TXNS - count {
         return None;
     }
-    let fault = first_in_log(chunk)?;
+    let fault = in_chunk?;
     Some(CheckFault {
         txn: count as u32 + fault.txn,
         stmt: fault.stmt,

@@ -23,7 +23,7 @@ pub use checked::{Checked, check};
 pub use evaluation::{eval, eval_in_place};
 pub use fault::{CheckFault, CheckKind};
 pub use first_fault::{are_rising, first_in_txn, is_large, is_store_rising};
-pub use incremental::{check_end, check_more, check_store};
+pub use incremental::{check_chunk, check_end, check_more, check_store};
 pub use outcome::{Outcome, Reason, Reply};
 pub use replies::{Replies, ReplyView};
 pub use rules::is_long;

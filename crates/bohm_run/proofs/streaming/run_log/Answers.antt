@@ -1,4 +1,3 @@
-use Rattle.std.proofs.Common.{arith}
 use Rattle.std.proofs.lemmas.Result.{err_from_is_err_and}
 use Rattle.bohm_text.specs.Windowing.{document_of_first}
 use Rattle.bohm_reading.proofs.ForCallers.{ready}
@@ -18,29 +17,29 @@ returns-in_err-first-clause-before g c =
 pub run_windows-ran-requires-clause-ready : goal.run_windows-ran-requires-clause-ready
 run_windows-ran-requires-clause-ready g c κs within = ready _ (document_of_first c.in_ok-first.first) c.in_ok-first.source c.in_ok-first.ensures.ok.is
 
-pub run_windows-ran-requires-clause-level : goal.run_windows-ran-requires-clause-level
-run_windows-ran-requires-clause-level g c κs within = λ none few. omega (arith, c.in_ok-state.ensures.top, c.in_ok-state.ensures.count)
-
-pub returns-in_err-ran-clause-err : goal.returns-in_err-ran-clause-err
-returns-in_err-ran-clause-err g c =
-    let p = err_from_is_err_and c.from_residual-in_err-ran.result c.from_residual-in_err-ran.ensures.1 in
+pub returns-in_err-state-clause-err : goal.returns-in_err-state-clause-err
+returns-in_err-state-clause-err g c =
+    let p = err_from_is_err_and c.from_residual-in_err-state.result c.from_residual-in_err-state.ensures.1 in
     rw (p.1, p.2)
-    (λ given. log_refused _ _ _ c.in_ok-first.first c.in_ok-first.source c.in_ok-first.ensures.ok given c.in_err-ran.field-0.0
-    c.in_err-ran.ensures.err)
+    (λ given. log_refused _ _ _ c.in_ok-first.first c.in_ok-first.source c.in_ok-first.ensures.ok given c.in_err-state.field-0.0
+    c.in_err-state.ensures.err)
 
-pub returns-in_err-ran-clause-before : goal.returns-in_err-ran-clause-before
-returns-in_err-ran-clause-before g c =
-    let p = err_from_is_err_and c.from_residual-in_err-ran.result c.from_residual-in_err-ran.ensures.1 in
-    rw (p.1, p.2) (reading_before c.in_err-ran.field-0.0)
+pub returns-in_err-state-clause-before : goal.returns-in_err-state-clause-before
+returns-in_err-state-clause-before g c =
+    let p = err_from_is_err_and c.from_residual-in_err-state.result c.from_residual-in_err-state.ensures.1 in
+    rw (p.1, p.2) (reading_before c.in_err-state.field-0.0)
 
 pub returns-in-None-clause-ok : goal.returns-in-None-clause-ok
-returns-in-None-clause-ok g c = log_run _ _ _ c.in_ok-first.first c.in_ok-first.source c.in_ok-first.ensures.ok c.args.settings.keep c.in_ok-state.state
-    c.run_windows-ran.new.state c.in_ok-state.ensures c.in_ok-ran.ensures.ok (c.check_end.ensures.none c.in-None.is)
-    (c.check_end.ensures.kept c.in-None.is)
+returns-in-None-clause-ok g c =
+    let ran = c.in_ok-state.ensures.ok in
+    log_run _ _ _ c.in_ok-first.first c.in_ok-first.source c.in_ok-first.ensures.ok c.args.settings.keep ran.start c.in_ok-state.state ran.started ran.runs
+    (c.check_end.ensures.none c.in-None.is) (c.check_end.ensures.kept c.in-None.is)
 
 pub returns-in-Some-clause-err : goal.returns-in-Some-clause-err
-returns-in-Some-clause-err g c = λ given. log_faulty _ _ _ c.in_ok-first.first c.in_ok-first.source c.in_ok-first.ensures.ok c.args.settings.keep
-    c.in_ok-state.state c.run_windows-ran.new.state c.in_ok-state.ensures c.in_ok-ran.ensures.ok given c.in-Some.fault c.in-Some.ensures.some
+returns-in-Some-clause-err g c =
+    let ran = c.in_ok-state.ensures.ok in
+    λ given. log_faulty _ _ _ c.in_ok-first.first c.in_ok-first.source c.in_ok-first.ensures.ok c.args.settings.keep ran.start c.in_ok-state.state ran.started
+    ran.runs given c.in-Some.fault c.in-Some.ensures.some
 
 pub returns-in_err-start-clause-err : goal.returns-in_err-start-clause-err
 returns-in_err-start-clause-err g c =

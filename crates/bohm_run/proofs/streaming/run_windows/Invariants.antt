@@ -11,8 +11,8 @@ invariant-windows g l = record {
   going : IsGoing l.log_reader;
   next : IsNext l.state l.chunk;
   count : l.log_reader.count ≡ count_with l.state.count (length l.chunk.log);
-  streams : RunsBehindTo l.fn.log_reader.edition l.fn.first.log (g.R.Read.remaining l.initial.reader)
-      (g.R.Read.remaining l.reader) l.fn.log_reader.source l.log_reader l.chunk.log l.fn.state l.state;
+  streams : RunsBehindTo l.fn.log_reader.edition l.fn.first.log (g.R.Read.remaining l.fn.reader)
+      (g.R.Read.remaining l.reader) l.fn.log_reader.source l.log_reader l.chunk.log l.initial.state l.state;
 }
 
 abbrev pub decreases-windows : goal.decreases-windows

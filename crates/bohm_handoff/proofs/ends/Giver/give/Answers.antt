@@ -1,4 +1,4 @@
-use Rattle.std.proofs.Common.{rules, ap, sym, ◌∙◌, ◌∷◌}
+use Rattle.std.proofs.Common.{rules, ap, ◌∙◌, ◌∷◌}
 use Rattle.std.specs.Prelude.{Some}
 use Rattle.atomic_table.specs.Table.{rest}
 use Rattle.bohm_handoff.proofs.Steps.{given}

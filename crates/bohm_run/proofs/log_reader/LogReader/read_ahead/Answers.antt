@@ -3,7 +3,6 @@ use Rattle.std.proofs.lemmas.Result.{err_from_is_err_and}
 use Rattle.bohm_types.specs.declared.edition.Edition.{Edition}
 use Rattle.bohm_reading.specs.declared.reading.Source.{Source}
 use Rattle.bohm_reading.specs.Reading.{ReadsNext}
-use Rattle.bohm_run.specs.declared.log_reader.Ahead.{Ahead}
 use Rattle.bohm_run.specs.declared.log_reader.LogReader.{LogReader}
 use Rattle.bohm_run.specs.Parsing.{IsParsing}
 use Rattle.bohm_run.proofs.AheadLaws.{none_ahead, one_ahead, refused_ahead}
@@ -20,9 +19,9 @@ returns-in_err-window-clause-err g c =
 
 pub windows-preserved : goal.windows-preserved
 windows-preserved g c =
-    let same = c.take_spare-log.ensures in
-    let now : LogReader = record c.take_spare-log.new.self { ahead = c.push_back.new.self } in
-    let more : Ahead = record { parsing = c.start-parsing.result; seats = c.take_spare-log.result.1 } in
+    let same = c.take_spare-spare.ensures in
+    let now : LogReader = record c.take_spare-spare.new.self { ahead = c.push_back.new.self } in
+    let more = c.start-parsing.result in
     let x = g.R.Read.remaining c.windows.reader in
     let y = g.R.Read.remaining c.next_window.new.reader in
     one_ahead (g.R.Read.remaining c.args.reader.now) x c.args.self.now c.windows.self c.windows.invariant y now c.in_ok-window.window more

@@ -1,6 +1,6 @@
 use Rattle.std.proofs.Common.{rules}
 use Rattle.bohm_handoff.proofs.Steps.{begins}
-use Rattle.bohm_handoff.proofs.ends.handoff.Goals as goal
+use Rattle.bohm_handoff.proofs.passing.handoff.Goals as goal
 
 pub store-requires : goal.store-requires
 store-requires g c =

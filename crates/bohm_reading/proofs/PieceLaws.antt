@@ -1,0 +1,45 @@
+-- Buffers of which the first bytes are filled.
+use Rattle.std.proofs.Common.{◌≡◌, ℕ, ◌+◌, ◌≤◌, ◌++◌, List, length, take, ap, sym, ◌∙◌, arith, length-append}
+use Rattle.std.proofs.Common.{append_assoc}
+use Rattle.std.specs.Prelude.{Option}
+use Rattle.std.specs.Io.KnownBytes.{Consumes}
+use Rattle.std.proofs.lemmas.List.{take-take, take-append-le, length-take, length-take-le}
+use Rattle.std.proofs.Math.Seq.{take-append_seam, take-append-add}
+use Rattle.bohm_reading.specs.Pieces.{IsBegun, ReadsBehind}
+
+-- what was copied to the front stands there
+pub copied : (begun given post more : List ℕ) (k : ℕ) → given ≡ begun → length begun ≤ k → take (length begun) (take k (given ++ post ++ more)) ≡ begun
+copied begun given post more k same fits =
+    take-take (length begun) k (given ++ post ++ more) fits
+    ∙ (ap (λ (l : List ℕ). take (length begun) (l ++ post ++ more)) same
+    ∙ (ap (take (length begun)) (append_assoc begun post more) ∙ take-append_seam begun (post ++ more)))
+
+-- what was read behind the front stands there
+pub read_in : (f n k : ℕ) (xs buf post more : List ℕ) → f ≤ length xs → n ≤ length buf → f + n ≤ k
+    → take (f + n) (take k (take f xs ++ (buf ++ post) ++ more)) ≡ take f xs ++ take n buf
+read_in f n k xs buf post more short few fits =
+    let long : length (take f xs) ≡ f = length-take-le f xs short in
+    let all : take f xs ++ (buf ++ post) ++ more ≡ take f xs ++ (buf ++ (post ++ more)) =
+    append_assoc (take f xs) (buf ++ post) more ∙ ap (λ (l : List ℕ). take f xs ++ l) (append_assoc buf post more) in
+    take-take (f + n) k (take f xs ++ (buf ++ post) ++ more) fits
+    ∙ (ap (take (f + n)) all
+    ∙ (ap (λ (m : ℕ). take (m + n) (take f xs ++ (buf ++ (post ++ more)))) (sym long)
+    ∙ (take-append-add (take f xs) (buf ++ (post ++ more)) n
+    ∙ ap (λ (l : List ℕ). take f xs ++ l) (take-append-le n buf (post ++ more) few))))
+
+-- as much as was read is there
+pub within_of : (f n : ℕ) (buffer xs buf : List ℕ) → f ≤ length xs → n ≤ length buf → take (f + n) buffer ≡ take f xs ++ take n buf → f + n ≤ length buffer
+within_of f n buffer xs buf short few same =
+    omega (arith, ap length same, length-take (f + n) buffer, length-append (take f xs) (take n buf), length-take-le f xs short, length-take-le n buf few)
+
+-- more was read
+pub more_begun : (u v x : Option (List ℕ)) (begun was now : List ℕ) (before filled total count : ℕ)
+    → ((more next : List ℕ) → Consumes u v more → Consumes v x next → Consumes u x (more ++ next)) → IsBegun u v begun before was filled total
+    → ReadsBehind v x filled was now count → IsBegun u x begun before now (filled + count) (total + count)
+more_begun u v x begun was now before filled total count joined so_far read = record {
+  more = so_far.more ++ read.more;
+  read = joined so_far.more read.more so_far.read read.read;
+  within = read.within;
+  same = read.same ∙ (ap (λ (l : List ℕ). l ++ read.more) so_far.same ∙ append_assoc begun so_far.more read.more);
+  total = omega (arith, so_far.total, read.many, length-append so_far.more read.more);
+}
