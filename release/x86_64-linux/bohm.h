@@ -22,7 +22,7 @@
 
 /* The version, and the checksum of the sources that the library is built from. */
 #define BOHM_VERSION "0.1.0"
-#define BOHM_SOURCES "7e6f257b2d228ece12e9ab185328effb969709d264176931dfd9ef11b5e2ec9a"
+#define BOHM_SOURCES "a7bc198f03dd24959459247fc4921332c0e6d3bbffeefd011115c383699a2f5c"
 
 /* The same, of the library that the program is linked with. */
 extern const char bohm_version[16], bohm_sources[65];

@@ -19,9 +19,8 @@ store: bohm [OPTIONS] < LOG. Workers, partitions and batches change the speed,
 never the answer.";
 
 const CC: &str = "\
-Workers that read, check and plan the log in windows of
-256 KiB, 1 to 16 [default: 1]. As measured, three took 0.7
-to 0.95 times as long as one on logs of 5 MB and more";
+Workers that parse the log ahead, window by window, 1 to 16
+[default: 1]. Three pay on logs of 5 MB and more";
 
 const EXEC: &str = "\
 Executing workers, 1 to 16 [default: 1]. For long bodies

@@ -41,6 +41,11 @@ impl<T: Drop, P: Promise<T>> Giver<T, P> {
 }
 
 impl<T: Drop, P: Promise<T>> Taker<T, P> {
+    /// Whether the value is there. The time is constant.
+    pub fn is_given(&self) -> bool {
+        self.place.shared.peek(0) == 0
+    }
+
     /// Takes the value, once it is there. It blocks until then, forever if none is given.
     pub fn take<R: Wait>(self, rt: &R) -> T
         ensures { P.kept_by (awaited self) result }

@@ -1,11 +1,8 @@
 -- Buffers of which the first bytes are filled.
 use Rattle.std.proofs.Common.{◌≡◌, ℕ, ◌+◌, ◌≤◌, ◌++◌, List, length, take, ap, sym, ◌∙◌, arith, length-append}
 use Rattle.std.proofs.Common.{append_assoc}
-use Rattle.std.specs.Prelude.{Option}
-use Rattle.std.specs.Io.KnownBytes.{Consumes}
 use Rattle.std.proofs.lemmas.List.{take-take, take-append-le, length-take, length-take-le}
 use Rattle.std.proofs.Math.Seq.{take-append_seam, take-append-add}
-use Rattle.bohm_reading.specs.Pieces.{IsBegun, ReadsBehind}
 
 -- what was copied to the front stands there
 pub copied : (begun given post more : List ℕ) (k : ℕ) → given ≡ begun → length begun ≤ k → take (length begun) (take k (given ++ post ++ more)) ≡ begun
@@ -31,15 +28,3 @@ read_in f n k xs buf post more short few fits =
 pub within_of : (f n : ℕ) (buffer xs buf : List ℕ) → f ≤ length xs → n ≤ length buf → take (f + n) buffer ≡ take f xs ++ take n buf → f + n ≤ length buffer
 within_of f n buffer xs buf short few same =
     omega (arith, ap length same, length-take (f + n) buffer, length-append (take f xs) (take n buf), length-take-le f xs short, length-take-le n buf few)
-
--- more was read
-pub more_begun : (u v x : Option (List ℕ)) (begun was now : List ℕ) (before filled total count : ℕ)
-    → ((more next : List ℕ) → Consumes u v more → Consumes v x next → Consumes u x (more ++ next)) → IsBegun u v begun before was filled total
-    → ReadsBehind v x filled was now count → IsBegun u x begun before now (filled + count) (total + count)
-more_begun u v x begun was now before filled total count joined so_far read = record {
-  more = so_far.more ++ read.more;
-  read = joined so_far.more read.more so_far.read read.read;
-  within = read.within;
-  same = read.same ∙ (ap (λ (l : List ℕ). l ++ read.more) so_far.same ∙ append_assoc begun so_far.more read.more);
-  total = omega (arith, so_far.total, read.many, length-append so_far.more read.more);
-}

@@ -83,6 +83,14 @@ pub record IsReadOn (unread unread' : Option (List ℕ)) (d : Document) (first :
   pub is : IsReading unread' (with_log d (logs_of chunks)) ahead s
   pub same : print_doc (with_log d (logs_of chunks)) ++ (bytes_of ahead ++ s.rest.items) ≡ print_doc d ++ (first ++ more)
 
+-- the reader failed, or an allocation did
+abbrev pub IsReadFailure : ReadingFault → Type 0
+IsReadFailure Read = Unit {0}
+IsReadFailure NoMemory = Unit {0}
+IsReadFailure TooLong = ⊥
+IsReadFailure (Line n) = ⊥
+IsReadFailure Short = ⊥
+
 -- a fault of the reader, and none of the text
 abbrev pub IsSourceFault : ReadingFault → Type 0
 IsSourceFault Read = Unit {0}

@@ -7,6 +7,7 @@ ghost use Rattle.bohm_reading.specs.Reading.{FirstRefused, IsReady, ReadsBeginni
 ghost use Rattle.bohm_reading.specs.Reading.{RefusesNext, RefusesReading, RefusesTaking};
 ghost use Rattle.bohm_reading.specs.Reading.{TakesWindow};
 
+use crate::cutting::CutLine;
 use crate::draining::drain;
 use crate::fault::ReadingFault;
 use crate::source::{Piece, next_piece};
@@ -48,9 +49,10 @@ fn first_refusal(text: &[u8], last: bool, fault: WindowFault) -> ReadingFault
     }
 }
 
-/// Reads the first window of a text: the head, the store, and the transactions before the last line
-/// `txn` once this many bytes were read. If it is refused, the rest of the text is read
-/// nevertheless, since a failed read and a text that is too long take precedence.
+/// Reads the first window of a text: all of it where it is shorter than this many bytes, and else the
+/// head and the store, so that windows of transactions come as soon as they can. If it is refused, the
+/// rest of the text is read nevertheless, since a failed read and a text that is too long take
+/// precedence.
 ///
 /// The time and memory grow with the length of the window.
 pub fn read_first<R: Read>(
@@ -69,7 +71,15 @@ pub fn read_first<R: Read>(
         rest,
         total,
         ended,
-    } = next_piece(alloc, reader, &mut spare, Vec::new(alloc), 0, size)?;
+    } = next_piece(
+        alloc,
+        reader,
+        &mut spare,
+        Vec::new(alloc),
+        0,
+        size,
+        CutLine::First,
+    )?;
     let fault = match parse_first_window(alloc, seed, text.as_slice()) {
         Ok(first) => {
             let source = Source {
@@ -112,7 +122,15 @@ pub fn next_window<R: Read>(
         rest,
         total,
         ended,
-    } = next_piece(alloc, reader, &mut source.spare, begun, source.total, size)?;
+    } = next_piece(
+        alloc,
+        reader,
+        &mut source.spare,
+        begun,
+        source.total,
+        size,
+        CutLine::Last,
+    )?;
     source.rest = rest;
     source.total = total;
     source.ended = ended;

@@ -4,9 +4,9 @@ ghost use Rattle.std.specs.Prelude.{◌≡◌, ◌+◌, ◌++◌, ◌<◌, ◌�
 ghost use Rattle.std.specs.Prelude.{length, take, drop, IfOk, IfErr, OnOk, Err};
 ghost use Rattle.std.specs.Io.KnownBytes.{Consumes};
 ghost use Rattle.bohm_reading.specs.Pieces.{IsPiece, ReadsBehind};
-ghost use Rattle.bohm_reading.specs.Reading.{IsSourceFault};
+ghost use Rattle.bohm_reading.specs.Reading.{IsReadFailure, IsSourceFault};
 
-use crate::cutting::{OPENING, cut_at};
+use crate::cutting::{CutLine, OPENING, cut_at};
 use crate::fault::ReadingFault;
 use bohm_types::NoMemory;
 use std::alloc::Global;
@@ -78,8 +78,7 @@ fn read_behind<R: Read>(
     ensures ok { IfOk result
         (ReadsBehind (R.remaining reader.old) (R.remaining reader.new) filled buffer.old.items
         buffer.new.items) }
-    ensures err { IfErr result IsSourceFault }
-    ensures long { result ≡ Err ReadingFault.TooLong → ⊥ }
+    ensures err { IfErr result IsReadFailure }
 {
     make_room(buffer, filled + most)?;
     let Ok(count) = reader.read(&mut buffer[filled..filled + most]) else {
@@ -118,8 +117,8 @@ fn divided(
 }
 
 /// The next window, which begins with what was read before. Once it has this many bytes it is cut
-/// before its last line `txn`, unless that is its first line: then it goes on. Only bytes that are
-/// new since the last search are searched.
+/// before its first or last line `txn`, unless that is where it begins: then it goes on. Only bytes
+/// that are new since the last search are searched.
 pub(crate) fn next_piece<R: Read>(
     alloc: Global,
     reader: &mut R,
@@ -127,6 +126,7 @@ pub(crate) fn next_piece<R: Read>(
     begun: Vec<u8>,
     total: usize,
     size: usize,
+    line: CutLine,
 ) -> Result<Piece, ReadingFault>
     requires { total ≤ LONGEST_TEXT }
     ensures piece { IfOk result
@@ -147,7 +147,7 @@ pub(crate) fn next_piece<R: Read>(
     'reads: while total <= LONGEST_TEXT {
         if filled >= size {
             let from = if seen < OPENING { OPENING } else { seen };
-            if let Some(at) = cut_at(&text[..filled], from) {
+            if let Some(at) = cut_at(&text[..filled], from, line) {
                 return Ok(divided(text, begun, filled, at, total, false)?);
             }
             seen = filled.saturating_sub(HALF_CUT);

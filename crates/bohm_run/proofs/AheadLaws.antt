@@ -11,7 +11,7 @@ use Rattle.bohm_reading.specs.declared.fault.ReadingFault.{ReadingFault}
 use Rattle.bohm_reading.specs.declared.window.Window.{Window}
 use Rattle.bohm_reading.specs.Reading.{IsReadOn, ReadsNext, RefusesNext, RefusesTaking, TakesWindow, left_of}
 use Rattle.bohm_run.specs.declared.checked_chunk.CheckedChunk.{CheckedChunk}
-use Rattle.bohm_run.specs.declared.log_reader.LogReader.{LogReader}
+use Rattle.bohm_run.specs.declared.reading_state.ReadingState.{ReadingState}
 use Rattle.bohm_run.specs.declared.parsing.Parsing.{Parsing}
 use Rattle.bohm_run.specs.declared.parsing.Parsing.TheVariants.{There, Here}
 use Rattle.bohm_run.specs.Parsing.{AreParsing, IsParsing, window_of, windows_of}
@@ -28,7 +28,7 @@ begins e (Here checked) is = is.0
 
 -- ---- more windows
 
-pub none_ahead : (v : Option (List ℕ)) (r : LogReader) → IsGoing r → ReadsAhead v v r r
+pub none_ahead : (v : Option (List ℕ)) (r : ReadingState) → IsGoing r → ReadsAhead v v r r
 none_ahead v r going = record {
   edition = refl;
   count = refl;
@@ -38,8 +38,8 @@ none_ahead v r going = record {
   reads = λ u d first chunks taken. taken;
 }
 
-module _ (v x : Option (List ℕ)) (was mid : LogReader) (so_far : ReadsAhead v x was mid) (y : Option (List ℕ)) where
-  pub one_ahead : (now : LogReader) (w : Window) (a : Parsing) → ReadsNext x y mid.source now.source w → window_of a ≡ w
+module _ (v x : Option (List ℕ)) (was mid : ReadingState) (so_far : ReadsAhead v x was mid) (y : Option (List ℕ)) where
+  pub one_ahead : (now : ReadingState) (w : Window) (a : Parsing) → ReadsNext x y mid.source now.source w → window_of a ≡ w
       → IsParsing mid.edition a → now.ahead.items ≡ mid.ahead.items ++ a ∷ [] → now.edition ≡ mid.edition → now.count ≡ mid.count
       → ReadsAhead v y was now
   one_ahead now w a read same one items edition count =
@@ -62,7 +62,7 @@ module _ (v x : Option (List ℕ)) (was mid : LogReader) (so_far : ReadsAhead v 
 
 -- ---- the first of them
 
-module _ (v x : Option (List ℕ)) (was mid : LogReader) (so_far : ReadsAhead v x was mid) (a : Parsing) (rest : List Parsing)
+module _ (v x : Option (List ℕ)) (was mid : ReadingState) (so_far : ReadsAhead v x was mid) (a : Parsing) (rest : List Parsing)
     (items : mid.ahead.items ≡ a ∷ rest) (w : Window) (same_window : w ≡ window_of a) where
   pub first_parsing : IsParsing mid.edition a × AreParsing mid.edition rest
   first_parsing = let h = so_far.going.parsing in rw items at h
@@ -80,7 +80,7 @@ module _ (v x : Option (List ℕ)) (was mid : LogReader) (so_far : ReadsAhead v 
       (there u d first chunks taken)
 
   -- it was taken, and nothing was read
-  module _ (then : LogReader) (chunk : Chunk) (took : TakesWindow mid.edition w mid.source then.source chunk) (others : then.ahead.items ≡ rest)
+  module _ (then : ReadingState) (chunk : Chunk) (took : TakesWindow mid.edition w mid.source then.source chunk) (others : then.ahead.items ≡ rest)
       (edition : then.edition ≡ mid.edition) (count : then.count ≡ mid.count) (z : Option (List ℕ)) (unread : z ≡ x) where
     then_there : (u : Option (List ℕ)) (d : Document) (first : List ℕ) (chunks : List Chunk) → d.edition ≡ was.edition → IsTaken u v d first chunks was
         → IsTaken u z d first (chunks ++ chunk ∷ []) then
@@ -91,22 +91,26 @@ module _ (v x : Option (List ℕ)) (was mid : LogReader) (so_far : ReadsAhead v 
     refused_later y fault h = λ u d first chunks same taken. h u d first (chunks ++ chunk ∷ []) (same ∙ sym (edition ∙ so_far.edition))
         (then_there u d first chunks same taken)
 
-    module _ (y : Option (List ℕ)) (end : LogReader) (later : ReadsAhead z y then end) where
-      pub one_chunk : (now : LogReader) (checked : CheckedChunk) → now.source ≡ end.source → now.ahead ≡ end.ahead → now.edition ≡ end.edition
-          → checked.log ≡ chunk.log → IsCheckedBehind end.count now.count checked → ReadsChunk v y was now checked
-      one_chunk now checked source ahead editions log place = record {
-        edition = editions ∙ (later.edition ∙ (edition ∙ so_far.edition));
-        going = record { ready = rw source later.going.ready; parsing = rw (editions, ahead) later.going.parsing };
-        less = smaller;
-        place = subst (λ (n : ℕ). IsCheckedBehind n now.count checked) (later.count ∙ (count ∙ so_far.count)) place;
-        chunk = chunk;
-        same = log;
-        reads = λ u d first chunks same taken. rw (source, ahead)
-            (later.reads u d first (chunks ++ chunk ∷ []) (then_there u d first chunks same taken));
-      }
+    module _ (y : Option (List ℕ)) (end : ReadingState) (later : ReadsAhead z y then end) where
+      pub one_chunk : (now : ReadingState) (checked : CheckedChunk) → now ≡ record end { count = now.count } → checked.log ≡ chunk.log
+          → IsCheckedBehind end.count now.count checked → ReadsChunk v y was now checked
+      one_chunk now checked same log place =
+          let editions : now.edition ≡ end.edition = ap (λ (r : ReadingState). r.edition) same in
+          let source : now.source ≡ end.source = ap (λ (r : ReadingState). r.source) same in
+          let ahead : now.ahead ≡ end.ahead = ap (λ (r : ReadingState). r.ahead) same in
+          record {
+            edition = editions ∙ (later.edition ∙ (edition ∙ so_far.edition));
+            going = record { ready = rw source later.going.ready; parsing = rw (editions, ahead) later.going.parsing };
+            less = smaller;
+            place = subst (λ (n : ℕ). IsCheckedBehind n now.count checked) (later.count ∙ (count ∙ so_far.count)) place;
+            chunk = chunk;
+            same = log;
+            reads = λ u d first chunks same taken. rw (source, ahead)
+                (later.reads u d first (chunks ++ chunk ∷ []) (then_there u d first chunks same taken));
+          }
         where
           same_left : left now ≡ left then
-          same_left = rw (source, ahead) later.left
+          same_left = ap left same ∙ later.left
 
           smaller : left now < left was
           smaller = omega (
@@ -120,22 +124,3 @@ module _ (v x : Option (List ℕ)) (was mid : LogReader) (so_far : ReadsAhead v 
             took.left (windows_of rest),
             ap length (begins mid.edition a first_parsing.0).begins,
           )
-
--- ---- logs that are kept for later windows
-
-module _ (v y : Option (List ℕ)) (was now : LogReader) (checked : CheckedChunk) where
-  pub kept_before : (mid : LogReader) → mid ≡ record was { spare = mid.spare } → ReadsChunk v y mid now checked → ReadsChunk v y was now checked
-  kept_before mid same read =
-      let h = subst (λ (r : LogReader). ReadsChunk v y r now checked) same read in
-      record { edition = h.edition; going = h.going; less = h.less; place = h.place; chunk = h.chunk; same = h.same; reads = h.reads }
-
-  pub kept_after : (after : LogReader) → after ≡ record now { spare = after.spare } → ReadsChunk v y was now checked → ReadsChunk v y was after checked
-  kept_after after same h = subst (λ (r : LogReader). ReadsChunk v y was r checked) (sym same) (record {
-    edition = h.edition;
-    going = record { ready = h.going.ready; parsing = h.going.parsing };
-    less = h.less;
-    place = h.place;
-    chunk = h.chunk;
-    same = h.same;
-    reads = h.reads;
-  })

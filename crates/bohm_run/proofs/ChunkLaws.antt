@@ -34,12 +34,6 @@ count_on n count more (inl e) = ⊎_elim
     (cases_lt (count + more) 1000001)
 count_on n count more (inr both) = inr (omega (arith, both.0), omega (arith, both.1))
 
--- with these there are more transactions than a log may have
-pub too_many : (d : Document) (txns : List Txn) (count : ℕ) → 1000000 < count + length txns → IsCountOf (length d.log) count
-    → length (d.log ++ txns) ≤ 1000000 → ⊥
-too_many d txns count many (inl e) short = omega (arith, many, e, short, length-append d.log txns)
-too_many d txns count many (inr both) short = omega (arith, both.0, short, length-append d.log txns)
-
 -- ---- one chunk
 
 pub some_not : (o : Option CheckFault) → is_some o ≡ true → o ≡ None → ⊥

@@ -31,7 +31,7 @@ use Rattle.bohm_run.specs.Refusing.{reading_refusal_of}
 use Rattle.bohm_run.specs.Reading.{ReadsAhead, ReadsChunk, RefusesChunk}
 use Rattle.bohm_run.specs.declared.checked_chunk.CheckedChunk.{CheckedChunk}
 use Rattle.bohm_run.specs.declared.chunks.RunState.{RunState}
-use Rattle.bohm_run.specs.declared.log_reader.LogReader.{LogReader}
+use Rattle.bohm_run.specs.declared.reading_state.ReadingState.{ReadingState}
 use Rattle.bohm_run.specs.declared.fault.RunFault.TheVariants.{Check}
 use Rattle.bohm_run.specs.Runs.{IsApplied}
 use Rattle.bohm_run.specs.Chunks.{IsRunTo, IsStarted, RunsChunk}
@@ -42,7 +42,7 @@ use Rattle.bohm_run.proofs.Walks.{whole_run}
 
 -- ---- window after window
 
-pub begin : (e : Edition) (log : List Txn) (u : Option (List ℕ)) (s : Source) (r : LogReader) (state : RunState) → r.source ≡ s → r.ahead.items ≡ []
+pub begin : (e : Edition) (log : List Txn) (u : Option (List ℕ)) (s : Source) (r : ReadingState) (state : RunState) → r.source ≡ s → r.ahead.items ≡ []
     → RunsBehindTo e log u u s r log state state
 begin e log u s r state same none = λ d begun. record {
   behind = [];
@@ -53,14 +53,14 @@ begin e log u s r state same none = λ d begun. record {
 }
 
 -- a window behind the first one is refused
-pub refused_first : (e : Edition) (log : List Txn) (u : Option (List ℕ)) (s : Source) (r : LogReader) → r.edition ≡ e → r.source ≡ s
+pub refused_first : (e : Edition) (log : List Txn) (u : Option (List ℕ)) (s : Source) (r : ReadingState) → r.edition ≡ e → r.source ≡ s
     → r.ahead.items ≡ [] → (x : Option (List ℕ)) (fault : ReadingFault) → RefusesChunk u x r fault → RefusesLog e log u x s fault
 refused_first e log u s r edition same none x fault h = λ d begun. h u d s.rest.items [] (begun.edition ∙ sym edition)
     (rw (same, none) (on_none u d s begun.is))
 
-module _ (e : Edition) (log : List Txn) (u v : Option (List ℕ)) (s : Source) (mid : LogReader) (pending : List Txn) (was state : RunState)
+module _ (e : Edition) (log : List Txn) (u v : Option (List ℕ)) (s : Source) (mid : ReadingState) (pending : List Txn) (was state : RunState)
     (edition : mid.edition ≡ e) (so_far : RunsBehindTo e log u v s mid pending was state) where
-  pub go_on : (x : Option (List ℕ)) (now : LogReader) (checked : CheckedChunk) (after : RunState) → RunsChunk pending state after
+  pub go_on : (x : Option (List ℕ)) (now : ReadingState) (checked : CheckedChunk) (after : RunState) → RunsChunk pending state after
       → ReadsChunk v x mid now checked → RunsBehindTo e log u x s now checked.log was after
   go_on x now checked after ran read = λ d begun.
       let there = so_far d begun in
@@ -76,7 +76,7 @@ module _ (e : Edition) (log : List Txn) (u v : Option (List ℕ)) (s : Source) (
         runs = runs_on there.ran pending was state after there.runs ran;
       }
 
-  pub ahead_on : (x : Option (List ℕ)) (now : LogReader) → ReadsAhead v x mid now → RunsBehindTo e log u x s now pending was state
+  pub ahead_on : (x : Option (List ℕ)) (now : ReadingState) → ReadsAhead v x mid now → RunsBehindTo e log u x s now pending was state
   ahead_on x now ahead = λ d begun.
       let there = so_far d begun in
       record {

@@ -12,7 +12,7 @@ use Rattle.bohm_reading.specs.declared.reading.Source.{Source}
 use Rattle.bohm_reading.specs.Reading.{IsReading, ReadsOn, RefusesOn}
 use Rattle.bohm_reading.specs.InOrder.{logs_of}
 use Rattle.bohm_run.specs.declared.chunks.RunState.{RunState}
-use Rattle.bohm_run.specs.declared.log_reader.LogReader.{LogReader}
+use Rattle.bohm_run.specs.declared.reading_state.ReadingState.{ReadingState}
 use Rattle.bohm_run.specs.Chunks.{IsStarted, RunsChunk}
 use Rattle.bohm_run.specs.Headline.{ReadsDocument}
 use Rattle.bohm_run.specs.Reading.{IsTaken}
@@ -31,7 +31,7 @@ pub record StreamsOn (unread unread' : Option (List ℕ)) (d : Document) (rest :
   pub runs : RunsChunk (d.log ++ log) was now
 
 -- chunks after a document were taken, and all transactions but the last ones were run
-pub record StreamsTo (unread unread' : Option (List ℕ)) (d : Document) (first : List ℕ) (r : LogReader) (pending : List Txn) (was now : RunState) : Type 0 where
+pub record StreamsTo (unread unread' : Option (List ℕ)) (d : Document) (first : List ℕ) (r : ReadingState) (pending : List Txn) (was now : RunState) : Type 0 where
   pub behind : List Chunk
   pub ran : List Txn
   pub read : IsTaken unread unread' d first behind r
@@ -48,7 +48,7 @@ pub record RunsFrom (keep : ℕ) (store : List (List ℕ × ℤ)) (e : Edition) 
   pub started : IsStarted keep store start
   pub runs : RunsBehind e log unread unread' s start now
 
-abbrev pub RunsBehindTo : Edition → List Txn → Option (List ℕ) → Option (List ℕ) → Source → LogReader → List Txn → RunState → RunState → Type 0
+abbrev pub RunsBehindTo : Edition → List Txn → Option (List ℕ) → Option (List ℕ) → Source → ReadingState → List Txn → RunState → RunState → Type 0
 RunsBehindTo e log unread unread' s r pending was now = (d : Document) → IsBegun e log unread s d → StreamsTo unread unread' d s.rest.items r pending was now
 
 abbrev pub RefusesLog : Edition → List Txn → Option (List ℕ) → Option (List ℕ) → Source → ReadingFault → Type 0

@@ -26,8 +26,20 @@ use std::random::RandomSource;
 use std::sync::Wait;
 use std::thread::Threads;
 
-/// How many bytes a window of a text has at least, but for the last one.
-const WINDOW_SIZE: usize = 262_144;
+/// How many bytes a window of a text has at least, but for the first and the last one: few where one
+/// worker executes, so that a window and its columns stay in a processor's cache.
+const WINDOW_SIZE: usize = 131_072;
+
+/// The same where several workers execute, which start anew for each batch.
+const SHARED_WINDOW_SIZE: usize = 262_144;
+
+fn window_size(settings: Settings) -> usize {
+    if settings.exec().count() == 1 {
+        WINDOW_SIZE
+    } else {
+        SHARED_WINDOW_SIZE
+    }
+}
 
 /// The log that the reader holds, read to the reader's end, or why it is none. Its text is let go.
 /// Names are hashed from the seed.
@@ -102,19 +114,19 @@ fn answer(alloc: Global, state: RunState, ts: u32) -> Result<Vec<u8>, NoMemory>
 /// an interrupted call too.
 ///
 /// The log is read in windows, and runs as it is read: while the transactions of a window are executed,
-/// `cc` threads parse windows behind it. One executing worker is the caller's thread: it runs the
-/// transactions in log order, without plans and batches, and reads and checks the next window in between.
-/// For several the next window is checked and planned meanwhile, on one thread, so the partitions of the
-/// keys aren't used. A log of one window is read and run on the caller's thread where one worker executes.
-/// The call blocks while a window that is next isn't parsed. Where no thread can be started, it parses
-/// the windows itself.
+/// `cc` threads parse windows behind it, and check them if there are several. One executing worker is
+/// the caller's thread: it runs the transactions in log order, without plans and batches, and reads the
+/// next windows in between. For several the next window is planned meanwhile, on one thread, so the
+/// partitions of the keys aren't used. A log of one window is read and run on the caller's thread where
+/// one worker executes. While the window that is next isn't parsed, the caller's thread parses another
+/// one where several threads do, and then blocks. Where no thread can be started, it parses all windows.
 ///
 /// The time grows with the text and its answer, with the terms of the transactions and the keys that
 /// they declare, and with the number of the store's keys k as k log k. Parsing is spread over `cc`
 /// threads, and the sweeps over `exec` threads; all else is done by one thread, or by two where several
 /// workers execute. The memory grows with the keys of the log, with the text of the answer, and with
-/// `cc` + 3 windows, a window being as long as the head and the store, or as a transaction, where these
-/// are longer than 256 KiB.
+/// 2 `cc` + 3 windows. A window has 128 KiB, 256 where several workers execute, or is as long as the
+/// head and the store, or as a transaction, where these are longer.
 pub fn run_text<T: Threads + Wait + Sync + RandomSource + Copy + Send + 'static, R: Read, W: Write>(
     rt: &T,
     alloc: Global,
@@ -132,7 +144,7 @@ pub fn run_text<T: Threads + Wait + Sync + RandomSource + Copy + Send + 'static,
     // Before all faults but those of the writing the writer isn't touched.
     ensures untouched { IfErr result (λ e. IsBeforeWriting e → writer.new ≡ writer.old) }
 {
-    run_text_in_windows(rt, alloc, reader, writer, settings, WINDOW_SIZE)
+    run_text_in_windows(rt, alloc, reader, writer, settings, window_size(settings))
 }
 
 /// Runs a text as `run_text` does, in windows of so many bytes at least but for the last one. The

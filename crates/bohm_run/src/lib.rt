@@ -20,6 +20,7 @@ mod parsing;
 mod plan_queue;
 mod planning_side;
 mod promise;
+mod reading_state;
 mod replies;
 mod retention;
 mod running;

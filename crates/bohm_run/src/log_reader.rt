@@ -1,7 +1,7 @@
 //! The reading side of a run: it reads a log in windows, has them parsed and checked ahead, and plans
 //! their chunks.
 
-ghost use Rattle.std.specs.Prelude.{◌≡◌, ◌<◌, [], true, false, length, IfOk, IfErr, IfSome, OnOk};
+ghost use Rattle.std.specs.Prelude.{◌≡◌, ◌<◌, length, IfOk, IfErr, IfSome, OnOk};
 ghost use Rattle.bohm_txn.specs.Chunked.{IsLogCheckedTo};
 ghost use Rattle.bohm_run.specs.Preparing.{IsCheckedBehind};
 ghost use Rattle.bohm_run.specs.Reading.{HasMore, IsGoing, ReadsAhead, ReadsChunk, RefusesChunk};
@@ -9,17 +9,17 @@ ghost use Rattle.bohm_run.specs.Reading.{HasMore, IsGoing, ReadsAhead, ReadsChun
 use crate::checked_chunk::{CheckedChunk, counted};
 use crate::checked_window::CheckedWindow;
 use crate::parse_task::ParseTask;
-use crate::parsers::Parsers;
+use crate::parsers::{Parsers, most_ahead};
 use crate::parsing::Parsing;
+use crate::reading_state::ReadingState;
 use crate::settings::Settings;
 use bohm_log::{DrawnSeed, HashSeed, Log};
-use bohm_reading::{ReadingFault, Source, next_window, take_parsed};
+use bohm_reading::{ReadingFault, next_window, take_parsed};
 use bohm_store::{Seats, StoreNumbers};
 use bohm_text::Chunk;
 use bohm_txn::{CheckFault, check_chunk};
-use bohm_types::{Edition, NoMemory};
+use bohm_types::{Key, NoMemory, Value};
 use std::alloc::Global;
-use std::collections::VecDeque;
 use std::io::Read;
 use std::sync::{Arc, Wait};
 use std::thread::Threads;
@@ -32,23 +32,23 @@ pub(crate) struct Spare {
     pub(crate) seats: Seats,
 }
 
-/// Where the reading of a log stands.
+/// What a log is read with.
 #[derive(Drop)]
 pub(crate) struct LogReader {
+    pub(crate) state: ReadingState,
     pub(crate) seed: DrawnSeed,
-    pub(crate) edition: Edition,
-    pub(crate) source: Source,
-    pub(crate) parsers: Parsers,
-    /// The windows that are being parsed, in the order of the text.
-    pub(crate) ahead: VecDeque<Parsing>,
-    /// How many transactions the chunks have that were taken, exact up to the most that a log may have.
-    pub(crate) count: usize,
     /// How many bytes a window has at least, but for the last one.
     pub(crate) size: usize,
     pub(crate) settings: Settings,
-    /// The keys of the starting store, where several threads read and one executes; else none.
+    /// The keys that are looked up by the threads that parse.
     pub(crate) known: Arc<StoreNumbers>,
     pub(crate) spare: Vec<Spare>,
+    pub(crate) parsers: Parsers,
+}
+
+/// No keys, for threads that look none up.
+pub(crate) fn no_keys(alloc: Global, seed: DrawnSeed) -> Result<Arc<StoreNumbers>, NoMemory> {
+    Ok(Arc::new(alloc, StoreNumbers::none(alloc, seed))?)
 }
 
 /// The first fault of a chunk, which is checked where it wasn't yet.
@@ -62,57 +62,60 @@ fn first_fault(chunk: &Chunk, checked: Option<Option<CheckFault>>) -> Option<Che
     }
 }
 
+/// The log and the seats of a chunk that is done, if there is one.
+fn take_spare(alloc: Global, spare: &mut Vec<Spare>) -> (Option<Log<HashSeed>>, Seats) {
+    match spare.pop() {
+        Some(Spare { log, seats }) => (Some(log), seats),
+        None => (None, Seats::new(alloc)),
+    }
+}
+
 impl LogReader {
-    /// Whether there are windows behind those whose chunks were taken.
-    pub(crate) fn is_going(&self) -> bool
-        ensures more { result ≡ true → HasMore self.now }
-        ensures none { result ≡ false
-            → (self.now.source.ended ≡ true) × (self.now.ahead.items ≡ []) }
+    /// Has the keys of a starting store looked up by the threads that parse, where several parse and
+    /// one thread executes, which then looks up fewer. A log of one window has no such threads.
+    pub(crate) fn know(&mut self, alloc: Global, store: &[(Key, Value)]) -> Result<(), NoMemory>
+        ensures { self.new.state ≡ self.old.state }
     {
-        !self.source.ended || !self.ahead.is_empty()
-    }
-
-    /// The log and the seats of a chunk that is done, if there is one.
-    fn take_spare(&mut self, alloc: Global) -> (Option<Log<HashSeed>>, Seats)
-        ensures { self.new ≡ record self.old { spare = self.new.spare } }
-    {
-        match self.spare.pop() {
-            Some(Spare { log, seats }) => (Some(log), seats),
-            None => (None, Seats::new(alloc)),
+        let is_alone = self.settings.cc().count() == 1 || self.state.source.ended;
+        if !is_alone && self.settings.exec().count() == 1 {
+            self.known = Arc::new(alloc, StoreNumbers::new(alloc, store, self.seed)?)?;
         }
+        Ok(())
     }
 
-    /// Reads windows until each planning worker parses one and one more is ready, or none is left.
+    /// Reads windows until as many are ahead as the threads need, or none is left.
     pub(crate) fn read_ahead<R: Read, T: Wait>(
         &mut self,
         rt: &T,
         alloc: Global,
         reader: &mut R,
     ) -> Result<(), ReadingFault>
-        requires going { IsGoing self.old }
+        requires going { IsGoing self.old.state }
         ensures ok { OnOk result
-            (ReadsAhead (R.remaining reader.old) (R.remaining reader.new) self.old self.new) }
-        ensures some { OnOk result (HasMore self.old → 0 < length self.new.ahead.items) }
+            (ReadsAhead (R.remaining reader.old) (R.remaining reader.new) self.old.state
+            self.new.state) }
+        ensures some { OnOk result (HasMore self.old.state → 0 < length self.new.state.ahead.items) }
         ensures err { IfErr result
-            (RefusesChunk (R.remaining reader.old) (R.remaining reader.new) self.old) }
+            (RefusesChunk (R.remaining reader.old) (R.remaining reader.new) self.old.state) }
     {
-        let most = self.settings.cc().count() as usize + 1;
-        'windows: while !self.source.ended && self.ahead.len() < most {
-            let window = next_window(alloc, reader, &mut self.source, self.size)?;
+        let threads = self.settings.cc().count();
+        let most = most_ahead(threads);
+        'windows: while !self.state.source.ended && self.state.ahead.len() < most {
+            let window = next_window(alloc, reader, &mut self.state.source, self.size)?;
             let known = Arc::try_clone(&self.known)?;
-            let (spare, seats) = self.take_spare(alloc);
+            let (spare, seats) = take_spare(alloc, &mut self.spare);
             let task = ParseTask {
                 alloc,
                 seed: self.seed,
-                edition: self.edition,
+                edition: self.state.edition,
                 window,
                 spare,
                 seats,
                 known,
-                checks: self.settings.cc().count() > 1,
+                checks: threads > 1,
             };
             let parsing = Parsing::start(rt, &self.parsers, task);
-            self.ahead.push_back(parsing)?;
+            self.state.ahead.push_back(parsing)?;
         }
         Ok(())
     }
@@ -126,12 +129,12 @@ impl LogReader {
         seats: Seats,
     ) -> Result<CheckedChunk, NoMemory>
         requires { IsLogCheckedTo chunk.log fault }
-        ensures same { self.new ≡ record self.old { count = self.new.count } }
+        ensures same { self.new.state ≡ record self.old.state { count = self.new.state.count } }
         ensures log { IfOk result (λ c. c.log ≡ chunk.log) }
-        ensures checked { IfOk result (IsCheckedBehind self.old.count self.new.count) }
+        ensures checked { IfOk result (IsCheckedBehind self.old.state.count self.new.state.count) }
     {
-        let count = self.count;
-        self.count = counted(count, chunk.log.len());
+        let count = self.state.count;
+        self.state.count = counted(count, chunk.log.len());
         CheckedChunk::new(alloc, chunk, fault, count, seats, self.settings)
     }
 
@@ -143,23 +146,24 @@ impl LogReader {
         alloc: Global,
         reader: &mut R,
     ) -> Result<CheckedChunk, ReadingFault>
-        requires going { IsGoing self.old }
-        requires more { HasMore self.old }
+        requires going { IsGoing self.old.state }
+        requires more { HasMore self.old.state }
         ensures ok { IfOk result
-            (ReadsChunk (R.remaining reader.old) (R.remaining reader.new) self.old self.new) }
+            (ReadsChunk (R.remaining reader.old) (R.remaining reader.new) self.old.state
+            self.new.state) }
         ensures err { IfErr result
-            (RefusesChunk (R.remaining reader.old) (R.remaining reader.new) self.old) }
+            (RefusesChunk (R.remaining reader.old) (R.remaining reader.new) self.old.state) }
     {
         self.read_ahead(rt, alloc, reader)?;
-        let Some(parsing) = self.ahead.pop_front() else {
+        let Some(parsing) = self.state.ahead.pop_front() else {
             unreachable!()
         };
         let CheckedWindow {
             parsed,
             fault,
             seats,
-        } = parsing.finish(rt, self.edition);
-        let chunk = take_parsed(reader, self.edition, &mut self.source, parsed)?;
+        } = parsing.finish(rt, &self.parsers, self.state.edition);
+        let chunk = take_parsed(reader, self.state.edition, &mut self.state.source, parsed)?;
         self.read_ahead(rt, alloc, reader)?;
         let fault = first_fault(&chunk, fault);
         Ok(self.prepare(alloc, chunk, fault, seats?)?)
@@ -167,7 +171,7 @@ impl LogReader {
 
     /// Keeps the log and the seats of a chunk that is done for a later window.
     pub(crate) fn keep(&mut self, done: CheckedChunk) -> Result<(), NoMemory>
-        ensures { self.new ≡ record self.old { spare = self.new.spare } }
+        ensures { self.new.state ≡ self.old.state }
     {
         let CheckedChunk { log, seats, .. } = done;
         self.spare.push(Spare { log, seats })?;

@@ -1,6 +1,6 @@
 //! Threads that parse windows.
 
-ghost use Rattle.std.specs.Prelude.{◌≡◌};
+ghost use Rattle.std.specs.Prelude.{◌≡◌, ◌<◌};
 ghost use Rattle.bohm_handoff.specs.Ends.{promised};
 
 use crate::checked_window::CheckedWindow;
@@ -31,10 +31,24 @@ impl ParseJob {
     }
 }
 
+/// How many windows are ahead of a run that this many threads parse: each parses one, and one more is
+/// ready. Where there are several, each has another one to go on with while the caller's thread
+/// parses one itself.
+pub(crate) fn most_ahead(threads: u32) -> usize
+    ensures { 0 < result }
+{
+    if threads == 1 {
+        2
+    } else {
+        2 * threads as usize + 1
+    }
+}
+
 /// Threads that parse windows, and the queue from which they take them.
 #[derive(Drop)]
 pub(crate) struct Parsers {
     jobs: Sender<ParseJob, Global>,
+    queue: Receiver<ParseJob, Global>,
     threads: Vec<JoinHandle<()>>,
 }
 
@@ -55,29 +69,47 @@ impl Parsers {
         alloc: Global,
         count: u32,
     ) -> Result<Parsers, NoMemory> {
-        // Each thread has a job, and one more is ready.
-        let (jobs, queue) = bounded(alloc, count as usize + 1)?;
+        let (jobs, queue) = bounded(alloc, most_ahead(count))?;
         let mut threads = Vec::with_capacity(alloc, count as usize)?;
         for _ in 0..count {
-            let (theirs, own) = (*rt, queue.clone()?);
+            let Ok(own) = queue.clone() else {
+                break;
+            };
+            let theirs = *rt;
             let Ok(thread) = thread::spawn(rt, move || work(&theirs, &own)) else {
                 break;
             };
+            // There is room for it.
             threads.push(thread)?;
         }
-        Ok(Parsers { jobs, threads })
+        Ok(Parsers {
+            jobs,
+            queue,
+            threads,
+        })
     }
 
     /// Has a thread carry the job out, or does so at once where there is none.
     pub(crate) fn send<R: Wait>(&self, rt: &R, job: ParseJob) {
-        if let Err(refused) = self.jobs.send(rt, job) {
+        if self.threads.is_empty() {
+            job.carry_out();
+        } else if let Err(refused) = self.jobs.send(rt, job) {
             refused.into_inner().carry_out();
+        }
+    }
+
+    /// Where there are several threads, carries out a job that none of them has taken yet.
+    pub(crate) fn help<R: Wait>(&self, rt: &R) {
+        if self.threads.len() > 1
+            && let Ok(job) = self.queue.try_recv(rt)
+        {
+            job.carry_out();
         }
     }
 
     /// Has the threads end, and waits for them.
     pub(crate) fn end<R: Threads>(self, rt: &R) {
-        let Parsers { jobs, threads } = self;
+        let Parsers { jobs, threads, .. } = self;
         drop(jobs);
         for thread in threads {
             thread.join(rt);

@@ -36,15 +36,26 @@ impl Parsing {
         Parsing::There(taker)
     }
 
-    /// The window and the result, once it is parsed.
-    pub(crate) fn finish<R: Wait>(self, rt: &R, edition: Edition) -> CheckedWindow
+    /// The window and the result, once it is parsed. While it isn't, another one is parsed on this
+    /// thread where several threads parse.
+    pub(crate) fn finish<R: Wait>(
+        self,
+        rt: &R,
+        parsers: &Parsers,
+        edition: Edition,
+    ) -> CheckedWindow
         requires { IsParsing edition self }
         ensures { IsChecked edition (window_of self) result }
     {
         // Only the contract needs the edition.
         let _ = edition;
         match self {
-            Parsing::There(taker) => taker.take(rt),
+            Parsing::There(taker) => {
+                if !taker.is_given() {
+                    parsers.help(rt);
+                }
+                taker.take(rt)
+            }
             Parsing::Here(checked) => checked,
         }
     }

@@ -12,12 +12,13 @@ ghost use Rattle.bohm_run.specs.Streaming.{IsLogRun, RefusesLog, RunsFrom};
 use crate::checked_chunk::CheckedChunk;
 use crate::chunks::{RunState, run_chunk};
 use crate::fault::RunFault;
-use crate::log_reader::LogReader;
+use crate::log_reader::{LogReader, no_keys};
 use crate::parsers::Parsers;
+use crate::reading_state::ReadingState;
 use crate::settings::Settings;
 use bohm_log::DrawnSeed;
 use bohm_reading::{ReadingFault, read_first};
-use bohm_store::{Seats, StoreNumbers};
+use bohm_store::Seats;
 use bohm_text::{Chunk, FirstWindow};
 use bohm_txn::{check_chunk, check_end};
 use bohm_types::{Key, NoMemory, Value};
@@ -25,7 +26,7 @@ use std::alloc::Global;
 use std::collections::VecDeque;
 use std::io::Read;
 use std::random::RandomSource;
-use std::sync::{Arc, Wait};
+use std::sync::Wait;
 use std::thread::{Threads, join_mut};
 
 /// Runs the chunk that is next beside the reading of the one behind it.
@@ -37,14 +38,15 @@ fn run_beside_reading<R: Read, T: Threads + Wait + Sync>(
     state: &mut RunState,
     chunk: &mut CheckedChunk,
 ) -> (Result<(), NoMemory>, Result<CheckedChunk, ReadingFault>)
-    requires going { IsGoing log_reader.old }
-    requires more { HasMore log_reader.old }
+    requires going { IsGoing log_reader.old.state }
+    requires more { HasMore log_reader.old.state }
     requires next { IsNext state.old chunk.old }
     ensures runs { OnOk result.0 (RunsNext chunk.old state.old state.new) }
     ensures ok { IfOk result.1
-        (ReadsChunk (R.remaining reader.old) (R.remaining reader.new) log_reader.old log_reader.new) }
+        (ReadsChunk (R.remaining reader.old) (R.remaining reader.new) log_reader.old.state
+        log_reader.new.state) }
     ensures err { IfErr result.1
-        (RefusesChunk (R.remaining reader.old) (R.remaining reader.new) log_reader.old) }
+        (RefusesChunk (R.remaining reader.old) (R.remaining reader.new) log_reader.old.state) }
 {
     join_mut(
         rt,
@@ -53,12 +55,12 @@ fn run_beside_reading<R: Read, T: Threads + Wait + Sync>(
             ensures { OnOk result (RunsNext chunk.entry.now state.entry.now state.exit.now) }
         { run_chunk(rt, alloc, state, chunk) },
         &mut || -> Result<CheckedChunk, ReadingFault>
-            requires { IsSync T.row × IsGoing log_reader.now × HasMore log_reader.now }
+            requires { IsSync T.row × IsGoing log_reader.now.state × HasMore log_reader.now.state }
             ensures { IfOk result
                 (ReadsChunk (R.remaining reader.entry.now) (R.remaining reader.exit.now)
-                log_reader.entry.now log_reader.exit.now)
+                log_reader.entry.now.state log_reader.exit.now.state)
                 × IfErr result (RefusesChunk (R.remaining reader.entry.now)
-                (R.remaining reader.exit.now) log_reader.entry.now) }
+                (R.remaining reader.exit.now) log_reader.entry.now.state) }
         { log_reader.next_chunk(rt, alloc, reader) },
     )
 }
@@ -74,14 +76,15 @@ fn run_and_read<R: Read, T: Threads + Wait + Sync>(
     state: &mut RunState,
     chunk: CheckedChunk,
 ) -> Result<CheckedChunk, ReadingFault>
-    requires going { IsGoing log_reader.old }
-    requires more { HasMore log_reader.old }
+    requires going { IsGoing log_reader.old.state }
+    requires more { HasMore log_reader.old.state }
     requires next { IsNext state.old chunk }
     ensures runs { OnOk result (RunsNext chunk state.old state.new) }
     ensures ok { IfOk result
-        (ReadsChunk (R.remaining reader.old) (R.remaining reader.new) log_reader.old log_reader.new) }
+        (ReadsChunk (R.remaining reader.old) (R.remaining reader.new) log_reader.old.state
+        log_reader.new.state) }
     ensures err { IfErr result
-        (RefusesChunk (R.remaining reader.old) (R.remaining reader.new) log_reader.old) }
+        (RefusesChunk (R.remaining reader.old) (R.remaining reader.new) log_reader.old.state) }
 {
     let mut chunk = chunk;
     if log_reader.settings.exec().count() > 1 {
@@ -106,44 +109,27 @@ fn run_windows<R: Read, T: Threads + Wait + Sync>(
     store: Vec<(Key, Value)>,
     first: Chunk,
 ) -> Result<RunState, ReadingFault>
-    requires ready { IsReady log_reader.old.source }
-    requires none { log_reader.old.ahead.items ≡ [] }
-    requires count { log_reader.old.count ≡ 0 }
+    requires ready { IsReady log_reader.old.state.source }
+    requires none { log_reader.old.state.ahead.items ≡ [] }
+    requires count { log_reader.old.state.count ≡ 0 }
     ensures ok { IfOk result
-        (RunsFrom log_reader.old.settings.keep store.items log_reader.old.edition first.log
-        (R.remaining reader.old) (R.remaining reader.new) log_reader.old.source) }
+        (RunsFrom log_reader.old.settings.keep store.items log_reader.old.state.edition first.log
+        (R.remaining reader.old) (R.remaining reader.new) log_reader.old.state.source) }
     ensures err { IfErr result
-        (RefusesLog log_reader.old.edition first.log (R.remaining reader.old) (R.remaining reader.new)
-        log_reader.old.source) }
+        (RefusesLog log_reader.old.state.edition first.log (R.remaining reader.old)
+        (R.remaining reader.new) log_reader.old.state.source) }
 {
     let (seed, settings) = (log_reader.seed, log_reader.settings);
+    log_reader.know(alloc, store.as_slice())?;
     let fault = check_chunk(&first.log.part());
     let mut chunk = log_reader.prepare(alloc, first, fault, Seats::new(alloc))?;
     log_reader.read_ahead(rt, alloc, reader)?;
     let mut state = RunState::start(alloc, seed, store, settings)?;
-    'windows: while log_reader.is_going() {
+    'windows: while log_reader.state.is_going() {
         chunk = run_and_read(rt, alloc, log_reader, reader, &mut state, chunk)?;
     }
     run_chunk(rt, alloc, &mut state, &mut chunk)?;
     Ok(state)
-}
-
-/// The keys that are looked up for the executing thread by those that parse: the ones of the starting
-/// store where several parse and one executes, and else none. None of a log of one window, which no
-/// thread parses while another one runs.
-fn known_keys(
-    alloc: Global,
-    store: &[(Key, Value)],
-    seed: DrawnSeed,
-    settings: Settings,
-    ended: bool,
-) -> Result<Arc<StoreNumbers>, NoMemory> {
-    let known = if ended || settings.cc().count() == 1 || settings.exec().count() > 1 {
-        StoreNumbers::none(alloc, seed)
-    } else {
-        StoreNumbers::new(alloc, store, seed)?
-    };
-    Ok(Arc::new(alloc, known)?)
 }
 
 /// Reads a log to the reader's end, in windows of so many bytes, checks it, and runs it as it is
@@ -176,16 +162,19 @@ pub(crate) fn run_log<R: Read, T: Threads + Wait + Sync + RandomSource + Copy + 
         settings.cc().count()
     };
     let mut log_reader = LogReader {
-        parsers: Parsers::start(rt, alloc, threads)?,
+        state: ReadingState {
+            edition,
+            source,
+            ahead: VecDeque::new(alloc),
+            count: 0,
+        },
         seed,
-        edition,
-        known: known_keys(alloc, store.as_slice(), seed, settings, source.ended)?,
-        source,
-        ahead: VecDeque::new(alloc),
-        count: 0,
         size,
         settings,
+        known: no_keys(alloc, seed)?,
         spare: Vec::new(alloc),
+        // Nothing fails from here on without its threads being waited for.
+        parsers: Parsers::start(rt, alloc, threads)?,
     };
     let ran = run_windows(rt, alloc, &mut log_reader, reader, store, chunk);
     log_reader.end(rt);

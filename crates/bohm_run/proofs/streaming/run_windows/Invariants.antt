@@ -7,13 +7,13 @@ use Rattle.bohm_run.proofs.streaming.run_windows.Given as goal
 
 abbrev pub invariant-windows : goal.invariant-windows
 invariant-windows g l = record {
-  edition : l.log_reader.edition ≡ l.fn.log_reader.edition;
-  going : IsGoing l.log_reader;
+  edition : l.log_reader.state.edition ≡ l.fn.log_reader.state.edition;
+  going : IsGoing l.log_reader.state;
   next : IsNext l.state l.chunk;
-  count : l.log_reader.count ≡ count_with l.state.count (length l.chunk.log);
-  streams : RunsBehindTo l.fn.log_reader.edition l.fn.first.log (g.R.Read.remaining l.fn.reader)
-      (g.R.Read.remaining l.reader) l.fn.log_reader.source l.log_reader l.chunk.log l.initial.state l.state;
+  count : l.log_reader.state.count ≡ count_with l.state.count (length l.chunk.log);
+  streams : RunsBehindTo l.fn.log_reader.state.edition l.fn.first.log (g.R.Read.remaining l.fn.reader)
+      (g.R.Read.remaining l.reader) l.fn.log_reader.state.source l.log_reader.state l.chunk.log l.initial.state l.state;
 }
 
 abbrev pub decreases-windows : goal.decreases-windows
-decreases-windows g l = left l.log_reader
+decreases-windows g l = left l.log_reader.state

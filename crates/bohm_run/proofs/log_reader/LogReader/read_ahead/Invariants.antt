@@ -3,7 +3,7 @@ use Rattle.bohm_run.specs.Reading.{ReadsAhead}
 use Rattle.bohm_run.proofs.log_reader.LogReader.read_ahead.Given as goal
 
 abbrev pub invariant-windows : goal.invariant-windows
-invariant-windows g l = ReadsAhead (g.R.Read.remaining l.initial.reader) (g.R.Read.remaining l.reader) l.fn.self l.self
+invariant-windows g l = ReadsAhead (g.R.Read.remaining l.initial.reader) (g.R.Read.remaining l.reader) l.fn.self.state l.self.state
 
 abbrev pub decreases-windows : goal.decreases-windows
-decreases-windows g l = l.most - length l.self.ahead.items
+decreases-windows g l = l.most - length l.self.state.ahead.items
