@@ -22,7 +22,7 @@
 
 /* The version, and the checksum of the sources that the library is built from. */
 #define BOHM_VERSION "0.1.0"
-#define BOHM_SOURCES "a7bc198f03dd24959459247fc4921332c0e6d3bbffeefd011115c383699a2f5c"
+#define BOHM_SOURCES "f8e2ce7a7284e85825c197e563e781964d6649721dd28958c62140d0bb38d712"
 
 /* The same, of the library that the program is linked with. */
 extern const char bohm_version[16], bohm_sources[65];

@@ -43,7 +43,8 @@ fn declared_keys(alloc: Global, log: &LogPart<'_>) -> Result<Vec<Key>, NoMemory>
         mark(&mut marks, writes);
     }
     let mut keys = Vec::new(alloc);
-    for (name, is_declared) in names.iter().zip(marks.iter()) {
+    let in_order = names.shared().iter().chain(names.own().iter());
+    for (name, is_declared) in in_order.zip(marks.iter()) {
         if *is_declared {
             keys.push(*name)?;
         }

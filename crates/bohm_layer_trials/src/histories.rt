@@ -3,12 +3,12 @@
 ghost use Rattle.std.specs.Prelude.{◌<◌, ◌≤◌, All, length};
 ghost use Rattle.bohm_txn.specs.Faulty.{IsWellFormedTxn};
 
-use crate::boards::{execute, next_batch, present};
+use crate::boards::{execute, next_batch};
 use crate::logs::checked;
 use bohm_log::LogPart;
-use bohm_store::{History, PastFault, StoreFault};
+use bohm_store::History;
 use bohm_text::print_store;
-use bohm_types::{Cell, Key, NoMemory, Value};
+use bohm_types::{Key, NoMemory, Value};
 use std::alloc::Global;
 use std::process::Abort;
 use std::thread::Threads;
@@ -304,66 +304,4 @@ fn batches_and_trims(rt: HostRuntime) {
     for row in [REMOVAL, ABORTED, COUNTERS, IN_TURN, NAMES] {
         goes_so(&rt, rt.alloc(), row);
     }
-}
-
-/// The transactions of the removal.
-const DROPPING: &str = "\
-txn
-reads
-writes a
-drop a
-end
-txn
-reads a
-writes
-end
-txn
-reads
-writes
-end
-";
-
-/// What keys held, each at a timestamp.
-fn assert_values(
-    rt: &impl Abort,
-    history: &History,
-    rows: &[(&[u8], u32, Result<Cell, PastFault>)],
-) {
-    for (name, ts, want) in rows {
-        let key = Key::new(name).expect(rt, "a name");
-        assert_eq!(rt; history.value_at(&key, *ts), *want, "{key:?} at {ts}");
-    }
-}
-
-/// Asserts at which timestamps no store can be read, and why.
-fn assert_no_store(rt: &impl Abort, alloc: Global, history: &History, ts: u32, want: StoreFault) {
-    assert_eq!(rt; history.store_at(alloc, ts).err(), Some(want), "at {ts}");
-}
-
-/// A history of a store with `a`, which the first transaction of a batch dropped.
-fn removed<R: Abort + Threads + Sync>(rt: &R, alloc: Global) -> History {
-    let mut history = opened(rt, alloc, "a 5\n");
-    settle_log(rt, alloc, &mut history, DROPPING);
-    history
-}
-
-/// What single keys held, and the errors outside the past.
-#[test]
-fn values_of_the_past(rt: HostRuntime) {
-    let mut history = removed(&rt, rt.alloc());
-    let rows = [
-        (b"a".as_slice(), 0, Ok(present(5))),
-        (b"a", 1, Ok(Cell::Absent)),
-        (b"b", 2, Ok(Cell::Absent)),
-        (b"a", 4, Err(PastFault::Future)),
-    ];
-    assert_values(&rt, &history, rows.as_slice());
-    assert_no_store(&rt, rt.alloc(), &history, 4, StoreFault::Future);
-    trim(&rt, &mut history, 2);
-    let rows = [
-        (b"a".as_slice(), 1, Err(PastFault::Trimmed)),
-        (b"a", 2, Ok(Cell::Absent)),
-    ];
-    assert_values(&rt, &history, rows.as_slice());
-    assert_no_store(&rt, rt.alloc(), &history, 1, StoreFault::Trimmed);
 }

@@ -8,8 +8,7 @@ use crate::logs::{checked, repeated};
 use crate::sweeper::{Sweeper, joined, seen};
 use bohm_board::{Board, Pass, Status};
 use bohm_exec::{Aside, Finished, Gate, OpenGate, Point, share_of};
-use bohm_txn::{Checked, Outcome, Reason};
-use bohm_types::Cell;
+use bohm_txn::{Checked, Outcome};
 use std::alloc::Global;
 use std::process::Abort;
 use std::sync::atomic::{AtomicU64, Ordering};
@@ -70,40 +69,6 @@ fn ends_counted(
     let told = (unfinished, finished.first(), finished.len());
     assert_eq!(rt; told, (without, 1, len));
     assert_counted(rt, &finished, len);
-}
-
-const FAILING: &str = "\
-txn
-reads
-writes a
-set a = 1
-fail
-end
-txn
-reads a
-writes
-need no a
-end
-";
-
-fn assert_failed(rt: &impl Abort, finished: &Finished) {
-    let failed = Outcome::Abort {
-        reason: Reason::Fail,
-        stmt: 2,
-    };
-    let ends = (outcome(rt, finished, 1), outcome(rt, finished, 2));
-    assert_eq!(rt; ends, (failed, Outcome::Commit));
-    assert_eq!(rt; cell(rt, finished, 1), Cell::Absent);
-}
-
-#[test]
-fn backwards(rt: HostRuntime) {
-    let alloc: Global = rt.alloc();
-    let log = checked(&rt, alloc, "log 1\n", FAILING);
-    let mut sweeper = Sweeper::new(&rt, alloc, &log);
-    let aside = sweeps_so(&rt, alloc, &mut sweeper, &[2, 1], &[]);
-    let (_, finished) = sweeper.finish(&rt, alloc, &[aside]);
-    assert_failed(&rt, &finished);
 }
 
 /// Sets a flag at each of the two points of position 1, and waits after its claim until it is
@@ -259,18 +224,6 @@ fn held_then_finished(rt: HostRuntime) {
     let mut sweeper = held_before(&rt, alloc, &log);
     sweeps_so(&rt, alloc, &mut sweeper, &[3, 2], &[]);
     ends_counted(&rt, alloc, sweeper, &[], 0, 3);
-}
-
-#[test]
-fn held_and_dropped(rt: HostRuntime) {
-    let alloc: Global = rt.alloc();
-    let log = counters(&rt, alloc, 3);
-    let (mut sweeper, holder) = Sweeper::new(&rt, alloc, &log).hold(&rt, 1);
-    let others = sweeps_so(&rt, alloc, &mut sweeper, &[3, 2], &[(3, 1), (2, 1)]);
-    drop(holder);
-    let first = sweeps_so(&rt, alloc, &mut sweeper, &[1], &[(1, 1)]);
-    assert_eq!(rt; sweeper.see(&rt, 1, 0), (Status::Busy, None));
-    ends_counted(&rt, alloc, sweeper, &[others, first], 3, 3);
 }
 
 const OVERWRITTEN: &str = "\

@@ -7,6 +7,7 @@ use Rattle.bohm_log.specs.declared.table.Head.{Head}
 use Rattle.bohm_log.specs.declared.table.Table.{Table}
 use Rattle.bohm_log.specs.Parts.{Parts, TermIn}
 use Rattle.bohm_log.specs.Columns.{Shared, AllNamed, HeadIn, txn_at}
+use Rattle.bohm_log.specs.Layers.{all_names}
 use Rattle.bohm_log.specs.Partial.{shared_seen, IsPart}
 use Rattle.bohm_log.specs.Numbering.{Numbers, IsNumbered, SetsIn, sets_at, named_sets, declared_sets}
 
@@ -33,7 +34,7 @@ terms_between p i j h = All-between (TermIn p) i j p.terms h
 set_in : (c : Shared) (h : Head) → HeadIn c h → SetsIn c.ids h
 set_in c h i = record { reads = i.spans.reads; writes = i.spans.writes; end = i.spans.ids }
 
-pub numbered : (t : Table) (heads : List Head) → IsPart t heads → IsNumbered t.names.now t.ids.now heads
+pub numbered : (t : Table) (heads : List Head) → IsPart t heads → IsNumbered (all_names t.names) t.ids.now heads
 numbered t heads h = record {
   each = All-weaker (HeadIn (shared_seen t)) (SetsIn t.ids.now) (set_in (shared_seen t)) heads h.logged.each;
   named = h.logged.ids;
@@ -45,5 +46,5 @@ same_sets c [] = refl
 same_sets c (h ∷ hs) = ap (λ ys. named_sets c.names (sets_at c.ids h) ∷ ys) (same_sets c hs)
 
 pub numbers : (t : Table) (heads : List Head) → IsPart t heads
-    → Numbers (record { names = t.names.now; sets = map (sets_at t.ids.now) heads }) (map (txn_at (shared_seen t)) heads)
+    → Numbers (record { names = all_names t.names; sets = map (sets_at t.ids.now) heads }) (map (txn_at (shared_seen t)) heads)
 numbers t heads h = record { apart = h.apart; same = same_sets (shared_seen t) heads }

@@ -1,5 +1,6 @@
 mod Growth
 mod Seeking
+mod Layers
 mod Drafts
 mod Standing
 mod Statements

@@ -6,7 +6,8 @@ use Rattle.std.specs.Str.{bytes_eq}
 use Rattle.std.proofs.lemmas.Iterator.Adapters.{position_from-zero}
 use Rattle.std.proofs.lemmas.List.Quantifiers.{position-Some}
 use Rattle.std.proofs.lemmas.Bool.{or_right}
-use Rattle.std.proofs.lemmas.Option.{slice_get-get_or, same_Some}
+use Rattle.std.specs.Option.{unwrap_or}
+use Rattle.std.proofs.lemmas.Option.{slice_get-get_or, same_Some, unwrap_or-slice_get}
 use Rattle.std.specs.Cmp.Lexicographic.{pointwise}
 use Rattle.std.proofs.lemmas.Slice.Eq.{bytes_eq-Decides, slice_eq-Decides}
 use Rattle.bohm_types.specs.Keys.{place}
@@ -18,7 +19,7 @@ found keys k i e =
     let p = position-Some (λ x. bytes_eq x k) keys i k (position_from-zero (λ x. bytes_eq x k) keys ∙ sym e) in
     slice_get-get_or keys i k p.0 ∙ ap Some ((bytes_eq-Decides (get_or keys i k) k).0 p.1)
 
-none_from : (test : List ℕ → Bool) (i : ℕ) (xs : List (List ℕ)) → position_from test i xs ≡ None → list_any test xs ≡ false
+pub none_from : (test : List ℕ → Bool) (i : ℕ) (xs : List (List ℕ)) → position_from test i xs ≡ None → list_any test xs ≡ false
 none_from test i [] e = refl
 none_from test i (x ∷ xs) e =
     elim (test x) as (λ b. cond b (Some i) (position_from test (i + 1) xs) ≡ None → (b || list_any test xs) ≡ false) [
@@ -51,6 +52,10 @@ any_at : (names : List (List ℕ)) (k : List ℕ) (i : ℕ) → slice_get names 
 any_at [] k i e = absurd cc
 any_at (x ∷ xs) k zero e = rw (same_Some x k e) (rw ((bytes_eq-Decides k k).1 refl) refl)
 any_at (x ∷ xs) k (suc i) e = or_right (bytes_eq k x) (list_any (bytes_eq k) xs) (any_at xs k i e)
+
+-- a name that was found is the one that is read there
+pub is_read : (names : List (List ℕ)) (i : ℕ) (k : List ℕ) → slice_get names i ≡ Some k → k ≡ get_or names i k
+is_read names i k e = ap (λ o. unwrap_or o k) (sym e) ∙ unwrap_or-slice_get names i k
 
 -- a name that stands among names has its number, and none comes
 pub named_already : (names : List (List ℕ)) (k : List ℕ) (i : ℕ) → slice_get names i ≡ Some k → names ≡ with_name names k

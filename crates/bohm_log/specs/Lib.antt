@@ -1,4 +1,5 @@
 pub mod Interning
+pub mod Layers
 pub mod Parts
 pub mod Drafting
 pub mod Columns

@@ -17,12 +17,13 @@ use Rattle.bohm_log.specs.declared.stmt.StmtParts.TheVariants.{Bind, Need, Has, 
 use Rattle.bohm_log.specs.Parts.{Parts, IsWithin, RowIn, names_at, txn_of}
 use Rattle.bohm_log.specs.declared.row.StmtRow.{StmtRow}
 use Rattle.bohm_log.specs.Columns.{AllNamed}
+use Rattle.bohm_log.specs.Layers.{all_names}
 
 -- the slices as lists
 abbrev pub parts_seen : TxnSlices → Parts
 parts_seen s = record {
-  reads = names_at s.names.now s.reads.now;
-  writes = names_at s.names.now s.writes.now;
+  reads = names_at (all_names s.names) s.reads.now;
+  writes = names_at (all_names s.names) s.writes.now;
   others = s.others.now;
   large = s.large.now;
   terms = s.terms.now;
@@ -33,8 +34,8 @@ abbrev pub txn_seen : TxnSlices → Txn
 txn_seen s = txn_of s.edition (parts_seen s)
 
 pub record IsSeen (s : TxnSlices) : Type 0 where
-  pub reads : AllNamed s.names.now s.reads.now
-  pub writes : AllNamed s.names.now s.writes.now
+  pub reads : AllNamed (all_names s.names) s.reads.now
+  pub writes : AllNamed (all_names s.names) s.writes.now
   pub within : IsWithin (parts_seen s)
   -- names are distinct
   pub apart : IsDistinct bytes_eq s.others.now

@@ -18,6 +18,7 @@ use crate::calling::{add_large, add_rows, add_terms, handle_of};
 use crate::columns::{Columns, MOST_NAMED, add_all, number_of, offset, repeat_end};
 use crate::fault::LogFault;
 use crate::key_handle::KeyHandle;
+use crate::name_hints::NO_NUMBER;
 use crate::table::Head;
 use crate::template::{BodyColumns, DeclaredName};
 use bohm_types::{Edition, Key, Value};
@@ -57,7 +58,7 @@ impl<S: BuildHasher> Columns<S> {
     {
         KeyHandle {
             key: *key,
-            number: self.hints.noted(key),
+            number: self.noted_number(key),
         }
     }
 }
@@ -75,7 +76,7 @@ impl<S: BuildHasher + Drop> Columns<S> {
         if self.names.len() >= MOST_NAMED {
             return Ok(self.noted_handle(key));
         }
-        let hint = self.hints.noted(key);
+        let hint = self.noted_number(key);
         let number = number_of(&mut self.names, &mut self.hints, key, hint)?;
         self.handles = self.handles.saturating_add(1);
         Ok(KeyHandle { key: *key, number })
@@ -93,10 +94,7 @@ impl<S: BuildHasher + Drop> Columns<S> {
     {
         match handle_of(name, args) {
             Some(handle) => self.add_name(&handle.key, handle.number),
-            None => {
-                let hint = self.hints.noted(&name.name);
-                self.add_name(&name.name, hint)
-            }
+            None => self.add_name(&name.name, NO_NUMBER),
         }
     }
 
@@ -139,7 +137,7 @@ impl<S: BuildHasher + Drop> Columns<S> {
     {
         let start = self.ids.len();
         self.add_arguments(names, args)?;
-        places.settle(self.names.as_slice(), &self.ids.as_slice()[start..])?;
+        places.settle(self.names.table(), &self.ids.as_slice()[start..])?;
         if places.in_order {
             return Ok(());
         }

@@ -7,29 +7,32 @@ ghost use Rattle.std.specs.List.{range_with_len};
 ghost use Rattle.bohm_types.specs.KeySets.{inserted, key_set};
 ghost use Rattle.bohm_log.specs.Parts.{IsApart, name_at, names_at};
 ghost use Rattle.bohm_log.specs.Columns.{AllNamed};
+ghost use Rattle.bohm_log.specs.Layers.{all_names};
 ghost use Rattle.bohm_log.specs.Calling.{ArePlaces};
 ghost use Rattle.bohm_log.specs.CallPlaces.{AreSorted, IsSettled};
 ghost use Rattle.bohm_types.specs.Limits.{most_keys};
 
 use crate::fault::LogFault;
 use crate::keys::Keys;
+use crate::name_table::NameTable;
 use bohm_types::{Key, MOST_KEYS};
 use std::alloc::Global;
 use std::cmp::Ordering;
 
 /// Puts a name's number in its place among those of rising names, if it isn't among them.
-fn insert_number(sorted: &mut Vec<u32>, names: &[Key], id: u32) -> Result<(), LogFault>
-    requires id { id < length names.now }
-    requires named { AllNamed names.now sorted.old.items }
-    ensures named { OnOk result (AllNamed names.now sorted.new.items) }
+fn insert_number(sorted: &mut Vec<u32>, names: NameTable<'_>, id: u32) -> Result<(), LogFault>
+    requires id { id < length (all_names names) }
+    requires named { AllNamed (all_names names) sorted.old.items }
+    ensures named { OnOk result (AllNamed (all_names names.entry) sorted.new.items) }
     ensures inserted { OnOk result
-        (names_at names.now sorted.new.items
-        ≡ inserted (name_at names.now id) (names_at names.now sorted.old.items)) }
+        (names_at (all_names names.entry) sorted.new.items
+        ≡ inserted (name_at (all_names names.entry) id)
+        (names_at (all_names names.entry) sorted.old.items)) }
     ensures never_full { result ≢ Err Full }
 {
-    let name = &names[id as usize];
+    let name = names.name(id as usize);
     for i in 0..sorted.len() {
-        match name.cmp(&names[sorted[i] as usize]) {
+        match name.cmp(names.name(sorted[i] as usize)) {
             Ordering::Less => {
                 sorted.insert(i, id)?;
                 return Ok(());
@@ -43,9 +46,9 @@ fn insert_number(sorted: &mut Vec<u32>, names: &[Key], id: u32) -> Result<(), Lo
 }
 
 /// The numbers of the distinct names among those with these numbers, in ascending order of names.
-fn sort_numbers(sorted: &mut Vec<u32>, names: &[Key], ids: &[u32]) -> Result<(), LogFault>
-    requires { AllNamed names.now ids.now }
-    ensures ok { OnOk result (AreSorted names.now ids.now sorted.new.items) }
+fn sort_numbers(sorted: &mut Vec<u32>, names: NameTable<'_>, ids: &[u32]) -> Result<(), LogFault>
+    requires { AllNamed (all_names names) ids.now }
+    ensures ok { OnOk result (AreSorted (all_names names.entry) ids.now sorted.new.items) }
     ensures never_full { result ≢ Err Full }
 {
     sorted.clear();
@@ -149,10 +152,10 @@ impl SetPlaces {
     }
 
     /// The set of the names with these numbers, and where each of them stands in it.
-    pub fn settle(&mut self, names: &[Key], ids: &[u32]) -> Result<(), LogFault>
+    pub fn settle(&mut self, names: NameTable<'_>, ids: &[u32]) -> Result<(), LogFault>
         requires few { length ids.now ≤ most_keys }
-        requires named { AllNamed names.now ids.now }
-        ensures ok { OnOk result (IsSettled names.now ids.now self.new) }
+        requires named { AllNamed (all_names names) ids.now }
+        ensures ok { OnOk result (IsSettled (all_names names.entry) ids.now self.new) }
         ensures never_full { result ≢ Err Full }
     {
         let keys = Keys { names, ids };

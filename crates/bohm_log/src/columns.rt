@@ -19,9 +19,10 @@ ghost use Rattle.bohm_log.specs.Slices.{parts_by};
 use crate::draft_columns::DraftColumns;
 use crate::draft_columns::places::place_in;
 use crate::fault::LogFault;
-use crate::name_hints::{NameHints, at_number};
-use crate::names::Names;
+use crate::layered_names::LayeredNames;
+use crate::name_hints::{NO_NUMBER, NameHints};
 use crate::row::{StmtRow, TermRow};
+use crate::shared_names::SharedNames;
 use crate::table::{Head, Table};
 use bohm_types::{Edition, Key};
 use std::alloc::Global;
@@ -44,8 +45,8 @@ pub(crate) const MOST_NAMED: usize = 1 << 30;
 
 #[derive(Drop)]
 pub struct Columns<S: BuildHasher> {
-    pub names: Names<S>,
-    /// Where names were found last.
+    pub names: LayeredNames<S>,
+    /// Where names were found last, of those that aren't noted among the shared ones.
     pub hints: NameHints,
     /// How many handles of keys were made, before the last clearing too.
     pub handles: usize,
@@ -103,7 +104,7 @@ impl<S: BuildHasher> Columns<S> {
         ensures { shared_of result ≡ nothing_shared }
     {
         Columns {
-            names: Names::new(alloc, hasher),
+            names: LayeredNames::new(alloc, hasher),
             hints: NameHints::new(alloc),
             handles: 0,
             ids: Vec::new(alloc),
@@ -124,6 +125,25 @@ pub(crate) fn make_room<T>(column: &mut Vec<T>, more: usize)
 }
 
 impl<S: BuildHasher> Columns<S> {
+    /// Columns of no transactions, which share these names.
+    pub fn sharing(alloc: Global, hasher: S, shared: SharedNames<S>) -> Columns<S>
+        ensures ids { (shared_of result).ids ≡ [] }
+        ensures empty { entries_in (shared_of result) ≡ 0 }
+        ensures names { length result.names ≤ 2 ^ 30 }
+    {
+        let _ = shared.as_slice();
+        Columns {
+            names: LayeredNames::sharing(alloc, hasher, shared),
+            hints: NameHints::new(alloc),
+            handles: 0,
+            ids: Vec::new(alloc),
+            others: Vec::new(alloc),
+            large: Vec::new(alloc),
+            terms: Vec::new(alloc),
+            rows: Vec::new(alloc),
+        }
+    }
+
     /// Makes room for what a text of this many bytes usually holds.
     pub fn make_room(&mut self, bytes: usize)
         ensures { shared_of self.new ≡ shared_of self.old }
@@ -138,7 +158,7 @@ impl<S: BuildHasher> Columns<S> {
         ensures apart { IsDistinct bytes_eq self.now.names }
     {
         Table {
-            names: self.names.as_slice(),
+            names: self.names.table(),
             ids: self.ids.as_slice(),
             others: self.others.as_slice(),
             large: self.large.as_slice(),
@@ -179,12 +199,10 @@ pub(crate) fn repeat_end(column: &mut Vec<u32>, from: usize) -> Result<(), LogFa
     Ok(())
 }
 
-/// The number of a name, which is added if it is new. It is hashed only if it isn't the one that
-/// was noted last.
+/// The number of a name, which is added if it is new, and noted for the name's hash.
 #[inline(never)]
-#[tactic(auto, using(crate::proofs::Seeking::named_already))]
 fn number_anew<S: BuildHasher + Drop>(
-    names: &mut Names<S>,
+    names: &mut LayeredNames<S>,
     hints: &mut NameHints,
     name: &Key,
 ) -> Result<u32, LogFault>
@@ -193,19 +211,17 @@ fn number_anew<S: BuildHasher + Drop>(
     ensures err { OnErr result (names.new ≡ names.old) }
     ensures full { result ≡ Err Full → length names.old ≡ 2 ^ 32 }
 {
-    if let Some(number) = at_number(names.as_slice(), hints.noted(name), name) {
-        return Ok(number);
-    }
     let number = names.id(*name)?;
     hints.note(name, number);
     Ok(number)
 }
 
-/// The number of a name, which is added if it is new. It is searched for only if it isn't this one.
+/// The number of a name, which is added if it is new. It is searched for only if it isn't this one, if
+/// any, nor one that is noted for the name's hash.
 #[inline(always)]
 #[tactic(auto, using(crate::proofs::Seeking::named_already))]
 pub(crate) fn number_of<S: BuildHasher + Drop>(
-    names: &mut Names<S>,
+    names: &mut LayeredNames<S>,
     hints: &mut NameHints,
     name: &Key,
     hint: u32,
@@ -215,13 +231,30 @@ pub(crate) fn number_of<S: BuildHasher + Drop>(
     ensures err { OnErr result (names.new ≡ names.old) }
     ensures full { result ≡ Err Full → length names.old ≡ 2 ^ 32 }
 {
-    if let Some(number) = at_number(names.as_slice(), hint, name) {
+    if hint != NO_NUMBER
+        && let Some(number) = names.table().at_number(hint, name)
+    {
+        return Ok(number);
+    }
+    if let Some(number) = names.noted(name) {
+        return Ok(number);
+    }
+    if let Some(number) = names.table().at_number(hints.noted(name), name) {
         return Ok(number);
     }
     number_anew(names, hints, name)
 }
 
 impl<S: BuildHasher> Columns<S> {
+    /// The number that is noted for a name's hash. It may be another name's.
+    #[inline(always)]
+    pub(crate) fn noted_number(&self, name: &Key) -> u32 {
+        match self.names.noted(name) {
+            Some(number) => number,
+            None => self.hints.noted(name),
+        }
+    }
+
     /// How long they are.
     #[inline(always)]
     pub fn ends(&self) -> Ends
@@ -252,10 +285,10 @@ impl<S: BuildHasher + Drop> Columns<S> {
         self.rows.truncate(ends.rows);
     }
 
-    /// Removes what the transactions had. Names stay with their numbers, for transactions that
-    /// declare them again, where there are at most 16,384, or at most four for each declared key and
-    /// each handle, and in any case at most 2^30. Else all names are removed. A key counts each time
-    /// that it was declared, and of all handles that were ever made 65,536 count.
+    /// Removes what the transactions had. Shared names stay. The others stay with their numbers, for
+    /// transactions that declare them again, where there are at most 16,384, or at most four for each
+    /// declared key and each handle, and with the shared ones at most 2^30. Else they are removed. A
+    /// key counts each time that it was declared, and of all handles that were ever made 65,536 count.
     pub fn clear(&mut self)
         ensures ids { (shared_of self.new).ids ≡ [] }
         ensures empty { entries_in (shared_of self.new) ≡ 0 }
@@ -266,7 +299,7 @@ impl<S: BuildHasher + Drop> Columns<S> {
             .len()
             .saturating_add(self.handles.min(KEPT_HANDLES));
         let most = FEWEST_KEPT.max(used.saturating_mul(KEPT_NAMES));
-        if self.names.len() > most.min(MOST_NAMED) {
+        if self.names.own_len() > most || self.names.len() > MOST_NAMED {
             self.names.clear();
         }
         empty(&mut self.ids);
@@ -299,8 +332,7 @@ impl<S: BuildHasher + Drop> Columns<S> {
         ensures full { result ≡ Err Full → 2 ^ 32 ≤ length self.old.names + length names.now }
     {
         for name in names {
-            let hint = self.hints.noted(name);
-            self.add_name(name, hint)?;
+            self.add_name(name, NO_NUMBER)?;
         }
         Ok(())
     }
@@ -321,10 +353,7 @@ impl<S: BuildHasher + Drop> Columns<S> {
                 self.ids.push(id)?;
                 Ok(())
             }
-            None => {
-                let hint = self.hints.noted(&name);
-                self.add_name(&name, hint)
-            }
+            None => self.add_name(&name, NO_NUMBER),
         }
     }
 

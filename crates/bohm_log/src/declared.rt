@@ -5,16 +5,17 @@ ghost use Rattle.std.specs.List.{IsDistinct};
 ghost use Rattle.std.specs.Str.{bytes_eq};
 ghost use Rattle.bohm_log.specs.Columns.{AllNamed};
 ghost use Rattle.bohm_log.specs.Numbering.{sets_at, IsNumbered};
+ghost use Rattle.bohm_log.specs.Layers.{all_names};
 
+use crate::name_table::NameTable;
 use crate::table::Head;
-use bohm_types::Key;
 use std::marker::Model;
 
 /// The names of a log's keys and, for each transaction of a part of it, the numbers of the keys
 /// that it declares. It has nothing of what the transactions do.
 #[derive(Drop)]
 pub struct DeclaredKeys<'a> {
-    pub(crate) names: &'a [Key],
+    pub(crate) names: NameTable<'a>,
     pub(crate) ids: &'a [u32],
     pub(crate) heads: &'a [Head],
 }
@@ -22,29 +23,30 @@ pub struct DeclaredKeys<'a> {
 impl<'a> Model for DeclaredKeys<'a> {
     ghost use Rattle.std.specs.Prelude.{map};
     ghost use Rattle.bohm_log.specs.Numbering.{Numbered, sets_at, IsNumbered};
+    ghost use Rattle.bohm_log.specs.Layers.{all_names};
 
     ghost Value = { Numbered };
 
     ghost view = { λ k.
-        record { names = k.names.now; sets = map (sets_at k.ids.now) k.heads.now } };
+        record { names = all_names k.names; sets = map (sets_at k.ids.now) k.heads.now } };
 
-    ghost invariant = { λ k. IsNumbered k.names.now k.ids.now k.heads.now };
+    ghost invariant = { λ k. IsNumbered (all_names k.names) k.ids.now k.heads.now };
 }
 
 /// The numbers of the keys that the transaction at a head reads, and of those that it writes.
 #[tactic(auto, using(crate::proofs::Dividing::named_between))]
 fn sets_by<'a>(
-    names: &[Key],
+    names: NameTable<'_>,
     ids: &'a [u32],
     heads: &[Head],
     index: usize,
 ) -> (&'a [u32], &'a [u32])
     requires index { index < length heads.now }
-    requires numbered { IsNumbered names.now ids.now heads.now }
+    requires numbered { IsNumbered (all_names names) ids.now heads.now }
     ensures sets { IsSomeAnd (slice_get heads.now index)
         (λ h. sets_at ids.now h ≡ (result.0.now, result.1.now)) }
-    ensures reads { AllNamed names.now result.0.now }
-    ensures writes { AllNamed names.now result.1.now }
+    ensures reads { AllNamed (all_names names.entry) result.0.now }
+    ensures writes { AllNamed (all_names names.entry) result.1.now }
 {
     let head = &heads[index];
     let reads = &ids[head.ids as usize..head.reads as usize];
@@ -61,8 +63,8 @@ impl<'a> DeclaredKeys<'a> {
     }
 
     /// All names of the log's keys, each at its number.
-    pub fn names(&self) -> &'a [Key]
-        ensures names { result.now ≡ self.now.names }
+    pub fn names(&self) -> NameTable<'a>
+        ensures names { all_names result ≡ self.now.names }
         ensures apart { IsDistinct bytes_eq self.now.names }
     {
         self.names

@@ -32,22 +32,6 @@ impl<'a> Model for IndexedTxn<'a> {
 }
 
 impl<'a> IndexedTxn<'a> {
-    /// The number of keys that it declares to read.
-    #[tactic(auto, using(crate::proofs::Viewing::mapped_length))]
-    pub fn reads_len(&self) -> usize
-        ensures { result ≡ length self.now.reads }
-    {
-        self.seen.reads.len()
-    }
-
-    /// The number of keys that it declares to write.
-    #[tactic(auto, using(crate::proofs::Viewing::mapped_length))]
-    pub fn writes_len(&self) -> usize
-        ensures { result ≡ length self.now.writes }
-    {
-        self.seen.writes.len()
-    }
-
     /// The index among the declared reads of the declared write at an index.
     pub fn read_of_write(&self, write: u32) -> Option<usize>
         requires { write < length self.now.writes }

@@ -4,14 +4,16 @@ ghost use Rattle.std.specs.Prelude.{◌≡◌, ◌<◌, length, IfSome, Some, sl
 ghost use Rattle.bohm_types.specs.Keys.{place};
 ghost use Rattle.bohm_log.specs.Parts.{names_at};
 ghost use Rattle.bohm_log.specs.Columns.{AllNamed};
+ghost use Rattle.bohm_log.specs.Layers.{all_names};
 
+use crate::name_table::NameTable;
 use bohm_types::Key;
 use std::marker::Model;
 
 /// Keys that a transaction declares to read, or to write, which contracts see as a list of them.
 #[derive(Drop)]
 pub struct Keys<'a> {
-    pub(crate) names: &'a [Key],
+    pub(crate) names: NameTable<'a>,
     pub(crate) ids: &'a [u32],
 }
 
@@ -19,23 +21,23 @@ impl<'a> Model for Keys<'a> {
     ghost use Rattle.std.specs.Prelude.{ℕ, List};
     ghost use Rattle.bohm_log.specs.Parts.{names_at};
     ghost use Rattle.bohm_log.specs.Columns.{AllNamed};
+    ghost use Rattle.bohm_log.specs.Layers.{all_names};
 
     ghost Value = { List (List ℕ) };
 
-    ghost view = { λ k. names_at k.names.now k.ids.now };
+    ghost view = { λ k. names_at (all_names k.names) k.ids.now };
 
-    ghost invariant = { λ k. AllNamed k.names.now k.ids.now };
+    ghost invariant = { λ k. AllNamed (all_names k.names) k.ids.now };
 }
 
 /// The name whose number stands at a place.
 #[tactic(auto, using(crate::proofs::Viewing::read_at))]
-pub(crate) fn name_by<'a>(names: &'a [Key], ids: &'a [u32], place: usize) -> &'a Key
+pub(crate) fn name_by<'a>(names: NameTable<'a>, ids: &'a [u32], place: usize) -> &'a Key
     requires place { place < length ids.now }
-    requires named { AllNamed names.now ids.now }
-    ensures { slice_get (names_at names.now ids.now) place ≡ Some result.now }
+    requires named { AllNamed (all_names names) ids.now }
+    ensures { slice_get (names_at (all_names names.entry) ids.now) place ≡ Some result.now }
 {
-    let id = ids[place];
-    &names[id as usize]
+    names.name(ids[place] as usize)
 }
 
 fn number_at(ids: &[u32], place: usize) -> u32

@@ -15,6 +15,7 @@ use crate::draft::Draft;
 use crate::fault::{CloseFault, LogFault};
 use crate::key_handle::KeyHandle;
 use crate::part::LogPart;
+use crate::shared_names::SharedNames;
 use crate::soundness::{are_named, are_values};
 use crate::table::Head;
 use crate::template::Template;
@@ -73,16 +74,33 @@ impl<S: BuildHasher> Log<S> {
         }
     }
 
-    /// No transactions, and room for those that a text of this many bytes usually has, so that
-    /// columns needn't be moved as they grow. Where there is no memory for it, they grow.
+    /// No transactions, in a log that shares these names. It allocates nothing.
+    pub fn sharing(alloc: Global, hasher: S, shared: SharedNames<S>) -> Log<S>
+        ensures { result ≡ [] }
+    {
+        Log {
+            heads: Vec::new(alloc),
+            columns: Columns::sharing(alloc, hasher, shared),
+        }
+    }
+
+    /// No transactions, and room for those that a text of this many bytes usually has.
     pub fn with_room(alloc: Global, hasher: S, bytes: usize) -> Log<S>
         ensures { result ≡ [] }
     {
         let mut log = Log::new(alloc, hasher);
-        let bytes = bytes.min(MOST_ROOM);
-        make_room(&mut log.heads, bytes / 96);
-        log.columns.make_room(bytes);
+        log.make_room(bytes);
         log
+    }
+
+    /// Makes room for the transactions that a text of this many bytes usually has, so that columns
+    /// needn't be moved as they grow. Where there is no memory for it, they grow.
+    pub fn make_room(&mut self, bytes: usize)
+        ensures { self.new ≡ self.old }
+    {
+        let bytes = bytes.min(MOST_ROOM);
+        make_room(&mut self.heads, bytes / 96);
+        self.columns.make_room(bytes);
     }
 
     /// Adds the transaction that was read. `Open` comes exactly where sums of a statement were read
@@ -179,9 +197,9 @@ impl<S: BuildHasher> Log<S> {
     }
 
     /// Removes all transactions. Their room is kept where it is for at most four times as many, or for
-    /// some thousand. Keys keep their numbers where there are at most 16,384, or at most four for each
-    /// key that a transaction declared and each handle that was made, of which 65,536 count. Else no
-    /// key has a number.
+    /// some thousand. Shared names keep their numbers. Other keys keep theirs where these are at most
+    /// 16,384, or at most four for each key that a transaction declared and each handle that was made,
+    /// of which 65,536 count. Else they have none.
     pub fn clear(&mut self)
     where
         S: Drop,

@@ -5,7 +5,7 @@ ghost use Rattle.std.specs.Prelude.{◌≡◌, IfSome, Some, slice_get};
 use bohm_types::Key;
 use std::alloc::Global;
 
-/// How many numbers there are at first, and at most. Both are powers of 2.
+/// How many numbers there are at first, and at most.
 const FEWEST: usize = 256;
 
 const MOST: usize = 65536;
@@ -19,14 +19,18 @@ const FOR_A_NAME: usize = 4;
 #[derive(Drop)]
 pub struct NameHints {
     numbers: Vec<u32>,
+    /// How often a number was noted.
+    notes: usize,
 }
 
-/// The place of a name's number among so many.
-fn slot_of(name: &Key, count: usize) -> usize {
-    if count == 0 {
-        return 0;
-    }
-    (name.mixed() >> 48) as usize & (count - 1)
+/// No name's number.
+pub(crate) const NO_NUMBER: u32 = u32::MAX;
+
+/// The place of a name's number among so many, fewer than 2^32: it goes by the upper bits of the hash,
+/// which differ most.
+#[inline(always)]
+pub(crate) fn slot_of(name: &Key, count: usize) -> usize {
+    ((name.mixed() >> 32).wrapping_mul(count as u64) >> 32) as usize
 }
 
 /// The number, if it is this name's among these.
@@ -43,6 +47,7 @@ impl NameHints {
     pub fn new(alloc: Global) -> NameHints {
         NameHints {
             numbers: Vec::new(alloc),
+            notes: 0,
         }
     }
 
@@ -59,7 +64,8 @@ impl NameHints {
     /// there is no memory for them, there stay as many as there are.
     pub fn note(&mut self, name: &Key, number: u32) {
         let count = self.numbers.len();
-        if number as usize >= count / FOR_A_NAME && count < MOST {
+        self.notes = self.notes.saturating_add(1);
+        if self.notes > count / FOR_A_NAME && count < MOST {
             let _ = self
                 .numbers
                 .resize(if count == 0 { FEWEST } else { 4 * count }, 0);

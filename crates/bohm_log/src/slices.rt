@@ -1,5 +1,6 @@
 //! The slices of a transaction.
 
+use crate::name_table::NameTable;
 use crate::row::{StmtRow, TermRow};
 use bohm_types::{Edition, Key};
 
@@ -7,7 +8,7 @@ use bohm_types::{Edition, Key};
 #[derive(Clone, Copy)]
 pub struct TxnSlices<'a> {
     pub edition: Edition,
-    pub names: &'a [Key],
+    pub names: NameTable<'a>,
     pub reads: &'a [u32],
     pub writes: &'a [u32],
     pub others: &'a [Key],

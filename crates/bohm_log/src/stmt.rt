@@ -4,6 +4,7 @@ ghost use Rattle.std.specs.Prelude.{◌≡◌, ◌<◌, length, map, Some, slice
 ghost use Rattle.bohm_types.specs.Parts.{tested, target, bound, is_show};
 ghost use Rattle.bohm_log.specs.Parts.{KeyIn, RowIn, key_at, names_at, stmt_of};
 ghost use Rattle.bohm_log.specs.Columns.{AllNamed};
+ghost use Rattle.bohm_log.specs.Layers.{all_names};
 ghost use Rattle.bohm_log.specs.Seeing.{parts_seen, stmt_shown, IsSeen};
 
 use crate::row::{Action, StmtRow};
@@ -70,14 +71,14 @@ impl<'a> Model for StmtView<'a> {
 
 /// The key at an index among the declared keys, or else among the other names.
 fn key_by(seen: &TxnSlices, keys: &[u32], declared: bool, place: u32) -> Key
-    requires named { AllNamed seen.now.names.now keys.now }
+    requires named { AllNamed (all_names seen.now.names) keys.now }
     requires within { KeyIn
-        (names_at seen.now.names.now keys.now) seen.now.others.now declared place }
+        (names_at (all_names seen.now.names) keys.now) seen.now.others.now declared place }
     ensures { result
-        ≡ key_at (names_at seen.now.names.now keys.now) seen.now.others.now declared place }
+        ≡ key_at (names_at (all_names seen.now.names) keys.now) seen.now.others.now declared place }
 {
     if declared {
-        seen.names[keys[place as usize] as usize]
+        *seen.names.name(keys[place as usize] as usize)
     } else {
         seen.others[place as usize]
     }

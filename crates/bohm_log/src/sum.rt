@@ -70,7 +70,7 @@ fn term_parts(seen: &TxnSlices, term: TermRow) -> TermParts
         atom: match term.kind {
             AtomKind::Small => AtomParts::Lit(u64::from(term.place)),
             AtomKind::Large => AtomParts::Lit(seen.large[place]),
-            AtomKind::Read => AtomParts::Read(seen.names[seen.reads[place] as usize]),
+            AtomKind::Read => AtomParts::Read(*seen.names.name(seen.reads[place] as usize)),
             AtomKind::Unread => AtomParts::Read(seen.others[place]),
             AtomKind::Local => AtomParts::Local(seen.others[place]),
         },

@@ -2,8 +2,10 @@
 
 ghost use Rattle.std.specs.Prelude.{◌≡◌};
 ghost use Rattle.bohm_log.specs.Columns.{txn_at, HeadIn, AllNamed};
+ghost use Rattle.bohm_log.specs.Layers.{all_names};
 ghost use Rattle.bohm_log.specs.Partial.{shared_seen};
 
+use crate::name_table::NameTable;
 use crate::row::{StmtRow, TermRow};
 use crate::slices::TxnSlices;
 use crate::view::TxnView;
@@ -12,7 +14,7 @@ use bohm_types::{Edition, Key};
 /// The columns that all transactions of a log share.
 #[derive(Clone, Copy)]
 pub struct Table<'a> {
-    pub names: &'a [Key],
+    pub names: NameTable<'a>,
     pub ids: &'a [u32],
     pub others: &'a [Key],
     pub large: &'a [u64],
@@ -40,7 +42,7 @@ pub struct Head {
 /// The transaction at a head.
 pub fn txn_by<'a>(table: Table<'a>, head: &Head) -> TxnView<'a>
     requires within { HeadIn (shared_seen table) head.now }
-    requires named { AllNamed table.names.now table.ids.now }
+    requires named { AllNamed (all_names table.names) table.ids.now }
     ensures { result ≡ txn_at (shared_seen table.entry) head.now }
 {
     TxnView {

@@ -53,7 +53,7 @@ impl<'a, P: Partition> NumberPlanner<'a, P> {
         if self.keys.worker.count == 1 {
             return true;
         }
-        let key = &self.declared.names()[number as usize];
+        let key = self.declared.names().name(number as usize);
         self.keys.worker.has(self.keys.partition.part(key))
     }
 

@@ -3,6 +3,7 @@
 ghost use Rattle.std.specs.Prelude.{◌≡◌, ◌+◌, ◌-◌, ◌≤◌, ◌^◌, All, Contains, IfOk, length, map};
 ghost use Rattle.bohm_txn.specs.Faulty.{IsWellFormedTxn};
 ghost use Rattle.bohm_log.specs.Columns.{AllNamed};
+ghost use Rattle.bohm_log.specs.Layers.{all_names};
 ghost use Rattle.bohm_log.specs.Numbering.{Numbers};
 ghost use Rattle.bohm_log.specs.Parts.{names_at};
 ghost use Rattle.bohm_place.specs.Gathering.{AreGathered, ArePlaced};
@@ -14,8 +15,8 @@ use crate::access::Source;
 use crate::batch_keys::BatchKeys;
 use crate::declared_set::DeclaredSet;
 use crate::planned::{NumberedKey, Plan};
-use bohm_log::{DeclaredKeys, LogPart};
-use bohm_types::{Key, NoMemory};
+use bohm_log::{DeclaredKeys, LogPart, NameTable};
+use bohm_types::NoMemory;
 use std::alloc::Global;
 
 /// Notes the indices of the keys with these numbers, of one declared set of the transaction with
@@ -70,16 +71,17 @@ fn note_gathered(
 /// The keys with these numbers.
 fn numbered_keys(
     alloc: Global,
-    names: &[Key],
+    names: NameTable<'_>,
     numbers: &[u32],
 ) -> Result<Vec<NumberedKey>, NoMemory>
-    requires { AllNamed names.now numbers.now }
-    ensures { IfOk result (λ v. map (λ k. k.key) v.items ≡ names_at names.now numbers.now) }
+    requires { AllNamed (all_names names) numbers.now }
+    ensures { IfOk result
+        (λ v. map (λ k. k.key) v.items ≡ names_at (all_names names.entry) numbers.now) }
 {
     let mut keys = Vec::with_capacity(alloc, numbers.len())?;
     for number in numbers {
         keys.push(NumberedKey {
-            key: names[*number as usize],
+            key: *names.name(*number as usize),
             number: *number,
         })?;
     }

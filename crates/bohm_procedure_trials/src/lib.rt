@@ -1,14 +1,9 @@
-//! Tests of procedures and calls: drawn ones against the text of their instances and the plain
-//! program, faults of texts, digests, and failing allocations.
+//! Tests of procedures and calls: faults of texts, and the text of calls, drawn ones too.
 #![tactic(auto)]
 
 #[cfg(test)]
-mod digests;
+mod calls;
 #[cfg(test)]
 mod draws;
 #[cfg(test)]
 mod faults;
-#[cfg(test)]
-mod making;
-#[cfg(test)]
-mod runs;

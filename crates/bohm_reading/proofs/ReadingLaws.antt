@@ -229,7 +229,8 @@ module _ (u v : Option (List ℕ)) (d : Document) (first : List ℕ) (chunks : L
       }
 
   -- the text so far, the window, and what was read behind it
-  all_same : (more : List ℕ) → print_doc before ++ (w.text.items ++ (bytes_of ahead ++ (was.rest.items ++ more))) ≡ print_doc d ++ (first ++ (so_far.more ++ more))
+  all_same : (more : List ℕ) → print_doc before ++ (w.text.items ++ (bytes_of ahead ++ (was.rest.items ++ more)))
+      ≡ print_doc d ++ (first ++ (so_far.more ++ more))
   all_same more =
       let one : w.text.items ++ (bytes_of ahead ++ (was.rest.items ++ more)) ≡ ((w.text.items ++ bytes_of ahead) ++ was.rest.items) ++ more =
       simp append_assoc in

@@ -31,7 +31,8 @@ pub record StreamsOn (unread unread' : Option (List ℕ)) (d : Document) (rest :
   pub runs : RunsChunk (d.log ++ log) was now
 
 -- chunks after a document were taken, and all transactions but the last ones were run
-pub record StreamsTo (unread unread' : Option (List ℕ)) (d : Document) (first : List ℕ) (r : ReadingState) (pending : List Txn) (was now : RunState) : Type 0 where
+pub record StreamsTo (unread unread' : Option (List ℕ)) (d : Document) (first : List ℕ) (r : ReadingState) (pending : List Txn) (was now : RunState)
+    : Type 0 where
   pub behind : List Chunk
   pub ran : List Txn
   pub read : IsTaken unread unread' d first behind r
@@ -43,7 +44,8 @@ abbrev pub RunsBehind : Edition → List Txn → Option (List ℕ) → Option (L
 RunsBehind e log unread unread' s was now = (d : Document) → IsBegun e log unread s d → StreamsOn unread unread' d s.rest.items was now
 
 -- the history of a store was opened, and the log was run from it
-pub record RunsFrom (keep : ℕ) (store : List (List ℕ × ℤ)) (e : Edition) (log : List Txn) (unread unread' : Option (List ℕ)) (s : Source) (now : RunState) : Type 0 where
+pub record RunsFrom (keep : ℕ) (store : List (List ℕ × ℤ)) (e : Edition) (log : List Txn) (unread unread' : Option (List ℕ)) (s : Source) (now : RunState)
+    : Type 0 where
   pub start : RunState
   pub started : IsStarted keep store start
   pub runs : RunsBehind e log unread unread' s start now

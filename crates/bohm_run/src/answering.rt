@@ -147,8 +147,8 @@ pub fn run_text<T: Threads + Wait + Sync + RandomSource + Copy + Send + 'static,
     run_text_in_windows(rt, alloc, reader, writer, settings, window_size(settings))
 }
 
-/// Runs a text as `run_text` does, in windows of so many bytes at least but for the last one. The
-/// answer and the refusals are the same for every size.
+/// Runs a text as `run_text` does, in windows of so many bytes at least, but for the first and the last
+/// one. The answer and the refusals are the same for every size.
 pub fn run_text_in_windows<
     T: Threads + Wait + Sync + RandomSource + Copy + Send + 'static,
     R: Read,

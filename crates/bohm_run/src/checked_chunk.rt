@@ -63,7 +63,7 @@ fn prepare(
     if counted(count, part.len()) > MOST_TXNS {
         return Ok(Prepared::TooMany);
     }
-    if settings.exec().count() == 1 {
+    if settings.exec().count() == 1 || part.len() == 0 {
         return Ok(Prepared::Ready);
     }
     let cuts = Cuts::even(alloc, part.len() as u32, settings.batch())?;
@@ -96,5 +96,10 @@ impl CheckedChunk {
             prepared,
             seats,
         })
+    }
+
+    /// Whether several workers are to execute it by its plans.
+    pub(crate) fn is_planned(&self) -> bool {
+        matches!(self.prepared, Prepared::Planned { .. })
     }
 }

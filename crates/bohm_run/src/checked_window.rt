@@ -3,7 +3,6 @@
 use bohm_reading::Parsed;
 use bohm_store::Seats;
 use bohm_txn::CheckFault;
-use bohm_types::NoMemory;
 
 /// What was parsed of a window, and what was found out about its transactions.
 #[derive(Drop)]
@@ -12,5 +11,5 @@ pub(crate) struct CheckedWindow {
     /// Their first fault, counted from the window's first transaction, where they were checked.
     pub(crate) fault: Option<Option<CheckFault>>,
     /// The numbers that the keys are expected to have in the history.
-    pub(crate) seats: Result<Seats, NoMemory>,
+    pub(crate) seats: Seats,
 }

@@ -43,38 +43,42 @@ pub(crate) struct RunState {
     pub(crate) fault: Option<CheckFault>,
 }
 
-/// The history of a store, or of the empty one where the store has a fault.
+/// The history of a store, or of the empty one where the store has a fault. It may share the names of
+/// the store's keys with logs.
 fn open_history(
     alloc: Global,
     seed: DrawnSeed,
     store: &[(Key, Value)],
     in_store: Option<CheckFault>,
+    shares: bool,
 ) -> Result<History, NoMemory>
     requires { in_store ≡ store_fault store.now }
     ensures top { IfOk result (λ h. h.top ≡ 0) }
     ensures floor { IfOk result (λ h. h.floor ≡ 0) }
     ensures past { in_store ≡ None → IfOk result (λ h. past h 0 ≡ cell_in (store_of store.now)) }
 {
-    if in_store.is_some() {
-        return Ok(History::empty(alloc));
+    match in_store {
+        Some(_) => Ok(History::empty(alloc)),
+        None if shares => History::open_sharing(alloc, store, seed),
+        None => History::open_with_seed(alloc, store, seed),
     }
-    History::open_with_seed(alloc, store, seed)
 }
 
 impl RunState {
-    /// Before the first transaction, over this starting store.
+    /// Before the first transaction, over this starting store, the names of whose keys logs may share.
     pub(crate) fn start(
         alloc: Global,
         seed: DrawnSeed,
         store: Vec<(Key, Value)>,
         settings: Settings,
+        shares: bool,
     ) -> Result<RunState, NoMemory>
         ensures { IfOk result (IsStarted settings.keep store.items) }
     {
         let in_store = check_store(store.as_slice());
         Ok(RunState {
             progress: Progress {
-                history: open_history(alloc, seed, store.as_slice(), in_store)?,
+                history: open_history(alloc, seed, store.as_slice(), in_store, shares)?,
                 replies: Replies::new(alloc),
             },
             text: Vec::new(alloc),

@@ -13,15 +13,15 @@ use crate::parsers::{Parsers, most_ahead};
 use crate::parsing::Parsing;
 use crate::reading_state::ReadingState;
 use crate::settings::Settings;
-use bohm_log::{DrawnSeed, HashSeed, Log};
+use bohm_log::{DrawnSeed, HashSeed, Log, SharedNames};
 use bohm_reading::{ReadingFault, next_window, take_parsed};
-use bohm_store::{Seats, StoreNumbers};
+use bohm_store::Seats;
 use bohm_text::Chunk;
 use bohm_txn::{CheckFault, check_chunk};
-use bohm_types::{Key, NoMemory, Value};
+use bohm_types::NoMemory;
 use std::alloc::Global;
 use std::io::Read;
-use std::sync::{Arc, Wait};
+use std::sync::Wait;
 use std::thread::Threads;
 
 /// The log and the seats of a chunk that is done, to be used again for another one.
@@ -37,18 +37,13 @@ pub(crate) struct Spare {
 pub(crate) struct LogReader {
     pub(crate) state: ReadingState,
     pub(crate) seed: DrawnSeed,
-    /// How many bytes a window has at least, but for the last one.
+    /// How many bytes a window has at least, but for the first and the last one.
     pub(crate) size: usize,
     pub(crate) settings: Settings,
-    /// The keys that are looked up by the threads that parse.
-    pub(crate) known: Arc<StoreNumbers>,
+    /// The names of the starting store's keys, which all logs share with the history.
+    pub(crate) names: SharedNames<HashSeed>,
     pub(crate) spare: Vec<Spare>,
     pub(crate) parsers: Parsers,
-}
-
-/// No keys, for threads that look none up.
-pub(crate) fn no_keys(alloc: Global, seed: DrawnSeed) -> Result<Arc<StoreNumbers>, NoMemory> {
-    Ok(Arc::new(alloc, StoreNumbers::none(alloc, seed))?)
 }
 
 /// The first fault of a chunk, which is checked where it wasn't yet.
@@ -62,27 +57,24 @@ fn first_fault(chunk: &Chunk, checked: Option<Option<CheckFault>>) -> Option<Che
     }
 }
 
-/// The log and the seats of a chunk that is done, if there is one.
-fn take_spare(alloc: Global, spare: &mut Vec<Spare>) -> (Option<Log<HashSeed>>, Seats) {
+/// The log and the seats of a chunk that is done, or where there is none new ones, of a log that shares
+/// these names.
+fn take_spare(
+    alloc: Global,
+    spare: &mut Vec<Spare>,
+    seed: DrawnSeed,
+    names: &SharedNames<HashSeed>,
+) -> Result<Spare, NoMemory> {
     match spare.pop() {
-        Some(Spare { log, seats }) => (Some(log), seats),
-        None => (None, Seats::new(alloc)),
+        Some(spare) => Ok(spare),
+        None => Ok(Spare {
+            log: Log::sharing(alloc, HashSeed::from(seed), names.try_clone()?),
+            seats: Seats::new(alloc),
+        }),
     }
 }
 
 impl LogReader {
-    /// Has the keys of a starting store looked up by the threads that parse, where several parse and
-    /// one thread executes, which then looks up fewer. A log of one window has no such threads.
-    pub(crate) fn know(&mut self, alloc: Global, store: &[(Key, Value)]) -> Result<(), NoMemory>
-        ensures { self.new.state ≡ self.old.state }
-    {
-        let is_alone = self.settings.cc().count() == 1 || self.state.source.ended;
-        if !is_alone && self.settings.exec().count() == 1 {
-            self.known = Arc::new(alloc, StoreNumbers::new(alloc, store, self.seed)?)?;
-        }
-        Ok(())
-    }
-
     /// Reads windows until as many are ahead as the threads need, or none is left.
     pub(crate) fn read_ahead<R: Read, T: Wait>(
         &mut self,
@@ -99,19 +91,17 @@ impl LogReader {
             (RefusesChunk (R.remaining reader.old) (R.remaining reader.new) self.old.state) }
     {
         let threads = self.settings.cc().count();
-        let most = most_ahead(threads);
+        let most = most_ahead(self.settings);
         'windows: while !self.state.source.ended && self.state.ahead.len() < most {
             let window = next_window(alloc, reader, &mut self.state.source, self.size)?;
-            let known = Arc::try_clone(&self.known)?;
-            let (spare, seats) = take_spare(alloc, &mut self.spare);
+            let spare = take_spare(alloc, &mut self.spare, self.seed, &self.names)?;
             let task = ParseTask {
                 alloc,
                 seed: self.seed,
                 edition: self.state.edition,
                 window,
-                spare,
-                seats,
-                known,
+                log: spare.log,
+                seats: spare.seats,
                 checks: threads > 1,
             };
             let parsing = Parsing::start(rt, &self.parsers, task);
@@ -166,7 +156,7 @@ impl LogReader {
         let chunk = take_parsed(reader, self.state.edition, &mut self.state.source, parsed)?;
         self.read_ahead(rt, alloc, reader)?;
         let fault = first_fault(&chunk, fault);
-        Ok(self.prepare(alloc, chunk, fault, seats?)?)
+        Ok(self.prepare(alloc, chunk, fault, seats)?)
     }
 
     /// Keeps the log and the seats of a chunk that is done for a later window.

@@ -6,6 +6,7 @@ ghost use Rattle.bohm_handoff.specs.Ends.{promised};
 use crate::checked_window::CheckedWindow;
 use crate::parse_task::ParseTask;
 use crate::promise::ParseOf;
+use crate::settings::Settings;
 use bohm_handoff::Giver;
 use bohm_types::NoMemory;
 use crossbeam_channel::{Receiver, Sender, bounded};
@@ -31,16 +32,17 @@ impl ParseJob {
     }
 }
 
-/// How many windows are ahead of a run that this many threads parse: each parses one, and one more is
-/// ready. Where there are several, each has another one to go on with while the caller's thread
-/// parses one itself.
-pub(crate) fn most_ahead(threads: u32) -> usize
+/// How many windows are ahead of a run: each thread parses one, and one more is ready. Where several
+/// parse and the caller's thread executes, each has another one to go on with while that thread parses
+/// one itself.
+pub(crate) fn most_ahead(settings: Settings) -> usize
     ensures { 0 < result }
 {
-    if threads == 1 {
-        2
+    let threads = settings.cc().count() as usize;
+    if threads > 1 && settings.exec().count() == 1 {
+        2 * threads + 1
     } else {
-        2 * threads as usize + 1
+        threads + 1
     }
 }
 
@@ -63,13 +65,14 @@ fn work<R: Wait>(rt: &R, jobs: &Receiver<ParseJob, Global>) {
 }
 
 impl Parsers {
-    /// Starts this many threads, or as many as can be started.
+    /// Starts this many threads, or as many as can be started, for so many windows ahead.
     pub(crate) fn start<R: Threads + Wait + Copy + Send + 'static>(
         rt: &R,
         alloc: Global,
         count: u32,
+        ahead: usize,
     ) -> Result<Parsers, NoMemory> {
-        let (jobs, queue) = bounded(alloc, most_ahead(count))?;
+        let (jobs, queue) = bounded(alloc, ahead)?;
         let mut threads = Vec::with_capacity(alloc, count as usize)?;
         for _ in 0..count {
             let Ok(own) = queue.clone() else {

@@ -95,7 +95,7 @@ impl SerialExecutor {
         ensures behind { OnErr result
             ((more : List Reply) × (answered.new ≡ answered.old ++ more)) }
     {
-        self.seats.cover(txns.keys().names().len())?;
+        self.seats.cover(txns.keys().names())?;
         answered.reserve(txns.len())?;
         for index in 0..txns.len() {
             self.run_next(history, answered, &txns.txn(index), keep)?;

@@ -12,11 +12,11 @@ ghost use Rattle.bohm_run.specs.Streaming.{IsLogRun, RefusesLog, RunsFrom};
 use crate::checked_chunk::CheckedChunk;
 use crate::chunks::{RunState, run_chunk};
 use crate::fault::RunFault;
-use crate::log_reader::{LogReader, no_keys};
-use crate::parsers::Parsers;
+use crate::log_reader::LogReader;
+use crate::parsers::{Parsers, most_ahead};
 use crate::reading_state::ReadingState;
 use crate::settings::Settings;
-use bohm_log::DrawnSeed;
+use bohm_log::{DrawnSeed, SharedNames};
 use bohm_reading::{ReadingFault, read_first};
 use bohm_store::Seats;
 use bohm_text::{Chunk, FirstWindow};
@@ -67,7 +67,7 @@ fn run_beside_reading<R: Read, T: Threads + Wait + Sync>(
 
 /// Runs the chunk that is next, and reads the one behind it: one after the other where one worker
 /// executes, so that the history stays with one thread, and else side by side, since planning takes
-/// its time.
+/// its time. A chunk without transactions takes none.
 fn run_and_read<R: Read, T: Threads + Wait + Sync>(
     rt: &T,
     alloc: Global,
@@ -87,7 +87,7 @@ fn run_and_read<R: Read, T: Threads + Wait + Sync>(
         (RefusesChunk (R.remaining reader.old) (R.remaining reader.new) log_reader.old.state) }
 {
     let mut chunk = chunk;
-    if log_reader.settings.exec().count() > 1 {
+    if chunk.is_planned() {
         let (ran, read) = run_beside_reading(rt, alloc, log_reader, reader, state, &mut chunk);
         let next = read?;
         ran?;
@@ -100,7 +100,7 @@ fn run_and_read<R: Read, T: Threads + Wait + Sync>(
 }
 
 /// Opens the history of a starting store, runs a log's first chunk, and reads and runs all that stands
-/// behind it, to the reader's end. Windows are parsed while the history is opened.
+/// behind it, to the reader's end.
 fn run_windows<R: Read, T: Threads + Wait + Sync>(
     rt: &T,
     alloc: Global,
@@ -120,11 +120,13 @@ fn run_windows<R: Read, T: Threads + Wait + Sync>(
         (R.remaining reader.new) log_reader.old.state.source) }
 {
     let (seed, settings) = (log_reader.seed, log_reader.settings);
-    log_reader.know(alloc, store.as_slice())?;
+    // A log of one window shares its names with no other.
+    let shares = !log_reader.state.source.ended;
+    let mut state = RunState::start(alloc, seed, store, settings, shares)?;
+    log_reader.names = state.progress.history.shared_names()?;
     let fault = check_chunk(&first.log.part());
     let mut chunk = log_reader.prepare(alloc, first, fault, Seats::new(alloc))?;
     log_reader.read_ahead(rt, alloc, reader)?;
-    let mut state = RunState::start(alloc, seed, store, settings)?;
     'windows: while log_reader.state.is_going() {
         chunk = run_and_read(rt, alloc, log_reader, reader, &mut state, chunk)?;
     }
@@ -171,10 +173,10 @@ pub(crate) fn run_log<R: Read, T: Threads + Wait + Sync + RandomSource + Copy + 
         seed,
         size,
         settings,
-        known: no_keys(alloc, seed)?,
+        names: SharedNames::none(),
         spare: Vec::new(alloc),
         // Nothing fails from here on without its threads being waited for.
-        parsers: Parsers::start(rt, alloc, threads)?,
+        parsers: Parsers::start(rt, alloc, threads, most_ahead(settings))?,
     };
     let ran = run_windows(rt, alloc, &mut log_reader, reader, store, chunk);
     log_reader.end(rt);

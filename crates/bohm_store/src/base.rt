@@ -9,7 +9,7 @@ ghost use Rattle.bohm_store.specs.Numbered.{timeline, versions_at};
 use crate::numbered::NumberedHistory;
 use crate::numbering::is_numbered;
 use crate::seats::Hints;
-use bohm_log::{HashSeed, Keys, Names};
+use bohm_log::{HashSeed, Keys, LayeredNames};
 use bohm_place::NumberedKey;
 use bohm_txn::Scratch;
 use bohm_types::{Cell, Key, NoMemory};
@@ -17,11 +17,16 @@ use std::alloc::Global;
 
 /// What a key held after the transaction with a timestamp. Its time is that of one look-up, and
 /// grows with how many of the key's versions ended above the timestamp.
-pub fn cell_of(names: &Names<HashSeed>, numbered: &NumberedHistory, key: &Key, ts: u32) -> Cell
+pub fn cell_of(
+    names: &LayeredNames<HashSeed>,
+    numbered: &NumberedHistory,
+    key: &Key,
+    ts: u32,
+) -> Cell
     ensures cell { result ≡ past (timeline names.now numbered.now) ts key.now }
     ensures newest { IsCellAt ts (versions (timeline names.now numbered.now) key.now) result }
 {
-    let _ = names.as_slice();
+    let _ = names.table();
     match names.find(key) {
         Some(number) => numbered.cell_at(number, ts),
         None => Cell::Absent,
@@ -31,7 +36,7 @@ pub fn cell_of(names: &Names<HashSeed>, numbered: &NumberedHistory, key: &Key, t
 // What a key holds at the top. It is hashed only if the number that it had when it was last seen is
 // another key's.
 fn cell_by(
-    names: &Names<HashSeed>,
+    names: &LayeredNames<HashSeed>,
     numbered: &NumberedHistory,
     hints: &mut Hints,
     place: u32,
@@ -40,7 +45,7 @@ fn cell_by(
     ensures { result ≡ past (timeline names.now numbered.now) numbered.now.top key.now }
 {
     let hint = hints.number(place);
-    if is_numbered(names.as_slice(), hint, key) {
+    if is_numbered(names.table(), hint, key) {
         return numbered.cell(hint);
     }
     match names.find(key) {
@@ -55,7 +60,7 @@ fn cell_by(
 /// Each of these keys, with what it holds at the top. A key is hashed only if the number that it
 /// had when it was last seen is another key's.
 pub fn base_of(
-    names: &Names<HashSeed>,
+    names: &LayeredNames<HashSeed>,
     numbered: &NumberedHistory,
     alloc: Global,
     hints: &mut Hints,
@@ -76,7 +81,7 @@ pub fn base_of(
 
 /// Hands a scratch what a transaction's declared reads hold at the top.
 pub fn push_reads(
-    names: &Names<HashSeed>,
+    names: &LayeredNames<HashSeed>,
     numbered: &NumberedHistory,
     hints: &mut Hints,
     keys: &Keys<'_>,

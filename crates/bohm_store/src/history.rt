@@ -17,7 +17,7 @@ mod settle;
 mod trim;
 
 use crate::numbered::NumberedHistory;
-use bohm_log::{DrawnSeed, FixedSeed, HashSeed, Names};
+use bohm_log::{DrawnSeed, FixedSeed, HashSeed, LayeredNames, Names, SharedNames};
 use bohm_types::{Key, NoMemory, Value};
 use std::alloc::Global;
 use std::marker::Model;
@@ -27,7 +27,7 @@ use std::marker::Model;
 pub struct History {
     // A key keeps its number for the history's life. After those with versions there may be keys
     // that an error left without one.
-    names: Names<HashSeed>,
+    names: LayeredNames<HashSeed>,
     numbered: NumberedHistory,
 }
 
@@ -109,7 +109,8 @@ impl History {
         ensures count { IfOk result (λ h. total h.chains ≡ length entries.now) }
         ensures past { IfOk result (λ h. past h ts ≡ cell_in (store_of entries.now)) }
     {
-        History::stand(alloc, entries, ts, HashSeed::from(FixedSeed))
+        let names = names_in(alloc, entries, HashSeed::from(FixedSeed))?;
+        History::stand(alloc, entries, ts, LayeredNames::from(names))
     }
 
     /// The same, with keys hashed from a drawn seed.
@@ -128,17 +129,47 @@ impl History {
         ensures count { IfOk result (λ h. total h.chains ≡ length entries.now) }
         ensures past { IfOk result (λ h. past h ts ≡ cell_in (store_of entries.now)) }
     {
-        History::stand(alloc, entries, ts, HashSeed::from(seed))
+        let names = names_in(alloc, entries, HashSeed::from(seed))?;
+        History::stand(alloc, entries, ts, LayeredNames::from(names))
     }
 
-    // What `restore` answers, with keys hashed from either kind of seed.
+    /// The history of a starting store, as `open_with_seed` gives it. Logs can share the names of the
+    /// store's keys with it.
+    pub fn open_sharing(
+        alloc: Global,
+        entries: &[(Key, Value)],
+        seed: DrawnSeed,
+    ) -> Result<History, NoMemory>
+        requires { rising (names_of entries.now) ≡ true }
+        ensures floor { IfOk result (λ h. h.floor ≡ 0) }
+        ensures top { IfOk result (λ h. h.top ≡ 0) }
+        ensures versions { IfOk result
+            (λ h. (k : List ℕ)
+            → versions h k ≡ starting_versions (cell_in (store_of entries.now) k)) }
+        ensures count { IfOk result (λ h. total h.chains ≡ length entries.now) }
+        ensures past { IfOk result (λ h. past h 0 ≡ cell_in (store_of entries.now)) }
+    {
+        let seed = HashSeed::from(seed);
+        let names = names_in(alloc, entries, seed)?;
+        let names = LayeredNames::shared_from(alloc, seed, names)?;
+        History::stand(alloc, entries, 0, names)
+    }
+
+    /// The names that logs can share: those of the starting store's keys if it was opened so, or else
+    /// none. A log that shares them has the history's numbers for them, so that no key is looked up.
+    pub fn shared_names(&self) -> Result<SharedNames<HashSeed>, NoMemory> {
+        self.names.shared().try_clone()
+    }
+
+    // What `restore` answers, with these names.
     fn stand(
         alloc: Global,
         entries: &[(Key, Value)],
         ts: u32,
-        seed: HashSeed,
+        names: LayeredNames<HashSeed>,
     ) -> Result<History, NoMemory>
-        requires { rising (names_of entries.now) ≡ true }
+        requires rising { rising (names_of entries.now) ≡ true }
+        requires names { names ≡ names_of entries.now }
         ensures floor { IfOk result (λ h. h.floor ≡ ts) }
         ensures top { IfOk result (λ h. h.top ≡ ts) }
         ensures versions { IfOk result
@@ -147,7 +178,6 @@ impl History {
         ensures count { IfOk result (λ h. total h.chains ≡ length entries.now) }
         ensures past { IfOk result (λ h. past h ts ≡ cell_in (store_of entries.now)) }
     {
-        let names = names_in(alloc, entries, seed)?;
         let numbered = NumberedHistory::open(alloc, entries, ts)?;
         Ok(History { names, numbered })
     }
@@ -159,7 +189,7 @@ impl History {
         ensures versions { (k : List ℕ) → versions result k ≡ [] }
     {
         History {
-            names: Names::new(alloc, HashSeed::from(FixedSeed)),
+            names: LayeredNames::new(alloc, HashSeed::from(FixedSeed)),
             numbered: NumberedHistory::empty(alloc),
         }
     }
@@ -185,6 +215,6 @@ impl History {
         ensures count { result ≡ min (total self.now.chains) 18446744073709551615 }
         ensures distinct { IsDistinct bytes_eq (keys_of self.now.chains) }
     {
-        self.numbered.count(self.names.as_slice())
+        self.numbered.count(self.names.table())
     }
 }

@@ -13,12 +13,10 @@ mod numbering;
 mod older;
 mod replacing;
 mod seats;
-mod store_numbers;
 mod version;
 mod workspace;
 
 pub use fault::{PastFault, StoreFault};
 pub use history::History;
 pub use seats::Seats;
-pub use store_numbers::StoreNumbers;
 pub use workspace::Workspace;

@@ -3,6 +3,7 @@
 ghost use Rattle.std.specs.Prelude.{◌≡◌, ◌++◌, ◌∷◌, ◌<◌, ◌≤◌, ◌==◌, ℕ, [], IfOk, OnOk, length};
 ghost use Rattle.std.specs.Prelude.{if◌then◌else◌};
 ghost use Rattle.bohm_types.specs.declared.cell.Cell.TheVariants as cells;
+ghost use Rattle.bohm_log.specs.Layers.{all_names};
 ghost use Rattle.bohm_store.specs.Chains.{cell_entry, timeline_entries_at};
 ghost use Rattle.bohm_store.specs.Versions.{cell_at};
 ghost use Rattle.bohm_store.specs.Held.{held_at, held_versions};
@@ -10,6 +11,7 @@ ghost use Rattle.bohm_store.specs.Numbered.{EndsRise, filled, first_after, named
 
 use crate::held::Held;
 use crate::older::{Older, OlderVersions};
+use bohm_log::NameTable;
 use bohm_types::{Cell, Key, NoMemory, Value};
 use std::alloc::Global;
 
@@ -58,16 +60,16 @@ fn list_one(out: &mut Vec<(Key, Value)>, key: &Key, held: Held, ts: u32) -> Resu
 pub fn present(
     alloc: Global,
     newest: &[Held],
-    names: &[Key],
+    names: NameTable<'_>,
     ts: u32,
 ) -> Result<Vec<(Key, Value)>, NoMemory>
-    requires { length names.now ≤ length newest.now }
+    requires { length (all_names names) ≤ length newest.now }
     ensures { IfOk result (λ v. v.items
-        ≡ timeline_entries_at ts (named (held_at newest.now) 0 names.now)) }
+        ≡ timeline_entries_at ts (named (held_at newest.now) 0 (all_names names.entry))) }
 {
     let mut out = Vec::with_capacity(alloc, names.len())?;
     for i in 0..names.len() {
-        list_one(&mut out, &names[i], newest[i], ts)?;
+        list_one(&mut out, names.name(i), newest[i], ts)?;
     }
     Ok(out)
 }
@@ -77,13 +79,14 @@ pub fn present_at(
     alloc: Global,
     newest: &[Held],
     older: &OlderVersions,
-    names: &[Key],
+    names: NameTable<'_>,
     ts: u32,
 ) -> Result<Vec<(Key, Value)>, NoMemory>
-    requires long { length names.now ≤ length newest.now }
+    requires long { length (all_names names) ≤ length newest.now }
     requires climbs { (top : ℕ) × EndsRise top older.now.items }
     ensures { IfOk result (λ v. v.items ≡ timeline_entries_at ts
-        (named (λ n. first_after ts older.now.items n (held_at newest.now n)) 0 names.now)) }
+        (named (λ n. first_after ts older.now.items n (held_at newest.now n)) 0
+        (all_names names.entry))) }
 {
     let mut then = Vec::with_capacity(alloc, newest.len())?;
     then.extend_from_slice(newest)?;

@@ -7,6 +7,7 @@ ghost use Rattle.std.specs.List.{IsDistinct};
 ghost use Rattle.std.specs.Str.{bytes_eq};
 ghost use Rattle.bohm_types.specs.Keys.{rising, names_of};
 ghost use Rattle.bohm_types.specs.Txn.{Txn};
+ghost use Rattle.bohm_log.specs.Layers.{all_names};
 ghost use Rattle.bohm_types.specs.declared.cell.Cell.TheVariants as cells;
 ghost use Rattle.bohm_txn.specs.Faulty.{IsWellFormedTxn};
 ghost use Rattle.bohm_txn.specs.Stores.{cell_in, store_of};
@@ -24,7 +25,7 @@ use crate::numbered_write::NumberedWrite;
 use crate::older::{OlderVersions, add, cell_before, cut_off, trim};
 use crate::replacing::{replace_all, replace_each};
 use bohm_board::Batch;
-use bohm_log::TxnView;
+use bohm_log::{NameTable, TxnView};
 use bohm_types::{Cell, Key, NoMemory, Value};
 use std::alloc::Global;
 use std::marker::Model;
@@ -203,13 +204,19 @@ impl NumberedHistory {
 
     /// Settles the next batch, by the list of its writes, and keeps the batch's end alone. It
     /// allocates nothing. Its time grows with the number of the writes.
-    pub fn settle_newest(&mut self, names: &[Key], batch: &Batch<'_>, writes: &[NumberedWrite])
-        requires names { IsDistinct bytes_eq names.now }
-        requires long { length names.now ≤ length self.old.newest }
-        requires next { IsNext (timeline names.now self.old) batch.now }
-        requires writes { AreWritesOf names.now batch.now writes.now }
+    pub fn settle_newest(
+        &mut self,
+        names: NameTable<'_>,
+        batch: &Batch<'_>,
+        writes: &[NumberedWrite],
+    )
+        requires names { IsDistinct bytes_eq (all_names names) }
+        requires long { length (all_names names) ≤ length self.old.newest }
+        requires next { IsNext (timeline (all_names names) self.old) batch.now }
+        requires writes { AreWritesOf (all_names names) batch.now writes.now }
         ensures long { length self.new.newest ≡ length self.old.newest }
-        ensures settled { IsSettledKept (timeline names.now self.old) (timeline names.now self.new)
+        ensures settled { IsSettledKept (timeline (all_names names.entry) self.old)
+            (timeline (all_names names.entry) self.new)
             (txns_of batch.now) (self.old.top + length (txns_of batch.now)) }
     {
         self.older.clear();
@@ -222,20 +229,23 @@ impl NumberedHistory {
     /// error changes nothing.
     pub fn add_writes(
         &mut self,
-        names: &[Key],
+        names: NameTable<'_>,
         count: u32,
         writes: &[NumberedWrite],
     ) -> Result<(), NoMemory>
-        requires names { IsDistinct bytes_eq names.now }
-        requires long { length names.now ≤ length self.old.newest }
+        requires names { IsDistinct bytes_eq (all_names names) }
+        requires long { length (all_names names) ≤ length self.old.newest }
         requires timestamps { self.old.top + count < 2 ^ 32 }
         requires writes { (txns : List Txn)
-            × AreWritesBehind names.now (timeline names.now self.old) count txns writes.now }
+            × AreWritesBehind (all_names names) (timeline (all_names names) self.old) count txns
+            writes.now }
         ensures err { OnErr result (self.new ≡ self.old) }
         ensures long { OnOk result (length self.new.newest ≡ length self.old.newest) }
         ensures ok { OnOk result ((txns : List Txn)
-            → AreWritesBehind names.now (timeline names.now self.old) count txns writes.now
-            → IsSettled (timeline names.now self.old) (timeline names.now self.new) txns) }
+            → AreWritesBehind (all_names names.entry) (timeline (all_names names.entry) self.old)
+            count txns writes.now
+            → IsSettled (timeline (all_names names.entry) self.old)
+            (timeline (all_names names.entry) self.new) txns) }
     {
         match add(self.newest.as_mut_slice(), &mut self.older, writes) {
             Ok(()) => {
@@ -249,22 +259,25 @@ impl NumberedHistory {
     /// The same, and then trims. An error changes nothing.
     pub fn add_above(
         &mut self,
-        names: &[Key],
+        names: NameTable<'_>,
         count: u32,
         writes: &[NumberedWrite],
         floor: u32,
     ) -> Result<(), NoMemory>
-        requires names { IsDistinct bytes_eq names.now }
-        requires long { length names.now ≤ length self.old.newest }
+        requires names { IsDistinct bytes_eq (all_names names) }
+        requires long { length (all_names names) ≤ length self.old.newest }
         requires timestamps { self.old.top + count < 2 ^ 32 }
         requires writes { (txns : List Txn)
-            × AreWritesBehind names.now (timeline names.now self.old) count txns writes.now }
+            × AreWritesBehind (all_names names) (timeline (all_names names) self.old) count txns
+            writes.now }
         requires floor { floor ≤ self.old.top + count }
         ensures err { OnErr result (self.new ≡ self.old) }
         ensures long { OnOk result (length self.new.newest ≡ length self.old.newest) }
         ensures ok { OnOk result ((txns : List Txn)
-            → AreWritesBehind names.now (timeline names.now self.old) count txns writes.now
-            → IsSettledKept (timeline names.now self.old) (timeline names.now self.new) txns floor) }
+            → AreWritesBehind (all_names names.entry) (timeline (all_names names.entry) self.old)
+            count txns writes.now
+            → IsSettledKept (timeline (all_names names.entry) self.old)
+            (timeline (all_names names.entry) self.new) txns floor) }
     {
         match self.add_writes(names, count, writes) {
             Ok(()) => {
@@ -280,21 +293,22 @@ impl NumberedHistory {
     /// number of the writes.
     pub fn advance_newest(
         &mut self,
-        names: &[Key],
+        names: NameTable<'_>,
         txn: &TxnView<'_>,
         numbers: &[u32],
         cells: &[Cell],
     )
-        requires names { IsDistinct bytes_eq names.now }
-        requires long { length names.now ≤ length self.old.newest }
+        requires names { IsDistinct bytes_eq (all_names names) }
+        requires long { length (all_names names) ≤ length self.old.newest }
         requires well { IsWellFormedTxn txn.now }
         requires timestamp { self.old.top + 1 < 2 ^ 32 }
         requires paired { length numbers.now ≡ length cells.now }
-        requires writes { AreTxnWrites names.now (self.old.top + 1)
-            (past (timeline names.now self.old) self.old.top) txn.now
+        requires writes { AreTxnWrites (all_names names) (self.old.top + 1)
+            (past (timeline (all_names names) self.old) self.old.top) txn.now
             (writes_by (self.old.top + 1) numbers.now cells.now) }
         ensures long { length self.new.newest ≡ length self.old.newest }
-        ensures settled { IsSettledKept (timeline names.now self.old) (timeline names.now self.new)
+        ensures settled { IsSettledKept (timeline (all_names names.entry) self.old)
+            (timeline (all_names names.entry) self.new)
             (txn.now ∷ []) (self.old.top + 1) }
     {
         self.older.clear();
@@ -309,13 +323,13 @@ impl NumberedHistory {
     pub fn store_at(
         &self,
         alloc: Global,
-        names: &[Key],
+        names: NameTable<'_>,
         ts: u32,
     ) -> Result<Vec<(Key, Value)>, NoMemory>
-        requires names { IsDistinct bytes_eq names.now }
-        requires long { length names.now ≤ length self.now.newest }
+        requires names { IsDistinct bytes_eq (all_names names) }
+        requires long { length (all_names names) ≤ length self.now.newest }
         ensures past { IfOk result
-            (λ v. cell_in (store_of v.items) ≡ past (timeline names.now self.now) ts) }
+            (λ v. cell_in (store_of v.items) ≡ past (timeline (all_names names.entry) self.now) ts) }
         ensures entries { IfOk result (λ v. v.items ≡ entries (store_of v.items)) }
     {
         match present_at(alloc, &self.newest, &self.older, names, ts) {
@@ -329,9 +343,10 @@ impl NumberedHistory {
 
     /// How many versions the keys with these names have, or the greatest number of 64 bits where
     /// there are more. Its time grows with the number of keys.
-    pub fn count(&self, names: &[Key]) -> u64
-        requires { length self.now.newest ≤ length names.now }
-        ensures { result ≡ min (total (timeline names.now self.now).chains) 18446744073709551615 }
+    pub fn count(&self, names: NameTable<'_>) -> u64
+        requires { length self.now.newest ≤ length (all_names names) }
+        ensures { result
+            ≡ min (total (timeline (all_names names.entry) self.now).chains) 18446744073709551615 }
     {
         let _ = names;
         (count_held(&self.newest) as u64).saturating_add(self.older.len() as u64)

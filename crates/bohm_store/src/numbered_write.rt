@@ -12,7 +12,7 @@ use crate::numbering::number_of;
 use crate::seats::Hints;
 use crate::version::Version;
 use bohm_exec::Finished;
-use bohm_log::{HashSeed, Keys, Names};
+use bohm_log::{HashSeed, Keys, LayeredNames};
 use bohm_types::NoMemory;
 use std::alloc::Global;
 
@@ -26,7 +26,7 @@ pub struct NumberedWrite {
 // Lists the writes of one transaction. A key without a number gets one.
 fn list_writes(
     out: &mut Vec<NumberedWrite>,
-    names: &mut Names<HashSeed>,
+    names: &mut LayeredNames<HashSeed>,
     hints: &mut Hints,
     finished: &Finished<'_>,
     t: u32,
@@ -54,7 +54,7 @@ fn list_writes(
 /// one. The time grows with the number of the writes.
 pub fn numbered_writes(
     alloc: Global,
-    names: &mut Names<HashSeed>,
+    names: &mut LayeredNames<HashSeed>,
     hints: &mut Hints,
     finished: &Finished<'_>,
 ) -> Result<Vec<NumberedWrite>, NoMemory>

@@ -1,20 +1,22 @@
 //! The numbers of keys in a history.
 
-ghost use Rattle.std.specs.Prelude.{◌≡◌, Some, slice_get, true, IfOk, OnOk};
+ghost use Rattle.std.specs.Prelude.{◌≡◌, ◌≤◌, [], Some, slice_get, true, length, take, IfOk, OnOk};
+ghost use Rattle.bohm_log.specs.Layers.{all_names};
 ghost use Rattle.bohm_log.specs.Parts.{Begins};
 ghost use Rattle.bohm_store.specs.Writes.{AreNumbersOf};
 
 use crate::seats::Hints;
-use bohm_log::{HashSeed, Keys, Names};
+use bohm_log::{HashSeed, Keys, LayeredNames, NameTable};
 use bohm_types::{Key, NoMemory};
 
 /// Whether this number is that of a key.
-pub fn is_numbered(names: &[Key], number: u32, key: &Key) -> bool
-    ensures { result ≡ true → slice_get names.now number ≡ Some key.now }
+#[inline(always)]
+pub fn is_numbered(names: NameTable<'_>, number: u32, key: &Key) -> bool
+    ensures { result ≡ true → slice_get (all_names names.entry) number ≡ Some key.now }
 {
     let number = number as usize;
     if number < names.len() {
-        names[number] == *key
+        *names.name(number) == *key
     } else {
         false
     }
@@ -23,7 +25,7 @@ pub fn is_numbered(names: &[Key], number: u32, key: &Key) -> bool
 /// The number of a key, which gets one if it has none. It is hashed only if the number that it had
 /// when it was last seen is another key's. An error leaves no key without its number.
 pub fn number_of(
-    names: &mut Names<HashSeed>,
+    names: &mut LayeredNames<HashSeed>,
     hints: &mut Hints,
     place: u32,
     key: &Key,
@@ -32,7 +34,7 @@ pub fn number_of(
     ensures named { IfOk result (λ n. slice_get names.new n ≡ Some key.now) }
 {
     let hint = hints.number(place);
-    if is_numbered(names.as_slice(), hint, key) {
+    if is_numbered(names.table(), hint, key) {
         return Ok(hint);
     }
     match names.id(*key) {
@@ -44,10 +46,33 @@ pub fn number_of(
     }
 }
 
+/// Appends the numbers that keys had when they were last seen, up to the first that is another key's
+/// now. None is hashed.
+fn push_hinted(
+    names: NameTable<'_>,
+    hints: &Hints,
+    keys: &Keys<'_>,
+    numbers: &mut Vec<u32>,
+) -> Result<(), NoMemory>
+    requires { numbers.old.items ≡ [] }
+    ensures inside { OnOk result (length numbers.new.items ≤ length keys.now) }
+    ensures numbers { OnOk result (AreNumbersOf (all_names names.entry) numbers.new.items
+        (take (length numbers.new.items) keys.now)) }
+{
+    for i in 0..keys.len() {
+        let hint = hints.number(keys.number(i));
+        if !is_numbered(names, hint, keys.key(i)) {
+            return Ok(());
+        }
+        numbers.push(hint)?;
+    }
+    Ok(())
+}
+
 /// The numbers of keys, in place of what stood in the list. A key without a number gets one. An error
 /// leaves no key without its number.
 pub fn number_all(
-    names: &mut Names<HashSeed>,
+    names: &mut LayeredNames<HashSeed>,
     hints: &mut Hints,
     keys: &Keys<'_>,
     numbers: &mut Vec<u32>,
@@ -56,7 +81,8 @@ pub fn number_all(
     ensures numbers { OnOk result (AreNumbersOf names.new numbers.new.items keys.now) }
 {
     numbers.clear();
-    for i in 0..keys.len() {
+    push_hinted(names.table(), hints, keys, numbers)?;
+    for i in numbers.len()..keys.len() {
         let number = number_of(names, hints, keys.number(i), keys.key(i))?;
         numbers.push(number)?;
     }

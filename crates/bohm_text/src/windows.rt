@@ -18,8 +18,8 @@ pub struct Chunk {
     pub log: Log<HashSeed>,
     /// How many lines the window has.
     pub lines: u64,
-    /// Whether all its keys were numbered anew: the log has no spare one's columns, or these kept no
-    /// key. Else each key that the spare log had keeps its number.
+    /// Whether all keys that it doesn't share were numbered anew. Else each key that the log had
+    /// before keeps its number.
     pub renumbered: bool,
 }
 
@@ -66,32 +66,12 @@ pub fn parse_first_window(
     })
 }
 
-/// A log without transactions: the spare one, cleared, or a new one with room for a text of this many
-/// bytes.
-fn empty_log(
-    alloc: Global,
-    seed: DrawnSeed,
-    spare: Option<Log<HashSeed>>,
-    bytes: usize,
-) -> Log<HashSeed>
-    ensures { result ≡ [] }
-{
-    match spare {
-        Some(mut log) => {
-            log.clear();
-            log
-        }
-        None => Log::with_room(alloc, HashSeed::from(seed), bytes),
-    }
-}
-
 /// Reads a window that follows others of a text of this edition, and begins with the line `txn`.
 /// The result doesn't depend on the windows before it, so windows are read in any order. The time
 /// and memory grow with the length of the window.
 ///
-/// The columns of a spare log are used again, if there is one. Its transactions are removed; its keys
-/// keep their numbers, unless they are many more than it declared (`Log::clear`). The keys of the log
-/// are hashed from the seed of the spare one, or else from this seed.
+/// The transactions go into this log, whose own are removed. Its keys keep their numbers, unless they
+/// are many more than it declared (`Log::clear`). Other names are hashed from the seed.
 ///
 /// # Errors
 ///
@@ -102,14 +82,16 @@ pub fn parse_window(
     alloc: Global,
     seed: DrawnSeed,
     edition: Edition,
-    spare: Option<Log<HashSeed>>,
+    log: Log<HashSeed>,
     text: &[u8],
 ) -> Result<Chunk, WindowFault>
     requires { IsWindow text.now }
     ensures { ReadsWindow edition text.now result }
 {
-    let log = empty_log(alloc, seed, spare, text.len());
-    let renumbered = log.part().keys().names().is_empty();
+    let mut log = log;
+    log.clear();
+    log.make_room(text.len());
+    let renumbered = log.part().keys().names().own().is_empty();
     let (reader, lines) = read_lines(alloc, HashSeed::from(seed), edition, log, text)?;
     Ok(Chunk {
         log: reader.log,

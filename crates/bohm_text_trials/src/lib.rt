@@ -1,10 +1,7 @@
-//! Tests of what a log is made of, over public calls. They cover names, terms, statements and
-//! documents, the log in columns, and texts, as they are read, refused and printed.
+//! Tests of texts, as they are read, refused and printed, and of sums without terms.
 #![tactic(auto)]
 
 #[cfg(test)]
-mod columns;
+mod sums;
 #[cfg(test)]
 mod texts;
-#[cfg(test)]
-mod trees;

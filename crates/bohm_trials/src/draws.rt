@@ -18,24 +18,18 @@ pub struct Draws {
 impl Draws {
     pub fn new(seed: u32) -> Draws {
         Draws {
-            state: 0x9e37_79b9_7f4a_7c15 ^ u64::from(seed),
+            state: u64::from(seed),
         }
     }
 
-    /// The next number of the xorshift.
-    fn draw(&mut self) -> u64 {
-        self.state ^= self.state << 13;
-        self.state ^= self.state >> 7;
-        self.state ^= self.state << 17;
-        self.state
-    }
-
-    /// A number below this one.
+    /// A number below this one, of the upper half of a linear congruential generator's state.
     fn below(&mut self, count: usize) -> usize
         requires { 0 < count }
         ensures { result < count }
     {
-        (self.draw() % count as u64) as usize
+        let product = self.state.wrapping_mul(6_364_136_223_846_793_005);
+        self.state = product.wrapping_add(1_442_695_040_888_963_407);
+        (self.state / 4_294_967_296 % count as u64) as usize
     }
 
     /// Settings of up to four workers on each side.

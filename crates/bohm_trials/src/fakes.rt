@@ -4,7 +4,7 @@ use std::alloc::Global;
 use std::io::{self, ErrorKind, Read, Write};
 
 /// How many calls succeed before one fails, and with what.
-#[derive(Clone, Copy, Debug)]
+#[derive(Clone, Copy)]
 pub struct Failure {
     pub calls: Option<u32>,
     pub kind: ErrorKind,

@@ -115,10 +115,6 @@ fn two_held_so<R: Abort + AllocGlobal + Threads + Wait + Sync + RandomSource>(rt
 #[test]
 fn two_at_once(rt: HostRuntime) {
     two_held_so(&rt, Hold::new(Point::Claimed(1), &[Point::Finished(2)]));
-}
-
-#[test]
-fn two_at_once_mirror(rt: HostRuntime) {
     two_held_so(&rt, Hold::new(Point::Claimed(2), &[Point::Finished(1)]));
 }
 

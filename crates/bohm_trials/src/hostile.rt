@@ -2,7 +2,7 @@
 
 use crate::fakes::{Failure, FakeReader, FakeWriter};
 use crate::runs::settings;
-use bohm_run::{RunFault, Settings, print_fault, run_text};
+use bohm_run::{RunFault, Settings, run_text};
 use std::io::ErrorKind;
 use std::process::Abort;
 use std::random::RandomSource;
@@ -109,58 +109,25 @@ fn sends<R: Abort + AllocGlobal + Threads + Wait + Sync + RandomSource + Copy + 
     assert_eq!(rt; told, (Some(wanted), taken), "after {sent} bytes");
 }
 
-/// One byte a call.
+/// A writer of one byte a call fails at each of them, and its flush; others take nothing, or fail
+/// after three bytes.
 #[test]
-fn writers_fail_at_each_call(rt: HostRuntime) {
+fn writers_fail(rt: HostRuntime) {
     for words in TWICE {
+        let settings = settings(&rt, words);
         for kind in [ErrorKind::Other, ErrorKind::Interrupted] {
             for calls in 0..18u32 {
                 let mut writer = FakeWriter::new(rt.alloc(), 1);
                 writer.failure = Failure::after(calls, kind);
-                sends(&rt, writer, calls, settings(&rt, words));
+                sends(&rt, writer, calls, settings);
             }
-        }
-    }
-}
-
-#[test]
-fn flushes_fail(rt: HostRuntime) {
-    for words in TWICE {
-        for kind in [ErrorKind::Other, ErrorKind::Interrupted] {
             let mut writer = FakeWriter::new(rt.alloc(), 64);
             writer.flush_failure = Failure::after(0, kind);
-            sends(&rt, writer, 18, settings(&rt, words));
+            sends(&rt, writer, 18, settings);
         }
-    }
-}
-
-#[test]
-fn writers_take_nothing(rt: HostRuntime) {
-    for words in TWICE {
-        sends(&rt, FakeWriter::new(rt.alloc(), 0), 0, settings(&rt, words));
-    }
-}
-
-#[test]
-fn writers_fail_after_three_bytes(rt: HostRuntime) {
-    for words in TWICE {
+        sends(&rt, FakeWriter::new(rt.alloc(), 0), 0, settings);
         let mut writer = FakeWriter::new(rt.alloc(), 3);
         writer.failure = Failure::after(1, ErrorKind::Other);
-        sends(&rt, writer, 3, settings(&rt, words));
+        sends(&rt, writer, 3, settings);
     }
-}
-
-#[test]
-fn a_want_of_memory_is_told(rt: HostRuntime) {
-    let printed = print_fault(rt.alloc(), &RunFault::NoMemory).expect(&rt, "memory");
-    assert_eq!(rt; printed.as_slice(), b"refused: memory\n".as_slice());
-}
-
-#[test]
-fn settings_out_of_range(rt: HostRuntime) {
-    let (workers, kept) = (
-        Settings::new(17, 1, 1, 1, 0, None),
-        Settings::new(1, 1, 1, 1, 4097, None),
-    );
-    assert_eq!(rt; (workers, kept), (None, None));
 }

@@ -1,5 +1,5 @@
 //! Tests of whole runs. They cover drawn logs against the plain program, workers that are held at
-//! gates, what runs leave, failing readers and writers, the plan queue, and texts in windows.
+//! gates, what runs leave, failing readers and writers, a refused plan, and texts in windows.
 #![tactic(auto)]
 
 #[cfg(test)]
@@ -12,8 +12,6 @@ mod gates;
 mod histories;
 #[cfg(test)]
 mod hostile;
-#[cfg(test)]
-mod library;
 #[cfg(test)]
 mod line;
 #[cfg(test)]

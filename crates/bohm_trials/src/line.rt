@@ -1,4 +1,4 @@
-//! The plan queue in one thread.
+//! A plan and a refusal in the plan queue, in one thread.
 
 ghost use Rattle.std.specs.Prelude.{◌≡◌, ◌+◌, ◌<◌, ◌≤◌, [], ◌∷◌, length, All, IsSome, OnOk};
 ghost use Rattle.bohm_txn.specs.Faulty.{IsWellFormedTxn};
@@ -7,7 +7,7 @@ ghost use Rattle.bohm_place.specs.Cuttings.{first_at, txns_at};
 
 use crate::runs::counters;
 use bohm_log::LogPart;
-use bohm_place::{Plan, Shards, Source, plan};
+use bohm_place::{Plan, Shards, plan};
 use bohm_run::{ByteSum, Line, PlanNote, PlanReceiver, PlanSender, plan_line};
 use bohm_types::NoMemory;
 use std::alloc::Global;
@@ -16,32 +16,6 @@ use std::process::Abort;
 use std::sync::Wait;
 use std::test::Fail;
 use std::thread::Threads;
-
-// The source of the first declared read of the transaction with a timestamp.
-fn source_of(rt: &impl Abort, plan: &Plan, txns: &LogPart<'_>, t: u32) -> Source
-    requires { ∥ IsRightPlan txns.now plan.now ∥₁ }
-{
-    let place = t
-        .checked_sub(plan.first())
-        .expect(rt, "a timestamp of the batch");
-    let there = (place as usize) < txns.len();
-    assert!(rt; there);
-    let reads = txns.txn(place as usize).reads().len() > 0;
-    assert!(rt; reads);
-    plan.read(t, 0)
-}
-
-// Asserts the source of the transaction's first declared read.
-fn assert_source(rt: &impl Abort, plan: &Plan, txns: &LogPart<'_>, t: u32, want: Source)
-    requires { ∥ IsRightPlan txns.now plan.now ∥₁ }
-{
-    assert_eq!(rt; source_of(rt, plan, txns, t), want);
-}
-
-// Asserts the extent of a plan: its first timestamp, and the number of its transactions.
-fn assert_extent(rt: &impl Abort, plan: &Plan, want: (u32, u32)) {
-    assert_eq!(rt; (plan.first(), plan.len()), want);
-}
 
 // Plans the next batch, and sends the plan.
 fn send_plan<L: Line, R: Abort + Threads + Wait + Sync>(
@@ -90,55 +64,6 @@ fn take_plan<L: Line, R: Abort + Wait>(
     let note = receiver.take(rt);
     assert_eq!(rt; (note.number, receiver.taken()), (number, number));
     note.plan.expect(rt, "a plan")
-}
-
-// Takes the plans of both batches.
-fn take_plans<L: Line, R: Abort + Wait>(
-    rt: &R,
-    mut receiver: PlanReceiver<L>,
-    one: &LogPart<'_>,
-    two: &LogPart<'_>,
-)
-    requires untaken { receiver.notes ≡ [] }
-    requires sizes { length L.cutting.sizes ≡ 2 }
-    requires one { one.now ≡ txns_at L.cutting 0 }
-    requires two { two.now ≡ txns_at L.cutting 1 }
-{
-    let plan = take_plan(rt, &mut receiver, one, 1);
-    assert_extent(rt, &plan, (1, 1));
-    assert_source(rt, &plan, one, 1, Source::Before);
-    let plan = take_plan(rt, &mut receiver, two, 2);
-    assert_extent(rt, &plan, (2, 2));
-    assert_source(rt, &plan, two, 2, Source::Before);
-    assert_source(rt, &plan, two, 3, Source::Within(2));
-}
-
-// Sends the plans of a log of three transactions in two batches, and takes both.
-fn take_two<L: Line, R: Abort + Threads + Wait + Sync>(
-    rt: &R,
-    alloc: Global,
-    txns: &LogPart<'_>,
-) -> Result<(), Fail>
-    requires cutting { L.cutting ≡ record { first = 1; log = txns.now; sizes = 1 ∷ 2 ∷ [] } }
-    requires three { length txns.now ≡ 3 }
-    requires formed { All IsWellFormedTxn txns.now }
-{
-    let (mut sender, receiver) = plan_line::<L>(alloc)?;
-    let (one, two) = (txns.between(0, 1), txns.between(1, 3));
-    send_plan(rt, alloc, &mut sender, 1, &one)?;
-    send_plan(rt, alloc, &mut sender, 2, &two)?;
-    assert_eq!(rt; sender.sent(), 2);
-    take_plans(rt, receiver, &one, &two);
-    Ok(())
-}
-
-#[test]
-fn notes_come_in_order(rt: HostRuntime) -> Result<(), Fail> {
-    let alloc: Global = rt.alloc();
-    let log = counters(&rt, alloc, 3);
-    let three = log.log().len() == 3;
-    assert!(rt; three);
-    take_two::<Brand, _>(&rt, alloc, &log.log())
 }
 
 // Sends a plan and then an error, and takes both.

@@ -21,8 +21,8 @@ struct Delays {
 
 /// How many turns a claim is held: mostly few, now and then many.
 fn turns(round: u64, t: u32) -> u64 {
-    let mixed = (round << 32 | u64::from(t)).wrapping_mul(0x9e37_79b9_7f4a_7c15);
-    let drawn = mixed >> 48;
+    let number = round.wrapping_mul(4096).wrapping_add(u64::from(t));
+    let drawn = number.wrapping_mul(0x9e37_79b9_7f4a_7c15) / 281_474_976_710_656;
     if drawn % 64 == 0 {
         drawn % 1000
     } else {

@@ -1,7 +1,10 @@
-//! The program in two other ways, which tests run. After a number of bytes it runs a log in windows of
+//! The program in three other ways, which tests run. After a number of bytes it runs a log in windows of
 //! that size. After the word `machine` it runs a log without a store as a segment of a new machine, on
-//! workers. Options of the program follow.
+//! workers. After the word `calls` it runs a script of procedures and calls on a machine. Options of the
+//! program follow.
 #![tactic(auto)]
+
+mod script;
 
 use bohm_command::{NoAnswer, WordFault, exit_code, tell, without_request, words_given};
 use bohm_log::DrawnSeed;
@@ -9,6 +12,7 @@ use bohm_machine::{Machine, SegmentFault};
 use bohm_run::{Applied, RunFault, Settings, read_log, run_text_in_windows, write_all};
 use bohm_store::StoreFault;
 use bohm_text::print_answer;
+use script::run_script;
 use std::alloc::Global;
 use std::io::{self, Read, Write};
 use std::process::ExitCode;
@@ -23,6 +27,8 @@ enum Way {
     Windows(usize),
     /// As a segment of a machine.
     Machine,
+    /// A script of calls on a machine.
+    Calls,
 }
 
 /// What the arguments ask for.
@@ -40,6 +46,9 @@ fn number_of(words: &[String], name: &str) -> Option<u32> {
 fn read_way(word: &str) -> Option<Way> {
     if word == "machine" {
         return Some(Way::Machine);
+    }
+    if word == "calls" {
+        return Some(Way::Calls);
     }
     let size = word.parse::<u32>().ok()?;
     Some(Way::Windows(size as usize))
@@ -64,7 +73,7 @@ fn request_given(rt: &HostRuntime) -> Result<Request, WordFault> {
     match read_request(words.as_slice()) {
         Some(request) => Ok(request),
         None => Err(WordFault::Bad(format!(in rt.alloc();
-            "windows of how many bytes, or machine?\n"
+            "windows of how many bytes, machine, or calls?\n"
         )?)),
     }
 }
@@ -103,6 +112,23 @@ fn run_on_machine<T: Threads + Wait + Sync + RandomSource, R: Read, W: Write>(
     Ok(())
 }
 
+/// Runs the script that the reader holds, and writes what the machine answers.
+fn run_calls<T: RandomSource, R: Read, W: Write>(
+    rt: &T,
+    alloc: Global,
+    reader: &mut R,
+    writer: &mut W,
+) -> Result<(), NoAnswer> {
+    let mut script = String::new(alloc);
+    if reader.read_to_string(&mut script).is_err() {
+        return Err(NoAnswer::Run(RunFault::Read));
+    }
+    match run_script(alloc, DrawnSeed::draw(rt), &script) {
+        Some(text) => Ok(write_all(writer, text.as_slice())?),
+        None => Err(NoAnswer::Refused("refused: script\n")),
+    }
+}
+
 fn main(rt: HostRuntime) -> ExitCode {
     let mut out = io::writer(&rt);
     let alloc = rt.alloc();
@@ -114,6 +140,7 @@ fn main(rt: HostRuntime) -> ExitCode {
                 ran.map_err(NoAnswer::from)
             }
             Way::Machine => run_on_machine(&rt, alloc, &mut rt.reader(), &mut out, settings),
+            Way::Calls => run_calls(&rt, alloc, &mut rt.reader(), &mut out),
         },
         Err(fault) => without_request(&mut out, fault),
     };

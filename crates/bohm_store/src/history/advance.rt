@@ -87,7 +87,7 @@ impl History {
         ensures seen { map (past self.now self.now.top) txn.now.reads ≡ scratch.new.seen }
         ensures cells { map (past self.now self.now.top) txn.now.writes ≡ scratch.new.cells }
     {
-        let _ = self.names.as_slice();
+        let _ = self.names.table();
         if txn.writes_its_reads() {
             push_reads_and_cells(&self.numbered, numbers, scratch);
         } else {
@@ -112,7 +112,7 @@ impl History {
         ensures cells { map (after (past self.now self.now.top) txn.now) txn.now.writes
             ≡ scratch.new.cells }
     {
-        let _ = self.names.as_slice();
+        let _ = self.names.table();
         scratch.clear();
         self.push_held(txn, hints, numbers, scratch);
         let outcome = eval_in_place(txn, scratch);
@@ -143,7 +143,7 @@ impl History {
         ensures ok { OnOk result (IsSettledKept self.old self.new (txn.now ∷ []) floor) }
     {
         self.numbered.cover(self.names.len())?;
-        let names = self.names.as_slice();
+        let names = self.names.table();
         if floor > self.numbered.top() {
             self.numbered.advance_newest(names, txn, numbers, cells);
             return Ok(());

@@ -58,7 +58,7 @@ impl History {
     {
         let plan = plan.ensure_keys(alloc, txns)?;
         let hints = &mut seats.hints;
-        hints.cover(txns.keys().names().len())?;
+        hints.cover(txns.keys().names())?;
         let keys = plan.keys();
         let base = base_of(&self.names, &self.numbered, alloc, hints, keys)?;
         Ok(Batch::by_place(txns.fork(), plan, base))

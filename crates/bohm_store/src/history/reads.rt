@@ -53,7 +53,7 @@ impl History {
             return Err(StoreFault::Future);
         }
         let known = self.numbered.len();
-        let names = &self.names.as_slice()[..known];
+        let names = self.names.table().up_to(known);
         match self.numbered.store_at(alloc, names, ts) {
             Ok(list) => Ok(list),
             Err(_) => Err(StoreFault::NoMemory),

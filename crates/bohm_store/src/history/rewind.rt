@@ -22,7 +22,7 @@ impl History {
         ensures past { (t : ℕ) → t ≤ ts → past self.new t ≡ past self.old t }
         ensures distinct { IsDistinct bytes_eq (keys_of self.new.chains) }
     {
-        let _ = self.names.as_slice();
+        let _ = self.names.table();
         self.numbered.rewind(ts);
     }
 }

@@ -84,7 +84,7 @@ impl History {
     {
         self.numbered.cover(self.names.len())?;
         self.numbered
-            .add_writes(self.names.as_slice(), batch.len(), writes)?;
+            .add_writes(self.names.table(), batch.len(), writes)?;
         Ok(())
     }
 
@@ -102,7 +102,7 @@ impl History {
         ensures ok { OnOk result (IsSettledKept self.old self.new (txns_of batch.now) floor) }
     {
         self.numbered.cover(self.names.len())?;
-        let names = self.names.as_slice();
+        let names = self.names.table();
         let count = batch.len();
         if floor == self.numbered.top() + count {
             self.numbered.settle_newest(names, batch, writes);

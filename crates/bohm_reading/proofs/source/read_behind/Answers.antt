@@ -9,7 +9,8 @@ returns-clause-ok g c =
     let room = c.in_ok-make_room.ensures.room in
     let bound = c.in-Ok.ensures.bound in
     let short : f ≤ length c.deref_mut.result.now = omega (arith, room, ap length c.deref_mut.ensures.value) in
-    let fits : f + count ≤ c.make_room.new.buffer.len = omega (arith, room, bound.0, c.read.auto.buf, c.make_room.new.buffer.ok, ap length c.deref_mut.ensures.value) in
+    let fits : f + count ≤ c.make_room.new.buffer.len =
+    omega (arith, room, bound.0, c.read.auto.buf, c.make_room.new.buffer.ok, ap length c.deref_mut.ensures.value) in
     let same = read_in f count c.make_room.new.buffer.len c.deref_mut.result.now c.read.new.buf _ _ short bound.0 fits in
     let front : take f c.deref_mut.result.now ≡ take f c.args.buffer.now.items =
     ap (take f) c.deref_mut.ensures.value ∙ c.in_ok-make_room.ensures.same f c.requires.filled in

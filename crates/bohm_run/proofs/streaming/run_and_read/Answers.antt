@@ -10,8 +10,13 @@ returns-in_err-ran-clause-err g c =
     let p = err_from_is_err_and c.from_residual-in_err-ran.result c.from_residual-in_err-ran.ensures.1 in
     rw (p.1, p.2) (λ u d first chunks edition taken. tt)
 
-pub returns-then-count-gt1-clause-ok : goal.returns-then-count-gt1-clause-ok
-returns-then-count-gt1-clause-ok g c =
+pub returns-in_err-keep-clause-err : goal.returns-in_err-keep-clause-err
+returns-in_err-keep-clause-err g c =
+    let p = err_from_is_err_and c.from_residual-in_err-keep.result c.from_residual-in_err-keep.ensures.1 in
+    rw (p.1, p.2) (λ u d first chunks edition taken. tt)
+
+pub returns-then-is_planned-clause-ok : goal.returns-then-is_planned-clause-ok
+returns-then-is_planned-clause-ok g c =
     let read = g.R.Read.remaining c.args.reader.now in
     let left = g.R.Read.remaining c.run_beside_reading-ran.new.reader in
     subst (λ (r : ReadingState). ReadsChunk read left c.args.log_reader.now.state r c.in_ok-next.next) (sym c.keep.ensures)

@@ -12,7 +12,7 @@ use Rattle.bohm_run.proofs.streaming.run_windows.Goals as goal
 
 pub read_ahead-requires : goal.read_ahead-requires
 read_ahead-requires g c =
-    let same = c.prepare.ensures.same ∙ ap (λ (r : ReadingState). record r { count = c.prepare.new.self.state.count }) c.in_ok-know.ensures in
+    let same = c.prepare.ensures.same in
     record {
       going = record {
         ready = subst IsReady (sym (ap (λ (r : ReadingState). r.source) same)) c.requires.ready;
@@ -24,16 +24,25 @@ read_ahead-requires g c =
 pub returns-in_err-read_ahead-clause-err : goal.returns-in_err-read_ahead-clause-err
 returns-in_err-read_ahead-clause-err g c =
     let p = err_from_is_err_and c.from_residual-in_err-read_ahead.result c.from_residual-in_err-read_ahead.ensures.1 in
-    let same = c.prepare.ensures.same ∙ ap (λ (r : ReadingState). record r { count = c.prepare.new.self.state.count }) c.in_ok-know.ensures in
+    let same = c.prepare.ensures.same in
     let was = c.args.log_reader.now.state in
     let unread = g.R.Read.remaining c.args.reader.now in
     rw (p.1, p.2) (refused_first was.edition c.args.first.log unread was.source c.prepare.new.self.state (ap (λ (r : ReadingState). r.edition) same)
     (ap (λ (r : ReadingState). r.source) same) (ap (λ (r : ReadingState). r.ahead.items) same ∙ c.requires.none) _ c.in_err-read_ahead.field-0.0
     c.in_err-read_ahead.ensures.err)
 
+pub returns-in_err-log_reader-clause-err : goal.returns-in_err-log_reader-clause-err
+returns-in_err-log_reader-clause-err g c =
+    let p = err_from_is_err_and c.from_residual-in_err-log_reader.result c.from_residual-in_err-log_reader.ensures.1 in
+    rw (p.1, p.2) (λ d begun. tt)
+
+pub returns-in_err-chunk-clause-err : goal.returns-in_err-chunk-clause-err
+returns-in_err-chunk-clause-err g c =
+    let p = err_from_is_err_and c.from_residual-in_err-chunk.result c.from_residual-in_err-chunk.ensures.1 in rw (p.1, p.2) (λ d begun. tt)
+
 pub windows-init : goal.windows-init
 windows-init g c =
-    let same = c.prepare.ensures.same ∙ ap (λ (r : ReadingState). record r { count = c.prepare.new.self.state.count }) c.in_ok-know.ensures in
+    let same = c.prepare.ensures.same in
     let chunk = c.in_ok-chunk.chunk in
     let made = c.in_ok-chunk.ensures.checked in
     let first = c.in_ok-chunk.ensures.log in
@@ -45,7 +54,7 @@ windows-init g c =
     let s = c.args.log_reader.now.state.source in
     let ahead = c.in_ok-read_ahead.ensures.ok in
     let started = c.in_ok-state.ensures in
-    let count = ap (λ (r : ReadingState). r.count) c.in_ok-know.ensures ∙ (c.requires.count ∙ sym started.count) in
+    let count = c.requires.count ∙ sym started.count in
     record {
       edition = ahead.edition ∙ edition;
       going = ahead.going;
@@ -56,7 +65,8 @@ windows-init g c =
       };
       count = ahead.count ∙ (made.count ∙ ap (λ (n : ℕ). count_with n (length chunk.log)) count);
       streams = ahead_on e c.args.first.log unread unread s c.prepare.new.self.state chunk.log c.in_ok-state.state c.in_ok-state.state edition
-          (subst (λ (l : List Txn). RunsBehindTo e c.args.first.log unread unread s c.prepare.new.self.state l c.in_ok-state.state c.in_ok-state.state) (sym first)
+          (subst (λ (l : List Txn). RunsBehindTo e c.args.first.log unread unread s c.prepare.new.self.state l c.in_ok-state.state c.in_ok-state.state)
+          (sym first)
           (begin e c.args.first.log unread s c.prepare.new.self.state c.in_ok-state.state source none)) _ c.read_ahead.new.self.state ahead;
     }
 
@@ -64,8 +74,8 @@ pub returns-in_err-chunk-2-clause-err : goal.returns-in_err-chunk-2-clause-err
 returns-in_err-chunk-2-clause-err g c =
     let p = err_from_is_err_and c.from_residual-in_err-chunk-2.result c.from_residual-in_err-chunk-2.ensures.1 in
     let was = c.windows.invariant in
-    rw (p.1, p.2) (refused c.args.log_reader.now.state.edition c.args.first.log _ _ c.args.log_reader.now.state.source c.windows.log_reader.state c.windows.chunk.log
-    c.in_ok-state.state c.windows.state was.edition was.streams _ c.in_err-chunk-2.field-0.0 c.in_err-chunk-2.ensures.err)
+    rw (p.1, p.2) (refused c.args.log_reader.now.state.edition c.args.first.log _ _ c.args.log_reader.now.state.source c.windows.log_reader.state
+    c.windows.chunk.log c.in_ok-state.state c.windows.state was.edition was.streams _ c.in_err-chunk-2.field-0.0 c.in_err-chunk-2.ensures.err)
 
 pub windows-smaller : goal.windows-smaller
 windows-smaller g c = c.in_ok-chunk-2.ensures.ok.less

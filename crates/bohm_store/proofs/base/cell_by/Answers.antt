@@ -7,16 +7,16 @@ pub returns-then-is_numbered : goal.returns-then-is_numbered
 returns-then-is_numbered c =
     let h = c.args.numbered.now in
     let n = c.number-hint.result in
-    let there : slice_get c.args.names.now n ≡ Some c.args.key.now = rw c.as_slice.ensures.names at (c.is_numbered.ensures c.if-is_numbered.true) in
+    let there : slice_get c.args.names.now n ≡ Some c.args.key.now = rw c.table.ensures.names at (c.is_numbered.ensures c.if-is_numbered.true) in
     let (inside, is) = placed_at _ _ n there in
-    c.cell.ensures ∙ sym (past_named _ h h.top n _ c.as_slice.ensures.apart inside is)
+    c.cell.ensures ∙ sym (past_named _ h h.top n _ c.table.ensures.apart inside is)
 
 pub returns-in-Some : goal.returns-in-Some
 returns-in-Some c =
     let h = c.args.numbered.now in
     let n = c.in-Some.number in
     let (inside, is) = found_at _ _ n (sym c.find.ensures ∙ c.in-Some.is) in
-    c.cell-in-Some.ensures ∙ sym (past_named _ h h.top n _ c.as_slice.ensures.apart inside is)
+    c.cell-in-Some.ensures ∙ sym (past_named _ h h.top n _ c.table.ensures.apart inside is)
 
 pub returns-in-None : goal.returns-in-None
 returns-in-None c =

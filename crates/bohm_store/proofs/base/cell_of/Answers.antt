@@ -12,7 +12,7 @@ returns-in-Some c =
     let names = c.args.names.now in
     let h = c.args.numbered.now in
     let n = c.in-Some.number in
-    let apart = c.as_slice.ensures.apart in
+    let apart = c.table.ensures.apart in
     let (inside, is) = found_at names c.args.key.now n (sym c.find.ensures ∙ c.in-Some.is) in
     let here : versions (timeline names h) c.args.key.now ≡ versions_at h n =
     ap (λ (k : List ℕ). versions (timeline names h) k) (sym is) ∙ versions_named (versions_at h) names n apart inside in

@@ -1,6 +1,7 @@
 use Rattle.std.proofs.Common.{◌≡◌, ◌∙◌, ◌++◌, ◌<◌, ℕ, List, length, ap, arith}
 use Rattle.std.proofs.lemmas.List.{with_items_is}
 use Rattle.bohm_types.specs.declared.cell.Cell.TheVariants as cells
+use Rattle.bohm_log.specs.Layers.{all_names}
 use Rattle.bohm_store.specs.declared.version.Version.{Version}
 use Rattle.bohm_store.specs.Versions.{cell_at}
 use Rattle.bohm_store.specs.declared.held.Held.{Held}
@@ -27,7 +28,7 @@ pub returns : goal.returns
 returns c =
     let (given, at) = same (goal.at.returns c).After-deref in
     let now = c.args.newest.now in
-    let names = c.args.names.now in
+    let names = all_names c.args.names in
     let ts = c.args.ts in
     let os = c.args.older.now.items in
     let told = rw given at c.rewind.ensures in

@@ -9,5 +9,9 @@ store-requires g c =
     let place = c.args.self.place.value.shared in
     let was = c.args.self.holds in
     let done = c.exchange.ensures in
-    let seat = done.3 ∙ ap (λ m. (m.0, (0, Some c.args.value) ∷ rest m.1)) was in
-    (search rules, search rules, rw (c.deref.ensures, c.args.self.sized.1, done.1 ∙ c.args.self.first, seat) (given (g.P.Promise.kept_by place.key) place.key c.args.value c.requires))
+    let seat = done.3 ∙ ap (λ m. (m.0, (0, Some c.args.value) ∷ rest m.1)) was in (
+      search rules,
+      search rules,
+      rw (c.deref.ensures, c.args.self.sized.1, done.1 ∙ c.args.self.first, seat)
+          (given (g.P.Promise.kept_by place.key) place.key c.args.value c.requires),
+    )

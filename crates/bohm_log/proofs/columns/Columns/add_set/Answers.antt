@@ -15,26 +15,26 @@ settle-requires-clause-few g c =
       c.requires,
       length-map c.args.names.now (argument_of (keys_named c.args.args.now)),
       come_few _ _ _ c.len-start.result _ (omega arith) c.in_ok-add_arguments.ensures.ok
-          (ids_behind c.as_slice-2.result.now _ c.len-start.result c.as_slice-2.ensures.value),
+          (ids_behind c.as_slice.result.now _ c.len-start.result c.as_slice.ensures.value),
     )
 
 pub settle-requires-clause-named : goal.settle-requires-clause-named
 settle-requires-clause-named g c =
-    come_named _ _ _ _ _ _ (omega arith) c.in_ok-add_arguments.ensures.ok c.as_slice.ensures.names
-    (ids_behind c.as_slice-2.result.now _ c.len-start.result c.as_slice-2.ensures.value)
+    come_named _ _ _ _ _ _ (omega arith) c.in_ok-add_arguments.ensures.ok c.table.ensures.names
+    (ids_behind c.as_slice.result.now _ c.len-start.result c.as_slice.ensures.value)
 
 pub returns-in_err-settle-clause-err : goal.returns-in_err-settle-clause-err
 returns-in_err-settle-clause-err g c = on_err _ c.in_ok-add_arguments.ensures.ok.interns
 
 pub returns-then-places-clause-ok : goal.returns-then-places-clause-ok
 returns-then-places-clause-ok g c =
-    itself_comes _ _ _ _ _ _ _ (omega arith) c.in_ok-add_arguments.ensures.ok c.as_slice.ensures.names
-    (ids_behind c.as_slice-2.result.now _ c.len-start.result c.as_slice-2.ensures.value) c.in_ok-settle.ensures.ok c.if-places.true
+    itself_comes _ _ _ _ _ _ _ (omega arith) c.in_ok-add_arguments.ensures.ok c.table.ensures.names
+    (ids_behind c.as_slice.result.now _ c.len-start.result c.as_slice.ensures.value) c.in_ok-settle.ensures.ok c.if-places.true
 
 pub returns-then-places-clause-places : goal.returns-then-places-clause-places
 returns-then-places-clause-places g c =
-    places_come _ _ _ _ _ _ _ (omega arith) c.in_ok-add_arguments.ensures.ok c.as_slice.ensures.names
-    (ids_behind c.as_slice-2.result.now _ c.len-start.result c.as_slice-2.ensures.value) c.in_ok-settle.ensures.ok
+    places_come _ _ _ _ _ _ _ (omega arith) c.in_ok-add_arguments.ensures.ok c.table.ensures.names
+    (ids_behind c.as_slice.result.now _ c.len-start.result c.as_slice.ensures.value) c.in_ok-settle.ensures.ok
 
 pub returns-in_err-extend_from_slice-clause-err : goal.returns-in_err-extend_from_slice-clause-err
 returns-in_err-extend_from_slice-clause-err g c =
@@ -45,12 +45,12 @@ returns-in_err-extend_from_slice-clause-err g c =
 pub returns-clause-ok : goal.returns-clause-ok
 returns-clause-ok g c =
     let d : Shared = shared_of c.add_arguments.new.self in
-    let ids = c.in_ok-extend_from_slice.ensures.items ∙ (λ j. c.truncate.ensures.items j ++ c.as_slice-3.ensures.value j) in
-    sorted_comes _ d _ _ _ _ _ _ (omega arith) c.in_ok-add_arguments.ensures.ok c.as_slice.ensures.names
-    (ids_behind c.as_slice-2.result.now _ c.len-start.result c.as_slice-2.ensures.value) c.in_ok-settle.ensures.ok c.if-places.false
+    let ids = c.in_ok-extend_from_slice.ensures.items ∙ (λ j. c.truncate.ensures.items j ++ c.as_slice-2.ensures.value j) in
+    sorted_comes _ d _ _ _ _ _ _ (omega arith) c.in_ok-add_arguments.ensures.ok c.table.ensures.names
+    (ids_behind c.as_slice.result.now _ c.len-start.result c.as_slice.ensures.value) c.in_ok-settle.ensures.ok c.if-places.false
     (λ i. record d { ids = ids i })
 
 pub returns-clause-places : goal.returns-clause-places
 returns-clause-places g c =
-    places_come _ _ _ _ _ _ _ (omega arith) c.in_ok-add_arguments.ensures.ok c.as_slice.ensures.names
-    (ids_behind c.as_slice-2.result.now _ c.len-start.result c.as_slice-2.ensures.value) c.in_ok-settle.ensures.ok
+    places_come _ _ _ _ _ _ _ (omega arith) c.in_ok-add_arguments.ensures.ok c.table.ensures.names
+    (ids_behind c.as_slice.result.now _ c.len-start.result c.as_slice.ensures.value) c.in_ok-settle.ensures.ok

@@ -11,9 +11,10 @@ use Rattle.bohm_run.proofs.log_reader.LogReader.next_chunk.Goals as goal
 pub returns-in_err-chunk-clause-err : goal.returns-in_err-chunk-clause-err
 returns-in_err-chunk-clause-err g c =
     let p = err_from_is_err_and c.from_residual-in_err-chunk.result c.from_residual-in_err-chunk.ensures.1 in
-    rw (p.1, p.2) (refused_first (g.R.Read.remaining c.args.reader.now) (g.R.Read.remaining c.read_ahead.new.reader) c.args.self.now.state c.read_ahead.new.self.state
-    c.in_ok-read_ahead.ensures.ok c.in-Some.parsing c.pop_front.new.self.items c.in-Some.ensures.items c.finish-parsed.result.parsed.window
-    c.finish-parsed.ensures.parsed.window (g.R.Read.remaining c.take_parsed.new.reader) c.in_err-chunk.field-0.0 c.in_err-chunk.ensures.err)
+    rw (p.1, p.2) (refused_first (g.R.Read.remaining c.args.reader.now) (g.R.Read.remaining c.read_ahead.new.reader) c.args.self.now.state
+    c.read_ahead.new.self.state c.in_ok-read_ahead.ensures.ok c.in-Some.parsing c.pop_front.new.self.items c.in-Some.ensures.items
+    c.finish-parsed.result.parsed.window c.finish-parsed.ensures.parsed.window (g.R.Read.remaining c.take_parsed.new.reader)
+    c.in_err-chunk.field-0.0 c.in_err-chunk.ensures.err)
 
 pub returns-in_err-read_ahead-2-clause-err : goal.returns-in_err-read_ahead-2-clause-err
 returns-in_err-read_ahead-2-clause-err g c =

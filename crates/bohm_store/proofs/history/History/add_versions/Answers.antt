@@ -38,8 +38,8 @@ pub advance_newest-requires : goal.advance_newest-requires
 advance_newest-requires c =
     let (paired, writes) = covered (goal.at.advance_newest-requires c).After-cover in
     let room = rw (← c.self.view_is) at c.requires.timestamp in
-    rw c.as_slice-names.ensures.names (record {
-      names = c.as_slice-names.ensures.apart;
+    rw c.table-names.ensures.names (record {
+      names = c.table-names.ensures.apart;
       long = omega (arith, c.in_ok-cover.ensures, c.len.ensures);
       well = c.requires.well;
       timestamp = omega (arith, room, c.cover.ensures.top);
@@ -62,8 +62,8 @@ pub add_above-requires : goal.add_above-requires
 add_above-requires c =
     let room = rw (← c.self.view_is) at c.requires.timestamp in
     let low = rw (← c.self.view_is) at c.requires.floor in
-    rw c.as_slice-names.ensures.names (record {
-      names = c.as_slice-names.ensures.apart;
+    rw c.table-names.ensures.names (record {
+      names = c.table-names.ensures.apart;
       long = omega (arith, c.in_ok-cover.ensures, c.len.ensures);
       timestamps = omega (arith, room, c.cover.ensures.top);
       writes = (c.args.txn.now ∷ [], behind c);
@@ -76,7 +76,7 @@ returns-then-floor-top-clause-ok c =
     let old = c.self.inside.numbered in
     let mid = c.cover.new.self in
     let new = c.advance_newest.new.self in
-    let told = rw c.as_slice-names.ensures.names at c.advance_newest.ensures.settled in
+    let told = rw c.table-names.ensures.names at c.advance_newest.ensures.settled in
     let low = rw (← c.self.view_is) at c.requires.floor in
     let end : mid.top + 1 ≡ c.args.floor = omega (arith, c.if-floor-top.true, c.top.ensures.top, c.cover.ensures.top, low) in
     rw (← c.self.view_is) (kept_same (timeline names old) (timeline names mid) (timeline names new) (c.args.txn.now ∷ []) c.args.floor
@@ -88,7 +88,7 @@ returns-clause-ok c =
     let names = c.self.inside.names in
     let old = c.self.inside.numbered in
     let mid = c.cover.new.self in
-    let told = rw c.as_slice-names.ensures.names at c.in_ok-add_above.ensures.ok in
+    let told = rw c.table-names.ensures.names at c.in_ok-add_above.ensures.ok in
     rw (← c.self.view_is) (kept_same (timeline names old) (timeline names mid) (timeline names c.add_above.new.self) (c.args.txn.now ∷ []) c.args.floor
     (covered_same names old mid c.cover.ensures.floor c.cover.ensures.top c.cover.ensures.versions)
     (told (c.args.txn.now ∷ []) (behind (goal.at.returns-clause-ok c).After-as_slice)))

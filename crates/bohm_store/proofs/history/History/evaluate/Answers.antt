@@ -45,5 +45,5 @@ returns-in-Abort-clause-cells c =
     let ended : outcome_of (body look t) ≡ outcomes_are.Abort c.in-Abort.reason c.in-Abort.stmt =
     c.eval_in_place-outcome.ensures.outcome look c.push_held.ensures.seen ∙ c.in-Abort.is in
     let held : map look t.writes ≡ c.push_cells.new.scratch.cells =
-    rw (← c.self.view_is) (cells_by_number names h ns t.writes c.as_slice.ensures.apart are ∙ sym c.push_cells.ensures.cells) in
+    rw (← c.self.view_is) (cells_by_number names h ns t.writes c.table.ensures.apart are ∙ sym c.push_cells.ensures.cells) in
     abort_keeps t look c.in-Abort.reason c.in-Abort.stmt ended ∙ held

@@ -39,18 +39,18 @@ pub returns-then-writes_its_reads-clause-seen : goal.returns-then-writes_its_rea
 returns-then-writes_its_reads-clause-seen c =
     let names = c.self.inside.names in
     let h = c.self.inside.numbered in
-    let here = held names h c.args.numbers.now c.args.txn.now (rw (← c.self.view_is) at c.requires.numbers) c.as_slice.ensures.apart in
+    let here = held names h c.args.numbers.now c.args.txn.now (rw (← c.self.view_is) at c.requires.numbers) c.table.ensures.apart in
     let same = ap (map (past (timeline names h) h.top)) (c.writes_its_reads.ensures c.if-writes_its_reads.true) in
     rw (← c.self.view_is) (same ∙ here ∙ sym c.push_reads_and_cells.ensures.seen)
 
 pub returns-then-writes_its_reads-clause-cells : goal.returns-then-writes_its_reads-clause-cells
 returns-then-writes_its_reads-clause-cells c =
     let here = held c.self.inside.names c.self.inside.numbered c.args.numbers.now c.args.txn.now (rw (← c.self.view_is) at c.requires.numbers)
-    c.as_slice.ensures.apart in
+    c.table.ensures.apart in
     rw (← c.self.view_is) (here ∙ sym c.push_reads_and_cells.ensures.cells)
 
 pub returns-else-writes_its_reads-clause-cells : goal.returns-else-writes_its_reads-clause-cells
 returns-else-writes_its_reads-clause-cells c =
     let here = held c.self.inside.names c.self.inside.numbered c.args.numbers.now c.args.txn.now (rw (← c.self.view_is) at c.requires.numbers)
-    c.as_slice.ensures.apart in
+    c.table.ensures.apart in
     rw (← c.self.view_is) (here ∙ sym c.push_cells.ensures.cells)

@@ -28,4 +28,4 @@ returns-clause-past c =
 pub returns-clause-distinct : goal.returns-clause-distinct
 returns-clause-distinct c =
     subst (λ (keys : List (List ℕ)). IsDistinct bytes_eq keys) (sym (keys_named (versions_at c.rewind.new.self) 0 c.self.inside.names))
-    c.as_slice.ensures.apart
+    c.table.ensures.apart

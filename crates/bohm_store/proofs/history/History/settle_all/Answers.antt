@@ -13,8 +13,8 @@ add_writes-requires c =
     let same = covered_same names old c.cover.new.self c.cover.ensures.floor c.cover.ensures.top c.cover.ensures.versions in
     let next = next_same _ _ c.args.batch.now same (rw (← c.self.view_is) at c.requires.next) in
     let writes = rw (← c.self.view_is, keys_named (versions_at old) 0 names) at c.requires.writes in
-    rw c.as_slice.ensures.names (record {
-      names = c.as_slice.ensures.apart;
+    rw c.table.ensures.names (record {
+      names = c.table.ensures.apart;
       long = omega (arith, c.in_ok-cover.ensures, c.len.ensures);
       timestamps = omega (arith, c.args.batch.now.batched.timestamps, next.first, c.len-2.ensures);
       writes = (txns_of c.args.batch.now, rw c.len-2.ensures (batch_behind _ _ _ _ next writes));
@@ -28,6 +28,6 @@ returns-clause-ok c =
     let same = covered_same names old c.cover.new.self c.cover.ensures.floor c.cover.ensures.top c.cover.ensures.versions in
     let next = next_same _ _ b same (rw (← c.self.view_is) at c.requires.next) in
     let writes = rw (← c.self.view_is, keys_named (versions_at old) 0 names) at c.requires.writes in
-    let told = rw c.as_slice.ensures.names at c.in_ok-add_writes.ensures.ok in
+    let told = rw c.table.ensures.names at c.in_ok-add_writes.ensures.ok in
     rw (← c.self.view_is) (settled_same _ (timeline names c.cover.new.self) (timeline names c.add_writes.new.self) (txns_of b) same
     (told (txns_of b) (rw c.len-2.ensures (batch_behind _ _ _ _ next writes))))

@@ -22,8 +22,8 @@ covered c =
 pub settle_newest-requires : goal.settle_newest-requires
 settle_newest-requires c =
     let (same, next, writes) = covered (goal.at.settle_newest-requires c).After-cover in
-    rw c.as_slice-names.ensures.names (record {
-      names = c.as_slice-names.ensures.apart;
+    rw c.table-names.ensures.names (record {
+      names = c.table-names.ensures.apart;
       long = omega (arith, c.in_ok-cover.ensures, c.len.ensures);
       next = next;
       writes = writes;
@@ -33,8 +33,8 @@ pub add_above-requires : goal.add_above-requires
 add_above-requires c =
     let (same, next, writes) = covered (goal.at.add_above-requires c).After-cover in
     let low = rw (← c.self.view_is) at c.requires.floor in
-    rw c.as_slice-names.ensures.names (record {
-      names = c.as_slice-names.ensures.apart;
+    rw c.table-names.ensures.names (record {
+      names = c.table-names.ensures.apart;
       long = omega (arith, c.in_ok-cover.ensures, c.len.ensures);
       timestamps = omega (arith, c.args.batch.now.batched.timestamps, next.first, c.len-count.ensures);
       writes = (txns_of c.args.batch.now, rw c.len-count.ensures (batch_behind _ _ _ _ next writes));
@@ -48,7 +48,7 @@ returns-then-floor-top-clause-ok c =
     let mid = c.cover.new.self in
     let new = c.settle_newest.new.self in
     let txns = txns_of c.args.batch.now in
-    let told = rw c.as_slice-names.ensures.names at c.settle_newest.ensures.settled in
+    let told = rw c.table-names.ensures.names at c.settle_newest.ensures.settled in
     let end : mid.top + length txns ≡ c.args.floor = omega (arith, c.if-floor-top.true, c.top.ensures.top, c.len-count.ensures) in
     rw (← c.self.view_is) (kept_same (timeline names old) (timeline names mid) (timeline names new) txns c.args.floor
     (covered (goal.at.returns-then-floor-top-clause-ok c).After-cover).0
@@ -59,6 +59,6 @@ returns-clause-ok c =
     let names = c.self.inside.names in
     let b = c.args.batch.now in
     let (same, next, writes) = covered (goal.at.returns-clause-ok c).After-cover in
-    let told = rw c.as_slice-names.ensures.names at c.in_ok-add_above.ensures.ok in
+    let told = rw c.table-names.ensures.names at c.in_ok-add_above.ensures.ok in
     rw (← c.self.view_is) (kept_same _ (timeline names c.cover.new.self) (timeline names c.add_above.new.self) (txns_of b) c.args.floor same
     (told (txns_of b) (rw c.len-count.ensures (batch_behind _ _ _ _ next writes))))

@@ -10,16 +10,16 @@ use Rattle.bohm_store.proofs.history.History.stand.Goals as goal
 pub invariant_of-result : goal.invariant_of-result
 invariant_of-result c =
     let es = c.args.entries.now in
-    rw c.in_ok-names.ensures (omega (arith, c.in_ok-numbered.ensures.long, length-map es (λ (e : List ℕ × ℤ). e.0)))
+    rw c.requires.names (omega (arith, c.in_ok-numbered.ensures.long, length-map es (λ (e : List ℕ × ℤ). e.0)))
 
 pub returns-clause-versions : goal.returns-clause-versions
-returns-clause-versions c k = rw c.in_ok-names.ensures (c.in_ok-numbered.ensures.versions k)
+returns-clause-versions c k = rw c.requires.names (c.in_ok-numbered.ensures.versions k)
 
 pub returns-clause-past : goal.returns-clause-past
 returns-clause-past c =
     let look = cell_in (store_of c.args.entries.now) in
     let same : (k : List ℕ) → _ = λ k. ap (λ vs. cell_at c.args.ts vs Absent) (c.in_ok-numbered.ensures.versions k) ∙ started_past c.args.ts (look k) in
-    rw c.in_ok-names.ensures (λ i k. same k i)
+    rw c.requires.names (λ i k. same k i)
 
 pub returns-clause-count : goal.returns-clause-count
-returns-clause-count c = rw c.in_ok-names.ensures c.in_ok-numbered.ensures.count
+returns-clause-count c = rw c.requires.names c.in_ok-numbered.ensures.count

@@ -1,4 +1,5 @@
 use Rattle.std.proofs.Common.{arith}
+use Rattle.bohm_log.specs.Layers.{all_names}
 use Rattle.bohm_store.specs.Numbered.{timeline}
 use Rattle.bohm_store.proofs.Kept.{trim_settled}
 use Rattle.bohm_store.proofs.numbered.NumberedHistory.add_above.Goals as goal
@@ -12,5 +13,5 @@ trim-requires c =
 pub returns-in-Ok-clause-ok : goal.returns-in-Ok-clause-ok
 returns-in-Ok-clause-ok c = λ txns h.
     let done = c.trim.ensures in
-    trim_settled c.args.names.now (timeline c.args.names.now c.args.self.now) c.add_writes.new.self c.trim.new.self
+    trim_settled (all_names c.args.names) (timeline (all_names c.args.names) c.args.self.now) c.add_writes.new.self c.trim.new.self
     txns c.args.floor c.requires.names (c.in-Ok.ensures.ok txns h) done.floor done.top done.versions done.unchanged

@@ -1,5 +1,6 @@
 use Rattle.std.proofs.Common.{◌≡◌, List, ◌++◌, ◌+◌, ◌<◌, ◌∙◌, ℕ, length, ap, refl, arith}
 use Rattle.std.proofs.lemmas.List.{with_items_is}
+use Rattle.bohm_log.specs.Layers.{all_names}
 use Rattle.bohm_store.specs.Numbered.{EndsRise, IsNumbered, Numbered, timeline, versions_at}
 use Rattle.bohm_store.specs.Writes.{AreWritesBehind, versions_by}
 use Rattle.bohm_store.proofs.OlderVersions.{rise_higher}
@@ -27,10 +28,10 @@ new c = record {
 }
 
 -- what it leaves
-left : (c : In-Ok) (txns : List Txn) → AreWritesBehind c.args.names.now (timeline c.args.names.now (old c)) c.args.count txns c.args.writes.now
-    → IsNumbered (new c) × IsSettled (timeline c.args.names.now (old c)) (timeline c.args.names.now (new c)) txns
+left : (c : In-Ok) (txns : List Txn) → AreWritesBehind (all_names c.args.names) (timeline (all_names c.args.names) (old c)) c.args.count txns c.args.writes.now
+    → IsNumbered (new c) × IsSettled (timeline (all_names c.args.names) (old c)) (timeline (all_names c.args.names) (new c)) txns
 left c txns h =
-    let names = c.args.names.now in
+    let names = all_names c.args.names in
     let ws = c.args.writes.now in
     let os = c.self.inside.older.items in
     let was = c.self.invariant in

@@ -2,6 +2,7 @@
 use Rattle.std.proofs.Common.{◌+◌, ◌∷◌, [], length, refl, ap, arith}
 use Rattle.std.proofs.lemmas.List.{with_items_is}
 use Rattle.bohm_txn.specs.Meaning.{Look}
+use Rattle.bohm_log.specs.Layers.{all_names}
 use Rattle.bohm_store.specs.Numbered.{IsNumbered, Numbered, timeline}
 use Rattle.bohm_store.specs.Versions.{past}
 use Rattle.bohm_store.specs.Writes.{AreTxnWrites, writes_by}
@@ -34,9 +35,9 @@ new c = record {
 
 -- what it leaves
 left : (c : After-replace_each) → IsNumbered (new c)
-    × IsSettledKept (timeline c.args.names.now (old c)) (timeline c.args.names.now (new c)) (c.args.txn.now ∷ []) ((old c).top + 1)
+    × IsSettledKept (timeline (all_names c.args.names) (old c)) (timeline (all_names c.args.names) (new c)) (c.args.txn.now ∷ []) ((old c).top + 1)
 left c =
-    let names = c.args.names.now in
+    let names = all_names c.args.names in
     let t = c.args.txn.now in
     let ws = writes_by (c.self.inside.top + 1) c.args.numbers.now c.args.cells.now in
     let value = c.as_mut_slice.ensures.value in

@@ -1,6 +1,7 @@
 use Rattle.std.proofs.Common.{◌≡◌, ◌+◌, ℕ, length, map, ap, arith}
 use Rattle.std.proofs.lemmas.List.{with_items_is}
 use Rattle.bohm_board.specs.Batches.{base_of, txns_of}
+use Rattle.bohm_log.specs.Layers.{all_names}
 use Rattle.bohm_store.specs.Numbered.{IsNumbered, Numbered, timeline}
 use Rattle.bohm_store.specs.Writes.{named_write}
 use Rattle.bohm_store.proofs.Settled.{settled}
@@ -28,10 +29,10 @@ new c = record {
 
 -- what it leaves
 left : (c : After-len) → IsNumbered (new c)
-    × IsSettledKept (timeline c.args.names.now (old c)) (timeline c.args.names.now (new c)) (txns_of c.args.batch.now)
+    × IsSettledKept (timeline (all_names c.args.names) (old c)) (timeline (all_names c.args.names) (new c)) (txns_of c.args.batch.now)
     ((old c).top + length (txns_of c.args.batch.now))
 left c =
-    let names = c.args.names.now in
+    let names = all_names c.args.names in
     let b = c.args.batch.now in
     let ws = c.args.writes.now in
     let given = rw (← c.self.view_is) at c.requires.next in

@@ -8,6 +8,7 @@ use Rattle.std.specs.Str.{bytes_eq}
 use Rattle.std.specs.Cmp.Lexicographic.{slice_cmp, nat_list_cmp_total}
 use Rattle.std.proofs.lemmas.List.Sorted.{ranks_by, answers_always}
 use Rattle.bohm_types.specs.declared.cell.Cell.TheVariants as cells
+use Rattle.bohm_log.specs.Layers.{all_names}
 use Rattle.bohm_store.specs.Versions.{cell_at}
 use Rattle.bohm_store.specs.declared.held.Held.{Held}
 use Rattle.bohm_txn.specs.Stores.{Store, cell_in}
@@ -28,7 +29,7 @@ present_at-requires c =
 pub returns-in-Ok : goal.returns-in-Ok
 returns-in-Ok c =
     let ts = c.args.ts in
-    let names = c.args.names.now in
+    let names = all_names c.args.names in
     let items = c.self.inside.newest.items in
     let os = c.self.inside.older.items in
     let h : Numbered = record { floor = c.self.inside.floor; top = c.self.inside.top; newest = items; older = os } in

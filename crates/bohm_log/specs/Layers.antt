@@ -1,0 +1,7 @@
+-- Names in two layers.
+use Rattle.std.specs.Prelude.{ℕ, List, ◌++◌}
+use Rattle.bohm_log.specs.declared.name_table.NameTable.{NameTable}
+
+-- the shared names, and the others behind them
+abbrev pub all_names : NameTable → List (List ℕ)
+all_names t = t.shared.now ++ t.own.now
