@@ -22,7 +22,7 @@
 
 /* The version, and the checksum of the sources that the library is built from. */
 #define BOHM_VERSION "0.1.0"
-#define BOHM_SOURCES "f8e2ce7a7284e85825c197e563e781964d6649721dd28958c62140d0bb38d712"
+#define BOHM_SOURCES "3b6944e9b97d017fd1c2024529542abee07d5542d347e478123c60582fcd74bd"
 
 /* The same, of the library that the program is linked with. */
 extern const char bohm_version[16], bohm_sources[65];
