@@ -16,6 +16,7 @@ use crate::hash_seed::HashSeed;
 use crate::key_handle::KeyHandle;
 use crate::log::Log;
 use crate::part::LogPart;
+use crate::shared_names::SharedNames;
 use crate::soundness::are_entries;
 use crate::template::Template;
 use bohm_types::{Edition, Items, Key, Value};
@@ -75,14 +76,19 @@ impl Doc {
         }
     }
 
-    /// No store and no transactions. It allocates nothing.
-    pub fn empty(alloc: Global, seed: HashSeed, edition: Edition) -> Doc
+    /// No store and no transactions, in a log that shares these names. It allocates nothing.
+    pub fn sharing(
+        alloc: Global,
+        seed: HashSeed,
+        edition: Edition,
+        names: SharedNames<HashSeed>,
+    ) -> Doc
         ensures { result ≡ empty_document edition }
     {
         Doc {
             edition,
             store: Items::from(Vec::new(alloc)),
-            log: Log::new(alloc, seed),
+            log: Log::sharing(alloc, seed, names),
         }
     }
 

@@ -1,10 +1,12 @@
 //! Names that many logs share.
 
-ghost use Rattle.std.specs.Prelude.{◌≡◌, ◌≤◌, ◌^◌, [], Some, IfOk, IfSome, length, slice_get};
+ghost use Rattle.std.specs.Prelude.{◌≡◌, ◌≤◌, ◌^◌, [], Some, IfOk, IfSome, IfNone, length};
+ghost use Rattle.std.specs.Prelude.{slice_get};
 ghost use Rattle.std.specs.Prelude.{position};
 ghost use Rattle.std.specs.List.{IsDistinct};
 ghost use Rattle.std.specs.Str.{bytes_eq};
 
+use crate::key_handle::KeyHandle;
 use crate::name_hints::{NO_NUMBER, at_number, slot_of};
 use crate::names::Names;
 use bohm_types::{Key, NoMemory};
@@ -115,8 +117,24 @@ impl<S: BuildHasher> SharedNames<S> {
         }
     }
 
-    /// The number of a name, if it is one of them.
-    pub(crate) fn find(&self, name: &Key) -> Option<u32>
+    /// How many there are.
+    pub fn len(&self) -> usize
+        ensures { result ≡ length self.now }
+    {
+        self.as_slice().len()
+    }
+
+    /// The handle of the name that has a number, if one has it.
+    pub fn handle(&self, number: u32) -> Option<KeyHandle>
+        ensures some { IfSome result (λ h. slice_get self.now number ≡ Some h.key) }
+        ensures none { IfNone result (length self.now ≤ number) }
+    {
+        let key = *self.as_slice().get(number as usize)?;
+        Some(KeyHandle { key, number })
+    }
+
+    /// The number of a name, if it is one of them. The time doesn't grow with their number.
+    pub fn find(&self, name: &Key) -> Option<u32>
         ensures { result ≡ position (bytes_eq name.now) self.now }
     {
         match &self.hashed {

@@ -7,6 +7,7 @@ ghost use Rattle.std.specs.FinMap.{entries};
 ghost use Rattle.std.specs.List.{IsDistinct};
 ghost use Rattle.std.specs.Map.{keys_of};
 ghost use Rattle.std.specs.Str.{bytes_eq};
+ghost use Rattle.bohm_types.specs.Appending.{empty_document};
 ghost use Rattle.bohm_types.specs.Keys.{rising, names_of};
 ghost use Rattle.bohm_txn.specs.Stores.{cell_in, store_of};
 ghost use Rattle.bohm_store.specs.Versions.{kept_versions, total, versions};
@@ -18,11 +19,12 @@ ghost use Rattle.bohm_types.specs.Limits.{largest_batch};
 
 use crate::fault::SegmentFault;
 use bohm_exec::OpenGate;
-use bohm_log::DrawnSeed;
+use bohm_log::{DrawnSeed, HashSeed, SharedNames};
+use bohm_procedures::Calls;
 use bohm_run::{Applied, ByteSum, Cuts, Kept, LARGEST_BATCH, SerialExecutor, Settings, apply};
 use bohm_store::{History, PastFault, StoreFault};
 use bohm_txn::{Checked, Replies};
-use bohm_types::{Cell, Key, NoMemory, Value};
+use bohm_types::{Cell, Edition, Key, NoMemory, Value};
 use std::alloc::Global;
 use std::marker::Model;
 use std::sync::Wait;
@@ -62,13 +64,29 @@ impl Machine {
         ensures run { IfOk result (HasRun (cell_in (store_of store.now)) top []) }
         ensures count { IfOk result (λ m. total m.chains ≡ length store.now) }
     {
-        let history = History::restore_with_seed(alloc, store, top, seed)?;
+        let history = History::restore_sharing(alloc, store, top, seed)?;
         let executor = SerialExecutor::new(alloc)?;
         Ok(Machine {
             seed,
             history,
             executor,
         })
+    }
+
+    /// No calls of procedures of this edition, in a list that shares the names of the keys that the store
+    /// had when the machine was made: such a key has one number in the machine and in all these lists.
+    /// Any list runs on any machine; calls on these keys cost least where they are shared.
+    pub fn calls(&self, alloc: Global, edition: Edition) -> Result<Calls, NoMemory>
+        ensures { IfOk result (λ c. c ≡ empty_document edition) }
+    {
+        let names = self.shared_names()?;
+        Ok(Calls::sharing(alloc, self.seed, edition, names))
+    }
+
+    /// The names of the keys that the store had when the machine was made, for lists of calls to share.
+    /// Nothing is copied.
+    pub fn shared_names(&self) -> Result<SharedNames<HashSeed>, NoMemory> {
+        self.history.shared_names()
     }
 
     /// The seed from which it hashes keys.

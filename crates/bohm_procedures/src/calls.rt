@@ -9,7 +9,7 @@ ghost use Rattle.bohm_text.specs.Print.{print_doc};
 ghost use Rattle.bohm_procedures.specs.Accepting.{Takes};
 
 use crate::procedure::Procedure;
-use bohm_log::{CallPlaces, DrawnSeed, HashSeed, KeyHandle};
+use bohm_log::{CallPlaces, DrawnSeed, HashSeed, KeyHandle, SharedNames};
 use bohm_text::print_doc;
 use bohm_txn::Checked;
 use bohm_types::{Edition, Key, MOST_TXNS, NoMemory, Value};
@@ -54,8 +54,21 @@ impl Calls {
     pub fn new(alloc: Global, seed: DrawnSeed, edition: Edition) -> Calls
         ensures { result ≡ empty_document edition }
     {
+        Calls::sharing(alloc, seed, edition, SharedNames::none())
+    }
+
+    /// No calls, in a list that shares these names with a machine and with its other lists: a key among
+    /// them has the same number in all, and takes no memory in this one. It allocates nothing.
+    pub fn sharing(
+        alloc: Global,
+        seed: DrawnSeed,
+        edition: Edition,
+        names: SharedNames<HashSeed>,
+    ) -> Calls
+        ensures { result ≡ empty_document edition }
+    {
         Calls {
-            segment: Checked::empty(alloc, HashSeed::from(seed), edition),
+            segment: Checked::sharing(alloc, HashSeed::from(seed), edition, names),
             handles: Vec::new(alloc),
             places: CallPlaces::new(alloc),
         }

@@ -149,10 +149,30 @@ impl History {
         ensures count { IfOk result (λ h. total h.chains ≡ length entries.now) }
         ensures past { IfOk result (λ h. past h 0 ≡ cell_in (store_of entries.now)) }
     {
+        History::restore_sharing(alloc, entries, 0, seed)
+    }
+
+    /// The history of a store at a timestamp, as `restore_with_seed` gives it. Logs can share the names
+    /// of the store's keys with it.
+    pub fn restore_sharing(
+        alloc: Global,
+        entries: &[(Key, Value)],
+        ts: u32,
+        seed: DrawnSeed,
+    ) -> Result<History, NoMemory>
+        requires { rising (names_of entries.now) ≡ true }
+        ensures floor { IfOk result (λ h. h.floor ≡ ts) }
+        ensures top { IfOk result (λ h. h.top ≡ ts) }
+        ensures versions { IfOk result
+            (λ h. (k : List ℕ)
+            → versions h k ≡ starting_versions (cell_in (store_of entries.now) k)) }
+        ensures count { IfOk result (λ h. total h.chains ≡ length entries.now) }
+        ensures past { IfOk result (λ h. past h ts ≡ cell_in (store_of entries.now)) }
+    {
         let seed = HashSeed::from(seed);
         let names = names_in(alloc, entries, seed)?;
         let names = LayeredNames::shared_from(alloc, seed, names)?;
-        History::stand(alloc, entries, 0, names)
+        History::stand(alloc, entries, ts, names)
     }
 
     /// The names that logs can share: those of the starting store's keys if it was opened so, or else

@@ -13,7 +13,7 @@ ghost use Rattle.bohm_types.specs.Limits.{most_txns};
 
 use crate::fault::CheckFault;
 use crate::first_fault::first_fault;
-use bohm_log::{CallPlaces, Doc, HashSeed, KeyHandle, LogFault, LogPart, Template};
+use bohm_log::{CallPlaces, Doc, HashSeed, KeyHandle, LogFault, LogPart, SharedNames, Template};
 use bohm_types::{Edition, Key, Value};
 use std::alloc::Global;
 use std::marker::Model;
@@ -36,12 +36,17 @@ impl Model for Checked {
 }
 
 impl Checked {
-    /// No store and no transactions. It allocates nothing.
-    pub fn empty(alloc: Global, seed: HashSeed, edition: Edition) -> Checked
+    /// No store and no transactions, in a log that shares these names. It allocates nothing.
+    pub fn sharing(
+        alloc: Global,
+        seed: HashSeed,
+        edition: Edition,
+        names: SharedNames<HashSeed>,
+    ) -> Checked
         ensures { result ≡ empty_document edition }
     {
         Checked {
-            doc: Doc::empty(alloc, seed, edition),
+            doc: Doc::sharing(alloc, seed, edition, names),
         }
     }
 
