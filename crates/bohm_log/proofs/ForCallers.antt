@@ -4,3 +4,6 @@
 pub use Rattle.bohm_log.proofs.InstanceSound.{instance_sound}
 -- sets of keys
 pub use Rattle.bohm_log.proofs.Placing.{among_key_set, key_set_few}
+-- names by their numbers
+pub use Rattle.bohm_log.proofs.Seeking.{at_its_number}
+pub use Rattle.bohm_log.proofs.Widening.{named_more, same_names}
