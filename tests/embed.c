@@ -319,22 +319,28 @@ static long push_refused(long from, long to) {
     return asked_for;
 }
 
+/* A list that shares the machine's names, or one that has its own. */
+static uint32_t open_list(const bohm_machine *machine, bohm_calls *calls, int shares) {
+    return shares ? bohm_open_calls_for(machine, calls, 1) : bohm_open_calls(calls, seed, 1);
+}
+
 /* The same of handles, and of pushes by them. A handle that was made names its key behind all refusals, and when the calls
  * are cleared. */
-static long push_named_refused(long from, long to) {
+static long named_refused(int shares, long from, long to) {
     procedures of = prepare_all(now);
     bohm_machine machine = {0};
     bohm_calls calls = {0};
     handles keys = {7, 7, 7};
     uint32_t taken = 0, status;
     open_behind(&machine, 0);
-    hold(bohm_open_calls(&calls, seed, 1) == BOHM_DONE, "no list of calls");
     refuse(from, to);
-    status = make_handles(&calls, &keys);
+    status = open_list(&machine, &calls, shares);
+    if (!status) status = make_handles(&calls, &keys);
     while (!status && taken < 12 && !(status = push_named(&calls, &of, &keys, taken + 1))) taken++;
     long asked_for = relent();
     hold(!status || (status == BOHM_NO_MEMORY && asked_for >= from), "another end");
     hold((keys.a == 7 || keys.a == 0) && (keys.b == 7 || keys.b == 1) && (keys.c == 7 || keys.c == 2), "other handles");
+    if (!calls.at) hold(open_list(&machine, &calls, shares) == BOHM_DONE, "no list of calls");
     if (keys.c == 7) hold(make_handles(&calls, &keys) == BOHM_DONE, "no handles");
     run_on(&machine, &calls, taken);
     bohm_clear_calls(&calls);
@@ -345,6 +351,9 @@ static long push_named_refused(long from, long to) {
     close_all(&of);
     return asked_for;
 }
+
+static long push_named_refused(long from, long to) { return named_refused(0, from, to); }
+static long push_shared_refused(long from, long to) { return named_refused(1, from, to); }
 
 static long run_calls_refused(long from, long to) {
     uint32_t top = 6, count = least_count;
@@ -537,8 +546,8 @@ static void each_call_status(void) {
 }
 
 /* The same of calls whose keys are named by handles. */
-static void each_handle_status(void) {
-    now = "handles";
+static void each_handle_status(int shares) {
+    now = shares ? "shared handles" : "handles";
     procedures of = prepare_all(now);
     bohm_procedure other = prepared(now, "procedure 2\nreads\nwrites\nend\n");
     bohm_calls calls = {0};
@@ -546,7 +555,7 @@ static void each_handle_status(void) {
     uint32_t keys[4] = {9, 9, 9, 9}, strange[] = {0, 4}, last[] = {0, UINT32_MAX};
     int64_t one = 1;
     open_behind(&machine, 0);
-    hold(bohm_open_calls(&calls, seed, 1) == BOHM_DONE, "no list of calls");
+    hold(open_list(&machine, &calls, shares) == BOHM_DONE, "no list of calls");
     hold(handle_of(&calls, "", keys) == BOHM_NO_KEY && handle_of(&calls, "A", keys) == BOHM_NO_KEY && keys[0] == 9, "no key");
     hold(bohm_push_named(&calls, &of.count, strange, 1, &one, 1) == BOHM_MISUSE, "a handle that nobody made");
     const char *names[] = {"a", "b", "a", "c"};
@@ -572,6 +581,27 @@ static void each_handle_status(void) {
     }
     bohm_close(&machine);
     bohm_close_procedure(&other);
+    bohm_close_calls(&calls);
+    close_all(&of);
+}
+
+/* A list that shares a machine's names runs on another one, whose store has other keys, once the first one is closed. */
+static void another_machines_list(void) {
+    now = "another machine's list";
+    procedures of = prepare_all(now);
+    bohm_calls calls = {0};
+    bohm_machine first = {0}, second = {0};
+    handles keys;
+    open_behind(&first, 4);
+    hold(open_list(&first, &calls, 1) == BOHM_DONE && make_handles(&calls, &keys) == BOHM_DONE, "no list of calls");
+    bohm_close(&first);
+    open_behind(&second, 0);
+    for (uint32_t k = 1; k <= 8; k++) {
+        uint32_t status = k % 3 ? push_named(&calls, &of, &keys, k) : push(&calls, &of, k);
+        hold(status == BOHM_DONE, "a call isn't taken");
+    }
+    run_on(&second, &calls, 8);
+    bohm_close(&second);
     bohm_close_calls(&calls);
     close_all(&of);
 }
@@ -849,6 +879,7 @@ static void misused_calls(void) {
     hold(bohm_prepare(&none, seed, NULL, 1, NULL) == BOHM_MISUSE && bohm_prepare(NULL, seed, NULL, 0, NULL) == BOHM_MISUSE, "a null text");
     hold(bohm_open_calls(&calls, seed, 1) == BOHM_DONE, "no list of calls");
     hold(bohm_open_calls(&calls, seed, 1) == BOHM_MISUSE && bohm_open_calls(NULL, seed, 1) == BOHM_MISUSE, "an open list is opened");
+    hold(bohm_open_calls_for(&machine, &closed, 1) == BOHM_MISUSE && bohm_open_calls_for(NULL, &closed, 1) == BOHM_MISUSE, "no machine");
     hold(bohm_push(&closed, &of.count, &a, 1, &one, 1) == BOHM_MISUSE, "a closed list");
     hold(bohm_push(NULL, &of.count, &a, 1, &one, 1) == BOHM_MISUSE, "no list");
     hold(bohm_push(&calls, &none, &a, 1, &one, 1) == BOHM_MISUSE, "a closed procedure");
@@ -868,8 +899,11 @@ static void misused_calls(void) {
     bohm_machine strange = {of.count.at};
     misused_machine(&(bohm_machine){0});
     hold(bohm_trim(&strange, 0) == BOHM_MISUSE && strange.at == of.count.at, "a procedure in the place of a machine");
+    hold(bohm_open_calls_for(&strange, &closed, 1) == BOHM_MISUSE && !closed.at, "a procedure in the place of a machine");
     hold(push(&calls, &of, 1) == BOHM_DONE, "a call isn't taken");
     open_behind(&machine, 0);
+    hold(bohm_open_calls_for(&machine, &calls, 1) == BOHM_MISUSE && bohm_open_calls_for(&machine, NULL, 1) == BOHM_MISUSE, "an open list is opened");
+    hold(bohm_open_calls_for(&machine, &closed, 0) == BOHM_UNFIT && bohm_open_calls_for(&machine, &closed, 3) == BOHM_UNFIT && !closed.at, "a list of no edition");
     run_on(&machine, &calls, 1);
     bohm_close(&machine);
     bohm_close_calls(&calls);
@@ -916,7 +950,9 @@ int main(void) {
     misuse();
     each_status();
     each_call_status();
-    each_handle_status();
+    each_handle_status(0);
+    each_handle_status(1);
+    another_machines_list();
     arguments();
     outcomes();
     seeds();
@@ -938,6 +974,7 @@ int main(void) {
     each_refused("bohm_prepare", prepare_refused, 0);
     each_refused("bohm_push", push_refused, 0);
     each_refused("bohm_push_named", push_named_refused, 0);
+    each_refused("bohm_push_named, shared names", push_shared_refused, 0);
     each_refused("bohm_store_at", store_at_refused, 0);
     each_refused("bohm_digest", digest_refused, 0);
     each_refused("bohm_apply of a bad line", line_refused, 0);

@@ -1,5 +1,6 @@
-/* Two threads call at once, each with a machine of its own: each has its own log's replies, each time. And a machine goes
- * from one thread to the next, which joins the one before. */
+/* Two threads call at once, each with a machine of its own: each has its own log's replies, each time. So it is where their
+ * lists of calls share the names of a third machine, which is closed meanwhile. And a machine goes from one thread to the
+ * next, which joins the one before. */
 #include "embed.h"
 
 #include <pthread.h>
@@ -57,6 +58,44 @@ static void *thread(void *size) {
     return NULL;
 }
 
+/* Runs the calls of a list on a machine of the thread's own, and closes both. */
+static void *run_shared(void *given) {
+    bohm_calls *calls = given;
+    bohm_machine machine = {0};
+    handles keys;
+    procedures of = prepare_all("threads");
+    open_new(&machine);
+    pthread_barrier_wait(&both);
+    if (make_handles(calls, &keys)) fault("threads", "no handles");
+    for (uint32_t top = 0; top < COUNT; top += 20) {
+        bohm_bytes out = BOHM_NO_BYTES;
+        for (uint32_t k = top + 1; k <= top + 20; k++)
+            if (push_named(calls, &of, &keys, k)) fault("threads", "a call isn't taken");
+        if (bohm_run_calls(&machine, calls, &out)) fault("threads", "run_calls");
+        take("threads", &out, replies_behind(top, 20));
+        bohm_clear_calls(calls);
+    }
+    bohm_close_calls(calls);
+    close_behind(&machine, COUNT);
+    close_all(&of);
+    return NULL;
+}
+
+static void share_names(void) {
+    for (int round = 0; round < ROUNDS; round++) {
+        bohm_machine first = {0};
+        bohm_calls lists[2] = {{0}, {0}};
+        pthread_t threads[2];
+        open_new(&first);
+        for (int i = 0; i < 2; i++)
+            if (bohm_open_calls_for(&first, &lists[i], 1)) fault("threads", "no list of calls");
+        for (int i = 0; i < 2; i++)
+            if (pthread_create(&threads[i], NULL, run_shared, &lists[i])) fault("threads", "no thread");
+        bohm_close(&first);
+        for (int i = 0; i < 2; i++) pthread_join(threads[i], NULL);
+    }
+}
+
 static void *apply_more(void *given) {
     bohm_machine *machine = given;
     bohm_machine_counts counts;
@@ -83,7 +122,8 @@ int main(void) {
     for (int i = 0; i < 2; i++)
         if (pthread_create(&threads[i], NULL, thread, &sizes[i])) fault("threads", "no thread");
     for (int i = 0; i < 2; i++) pthread_join(threads[i], NULL);
+    share_names();
     hand_over();
-    puts("two threads with a machine each, and a machine that goes from thread to thread: as it should be");
+    puts("two threads with a machine each, lists that share names, and a machine that goes from thread to thread: as it should be");
     return 0;
 }

@@ -26,7 +26,7 @@ static bohm_machine machine;
 static bohm_procedure by;
 static bohm_calls calls;
 static char *store;
-static size_t len, room;
+static size_t len, room, accounts;
 
 static void done(uint32_t status) { check(status == BOHM_DONE, bohm_status_text(status)); }
 
@@ -39,19 +39,18 @@ static void put_line(const char *line) {
 
 void peer_open(void) {
     done(bohm_prepare(&by, seed, (const uint8_t *)transfer_text, strlen(transfer_text), NULL));
-    done(bohm_open_calls(&calls, seed, 1));
     put_line("log 1\n");
 }
 
 #ifdef BY_HANDLES
 /* The handles of the accounts, by their numbers. */
 static uint32_t *handles;
-static size_t handle_count, handle_room;
 
-static void look_up(const char *key) {
-    if (handle_count == handle_room)
-        check((handles = realloc(handles, (handle_room = 2 * handle_room + 64) * sizeof *handles)) != NULL, "no memory");
-    done(bohm_key_handle(&calls, (const uint8_t *)key, strlen(key), &handles[handle_count++]));
+/* Looks up each account of the store's lines. */
+static void look_up(const char *line, const char *end, size_t count) {
+    check((handles = malloc((count + 1) * sizeof *handles)) != NULL, "no memory");
+    for (size_t i = 0; line < end; line = strchr(line, '\n') + 1)
+        done(bohm_key_handle(&calls, (const uint8_t *)line, strcspn(line, " "), &handles[i++]));
 }
 
 static uint32_t push(const transfer *it) {
@@ -60,7 +59,7 @@ static uint32_t push(const transfer *it) {
     return bohm_push_named(&calls, &by, keys, 2, &amount, 1);
 }
 #else
-static void look_up(const char *key) { (void)key; }
+static void look_up(const char *line, const char *end, size_t count) { (void)line, (void)end, (void)count; }
 
 static bohm_key key_of(const char *name) { return (bohm_key){(const uint8_t *)name, strlen(name)}; }
 
@@ -73,13 +72,15 @@ static uint32_t push(const transfer *it) {
 
 void peer_put(const char *key, long long balance) {
     char line[64];
-    look_up(key);
+    accounts++;
     snprintf(line, sizeof line, "%s %lld\n", key, balance);
     put_line(line);
 }
 
 void peer_filled(void) {
     done(bohm_open(&machine, seed, (const uint8_t *)store, len, 0, NULL));
+    done(bohm_open_calls_for(&machine, &calls, 1));
+    look_up(store + strlen("log 1\n"), store + len, accounts);
     free(store);
 }
 

@@ -60,7 +60,7 @@ int main(void) {
     need_done("open", bohm_open(&machine, seed, (const uint8_t *)accounts, strlen(accounts), 0, &out));
     bohm_procedure by = prepare(seed, transfer_text), audit = prepare(seed, audit_text);
 
-    need_done("open_calls", bohm_open_calls(&calls, seed, 1));
+    need_done("open_calls", bohm_open_calls_for(&machine, &calls, 1));
     uint32_t alice = look_up(&calls, "alice"), bob = look_up(&calls, "bob"), carol = look_up(&calls, "carol");
     transfer(&calls, &by, alice, bob, 30);
     transfer(&calls, &by, bob, carol, 80);

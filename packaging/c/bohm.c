@@ -29,6 +29,7 @@ uint32_t proved_bohm_timestamps(bohm_machine *machine, uint32_t *floor, uint32_t
 uint32_t proved_bohm_counts(bohm_machine *machine, bohm_machine_counts *counts);
 uint32_t proved_bohm_prepare(bohm_procedure *procedure, const uint8_t *seed, const uint8_t *text, size_t len, bohm_bytes *out);
 uint32_t proved_bohm_open_calls(bohm_calls *calls, const uint8_t *seed, uint32_t edition);
+uint32_t proved_bohm_open_calls_for(bohm_machine *machine, bohm_calls *calls, uint32_t edition);
 uint32_t proved_bohm_push(bohm_calls *calls, bohm_procedure *procedure, const bohm_key *keys, size_t key_count, const int64_t *values, size_t value_count);
 uint32_t proved_bohm_key_handle(bohm_calls *calls, const uint8_t *key, size_t len, uint32_t *handle);
 uint32_t proved_bohm_push_named(bohm_calls *calls, bohm_procedure *procedure, const uint32_t *handles, size_t handle_count, const int64_t *values, size_t value_count);
@@ -188,6 +189,12 @@ void bohm_close_procedure(bohm_procedure *procedure) {
 
 uint32_t bohm_open_calls(bohm_calls *calls, const uint8_t seed[16], uint32_t edition) {
     return calls && seed ? proved_bohm_open_calls(calls, seed, edition) : BOHM_MISUSE;
+}
+
+uint32_t bohm_open_calls_for(const bohm_machine *machine, bohm_calls *calls, uint32_t edition) {
+    if (!machine || !calls) return BOHM_MISUSE;
+    bohm_machine held = *machine;
+    return proved_bohm_open_calls_for(&held, calls, edition);
 }
 
 /* BOHM_DONE where each key has bytes; a null one of no bytes is no key. */

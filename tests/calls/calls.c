@@ -23,9 +23,17 @@ static bohm_machine machine;
 static bohm_calls calls;
 static bohm_procedure procedures[MOST];
 static size_t prepared;
+static uint32_t edition;
+
+/* Opens the machine, and a list of calls, which shares its names in edition 1. */
+static void open_both(void) {
+    need(bohm_open(&machine, seed, (uint8_t *)store, strlen(store), 0, NULL) == BOHM_DONE, "open");
+    uint32_t status = edition == 1 ? bohm_open_calls_for(&machine, &calls, 1) : bohm_open_calls(&calls, seed, edition);
+    need(status == BOHM_DONE, "open_calls");
+}
 
 static void prepare(void) {
-    if (!machine.at) need(bohm_open(&machine, seed, (uint8_t *)store, strlen(store), 0, NULL) == BOHM_DONE, "open");
+    if (!machine.at) open_both();
     need(prepared < MOST && bohm_prepare(&procedures[prepared++], seed, (uint8_t *)text, strlen(text), NULL) == BOHM_DONE, "prepare");
     text[0] = 0;
 }
@@ -129,7 +137,7 @@ int main(void) {
         } else {
             line[strcspn(line, "\n")] = 0;
             const char *word = strtok(line, " ");
-            if (!strcmp(word, "edition")) need(bohm_open_calls(&calls, seed, (uint32_t)count()) == BOHM_DONE, "open_calls");
+            if (!strcmp(word, "edition")) edition = (uint32_t)count();
             else if (!strcmp(word, "prepare")) prepare();
             else if (!strcmp(word, "push")) push();
             else if (!strcmp(word, "run")) run();

@@ -15,7 +15,8 @@
  * - It starts no thread, doesn't block, and reads and writes no file. Any thread may call, but no signal
  *   handler, and no forked child of a process with threads.
  * - A machine is in one call at a time, also of those that don't change it, and goes to another thread by a lock, or
- *   by that thread's start or end; two machines share nothing. So do a procedure and a list of calls.
+ *   by that thread's start or end. So do a procedure and a list of calls. Two machines share nothing, and a list shares
+ *   with its machine only what never changes.
  */
 #ifndef BOHM_H
 #define BOHM_H
@@ -196,6 +197,11 @@ typedef struct {
 /* Opens a closed list of no calls, for procedures of edition 1 or 2: BOHM_DONE, BOHM_UNFIT for another number, or
  * BOHM_NO_MEMORY; but for the first it stays closed. */
 uint32_t bohm_open_calls(bohm_calls *calls, const uint8_t seed[16], uint32_t edition);
+
+/* Opens a closed list as bohm_open_calls does, which shares the names of the keys that the machine's store had when it
+ * was opened. Calls on these keys take least time and memory so. The list runs on any machine, also once this one is
+ * closed. BOHM_DONE, BOHM_UNFIT or BOHM_NO_MEMORY. */
+uint32_t bohm_open_calls_for(const bohm_machine *machine, bohm_calls *calls, uint32_t edition);
 
 /* An argument: the bytes of a key. */
 typedef struct {

@@ -5,3 +5,4 @@ mod Refusing
 mod Snapshots
 mod Opening
 mod Ran
+mod Numbered

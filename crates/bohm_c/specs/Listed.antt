@@ -1,8 +1,11 @@
 -- What a list of calls is to C.
-use Rattle.std.specs.Prelude.{ℕ, ◌<◌, List, [], ◌∷◌, ◌++◌, All, length, map, slice_index_or}
+use Rattle.std.specs.Prelude.{◌≡◌, ℕ, List, [], ◌∷◌, ◌++◌}
 use Rattle.bohm_types.specs.Appending.{empty_document}
 use Rattle.bohm_types.specs.Document.{Document}
 use Rattle.bohm_types.specs.declared.edition.Edition.{Edition}
+use Rattle.bohm_types.specs.declared.edition.Edition.TheVariants.{One, Two}
+use Rattle.bohm_log.specs.Columns.{AllNamed}
+use Rattle.bohm_log.specs.Parts.{names_at}
 
 -- the document of its calls' instances, and the keys that its handles name, by their numbers
 pub record Listed : Type 0 where
@@ -12,6 +15,17 @@ pub record Listed : Type 0 where
 -- with no calls and no handles
 abbrev pub empty_list : Edition → Listed
 empty_list edition = record { calls = empty_document edition; names = [] }
+
+-- the editions' numbers
+abbrev pub edition_number : Edition → ℕ
+edition_number One = 1
+edition_number Two = 2
+
+-- a list of no calls and no handles, for the edition with this number
+pub record IsNew (number : ℕ) (list : Listed) : Type 0 where
+  pub edition : Edition
+  pub numbered : edition_number edition ≡ number
+  pub empty : list ≡ empty_list edition
 
 -- without its calls
 abbrev pub cleared : Listed → Listed
@@ -23,8 +37,8 @@ with_name list name = record { calls = list.calls; names = list.names ++ name �
 
 -- these are handles of the list
 abbrev pub Knows : Listed → List ℕ → Type 0
-Knows list handles = All (λ h. h < length list.names) handles
+Knows list handles = AllNamed list.names handles
 
 -- the keys that they name
 abbrev pub named_by : Listed → List ℕ → List (List ℕ)
-named_by list handles = map (λ h. slice_index_or list.names h []) handles
+named_by list handles = names_at list.names handles

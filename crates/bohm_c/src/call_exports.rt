@@ -1,9 +1,8 @@
-//! The functions that C calls on procedures, and on lists of their calls.
+//! The functions that C calls on procedures, and those that add and run their calls.
 
 ghost use Rattle.std.specs.Prelude.{◌≡◌, ◌≢◌, ◌<◌, ◌⊎◌, ◌↔◌, length, map, None, Some};
 ghost use Rattle.std.specs.List.{Any};
 ghost use Rattle.bohm_types.specs.Name.{key_of};
-ghost use Rattle.bohm_types.specs.declared.edition.Edition.TheVariants.{One, Two};
 ghost use Rattle.bohm_machine.specs.Segments.{IsRefused};
 ghost use Rattle.bohm_machine.specs.declared.fault.SegmentFault.TheVariants as segment_is;
 ghost use Rattle.bohm_procedures.specs.Accepting.{Takes};
@@ -11,9 +10,8 @@ ghost use Rattle.bohm_c.specs.Calling.{IsPrepared, IsProcedureRefusal, IsPushed}
 ghost use Rattle.bohm_c.specs.Handles.{IsCallList, IsMachine, IsProcedure};
 ghost use Rattle.bohm_c.specs.Handles.{OnCalls, OnMachine, OnProcedure};
 ghost use Rattle.bohm_c.specs.Keeping.{IsRunKept, IsRunPartly, IsRunWhole};
-ghost use Rattle.bohm_c.specs.Listed.{cleared, empty_list};
 
-use crate::call_list::{CallList, PushFault};
+use crate::call_list::PushFault;
 use crate::handle::{BohmHandle, put_back, take_back};
 use crate::kept::Kept;
 use crate::prepared::{prepare, refuse_procedure};
@@ -21,7 +19,6 @@ use crate::seeds::draw;
 use crate::status::{
     DONE, KEPT, MISUSE, NO_KEY, NO_MEMORY, REFUSED, STOPPED, TIMESTAMPS, UNFIT, WAITING,
 };
-use bohm_types::Edition;
 use std::alloc::Global;
 
 /// Reads a procedure's text, whose names are hashed from the seed, and opens its handle.
@@ -54,46 +51,6 @@ pub extern "C" fn bohm_prepare<'a>(
             Err(_) => NO_MEMORY,
         },
         Err(fault) => refuse_procedure(alloc, fault, text, out),
-    }
-}
-
-/// Opens a list of no calls, of procedures of edition 1 or 2. Keys are hashed from the seed.
-#[unsafe(no_mangle)]
-pub extern "C" fn bohm_open_calls(
-    alloc: Global,
-    calls: &mut BohmHandle,
-    seed: &[u8; 16],
-    edition: u32,
-) -> u32
-    ensures status { (result ≡ DONE) ⊎ (result ≡ UNFIT) ⊎ (result ≡ NO_MEMORY)
-        ⊎ (result ≡ MISUSE) }
-    ensures misuse { (result ≡ MISUSE) ↔ (calls.old.value ≢ None) }
-    ensures one { result ≡ DONE → edition ≡ 1
-        → OnCalls calls.new.value (λ list. list ≡ empty_list One) }
-    ensures two { result ≡ DONE → edition ≢ 1
-        → OnCalls calls.new.value (λ list. list ≡ empty_list Two) }
-    ensures edition { result ≡ DONE → (edition ≡ 1) ⊎ (edition ≡ 2) }
-    ensures unfit { result ≡ UNFIT → (edition ≢ 1) × (edition ≢ 2) }
-    ensures unchanged { 0 < result → calls.new.value ≡ calls.old.value }
-{
-    if let Some(kept) = take_back(alloc, calls) {
-        put_back(calls, kept);
-        return MISUSE;
-    }
-    let edition = match edition {
-        1 => Edition::One,
-        2 => Edition::Two,
-        _ => return UNFIT,
-    };
-    match Box::new(
-        alloc,
-        Kept::Calls(CallList::new(alloc, draw(seed), edition)),
-    ) {
-        Ok(kept) => {
-            put_back(calls, kept);
-            DONE
-        }
-        Err(_) => NO_MEMORY,
     }
 }
 
@@ -245,28 +202,5 @@ pub extern "C" fn bohm_run_calls<'a>(
         None => MISUSE,
     };
     put_back(machine, kept);
-    status
-}
-
-/// Lets all calls of an open list go. Its handles of keys stay.
-#[unsafe(no_mangle)]
-pub extern "C" fn bohm_clear_calls(alloc: Global, calls: &mut BohmHandle) -> u32
-    ensures status { (result ≡ DONE) ⊎ (result ≡ MISUSE) }
-    ensures misuse { (result ≡ MISUSE) ↔ ¬ IsCallList calls.old.value }
-    ensures done { result ≡ DONE → OnCalls calls.old.value (λ was.
-        OnCalls calls.new.value (λ now. now ≡ cleared was)) }
-    ensures unchanged { 0 < result → calls.new.value ≡ calls.old.value }
-{
-    let Some(mut kept) = take_back(alloc, calls) else {
-        return MISUSE;
-    };
-    let status = match &mut *kept {
-        Kept::Calls(list) => {
-            list.clear();
-            DONE
-        }
-        Kept::Machine(_) | Kept::Prepared(_) => MISUSE,
-    };
-    put_back(calls, kept);
     status
 }

@@ -1,7 +1,7 @@
 //! Lists of calls, and the room in which C's arguments are read.
 
-ghost use Rattle.std.specs.Prelude.{◌≡◌, ◌≢◌, ◌↔◌, ◌<◌, [], true, length, map, slice_index_or};
-ghost use Rattle.std.specs.Prelude.{All, None, Err, IfOk, OnOk, OnErr};
+ghost use Rattle.std.specs.Prelude.{◌≡◌, ◌≢◌, ◌↔◌, [], true, length, map};
+ghost use Rattle.std.specs.Prelude.{None, Err, IfOk, OnOk, OnErr};
 ghost use Rattle.std.specs.List.{Any};
 ghost use Rattle.bohm_types.specs.Name.{key_of};
 ghost use Rattle.bohm_procedures.specs.Accepting.{Takes};
@@ -9,7 +9,9 @@ ghost use Rattle.bohm_c.specs.Calling.{IsPushed};
 ghost use Rattle.bohm_c.specs.Listed.{Knows, cleared, empty_list, named_by, with_name};
 ghost use Rattle.bohm_c.specs.declared.call_list.PushFault.TheVariants as push_is;
 
-use bohm_log::DrawnSeed;
+use crate::key_names::KeyNames;
+use bohm_log::{DrawnSeed, SharedNames};
+use bohm_machine::Machine;
 use bohm_procedures::{Calls, KeyHandle, Procedure};
 use bohm_txn::Checked;
 use bohm_types::{Edition, Key, NoMemory, Value};
@@ -20,19 +22,19 @@ use std::marker::Model;
 #[derive(Drop)]
 pub struct CallList {
     calls: Calls,
-    handles: Vec<KeyHandle>,
+    names: KeyNames,
     keys: Vec<Key>,
     named: Vec<KeyHandle>,
     values: Vec<Value>,
 }
 
 impl Model for CallList {
-    ghost use Rattle.std.specs.Prelude.{◌≡◌, [], map};
+    ghost use Rattle.std.specs.Prelude.{◌≡◌, []};
     ghost use Rattle.bohm_c.specs.Listed.{Listed};
 
     ghost Value = { Listed };
 
-    ghost view = { λ c. record { calls = c.calls; names = map (λ h. h.key) c.handles.items } };
+    ghost view = { λ c. record { calls = c.calls; names = c.names } };
 
     ghost invariant = { λ c. c.calls.store ≡ [] };
 }
@@ -74,23 +76,6 @@ fn fill_keys(keys: &mut Vec<Key>, names: &[&[u8]]) -> Result<(), PushFault>
     Ok(())
 }
 
-/// The keys that these handles name.
-fn fill_named(
-    named: &mut Vec<KeyHandle>,
-    known: &[KeyHandle],
-    handles: &[u32],
-) -> Result<(), NoMemory>
-    requires known { All (λ h. h < length known.now) handles.now }
-    ensures { OnOk result (map (λ h. h.key) named.new.items
-        ≡ map (λ h. slice_index_or (map (λ k. k.key) known.now) h []) handles.now) }
-{
-    named.clear();
-    for handle in handles {
-        named.push(known[*handle as usize])?;
-    }
-    Ok(())
-}
-
 /// These numbers as values.
 fn fill_values(values: &mut Vec<Value>, numbers: &[i64]) -> Result<(), NoMemory>
     ensures { OnOk result (values.new.items ≡ numbers.now) }
@@ -109,11 +94,24 @@ impl CallList {
     {
         CallList {
             calls: Calls::new(alloc, seed, edition),
-            handles: Vec::new(alloc),
+            names: KeyNames::sharing(alloc, SharedNames::none()),
             keys: Vec::new(alloc),
             named: Vec::new(alloc),
             values: Vec::new(alloc),
         }
+    }
+
+    /// No calls and no handles, in a list that shares the names of a machine's keys.
+    pub fn of(alloc: Global, machine: &Machine, edition: Edition) -> Result<CallList, NoMemory>
+        ensures { IfOk result (λ list. list ≡ empty_list edition) }
+    {
+        Ok(CallList {
+            calls: machine.calls(alloc, edition)?,
+            names: KeyNames::sharing(alloc, machine.shared_names()?),
+            keys: Vec::new(alloc),
+            named: Vec::new(alloc),
+            values: Vec::new(alloc),
+        })
     }
 
     /// Lets all calls go. Their room is kept for others, and handles name what they named.
@@ -155,19 +153,18 @@ impl CallList {
         ensures ok { OnOk result (self.new ≡ with_name self.old key.now) }
         ensures unchanged { OnErr result (self.new ≡ self.old) }
     {
-        let Ok(number) = u32::try_from(self.handles.len()) else {
+        let Ok(handle) = u32::try_from(self.names.len()) else {
             return Err(NoMemory);
         };
-        let handle = self.calls.handle(key)?;
-        self.handles.push(handle)?;
-        Ok(number)
+        self.names.push(&mut self.calls, key)?;
+        Ok(handle)
     }
 
     /// Whether all these are handles of the list.
     pub fn knows(&self, handles: &[u32]) -> bool
         ensures { (result ≡ true) ↔ Knows self.now handles.now }
     {
-        let count = self.handles.len();
+        let count = self.names.len();
         handles.iter().all(|handle| (*handle as usize) < count)
     }
 
@@ -186,7 +183,7 @@ impl CallList {
             (named_by self.old handles.now) numbers.now }
         ensures unchanged { OnErr result (self.new ≡ self.old) }
     {
-        fill_named(&mut self.named, self.handles.as_slice(), handles)?;
+        self.names.fill(&mut self.named, handles)?;
         fill_values(&mut self.values, numbers)?;
         let keys = self.named.as_slice();
         let values = self.values.as_slice();

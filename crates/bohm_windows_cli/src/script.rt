@@ -5,7 +5,7 @@ use bohm_machine::Machine;
 use bohm_procedures::{Calls, Procedure};
 use bohm_text::{parse_with_seed, put_replies, put_store};
 use bohm_txn::check;
-use bohm_types::{Key, Value};
+use bohm_types::{Edition, Key, Value};
 use std::alloc::Global;
 
 /// A machine, and what a script has made for it so far.
@@ -97,12 +97,18 @@ impl Session {
     fn start(alloc: Global, seed: DrawnSeed, script: &str) -> Option<Session> {
         let text = lines_after(alloc, script, "store")?;
         let store = check(parse_with_seed(alloc, seed, text.as_slice()).ok()?).ok()?;
+        let machine = Machine::restore(alloc, seed, store.store(), 0).ok()?;
+        let calls = match store.edition() {
+            Edition::One => machine.calls(alloc, Edition::One).ok()?,
+            // These have names of their own.
+            Edition::Two => Calls::new(alloc, seed, Edition::Two),
+        };
         Some(Session {
             alloc,
             seed,
-            machine: Machine::restore(alloc, seed, store.store(), 0).ok()?,
+            machine,
             procedures: Vec::new(alloc),
-            calls: Calls::new(alloc, seed, store.edition()),
+            calls,
             text: Vec::new(alloc),
             out: Vec::new(alloc),
         })

@@ -61,7 +61,7 @@ class Library:
             "bohm_close": [handle],
             "bohm_prepare": [handle, seed, *text, out],
             "bohm_close_procedure": [handle],
-            "bohm_open_calls": [handle, seed, c_uint32],
+            "bohm_open_calls_for": [handle, handle, c_uint32],
             "bohm_push": [handle, handle, POINTER(RawKey), c_size_t, POINTER(c_int64), c_size_t],
             "bohm_key_handle": [handle, *text, POINTER(c_uint32)],
             "bohm_push_named": [handle, handle, POINTER(c_uint32), c_size_t, POINTER(c_int64), c_size_t],

@@ -95,7 +95,7 @@ class Machine:
         """An open list of calls for procedures of an edition."""
         if edition not in self.lists:
             raw = RawHandle(None)
-            raise_for(self.library.calls.bohm_open_calls(byref(raw), drawn_seed(), edition))
+            raise_for(self.library.calls.bohm_open_calls_for(self.opened(), byref(raw), edition))
             self.lists[edition] = raw
         return byref(self.lists[edition])
 

@@ -68,12 +68,17 @@ static LISTS: AtomicU64 = AtomicU64::new(0);
 unsafe impl Send for Calls {}
 
 impl Calls {
-    /// No calls, of procedures of an edition.
+    /// No calls, of procedures of an edition. [`Machine::calls`](crate::Machine::calls) makes a list whose calls cost less.
     pub fn new(edition: Edition) -> Result<Calls, Error> {
         let mut raw = Handle::closed();
         // SAFETY: the handle is closed.
         done(unsafe { raw::bohm_open_calls(&mut raw, &seed::draw(), edition as u32) })?;
-        Ok(Calls { raw, number: LISTS.fetch_add(1, Ordering::Relaxed), len: 0 })
+        Ok(Calls::opened(raw))
+    }
+
+    /// An open list of no calls.
+    pub(crate) fn opened(raw: Handle) -> Calls {
+        Calls { raw, number: LISTS.fetch_add(1, Ordering::Relaxed), len: 0 }
     }
 
     /// The handle of a key, by which [`push_named`](Calls::push_named) names it in this list. A key that is called over

@@ -8,7 +8,7 @@
 //!     "procedure 1\nkey from\nkey to\nvalue amount\nreads from to\nwrites from to\n\
 //!      need from >= $amount\nset from = from - $amount\nset to = to + $amount\nend\n",
 //! )?;
-//! let mut calls = bohm::Calls::new(bohm::Edition::One)?;
+//! let mut calls = machine.calls(bohm::Edition::One)?;
 //! calls.push(&transfer, &["alice", "bob"], &[30])?;
 //! for reply in machine.run(&calls)?.iter() {
 //!     println!("{reply}");

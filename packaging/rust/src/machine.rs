@@ -1,6 +1,6 @@
 //! Machines, and answers of whole logs.
 
-use crate::calls::Calls;
+use crate::calls::{Calls, Edition};
 use crate::error::{done, told, Error};
 use crate::raw::{self, Handle};
 use crate::replies::Replies;
@@ -71,6 +71,15 @@ impl Machine {
             told(status, &out)?;
         }
         self.handed(status, behind)
+    }
+
+    /// No calls, of procedures of an edition, in a list that shares the names of the keys that the store had when the
+    /// machine was opened: calls on these keys take least time and memory so. The list runs on any machine.
+    pub fn calls(&self, edition: Edition) -> Result<Calls, Error> {
+        let mut raw = Handle::closed();
+        // SAFETY: the machine is open until it is dropped, and the handle is closed.
+        done(unsafe { raw::bohm_open_calls_for(&self.raw, &mut raw, edition as u32) })?;
+        Ok(Calls::opened(raw))
     }
 
     /// Runs calls, as `apply` runs the segment of their instances. The list keeps them.

@@ -76,6 +76,7 @@ extern "C" {
     ) -> u32;
     pub fn bohm_close_procedure(procedure: *mut Handle);
     pub fn bohm_open_calls(calls: *mut Handle, seed: *const [u8; 16], edition: u32) -> u32;
+    pub fn bohm_open_calls_for(machine: *const Handle, calls: *mut Handle, edition: u32) -> u32;
     pub fn bohm_push(
         calls: *mut Handle, procedure: *const Handle, keys: *const Key, key_count: usize, values: *const i64, value_count: usize,
     ) -> u32;

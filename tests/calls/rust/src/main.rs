@@ -30,15 +30,25 @@ fn handles(calls: &mut Calls, known: &mut HashMap<String, KeyHandle>, keys: &[&s
 fn main() -> Result<(), Box<dyn Error>> {
     let (mut store, mut text) = (String::new(), String::new());
     let (mut procedures, mut out) = (Vec::new(), stdout().lock());
-    let (mut machine, mut calls, mut known) = (None, Calls::new(Edition::One)?, HashMap::new());
+    let (mut machine, mut calls, mut known) = (None, Calls::new(Edition::Two)?, HashMap::new());
+    let mut edition = Edition::Two;
     for line in stdin().lines() {
         let line = line?;
         let (word, rest) = line.split_once(' ').unwrap_or((&line, ""));
         match word {
-            "edition" if rest == "2" => calls = Calls::new(Edition::Two)?,
+            "edition" if rest == "1" => edition = Edition::One,
             "store" => store += &format!("{rest}\n"),
             "line" => text += &format!("{rest}\n"),
-            "prepare" => procedures.push(Procedure::prepare(std::mem::take(&mut text))?),
+            "prepare" => {
+                if machine.is_none() {
+                    let opened = machine.insert(Machine::open(&store, 0)?);
+                    if edition == Edition::One {
+                        // A list of edition 2 has names of its own.
+                        calls = opened.calls(edition)?;
+                    }
+                }
+                procedures.push(Procedure::prepare(std::mem::take(&mut text))?);
+            }
             "push" => {
                 let (number, keys, values) = arguments(rest)?;
                 if calls.len() % 2 == 0 {
@@ -49,17 +59,14 @@ fn main() -> Result<(), Box<dyn Error>> {
                 }
             }
             "run" => {
-                let machine = match &mut machine {
-                    Some(machine) => machine,
-                    none => none.insert(Machine::open(&store, 0)?),
-                };
+                let machine = machine.as_mut().ok_or("no procedure")?;
                 write!(out, "{}", machine.run(&calls)?)?;
                 calls.clear();
             }
             _ => (),
         }
     }
-    let machine = machine.ok_or("no segment")?;
+    let machine = machine.ok_or("no procedure")?;
     let top = machine.top();
     let snapshot = machine.store_at(top)?;
     assert_eq!(Machine::open(&snapshot, top)?.digest(top)?, machine.digest(top)?);

@@ -1,5 +1,5 @@
 //! Transfers between accounts by procedures, as `procedures.c`.
-use bohm::{Calls, Edition, Error, Machine, Procedure};
+use bohm::{Edition, Error, Machine, Procedure};
 
 const ACCOUNTS: &str = "log 1\nalice 100\nbob 20\ncarol 0\n";
 
@@ -29,7 +29,7 @@ fn main() -> Result<(), Error> {
     let mut machine = Machine::open(ACCOUNTS, 0)?;
     let transfer = Procedure::prepare(TRANSFER)?;
     let audit = Procedure::prepare(AUDIT)?;
-    let mut calls = Calls::new(Edition::One)?;
+    let mut calls = machine.calls(Edition::One)?;
     let (alice, bob, carol) = (calls.key("alice")?, calls.key("bob")?, calls.key("carol")?);
     calls.push_named(&transfer, &[alice, bob], &[30])?;
     calls.push_named(&transfer, &[bob, carol], &[80])?;

@@ -1,0 +1,139 @@
+//! The keys that handles name by their numbers.
+
+ghost use Rattle.std.specs.Prelude.{◌≡◌, ◌<◌, ◌++◌, [], ◌∷◌, IfOk, OnOk, OnErr, length};
+ghost use Rattle.bohm_log.specs.Columns.{AllNamed};
+ghost use Rattle.bohm_log.specs.Handles.{keys_named};
+ghost use Rattle.bohm_log.specs.Parts.{Begins, name_at, names_at};
+
+use bohm_log::{HashSeed, SharedNames};
+use bohm_procedures::{Calls, KeyHandle};
+use bohm_types::{Key, NoMemory};
+use std::alloc::Global;
+use std::marker::Model;
+
+/// Keys, each at the number of its handle. One that a machine shares takes four bytes.
+#[derive(Drop)]
+pub struct KeyNames {
+    shared: SharedNames<HashSeed>,
+    /// The other keys.
+    own: Vec<KeyHandle>,
+    /// For each handle, the number of a shared key, or behind those the place of another one.
+    numbers: Vec<u32>,
+}
+
+impl Model for KeyNames {
+    ghost use Rattle.std.specs.Prelude.{ℕ, List, ◌++◌};
+    ghost use Rattle.bohm_log.specs.Columns.{AllNamed};
+    ghost use Rattle.bohm_log.specs.Handles.{keys_named};
+    ghost use Rattle.bohm_log.specs.Parts.{names_at};
+
+    ghost Value = { List (List ℕ) };
+
+    ghost view = { λ n. names_at (n.shared ++ keys_named n.own.items) n.numbers.items };
+
+    ghost invariant = { λ n. AllNamed (n.shared ++ keys_named n.own.items) n.numbers.items };
+}
+
+/// Adds a key behind the shared ones, and returns its number.
+fn add_own(
+    shared: &SharedNames<HashSeed>,
+    own: &mut Vec<KeyHandle>,
+    key: KeyHandle,
+) -> Result<u32, NoMemory>
+    ensures number { IfOk result (λ n. n ≡ length (shared.now ++ keys_named own.old.items)) }
+    ensures ok { OnOk result
+        (keys_named own.new.items ≡ keys_named own.old.items ++ key.key ∷ []) }
+    ensures err { OnErr result (own.new.items ≡ own.old.items) }
+{
+    let Ok(number) = u32::try_from(shared.len().saturating_add(own.len())) else {
+        return Err(NoMemory);
+    };
+    own.push(key)?;
+    Ok(number)
+}
+
+/// The number of a key, which is added where it isn't shared.
+fn number_of(
+    shared: &SharedNames<HashSeed>,
+    own: &mut Vec<KeyHandle>,
+    calls: &mut Calls,
+    key: &Key,
+) -> Result<u32, NoMemory>
+    ensures calls { calls.new ≡ calls.old }
+    ensures named { IfOk result
+        (λ n. n < length (shared.now ++ keys_named own.new.items)) }
+    ensures key { IfOk result
+        (λ n. name_at (shared.now ++ keys_named own.new.items) n ≡ key.now) }
+    ensures grows { Begins (shared.now ++ keys_named own.old.items)
+        (shared.now ++ keys_named own.new.items) }
+{
+    if let Some(number) = shared.find(key) {
+        return Ok(number);
+    }
+    let handle = calls.handle(key)?;
+    let number = add_own(shared, own, handle)?;
+    Ok(number)
+}
+
+/// The key with a number, and the number that it is likely to have in a list.
+fn key_at(shared: &SharedNames<HashSeed>, own: &[KeyHandle], number: u32) -> KeyHandle
+    requires { number < length (shared.now ++ keys_named own.now) }
+    ensures { result.key ≡ name_at (shared.now ++ keys_named own.now) number }
+{
+    match shared.handle(number) {
+        Some(key) => key,
+        None => own[number as usize - shared.len()],
+    }
+}
+
+impl KeyNames {
+    /// No handles, in a list that shares these names. It allocates nothing.
+    pub fn sharing(alloc: Global, shared: SharedNames<HashSeed>) -> KeyNames
+        ensures { result ≡ [] }
+    {
+        KeyNames {
+            shared,
+            own: Vec::new(alloc),
+            numbers: Vec::new(alloc),
+        }
+    }
+
+    /// How many handles there are.
+    pub fn len(&self) -> usize
+        ensures { result ≡ length self.now }
+    {
+        self.numbers.len()
+    }
+
+    /// Adds a handle of a key, which a list of calls looks up where it isn't shared.
+    pub fn push(&mut self, calls: &mut Calls, key: &Key) -> Result<(), NoMemory>
+        ensures calls { calls.new ≡ calls.old }
+        ensures ok { OnOk result (self.new ≡ self.old ++ key.now ∷ []) }
+        ensures err { OnErr result (self.new ≡ self.old) }
+    {
+        let number = number_of(&self.shared, &mut self.own, calls, key)?;
+        self.numbers.push(number)?;
+        Ok(())
+    }
+
+    /// The key of a handle.
+    fn named(&self, handle: u32) -> KeyHandle
+        requires { handle < length self.now }
+        ensures { result.key ≡ name_at self.now handle }
+    {
+        let number = self.numbers[handle as usize];
+        key_at(&self.shared, self.own.as_slice(), number)
+    }
+
+    /// Fills a vector with the keys of these handles.
+    pub fn fill(&self, keys: &mut Vec<KeyHandle>, handles: &[u32]) -> Result<(), NoMemory>
+        requires { AllNamed self.now handles.now }
+        ensures { OnOk result (keys_named keys.new.items ≡ names_at self.now handles.now) }
+    {
+        keys.clear();
+        for handle in handles {
+            keys.push(self.named(*handle))?;
+        }
+        Ok(())
+    }
+}

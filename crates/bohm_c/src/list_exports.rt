@@ -1,0 +1,140 @@
+//! The functions by which C opens and clears lists of calls.
+
+ghost use Rattle.std.specs.Prelude.{◌≡◌, ◌≢◌, ◌<◌, ◌⊎◌, ◌↔◌, IfSome, IfNone, None, Some};
+ghost use Rattle.bohm_c.specs.Handles.{IsCallList, IsMachine, OnCalls};
+ghost use Rattle.bohm_c.specs.Listed.{IsNew, cleared, edition_number};
+
+use crate::call_list::CallList;
+use crate::handle::{BohmHandle, put_back, take_back};
+use crate::kept::Kept;
+use crate::seeds::draw;
+use crate::session::Session;
+use crate::status::{DONE, MISUSE, NO_MEMORY, UNFIT};
+use bohm_types::Edition;
+use std::alloc::Global;
+
+/// The edition with a number.
+fn edition_numbered(number: u32) -> Option<Edition>
+    ensures some { IfSome result (λ e. edition_number e ≡ number) }
+    ensures none { IfNone result ((number ≢ 1) × (number ≢ 2)) }
+{
+    match number {
+        1 => Some(Edition::One),
+        2 => Some(Edition::Two),
+        _ => None,
+    }
+}
+
+/// Opens a closed handle of a list.
+fn keep_list(alloc: Global, calls: &mut BohmHandle, list: CallList) -> u32
+    requires { calls.old.value ≡ None }
+    ensures status { (result ≡ DONE) ⊎ (result ≡ NO_MEMORY) }
+    ensures done { result ≡ DONE → OnCalls calls.new.value (λ kept. kept ≡ list) }
+    ensures unchanged { 0 < result → calls.new.value ≡ calls.old.value }
+{
+    match Box::new(alloc, Kept::Calls(list)) {
+        Ok(kept) => {
+            put_back(calls, kept);
+            DONE
+        }
+        Err(_) => NO_MEMORY,
+    }
+}
+
+/// Opens a list of no calls, of procedures of edition 1 or 2. Keys are hashed from the seed.
+#[unsafe(no_mangle)]
+pub extern "C" fn bohm_open_calls(
+    alloc: Global,
+    calls: &mut BohmHandle,
+    seed: &[u8; 16],
+    edition: u32,
+) -> u32
+    ensures status { (result ≡ DONE) ⊎ (result ≡ UNFIT) ⊎ (result ≡ NO_MEMORY)
+        ⊎ (result ≡ MISUSE) }
+    ensures misuse { (result ≡ MISUSE) ↔ (calls.old.value ≢ None) }
+    ensures done { result ≡ DONE → OnCalls calls.new.value (IsNew edition) }
+    ensures unfit { result ≡ UNFIT → (edition ≢ 1) × (edition ≢ 2) }
+    ensures unchanged { 0 < result → calls.new.value ≡ calls.old.value }
+{
+    if let Some(kept) = take_back(alloc, calls) {
+        put_back(calls, kept);
+        return MISUSE;
+    }
+    let Some(edition) = edition_numbered(edition) else {
+        return UNFIT;
+    };
+    keep_list(alloc, calls, CallList::new(alloc, draw(seed), edition))
+}
+
+/// Opens a closed handle of a list of no calls that shares the names of a session's machine.
+fn open_list_of(alloc: Global, session: &Session, calls: &mut BohmHandle, edition: u32) -> u32
+    requires { calls.old.value ≡ None }
+    ensures status { (result ≡ DONE) ⊎ (result ≡ UNFIT) ⊎ (result ≡ NO_MEMORY) }
+    ensures done { result ≡ DONE → OnCalls calls.new.value (IsNew edition) }
+    ensures unfit { result ≡ UNFIT → (edition ≢ 1) × (edition ≢ 2) }
+    ensures unchanged { 0 < result → calls.new.value ≡ calls.old.value }
+{
+    let Some(edition) = edition_numbered(edition) else {
+        return UNFIT;
+    };
+    match CallList::of(alloc, &session.machine, edition) {
+        Ok(list) => keep_list(alloc, calls, list),
+        Err(_) => NO_MEMORY,
+    }
+}
+
+/// Opens a list of no calls, of procedures of edition 1 or 2, that shares the names of the keys that a
+/// machine's store had when it was opened. The list runs on any machine, also once this one is closed.
+#[unsafe(no_mangle)]
+pub extern "C" fn bohm_open_calls_for(
+    alloc: Global,
+    machine: &mut BohmHandle,
+    calls: &mut BohmHandle,
+    edition: u32,
+) -> u32
+    ensures same { machine.new.value ≡ machine.old.value }
+    ensures status { (result ≡ DONE) ⊎ (result ≡ UNFIT) ⊎ (result ≡ NO_MEMORY)
+        ⊎ (result ≡ MISUSE) }
+    ensures misuse { (result ≡ MISUSE)
+        ↔ ¬ (IsMachine machine.old.value × (calls.old.value ≡ None)) }
+    ensures done { result ≡ DONE → OnCalls calls.new.value (IsNew edition) }
+    ensures unfit { result ≡ UNFIT → (edition ≢ 1) × (edition ≢ 2) }
+    ensures unchanged { 0 < result → calls.new.value ≡ calls.old.value }
+{
+    if let Some(kept) = take_back(alloc, calls) {
+        put_back(calls, kept);
+        return MISUSE;
+    }
+    let Some(kept) = take_back(alloc, machine) else {
+        return MISUSE;
+    };
+    let status = match &*kept {
+        Kept::Machine(session) => open_list_of(alloc, session, calls, edition),
+        Kept::Prepared(_) | Kept::Calls(_) => MISUSE,
+    };
+    put_back(machine, kept);
+    status
+}
+
+/// Lets all calls of an open list go. Its handles of keys stay.
+#[unsafe(no_mangle)]
+pub extern "C" fn bohm_clear_calls(alloc: Global, calls: &mut BohmHandle) -> u32
+    ensures status { (result ≡ DONE) ⊎ (result ≡ MISUSE) }
+    ensures misuse { (result ≡ MISUSE) ↔ ¬ IsCallList calls.old.value }
+    ensures done { result ≡ DONE → OnCalls calls.old.value (λ was.
+        OnCalls calls.new.value (λ now. now ≡ cleared was)) }
+    ensures unchanged { 0 < result → calls.new.value ≡ calls.old.value }
+{
+    let Some(mut kept) = take_back(alloc, calls) else {
+        return MISUSE;
+    };
+    let status = match &mut *kept {
+        Kept::Calls(list) => {
+            list.clear();
+            DONE
+        }
+        Kept::Machine(_) | Kept::Prepared(_) => MISUSE,
+    };
+    put_back(calls, kept);
+    status
+}
