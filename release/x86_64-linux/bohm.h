@@ -15,14 +15,15 @@
  * - It starts no thread, doesn't block, and reads and writes no file. Any thread may call, but no signal
  *   handler, and no forked child of a process with threads.
  * - A machine is in one call at a time, also of those that don't change it, and goes to another thread by a lock, or
- *   by that thread's start or end; two machines share nothing. So do a procedure and a list of calls.
+ *   by that thread's start or end. So do a procedure and a list of calls. Two machines share nothing, and a list shares
+ *   with its machine only what never changes.
  */
 #ifndef BOHM_H
 #define BOHM_H
 
 /* The version, and the checksum of the sources that the library is built from. */
 #define BOHM_VERSION "0.1.0"
-#define BOHM_SOURCES "3b6944e9b97d017fd1c2024529542abee07d5542d347e478123c60582fcd74bd"
+#define BOHM_SOURCES "04921de1a7db1d51784fa9e07d29c8f5ead8f4741a0daba13553376c80b5112e"
 
 /* The same, of the library that the program is linked with. */
 extern const char bohm_version[16], bohm_sources[65];
@@ -203,6 +204,11 @@ typedef struct {
 /* Opens a closed list of no calls, for procedures of edition 1 or 2: BOHM_DONE, BOHM_UNFIT for another number, or
  * BOHM_NO_MEMORY; but for the first it stays closed. */
 uint32_t bohm_open_calls(bohm_calls *calls, const uint8_t seed[16], uint32_t edition);
+
+/* Opens a closed list as bohm_open_calls does, which shares the names of the keys that the machine's store had when it
+ * was opened. Calls on these keys take least time and memory so. The list runs on any machine, also once this one is
+ * closed. BOHM_DONE, BOHM_UNFIT or BOHM_NO_MEMORY. */
+uint32_t bohm_open_calls_for(const bohm_machine *machine, bohm_calls *calls, uint32_t edition);
 
 /* An argument: the bytes of a key. */
 typedef struct {
