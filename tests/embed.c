@@ -7,6 +7,9 @@
 
 static long asked, refused_from, refused_to, blocks;
 
+/* The bytes of the largest block that was asked for. */
+static size_t largest;
+
 void *__real_malloc(size_t size);
 void *__real_realloc(void *at, size_t size);
 void __real_free(void *at);
@@ -18,12 +21,14 @@ static int is_refused(void) {
 }
 
 void *__wrap_malloc(size_t size) {
+    if (size > largest) largest = size;
     void *block = is_refused() ? NULL : __real_malloc(size);
     blocks += block != NULL;
     return block;
 }
 
 void *__wrap_realloc(void *at, size_t size) {
+    if (size > largest) largest = size;
     void *block = is_refused() ? NULL : __real_realloc(at, size);
     blocks += block && !at;
     return block;
@@ -606,6 +611,31 @@ static void another_machines_list(void) {
     close_all(&of);
 }
 
+/* The handles of keys that a list shares with a machine take four bytes each, in an array that doubles; others have the key. */
+static void small_handles(void) {
+    now = "small handles";
+    enum { KEYS = 1000 };
+    static char store[16 * KEYS];
+    char *at = store + sprintf(store, "log 1\n");
+    bohm_machine machine = {0};
+    for (int k = 0; k < KEYS; k++) at += sprintf(at, "k%04d 1\n", k);
+    hold(bohm_open(&machine, seed, (uint8_t *)store, (size_t)(at - store), 0, NULL) == BOHM_DONE, "it doesn't open");
+    for (int shares = 0; shares < 2; shares++) {
+        bohm_calls calls = {0};
+        uint32_t handle;
+        char name[8];
+        hold(open_list(&machine, &calls, shares) == BOHM_DONE, "no list of calls");
+        largest = 0;
+        for (int k = 0; k < KEYS; k++) {
+            sprintf(name, "k%04d", k);
+            hold(handle_of(&calls, name, &handle) == BOHM_DONE && handle == (uint32_t)k, "another handle");
+        }
+        hold(shares ? largest <= 8 * KEYS : largest >= 32 * KEYS, "handles of another size");
+        bohm_close_calls(&calls);
+    }
+    bohm_close(&machine);
+}
+
 /* Calls with equal keys, and with the least and the greatest value. */
 static void arguments(void) {
     now = "arguments";
@@ -953,6 +983,7 @@ int main(void) {
     each_handle_status(0);
     each_handle_status(1);
     another_machines_list();
+    small_handles();
     arguments();
     outcomes();
     seeds();
