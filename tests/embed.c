@@ -611,10 +611,12 @@ static void another_machines_list(void) {
     close_all(&of);
 }
 
-/* The handles of keys that a list shares with a machine take four bytes each, in an array that doubles; others have the key. */
+/* The handles of keys that a list shares with a machine take four bytes each, in an array that doubles; others have the key.
+ * Calls on shared keys, which are let go one by one, leave no table of names in the list. */
 static void small_handles(void) {
     now = "small handles";
     enum { KEYS = 1000 };
+    bohm_procedure look = prepared(now, "procedure 1\nkey of\nreads of\nwrites\nshow of\nend\n");
     static char store[16 * KEYS];
     char *at = store + sprintf(store, "log 1\n");
     bohm_machine machine = {0};
@@ -629,10 +631,13 @@ static void small_handles(void) {
         for (int k = 0; k < KEYS; k++) {
             sprintf(name, "k%04d", k);
             hold(handle_of(&calls, name, &handle) == BOHM_DONE && handle == (uint32_t)k, "another handle");
+            hold(bohm_push_named(&calls, &look, &handle, 1, NULL, 0) == BOHM_DONE, "a call isn't taken");
+            hold(bohm_clear_calls(&calls) == BOHM_DONE, "it isn't cleared");
         }
         hold(shares ? largest <= 8 * KEYS : largest >= 32 * KEYS, "handles of another size");
         bohm_close_calls(&calls);
     }
+    bohm_close_procedure(&look);
     bohm_close(&machine);
 }
 

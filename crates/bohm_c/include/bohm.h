@@ -217,7 +217,7 @@ uint32_t bohm_push(bohm_calls *calls, const bohm_procedure *procedure, const boh
 
 /* Makes a handle of a key, by which bohm_push_named names it in this list: a small number, which stays good until the
  * list is closed, also where it is cleared. A key that gets a second handle has two. BOHM_DONE; BOHM_NO_KEY if the bytes
- * are no key's; or BOHM_NO_MEMORY, also at 2^32 handles. But for the first *handle stays as it was. */
+ * are no key's; or BOHM_NO_MEMORY, also at 2^32 handles and shared keys. But for the first *handle stays as it was. */
 uint32_t bohm_key_handle(bohm_calls *calls, const uint8_t *key, size_t len, uint32_t *handle);
 
 /* Adds a call as bohm_push does, whose keys are named by handles of the list. It looks up no key whose number

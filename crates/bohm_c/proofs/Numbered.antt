@@ -22,16 +22,13 @@ added_grows shared own more k e = (k ∷ [], ap (λ names. shared ++ names) e �
 
 -- numbers name what they named when keys are added behind
 module _ (xs ys : List (List ℕ)) (ids : List ℕ) (grows : Begins xs ys) (named : AllNamed xs ids) where
-  pub still_names : names_at ys ids ≡ names_at xs ids
-  still_names = same_names xs ys ids grows named
-
   pub pushed_named : (i : ℕ) (more : List ℕ) → more ≡ ids ++ i ∷ [] → i < length ys → AllNamed ys more
   pushed_named i more e inside = subst (AllNamed ys) (sym e) (All-push (λ m. m < length ys) ids i (named_more xs ys ids grows named) inside)
 
   pub pushed_names : (i : ℕ) (more : List ℕ) (k : List ℕ) → more ≡ ids ++ i ∷ [] → name_at ys i ≡ k
       → names_at ys more ≡ names_at xs ids ++ k ∷ []
   pushed_names i more k e is =
-      ap (names_at ys) e ∙ map-append (name_at ys) ids (i ∷ []) ∙ (λ j. still_names j ++ is j ∷ [])
+      ap (names_at ys) e ∙ map-append (name_at ys) ids (i ∷ []) ∙ (λ j. same_names xs ys ids grows named j ++ is j ∷ [])
 
 -- what holds in any case
 pub on_err : {A E P : Type 0} (r : Result A E) → P → OnErr r P

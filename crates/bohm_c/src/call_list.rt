@@ -147,7 +147,7 @@ impl CallList {
     }
 
     /// A new handle of a key, which names it until the list is dropped. `NoMemory` where an
-    /// allocation fails or there are 2^32 handles.
+    /// allocation fails, or there are 2^32 handles and shared keys.
     pub fn handle(&mut self, key: &Key) -> Result<u32, NoMemory>
         ensures place { IfOk result (λ h. h ≡ length self.old.names) }
         ensures ok { OnOk result (self.new ≡ with_name self.old key.now) }

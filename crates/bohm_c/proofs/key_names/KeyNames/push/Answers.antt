@@ -1,6 +1,7 @@
 use Rattle.std.proofs.Common.{[], ◌∷◌, ◌++◌, ap, ◌∙◌}
 use Rattle.bohm_log.specs.Parts.{names_at}
-use Rattle.bohm_c.proofs.Numbered.{on_err, still_names, pushed_named, pushed_names}
+use Rattle.bohm_log.proofs.ForCallers.{same_names}
+use Rattle.bohm_c.proofs.Numbered.{on_err, pushed_named, pushed_names}
 use Rattle.bohm_c.proofs.key_names.KeyNames.push.Goals as goal
 
 pub invariant_of-self-2 : goal.invariant_of-self-2
@@ -9,7 +10,7 @@ invariant_of-self-2 c =
 
 pub returns-in_err-number-clause-err : goal.returns-in_err-number-clause-err
 returns-in_err-number-clause-err c =
-    on_err c.from_residual.result (still_names _ _ _ c.number_of.ensures.grows c.self.invariant ∙ c.self.view_is)
+    on_err c.from_residual.result (same_names _ _ _ c.number_of.ensures.grows c.self.invariant ∙ c.self.view_is)
 
 pub returns-clause-ok : goal.returns-clause-ok
 returns-clause-ok c =
@@ -19,4 +20,4 @@ returns-clause-ok c =
 pub returns-in_err-push-clause-err : goal.returns-in_err-push-clause-err
 returns-in_err-push-clause-err c =
     on_err c.from_residual-in_err-push.result (ap (names_at _) c.in_err-push.ensures.items
-    ∙ still_names _ _ _ c.number_of.ensures.grows c.self.invariant ∙ c.self.view_is)
+    ∙ same_names _ _ _ c.number_of.ensures.grows c.self.invariant ∙ c.self.view_is)
