@@ -23,7 +23,7 @@
 
 /* The version, and the checksum of the sources that the library is built from. */
 #define BOHM_VERSION "0.1.0"
-#define BOHM_SOURCES "9d514c9227423be01f4d3e74eebdc2074a71e81d002b1762b28052155d78269a"
+#define BOHM_SOURCES "0f67be156ca82a618196cb6fceb8862f190788c6212ae59f41ea1c938b5978b5"
 
 /* The same, of the library that the program is linked with. */
 extern const char bohm_version[16], bohm_sources[65];

@@ -35,7 +35,6 @@ fn cell_of(entries: &[(Key, Cell)], key: &Key) -> Cell
 
 /// Transactions of a log that run together, their plan, and what each key that they declare holds
 /// before them.
-#[derive(Drop)]
 pub struct Batch<'a> {
     txns: LogPart<'a>,
     plan: Plan,
@@ -43,6 +42,16 @@ pub struct Batch<'a> {
     ghost batched: { IsBatched txns plan },
     ghost based: { IsBase txns base } by { Prim.hlevel props },
     ghost noted: { AreNoted txns plan (keys_of base) },
+}
+
+// Written out: a derived drop is proved anew in each function that drops such a value.
+impl<'a> Drop for Batch<'a> {
+    fn drop(self) {
+        let Self { txns, plan, base } = self;
+        drop(txns);
+        drop(plan);
+        drop(base);
+    }
 }
 
 impl<'a> Batch<'a> {

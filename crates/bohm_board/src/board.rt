@@ -31,7 +31,6 @@ impl<'a> TableRule<(), View, Batch<'a>> for BoardRule {
 
 /// The shared words of a batch: a status word for each position, and after them a presence word for
 /// each slot and a value word for each slot.
-#[derive(Drop)]
 pub struct Board<'a> {
     table: Table<(), View, Batch<'a>, BoardRule, Global>,
     batch: Batch<'a>,
@@ -45,4 +44,20 @@ pub struct Board<'a> {
     ghost sized: { table.shared.table_id.words ≡ layout.positions + (layout.slots + layout.slots) },
     ghost bare: { table.shared.table_id.slots ≡ 0 },
     ghost room: { IsSized (rights_of batch) (words_of columns) },
+}
+
+// Written out: a derived drop is proved anew in each function that drops such a value.
+impl<'a> Drop for Board<'a> {
+    fn drop(self) {
+        let Self {
+            table,
+            batch,
+            layout,
+            columns,
+        } = self;
+        drop(table);
+        drop(batch);
+        drop(layout);
+        drop(columns);
+    }
 }

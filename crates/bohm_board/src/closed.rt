@@ -14,7 +14,6 @@ use crate::layout::Layout;
 use std::alloc::Global;
 
 /// The words of a board that no thread steps on any more.
-#[derive(Drop)]
 pub struct Closed<'a> {
     pub(crate) batch: Batch<'a>,
     pub(crate) layout: Layout,
@@ -24,6 +23,20 @@ pub struct Closed<'a> {
     ghost slots: { length (rights_of batch).slots ≡ layout.slots },
     ghost sized: { IsSized (rights_of batch) (words_of columns) },
     ghost sound: { AreSound batch (words_of columns) },
+}
+
+// Written out: a derived drop is proved anew in each function that drops such a value.
+impl<'a> Drop for Closed<'a> {
+    fn drop(self) {
+        let Self {
+            batch,
+            layout,
+            columns,
+        } = self;
+        drop(batch);
+        drop(layout);
+        drop(columns);
+    }
 }
 
 /// Fills a vector with the words from an index on.

@@ -19,13 +19,30 @@ use std::alloc::Global;
 use std::marker::Model;
 
 /// Calls, the keys that handles name by their numbers, and room for the arguments of the next call.
-#[derive(Drop)]
 pub struct CallList {
     calls: Calls,
     names: KeyNames,
     keys: Vec<Key>,
     named: Vec<KeyHandle>,
     values: Vec<Value>,
+}
+
+// Written out: a derived drop is proved anew in each function that drops such a value.
+impl Drop for CallList {
+    fn drop(self) {
+        let Self {
+            calls,
+            names,
+            keys,
+            named,
+            values,
+        } = self;
+        drop(calls);
+        drop(names);
+        drop(keys);
+        drop(named);
+        drop(values);
+    }
 }
 
 impl Model for CallList {

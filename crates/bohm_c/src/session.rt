@@ -35,12 +35,24 @@ use std::alloc::Global;
 use std::mem;
 
 /// A machine, and the replies of its last segment whose text could not be allocated.
-#[derive(Drop)]
 pub struct Session {
     pub machine: Machine,
     pub waiting: Replies,
     /// The timestamp before the first of them.
     pub behind: u32,
+}
+
+// Written out: a derived drop is proved anew in each function that drops such a value.
+impl Drop for Session {
+    fn drop(self) {
+        let Self {
+            machine,
+            waiting,
+            behind: _,
+        } = self;
+        drop(machine);
+        drop(waiting);
+    }
 }
 
 /// The least and the greatest timestamp that can be read, how many versions are kept, and how many

@@ -175,10 +175,18 @@ impl SetPlaces {
 }
 
 /// Where the keys of a call stand in its sets, in vectors that are used again for the next one.
-#[derive(Drop)]
 pub struct CallPlaces {
     pub(crate) reads: SetPlaces,
     pub(crate) writes: SetPlaces,
+}
+
+// Written out: a derived drop is proved anew in each function that drops such a value.
+impl Drop for CallPlaces {
+    fn drop(self) {
+        let Self { reads, writes } = self;
+        drop(reads);
+        drop(writes);
+    }
 }
 
 impl CallPlaces {

@@ -43,7 +43,6 @@ const KEPT_HANDLES: usize = 1 << 16;
 /// With this many names, a handle makes no other, and a clearing keeps no more.
 pub(crate) const MOST_NAMED: usize = 1 << 30;
 
-#[derive(Drop)]
 pub struct Columns<S: BuildHasher> {
     pub names: LayeredNames<S>,
     /// Where names were found last, of those that aren't noted among the shared ones.
@@ -55,6 +54,29 @@ pub struct Columns<S: BuildHasher> {
     pub large: Vec<u64>,
     pub terms: Vec<TermRow>,
     pub rows: Vec<StmtRow>,
+}
+
+// Written out: a derived drop is proved anew in each function that drops such a value.
+impl<S: BuildHasher + Drop> Drop for Columns<S> {
+    fn drop(self) {
+        let Self {
+            names,
+            hints,
+            handles: _,
+            ids,
+            others,
+            large,
+            terms,
+            rows,
+        } = self;
+        drop(names);
+        drop(hints);
+        drop(ids);
+        drop(others);
+        drop(large);
+        drop(terms);
+        drop(rows);
+    }
 }
 
 /// How long the columns are.

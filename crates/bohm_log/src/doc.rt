@@ -24,11 +24,23 @@ use std::alloc::Global;
 use std::marker::Model;
 
 /// A starting store and a log of transactions of one edition.
-#[derive(Drop)]
 pub struct Doc {
     edition: Edition,
     store: Items<(Key, Value)>,
     log: Log<HashSeed>,
+}
+
+// Written out: a derived drop is proved anew in each function that drops such a value.
+impl Drop for Doc {
+    fn drop(self) {
+        let Self {
+            edition: _,
+            store,
+            log,
+        } = self;
+        drop(store);
+        drop(log);
+    }
 }
 
 impl Model for Doc {

@@ -34,11 +34,22 @@ use std::marker::Model;
 /// which they stand in it. After an `Err` it shows what it showed before; of the names and literals
 /// that came no more stay in memory than it has terms and statements. `Full` comes only where these
 /// together are 2^32 - 1 or more.
-#[derive(Drop)]
 pub struct Draft<S: BuildHasher = BuildHasherDefault<FoldHasher>> {
     edition: Edition,
     sheet: DraftColumns<S>,
     pending: Pending,
+}
+
+// Written out: a derived drop is proved anew in each function that drops such a value.
+impl<S: BuildHasher + Drop> Drop for Draft<S> {
+    fn drop(self) {
+        let Self {
+            edition: _,
+            sheet,
+            pending: _,
+        } = self;
+        drop(sheet);
+    }
 }
 
 impl<S: BuildHasher> Model for Draft<S> {
@@ -166,7 +177,11 @@ impl<S: BuildHasher> Draft<S> {
         ensures sound { IsTxn self.txn.edition self.txn }
         ensures counted { IsCounted (parts_of result.1) self }
     {
-        let Draft { edition, sheet, .. } = self;
+        let Draft {
+            edition,
+            sheet,
+            pending: _,
+        } = self;
         (edition, sheet)
     }
 }

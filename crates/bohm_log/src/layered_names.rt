@@ -20,12 +20,24 @@ use std::marker::Model;
 
 /// Distinct names, numbered from 0: names that many logs share, and behind them names of its own, in
 /// the order in which they came.
-#[derive(Drop)]
 pub struct LayeredNames<S: BuildHasher> {
     shared: SharedNames<S>,
     /// How many of the shared names it has: all, unless it was cut back to fewer.
     shown: usize,
     own: Names<S>,
+}
+
+// Written out: a derived drop is proved anew in each function that drops such a value.
+impl<S: BuildHasher + Drop> Drop for LayeredNames<S> {
+    fn drop(self) {
+        let Self {
+            shared,
+            shown: _,
+            own,
+        } = self;
+        drop(shared);
+        drop(own);
+    }
 }
 
 impl<S: BuildHasher> Model for LayeredNames<S> {

@@ -28,9 +28,16 @@ struct HashedNames<S: BuildHasher> {
 
 /// Names that never change, each at the number that it has in all logs that share them. Threads look
 /// them up side by side.
-#[derive(Drop)]
 pub struct SharedNames<S: BuildHasher = BuildHasherDefault<FoldHasher>> {
     hashed: Option<Arc<HashedNames<S>>>,
+}
+
+// Written out: a derived drop is proved anew in each function that drops such a value.
+impl<S: BuildHasher + Drop> Drop for SharedNames<S> {
+    fn drop(self) {
+        let Self { hashed } = self;
+        drop(hashed);
+    }
 }
 
 impl<S: BuildHasher> Model for SharedNames<S> {

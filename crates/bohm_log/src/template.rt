@@ -50,12 +50,26 @@ pub struct BodyColumns {
 
 /// A procedure, which contracts see as that of the definitions. Its terms and statements are those
 /// of its own instance, and its values' names are among the other names.
-#[derive(Drop)]
 pub struct Template {
     pub(crate) edition: Edition,
     pub(crate) keys: Vec<Key>,
     pub(crate) values: Vec<u32>,
     pub(crate) body: BodyColumns,
+}
+
+// Written out: a derived drop is proved anew in each function that drops such a value.
+impl Drop for Template {
+    fn drop(self) {
+        let Self {
+            edition: _,
+            keys,
+            values,
+            body,
+        } = self;
+        drop(keys);
+        drop(values);
+        drop(body);
+    }
 }
 
 impl Model for Template {

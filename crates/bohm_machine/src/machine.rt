@@ -32,11 +32,23 @@ use std::thread::Threads;
 
 /// A store with its past from a floor up to a top, which are timestamps. Log segments are applied
 /// to it, one after another, each after the top.
-#[derive(Drop)]
 pub struct Machine {
     seed: DrawnSeed,
     history: History,
     executor: SerialExecutor,
+}
+
+// Written out: a derived drop is proved anew in each function that drops such a value.
+impl Drop for Machine {
+    fn drop(self) {
+        let Self {
+            seed: _,
+            history,
+            executor,
+        } = self;
+        drop(history);
+        drop(executor);
+    }
 }
 
 impl Model for Machine {

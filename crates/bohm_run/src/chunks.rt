@@ -59,7 +59,7 @@ fn open_history(
 {
     match in_store {
         Some(_) => Ok(History::empty(alloc)),
-        None if shares => History::open_sharing(alloc, store, seed),
+        None if shares => History::restore_sharing(alloc, store, 0, seed),
         None => History::open_with_seed(alloc, store, seed),
     }
 }

@@ -47,11 +47,24 @@ pub(crate) fn most_ahead(settings: Settings) -> usize
 }
 
 /// Threads that parse windows, and the queue from which they take them.
-#[derive(Drop)]
 pub(crate) struct Parsers {
     jobs: Sender<ParseJob, Global>,
     queue: Receiver<ParseJob, Global>,
     threads: Vec<JoinHandle<()>>,
+}
+
+// Written out: a derived drop is proved anew in each function that drops such a value.
+impl Drop for Parsers {
+    fn drop(self) {
+        let Self {
+            jobs,
+            queue,
+            threads,
+        } = self;
+        drop(jobs);
+        drop(queue);
+        drop(threads);
+    }
 }
 
 /// Carries jobs out until no more can come.
@@ -112,8 +125,13 @@ impl Parsers {
 
     /// Has the threads end, and waits for them.
     pub(crate) fn end<R: Threads>(self, rt: &R) {
-        let Parsers { jobs, threads, .. } = self;
+        let Parsers {
+            jobs,
+            queue,
+            threads,
+        } = self;
         drop(jobs);
+        drop(queue);
         for thread in threads {
             thread.join(rt);
         }

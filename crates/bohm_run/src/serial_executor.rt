@@ -25,11 +25,24 @@ use std::mem;
 
 /// Runs transactions in log order on the caller's thread. It claims nothing from others, so it plans
 /// nothing. Its memory is used again for each transaction and each log.
-#[derive(Drop)]
 pub struct SerialExecutor {
     seats: Seats,
     workspace: Workspace,
     scratch: Scratch,
+}
+
+// Written out: a derived drop is proved anew in each function that drops such a value.
+impl Drop for SerialExecutor {
+    fn drop(self) {
+        let Self {
+            seats,
+            workspace,
+            scratch,
+        } = self;
+        drop(seats);
+        drop(workspace);
+        drop(scratch);
+    }
 }
 
 impl SerialExecutor {

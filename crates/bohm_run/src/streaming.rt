@@ -7,7 +7,7 @@ ghost use Rattle.bohm_run.specs.Chunks.{IsNext, RunsNext};
 ghost use Rattle.bohm_run.specs.Given.{Given};
 ghost use Rattle.bohm_run.specs.Headline.{Refuses, IsBeforeWriting};
 ghost use Rattle.bohm_run.specs.Reading.{HasMore, IsGoing, ReadsChunk, RefusesChunk};
-ghost use Rattle.bohm_run.specs.Streaming.{IsLogRun, RefusesLog, RunsFrom};
+ghost use Rattle.bohm_run.specs.Streaming.{IsLogRun, RefusesLog, RunsBehind, RunsFrom};
 
 use crate::checked_chunk::CheckedChunk;
 use crate::chunks::{RunState, run_chunk};
@@ -99,8 +99,40 @@ fn run_and_read<R: Read, T: Threads + Wait + Sync>(
     log_reader.next_chunk(rt, alloc, reader)
 }
 
-/// Opens the history of a starting store, runs a log's first chunk, and reads and runs all that stands
-/// behind it, to the reader's end.
+/// Runs a log's first chunk on a history that was opened, and reads and runs all that stands behind it,
+/// to the reader's end.
+fn run_to_end<R: Read, T: Threads + Wait + Sync>(
+    rt: &T,
+    alloc: Global,
+    log_reader: &mut LogReader,
+    reader: &mut R,
+    state: &mut RunState,
+    first: Chunk,
+) -> Result<(), ReadingFault>
+    requires ready { IsReady log_reader.old.state.source }
+    requires none { log_reader.old.state.ahead.items ≡ [] }
+    requires count { log_reader.old.state.count ≡ 0 }
+    requires top { state.old.progress.history.top ≡ 0 }
+    requires begun { state.old.count ≡ 0 }
+    ensures ok { OnOk result
+        (RunsBehind log_reader.old.state.edition first.log (R.remaining reader.old)
+        (R.remaining reader.new) log_reader.old.state.source state.old state.new) }
+    ensures err { IfErr result
+        (RefusesLog log_reader.old.state.edition first.log (R.remaining reader.old)
+        (R.remaining reader.new) log_reader.old.state.source) }
+{
+    log_reader.names = state.progress.history.shared_names()?;
+    let fault = check_chunk(&first.log.part());
+    let mut chunk = log_reader.prepare(alloc, first, fault, Seats::new(alloc))?;
+    log_reader.read_ahead(rt, alloc, reader)?;
+    'windows: while log_reader.state.is_going() {
+        chunk = run_and_read(rt, alloc, log_reader, reader, state, chunk)?;
+    }
+    run_chunk(rt, alloc, state, &mut chunk)?;
+    Ok(())
+}
+
+/// Opens the history of a starting store, and runs a log on it that is read to the reader's end.
 fn run_windows<R: Read, T: Threads + Wait + Sync>(
     rt: &T,
     alloc: Global,
@@ -123,14 +155,7 @@ fn run_windows<R: Read, T: Threads + Wait + Sync>(
     // A log of one window shares its names with no other.
     let shares = !log_reader.state.source.ended;
     let mut state = RunState::start(alloc, seed, store, settings, shares)?;
-    log_reader.names = state.progress.history.shared_names()?;
-    let fault = check_chunk(&first.log.part());
-    let mut chunk = log_reader.prepare(alloc, first, fault, Seats::new(alloc))?;
-    log_reader.read_ahead(rt, alloc, reader)?;
-    'windows: while log_reader.state.is_going() {
-        chunk = run_and_read(rt, alloc, log_reader, reader, &mut state, chunk)?;
-    }
-    run_chunk(rt, alloc, &mut state, &mut chunk)?;
+    run_to_end(rt, alloc, log_reader, reader, &mut state, first)?;
     Ok(state)
 }
 

@@ -93,7 +93,8 @@ impl History {
         ensures count { IfOk result (λ h. total h.chains ≡ length entries.now) }
         ensures past { IfOk result (λ h. past h 0 ≡ cell_in (store_of entries.now)) }
     {
-        History::restore_with_seed(alloc, entries, 0, seed)
+        let names = names_in(alloc, entries, HashSeed::from(seed))?;
+        History::stand(alloc, entries, 0, LayeredNames::from(names))
     }
 
     /// The history of a store as it stands after the transaction with a timestamp, which becomes
@@ -113,47 +114,8 @@ impl History {
         History::stand(alloc, entries, ts, LayeredNames::from(names))
     }
 
-    /// The same, with keys hashed from a drawn seed.
-    pub fn restore_with_seed(
-        alloc: Global,
-        entries: &[(Key, Value)],
-        ts: u32,
-        seed: DrawnSeed,
-    ) -> Result<History, NoMemory>
-        requires { rising (names_of entries.now) ≡ true }
-        ensures floor { IfOk result (λ h. h.floor ≡ ts) }
-        ensures top { IfOk result (λ h. h.top ≡ ts) }
-        ensures versions { IfOk result
-            (λ h. (k : List ℕ)
-            → versions h k ≡ starting_versions (cell_in (store_of entries.now) k)) }
-        ensures count { IfOk result (λ h. total h.chains ≡ length entries.now) }
-        ensures past { IfOk result (λ h. past h ts ≡ cell_in (store_of entries.now)) }
-    {
-        let names = names_in(alloc, entries, HashSeed::from(seed))?;
-        History::stand(alloc, entries, ts, LayeredNames::from(names))
-    }
-
-    /// The history of a starting store, as `open_with_seed` gives it. Logs can share the names of the
-    /// store's keys with it.
-    pub fn open_sharing(
-        alloc: Global,
-        entries: &[(Key, Value)],
-        seed: DrawnSeed,
-    ) -> Result<History, NoMemory>
-        requires { rising (names_of entries.now) ≡ true }
-        ensures floor { IfOk result (λ h. h.floor ≡ 0) }
-        ensures top { IfOk result (λ h. h.top ≡ 0) }
-        ensures versions { IfOk result
-            (λ h. (k : List ℕ)
-            → versions h k ≡ starting_versions (cell_in (store_of entries.now) k)) }
-        ensures count { IfOk result (λ h. total h.chains ≡ length entries.now) }
-        ensures past { IfOk result (λ h. past h 0 ≡ cell_in (store_of entries.now)) }
-    {
-        History::restore_sharing(alloc, entries, 0, seed)
-    }
-
-    /// The history of a store at a timestamp, as `restore_with_seed` gives it. Logs can share the names
-    /// of the store's keys with it.
+    /// The same, with keys hashed from a drawn seed. Logs can share the names of the store's keys with
+    /// it.
     pub fn restore_sharing(
         alloc: Global,
         entries: &[(Key, Value)],

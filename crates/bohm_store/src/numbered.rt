@@ -32,12 +32,25 @@ use std::marker::Model;
 
 /// The versions of each key, by its number, from a floor up to a top, which are timestamps. The
 /// newest one lies at the number, and the others stand in a queue, in the order of their ends.
-#[derive(Drop)]
 pub struct NumberedHistory {
     newest: Vec<Held>,
     older: OlderVersions,
     floor: u32,
     top: u32,
+}
+
+// Written out: a derived drop is proved anew in each function that drops such a value.
+impl Drop for NumberedHistory {
+    fn drop(self) {
+        let Self {
+            newest,
+            older,
+            floor: _,
+            top: _,
+        } = self;
+        drop(newest);
+        drop(older);
+    }
 }
 
 impl Model for NumberedHistory {

@@ -29,10 +29,19 @@ pub enum ReplyRow {
 
 /// Replies in log order, which contracts see as a list of them. They are stored in two vectors, one
 /// of a small row for each reply and one of all shown values, so a reply needs no allocation.
-#[derive(Debug, Drop)]
+#[derive(Debug)]
 pub struct Replies {
     rows: Vec<ReplyRow>,
     values: Vec<Value>,
+}
+
+// Written out: a derived drop is proved anew in each function that drops such a value.
+impl Drop for Replies {
+    fn drop(self) {
+        let Self { rows, values } = self;
+        drop(rows);
+        drop(values);
+    }
 }
 
 impl Model for Replies {

@@ -19,7 +19,7 @@ use bohm_types::{Cell, Edition, Key, MOST_KEYS, MOST_SHOWS, MOST_STMTS, NoMemory
 use std::alloc::Global;
 
 /// The effects of the statements so far, with capacity for those of any well-formed transaction.
-#[derive(Debug, Drop)]
+#[derive(Debug)]
 pub struct Work {
     /// The values that are bound.
     pub locals: Room<(Key, Value)>,
@@ -29,6 +29,22 @@ pub struct Work {
     pub cells: Room<Cell>,
     /// The values that are shown.
     pub shows: Room<Value>,
+}
+
+// Written out: a derived drop is proved anew in each function that drops such a value.
+impl Drop for Work {
+    fn drop(self) {
+        let Self {
+            locals,
+            seen,
+            cells,
+            shows,
+        } = self;
+        drop(locals);
+        drop(seen);
+        drop(cells);
+        drop(shows);
+    }
 }
 
 /// Fails unless it holds.

@@ -9,7 +9,6 @@ use std::alloc::Global;
 
 /// The scratches of a number of workers, which are made once and go through all batches of a run. A
 /// batch of fewer transactions takes no more than it has.
-#[derive(Drop)]
 pub struct ScratchPool {
     count: u32,
     // As many as a batch has needed so far.
@@ -17,6 +16,19 @@ pub struct ScratchPool {
     // For what the workers leave.
     pub(crate) last: Scratch,
     ghost some: { 0 < count },
+}
+
+// Written out: a derived drop is proved anew in each function that drops such a value.
+impl Drop for ScratchPool {
+    fn drop(self) {
+        let Self {
+            count: _,
+            scratches,
+            last,
+        } = self;
+        drop(scratches);
+        drop(last);
+    }
 }
 
 impl ScratchPool {

@@ -3,7 +3,7 @@ use Rattle.bohm_run.specs.Chunks.{IsNext}
 use Rattle.bohm_run.specs.Preparing.{count_with}
 use Rattle.bohm_run.specs.Reading.{IsGoing, left}
 use Rattle.bohm_run.specs.Streaming.{RunsBehindTo}
-use Rattle.bohm_run.proofs.streaming.run_windows.Given as goal
+use Rattle.bohm_run.proofs.streaming.run_to_end.Given as goal
 
 abbrev pub invariant-windows : goal.invariant-windows
 invariant-windows g l = record {
