@@ -23,7 +23,7 @@
 
 /* The version, and the checksum of the sources that the library is built from. */
 #define BOHM_VERSION "0.1.0"
-#define BOHM_SOURCES "0f67be156ca82a618196cb6fceb8862f190788c6212ae59f41ea1c938b5978b5"
+#define BOHM_SOURCES "12258d4fd72162cc92ef629cacf0fc8d6d455b595051f62afb29781f9233a833"
 
 /* The same, of the library that the program is linked with. */
 extern const char bohm_version[16], bohm_sources[65];

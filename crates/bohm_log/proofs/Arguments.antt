@@ -1,12 +1,16 @@
 -- Declared names and the parameters that they are.
-use Rattle.std.proofs.Common.{◌≡◌, ℕ, ◌≤◌, true, List, [], ◌∷◌, map, length, refl, ap, sym, subst, ◌∙◌, arith}
-use Rattle.std.specs.Prelude.{ℤ}
+use Rattle.std.proofs.Common.{◌≡◌, ℕ, ◌≤◌, true, List, [], ◌∷◌, ◌++◌, Some, None, Bor, map, length, drop, replicate, refl, ap, sym, subst, ⊎_elim, ◌∙◌, arith}
+use Rattle.std.specs.Prelude.{ℤ, pos, Option, IfSome}
 use Rattle.std.proofs.lemmas.List.{length-map}
 use Rattle.bohm_types.specs.Procedure.{stands_for}
 use Rattle.bohm_log.specs.declared.template.DeclaredName.{DeclaredName}
 use Rattle.bohm_log.specs.declared.template.BodyColumns.{BodyColumns}
 use Rattle.bohm_log.specs.Parts.{Parts}
-use Rattle.bohm_log.specs.Calling.{names_in, declared_name, argument_of, parts_in, AreDeclared, IsOwn, IsTemplate, IsCalled, Stays, term_to, row_to}
+use Rattle.bohm_log.specs.Calling.{names_in, declared_name, argument_of, parts_in, AreDeclared, IsOwn}
+use Rattle.bohm_log.specs.Calling.{IsPlaced, IsReady, IsTemplate, IsCalled, term_to, row_to, let_rows}
+use Rattle.bohm_log.specs.CallPlaces.{IsChosen, IsOrdered}
+use Rattle.bohm_log.specs.declared.call_places.SetPlaces.{SetPlaces}
+use Rattle.bohm_log.specs.declared.placed_body.PlacedBody.{PlacedBody}
 use Rattle.bohm_log.specs.declared.row.TermRow.{TermRow}
 use Rattle.bohm_log.specs.declared.row.StmtRow.{StmtRow}
 use Rattle.std.specs.List.{range_with_len}
@@ -62,29 +66,65 @@ parts_made params reads writes others p r w o =
     let ws : names_in writes ≡ p.writes = names_declared params p.writes writes w in
     λ j. record { reads = rs j; writes = ws j; others = o j; large = p.large; terms = p.terms; rows = p.rows }
 
--- terms and statements that stay as they are, in slices
-pub stays_made : (body : BodyColumns) (terms : List TermRow) (rows : List StmtRow) (reads writes : ℕ) → terms ≡ body.terms.items → rows ≡ body.rows.items
-    → reads ≡ length body.reads.items → writes ≡ length body.writes.items → map (term_to (range_with_len 0 reads)) terms ≡ terms
-    → map (row_to (range_with_len 0 reads) (range_with_len 0 writes)) rows ≡ rows
-    → Stays body (range_with_len 0 (length body.reads.items)) (range_with_len 0 (length body.writes.items))
-stays_made body terms rows reads writes t s r w ht hr = record {
-  terms = subst (λ (xs : List TermRow). map (term_to (range_with_len 0 (length body.reads.items))) xs ≡ xs) t
-      (subst (λ n. map (term_to (range_with_len 0 n)) terms ≡ terms) r ht);
-  rows = subst (λ (xs : List StmtRow). map (row_to (range_with_len 0 (length body.reads.items)) (range_with_len 0 (length body.writes.items))) xs ≡ xs) s
-      (subst (λ m. map (row_to (range_with_len 0 (length body.reads.items)) (range_with_len 0 m)) rows ≡ rows) w
-      (subst (λ n. map (row_to (range_with_len 0 n) (range_with_len 0 writes)) rows ≡ rows) r hr));
+-- a body that is chosen for places is prepared for them
+chosen_placed : (body : BodyColumns) (locals reads writes : List ℕ) (b : PlacedBody) → IsReady body locals → IsChosen body reads writes b
+    → IsPlaced body.terms.items body.rows.items locals reads writes b
+chosen_placed body locals reads writes b ready = ⊎_elim
+    (λ h. subst (λ (x : PlacedBody). IsPlaced body.terms.items body.rows.items locals reads writes x) (sym h.0)
+    (subst (λ (rs : List ℕ). IsPlaced body.terms.items body.rows.items locals rs writes body.rising) (sym h.1.0)
+    (subst (λ (ws : List ℕ). IsPlaced body.terms.items body.rows.items locals (range_with_len 0 (length body.reads.items)) ws body.rising) (sym h.1.1)
+    ready.rising)))
+    (λ h. subst (λ (x : PlacedBody). IsPlaced body.terms.items body.rows.items locals reads writes x) (sym h.0)
+    (subst (λ (rs : List ℕ). IsPlaced body.terms.items body.rows.items locals rs writes body.falling) (sym h.1.0)
+    (subst (λ (ws : List ℕ). IsPlaced body.terms.items body.rows.items locals (1 ∷ 0 ∷ []) ws body.falling) (sym h.1.1)
+    ready.falling)))
+
+pub terms_chosen : (body : BodyColumns) (locals reads writes : List ℕ) (o : Option (Bor PlacedBody)) → IsReady body locals
+    → IfSome o (λ b. IsChosen body reads writes b.now) → IfSome o (λ b. b.now.terms.items ≡ map (term_to reads) body.terms.items)
+terms_chosen body locals reads writes None ready h = tt
+terms_chosen body locals reads writes (Some b) ready h = (chosen_placed body locals reads writes b.now ready h).same_terms
+
+pub rows_chosen : (body : BodyColumns) (locals reads writes : List ℕ) (o : Option (Bor PlacedBody)) → IsReady body locals
+    → IfSome o (λ b. IsChosen body reads writes b.now)
+    → IfSome o (λ b. b.now.rows.items ≡ let_rows (length body.terms.items) locals (replicate (length locals) (pos 0))
+    ++ map (row_to reads writes) (drop (length locals) body.rows.items))
+rows_chosen body locals reads writes None ready h = tt
+rows_chosen body locals reads writes (Some b) ready h = (chosen_placed body locals reads writes b.now ready h).same_rows
+
+-- the order of keys is that of the names that stand for them
+pub ordered_for : (args : List (List ℕ)) (names : List DeclaredName) (s : SetPlaces) → IsOrdered (length (map (argument_of args) names)) s
+    → IsOrdered (length names) s
+ordered_for args names s = subst (λ n. IsOrdered n s) (length-map names (argument_of args))
+
+-- what was prepared from slices of the columns
+placed_from : (body : BodyColumns) (terms : List TermRow) (rows : List StmtRow) (places locals reads writes : List ℕ) (b : PlacedBody)
+    → terms ≡ body.terms.items → rows ≡ body.rows.items → places ≡ locals → IsPlaced terms rows places reads writes b
+    → IsPlaced body.terms.items body.rows.items locals reads writes b
+placed_from body terms rows places locals reads writes b t r l h =
+    subst (λ (xs : List TermRow). IsPlaced xs body.rows.items locals reads writes b) t
+    (subst (λ (xs : List StmtRow). IsPlaced terms xs locals reads writes b) r (subst (λ (xs : List ℕ). IsPlaced terms rows xs reads writes b) l h))
+
+pub ready_made : (body : BodyColumns) (terms : List TermRow) (rows : List StmtRow) (places locals : List ℕ) (reads writes : ℕ)
+    → terms ≡ body.terms.items → rows ≡ body.rows.items → places ≡ locals → reads ≡ length body.reads.items → writes ≡ length body.writes.items
+    → IsPlaced terms rows places (range_with_len 0 reads) (range_with_len 0 writes) body.rising
+    → IsPlaced terms rows places (1 ∷ 0 ∷ []) (1 ∷ 0 ∷ []) body.falling → IsReady body locals
+ready_made body terms rows places locals reads writes t r l few many rising falling = record {
+  rising = placed_from body terms rows places locals _ _ body.rising t r l
+      (subst (λ n. IsPlaced terms rows places (range_with_len 0 (length body.reads.items)) (range_with_len 0 n) body.rising) many
+      (subst (λ n. IsPlaced terms rows places (range_with_len 0 n) (range_with_len 0 writes) body.rising) few rising));
+  falling = placed_from body terms rows places locals _ _ body.falling t r l falling;
 }
 
 -- a template made of an own instance's parts
 pub template_made : (params : List (List ℕ)) (body : BodyColumns) (p : Parts) (locals : List ℕ) → parts_in body ≡ p → IsOwn p locals
     → body.reads.items ≡ map (declared_name params) p.reads → body.writes.items ≡ map (declared_name params) p.writes
     → (body.same_sets ≡ true → p.reads ≡ p.writes)
-    → (body.stays ≡ true → Stays body (range_with_len 0 (length body.reads.items)) (range_with_len 0 (length body.writes.items)))
+    → IsReady body locals
     → IsTemplate params body locals
-template_made params body p locals same own r w alike stays = record {
+template_made params body p locals same own r w alike ready = record {
   own = subst (λ (x : Parts). IsOwn x locals) (sym same) own;
   reads = are_declared params p.reads body.reads.items r;
   writes = are_declared params p.writes body.writes.items w;
   alike = λ is. r ∙ ap (map (declared_name params)) (alike is) ∙ sym w;
-  stays = stays;
+  ready = ready;
 }

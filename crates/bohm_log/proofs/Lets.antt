@@ -1,8 +1,10 @@
 -- What a call adds for its values: what is there, and what is still to come.
-use Rattle.std.proofs.Common.{◌≡◌, ℕ, suc, ◌+◌, ◌<◌, ◌≤◌, true, false, List, [], ◌∷◌, ◌++◌, length, get_or, drop}
-use Rattle.std.proofs.Common.{refl, ap, sym, ◌∙◌, arith, add-one, drop-cons, append_assoc, append-nil}
-use Rattle.std.specs.Prelude.{ℤ, nat_lt, ◌^◌, ◌-◌, if◌then◌else◌}
+use Rattle.std.proofs.Common.{◌≡◌, ℕ, zero, suc, ◌+◌, ◌<◌, ◌≤◌, true, false, List, [], ◌∷◌, ◌++◌, length, get_or, take, drop}
+use Rattle.std.proofs.Common.{refl, ap, sym, ◌∙◌, arith, add-one, drop-cons, append_assoc, append-nil, replicate}
+use Rattle.std.specs.List.{AllByRecursion}
+use Rattle.std.specs.Prelude.{ℤ, pos, nat_lt, ◌^◌, ◌-◌, if◌then◌else◌}
 use Rattle.std.proofs.Common.{map}
+use Rattle.std.proofs.lemmas.Slice.{between_to_end}
 use Rattle.std.proofs.lemmas.List.{drop_all, length-append, length-map, length-drop}
 use Rattle.std.specs.Int.RustNames.{unsigned_abs}
 use Rattle.bohm_log.specs.declared.row.TermRow.{TermRow}
@@ -86,6 +88,19 @@ rows_longer old now next g rows start places vs same few a b = omega (
   length-drop (length places) rows,
 )
 
+-- what is behind so many entries of a slice
+pub behind : {A B : Type 0} (g : A → B) (old : List B) (s rows : List A) (n : ℕ) → s ≡ rows
+    → old ++ map g (take (length s - n) (drop n s)) ≡ old ++ map g (drop n rows)
+behind g old s rows n e = ap (λ xs. old ++ map g xs) (between_to_end s n (length s) (omega arith) ∙ ap (drop n) e)
+
+-- the statements of a call are as many as the body's
+pub rows_whole : (g : StmtRow → StmtRow) (rows : List StmtRow) (start : ℕ) (places : List ℕ) (vs : List ℤ) → length vs ≡ length places
+    → length places ≤ length rows → length (let_rows start places vs ++ map g (drop (length places) rows)) ≡ length rows
+rows_whole g rows start places vs same few = omega (
+  arith,
+  rows_longer [] (let_rows start places vs) (let_rows start places vs ++ map g (drop (length places) rows)) g rows start places vs same few refl refl,
+)
+
 pub many_next : (large many more : ℕ) (vs : List ℤ) (i : ℕ) (v : ℤ) → i < length vs → v ≡ get_or vs i v
     → many + length (let_large (drop i vs)) ≡ large + length (let_large vs) → more ≡ many + length (value_large v)
     → more + length (let_large (drop (i + 1) vs)) ≡ large + length (let_large vs)
@@ -108,6 +123,22 @@ start_next first start end vs i v inside is h m = omega (
   length-append (value_terms 0 v) (let_terms (0 + length (value_large v)) (drop (i + 1) vs)),
   terms_many (0 + length (value_large v)) 0 (drop (i + 1) vs),
 )
+
+-- a zero is one term
+pub zero_terms : (many n : ℕ) → length (let_terms many (replicate n (pos 0))) ≡ n
+zero_terms many zero = refl
+zero_terms many (suc n) = ap suc (zero_terms (many + 0) n)
+
+-- values of one term each have the same statements
+pub short_rows : (start : ℕ) (places : List ℕ) (vs : List ℤ) → AllByRecursion (λ (v : ℤ). length (value_terms 0 v) ≡ 1) vs → length vs ≡ length places
+    → let_rows start places (replicate (length places) (pos 0)) ≡ let_rows start places vs
+short_rows start [] [] short same = refl
+short_rows start [] (v ∷ vs) short same = absurd (omega (arith, same))
+short_rows start (i ∷ is) [] short same = absurd (omega (arith, same))
+short_rows start (i ∷ is) (v ∷ vs) short same =
+    ap (λ (n : ℕ). let_row i start (start + n) ∷ let_rows (start + n) is (replicate (length is) (pos 0))) (sym short.0)
+    ∙ ap (λ (rs : List StmtRow). let_row i start (start + length (value_terms 0 v)) ∷ rs)
+    (short_rows (start + length (value_terms 0 v)) is vs short.1 (omega (arith, same)))
 
 -- ---- with all values
 

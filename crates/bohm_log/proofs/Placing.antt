@@ -15,6 +15,7 @@ use Rattle.std.proofs.lemmas.List.FromFn.{get_or-range_with_len, map-range_with_
 use Rattle.std.proofs.lemmas.Option.{get_or_from_slice_get, slice_get-get_or}
 use Rattle.std.proofs.lemmas.Bool.{or_right}
 use Rattle.bohm_log.specs.Calling.{ArePlaces}
+use Rattle.bohm_log.specs.CallPlaces.{IsFalling}
 use Rattle.bohm_log.specs.Columns.{AllNamed}
 use Rattle.bohm_log.specs.Parts.{IsApart, name_at, names_at}
 use Rattle.std.proofs.lemmas.Slice.Eq.{bytes_eq-Decides}
@@ -177,6 +178,42 @@ pub own_places : (keys : List (List ℕ)) → ArePlaces keys keys (range_with_le
 own_places keys = record {
   each = λ i h. ap (slice_get keys) (place_stays (length keys) i h) ∙ slice_get-get_or keys i [] h;
 }
+
+-- ---- two keys
+
+-- how two keys compare that were read
+compared : (x y a b : List ℕ) → slice_get (x ∷ y ∷ []) 0 ≡ Some a → slice_get (x ∷ y ∷ []) 1 ≡ Some b → slice_cmp nat_cmp x y ≡ slice_cmp nat_cmp a b
+compared x y a b first second =
+    let one : x ≡ a = get_or_from_slice_get (x ∷ y ∷ []) 0 a a first in
+    let other : y ≡ b = get_or_from_slice_get (x ∷ y ∷ []) 1 b b second in
+    λ j. slice_cmp nat_cmp (one j) (other j)
+
+pub two_rising : (keys : List (List ℕ)) (a b : List ℕ) → length keys ≡ 2 → slice_get keys 0 ≡ Some a → slice_get keys 1 ≡ Some b
+    → slice_cmp nat_cmp a b ≡ Less → key_set keys ≡ keys
+two_rising [] a b two first second less = absurd (omega (arith, two))
+two_rising (x ∷ []) a b two first second less = absurd (omega (arith, two))
+two_rising (x ∷ y ∷ []) a b two first second less = ap (λ o. inserted_by o x y [] (inserted x [])) (compared x y a b first second ∙ less)
+two_rising (x ∷ y ∷ z ∷ zs) a b two first second less = absurd (omega (arith, two))
+
+pub two_falling : (keys : List (List ℕ)) (a b : List ℕ) → length keys ≡ 2 → slice_get keys 0 ≡ Some a → slice_get keys 1 ≡ Some b
+    → slice_cmp nat_cmp a b ≡ Greater → IsFalling keys
+two_falling [] a b two first second greater = absurd (omega (arith, two))
+two_falling (x ∷ []) a b two first second greater = absurd (omega (arith, two))
+two_falling (x ∷ y ∷ []) a b two first second greater =
+    (two, ap (λ o. inserted_by o x y [] (inserted x [])) (compared x y a b first second ∙ greater))
+two_falling (x ∷ y ∷ z ∷ zs) a b two first second greater = absurd (omega (arith, two))
+
+-- falling keys are at each other's places
+pub turned_places : (keys : List (List ℕ)) → IsFalling keys → ArePlaces keys (key_set keys) (1 ∷ 0 ∷ [])
+turned_places [] falls = absurd (omega (arith, falls.0))
+turned_places (x ∷ []) falls = absurd (omega (arith, falls.0))
+turned_places (x ∷ y ∷ []) falls = subst (λ (set : List (List ℕ)). ArePlaces (x ∷ y ∷ []) set (1 ∷ 0 ∷ [])) (sym falls.1) (record { each = each })
+  where
+    each : (i : ℕ) → i < 2 → slice_get (y ∷ x ∷ []) (slice_index_or (1 ∷ 0 ∷ []) i 0) ≡ Some (slice_index_or (x ∷ y ∷ []) i [])
+    each zero h = refl
+    each (suc zero) h = refl
+    each (suc (suc i)) h = absurd (omega (arith, h))
+turned_places (x ∷ y ∷ z ∷ zs) falls = absurd (omega (arith, falls.0))
 
 -- ---- where they are
 

@@ -1,21 +1,29 @@
 -- The sets of a call, and where its keys stand in them.
-use Rattle.std.proofs.Common.{arith, ◌≡◌, ℕ, true, false, List, ◌++◌, ◌-◌, length, take, drop, map, refl, ap, sym, subst, ◌∙◌}
-use Rattle.std.specs.Prelude.{ℤ}
+use Rattle.std.proofs.Common.{arith, ◌≡◌, ℕ, ◌<◌, List, [], ◌∷◌, ◌++◌, ◌-◌, length, get_or, take, drop, map, refl, ap, sym, subst, ◌∙◌}
+use Rattle.std.specs.Prelude.{ℤ, ◌≢◌}
 use Rattle.std.specs.List.{range_with_len}
 use Rattle.std.proofs.lemmas.List.{length-map, drop_at}
+use Rattle.std.proofs.lemmas.List.Elements.{All-nil, All-cons, All-get_or}
 use Rattle.std.proofs.lemmas.Slice.{between_to_end}
 use Rattle.bohm_types.specs.KeySets.{key_set}
 use Rattle.bohm_log.specs.Calling.{ArePlaces, argument_of, parts_in, IsCalled}
 use Rattle.bohm_log.specs.Columns.{Shared, AllNamed, NumbersCome}
 use Rattle.bohm_log.specs.declared.template.BodyColumns.{BodyColumns}
 use Rattle.bohm_log.specs.declared.call_places.CallPlaces.{CallPlaces}
-use Rattle.bohm_log.specs.CallPlaces.{HasPlaces, IsSettled, HasSets, parts_called, written}
+use Rattle.bohm_log.specs.declared.call_places.KeyOrder.{KeyOrder}
+use Rattle.bohm_log.specs.declared.call_places.KeyOrder.TheVariants.{Rising, Falling, Mixed}
+use Rattle.bohm_log.specs.CallPlaces.{AreSorted, HasPlaces, IsFalling, IsSettled, HasSets, parts_called, written}
 use Rattle.bohm_log.specs.Parts.{names_at, name_at}
 use Rattle.bohm_log.specs.declared.call_places.SetPlaces.{SetPlaces}
-use Rattle.bohm_log.proofs.Placing.{own_places}
+use Rattle.bohm_log.proofs.Placing.{own_places, turned_places}
 use Rattle.bohm_log.proofs.Widening.{come_instead}
 
-pub settled_itself : (names : List (List ℕ)) (ids : List ℕ) (s : SetPlaces) → s.in_order ≡ true → key_set (names_at names ids) ≡ names_at names ids
+-- an order is one
+not_both : {o : KeyOrder} → o ≡ Rising → o ≢ Falling
+not_both r f = let bad : Rising ≡ Falling = sym r ∙ f in cc
+
+-- keys that rise
+pub settled_itself : (names : List (List ℕ)) (ids : List ℕ) (s : SetPlaces) → s.order ≡ Rising → key_set (names_at names ids) ≡ names_at names ids
     → s.places.items ≡ range_with_len 0 (length ids) → IsSettled names ids s
 settled_itself names ids s order set counted =
     let places : s.places.items ≡ range_with_len 0 (length (names_at names ids)) =
@@ -25,10 +33,47 @@ settled_itself names ids s order set counted =
     (subst (λ (ks : List (List ℕ)). ArePlaces (names_at names ids) ks (range_with_len 0 (length (names_at names ids)))) (sym set)
     (own_places (names_at names ids))) in
     record {
-      places = record { at = at; in_order = λ e. places };
+      places = record { at = at; ordered = record { rising = λ e. places; falling = λ e. absurd (not_both order e) } };
       itself = λ e. set;
-      sorted = λ e. absurd (let bad : true ≡ false = sym order ∙ e in cc);
+      sorted = λ n. absurd (n order);
     }
+
+-- two keys that fall
+pub settled_turned : (names : List (List ℕ)) (ids : List ℕ) (first second : ℕ) (s : SetPlaces) → s.order ≡ Falling → IsFalling (names_at names ids)
+    → AllNamed names ids → first ≡ get_or ids 0 first → second ≡ get_or ids 1 second → s.numbers.items ≡ second ∷ first ∷ []
+    → s.places.items ≡ 1 ∷ 0 ∷ [] → IsSettled names ids s
+settled_turned names [] first second s order falls named one other numbers places = absurd (omega (arith, falls.0))
+settled_turned names (i ∷ []) first second s order falls named one other numbers places = absurd (omega (arith, falls.0))
+settled_turned names (i ∷ j ∷ []) first second s order falls named one other numbers places =
+    let in_set : (ns : List ℕ) → AllNamed names (i ∷ j ∷ []) → AllNamed names (j ∷ i ∷ []) = λ ns h.
+    All-cons (λ m. m < length names) j (i ∷ []) (All-get_or (λ m. m < length names) (i ∷ j ∷ []) 1 0 (omega arith) h)
+    (All-cons (λ m. m < length names) i [] (All-get_or (λ m. m < length names) (i ∷ j ∷ []) 0 0 (omega arith) h) (All-nil (λ m. m < length names))) in
+    let turned : s.numbers.items ≡ j ∷ i ∷ [] = numbers ∙ (λ k. other k ∷ one k ∷ []) in
+    record {
+      places = record {
+        at = subst (λ (ps : List ℕ). ArePlaces (names_at names (i ∷ j ∷ [])) (key_set (names_at names (i ∷ j ∷ []))) ps) (sym places)
+            (turned_places (names_at names (i ∷ j ∷ [])) falls);
+        ordered = record { rising = λ e. absurd (not_both e order); falling = λ e. places };
+      };
+      itself = λ e. absurd (not_both e order);
+      sorted = λ n. subst (λ (ns : List ℕ). AreSorted names (i ∷ j ∷ []) ns) (sym turned) (record { named = in_set [] named; same = sym falls.1 });
+    }
+settled_turned names (i ∷ j ∷ k ∷ ks) first second s order falls named one other numbers places = absurd (omega (arith, falls.0))
+
+-- keys in any order
+pub settled_sorted : (names : List (List ℕ)) (ids : List ℕ) (s : SetPlaces) → s.order ≡ Mixed → AreSorted names ids s.numbers.items
+    → ArePlaces (names_at names ids) (key_set (names_at names ids)) s.places.items → IsSettled names ids s
+settled_sorted names ids s order sorted places = record {
+  places = record {
+    at = places;
+    ordered = record {
+      rising = λ e. absurd (let bad : Rising ≡ Mixed = sym e ∙ order in cc);
+      falling = λ e. absurd (let bad : Falling ≡ Mixed = sym e ∙ order in cc);
+    };
+  };
+  itself = λ e. absurd (let bad : Rising ≡ Mixed = sym e ∙ order in cc);
+  sorted = λ n. sorted;
+}
 
 -- ---- numbers that came
 
@@ -63,14 +108,14 @@ places_come c d keys names from ids s start a n i h =
 
 -- keys that rise are the set
 pub itself_comes : (c d : Shared) (keys names : List (List ℕ)) (from : ℕ) (ids : List ℕ) (s : SetPlaces) → from ≡ length c.ids → NumbersCome c d keys
-    → names ≡ d.names → ids ≡ drop from d.ids → IsSettled names ids s → s.in_order ≡ true → NumbersCome c d (key_set keys)
+    → names ≡ d.names → ids ≡ drop from d.ids → IsSettled names ids s → s.order ≡ Rising → NumbersCome c d (key_set keys)
 itself_comes c d keys names from ids s start a n i h order =
     let so : names_at names ids ≡ keys = settled_so c d keys names from ids start a n i in
     subst (λ (ks : List (List ℕ)). NumbersCome c d ks) (sym so ∙ sym (h.itself order) ∙ ap key_set so) a
 
 -- others are sorted
 pub sorted_comes : (c d e : Shared) (keys names : List (List ℕ)) (from : ℕ) (ids : List ℕ) (s : SetPlaces) → from ≡ length c.ids → NumbersCome c d keys
-    → names ≡ d.names → ids ≡ drop from d.ids → IsSettled names ids s → s.in_order ≡ false
+    → names ≡ d.names → ids ≡ drop from d.ids → IsSettled names ids s → s.order ≢ Rising
     → e ≡ record d { ids = take from d.ids ++ s.numbers.items } → NumbersCome c e (key_set keys)
 sorted_comes c d e keys names from ids s start a n i h order e_is =
     let so : names_at names ids ≡ keys = settled_so c d keys names from ids start a n i in

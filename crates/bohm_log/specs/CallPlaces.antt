@@ -1,13 +1,14 @@
 -- Where the keys of a call stand in its sets, and what the call makes.
-use Rattle.std.specs.Prelude.{◌≡◌, ℕ, ℤ, List, ◌++◌, map, length, drop, true, false, if◌then◌else◌}
+use Rattle.std.specs.Prelude.{◌≡◌, ◌≢◌, ◌⊎◌, ℕ, ℤ, List, [], ◌∷◌, ◌++◌, map, length, drop, get_or, if◌then◌else◌}
 use Rattle.std.specs.List.{range_with_len}
 use Rattle.bohm_types.specs.KeySets.{key_set}
+use Rattle.bohm_log.specs.declared.call_places.KeyOrder.TheVariants.{Rising, Falling}
 use Rattle.bohm_log.specs.declared.call_places.SetPlaces.{SetPlaces}
 use Rattle.bohm_log.specs.declared.call_places.CallPlaces.{CallPlaces}
-use Rattle.bohm_log.specs.declared.call_places.Moves.{Moves}
+use Rattle.bohm_log.specs.declared.placed_body.PlacedBody.{PlacedBody}
 use Rattle.bohm_log.specs.declared.template.BodyColumns.{BodyColumns}
 use Rattle.bohm_log.specs.Columns.{AllNamed}
-use Rattle.bohm_log.specs.Calling.{argument_of, ArePlaces, Stays, term_to, row_to, let_large, let_terms, let_rows}
+use Rattle.bohm_log.specs.Calling.{argument_of, ArePlaces, term_to, row_to, let_large, let_terms, let_rows}
 use Rattle.bohm_log.specs.Parts.{Parts, names_at}
 
 -- the numbers are those of the distinct keys, in ascending order
@@ -15,16 +16,25 @@ pub record AreSorted (names : List (List ℕ)) (ids sorted : List ℕ) : Type 0 
   pub named : AllNamed names sorted
   pub same : names_at names sorted ≡ key_set (names_at names ids)
 
--- the places of keys in their set. In order, the keys are the set themselves
+-- of two keys the second is the lower one
+abbrev pub IsFalling : List (List ℕ) → Type 0
+IsFalling keys = (length keys ≡ 2) × (key_set keys ≡ get_or keys 1 [] ∷ get_or keys 0 [] ∷ [])
+
+-- where the order of this many keys tells their places
+pub record IsOrdered (count : ℕ) (s : SetPlaces) : Type 0 where
+  pub rising : s.order ≡ Rising → s.places.items ≡ range_with_len 0 count
+  pub falling : s.order ≡ Falling → s.places.items ≡ 1 ∷ 0 ∷ []
+
+-- the places of keys in their set
 pub record HasPlaces (keys : List (List ℕ)) (s : SetPlaces) : Type 0 where
   pub at : ArePlaces keys (key_set keys) s.places.items
-  pub in_order : s.in_order ≡ true → s.places.items ≡ range_with_len 0 (length keys)
+  pub ordered : IsOrdered (length keys) s
 
--- the set of the keys with these numbers has its own numbers, or these ones
+-- the set of the keys with these numbers has these numbers where they rise, and else its own
 pub record IsSettled (names : List (List ℕ)) (ids : List ℕ) (s : SetPlaces) : Type 0 where
   pub places : HasPlaces (names_at names ids) s
-  pub itself : s.in_order ≡ true → key_set (names_at names ids) ≡ names_at names ids
-  pub sorted : s.in_order ≡ false → AreSorted names ids s.numbers.items
+  pub itself : s.order ≡ Rising → key_set (names_at names ids) ≡ names_at names ids
+  pub sorted : s.order ≢ Rising → AreSorted names ids s.numbers.items
 
 -- the places of the keys that are written
 abbrev pub written : BodyColumns → CallPlaces → SetPlaces
@@ -35,9 +45,11 @@ pub record HasSets (args : List (List ℕ)) (body : BodyColumns) (p : CallPlaces
   pub reads : HasPlaces (map (argument_of args) body.reads.items) p.reads
   pub writes : HasPlaces (map (argument_of args) body.writes.items) (written body p)
 
--- where nothing moves, terms and statements are as they were
-pub record IsMove (body : BodyColumns) (m : Moves) : Type 0 where
-  pub stays : m.stays ≡ true → Stays body m.reads.now m.writes.now
+-- it is prepared for keys at these places
+abbrev pub IsChosen : BodyColumns → List ℕ → List ℕ → PlacedBody → Type 0
+IsChosen body reads writes b = ((b ≡ body.rising)
+    × ((reads ≡ range_with_len 0 (length body.reads.items)) × (writes ≡ range_with_len 0 (length body.writes.items))))
+    ⊎ ((b ≡ body.falling) × ((reads ≡ 1 ∷ 0 ∷ []) × (writes ≡ 1 ∷ 0 ∷ [])))
 
 -- what a call makes of a body, whose values' names have these places
 abbrev pub parts_called : List (List ℕ) → BodyColumns → List ℕ → List ℤ → CallPlaces → Parts

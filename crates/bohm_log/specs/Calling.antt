@@ -1,6 +1,6 @@
 -- A procedure in memory, and the instance that a call makes of it.
-use Rattle.std.specs.Prelude.{◌≡◌, ℕ, ℤ, ◌+◌, ◌-◌, ◌^◌, ◌<◌, ◌≤◌, List, [], ◌∷◌, ◌++◌, map, length, drop}
-use Rattle.std.specs.Prelude.{Bool, true, false, Some, nat_lt, if◌then◌else◌}
+use Rattle.std.specs.Prelude.{◌≡◌, ℕ, ℤ, pos, ◌+◌, ◌-◌, ◌^◌, ◌<◌, ◌≤◌, List, [], ◌∷◌, ◌++◌, map, length, drop}
+use Rattle.std.specs.Prelude.{Bool, true, false, Some, nat_lt, replicate, if◌then◌else◌}
 use Rattle.std.specs.List.{AllByRecursion, IsDistinct, slice_index_or, slice_get, range_with_len}
 use Rattle.std.specs.Str.{bytes_eq}
 use Rattle.bohm_types.specs.declared.edition.Edition.{Edition}
@@ -13,6 +13,7 @@ use Rattle.bohm_log.specs.declared.row.Action.TheVariants.{Bind, Need, Has, Lack
 use Rattle.bohm_log.specs.declared.row.StmtRow.{StmtRow}
 use Rattle.bohm_log.specs.declared.template.BodyColumns.{BodyColumns}
 use Rattle.bohm_log.specs.declared.template.DeclaredName.{DeclaredName}
+use Rattle.bohm_log.specs.declared.placed_body.PlacedBody.{PlacedBody}
 use Rattle.bohm_log.specs.Parts.{Parts, IsWithin, names_at, stmt_of}
 use Rattle.bohm_log.specs.Columns.{AllNamed}
 use Rattle.bohm_types.specs.Accesses.{StmtReads, StmtWrites}
@@ -100,18 +101,6 @@ name_by r w Fail i = i
 abbrev pub row_to : List ℕ → List ℕ → StmtRow → StmtRow
 row_to r w s = record s { name = name_by r w s.action s.name }
 
--- terms and statements are as they were, where the keys stand at these places
-pub record Stays (body : BodyColumns) (reads writes : List ℕ) : Type 0 where
-  pub terms : map (term_to reads) body.terms.items ≡ body.terms.items
-  pub rows : map (row_to reads writes) body.rows.items ≡ body.rows.items
-
-pub record IsTemplate (params : List (List ℕ)) (body : BodyColumns) (locals : List ℕ) : Type 0 where
-  pub own : IsOwn (parts_in body) locals
-  pub reads : AreDeclared params body.reads.items
-  pub writes : AreDeclared params body.writes.items
-  pub alike : body.same_sets ≡ true → body.reads.items ≡ body.writes.items
-  pub stays : body.stays ≡ true → Stays body (range_with_len 0 (length body.reads.items)) (range_with_len 0 (length body.writes.items))
-
 -- ---- values
 
 -- the term of a literal, after this many large ones
@@ -150,6 +139,27 @@ abbrev pub let_rows : ℕ → List ℕ → List ℤ → List StmtRow
 let_rows start [] vs = []
 let_rows start (i ∷ is) [] = []
 let_rows start (i ∷ is) (v ∷ vs) = let_row i start (start + length (value_terms 0 v)) ∷ let_rows (start + length (value_terms 0 v)) is vs
+
+-- ---- a body that is prepared
+
+-- the terms and statements of a call whose keys are at these places, and whose values are a term each
+pub record IsPlaced (terms : List TermRow) (rows : List StmtRow) (locals reads writes : List ℕ) (b : PlacedBody) : Type 0 where
+  pub same_terms : b.terms.items ≡ map (term_to reads) terms
+  pub same_rows : b.rows.items ≡ let_rows (length terms) locals (replicate (length locals) (pos 0))
+      ++ map (row_to reads writes) (drop (length locals) rows)
+
+-- for keys in ascending order, and for two keys in descending order
+pub record IsReady (body : BodyColumns) (locals : List ℕ) : Type 0 where
+  pub rising : IsPlaced body.terms.items body.rows.items locals
+      (range_with_len 0 (length body.reads.items)) (range_with_len 0 (length body.writes.items)) body.rising
+  pub falling : IsPlaced body.terms.items body.rows.items locals (1 ∷ 0 ∷ []) (1 ∷ 0 ∷ []) body.falling
+
+pub record IsTemplate (params : List (List ℕ)) (body : BodyColumns) (locals : List ℕ) : Type 0 where
+  pub own : IsOwn (parts_in body) locals
+  pub reads : AreDeclared params body.reads.items
+  pub writes : AreDeclared params body.writes.items
+  pub alike : body.same_sets ≡ true → body.reads.items ≡ body.writes.items
+  pub ready : IsReady body locals
 
 -- ---- a call
 

@@ -101,10 +101,10 @@ most_names reads writes = 32 * (1 + reads + writes)
 abbrev pub held_with : Shared → Parts → ℕ
 held_with c p = length c.names + most_names (length p.reads) (length p.writes) + entries_in c + entries_of p
 
--- parts came, and few names
+-- parts came, of which those may stand there already that an earlier call added, and few names
 pub record Longer (c d : Shared) (p : Parts) : Type 0 where
   pub names : length d.names ≤ length c.names + most_names (length p.reads) (length p.writes)
-  pub entries : entries_in d ≡ entries_in c + entries_of p
+  pub entries : entries_in d ≤ entries_in c + entries_of p
 
 abbrev pub ends_of : Shared → Ends
 ends_of c = record {

@@ -1,21 +1,21 @@
 //! Adds calls to the columns.
 
 ghost use Rattle.std.specs.Prelude.{◌≡◌, ◌≢◌, ◌≤◌, ◌+◌, ◌*◌, ◌^◌, [], ◌∷◌, IfOk, OnOk, OnErr};
-ghost use Rattle.std.specs.Prelude.{Err, true, length, map, max};
+ghost use Rattle.std.specs.Prelude.{Err, IfSome, true, length, map, max};
 ghost use Rattle.bohm_log.specs.declared.fault.LogFault.TheVariants.{Full};
 ghost use Rattle.bohm_log.specs.Columns.{entries_in, held_with};
 ghost use Rattle.bohm_types.specs.KeySets.{key_set};
-ghost use Rattle.bohm_log.specs.Calling.{argument_of, Stays};
-ghost use Rattle.bohm_log.specs.CallPlaces.{HasPlaces, HasSets, IsMove, parts_called, written};
+ghost use Rattle.bohm_log.specs.Calling.{argument_of, IsReady};
+ghost use Rattle.bohm_log.specs.CallPlaces.{HasPlaces, HasSets, IsChosen, IsOrdered, parts_called, written};
 ghost use Rattle.bohm_log.specs.Columns.{shared_of, Appends, Interns, NumbersCome};
 ghost use Rattle.bohm_log.specs.Columns.{NumbersEnd, SetsCome};
 ghost use Rattle.bohm_log.specs.Handles.{keys_named};
-ghost use Rattle.std.specs.List.{range_with_len};
 ghost use Rattle.bohm_types.specs.Limits.{most_keys};
 
-use crate::call_places::{CallPlaces, Moves, SetPlaces};
+use crate::call_places::{CallPlaces, KeyOrder, Moves, SetPlaces};
 use crate::calling::{add_large, add_rows, add_terms, handle_of};
-use crate::columns::{Columns, MOST_NAMED, add_all, number_of, offset, repeat_end};
+use crate::columns::{Columns, MOST_NAMED, number_of, offset, repeat_end};
+use crate::earlier::add_names;
 use crate::fault::LogFault;
 use crate::key_handle::KeyHandle;
 use crate::name_hints::NO_NUMBER;
@@ -25,28 +25,28 @@ use bohm_types::{Edition, Key, Value};
 use std::hash::BuildHasher;
 
 /// Where a body's keys move, by their places in the sets of a call.
-fn moves_by<'a>(body: &BodyColumns, places: &'a CallPlaces) -> Moves<'a>
-    requires reads { places.now.reads.in_order ≡ true
-        → places.now.reads.places.items ≡ range_with_len 0 (length body.now.reads.items) }
-    requires writes { (written body.now places.now).in_order ≡ true
-        → (written body.now places.now).places.items
-        ≡ range_with_len 0 (length body.now.writes.items) }
-    requires stays { body.now.stays ≡ true → Stays body.now
-        (range_with_len 0 (length body.now.reads.items))
-        (range_with_len 0 (length body.now.writes.items)) }
+fn moves_by<'a, 'b>(body: &'b BodyColumns, places: &'a CallPlaces) -> Moves<'a, 'b>
+    requires reads { IsOrdered (length body.now.reads.items) places.now.reads }
+    requires writes { IsOrdered (length body.now.writes.items) (written body.now places.now) }
     ensures reads { result.reads.now ≡ places.now.reads.places.items }
     ensures writes { result.writes.now ≡ (written body.now places.now).places.items }
-    ensures moved { IsMove body.now result }
+    ensures placed { IfSome result.placed
+        (λ b. IsChosen body.now result.reads.now result.writes.now b.now) }
 {
     let writes = if body.same_sets {
         &places.reads
     } else {
         &places.writes
     };
+    let placed = match (places.reads.order, writes.order) {
+        (KeyOrder::Rising, KeyOrder::Rising) => Some(&body.rising),
+        (KeyOrder::Falling, KeyOrder::Falling) => Some(&body.falling),
+        _ => None,
+    };
     Moves {
         reads: places.reads.places.as_slice(),
         writes: writes.places.as_slice(),
-        stays: body.stays && places.reads.in_order && writes.in_order,
+        placed,
     }
 }
 
@@ -138,7 +138,7 @@ impl<S: BuildHasher + Drop> Columns<S> {
         let start = self.ids.len();
         self.add_arguments(names, args)?;
         places.settle(self.names.table(), &self.ids.as_slice()[start..])?;
-        if places.in_order {
+        if places.is_rising() {
             return Ok(());
         }
         self.ids.truncate(start);
@@ -214,7 +214,8 @@ impl<S: BuildHasher + Drop> Columns<S> {
     }
 
     /// Adds what a call makes of a body, whose values' names have these places. No part of it is
-    /// copied but into the columns.
+    /// copied but into the columns, and names and statements that an earlier call added aren't added
+    /// again.
     #[tactic(auto, using(crate::proofs::Measuring::called_terms, crate::proofs::Measuring::called_rows))]
     pub fn append_call(
         &mut self,
@@ -228,9 +229,7 @@ impl<S: BuildHasher + Drop> Columns<S> {
         requires reads { length body.now.reads.items ≤ most_keys }
         requires writes { length body.now.writes.items ≤ most_keys }
         requires alike { body.now.same_sets ≡ true → body.now.reads.items ≡ body.now.writes.items }
-        requires stays { body.now.stays ≡ true → Stays body.now
-            (range_with_len 0 (length body.now.reads.items))
-            (range_with_len 0 (length body.now.writes.items)) }
+        requires ready { IsReady body.now locals.now }
         requires lets { length locals.now ≤ length body.now.rows.items }
         requires values { length values.now ≡ length locals.now }
         ensures ok { IfOk result
@@ -242,11 +241,25 @@ impl<S: BuildHasher + Drop> Columns<S> {
             (parts_called (keys_named args.now) body.now locals.now values.now places.old) }
     {
         let (ids, reads_end, writes_end) = self.add_call_sets(places, body, args)?;
+        let earlier = places.earlier;
+        let falls = places.reads.is_falling();
         let moves = &moves_by(body, places);
-        let (others_from, others_end) = add_all(&mut self.others, body.others.as_slice())?;
+        let (others_from, others_end) = add_names(
+            &mut self.others,
+            body.others.as_slice(),
+            earlier.others,
+        )?;
         let (large_from, large_end) = add_large(&mut self.large, body.large.as_slice(), values)?;
         let (terms_from, terms_end) = add_terms(&mut self.terms, body, moves, values)?;
-        let (rows_from, rows_end) = add_rows(&mut self.rows, body, moves, locals, values)?;
+        let (rows_from, rows_end) = add_rows(
+            &mut self.rows,
+            body,
+            moves,
+            locals,
+            values,
+            earlier.rows(falls),
+        )?;
+        places.earlier.note(falls, others_from, rows_from);
         Ok(Head {
             edition,
             ids,

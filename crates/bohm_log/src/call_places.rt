@@ -1,6 +1,6 @@
 //! Where the keys of a call stand in its sets.
 
-ghost use Rattle.std.specs.Prelude.{◌≡◌, ◌≢◌, ◌<◌, ◌≤◌, ◌+◌, true, drop, length, IfSome, IfNone};
+ghost use Rattle.std.specs.Prelude.{◌≡◌, ◌≢◌, ◌<◌, ◌≤◌, ◌+◌, [], ◌∷◌, true, false, drop, length, IfSome, IfNone};
 ghost use Rattle.std.specs.Prelude.{OnOk, Some, Err, slice_get};
 ghost use Rattle.bohm_log.specs.declared.fault.LogFault.TheVariants.{Full};
 ghost use Rattle.std.specs.List.{range_with_len};
@@ -9,12 +9,14 @@ ghost use Rattle.bohm_log.specs.Parts.{IsApart, name_at, names_at};
 ghost use Rattle.bohm_log.specs.Columns.{AllNamed};
 ghost use Rattle.bohm_log.specs.Layers.{all_names};
 ghost use Rattle.bohm_log.specs.Calling.{ArePlaces};
-ghost use Rattle.bohm_log.specs.CallPlaces.{AreSorted, IsSettled};
+ghost use Rattle.bohm_log.specs.CallPlaces.{AreSorted, IsFalling, IsSettled};
+ghost use Rattle.bohm_log.specs.declared.call_places.KeyOrder.TheVariants.{Rising, Falling};
 ghost use Rattle.bohm_types.specs.Limits.{most_keys};
 
 use crate::fault::LogFault;
 use crate::keys::Keys;
 use crate::name_table::NameTable;
+use crate::placed_body::PlacedBody;
 use bohm_types::{Key, MOST_KEYS};
 use std::alloc::Global;
 use std::cmp::Ordering;
@@ -119,7 +121,7 @@ fn are_rising(keys: &Keys<'_>) -> bool
 
 /// The places 0, 1, .. of so many keys.
 #[tactic(auto, using(crate::proofs::Placing::range_more))]
-fn count_places(places: &mut Vec<u32>, count: usize) -> Result<(), LogFault>
+pub(crate) fn count_places(places: &mut Vec<u32>, count: usize) -> Result<(), LogFault>
     requires { count ≤ most_keys }
     ensures ok { OnOk result (places.new.items ≡ range_with_len 0 count) }
     ensures never_full { result ≢ Err Full }
@@ -131,13 +133,43 @@ fn count_places(places: &mut Vec<u32>, count: usize) -> Result<(), LogFault>
     Ok(())
 }
 
+/// In which order the keys come that a procedure's names stand for.
+#[derive(Clone, Copy)]
+pub enum KeyOrder {
+    /// Each key is below the next one, so each is at its name's own place in the set.
+    Rising,
+    /// There are two keys, and the second one is the lower one.
+    Falling,
+    /// Any other order, or keys that are equal.
+    Mixed,
+}
+
+/// The order of keys.
+#[tactic(auto, using(crate::proofs::Placing::two_rising, crate::proofs::Placing::two_falling))]
+fn order_of(keys: &Keys<'_>) -> KeyOrder
+    ensures rising { result ≡ Rising → key_set keys.now ≡ keys.now }
+    ensures falling { result ≡ Falling → IsFalling keys.now }
+{
+    if keys.len() == 2 {
+        return match keys.key(0).cmp(keys.key(1)) {
+            Ordering::Less => KeyOrder::Rising,
+            Ordering::Equal => KeyOrder::Mixed,
+            Ordering::Greater => KeyOrder::Falling,
+        };
+    }
+    if are_rising(keys) {
+        KeyOrder::Rising
+    } else {
+        KeyOrder::Mixed
+    }
+}
+
 /// Where the keys that a procedure's names stand for are in their set.
 #[derive(Drop)]
 pub struct SetPlaces {
     /// At each place of a name in the procedure, the place of its key in the set.
     pub places: Vec<u32>,
-    /// Whether the keys rise, so that each one is at its name's own place.
-    pub in_order: bool,
+    pub order: KeyOrder,
     /// The numbers of the set's keys, where they don't rise.
     pub numbers: Vec<u32>,
 }
@@ -146,9 +178,58 @@ impl SetPlaces {
     fn new(alloc: Global) -> SetPlaces {
         SetPlaces {
             places: Vec::new(alloc),
-            in_order: true,
+            order: KeyOrder::Rising,
             numbers: Vec::new(alloc),
         }
+    }
+
+    /// Whether the keys rise.
+    pub fn is_rising(&self) -> bool
+        ensures rising { result ≡ true → self.now.order ≡ Rising }
+        ensures others { result ≡ false → self.now.order ≢ Rising }
+    {
+        matches!(self.order, KeyOrder::Rising)
+    }
+
+    /// Whether there are two keys that fall.
+    pub fn is_falling(&self) -> bool {
+        matches!(self.order, KeyOrder::Falling)
+    }
+
+    /// The set of two names, the second of which is the lower one.
+    fn turn(&mut self, first: u32, second: u32) -> Result<(), LogFault>
+        ensures numbers { OnOk result (self.new.numbers.items ≡ second ∷ first ∷ []) }
+        ensures places { OnOk result (self.new.places.items ≡ 1 ∷ 0 ∷ []) }
+        ensures order { self.new.order ≡ self.old.order }
+        ensures never_full { result ≢ Err Full }
+    {
+        self.places.clear();
+        self.places.push(1)?;
+        self.places.push(0)?;
+        self.numbers.clear();
+        self.numbers.push(second)?;
+        self.numbers.push(first)?;
+        Ok(())
+    }
+
+    /// The set of the names with these numbers, in any order.
+    fn sort(&mut self, names: NameTable<'_>, ids: &[u32]) -> Result<(), LogFault>
+        requires few { length ids.now ≤ most_keys }
+        requires named { AllNamed (all_names names) ids.now }
+        ensures numbers { OnOk result
+            (AreSorted (all_names names.entry) ids.now self.new.numbers.items) }
+        ensures places { OnOk result (ArePlaces (names_at (all_names names.entry) ids.now)
+            (key_set (names_at (all_names names.entry) ids.now)) self.new.places.items) }
+        ensures order { self.new.order ≡ self.old.order }
+        ensures never_full { result ≢ Err Full }
+    {
+        let keys = Keys { names, ids };
+        sort_numbers(&mut self.numbers, names, ids)?;
+        let set = Keys {
+            names,
+            ids: self.numbers.as_slice(),
+        };
+        find_places(&mut self.places, &set, &keys)
     }
 
     /// The set of the names with these numbers, and where each of them stands in it.
@@ -159,18 +240,41 @@ impl SetPlaces {
         ensures never_full { result ≢ Err Full }
     {
         let keys = Keys { names, ids };
-        self.in_order = are_rising(&keys);
-        if self.in_order {
-            count_places(&mut self.places, ids.len())?;
-            return Ok(());
+        self.order = order_of(&keys);
+        match self.order {
+            KeyOrder::Rising => count_places(&mut self.places, ids.len()),
+            KeyOrder::Falling => self.turn(ids[0], ids[1]),
+            KeyOrder::Mixed => self.sort(names, ids),
         }
-        sort_numbers(&mut self.numbers, names, ids)?;
-        let set = Keys {
-            names,
-            ids: self.numbers.as_slice(),
-        };
-        find_places(&mut self.places, &set, &keys)?;
-        Ok(())
+    }
+}
+
+/// From where on the columns have what earlier calls added. They are compared with what the next call
+/// needs, so wrong offsets cost room alone.
+#[derive(Clone, Copy)]
+pub struct EarlierCalls {
+    /// The last call's names of locals.
+    pub others: u32,
+    /// The statements of the last call whose keys fell.
+    pub falling: u32,
+    /// Those of the last other call.
+    pub rising: u32,
+}
+
+impl EarlierCalls {
+    /// From where on the statements of a call may stand already, whose keys fall or don't.
+    pub fn rows(&self, falls: bool) -> u32 {
+        if falls { self.falling } else { self.rising }
+    }
+
+    /// Notes where the names and the statements of a call stand, whose keys fall or don't.
+    pub fn note(&mut self, falls: bool, others: u32, rows: u32) {
+        self.others = others;
+        if falls {
+            self.falling = rows;
+        } else {
+            self.rising = rows;
+        }
     }
 }
 
@@ -178,12 +282,17 @@ impl SetPlaces {
 pub struct CallPlaces {
     pub(crate) reads: SetPlaces,
     pub(crate) writes: SetPlaces,
+    pub(crate) earlier: EarlierCalls,
 }
 
 // Written out: a derived drop is proved anew in each function that drops such a value.
 impl Drop for CallPlaces {
     fn drop(self) {
-        let Self { reads, writes } = self;
+        let Self {
+            reads,
+            writes,
+            earlier: _,
+        } = self;
         drop(reads);
         drop(writes);
     }
@@ -195,14 +304,19 @@ impl CallPlaces {
         CallPlaces {
             reads: SetPlaces::new(alloc),
             writes: SetPlaces::new(alloc),
+            earlier: EarlierCalls {
+                others: 0,
+                falling: 0,
+                rising: 0,
+            },
         }
     }
 }
 
-/// The places to which a body's keys move, and whether all terms and statements stay as they are.
+/// The places to which a body's keys move, and the body at these places, if it is prepared for them.
 #[derive(Clone, Copy)]
-pub struct Moves<'a> {
+pub struct Moves<'a, 'b> {
     pub reads: &'a [u32],
     pub writes: &'a [u32],
-    pub stays: bool,
+    pub placed: Option<&'b PlacedBody>,
 }

@@ -3,19 +3,19 @@
 ghost use Rattle.std.specs.Prelude.{◌≡◌, ◌≢◌, ◌<◌, ◌≤◌, ◌+◌, ◌^◌, ◌++◌, true, drop, map, length};
 ghost use Rattle.std.specs.Prelude.{OnOk, IfOk, Err};
 ghost use Rattle.bohm_log.specs.declared.fault.LogFault.TheVariants.{Full};
-ghost use Rattle.std.specs.Prelude.{IfSome, IfNone, slice_index_or};
-ghost use Rattle.std.specs.List.{range_with_len};
+ghost use Rattle.std.specs.Prelude.{IfSome, IfNone, pos, replicate, slice_index_or};
+ghost use Rattle.std.specs.List.{AllByRecursion};
 ghost use Rattle.bohm_types.specs.Procedure.{is_minus};
 ghost use Rattle.bohm_log.specs.Calling.{value_terms, value_large};
-ghost use Rattle.bohm_log.specs.Calling.{let_large, let_terms, let_rows, Stays};
+ghost use Rattle.bohm_log.specs.Calling.{let_large, let_terms, let_rows};
 ghost use Rattle.bohm_log.specs.Calling.{argument_of, term_to, name_by, row_to};
-ghost use Rattle.bohm_log.specs.CallPlaces.{IsMove};
 ghost use Rattle.bohm_log.specs.Columns.{Lands};
 ghost use Rattle.bohm_log.specs.Handles.{keys_named};
 ghost use Rattle.bohm_log.specs.Parts.{Begins};
 
 use crate::call_places::Moves;
 use crate::columns::offset;
+use crate::earlier::add_statements;
 use crate::fault::LogFault;
 use crate::key_handle::KeyHandle;
 use crate::row::{Action, AtomKind, StmtRow, TermRow};
@@ -84,7 +84,7 @@ fn row_to(reads: &[u32], writes: &[u32], row: &StmtRow) -> StmtRow
 
 /// Adds terms over other keys.
 #[tactic(auto, using(crate::proofs::Widening::begins_by))]
-fn relocate_terms(
+pub(crate) fn relocate_terms(
     column: &mut Vec<TermRow>,
     terms: &[TermRow],
     places: &[u32],
@@ -102,7 +102,7 @@ fn relocate_terms(
 
 /// Adds statements over other keys.
 #[tactic(auto, using(crate::proofs::Widening::begins_by))]
-fn relocate_rows(
+pub(crate) fn relocate_rows(
     column: &mut Vec<StmtRow>,
     rows: &[StmtRow],
     reads: &[u32],
@@ -117,67 +117,6 @@ fn relocate_rows(
         column.push(row_to(reads, writes, row))?;
     }
     Ok(())
-}
-
-/// Whether a term is as it was where each of so many keys is at its own place.
-#[inline(always)]
-#[tactic(auto, using(crate::proofs::Placing::place_stays))]
-fn term_stays(term: &TermRow, reads: usize) -> bool
-    ensures { result ≡ true → term_to (range_with_len 0 reads) term.now ≡ term.now }
-{
-    match term.kind {
-        AtomKind::Read => (term.place as usize) < reads,
-        AtomKind::Unread => false,
-        AtomKind::Small | AtomKind::Large | AtomKind::Local => true,
-    }
-}
-
-/// Whether a statement is as it was where each of so many keys is at its own place.
-#[tactic(auto, using(crate::proofs::Placing::place_stays))]
-fn row_stays(row: &StmtRow, reads: usize, writes: usize) -> bool
-    ensures { result ≡ true
-        → row_to (range_with_len 0 reads) (range_with_len 0 writes) row.now ≡ row.now }
-{
-    match row.action {
-        Action::Has | Action::Lacks => (row.name as usize) < reads,
-        Action::Put | Action::PutWhen(_) | Action::Remove => (row.name as usize) < writes,
-        Action::Bind | Action::Need(_) | Action::Show | Action::Fail => true,
-    }
-}
-
-/// Whether terms are as they were where each of so many keys is at its own place.
-fn terms_stay(terms: &[TermRow], reads: usize) -> bool
-    ensures { result ≡ true → map (term_to (range_with_len 0 reads)) terms.now ≡ terms.now }
-{
-    for term in terms {
-        if !term_stays(term, reads) {
-            return false;
-        }
-    }
-    true
-}
-
-/// Whether statements are as they were where each of so many keys is at its own place.
-fn rows_stay(rows: &[StmtRow], reads: usize, writes: usize) -> bool
-    ensures { result ≡ true
-        → map (row_to (range_with_len 0 reads) (range_with_len 0 writes)) rows.now ≡ rows.now }
-{
-    for row in rows {
-        if !row_stays(row, reads, writes) {
-            return false;
-        }
-    }
-    true
-}
-
-/// Whether terms and statements are as they were where each of so many keys is at its own place.
-pub(crate) fn body_stays(terms: &[TermRow], rows: &[StmtRow], reads: usize, writes: usize) -> bool
-    ensures terms { result ≡ true
-        → map (term_to (range_with_len 0 reads)) terms.now ≡ terms.now }
-    ensures rows { result ≡ true
-        → map (row_to (range_with_len 0 reads) (range_with_len 0 writes)) rows.now ≡ rows.now }
-{
-    terms_stay(terms, reads) && rows_stay(rows, reads, writes)
 }
 
 /// Whether a value is below 0.
@@ -300,29 +239,33 @@ fn add_values(column: &mut Vec<TermRow>, large: usize, values: &[Value]) -> Resu
 fn copy_terms(
     column: &mut Vec<TermRow>,
     body: &BodyColumns,
-    moves: &Moves<'_>,
+    moves: &Moves<'_, '_>,
 ) -> Result<(), LogFault>
-    requires { IsMove body.now moves.now }
+    requires { IfSome moves.now.placed (λ b. b.now.terms.items
+        ≡ map (term_to moves.now.reads.now) body.now.terms.items) }
     ensures begins { Begins column.old.items column.new.items }
     ensures ok { OnOk result (column.new.items
         ≡ column.old.items ++ map (term_to moves.now.reads.now) body.now.terms.items) }
     ensures never_full { result ≢ Err Full }
 {
-    if moves.stays {
-        column.extend_from_slice(body.terms.as_slice())?;
-        return Ok(());
+    match moves.placed {
+        Some(placed) => {
+            column.extend_from_slice(placed.terms.as_slice())?;
+            Ok(())
+        }
+        None => relocate_terms(column, body.terms.as_slice(), moves.reads),
     }
-    relocate_terms(column, body.terms.as_slice(), moves.reads)
 }
 
 /// Adds a body's terms over other keys, and those of values.
 pub(crate) fn add_terms(
     column: &mut Vec<TermRow>,
     body: &BodyColumns,
-    moves: &Moves<'_>,
+    moves: &Moves<'_, '_>,
     values: &[Value],
 ) -> Result<(u32, u32), LogFault>
-    requires { IsMove body.now moves.now }
+    requires { IfSome moves.now.placed (λ b. b.now.terms.items
+        ≡ map (term_to moves.now.reads.now) body.now.terms.items) }
     ensures begins { Begins column.old.items column.new.items }
     ensures ok { IfOk result (λ r. Lands column.new.items
         (map (term_to moves.now.reads.now) body.now.terms.items
@@ -358,7 +301,7 @@ fn terms_len(value: Value) -> usize
 /// Adds the statements that bind values to the names at these places. Their terms begin at an
 /// offset.
 #[tactic(auto, using(crate::proofs::Lets::rows_next, crate::proofs::Lets::rows_all, crate::proofs::Lets::start_next))]
-fn add_lets(
+pub(crate) fn add_lets(
     column: &mut Vec<StmtRow>,
     first: usize,
     places: &[u32],
@@ -387,39 +330,29 @@ fn add_lets(
     Ok(())
 }
 
-/// Adds a body's statements over other keys, without so many at its start.
-#[tactic(auto, using(crate::proofs::Widening::begins_by))]
-fn copy_rows(
-    column: &mut Vec<StmtRow>,
-    body: &BodyColumns,
-    moves: &Moves<'_>,
-    lets: usize,
-) -> Result<(), LogFault>
-    requires moved { IsMove body.now moves.now }
-    requires lets { lets ≤ length body.now.rows.items }
-    ensures begins { Begins column.old.items column.new.items }
-    ensures ok { OnOk result (column.new.items ≡ column.old.items
-        ++ map (row_to moves.now.reads.now moves.now.writes.now) (drop lets body.now.rows.items)) }
-    ensures never_full { result ≢ Err Full }
+/// Whether each value is one term.
+fn are_short(values: &[Value]) -> bool
+    ensures { result ≡ true → AllByRecursion (λ v. length (value_terms 0 v) ≡ 1) values.now }
 {
-    let rows = &body.rows.as_slice()[lets..];
-    if moves.stays {
-        column.extend_from_slice(rows)?;
-        return Ok(());
-    }
-    relocate_rows(column, rows, moves.reads, moves.writes)
+    values.iter().all(|value| terms_len(*value) == 1)
 }
 
 /// Adds statements that bind values to the names at these places, and then a body's, over other
-/// keys, without as many at its start.
+/// keys, without as many at its start. Those of a body that is prepared for the call aren't added
+/// where the same stand from an offset on.
 pub(crate) fn add_rows(
     column: &mut Vec<StmtRow>,
     body: &BodyColumns,
-    moves: &Moves<'_>,
+    moves: &Moves<'_, '_>,
     places: &[u32],
     values: &[Value],
+    earlier: u32,
 ) -> Result<(u32, u32), LogFault>
-    requires moved { IsMove body.now moves.now }
+    requires placed { IfSome moves.now.placed (λ b. b.now.rows.items
+        ≡ let_rows (length body.now.terms.items) places.now
+        (replicate (length places.now) (pos 0))
+        ++ map (row_to moves.now.reads.now moves.now.writes.now)
+        (drop (length places.now) body.now.rows.items)) }
     requires lets { length places.now ≤ length body.now.rows.items }
     requires values { length values.now ≡ length places.now }
     ensures begins { Begins column.old.items column.new.items }
@@ -428,14 +361,20 @@ pub(crate) fn add_rows(
         ++ map (row_to moves.now.reads.now moves.now.writes.now)
         (drop (length places.now) body.now.rows.items)) r.0 r.1) }
     ensures longer { OnOk result
-        (length column.new.items ≡ length column.old.items + length body.now.rows.items) }
+        (length column.new.items ≤ length column.old.items + length body.now.rows.items) }
     ensures full { result ≡ Err Full → 2 ^ 32 ≤ length column.old.items
         + length body.now.rows.items + length body.now.terms.items
         + length (let_terms 0 values.now) }
 {
+    if let Some(placed) = moves.placed
+        && are_short(values)
+    {
+        return add_statements(column, placed.rows.as_slice(), earlier);
+    }
     let from = offset(column.len())?;
     add_lets(column, body.terms.len(), places, values)?;
-    copy_rows(column, body, moves, places.len())?;
+    let rows = &body.rows.as_slice()[places.len()..];
+    relocate_rows(column, rows, moves.reads, moves.writes)?;
     let to = offset(column.len())?;
     Ok((from, to))
 }

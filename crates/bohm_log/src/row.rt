@@ -29,7 +29,7 @@ pub struct TermRow {
 }
 
 /// What a statement does.
-#[derive(Clone, Copy, Debug)]
+#[derive(Clone, Copy, Debug, PartialEq, Eq)]
 pub enum Action {
     Bind,
     Need(Cmp),

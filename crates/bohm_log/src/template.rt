@@ -12,12 +12,12 @@ ghost use Rattle.bohm_log.specs.declared.fault.LogFault.TheVariants.{Full};
 ghost use Rattle.bohm_types.specs.Procedure.{procedure_with};
 ghost use Rattle.bohm_types.specs.Limits.{most_keys};
 
-use crate::calling::body_stays;
 use crate::columns::are_same;
 use crate::draft::Draft;
 use crate::draft_columns::DraftColumns;
 use crate::fault::LogFault;
 use crate::names::Names;
+use crate::placed_body::{PlacedBody, placed_bodies};
 use crate::row::{StmtRow, TermRow};
 use crate::soundness::are_names;
 use bohm_types::{Edition, Key};
@@ -39,13 +39,14 @@ pub struct BodyColumns {
     pub writes: Vec<DeclaredName>,
     /// Set only where the writes are the reads, in the same order.
     pub same_sets: bool,
-    /// Set only where terms and statements are as they are in a call whose keys rise in the
-    /// procedure's order.
-    pub stays: bool,
     pub others: Vec<Key>,
     pub large: Vec<u64>,
     pub terms: Vec<TermRow>,
     pub rows: Vec<StmtRow>,
+    /// What a call adds whose keys rise in the procedure's order.
+    pub rising: PlacedBody,
+    /// What a call adds that reads and writes two keys, the second of which is the lower one.
+    pub falling: PlacedBody,
 }
 
 /// A procedure, which contracts see as that of the definitions. Its terms and statements are those
@@ -187,7 +188,14 @@ impl Template {
         let same_sets = are_same(&reads, &writes);
         let reads = declared_names(alloc, reads.as_slice(), keys.as_slice())?;
         let writes = declared_names(alloc, writes.as_slice(), keys.as_slice())?;
-        let stays = body_stays(terms.as_slice(), rows.as_slice(), reads.len(), writes.len());
+        let (rising, falling) = placed_bodies(
+            alloc,
+            &terms,
+            &rows,
+            &places,
+            reads.len(),
+            writes.len(),
+        )?;
         are_names(keys.as_slice());
         are_names(values);
         Ok(Template {
@@ -198,11 +206,12 @@ impl Template {
                 reads,
                 writes,
                 same_sets,
-                stays,
                 others: names,
                 large,
                 terms,
                 rows,
+                rising,
+                falling,
             },
         })
     }

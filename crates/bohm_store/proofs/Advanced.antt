@@ -1,5 +1,6 @@
 -- One transaction more: the numbers of its keys, what they hold, and the versions that it adds.
 use Rattle.std.proofs.Common.{◌≡◌, ◌∙◌, ℕ, ◌+◌, ◌<◌, List, [], ◌∷◌, ◌++◌, All, length, map, take, get_or, Some, refl, sym, ap, subst, arith, zero, suc}
+use Rattle.std.specs.Prelude.{min}
 use Rattle.std.proofs.Common.{append-nil, length-append}
 use Rattle.std.specs.List.{IsDistinct, slice_get}
 use Rattle.std.specs.Str.{bytes_eq}
@@ -81,27 +82,22 @@ writes_named names u look [] = refl
 writes_named names u look (n ∷ ns) =
     ap (λ (ws : List KeyedVersion). record { begin = u; key = name_at names n; cell = look (name_at names n) } ∷ ws) (writes_named names u look ns)
 
--- as many as numbers
-pub writes_long : (u : ℕ) (ns : List ℕ) (cs : List Cell) → length ns ≡ length cs → length (writes_by u ns cs) ≡ length ns
-writes_long u [] cs same = refl
-writes_long u (n ∷ ns) [] same = absurd (omega (arith, same))
-writes_long u (n ∷ ns) (c ∷ cs) same = ap suc (writes_long u ns cs (omega (arith, same)))
+-- as many as numbers and cells
+pub writes_many : (u : ℕ) (ns : List ℕ) (cs : List Cell) → length (writes_by u ns cs) ≡ min (length ns) (length cs)
+writes_many u [] cs = omega arith
+writes_many u (n ∷ ns) [] = omega arith
+writes_many u (n ∷ ns) (c ∷ cs) = omega (arith, writes_many u ns cs)
 
 -- the one at a place
-pub write_at : (u : ℕ) (ns : List ℕ) (cs : List Cell) (i : ℕ) (c : Cell) (d : NumberedWrite) → i < length ns → length ns ≡ length cs
+pub write_at : (u : ℕ) (ns : List ℕ) (cs : List Cell) (i : ℕ) (c : Cell) (d : NumberedWrite) → i < length (writes_by u ns cs)
     → c ≡ get_or cs i c → record { number = get_or ns i 0; version = record { begin = u; cell = c } } ≡ get_or (writes_by u ns cs) i d
-write_at u [] cs i c d low same is = absurd (omega (arith, low))
-write_at u (n ∷ ns) [] i c d low same is = absurd (omega (arith, same))
-write_at u (n ∷ ns) (e ∷ es) zero c d low same is = λ j. record { number = n; version = record { begin = u; cell = is j } }
-write_at u (n ∷ ns) (e ∷ es) (suc i) c d low same is = write_at u ns es i c d (omega (arith, low)) (omega (arith, same)) is
+write_at u [] cs i c d low is = absurd (omega (arith, low))
+write_at u (n ∷ ns) [] i c d low is = absurd (omega (arith, low))
+write_at u (n ∷ ns) (e ∷ es) zero c d low is = λ j. record { number = n; version = record { begin = u; cell = is j } }
+write_at u (n ∷ ns) (e ∷ es) (suc i) c d low is = write_at u ns es i c d (omega (arith, low)) is
 
 pub numbers_long : (names : List (List ℕ)) (ns : List ℕ) (keys : List (List ℕ)) → AreNumbersOf names ns keys → length ns ≡ length keys
 numbers_long names ns keys are = sym (length-map ns (name_at names)) ∙ ap length are.named
-
--- a number and a cell for each key
-pub numbers_paired : (names : List (List ℕ)) (ns : List ℕ) (keys : List (List ℕ)) (look : Look) (cs : List Cell) → AreNumbersOf names ns keys
-    → map look keys ≡ cs → length ns ≡ length cs
-numbers_paired names ns keys look cs are leaves = numbers_long names ns keys are ∙ sym (length-map keys look) ∙ ap length leaves
 
 -- the cells that a transaction leaves, at the numbers of its declared writes
 pub txn_written : (names : List (List ℕ)) (u : ℕ) (look : Look) (t : Txn) (ns : List ℕ) (cs : List Cell) → AreNumbersOf names ns t.writes

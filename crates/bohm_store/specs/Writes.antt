@@ -10,6 +10,8 @@ use Rattle.bohm_board.specs.declared.batch.Batch.{Batch}
 use Rattle.bohm_board.specs.Batches.{base_of, first_of, txn_at, txns_of}
 use Rattle.bohm_store.specs.declared.version.Version.{Version}
 use Rattle.bohm_store.specs.declared.numbered_write.NumberedWrite.{NumberedWrite}
+use Rattle.bohm_store.specs.declared.writes.Writes.{Writes}
+use Rattle.bohm_store.specs.declared.writes.Writes.TheVariants.{Listed, Begun}
 use Rattle.bohm_store.specs.Versions.{KeyedVersion, Timeline, past}
 use Rattle.bohm_store.specs.Nexts.{Agree}
 use Rattle.bohm_types.specs.Limits.{most_keys}
@@ -58,6 +60,11 @@ abbrev pub writes_by : ℕ → List ℕ → List Cell → List NumberedWrite
 writes_by u [] cells = []
 writes_by u (n ∷ ns) [] = []
 writes_by u (n ∷ ns) (c ∷ cs) = record { number = n; version = record { begin = u; cell = c } } ∷ writes_by u ns cs
+
+-- all of them
+abbrev pub listed_in : Writes → List NumberedWrite
+listed_in (Listed ws) = ws.now
+listed_in (Begun u ns cs) = writes_by u ns.now cs.now
 
 -- under these names they are the writes of the transaction at u, which sees this look
 pub record AreTxnWrites (names : List (List ℕ)) (u : ℕ) (look : Look) (t : Txn) (ws : List NumberedWrite) : Type 0 where

@@ -15,6 +15,7 @@ mod replacing;
 mod seats;
 mod version;
 mod workspace;
+mod writes;
 
 pub use fault::{PastFault, StoreFault};
 pub use history::History;

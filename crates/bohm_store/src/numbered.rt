@@ -16,14 +16,15 @@ ghost use Rattle.bohm_store.specs.Versions.{IsCellAt, Rises, cell_at, kept_versi
 ghost use Rattle.bohm_store.specs.Versions.{past, total, versions, versions_to};
 ghost use Rattle.bohm_store.specs.Chains.{starting_versions};
 ghost use Rattle.bohm_store.specs.Nexts.{IsNext, IsSettled, IsSettledKept};
-ghost use Rattle.bohm_store.specs.Writes.{AreTxnWrites, AreWritesBehind, AreWritesOf, writes_by};
+ghost use Rattle.bohm_store.specs.Writes.{AreTxnWrites, AreWritesBehind, AreWritesOf, listed_in, writes_by};
 ghost use Rattle.bohm_store.specs.Numbered.{timeline, versions_at};
 
 use crate::held::{Held, forget_after, held_of};
 use crate::listing::{count_held, present_at, rewind};
 use crate::numbered_write::NumberedWrite;
 use crate::older::{OlderVersions, add, cell_before, cut_off, trim};
-use crate::replacing::{replace_all, replace_each};
+use crate::replacing::replace_all;
+use crate::writes::Writes;
 use bohm_board::Batch;
 use bohm_log::{NameTable, TxnView};
 use bohm_types::{Cell, Key, NoMemory, Value};
@@ -233,7 +234,7 @@ impl NumberedHistory {
             (txns_of batch.now) (self.old.top + length (txns_of batch.now)) }
     {
         self.older.clear();
-        replace_all(self.newest.as_mut_slice(), writes);
+        replace_all(self.newest.as_mut_slice(), Writes::Listed(writes));
         self.top += batch.len();
         self.floor = self.top;
     }
@@ -244,19 +245,19 @@ impl NumberedHistory {
         &mut self,
         names: NameTable<'_>,
         count: u32,
-        writes: &[NumberedWrite],
+        writes: Writes<'_, '_>,
     ) -> Result<(), NoMemory>
         requires names { IsDistinct bytes_eq (all_names names) }
         requires long { length (all_names names) ≤ length self.old.newest }
         requires timestamps { self.old.top + count < 2 ^ 32 }
         requires writes { (txns : List Txn)
             × AreWritesBehind (all_names names) (timeline (all_names names) self.old) count txns
-            writes.now }
+            (listed_in writes) }
         ensures err { OnErr result (self.new ≡ self.old) }
         ensures long { OnOk result (length self.new.newest ≡ length self.old.newest) }
         ensures ok { OnOk result ((txns : List Txn)
             → AreWritesBehind (all_names names.entry) (timeline (all_names names.entry) self.old)
-            count txns writes.now
+            count txns (listed_in writes.entry)
             → IsSettled (timeline (all_names names.entry) self.old)
             (timeline (all_names names.entry) self.new) txns) }
     {
@@ -274,7 +275,7 @@ impl NumberedHistory {
         &mut self,
         names: NameTable<'_>,
         count: u32,
-        writes: &[NumberedWrite],
+        writes: Writes<'_, '_>,
         floor: u32,
     ) -> Result<(), NoMemory>
         requires names { IsDistinct bytes_eq (all_names names) }
@@ -282,13 +283,13 @@ impl NumberedHistory {
         requires timestamps { self.old.top + count < 2 ^ 32 }
         requires writes { (txns : List Txn)
             × AreWritesBehind (all_names names) (timeline (all_names names) self.old) count txns
-            writes.now }
+            (listed_in writes) }
         requires floor { floor ≤ self.old.top + count }
         ensures err { OnErr result (self.new ≡ self.old) }
         ensures long { OnOk result (length self.new.newest ≡ length self.old.newest) }
         ensures ok { OnOk result ((txns : List Txn)
             → AreWritesBehind (all_names names.entry) (timeline (all_names names.entry) self.old)
-            count txns writes.now
+            count txns (listed_in writes.entry)
             → IsSettledKept (timeline (all_names names.entry) self.old)
             (timeline (all_names names.entry) self.new) txns floor) }
     {
@@ -315,7 +316,6 @@ impl NumberedHistory {
         requires long { length (all_names names) ≤ length self.old.newest }
         requires well { IsWellFormedTxn txn.now }
         requires timestamp { self.old.top + 1 < 2 ^ 32 }
-        requires paired { length numbers.now ≡ length cells.now }
         requires writes { AreTxnWrites (all_names names) (self.old.top + 1)
             (past (timeline (all_names names) self.old) self.old.top) txn.now
             (writes_by (self.old.top + 1) numbers.now cells.now) }
@@ -325,7 +325,8 @@ impl NumberedHistory {
             (txn.now ∷ []) (self.old.top + 1) }
     {
         self.older.clear();
-        replace_each(self.newest.as_mut_slice(), self.top + 1, numbers, cells);
+        let writes = Writes::Begun(self.top + 1, numbers, cells);
+        replace_all(self.newest.as_mut_slice(), writes);
         self.top += 1;
         self.floor = self.top;
     }

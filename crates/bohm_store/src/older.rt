@@ -3,7 +3,7 @@
 ghost use Rattle.std.specs.Prelude.{◌≡◌, ◌≢◌, ◌+◌, ◌<◌, ◌≤◌, ◌==◌, ◌++◌};
 ghost use Rattle.std.specs.Prelude.{◌∷◌, [], ℕ, List, All, length};
 ghost use Rattle.std.specs.Prelude.{if◌then◌else◌, get_or, MatchOption, OnErr, OnOk};
-ghost use Rattle.bohm_store.specs.Writes.{AreBelow, ClimbTo, versions_by};
+ghost use Rattle.bohm_store.specs.Writes.{AreBelow, ClimbTo, listed_in, versions_by};
 ghost use Rattle.bohm_types.specs.declared.cell.Cell.TheVariants as cells;
 ghost use Rattle.bohm_store.specs.declared.version.Version.{Version};
 ghost use Rattle.bohm_store.specs.declared.older.Older.{Older};
@@ -16,6 +16,7 @@ ghost use Rattle.bohm_store.specs.Numbered.{ends_of, first_after, older_of, vers
 use crate::held::Held;
 use crate::numbered_write::NumberedWrite;
 use crate::version::Version;
+use crate::writes::Writes;
 use bohm_types::{Cell, NoMemory};
 use std::alloc::Global;
 use std::collections::VecDeque;
@@ -287,23 +288,23 @@ pub fn displace(newest: &mut [Held], older: &mut OlderVersions, write: NumberedW
 }
 
 // Puts these versions in place, one after another. There is room for what they displace.
-fn displace_all(newest: &mut [Held], older: &mut OlderVersions, writes: &[NumberedWrite])
-    requires numbers { AreBelow (length newest.old) writes.now }
+fn displace_all(newest: &mut [Held], older: &mut OlderVersions, writes: Writes<'_, '_>)
+    requires numbers { AreBelow (length newest.old) (listed_in writes) }
     requires places { length newest.old ≤ older.old.places }
-    requires room { length writes.now ≤ older.old.room }
+    requires room { length (listed_in writes) ≤ older.old.room }
     ensures versions { (n : ℕ) → IsLinked older.old.items n (held_at newest.old n)
         → older_of older.new.items n ++ held_at newest.new n
-        ≡ (older_of older.old.items n ++ held_at newest.old n) ++ versions_by writes.now n }
+        ≡ (older_of older.old.items n ++ held_at newest.old n) ++ versions_by (listed_in writes.entry) n }
     ensures linked { (n : ℕ) → IsLinked older.old.items n (held_at newest.old n)
         → IsLinked older.new.items n (held_at newest.new n) }
-    ensures climbs { (n top : ℕ) → EndsRise n older.old.items → ClimbTo n top writes.now
+    ensures climbs { (n top : ℕ) → EndsRise n older.old.items → ClimbTo n top (listed_in writes.entry)
         → EndsRise top older.new.items }
-    ensures due { (floor n top : ℕ) → EndsRise n older.old.items → ClimbTo n top writes.now
+    ensures due { (floor n top : ℕ) → EndsRise n older.old.items → ClimbTo n top (listed_in writes.entry)
         → All (λ o. floor < o.end) older.old.items → floor < n
         → All (λ o. floor < o.end) older.new.items }
 {
     for i in 0..writes.len() {
-        displace(newest, older, writes[i]);
+        displace(newest, older, writes.at(i));
     }
 }
 
@@ -311,23 +312,23 @@ fn displace_all(newest: &mut [Held], older: &mut OlderVersions, writes: &[Number
 pub fn add(
     newest: &mut [Held],
     older: &mut OlderVersions,
-    writes: &[NumberedWrite],
+    writes: Writes<'_, '_>,
 ) -> Result<(), NoMemory>
-    requires numbers { AreBelow (length newest.old) writes.now }
+    requires numbers { AreBelow (length newest.old) (listed_in writes) }
     ensures err { OnErr result
         ((newest.new ≡ newest.old) × (older.new.items ≡ older.old.items)) }
     ensures versions { OnOk result
         ((n : ℕ) → IsLinked older.old.items n (held_at newest.old n)
         → older_of older.new.items n ++ held_at newest.new n
-        ≡ (older_of older.old.items n ++ held_at newest.old n) ++ versions_by writes.now n) }
+        ≡ (older_of older.old.items n ++ held_at newest.old n) ++ versions_by (listed_in writes.entry) n) }
     ensures linked { OnOk result
         ((n : ℕ) → IsLinked older.old.items n (held_at newest.old n)
         → IsLinked older.new.items n (held_at newest.new n)) }
     ensures climbs { OnOk result
-        ((n top : ℕ) → EndsRise n older.old.items → ClimbTo n top writes.now
+        ((n top : ℕ) → EndsRise n older.old.items → ClimbTo n top (listed_in writes.entry)
         → EndsRise top older.new.items) }
     ensures due { OnOk result
-        ((floor n top : ℕ) → EndsRise n older.old.items → ClimbTo n top writes.now
+        ((floor n top : ℕ) → EndsRise n older.old.items → ClimbTo n top (listed_in writes.entry)
         → All (λ o. floor < o.end) older.old.items → floor < n
         → All (λ o. floor < o.end) older.new.items) }
 {

@@ -12,10 +12,10 @@ ghost use Rattle.bohm_store.specs.Writes.{AreNumbersOf};
 
 use crate::base::{push_cells, push_reads, push_reads_and_cells};
 use crate::history::History;
-use crate::numbered_write::NumberedWrite;
 use crate::numbering::number_all;
 use crate::seats::{Hints, Seats};
-use crate::workspace::{Workspace, list_versions};
+use crate::workspace::Workspace;
+use crate::writes::Writes;
 use bohm_log::{Keys, TxnView};
 use bohm_txn::{Outcome, Scratch, eval_in_place};
 use bohm_types::{Cell, NoMemory};
@@ -51,8 +51,7 @@ impl History {
         let numbers = workspace.numbers.as_slice();
         let outcome = self.evaluate(txn, hints, numbers, scratch);
         let floor = (self.top() + 1).saturating_sub(keep);
-        let listed = &mut workspace.writes;
-        self.add_versions(txn, numbers, scratch.cells(), listed, floor)?;
+        self.add_versions(txn, numbers, scratch.cells(), floor)?;
         Ok(outcome)
     }
 
@@ -123,14 +122,12 @@ impl History {
         outcome
     }
 
-    // Adds the versions of the transaction that follows the top, and trims at a floor. The list is
-    // room to write in.
+    // Adds the versions of the transaction that follows the top, and trims at a floor.
     fn add_versions(
         &mut self,
         txn: &TxnView<'_>,
         numbers: &[u32],
         cells: &[Cell],
-        listed: &mut Vec<NumberedWrite>,
         floor: u32,
     ) -> Result<(), NoMemory>
         requires well { IsWellFormedTxn txn.now }
@@ -149,8 +146,8 @@ impl History {
             return Ok(());
         }
         let begin = self.numbered.top() + 1;
-        list_versions(listed, begin, numbers, cells)?;
-        self.numbered.add_above(names, 1, listed.as_slice(), floor)?;
+        let writes = Writes::Begun(begin, numbers, cells);
+        self.numbered.add_above(names, 1, writes, floor)?;
         Ok(())
     }
 }

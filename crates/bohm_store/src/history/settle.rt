@@ -10,6 +10,7 @@ ghost use Rattle.bohm_store.specs.Writes.{AreWritesOf};
 use crate::history::History;
 use crate::numbered_write::{NumberedWrite, numbered_writes};
 use crate::seats::{Hints, Seats};
+use crate::writes::Writes;
 use bohm_board::Batch;
 use bohm_exec::Finished;
 use bohm_types::NoMemory;
@@ -84,7 +85,7 @@ impl History {
     {
         self.numbered.cover(self.names.len())?;
         self.numbered
-            .add_writes(self.names.table(), batch.len(), writes)?;
+            .add_writes(self.names.table(), batch.len(), Writes::Listed(writes))?;
         Ok(())
     }
 
@@ -108,6 +109,7 @@ impl History {
             self.numbered.settle_newest(names, batch, writes);
             return Ok(());
         }
+        let writes = Writes::Listed(writes);
         self.numbered.add_above(names, count, writes, floor)?;
         Ok(())
     }

@@ -1,5 +1,7 @@
+use Rattle.std.proofs.lemmas.Result.{on_ok_weaker}
 use Rattle.bohm_log.proofs.Settling.{settled_itself}
 use Rattle.bohm_log.proofs.call_places.SetPlaces.settle.Goals as goal
 
-pub returns-then-self-clause-ok : goal.returns-then-self-clause-ok
-returns-then-self-clause-ok c = settled_itself _ _ _ c.if-self.true (c.are_rising-self.ensures c.if-self.true) c.in_ok-count_places.ensures.ok
+pub returns-in-Rising-clause-ok : goal.returns-in-Rising-clause-ok
+returns-in-Rising-clause-ok c =
+    on_ok_weaker _ (settled_itself _ _ _ c.in-Rising.is (c.order_of-self.ensures.rising c.in-Rising.is)) c.count_places.ensures.ok

@@ -26,13 +26,13 @@ settle-requires-clause-named g c =
 pub returns-in_err-settle-clause-err : goal.returns-in_err-settle-clause-err
 returns-in_err-settle-clause-err g c = on_err _ c.in_ok-add_arguments.ensures.ok.interns
 
-pub returns-then-places-clause-ok : goal.returns-then-places-clause-ok
-returns-then-places-clause-ok g c =
+pub returns-then-is_rising-clause-ok : goal.returns-then-is_rising-clause-ok
+returns-then-is_rising-clause-ok g c =
     itself_comes _ _ _ _ _ _ _ (omega arith) c.in_ok-add_arguments.ensures.ok c.table.ensures.names
-    (ids_behind c.as_slice.result.now _ c.len-start.result c.as_slice.ensures.value) c.in_ok-settle.ensures.ok c.if-places.true
+    (ids_behind c.as_slice.result.now _ c.len-start.result c.as_slice.ensures.value) c.in_ok-settle.ensures.ok (c.is_rising.ensures.rising c.if-is_rising.true)
 
-pub returns-then-places-clause-places : goal.returns-then-places-clause-places
-returns-then-places-clause-places g c =
+pub returns-then-is_rising-clause-places : goal.returns-then-is_rising-clause-places
+returns-then-is_rising-clause-places g c =
     places_come _ _ _ _ _ _ _ (omega arith) c.in_ok-add_arguments.ensures.ok c.table.ensures.names
     (ids_behind c.as_slice.result.now _ c.len-start.result c.as_slice.ensures.value) c.in_ok-settle.ensures.ok
 
@@ -47,7 +47,7 @@ returns-clause-ok g c =
     let d : Shared = shared_of c.add_arguments.new.self in
     let ids = c.in_ok-extend_from_slice.ensures.items ∙ (λ j. c.truncate.ensures.items j ++ c.as_slice-2.ensures.value j) in
     sorted_comes _ d _ _ _ _ _ _ (omega arith) c.in_ok-add_arguments.ensures.ok c.table.ensures.names
-    (ids_behind c.as_slice.result.now _ c.len-start.result c.as_slice.ensures.value) c.in_ok-settle.ensures.ok c.if-places.false
+    (ids_behind c.as_slice.result.now _ c.len-start.result c.as_slice.ensures.value) c.in_ok-settle.ensures.ok (c.is_rising.ensures.others c.if-is_rising.false)
     (λ i. record d { ids = ids i })
 
 pub returns-clause-places : goal.returns-clause-places

@@ -1,11 +1,11 @@
-use Rattle.std.proofs.Common.{◌≡◌, ◌∙◌, ◌++◌, ℕ, List, Err, refl, ap, length, map, drop, arith}
-use Rattle.std.specs.List.{range_with_len}
-use Rattle.std.proofs.lemmas.List.{length-append, length-map}
+use Rattle.std.proofs.Common.{◌≡◌, ◌++◌, ℕ, List, Err, refl, ap, length, map, drop, arith}
+use Rattle.std.proofs.lemmas.List.{length-append}
 use Rattle.std.proofs.lemmas.Result.{err_from_is_err_and}
-use Rattle.bohm_log.specs.Calling.{argument_of, let_large, let_terms, let_rows, term_to, row_to}
+use Rattle.bohm_log.specs.Calling.{let_large, let_terms, let_rows, term_to, row_to}
 use Rattle.bohm_log.specs.CallPlaces.{written}
 use Rattle.bohm_log.specs.Handles.{keys_named}
 use Rattle.bohm_log.specs.declared.fault.LogFault.TheVariants.{Full}
+use Rattle.bohm_log.proofs.Arguments.{terms_chosen, rows_chosen, ordered_for}
 use Rattle.bohm_log.proofs.Failing.{on_err}
 use Rattle.bohm_log.proofs.Lets.{terms_many}
 use Rattle.bohm_log.proofs.Growth.{Begins-itself}
@@ -14,12 +14,20 @@ use Rattle.bohm_log.proofs.Widening.{interns_wider, appended, lands_same}
 use Rattle.bohm_log.proofs.columns.Columns.append_call.Goals as goal
 
 pub moves_by-requires-clause-reads : goal.moves_by-requires-clause-reads
-moves_by-requires-clause-reads g c = λ e. c.in_ok-ids.ensures.places.reads.in_order e
-    ∙ ap (range_with_len 0) (length-map c.args.body.now.reads.items (argument_of (keys_named c.args.args.now)))
+moves_by-requires-clause-reads g c = ordered_for (keys_named c.args.args.now) c.args.body.now.reads.items _ c.in_ok-ids.ensures.places.reads.ordered
 
 pub moves_by-requires-clause-writes : goal.moves_by-requires-clause-writes
-moves_by-requires-clause-writes g c = λ e. c.in_ok-ids.ensures.places.writes.in_order e
-    ∙ ap (range_with_len 0) (length-map c.args.body.now.writes.items (argument_of (keys_named c.args.args.now)))
+moves_by-requires-clause-writes g c = ordered_for (keys_named c.args.args.now) c.args.body.now.writes.items _ c.in_ok-ids.ensures.places.writes.ordered
+
+pub add_terms-requires : goal.add_terms-requires
+add_terms-requires g c =
+    terms_chosen c.args.body.now c.args.locals.now c.moves_by.result.reads.now c.moves_by.result.writes.now c.moves_by.result.placed
+    c.requires.ready c.moves_by.ensures.placed
+
+pub add_rows-requires-clause-placed : goal.add_rows-requires-clause-placed
+add_rows-requires-clause-placed g c =
+    rows_chosen c.args.body.now c.args.locals.now c.moves_by.result.reads.now c.moves_by.result.writes.now c.moves_by.result.placed
+    c.requires.ready c.moves_by.ensures.placed
 
 pub returns-in_err-others_from-clause-err : goal.returns-in_err-others_from-clause-err
 returns-in_err-others_from-clause-err g c =

@@ -76,7 +76,7 @@ returns-in-Err-clause-full g c e =
     let ts : List Txn = map (txn_at (shared_of c.self.inside.columns)) c.self.inside.heads.items in
     let large =
     large_log (shared_of c.self.inside.columns) ts _ _ c.self.invariant.2
-    (fits_called _ _ _ _ _ _ _ _ c.template.invariant.0 c.template.invariant.2 c.as_slice.ensures.value
+    (fits_called _ _ _ _ _ _ _ c.args.places.now c.template.invariant.0 c.template.invariant.2 c.as_slice.ensures.value
     (values_many _ _ _ _ _ _ c.template.view_is c.requires.values))
     (c.append_call-head.ensures.full (c.in-Err.ensures.full e)) in
     omega (

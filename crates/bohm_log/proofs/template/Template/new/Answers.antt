@@ -6,7 +6,7 @@ use Rattle.bohm_log.proofs.InstanceSound.{procedure_sound}
 use Rattle.bohm_log.proofs.Standing.{with_others}
 use Rattle.bohm_log.proofs.Locals.{made, made_well}
 use Rattle.bohm_log.proofs.Measuring.{filled_made}
-use Rattle.bohm_log.proofs.Arguments.{parts_made, stays_made, template_made}
+use Rattle.bohm_log.proofs.Arguments.{parts_made, ready_made, template_made}
 use Rattle.bohm_log.proofs.template.Template.new.Goals as goal
 
 pub invariant_of-result : goal.invariant_of-result
@@ -24,11 +24,13 @@ invariant_of-result g c =
     let is =
     made c.into_parts-edition.result.0 p _ _ c.args.draft.txn keys c.args.values.now c.place_names.new.places.items parts
     c.into_parts-edition.ensures.same c.into_parts-edition.ensures.within c.in_ok-place_names.ensures.grows c.in_ok-place_names.ensures.places in
-    let named : AreNames keys = rw c.as_slice-8.ensures.value at c.are_names.ensures in (
+    let few : c.len.result ≡ length c.in_ok-reads.reads.items = search rules in
+    let many : c.len-2.result ≡ length c.in_ok-writes.writes.items = search rules in
+    let named : AreNames keys = rw c.as_slice-6.ensures.value at c.are_names.ensures in (
       template_made keys _ _ _ parts own r w
           (λ is. sym c.deref.ensures.value ∙ c.are_same-same_sets.ensures is ∙ c.deref-2.ensures.value)
-          (λ is. stays_made _ _ _ _ _ c.as_slice-6.ensures.value c.as_slice-7.ensures.value (search rules) (search rules)
-          (c.body_stays-stays.ensures.terms is) (c.body_stays-stays.ensures.rows is)),
+          (ready_made _ _ _ _ _ _ _ c.deref-3.ensures.value c.deref-4.ensures.value c.deref-5.ensures.value few many
+          c.in_ok-rising.ensures.rising c.in_ok-rising.ensures.falling),
       subst IsSoundProcedure (sym is) (procedure_sound c.args.draft.txn keys c.args.values.now c.into_parts-edition.ensures.sound named c.are_names-2.ensures),
       filled_made p _ c.args.draft keys c.args.values.now _ c.into_parts-edition.ensures.counted refl refl refl
           (omega (arith, ap length names, c.in_ok-place_names.ensures.longer)) is c.requires.short,

@@ -1,22 +1,21 @@
 -- The versions of one transaction, by the numbers of its writes and the cells that it leaves.
-use Rattle.std.proofs.Common.{◌≡◌, length, ◌∙◌, ◌+◌, ◌∷◌, [], ℕ, List, ap, arith, map, subst}
+use Rattle.std.proofs.Common.{◌≡◌, ◌∙◌, ◌+◌, ◌∷◌, [], ℕ, ap, arith, map, subst}
 use Rattle.bohm_txn.specs.Meaning.{Look}
 use Rattle.bohm_txn.specs.Serial.{after}
 use Rattle.bohm_store.specs.Nexts.{IsSettledKept}
 use Rattle.bohm_store.specs.Numbered.{timeline, versions_at}
 use Rattle.bohm_store.specs.Versions.{past}
 use Rattle.bohm_store.specs.Writes.{AreTxnWrites, AreWritesBehind, writes_by}
-use Rattle.bohm_store.specs.declared.numbered_write.NumberedWrite.{NumberedWrite}
-use Rattle.bohm_store.proofs.Advanced.{numbers_paired, txn_written}
+use Rattle.bohm_store.proofs.Advanced.{txn_written}
 use Rattle.bohm_store.proofs.Entries.{keys_named}
 use Rattle.bohm_store.proofs.Grown.{txn_behind}
 use Rattle.bohm_store.proofs.Same.{covered_same, kept_same, same_top}
-use Rattle.bohm_store.proofs.history.History.add_versions.Goals.{After-as_slice, After-cover}
+use Rattle.bohm_store.proofs.history.History.add_versions.Goals.{After-cover}
 use Rattle.bohm_store.proofs.history.History.add_versions.Goals as goal
 
--- over the history with more room, the cells are those that the transaction leaves, one for each number
-covered : (c : After-cover) → let names = c.self.inside.names in let mid = c.cover.new.self in (length c.args.numbers.now ≡ length c.args.cells.now)
-    × AreTxnWrites names (mid.top + 1) (past (timeline names mid) mid.top) c.args.txn.now (writes_by (mid.top + 1) c.args.numbers.now c.args.cells.now)
+-- over the history with more room, the cells are those that the transaction leaves
+covered : (c : After-cover) → let names = c.self.inside.names in let mid = c.cover.new.self in
+    AreTxnWrites names (mid.top + 1) (past (timeline names mid) mid.top) c.args.txn.now (writes_by (mid.top + 1) c.args.numbers.now c.args.cells.now)
 covered c =
     let names = c.self.inside.names in
     let old = c.self.inside.numbered in
@@ -26,37 +25,27 @@ covered c =
     let same = covered_same names old mid c.cover.ensures.floor c.cover.ensures.top c.cover.ensures.versions in
     let leaves = ap (λ (look : Look). map (after look t) t.writes) (same_top (timeline names old) (timeline names mid) same)
     ∙ rw (← c.self.view_is) at c.requires.cells in
-    let look : Look = past (timeline names mid) mid.top in (
-      numbers_paired names c.args.numbers.now t.writes (after look t) c.args.cells.now are leaves,
-      txn_written names (mid.top + 1) look t c.args.numbers.now c.args.cells.now are leaves,
-    )
-
-pub list_versions-requires : goal.list_versions-requires
-list_versions-requires c = (covered (goal.at.list_versions-requires c).After-cover).0
+    txn_written names (mid.top + 1) (past (timeline names mid) mid.top) t c.args.numbers.now c.args.cells.now are leaves
 
 pub advance_newest-requires : goal.advance_newest-requires
 advance_newest-requires c =
-    let (paired, writes) = covered (goal.at.advance_newest-requires c).After-cover in
     let room = rw (← c.self.view_is) at c.requires.timestamp in
     rw c.table-names.ensures.names (record {
       names = c.table-names.ensures.apart;
       long = omega (arith, c.in_ok-cover.ensures, c.len.ensures);
       well = c.requires.well;
       timestamp = omega (arith, room, c.cover.ensures.top);
-      paired = paired;
-      writes = writes;
+      writes = covered (goal.at.advance_newest-requires c).After-cover;
     })
 
--- its listed writes
-behind : (c : After-as_slice)
-    → AreWritesBehind c.self.inside.names (timeline c.self.inside.names c.cover.new.self) 1 (c.args.txn.now ∷ []) c.as_slice.result.now
-behind c =
+-- its writes, which begin behind the top
+behind : (c : After-cover) (begin : ℕ) → begin ≡ c.cover.new.self.top + 1
+    → AreWritesBehind c.self.inside.names (timeline c.self.inside.names c.cover.new.self) 1 (c.args.txn.now ∷ [])
+    (writes_by begin c.args.numbers.now c.args.cells.now)
+behind c begin e =
     let names = c.self.inside.names in
-    let written : ℕ → List NumberedWrite = λ n. writes_by (n + 1) c.args.numbers.now c.args.cells.now in
-    let is : c.as_slice.result.now ≡ written c.cover.new.self.top =
-    c.as_slice.ensures.value ∙ c.in_ok-list_versions.ensures ∙ ap written c.top-begin.ensures.top in
-    rw is (txn_behind names (timeline names c.cover.new.self) c.args.txn.now (written c.cover.new.self.top) c.requires.well
-    (covered (goal.at.add_above-requires c).After-cover).1)
+    rw e (txn_behind names (timeline names c.cover.new.self) c.args.txn.now (writes_by (c.cover.new.self.top + 1) c.args.numbers.now c.args.cells.now)
+    c.requires.well (covered c))
 
 pub add_above-requires : goal.add_above-requires
 add_above-requires c =
@@ -66,7 +55,7 @@ add_above-requires c =
       names = c.table-names.ensures.apart;
       long = omega (arith, c.in_ok-cover.ensures, c.len.ensures);
       timestamps = omega (arith, room, c.cover.ensures.top);
-      writes = (c.args.txn.now ∷ [], behind c);
+      writes = (c.args.txn.now ∷ [], behind (goal.at.add_above-requires c).After-cover _ (ap (λ n. n + 1) c.top-begin.ensures.top));
       floor = omega (arith, low, c.cover.ensures.top);
     })
 
@@ -91,4 +80,4 @@ returns-clause-ok c =
     let told = rw c.table-names.ensures.names at c.in_ok-add_above.ensures.ok in
     rw (← c.self.view_is) (kept_same (timeline names old) (timeline names mid) (timeline names c.add_above.new.self) (c.args.txn.now ∷ []) c.args.floor
     (covered_same names old mid c.cover.ensures.floor c.cover.ensures.top c.cover.ensures.versions)
-    (told (c.args.txn.now ∷ []) (behind (goal.at.returns-clause-ok c).After-as_slice)))
+    (told (c.args.txn.now ∷ []) (behind (goal.at.returns-clause-ok c).After-cover _ (ap (λ n. n + 1) c.top-begin.ensures.top))))

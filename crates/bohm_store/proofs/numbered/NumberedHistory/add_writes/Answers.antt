@@ -2,7 +2,7 @@ use Rattle.std.proofs.Common.{◌≡◌, List, ◌++◌, ◌+◌, ◌<◌, ◌�
 use Rattle.std.proofs.lemmas.List.{with_items_is}
 use Rattle.bohm_log.specs.Layers.{all_names}
 use Rattle.bohm_store.specs.Numbered.{EndsRise, IsNumbered, Numbered, timeline, versions_at}
-use Rattle.bohm_store.specs.Writes.{AreWritesBehind, versions_by}
+use Rattle.bohm_store.specs.Writes.{AreWritesBehind, listed_in, versions_by}
 use Rattle.bohm_store.proofs.OlderVersions.{rise_higher}
 use Rattle.bohm_store.proofs.Grown.{climb, grown_low, grown_rises, grown_settled}
 use Rattle.bohm_types.specs.Txn.{Txn}
@@ -28,11 +28,12 @@ new c = record {
 }
 
 -- what it leaves
-left : (c : In-Ok) (txns : List Txn) → AreWritesBehind (all_names c.args.names) (timeline (all_names c.args.names) (old c)) c.args.count txns c.args.writes.now
+left : (c : In-Ok) (txns : List Txn)
+    → AreWritesBehind (all_names c.args.names) (timeline (all_names c.args.names) (old c)) c.args.count txns (listed_in c.args.writes)
     → IsNumbered (new c) × IsSettled (timeline (all_names c.args.names) (old c)) (timeline (all_names c.args.names) (new c)) txns
 left c txns h =
     let names = all_names c.args.names in
-    let ws = c.args.writes.now in
+    let ws = (listed_in c.args.writes) in
     let os = c.self.inside.older.items in
     let was = c.self.invariant in
     let value = c.as_mut_slice.ensures.value in

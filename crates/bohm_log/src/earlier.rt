@@ -1,0 +1,116 @@
+//! What an earlier call added to the columns, where the next one needs the same.
+
+ghost use Rattle.std.specs.Prelude.{◌≡◌, ◌≤◌, ◌+◌, ◌^◌, true, length, Err, IfOk, IfSome, OnOk};
+ghost use Rattle.std.specs.List.{between};
+ghost use Rattle.bohm_log.specs.Columns.{Lands};
+ghost use Rattle.bohm_log.specs.Parts.{Begins};
+ghost use Rattle.bohm_log.specs.declared.fault.LogFault.TheVariants.{Full};
+
+use crate::columns::{add_all, are_same};
+use crate::fault::LogFault;
+use crate::row::StmtRow;
+use bohm_types::Key;
+
+/// The part of a column that begins at an offset and has so many entries, and the offset behind it.
+#[inline(always)]
+fn part_at<T>(column: &[T], at: u32, count: usize) -> Option<(&[T], u32)>
+    ensures part { IfSome result (λ p. p.0.now ≡ between at p.1 column.now) }
+    ensures count { IfSome result (λ p. length p.0.now ≡ count) }
+    ensures rise { IfSome result (λ p. at ≤ p.1) }
+    ensures end { IfSome result (λ p. p.1 ≤ length column.now) }
+{
+    let start = at as usize;
+    if column.len() < start || column.len() - start < count {
+        return None;
+    }
+    let end = start + count;
+    if end > u32::MAX as usize {
+        return None;
+    }
+    Some((&column[start..end], end as u32))
+}
+
+/// The offsets between which these names stand, if they do so from this one on.
+fn names_at(column: &[Key], at: u32, names: &[Key]) -> Option<(u32, u32)>
+    ensures { IfSome result (λ r. Lands column.now names.now r.0 r.1) }
+{
+    let (part, end) = part_at(column, at, names.len())?;
+    if are_same(part, names) {
+        Some((at, end))
+    } else {
+        None
+    }
+}
+
+/// Adds names, unless the same stand from an offset on.
+pub(crate) fn add_names(
+    column: &mut Vec<Key>,
+    names: &[Key],
+    earlier: u32,
+) -> Result<(u32, u32), LogFault>
+    ensures begins { Begins column.old.items column.new.items }
+    ensures ok { IfOk result (λ r. Lands column.new.items names.now r.0 r.1) }
+    ensures longer { OnOk result
+        (length column.new.items ≤ length column.old.items + length names.now) }
+    ensures full { result ≡ Err Full → 2 ^ 32 ≤ length column.old.items + length names.now }
+{
+    match names_at(column.as_slice(), earlier, names) {
+        Some(range) => Ok(range),
+        None => add_all(column, names),
+    }
+}
+
+#[inline(always)]
+fn is_row(one: &StmtRow, other: &StmtRow) -> bool
+    ensures { result ≡ true → one.now ≡ other.now }
+{
+    one.name == other.name
+        && one.start == other.start
+        && one.first == other.first
+        && one.second == other.second
+        && one.third == other.third
+        && one.declared == other.declared
+        && one.action == other.action
+}
+
+fn are_rows(part: &[StmtRow], rows: &[StmtRow]) -> bool
+    requires { length part.now ≡ length rows.now }
+    ensures { result ≡ true → part.now ≡ rows.now }
+{
+    for i in 0..rows.len() {
+        if !is_row(&part[i], &rows[i]) {
+            return false;
+        }
+    }
+    true
+}
+
+/// The offsets between which these statements stand, if they do so from this one on.
+fn rows_at(column: &[StmtRow], at: u32, rows: &[StmtRow]) -> Option<(u32, u32)>
+    ensures { IfSome result (λ r. Lands column.now rows.now r.0 r.1) }
+{
+    let (part, end) = part_at(column, at, rows.len())?;
+    if are_rows(part, rows) {
+        Some((at, end))
+    } else {
+        None
+    }
+}
+
+/// Adds statements, unless the same stand from an offset on.
+pub(crate) fn add_statements(
+    column: &mut Vec<StmtRow>,
+    rows: &[StmtRow],
+    earlier: u32,
+) -> Result<(u32, u32), LogFault>
+    ensures begins { Begins column.old.items column.new.items }
+    ensures ok { IfOk result (λ r. Lands column.new.items rows.now r.0 r.1) }
+    ensures longer { OnOk result
+        (length column.new.items ≤ length column.old.items + length rows.now) }
+    ensures full { result ≡ Err Full → 2 ^ 32 ≤ length column.old.items + length rows.now }
+{
+    match rows_at(column.as_slice(), earlier, rows) {
+        Some(range) => Ok(range),
+        None => add_all(column, rows),
+    }
+}
