@@ -23,7 +23,7 @@
 
 /* The version, and the checksum of the sources that the library is built from. */
 #define BOHM_VERSION "0.1.0"
-#define BOHM_SOURCES "12258d4fd72162cc92ef629cacf0fc8d6d455b595051f62afb29781f9233a833"
+#define BOHM_SOURCES "e4dda398d2c15d0a235302b4053f207cab3f7a3e355a9e338b74a4a1e379c824"
 
 /* The same, of the library that the program is linked with. */
 extern const char bohm_version[16], bohm_sources[65];

@@ -10,11 +10,14 @@ use Rattle.bohm_log.specs.Columns.{AllNamed}
 use Rattle.bohm_log.specs.Parts.{Begins, name_at, names_at}
 use Rattle.bohm_log.proofs.ForCallers.{at_its_number, named_more, same_names}
 
+-- one of the shared ones
+pub shared_key : (shared own : List (List ℕ)) (k : List ℕ) (i : ℕ) → slice_get shared i ≡ Some k → name_at (shared ++ own) i ≡ k
+shared_key shared own k i at = get_or_append_left shared own [] i (slice_get_within shared i k at) ∙ get_or_from_slice_get shared i k [] at
+
 -- one that is found among the shared ones
 pub found_key : (shared own : List (List ℕ)) (k : List ℕ) (i : ℕ) → Some i ≡ position (bytes_eq k) shared → name_at (shared ++ own) i ≡ k
 found_key shared own k i e =
-    let at : slice_get shared i ≡ Some k = at_its_number shared k i e in
-    get_or_append_left shared own [] i (slice_get_within shared i k at) ∙ get_or_from_slice_get shared i k [] at
+    shared_key shared own k i (at_its_number shared k i e)
 
 -- one that is added behind all others
 pub added_grows : (shared own more : List (List ℕ)) (k : List ℕ) → more ≡ own ++ k ∷ [] → Begins (shared ++ own) (shared ++ more)

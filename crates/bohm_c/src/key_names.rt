@@ -75,15 +75,23 @@ fn number_of(
     Ok(number)
 }
 
-/// The key with a number, and the number that it is likely to have in a list.
-fn key_at(shared: &SharedNames<HashSeed>, own: &[KeyHandle], number: u32) -> KeyHandle
+/// Adds the key with a number, and the number that it is likely to have in a list. It is copied once.
+#[inline(always)]
+fn push_key(
+    keys: &mut Vec<KeyHandle>,
+    shared: &SharedNames<HashSeed>,
+    own: &[KeyHandle],
+    number: u32,
+) -> Result<(), NoMemory>
     requires { number < length (shared.now ++ keys_named own.now) }
-    ensures { result.key ≡ name_at (shared.now ++ keys_named own.now) number }
+    ensures { OnOk result (keys_named keys.new.items ≡ keys_named keys.old.items
+        ++ name_at (shared.now ++ keys_named own.now) number ∷ []) }
 {
     match shared.handle(number) {
-        Some(key) => key,
-        None => own[number as usize - shared.len()],
+        Some(key) => keys.push(key)?,
+        None => keys.push(own[number as usize - shared.len()])?,
     }
+    Ok(())
 }
 
 impl KeyNames {
@@ -116,13 +124,15 @@ impl KeyNames {
         Ok(())
     }
 
-    /// The key of a handle.
-    fn named(&self, handle: u32) -> KeyHandle
+    /// Adds the key of a handle.
+    #[inline(always)]
+    fn push_named(&self, keys: &mut Vec<KeyHandle>, handle: u32) -> Result<(), NoMemory>
         requires { handle < length self.now }
-        ensures { result.key ≡ name_at self.now handle }
+        ensures { OnOk result (keys_named keys.new.items
+            ≡ keys_named keys.old.items ++ name_at self.now handle ∷ []) }
     {
         let number = self.numbers[handle as usize];
-        key_at(&self.shared, self.own.as_slice(), number)
+        push_key(keys, &self.shared, self.own.as_slice(), number)
     }
 
     /// Fills a vector with the keys of these handles.
@@ -132,7 +142,7 @@ impl KeyNames {
     {
         keys.clear();
         for handle in handles {
-            keys.push(self.named(*handle))?;
+            self.push_named(keys, *handle)?;
         }
         Ok(())
     }
