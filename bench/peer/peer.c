@@ -67,8 +67,12 @@ static unsigned number_of(const char *key) {
 static transfer *read_transfers(size_t *count) {
     size_t room = 1 << 16, got = 0;
     transfer *all = malloc(room * sizeof *all);
-    while (all && scanf("%32s %lld %32s", all[got].payer, &all[got].amount, all[got].payee) == 3)
+    name payer, payee;
+    while (all && scanf("%32s %lld %32s", payer, &all[got].amount, payee) == 3) {
+        all[got].payer = names[all[got].payer_number = number_of(payer)];
+        all[got].payee = names[all[got].payee_number = number_of(payee)];
         if (++got == room) all = realloc(all, (room *= 2) * sizeof *all);
+    }
     check(all != NULL, "no memory");
     *count = got;
     return all;
@@ -79,13 +83,9 @@ static void tell(const char *key, size_t size, long long balance) { printf("%.*s
 int main(int argc, char **argv) {
     check(argc == 3 && atol(argv[2]) > 0, "STORE TOGETHER");
     size_t together = (size_t)atol(argv[2]), count;
-    transfer *transfers = read_transfers(&count);
     peer_open();
     fill(argv[1]);
-    for (size_t at = 0; at < count; at++) {
-        transfers[at].payer_number = number_of(transfers[at].payer);
-        transfers[at].payee_number = number_of(transfers[at].payee);
-    }
+    transfer *transfers = read_transfers(&count);
     double start = seconds();
     for (size_t at = 0; at < count; at += together) peer_run(transfers + at, count - at < together ? count - at : together);
     fprintf(stderr, "%.9f\n", seconds() - start);

@@ -3,11 +3,12 @@
 
 enum { LONGEST_KEY = 32 };
 
-/* The numbers are those of the keys in the order of the store. */
+/* The numbers are those of the keys in the order of the store. The names stand apart, so that a peer which goes by
+ * numbers doesn't read past them. */
 typedef struct {
-    char payer[LONGEST_KEY + 1], payee[LONGEST_KEY + 1];
-    unsigned payer_number, payee_number;
+    const char *payer, *payee;
     long long amount;
+    unsigned payer_number, payee_number;
     int is_done;
 } transfer;
 
