@@ -642,7 +642,7 @@ static void small_handles(void) {
 }
 
 /* Calls of one procedure have their statements in common: no block is as large as these would be, once for each call. Keys come in
- * both orders, and values have both signs. */
+ * both orders, and then in the falling one alone; values have both signs. */
 static void common_statements(void) {
     now = "common statements";
     enum { CALLS = 4096, STATEMENTS = 6, BYTES = 24 };
@@ -650,31 +650,34 @@ static void common_statements(void) {
     bohm_procedure move = prepared(now, "procedure 1\nkey of\nkey to\nvalue by\nreads of to\nwrites of to\n"
                                         "set to = to + $by\nset of = of - $by\nshow of\nshow to\nshow $by\nend\n");
     bohm_key keys[] = {key_of("a"), key_of("b"), key_of("a")};
-    bohm_machine machine = {0};
-    bohm_calls calls = {0};
-    bohm_bytes out = BOHM_NO_BYTES;
-    text right = {0};
-    int held[2] = {0, 0};
-    hold(bohm_open(&machine, seed, (const uint8_t *)store, strlen(store), 0, NULL) == BOHM_DONE, "it doesn't open");
-    hold(bohm_open_calls(&calls, seed, 1) == BOHM_DONE, "no list of calls");
-    largest = 0;
-    for (int k = 1; k <= CALLS; k++) {
-        int64_t by = k * 7 % 100 - 50;
-        hold(bohm_push(&calls, &move, keys + k / 3 % 2, 2, &by, 1) == BOHM_DONE, "a call isn't taken");
+    for (int fall = 0; fall < 2; fall++) {
+        bohm_machine machine = {0};
+        bohm_calls calls = {0};
+        bohm_bytes out = BOHM_NO_BYTES;
+        text right = {0};
+        int held[2] = {0, 0};
+        hold(bohm_open(&machine, seed, (const uint8_t *)store, strlen(store), 0, NULL) == BOHM_DONE, "it doesn't open");
+        hold(bohm_open_calls(&calls, seed, 1) == BOHM_DONE, "no list of calls");
+        largest = 0;
+        for (int k = 1; k <= CALLS; k++) {
+            int64_t by = k * 7 % 100 - 50;
+            int from = fall || k / 3 % 2;
+            hold(bohm_push(&calls, &move, keys + from, 2, &by, 1) == BOHM_DONE, "a call isn't taken");
+        }
+        hold(largest < STATEMENTS * BYTES * CALLS, "the statements stand once for each call");
+        for (int k = 1; k <= CALLS; k++) {
+            int from = fall || k / 3 % 2, by = k * 7 % 100 - 50;
+            char line[96];
+            sprintf(line, "%d commit %d %d %d\n", k, held[from], held[1 - from], by);
+            held[1 - from] += by, held[from] -= by;
+            put(&right, line, 0, "");
+        }
+        hold(bohm_run_calls(&machine, &calls, &out) == BOHM_DONE, "the calls aren't run");
+        take(now, &out, right);
+        bohm_close_calls(&calls);
+        bohm_close(&machine);
     }
-    hold(largest < STATEMENTS * BYTES * CALLS, "the statements stand once for each call");
-    for (int k = 1; k <= CALLS; k++) {
-        int from = k / 3 % 2, by = k * 7 % 100 - 50;
-        char line[96];
-        sprintf(line, "%d commit %d %d %d\n", k, held[from], held[1 - from], by);
-        held[1 - from] += by, held[from] -= by;
-        put(&right, line, 0, "");
-    }
-    hold(bohm_run_calls(&machine, &calls, &out) == BOHM_DONE, "the calls aren't run");
-    take(now, &out, right);
-    bohm_close_calls(&calls);
     bohm_close_procedure(&move);
-    bohm_close(&machine);
 }
 
 /* Calls with equal keys, and with the least and the greatest value. */

@@ -23,7 +23,7 @@
 
 /* The version, and the checksum of the sources that the library is built from. */
 #define BOHM_VERSION "0.1.0"
-#define BOHM_SOURCES "e4dda398d2c15d0a235302b4053f207cab3f7a3e355a9e338b74a4a1e379c824"
+#define BOHM_SOURCES "275b676728c976b25e13eb2ae893a0c402327207f96564b3aa5d213d1db058d9"
 
 /* The same, of the library that the program is linked with. */
 extern const char bohm_version[16], bohm_sources[65];

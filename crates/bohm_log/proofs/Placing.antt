@@ -203,18 +203,6 @@ two_falling (x ∷ y ∷ []) a b two first second greater =
     (two, ap (λ o. inserted_by o x y [] (inserted x [])) (compared x y a b first second ∙ greater))
 two_falling (x ∷ y ∷ z ∷ zs) a b two first second greater = absurd (omega (arith, two))
 
--- falling keys are at each other's places
-pub turned_places : (keys : List (List ℕ)) → IsFalling keys → ArePlaces keys (key_set keys) (1 ∷ 0 ∷ [])
-turned_places [] falls = absurd (omega (arith, falls.0))
-turned_places (x ∷ []) falls = absurd (omega (arith, falls.0))
-turned_places (x ∷ y ∷ []) falls = subst (λ (set : List (List ℕ)). ArePlaces (x ∷ y ∷ []) set (1 ∷ 0 ∷ [])) (sym falls.1) (record { each = each })
-  where
-    each : (i : ℕ) → i < 2 → slice_get (y ∷ x ∷ []) (slice_index_or (1 ∷ 0 ∷ []) i 0) ≡ Some (slice_index_or (x ∷ y ∷ []) i [])
-    each zero h = refl
-    each (suc zero) h = refl
-    each (suc (suc i)) h = absurd (omega (arith, h))
-turned_places (x ∷ y ∷ z ∷ zs) falls = absurd (omega (arith, falls.0))
-
 -- ---- where they are
 
 equal_keys : (k x : List ℕ) → slice_cmp nat_cmp k x ≡ Equal → bytes_eq k x ≡ true

@@ -1,9 +1,8 @@
 -- The sets of a call, and where its keys stand in them.
-use Rattle.std.proofs.Common.{arith, ◌≡◌, ℕ, ◌<◌, List, [], ◌∷◌, ◌++◌, ◌-◌, length, get_or, take, drop, map, refl, ap, sym, subst, ◌∙◌}
+use Rattle.std.proofs.Common.{arith, ◌≡◌, ℕ, List, ◌++◌, ◌-◌, length, take, drop, map, refl, ap, sym, subst, ◌∙◌}
 use Rattle.std.specs.Prelude.{ℤ, ◌≢◌}
 use Rattle.std.specs.List.{range_with_len}
 use Rattle.std.proofs.lemmas.List.{length-map, drop_at}
-use Rattle.std.proofs.lemmas.List.Elements.{All-nil, All-cons, All-get_or}
 use Rattle.std.proofs.lemmas.Slice.{between_to_end}
 use Rattle.bohm_types.specs.KeySets.{key_set}
 use Rattle.bohm_log.specs.Calling.{ArePlaces, argument_of, parts_in, IsCalled}
@@ -11,11 +10,11 @@ use Rattle.bohm_log.specs.Columns.{Shared, AllNamed, NumbersCome}
 use Rattle.bohm_log.specs.declared.template.BodyColumns.{BodyColumns}
 use Rattle.bohm_log.specs.declared.call_places.CallPlaces.{CallPlaces}
 use Rattle.bohm_log.specs.declared.call_places.KeyOrder.{KeyOrder}
-use Rattle.bohm_log.specs.declared.call_places.KeyOrder.TheVariants.{Rising, Falling, Mixed}
-use Rattle.bohm_log.specs.CallPlaces.{AreSorted, HasPlaces, IsFalling, IsSettled, HasSets, parts_called, written}
+use Rattle.bohm_log.specs.declared.call_places.KeyOrder.TheVariants.{Rising, Falling}
+use Rattle.bohm_log.specs.CallPlaces.{HasPlaces, IsSettled, HasSets, parts_called, written}
 use Rattle.bohm_log.specs.Parts.{names_at, name_at}
 use Rattle.bohm_log.specs.declared.call_places.SetPlaces.{SetPlaces}
-use Rattle.bohm_log.proofs.Placing.{own_places, turned_places}
+use Rattle.bohm_log.proofs.Placing.{own_places}
 use Rattle.bohm_log.proofs.Widening.{come_instead}
 
 -- an order is one
@@ -37,43 +36,6 @@ settled_itself names ids s order set counted =
       itself = λ e. set;
       sorted = λ n. absurd (n order);
     }
-
--- two keys that fall
-pub settled_turned : (names : List (List ℕ)) (ids : List ℕ) (first second : ℕ) (s : SetPlaces) → s.order ≡ Falling → IsFalling (names_at names ids)
-    → AllNamed names ids → first ≡ get_or ids 0 first → second ≡ get_or ids 1 second → s.numbers.items ≡ second ∷ first ∷ []
-    → s.places.items ≡ 1 ∷ 0 ∷ [] → IsSettled names ids s
-settled_turned names [] first second s order falls named one other numbers places = absurd (omega (arith, falls.0))
-settled_turned names (i ∷ []) first second s order falls named one other numbers places = absurd (omega (arith, falls.0))
-settled_turned names (i ∷ j ∷ []) first second s order falls named one other numbers places =
-    let in_set : (ns : List ℕ) → AllNamed names (i ∷ j ∷ []) → AllNamed names (j ∷ i ∷ []) = λ ns h.
-    All-cons (λ m. m < length names) j (i ∷ []) (All-get_or (λ m. m < length names) (i ∷ j ∷ []) 1 0 (omega arith) h)
-    (All-cons (λ m. m < length names) i [] (All-get_or (λ m. m < length names) (i ∷ j ∷ []) 0 0 (omega arith) h) (All-nil (λ m. m < length names))) in
-    let turned : s.numbers.items ≡ j ∷ i ∷ [] = numbers ∙ (λ k. other k ∷ one k ∷ []) in
-    record {
-      places = record {
-        at = subst (λ (ps : List ℕ). ArePlaces (names_at names (i ∷ j ∷ [])) (key_set (names_at names (i ∷ j ∷ []))) ps) (sym places)
-            (turned_places (names_at names (i ∷ j ∷ [])) falls);
-        ordered = record { rising = λ e. absurd (not_both e order); falling = λ e. places };
-      };
-      itself = λ e. absurd (not_both e order);
-      sorted = λ n. subst (λ (ns : List ℕ). AreSorted names (i ∷ j ∷ []) ns) (sym turned) (record { named = in_set [] named; same = sym falls.1 });
-    }
-settled_turned names (i ∷ j ∷ k ∷ ks) first second s order falls named one other numbers places = absurd (omega (arith, falls.0))
-
--- keys in any order
-pub settled_sorted : (names : List (List ℕ)) (ids : List ℕ) (s : SetPlaces) → s.order ≡ Mixed → AreSorted names ids s.numbers.items
-    → ArePlaces (names_at names ids) (key_set (names_at names ids)) s.places.items → IsSettled names ids s
-settled_sorted names ids s order sorted places = record {
-  places = record {
-    at = places;
-    ordered = record {
-      rising = λ e. absurd (let bad : Rising ≡ Mixed = sym e ∙ order in cc);
-      falling = λ e. absurd (let bad : Falling ≡ Mixed = sym e ∙ order in cc);
-    };
-  };
-  itself = λ e. absurd (let bad : Rising ≡ Mixed = sym e ∙ order in cc);
-  sorted = λ n. sorted;
-}
 
 -- ---- numbers that came
 

@@ -15,7 +15,7 @@ ghost use Rattle.bohm_types.specs.Limits.{most_keys};
 use crate::call_places::{CallPlaces, KeyOrder, Moves, SetPlaces};
 use crate::calling::{add_large, add_rows, add_terms, handle_of};
 use crate::columns::{Columns, MOST_NAMED, number_of, offset, repeat_end};
-use crate::earlier::add_names;
+use crate::earlier::{add_once, names_at};
 use crate::fault::LogFault;
 use crate::key_handle::KeyHandle;
 use crate::name_hints::NO_NUMBER;
@@ -244,11 +244,9 @@ impl<S: BuildHasher + Drop> Columns<S> {
         let earlier = places.earlier;
         let falls = places.reads.is_falling();
         let moves = &moves_by(body, places);
-        let (others_from, others_end) = add_names(
-            &mut self.others,
-            body.others.as_slice(),
-            earlier.others,
-        )?;
+        let others = body.others.as_slice();
+        let found = names_at(&self.others, earlier.others, others);
+        let (others_from, others_end) = add_once(&mut self.others, others, found)?;
         let (large_from, large_end) = add_large(&mut self.large, body.large.as_slice(), values)?;
         let (terms_from, terms_end) = add_terms(&mut self.terms, body, moves, values)?;
         let (rows_from, rows_end) = add_rows(

@@ -192,7 +192,9 @@ impl SetPlaces {
     }
 
     /// Whether there are two keys that fall.
-    pub fn is_falling(&self) -> bool {
+    pub fn is_falling(&self) -> bool
+        ensures { result ≡ true → self.now.order ≡ Falling }
+    {
         matches!(self.order, KeyOrder::Falling)
     }
 
@@ -263,12 +265,19 @@ pub struct EarlierCalls {
 
 impl EarlierCalls {
     /// From where on the statements of a call may stand already, whose keys fall or don't.
-    pub fn rows(&self, falls: bool) -> u32 {
+    pub fn rows(&self, falls: bool) -> u32
+        ensures falling { falls ≡ true → result ≡ self.now.falling }
+        ensures others { falls ≡ false → result ≡ self.now.rising }
+    {
         if falls { self.falling } else { self.rising }
     }
 
     /// Notes where the names and the statements of a call stand, whose keys fall or don't.
-    pub fn note(&mut self, falls: bool, others: u32, rows: u32) {
+    pub fn note(&mut self, falls: bool, others: u32, rows: u32)
+        ensures names { self.new.others ≡ others }
+        ensures falling { falls ≡ true → self.new.falling ≡ rows }
+        ensures rising { falls ≡ false → self.new.rising ≡ rows }
+    {
         self.others = others;
         if falls {
             self.falling = rows;

@@ -15,7 +15,7 @@ ghost use Rattle.bohm_log.specs.Parts.{Begins};
 
 use crate::call_places::Moves;
 use crate::columns::offset;
-use crate::earlier::add_statements;
+use crate::earlier::{add_once, rows_at};
 use crate::fault::LogFault;
 use crate::key_handle::KeyHandle;
 use crate::row::{Action, AtomKind, StmtRow, TermRow};
@@ -369,7 +369,9 @@ pub(crate) fn add_rows(
     if let Some(placed) = moves.placed
         && are_short(values)
     {
-        return add_statements(column, placed.rows.as_slice(), earlier);
+        let rows = placed.rows.as_slice();
+        let found = rows_at(column, earlier, rows);
+        return add_once(column, rows, found);
     }
     let from = offset(column.len())?;
     add_lets(column, body.terms.len(), places, values)?;

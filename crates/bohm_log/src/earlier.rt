@@ -31,7 +31,7 @@ fn part_at<T>(column: &[T], at: u32, count: usize) -> Option<(&[T], u32)>
 }
 
 /// The offsets between which these names stand, if they do so from this one on.
-fn names_at(column: &[Key], at: u32, names: &[Key]) -> Option<(u32, u32)>
+pub(crate) fn names_at(column: &[Key], at: u32, names: &[Key]) -> Option<(u32, u32)>
     ensures { IfSome result (λ r. Lands column.now names.now r.0 r.1) }
 {
     let (part, end) = part_at(column, at, names.len())?;
@@ -42,33 +42,16 @@ fn names_at(column: &[Key], at: u32, names: &[Key]) -> Option<(u32, u32)>
     }
 }
 
-/// Adds names, unless the same stand from an offset on.
-pub(crate) fn add_names(
-    column: &mut Vec<Key>,
-    names: &[Key],
-    earlier: u32,
-) -> Result<(u32, u32), LogFault>
-    ensures begins { Begins column.old.items column.new.items }
-    ensures ok { IfOk result (λ r. Lands column.new.items names.now r.0 r.1) }
-    ensures longer { OnOk result
-        (length column.new.items ≤ length column.old.items + length names.now) }
-    ensures full { result ≡ Err Full → 2 ^ 32 ≤ length column.old.items + length names.now }
-{
-    match names_at(column.as_slice(), earlier, names) {
-        Some(range) => Ok(range),
-        None => add_all(column, names),
-    }
-}
-
 #[inline(always)]
 fn is_row(one: &StmtRow, other: &StmtRow) -> bool
     ensures { result ≡ true → one.now ≡ other.now }
 {
-    one.name == other.name
-        && one.start == other.start
-        && one.first == other.first
-        && one.second == other.second
-        && one.third == other.third
+    // Offsets without a jump between them are compared all at once.
+    (one.name == other.name)
+        & (one.start == other.start)
+        & (one.first == other.first)
+        & (one.second == other.second)
+        & (one.third == other.third)
         && one.declared == other.declared
         && one.action == other.action
 }
@@ -86,7 +69,7 @@ fn are_rows(part: &[StmtRow], rows: &[StmtRow]) -> bool
 }
 
 /// The offsets between which these statements stand, if they do so from this one on.
-fn rows_at(column: &[StmtRow], at: u32, rows: &[StmtRow]) -> Option<(u32, u32)>
+pub(crate) fn rows_at(column: &[StmtRow], at: u32, rows: &[StmtRow]) -> Option<(u32, u32)>
     ensures { IfSome result (λ r. Lands column.now rows.now r.0 r.1) }
 {
     let (part, end) = part_at(column, at, rows.len())?;
@@ -97,20 +80,21 @@ fn rows_at(column: &[StmtRow], at: u32, rows: &[StmtRow]) -> Option<(u32, u32)>
     }
 }
 
-/// Adds statements, unless the same stand from an offset on.
-pub(crate) fn add_statements(
-    column: &mut Vec<StmtRow>,
-    rows: &[StmtRow],
-    earlier: u32,
+/// Adds entries, unless a range was found where they stand.
+pub(crate) fn add_once<T: Copy>(
+    column: &mut Vec<T>,
+    entries: &[T],
+    found: Option<(u32, u32)>,
 ) -> Result<(u32, u32), LogFault>
+    requires found { IfSome found (λ r. Lands column.old.items entries.now r.0 r.1) }
     ensures begins { Begins column.old.items column.new.items }
-    ensures ok { IfOk result (λ r. Lands column.new.items rows.now r.0 r.1) }
+    ensures ok { IfOk result (λ r. Lands column.new.items entries.now r.0 r.1) }
     ensures longer { OnOk result
-        (length column.new.items ≤ length column.old.items + length rows.now) }
-    ensures full { result ≡ Err Full → 2 ^ 32 ≤ length column.old.items + length rows.now }
+        (length column.new.items ≤ length column.old.items + length entries.now) }
+    ensures full { result ≡ Err Full → 2 ^ 32 ≤ length column.old.items + length entries.now }
 {
-    match rows_at(column.as_slice(), earlier, rows) {
+    match found {
         Some(range) => Ok(range),
-        None => add_all(column, rows),
+        None => add_all(column, entries),
     }
 }

@@ -32,6 +32,13 @@ impl<'a> Model for IndexedTxn<'a> {
 }
 
 impl<'a> IndexedTxn<'a> {
+    /// The same transaction, for a function that takes it by value.
+    pub fn copied(&self) -> IndexedTxn<'a>
+        ensures { result ≡ self.now }
+    {
+        IndexedTxn { seen: self.seen }
+    }
+
     /// The index among the declared reads of the declared write at an index.
     pub fn read_of_write(&self, write: u32) -> Option<usize>
         requires { write < length self.now.writes }

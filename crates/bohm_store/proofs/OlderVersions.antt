@@ -44,6 +44,18 @@ pub dropped : (floor : ℕ) (o : Older) (os : List Older) (n : ℕ) (held : List
     → (kept_versions floor (older_of (o ∷ os) n ++ held) ≡ kept_versions floor (older_of os n ++ held)) × IsLinked os n held
 dropped floor o os n held le h = dropped_by floor o os n held (o.number == n) refl le h
 
+-- all go
+pub linked_none : (os : List Older) (n : ℕ) (held : List Version) → IsLinked os n held → IsLinked [] n held
+linked_none [] n held h = h
+linked_none (o ∷ os) n held h = linked_none os n held (dropped o.end o os n held (omega arith) h).1
+
+pub all_dropped : (floor : ℕ) (os : List Older) (n : ℕ) (held : List Version) → All (λ o. o.end ≤ floor) os → IsLinked os n held
+    → kept_versions floor (older_of os n ++ held) ≡ kept_versions floor held
+all_dropped floor [] n held low h = refl
+all_dropped floor (o ∷ os) n held low h =
+    let step = dropped floor o os n held (All-head (λ p. p.end ≤ floor) o os low) h in
+    step.0 ∙ all_dropped floor os n held (All-tail (λ p. p.end ≤ floor) o os low) step.1
+
 -- ---- what stays
 
 pub all_due : (floor top : ℕ) (os : List Older) → IsNotDue floor os → EndsRise top os → All (λ o. floor < o.end) os

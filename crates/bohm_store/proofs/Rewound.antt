@@ -283,6 +283,16 @@ uncut ts top (o ∷ p ∷ os) climbs last =
     let low : p.end ≤ ts = first_low ts p os (nat_le p.end ts) refl more in
     uncut_by ts o (p ∷ os) (omega (arith, le, low)) more
 
+-- all ended by then
+pub all_low : (ts top : ℕ) (os : List Older) → EndsRise top os → IsEndedBy ts os → All (λ o. o.end ≤ ts) os
+all_low ts top [] climbs last = All-nil (λ o. o.end ≤ ts)
+all_low ts top (o ∷ []) climbs last = All-cons (λ q. q.end ≤ ts) o [] (last o (omega arith)) (All-nil (λ q. q.end ≤ ts))
+all_low ts top (o ∷ p ∷ os) climbs last =
+    let more = all_low ts top (p ∷ os) climbs.2 (λ d some. last_of ts o p os d last) in
+    let le : o.end ≤ p.end = All-head (λ q. o.end ≤ q.end) p os climbs.1 in
+    let low : p.end ≤ ts = All-head (λ q. q.end ≤ ts) p os more in
+    All-cons (λ q. q.end ≤ ts) o (p ∷ os) (omega (arith, le, low)) more
+
 -- ---- a history
 
 -- what keys hold was put back to a time, and what began later was let go

@@ -1,6 +1,6 @@
 //! The versions of all keys, by the numbers of the keys.
 
-ghost use Rattle.std.specs.Prelude.{◌≡◌, ◌+◌, ◌++◌, ◌<◌, ◌≤◌, ◌^◌, ◌∷◌, ℕ, List};
+ghost use Rattle.std.specs.Prelude.{◌≡◌, ◌+◌, ◌<◌, ◌≤◌, ◌^◌, ℕ, List};
 ghost use Rattle.std.specs.Prelude.{[], length, max, min, true, OnOk, OnErr, IfOk};
 ghost use Rattle.std.specs.FinMap.{entries};
 ghost use Rattle.std.specs.List.{IsDistinct};
@@ -9,24 +9,20 @@ ghost use Rattle.bohm_types.specs.Keys.{rising, names_of};
 ghost use Rattle.bohm_types.specs.Txn.{Txn};
 ghost use Rattle.bohm_log.specs.Layers.{all_names};
 ghost use Rattle.bohm_types.specs.declared.cell.Cell.TheVariants as cells;
-ghost use Rattle.bohm_txn.specs.Faulty.{IsWellFormedTxn};
 ghost use Rattle.bohm_txn.specs.Stores.{cell_in, store_of};
-ghost use Rattle.bohm_board.specs.Batches.{txns_of};
 ghost use Rattle.bohm_store.specs.Versions.{IsCellAt, Rises, cell_at, kept_versions};
 ghost use Rattle.bohm_store.specs.Versions.{past, total, versions, versions_to};
 ghost use Rattle.bohm_store.specs.Chains.{starting_versions};
-ghost use Rattle.bohm_store.specs.Nexts.{IsNext, IsSettled, IsSettledKept};
-ghost use Rattle.bohm_store.specs.Writes.{AreTxnWrites, AreWritesBehind, AreWritesOf, listed_in, writes_by};
+ghost use Rattle.bohm_store.specs.Nexts.{IsSettled, IsSettledKept};
+ghost use Rattle.bohm_store.specs.Writes.{AreWritesBehind, listed_in};
 ghost use Rattle.bohm_store.specs.Numbered.{timeline, versions_at};
 
 use crate::held::{Held, forget_after, held_of};
 use crate::listing::{count_held, present_at, rewind};
-use crate::numbered_write::NumberedWrite;
 use crate::older::{OlderVersions, add, cell_before, cut_off, trim};
 use crate::replacing::replace_all;
 use crate::writes::Writes;
-use bohm_board::Batch;
-use bohm_log::{NameTable, TxnView};
+use bohm_log::NameTable;
 use bohm_types::{Cell, Key, NoMemory, Value};
 use std::alloc::Global;
 use std::marker::Model;
@@ -216,26 +212,25 @@ impl NumberedHistory {
         self.top = ts;
     }
 
-    /// Settles the next batch, by the list of its writes, and keeps the batch's end alone. It
-    /// allocates nothing. Its time grows with the number of the writes.
-    pub fn settle_newest(
-        &mut self,
-        names: NameTable<'_>,
-        batch: &Batch<'_>,
-        writes: &[NumberedWrite],
-    )
+    // Adds the versions of so many transactions that follow the top, by the list of their writes, and
+    // keeps their end alone.
+    fn replace_newest(&mut self, names: NameTable<'_>, count: u32, writes: Writes<'_, '_>)
         requires names { IsDistinct bytes_eq (all_names names) }
         requires long { length (all_names names) ≤ length self.old.newest }
-        requires next { IsNext (timeline (all_names names) self.old) batch.now }
-        requires writes { AreWritesOf (all_names names) batch.now writes.now }
+        requires timestamps { self.old.top + count < 2 ^ 32 }
+        requires writes { (txns : List Txn)
+            × AreWritesBehind (all_names names) (timeline (all_names names) self.old) count txns
+            (listed_in writes) }
         ensures long { length self.new.newest ≡ length self.old.newest }
-        ensures settled { IsSettledKept (timeline (all_names names.entry) self.old)
-            (timeline (all_names names.entry) self.new)
-            (txns_of batch.now) (self.old.top + length (txns_of batch.now)) }
+        ensures settled { (txns : List Txn)
+            → AreWritesBehind (all_names names.entry) (timeline (all_names names.entry) self.old)
+            count txns (listed_in writes.entry)
+            → IsSettledKept (timeline (all_names names.entry) self.old)
+            (timeline (all_names names.entry) self.new) txns (self.old.top + count) }
     {
         self.older.clear();
-        replace_all(self.newest.as_mut_slice(), Writes::Listed(writes));
-        self.top += batch.len();
+        replace_all(self.newest.as_mut_slice(), writes);
+        self.top += count;
         self.floor = self.top;
     }
 
@@ -270,7 +265,8 @@ impl NumberedHistory {
         }
     }
 
-    /// The same, and then trims. An error changes nothing.
+    /// The same, and then trims at a floor. Where nothing below the new top is kept, it allocates
+    /// nothing. An error changes nothing.
     pub fn add_above(
         &mut self,
         names: NameTable<'_>,
@@ -293,6 +289,10 @@ impl NumberedHistory {
             → IsSettledKept (timeline (all_names names.entry) self.old)
             (timeline (all_names names.entry) self.new) txns floor) }
     {
+        if floor == self.top + count {
+            self.replace_newest(names, count, writes);
+            return Ok(());
+        }
         match self.add_writes(names, count, writes) {
             Ok(()) => {
                 self.trim(floor);
@@ -300,35 +300,6 @@ impl NumberedHistory {
             }
             Err(error) => Err(error),
         }
-    }
-
-    /// Adds the versions of the transaction that follows the top, by the numbers of its writes and the
-    /// cells that it leaves, and keeps its end alone. It allocates nothing. Its time grows with the
-    /// number of the writes.
-    pub fn advance_newest(
-        &mut self,
-        names: NameTable<'_>,
-        txn: &TxnView<'_>,
-        numbers: &[u32],
-        cells: &[Cell],
-    )
-        requires names { IsDistinct bytes_eq (all_names names) }
-        requires long { length (all_names names) ≤ length self.old.newest }
-        requires well { IsWellFormedTxn txn.now }
-        requires timestamp { self.old.top + 1 < 2 ^ 32 }
-        requires writes { AreTxnWrites (all_names names) (self.old.top + 1)
-            (past (timeline (all_names names) self.old) self.old.top) txn.now
-            (writes_by (self.old.top + 1) numbers.now cells.now) }
-        ensures long { length self.new.newest ≡ length self.old.newest }
-        ensures settled { IsSettledKept (timeline (all_names names.entry) self.old)
-            (timeline (all_names names.entry) self.new)
-            (txn.now ∷ []) (self.old.top + 1) }
-    {
-        self.older.clear();
-        let writes = Writes::Begun(self.top + 1, numbers, cells);
-        replace_all(self.newest.as_mut_slice(), writes);
-        self.top += 1;
-        self.floor = self.top;
     }
 
     /// What each key held after the transaction with a timestamp: the keys that had a value, rising,

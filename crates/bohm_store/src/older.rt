@@ -1,7 +1,7 @@
 //! Superseded versions, in a queue.
 
 ghost use Rattle.std.specs.Prelude.{◌≡◌, ◌≢◌, ◌+◌, ◌<◌, ◌≤◌, ◌==◌, ◌++◌};
-ghost use Rattle.std.specs.Prelude.{◌∷◌, [], ℕ, List, All, length};
+ghost use Rattle.std.specs.Prelude.{◌∷◌, [], ℕ, List, All, length, true};
 ghost use Rattle.std.specs.Prelude.{if◌then◌else◌, get_or, MatchOption, OnErr, OnOk};
 ghost use Rattle.bohm_store.specs.Writes.{AreBelow, ClimbTo, listed_in, versions_by};
 ghost use Rattle.bohm_types.specs.declared.cell.Cell.TheVariants as cells;
@@ -184,6 +184,16 @@ impl OlderVersions {
         });
     }
 
+    // Whether all ended at or below a timestamp: they do where the last one did.
+    fn are_due(&self, floor: u32) -> bool
+        ensures { result ≡ true → IsEndedBy floor self.now.items }
+    {
+        match self.queue.back() {
+            Some(last) => last.end <= floor,
+            None => true,
+        }
+    }
+
     // Takes the last one out, if it ended above a timestamp.
     fn take_ended_after(&mut self, ts: u32) -> Option<Older>
         ensures { MatchOption result
@@ -237,7 +247,8 @@ pub fn cell_before(older: &OlderVersions, newest: Held, number: u32, ts: u32) ->
     cell
 }
 
-/// Lets those go that ended at or below the floor. Its time grows with how many go.
+/// Lets those go that ended at or below the floor. Its time grows with how many go; it is constant
+/// where all do.
 pub fn trim(older: &mut OlderVersions, floor: u32)
     ensures versions { (n top : ℕ) (held : List Version) → EndsRise top older.old.items
         → IsLinked older.old.items n held
@@ -249,6 +260,10 @@ pub fn trim(older: &mut OlderVersions, floor: u32)
     ensures due { (top : ℕ) → EndsRise top older.old.items
         → All (λ o. floor < o.end) older.new.items }
 {
+    if older.are_due(floor) {
+        older.clear();
+        return;
+    }
     while let Some(_) = older.take_due(floor) {}
 }
 

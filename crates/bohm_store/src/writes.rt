@@ -16,6 +16,8 @@ pub enum Writes<'a, 'b> {
     Begun(u32, &'a [u32], &'b [Cell]),
 }
 
+/// The one at a place of a list. It is a function, since the prover knows how long a slice can be where
+/// it is a parameter.
 #[inline(always)]
 fn listed_at(writes: &[NumberedWrite], i: usize) -> NumberedWrite
     requires { i < length writes.now }

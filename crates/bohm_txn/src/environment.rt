@@ -9,6 +9,7 @@ ghost use Rattle.bohm_types.specs.Keys.{rising};
 ghost use Rattle.bohm_log.specs.Parts.{KeyIn, TermIn, key_at, term_of, sum_between};
 ghost use Rattle.bohm_txn.specs.Meaning.{newest, is_present, number_in, atom_value, total_from};
 ghost use Rattle.bohm_txn.specs.Meaning.{sum_value, compares, cond_value, signed};
+ghost use Rattle.bohm_txn.specs.Tables.{cell_at};
 ghost use lib.IntN.{neg_ℤ};
 ghost use Rattle.bohm_types.specs.Limits.{most_keys, most_terms};
 
@@ -198,24 +199,6 @@ impl Environment<'_> {
         Some(total)
     }
 
-    /// The value of the sum of the terms between two offsets, whatever its numbers. `self` comes by
-    /// value, so that `sum`, which seldom calls it, can keep the fields in registers.
-    #[inline(never)]
-    fn long_sum(self, from: u32, to: u32) -> Result<Value, Reason>
-        requires rises { from ≤ to }
-        requires end { to ≤ length self.txn.now.terms }
-        requires few { to ≤ from + most_terms }
-        ensures { result
-            ≡ sum_value (look_of self.entry) self.entry.locals.now
-            (sum_between self.entry.txn.now from to) }
-    {
-        let total = self.total(self.txn.terms(from, to)).ok_or(Reason::Absent)?;
-        match i64::try_from(total) {
-            Ok(number) => Ok(Value::from(number)),
-            Err(_) => Err(Reason::Range),
-        }
-    }
-
     /// The value of the sum of the terms between two offsets. A partial total may be out of range.
     #[inline(always)]
     pub fn sum(&self, from: u32, to: u32) -> Result<Value, Reason>
@@ -228,11 +211,12 @@ impl Environment<'_> {
     {
         match self.short_total(self.txn.terms(from, to)) {
             Some(total) => Ok(Value::from(total)),
-            None => self.long_sum(from, to),
+            None => long_sum(self.txn.copied(), self.cells, self.locals, from, to),
         }
     }
 
     /// Whether a comparison holds between two sums, which follow one another.
+    #[inline(always)]
     pub fn holds(&self, cmp: Cmp, from: u32, middle: u32, to: u32) -> Result<bool, Reason>
         requires left { from ≤ middle }
         requires right { middle ≤ to }
@@ -271,5 +255,38 @@ impl Environment<'_> {
             (key_at self.now.txn.now.reads self.now.txn.now.others declared place)) }
     {
         matches!(self.cell(declared, place), Cell::Present(_))
+    }
+}
+
+/// The value of the sum of the terms between two offsets, whatever its numbers. The transaction comes
+/// by value, so that callers, which seldom come here, can keep its slices in registers.
+#[inline(never)]
+fn long_sum(
+    txn: IndexedTxn<'_>,
+    cells: &[Cell],
+    locals: &[(Key, Value)],
+    from: u32,
+    to: u32,
+) -> Result<Value, Reason>
+    requires paired { length txn.reads ≡ length cells.now }
+    requires rising { rising txn.reads ≡ true }
+    requires few_reads { length txn.reads ≤ most_keys }
+    requires rises { from ≤ to }
+    requires end { to ≤ length txn.terms }
+    requires few { to ≤ from + most_terms }
+    ensures { result ≡ sum_value (cell_at txn.entry.reads cells.now) locals.now
+        (sum_between txn.entry from to) }
+{
+    let environment = Environment {
+        txn: &txn,
+        cells,
+        locals,
+    };
+    let total = environment
+        .total(txn.terms(from, to))
+        .ok_or(Reason::Absent)?;
+    match i64::try_from(total) {
+        Ok(number) => Ok(Value::from(number)),
+        Err(_) => Err(Reason::Range),
     }
 }

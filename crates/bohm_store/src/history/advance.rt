@@ -1,7 +1,7 @@
 //! Runs transactions one after another on the history.
 
 ghost use Rattle.std.specs.Prelude.{◌≡◌, ◌+◌, ◌-◌, ◌<◌, ◌≤◌, ◌^◌, []};
-ghost use Rattle.std.specs.Prelude.{◌∷◌, length, map, IfOk, OnOk, OnErr};
+ghost use Rattle.std.specs.Prelude.{◌∷◌, map, IfOk, OnOk, OnErr};
 ghost use Rattle.std.specs.Map.{keys_of};
 ghost use Rattle.bohm_txn.specs.Faulty.{IsWellFormedTxn};
 ghost use Rattle.bohm_txn.specs.Meaning.{body};
@@ -140,14 +140,10 @@ impl History {
         ensures ok { OnOk result (IsSettledKept self.old self.new (txn.now ∷ []) floor) }
     {
         self.numbered.cover(self.names.len())?;
-        let names = self.names.table();
-        if floor > self.numbered.top() {
-            self.numbered.advance_newest(names, txn, numbers, cells);
-            return Ok(());
-        }
         let begin = self.numbered.top() + 1;
         let writes = Writes::Begun(begin, numbers, cells);
-        self.numbered.add_above(names, 1, writes, floor)?;
+        self.numbered
+            .add_above(self.names.table(), 1, writes, floor)?;
         Ok(())
     }
 }

@@ -1,6 +1,6 @@
 //! Installs a finished batch in the history.
 
-ghost use Rattle.std.specs.Prelude.{◌≡◌, ◌≤◌, ◌+◌, length, IfOk, OnOk, OnErr};
+ghost use Rattle.std.specs.Prelude.{◌≤◌, ◌+◌, length, IfOk, OnOk, OnErr};
 ghost use Rattle.std.specs.Map.{keys_of};
 ghost use Rattle.bohm_board.specs.Batches.{txns_of};
 ghost use Rattle.bohm_exec.specs.Answers.{batch_of_finished};
@@ -103,14 +103,9 @@ impl History {
         ensures ok { OnOk result (IsSettledKept self.old self.new (txns_of batch.now) floor) }
     {
         self.numbered.cover(self.names.len())?;
-        let names = self.names.table();
-        let count = batch.len();
-        if floor == self.numbered.top() + count {
-            self.numbered.settle_newest(names, batch, writes);
-            return Ok(());
-        }
         let writes = Writes::Listed(writes);
-        self.numbered.add_above(names, count, writes, floor)?;
+        self.numbered
+            .add_above(self.names.table(), batch.len(), writes, floor)?;
         Ok(())
     }
 }

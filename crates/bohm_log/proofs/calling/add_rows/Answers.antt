@@ -10,31 +10,31 @@ use Rattle.bohm_log.proofs.Widening.{landed}
 use Rattle.bohm_log.proofs.calling.add_rows.Goals as goal
 
 -- the prepared statements are those that the call wants
-prepared : (c : goal.After-add_statements) → c.as_slice.result.now
+prepared : (c : goal.After-add_once) → c.as_slice-rows.result.now
     ≡ let_rows (length c.args.body.now.terms.items) c.args.places.now c.args.values.now
     ++ map (row_to c.args.moves.now.reads.now c.args.moves.now.writes.now) (drop (length c.args.places.now) c.args.body.now.rows.items)
 prepared c =
     let to : StmtRow → StmtRow = row_to c.args.moves.now.reads.now c.args.moves.now.writes.now in
     let rest : List StmtRow = map to (drop (length c.args.places.now) c.args.body.now.rows.items) in
-    c.as_slice.ensures.value
+    c.as_slice-rows.ensures.value
     ∙ subst (λ o. IfSome o (λ b. b.now.rows.items
     ≡ let_rows (length c.args.body.now.terms.items) c.args.places.now (replicate (length c.args.places.now) (pos 0)) ++ rest)) c.in-Some.is c.requires.placed
     ∙ ap (λ (rs : List StmtRow). rs ++ rest) (short_rows _ _ _ (c.are_short.ensures c.if-are_short.true) c.requires.values)
 
 pub returns-clause-ok : goal.returns-clause-ok
 returns-clause-ok c =
-    subst (λ (rs : List StmtRow). IfOk c.add_statements.result (λ r. Lands c.add_statements.new.column.items rs r.0 r.1)) (prepared c)
-    c.add_statements.ensures.ok
+    subst (λ (rs : List StmtRow). IfOk c.add_once.result (λ r. Lands c.add_once.new.column.items rs r.0 r.1)) (prepared c)
+    c.add_once.ensures.ok
 
 pub returns-clause-longer : goal.returns-clause-longer
 returns-clause-longer c =
-    subst (λ n. OnOk c.add_statements.result (length c.add_statements.new.column.items ≤ length c.args.column.now.items + n))
-    (ap length (prepared c) ∙ rows_whole _ _ _ _ _ c.requires.values c.requires.lets) c.add_statements.ensures.longer
+    subst (λ n. OnOk c.add_once.result (length c.add_once.new.column.items ≤ length c.args.column.now.items + n))
+    (ap length (prepared c) ∙ rows_whole _ _ _ _ _ c.requires.values c.requires.lets) c.add_once.ensures.longer
 
 pub returns-clause-full : goal.returns-clause-full
 returns-clause-full c e = omega (
   arith,
-  c.add_statements.ensures.full e,
+  c.add_once.ensures.full e,
   ap length (prepared c),
   rows_whole (row_to c.args.moves.now.reads.now c.args.moves.now.writes.now) c.args.body.now.rows.items (length c.args.body.now.terms.items)
       c.args.places.now c.args.values.now c.requires.values c.requires.lets,
@@ -48,14 +48,14 @@ returns-in_err-to-clause-full c e =
       arith,
       c.offset-2.ensures.full at,
       rows_longer _ _ _ _ _ _ _ _ c.requires.values c.requires.lets c.in_ok-add_lets.ensures.ok
-          (c.in_ok-relocate_rows.ensures.ok ∙ behind _ _ _ _ _ c.as_slice-2.ensures.value),
+          (c.in_ok-relocate_rows.ensures.ok ∙ behind _ _ _ _ _ c.as_slice.ensures.value),
     )
 
 abbrev rest_of : goal.In_ok-to → List StmtRow
 rest_of c = map (row_to c.args.moves.now.reads.now c.args.moves.now.writes.now) (drop (length c.args.places.now) c.args.body.now.rows.items)
 
 added : (c : goal.In_ok-to) → c.relocate_rows.new.column.items ≡ c.add_lets.new.column.items ++ rest_of c
-added c = c.in_ok-relocate_rows.ensures.ok ∙ behind _ _ _ _ _ c.as_slice-2.ensures.value
+added c = c.in_ok-relocate_rows.ensures.ok ∙ behind _ _ _ _ _ c.as_slice.ensures.value
 
 pub returns-2-clause-ok : goal.returns-2-clause-ok
 returns-2-clause-ok c =

@@ -1,7 +1,19 @@
-use Rattle.std.proofs.Common.{◌≡◌, ◌∷◌, ◌∙◌, sym}
-use Rattle.bohm_store.specs.Numbered.{EndsRise}
-use Rattle.bohm_store.proofs.OlderVersions.{dropped, all_due, kept_due}
+use Rattle.std.proofs.Common.{◌≡◌, ◌<◌, ◌∷◌, ◌∙◌, [], sym}
+use Rattle.std.proofs.lemmas.List.Elements.{All-nil}
+use Rattle.bohm_store.specs.Numbered.{EndsRise, IsLinked}
+use Rattle.bohm_store.proofs.OlderVersions.{all_dropped, all_due, dropped, kept_due, linked_none}
+use Rattle.bohm_store.proofs.Rewound.{all_low}
 use Rattle.bohm_store.proofs.older.trim.Goals as goal
+
+pub returns-then-are_due-clause-versions : goal.returns-then-are_due-clause-versions
+returns-then-are_due-clause-versions c n top held rise linked =
+    let os = c.args.older.now.items in
+    let low = all_low c.args.floor top os rise (c.are_due.ensures c.if-are_due.true) in
+    let alone : IsLinked [] n held = linked_none os n held linked in
+    rw c.clear.ensures.items (sym (all_dropped c.args.floor os n held low linked ∙ kept_due c.args.floor [] n held (All-nil (λ o. c.args.floor < o.end)) alone))
+
+pub returns-then-are_due-clause-linked : goal.returns-then-are_due-clause-linked
+returns-then-are_due-clause-linked c n held linked = rw c.clear.ensures.items (linked_none c.args.older.now.items n held linked)
 
 pub loop-preserved : goal.loop-preserved
 loop-preserved c =

@@ -87,8 +87,8 @@ returns-clause-ok g c =
     let m = c.moves_by.ensures in
     appended _ _ c.in_ok-others_from.ensures.begins c.in_ok-large_from.ensures.begins c.in_ok-terms_from.ensures.begins c.in_ok-rows_from.ensures.begins
     _ _ _ c.in_ok-ids.ensures.ok refl
-    (lands_same _ _ _ _ _ c.as_slice.ensures.value c.in_ok-others_from.ensures.ok)
-    (lands_same _ _ _ _ _ (ap (λ (xs : List ℕ). xs ++ let_large vs) c.as_slice-2.ensures.value) c.in_ok-large_from.ensures.ok)
+    (lands_same _ _ _ _ _ c.as_slice-others.ensures.value c.in_ok-others_from.ensures.ok)
+    (lands_same _ _ _ _ _ (ap (λ (xs : List ℕ). xs ++ let_large vs) c.as_slice.ensures.value) c.in_ok-large_from.ensures.ok)
     (lands_same _ _ _ _ _ (ap (λ (ps : List ℕ). map (term_to ps) body.terms.items ++ let_terms (length body.large.items) vs) m.reads)
     c.in_ok-terms_from.ensures.ok)
     (lands_same _ _ _ _ _ (λ j. let_rows (length body.terms.items) locals vs ++ map (row_to (m.reads j) (m.writes j)) (drop (length locals) body.rows.items))
@@ -96,9 +96,9 @@ returns-clause-ok g c =
     (omega (
       arith,
       c.in_ok-others_from.ensures.longer,
-      ap length c.as_slice.ensures.value,
+      ap length c.as_slice-others.ensures.value,
       c.in_ok-large_from.ensures.longer,
-      ap (λ (xs : List ℕ). length (xs ++ let_large vs)) c.as_slice-2.ensures.value,
+      ap (λ (xs : List ℕ). length (xs ++ let_large vs)) c.as_slice.ensures.value,
       c.in_ok-terms_from.ensures.longer,
       called_terms c.add_call_sets.new.places.reads.places.items body.terms.items (length body.large.items) vs,
       c.in_ok-rows_from.ensures.longer,

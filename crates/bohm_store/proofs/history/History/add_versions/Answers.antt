@@ -1,8 +1,7 @@
 -- The versions of one transaction, by the numbers of its writes and the cells that it leaves.
-use Rattle.std.proofs.Common.{◌≡◌, ◌∙◌, ◌+◌, ◌∷◌, [], ℕ, ap, arith, map, subst}
+use Rattle.std.proofs.Common.{◌≡◌, ◌∙◌, ◌+◌, ◌∷◌, [], ℕ, ap, arith, map}
 use Rattle.bohm_txn.specs.Meaning.{Look}
 use Rattle.bohm_txn.specs.Serial.{after}
-use Rattle.bohm_store.specs.Nexts.{IsSettledKept}
 use Rattle.bohm_store.specs.Numbered.{timeline, versions_at}
 use Rattle.bohm_store.specs.Versions.{past}
 use Rattle.bohm_store.specs.Writes.{AreTxnWrites, AreWritesBehind, writes_by}
@@ -27,17 +26,6 @@ covered c =
     ∙ rw (← c.self.view_is) at c.requires.cells in
     txn_written names (mid.top + 1) (past (timeline names mid) mid.top) t c.args.numbers.now c.args.cells.now are leaves
 
-pub advance_newest-requires : goal.advance_newest-requires
-advance_newest-requires c =
-    let room = rw (← c.self.view_is) at c.requires.timestamp in
-    rw c.table-names.ensures.names (record {
-      names = c.table-names.ensures.apart;
-      long = omega (arith, c.in_ok-cover.ensures, c.len.ensures);
-      well = c.requires.well;
-      timestamp = omega (arith, room, c.cover.ensures.top);
-      writes = covered (goal.at.advance_newest-requires c).After-cover;
-    })
-
 -- its writes, which begin behind the top
 behind : (c : After-cover) (begin : ℕ) → begin ≡ c.cover.new.self.top + 1
     → AreWritesBehind c.self.inside.names (timeline c.self.inside.names c.cover.new.self) 1 (c.args.txn.now ∷ [])
@@ -51,33 +39,20 @@ pub add_above-requires : goal.add_above-requires
 add_above-requires c =
     let room = rw (← c.self.view_is) at c.requires.timestamp in
     let low = rw (← c.self.view_is) at c.requires.floor in
-    rw c.table-names.ensures.names (record {
-      names = c.table-names.ensures.apart;
+    rw c.table.ensures.names (record {
+      names = c.table.ensures.apart;
       long = omega (arith, c.in_ok-cover.ensures, c.len.ensures);
       timestamps = omega (arith, room, c.cover.ensures.top);
       writes = (c.args.txn.now ∷ [], behind (goal.at.add_above-requires c).After-cover _ (ap (λ n. n + 1) c.top-begin.ensures.top));
       floor = omega (arith, low, c.cover.ensures.top);
     })
 
-pub returns-then-floor-top-clause-ok : goal.returns-then-floor-top-clause-ok
-returns-then-floor-top-clause-ok c =
-    let names = c.self.inside.names in
-    let old = c.self.inside.numbered in
-    let mid = c.cover.new.self in
-    let new = c.advance_newest.new.self in
-    let told = rw c.table-names.ensures.names at c.advance_newest.ensures.settled in
-    let low = rw (← c.self.view_is) at c.requires.floor in
-    let end : mid.top + 1 ≡ c.args.floor = omega (arith, c.if-floor-top.true, c.top.ensures.top, c.cover.ensures.top, low) in
-    rw (← c.self.view_is) (kept_same (timeline names old) (timeline names mid) (timeline names new) (c.args.txn.now ∷ []) c.args.floor
-    (covered_same names old mid c.cover.ensures.floor c.cover.ensures.top c.cover.ensures.versions)
-    (subst (λ (low : ℕ). IsSettledKept (timeline names mid) (timeline names new) (c.args.txn.now ∷ []) low) end told))
-
 pub returns-clause-ok : goal.returns-clause-ok
 returns-clause-ok c =
     let names = c.self.inside.names in
     let old = c.self.inside.numbered in
     let mid = c.cover.new.self in
-    let told = rw c.table-names.ensures.names at c.in_ok-add_above.ensures.ok in
+    let told = rw c.table.ensures.names at c.in_ok-add_above.ensures.ok in
     rw (← c.self.view_is) (kept_same (timeline names old) (timeline names mid) (timeline names c.add_above.new.self) (c.args.txn.now ∷ []) c.args.floor
     (covered_same names old mid c.cover.ensures.floor c.cover.ensures.top c.cover.ensures.versions)
     (told (c.args.txn.now ∷ []) (behind (goal.at.returns-clause-ok c).After-cover _ (ap (λ n. n + 1) c.top-begin.ensures.top))))

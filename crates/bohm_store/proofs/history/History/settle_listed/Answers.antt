@@ -1,6 +1,6 @@
-use Rattle.std.proofs.Common.{◌≡◌, ◌+◌, ℕ, length, arith, subst}
+use Rattle.std.proofs.Common.{arith}
 use Rattle.bohm_board.specs.Batches.{txns_of}
-use Rattle.bohm_store.specs.Nexts.{IsNext, IsSame, IsSettledKept}
+use Rattle.bohm_store.specs.Nexts.{IsNext, IsSame}
 use Rattle.bohm_store.specs.Numbered.{timeline, versions_at}
 use Rattle.bohm_store.proofs.Entries.{keys_named}
 use Rattle.bohm_store.proofs.Grown.{batch_behind}
@@ -19,46 +19,23 @@ covered c =
     let next = rw (← c.self.view_is) at c.requires.next in
     (same, next_same _ _ c.args.batch.now same next, rw (← c.self.view_is, keys_named (versions_at old) 0 names) at c.requires.writes)
 
-pub settle_newest-requires : goal.settle_newest-requires
-settle_newest-requires c =
-    let (same, next, writes) = covered (goal.at.settle_newest-requires c).After-cover in
-    rw c.table-names.ensures.names (record {
-      names = c.table-names.ensures.apart;
-      long = omega (arith, c.in_ok-cover.ensures, c.len.ensures);
-      next = next;
-      writes = writes;
-    })
-
 pub add_above-requires : goal.add_above-requires
 add_above-requires c =
     let (same, next, writes) = covered (goal.at.add_above-requires c).After-cover in
     let low = rw (← c.self.view_is) at c.requires.floor in
-    rw c.table-names.ensures.names (record {
-      names = c.table-names.ensures.apart;
+    rw c.table.ensures.names (record {
+      names = c.table.ensures.apart;
       long = omega (arith, c.in_ok-cover.ensures, c.len.ensures);
-      timestamps = omega (arith, c.args.batch.now.batched.timestamps, next.first, c.len-count.ensures);
-      writes = (txns_of c.args.batch.now, rw c.len-count.ensures (batch_behind _ _ _ _ next writes));
-      floor = omega (arith, low, c.cover.ensures.top, c.len-count.ensures);
+      timestamps = omega (arith, c.args.batch.now.batched.timestamps, next.first, c.len-2.ensures);
+      writes = (txns_of c.args.batch.now, rw c.len-2.ensures (batch_behind _ _ _ _ next writes));
+      floor = omega (arith, low, c.cover.ensures.top, c.len-2.ensures);
     })
-
-pub returns-then-floor-top-clause-ok : goal.returns-then-floor-top-clause-ok
-returns-then-floor-top-clause-ok c =
-    let names = c.self.inside.names in
-    let old = c.self.inside.numbered in
-    let mid = c.cover.new.self in
-    let new = c.settle_newest.new.self in
-    let txns = txns_of c.args.batch.now in
-    let told = rw c.table-names.ensures.names at c.settle_newest.ensures.settled in
-    let end : mid.top + length txns ≡ c.args.floor = omega (arith, c.if-floor-top.true, c.top.ensures.top, c.len-count.ensures) in
-    rw (← c.self.view_is) (kept_same (timeline names old) (timeline names mid) (timeline names new) txns c.args.floor
-    (covered (goal.at.returns-then-floor-top-clause-ok c).After-cover).0
-    (subst (λ (low : ℕ). IsSettledKept (timeline names mid) (timeline names new) txns low) end told))
 
 pub returns-clause-ok : goal.returns-clause-ok
 returns-clause-ok c =
     let names = c.self.inside.names in
     let b = c.args.batch.now in
     let (same, next, writes) = covered (goal.at.returns-clause-ok c).After-cover in
-    let told = rw c.table-names.ensures.names at c.in_ok-add_above.ensures.ok in
+    let told = rw c.table.ensures.names at c.in_ok-add_above.ensures.ok in
     rw (← c.self.view_is) (kept_same _ (timeline names c.cover.new.self) (timeline names c.add_above.new.self) (txns_of b) c.args.floor same
-    (told (txns_of b) (rw c.len-count.ensures (batch_behind _ _ _ _ next writes))))
+    (told (txns_of b) (rw c.len-2.ensures (batch_behind _ _ _ _ next writes))))
