@@ -23,7 +23,7 @@
 
 /* The version, and the checksum of the sources that the library is built from. */
 #define BOHM_VERSION "0.1.0"
-#define BOHM_SOURCES "275b676728c976b25e13eb2ae893a0c402327207f96564b3aa5d213d1db058d9"
+#define BOHM_SOURCES "d971c0e735dc03e0279e9c01614cb9671805f330846758914901f89a0864280c"
 
 /* The same, of the library that the program is linked with. */
 extern const char bohm_version[16], bohm_sources[65];

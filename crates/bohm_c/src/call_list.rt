@@ -3,7 +3,10 @@
 ghost use Rattle.std.specs.Prelude.{◌≡◌, ◌≢◌, ◌↔◌, [], true, length, map};
 ghost use Rattle.std.specs.Prelude.{None, Err, IfOk, OnOk, OnErr};
 ghost use Rattle.std.specs.List.{Any};
+ghost use Rattle.bohm_types.specs.Appending.{with_txn};
 ghost use Rattle.bohm_types.specs.Name.{key_of};
+ghost use Rattle.bohm_types.specs.Procedure.{instance};
+ghost use Rattle.bohm_log.specs.Handles.{keys_named};
 ghost use Rattle.bohm_procedures.specs.Accepting.{Takes};
 ghost use Rattle.bohm_c.specs.Calling.{IsPushed};
 ghost use Rattle.bohm_c.specs.Listed.{Knows, cleared, empty_list, named_by, with_name};
@@ -22,7 +25,6 @@ use std::marker::Model;
 pub struct CallList {
     calls: Calls,
     names: KeyNames,
-    keys: Vec<Key>,
     named: Vec<KeyHandle>,
     values: Vec<Value>,
 }
@@ -33,13 +35,11 @@ impl Drop for CallList {
         let Self {
             calls,
             names,
-            keys,
             named,
             values,
         } = self;
         drop(calls);
         drop(names);
-        drop(keys);
         drop(named);
         drop(values);
     }
@@ -75,18 +75,22 @@ impl From<NoMemory> for PushFault {
     }
 }
 
-/// The keys that are named so.
-fn fill_keys(keys: &mut Vec<Key>, names: &[&[u8]]) -> Result<(), PushFault>
-    ensures ok { OnOk result (keys.new.items ≡ map (λ n. n.now) names.now) }
+/// The handles of the keys that are named so.
+fn fill_handles(
+    handles: &mut Vec<KeyHandle>,
+    calls: &Calls,
+    names: &[&[u8]],
+) -> Result<(), PushFault>
+    ensures ok { OnOk result (keys_named handles.new.items ≡ map (λ n. n.now) names.now) }
     ensures no_key { result ≡ Err push_is.NoKey → Any (λ n. key_of n.now ≡ None) names.now }
     ensures fits { result ≢ Err push_is.Unfit }
 {
-    keys.clear();
+    handles.clear();
     for name in names {
         let Some(key) = Key::new(name) else {
             return Err(PushFault::NoKey);
         };
-        if keys.push(key).is_err() {
+        if handles.push(calls.noted_handle(&key)).is_err() {
             return Err(PushFault::NoMemory);
         }
     }
@@ -104,6 +108,30 @@ fn fill_values(values: &mut Vec<Value>, numbers: &[i64]) -> Result<(), NoMemory>
     Ok(())
 }
 
+/// Adds a call with these arguments.
+#[inline(always)]
+fn add_call(
+    calls: &mut Calls,
+    procedure: &Procedure,
+    keys: &[KeyHandle],
+    values: &[Value],
+) -> Result<(), PushFault>
+    ensures takes { OnOk result
+        (Takes calls.old procedure.now (keys_named keys.now) values.now) }
+    ensures ok { OnOk result (calls.new ≡ with_txn calls.old
+        (instance procedure.now (keys_named keys.now) values.now)) }
+    ensures keys { result ≢ Err push_is.NoKey }
+    ensures unfit { result ≡ Err push_is.Unfit
+        → ¬ Takes calls.old procedure.now (keys_named keys.now) values.now }
+    ensures unchanged { OnErr result (calls.new ≡ calls.old) }
+{
+    if !calls.takes_named(procedure, keys, values) {
+        return Err(PushFault::Unfit);
+    }
+    calls.push_named(procedure, keys, values)?;
+    Ok(())
+}
+
 impl CallList {
     /// No calls and no handles; keys are hashed from the seed. It allocates nothing.
     pub fn new(alloc: Global, seed: DrawnSeed, edition: Edition) -> CallList
@@ -112,7 +140,6 @@ impl CallList {
         CallList {
             calls: Calls::new(alloc, seed, edition),
             names: KeyNames::sharing(alloc, SharedNames::none()),
-            keys: Vec::new(alloc),
             named: Vec::new(alloc),
             values: Vec::new(alloc),
         }
@@ -125,7 +152,6 @@ impl CallList {
         Ok(CallList {
             calls: machine.calls(alloc, edition)?,
             names: KeyNames::sharing(alloc, machine.shared_names()?),
-            keys: Vec::new(alloc),
             named: Vec::new(alloc),
             values: Vec::new(alloc),
         })
@@ -152,15 +178,9 @@ impl CallList {
             → ¬ Takes self.old.calls procedure.now (map (λ n. n.now) names.now) numbers.now }
         ensures unchanged { OnErr result (self.new ≡ self.old) }
     {
-        fill_keys(&mut self.keys, names)?;
+        fill_handles(&mut self.named, &self.calls, names)?;
         fill_values(&mut self.values, numbers)?;
-        let keys = self.keys.as_slice();
-        let values = self.values.as_slice();
-        if !self.calls.takes(procedure, keys, values) {
-            return Err(PushFault::Unfit);
-        }
-        self.calls.push(procedure, keys, values)?;
-        Ok(())
+        add_call(&mut self.calls, procedure, &self.named, &self.values)
     }
 
     /// A new handle of a key, which names it until the list is dropped. `NoMemory` where an
@@ -202,13 +222,7 @@ impl CallList {
     {
         self.names.fill(&mut self.named, handles)?;
         fill_values(&mut self.values, numbers)?;
-        let keys = self.named.as_slice();
-        let values = self.values.as_slice();
-        if !self.calls.takes_named(procedure, keys, values) {
-            return Err(PushFault::Unfit);
-        }
-        self.calls.push_named(procedure, keys, values)?;
-        Ok(())
+        add_call(&mut self.calls, procedure, &self.named, &self.values)
     }
 
     /// The log of the calls, which a machine can run.

@@ -130,6 +130,15 @@ impl Calls {
         self.segment.handle(key).map_err(|_| NoMemory)
     }
 
+    /// The handle of a key with the number that it is likely to have: the one that was noted last for
+    /// its hash. Nothing is numbered or searched for.
+    #[inline(always)]
+    pub fn noted_handle(&self, key: &Key) -> KeyHandle
+        ensures { result.key ≡ key.now }
+    {
+        self.segment.noted_handle(key)
+    }
+
     /// Whether a call by handles can be added: `takes`, of their keys.
     #[tactic(auto, using(crate::proofs::Calling::named_length))]
     pub fn takes_named(&self, procedure: &Procedure, keys: &[KeyHandle], values: &[Value]) -> bool

@@ -1,7 +1,7 @@
 //! Superseded versions, in a queue.
 
 ghost use Rattle.std.specs.Prelude.{◌≡◌, ◌≢◌, ◌+◌, ◌<◌, ◌≤◌, ◌==◌, ◌++◌};
-ghost use Rattle.std.specs.Prelude.{◌∷◌, [], ℕ, List, All, length, true};
+ghost use Rattle.std.specs.Prelude.{◌∷◌, [], ℕ, List, All, length, true, false};
 ghost use Rattle.std.specs.Prelude.{if◌then◌else◌, get_or, MatchOption, OnErr, OnOk};
 ghost use Rattle.bohm_store.specs.Writes.{AreBelow, ClimbTo, listed_in, versions_by};
 ghost use Rattle.bohm_types.specs.declared.cell.Cell.TheVariants as cells;
@@ -186,7 +186,8 @@ impl OlderVersions {
 
     // Whether all ended at or below a timestamp: they do where the last one did.
     fn are_due(&self, floor: u32) -> bool
-        ensures { result ≡ true → IsEndedBy floor self.now.items }
+        ensures due { result ≡ true → IsEndedBy floor self.now.items }
+        ensures others { result ≡ false → ¬ IsEndedBy floor self.now.items }
     {
         match self.queue.back() {
             Some(last) => last.end <= floor,

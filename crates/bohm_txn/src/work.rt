@@ -122,7 +122,8 @@ impl Work {
         }
     }
 
-    /// Runs one statement. The error says why it fails.
+    /// Runs one statement. The error says why it fails. Inline, as its caller is.
+    #[inline(always)]
     fn perform(
         &mut self,
         edition: Edition,
@@ -207,7 +208,8 @@ impl Work {
     }
 
     /// Runs the body over the cells that it has. The error says why, and at which statement, it
-    /// fails.
+    /// fails. Inline, so that callers can keep the transaction's slices in registers.
+    #[inline(always)]
     pub fn run_in_place(
         &mut self,
         edition: Edition,

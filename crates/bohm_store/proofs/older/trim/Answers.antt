@@ -8,7 +8,7 @@ use Rattle.bohm_store.proofs.older.trim.Goals as goal
 pub returns-then-are_due-clause-versions : goal.returns-then-are_due-clause-versions
 returns-then-are_due-clause-versions c n top held rise linked =
     let os = c.args.older.now.items in
-    let low = all_low c.args.floor top os rise (c.are_due.ensures c.if-are_due.true) in
+    let low = all_low c.args.floor top os rise (c.are_due.ensures.due c.if-are_due.true) in
     let alone : IsLinked [] n held = linked_none os n held linked in
     rw c.clear.ensures.items (sym (all_dropped c.args.floor os n held low linked ∙ kept_due c.args.floor [] n held (All-nil (λ o. c.args.floor < o.end)) alone))
 
