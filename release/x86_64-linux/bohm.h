@@ -23,7 +23,7 @@
 
 /* The version, and the checksum of the sources that the library is built from. */
 #define BOHM_VERSION "0.1.0"
-#define BOHM_SOURCES "d971c0e735dc03e0279e9c01614cb9671805f330846758914901f89a0864280c"
+#define BOHM_SOURCES "8f806b753708929c74753406db2d05f7d34233b5e047c84886757fbbcade32dc"
 
 /* The same, of the library that the program is linked with. */
 extern const char bohm_version[16], bohm_sources[65];

@@ -3,7 +3,7 @@ pub use Rattle.bohm_types.specs.Txn
 pub use Rattle.bohm_text.specs.Print
 pub use Rattle.bohm_txn.specs.Serial
 pub use Rattle.bohm_txn.specs.Stores
-pub use Rattle.bohm_run.specs.Runs
+pub use Rattle.bohm_apply.specs.Runs
 pub use Rattle.bohm_run.specs.Headline
 pub use Rattle.bohm_machine.specs.Machines
 pub use Rattle.bohm_machine.specs.Segments

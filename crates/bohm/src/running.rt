@@ -4,7 +4,7 @@ ghost use Rattle.std.specs.Prelude.{IfOk, ◌≡◌, ◌+◌, ◌≤◌, length}
 ghost use Rattle.bohm_txn.specs.Serial.{replies};
 ghost use Rattle.bohm_txn.specs.Stores.{cell_in, store_of};
 ghost use Rattle.bohm_store.specs.Versions.{declared_writes, total};
-ghost use Rattle.bohm_run.specs.Runs.{IsHistoryOf};
+ghost use Rattle.bohm_apply.specs.Runs.{IsHistoryOf};
 
 use bohm_exec::OpenGate;
 use bohm_run::{Answer, ByteSum, Cuts, Settings};

@@ -8,8 +8,8 @@ use Rattle.bohm_txn.specs.Meaning.{Look}
 use Rattle.bohm_txn.specs.Serial.{state}
 use Rattle.bohm_txn.specs.Stores.{Store, cell_in, store_after, store_of}
 use Rattle.bohm_store.specs.Versions.{Timeline, past}
-use Rattle.bohm_run.specs.Runs.{IsApplied}
-use Rattle.bohm_run.proofs.ForCallers.{store_then}
+use Rattle.bohm_apply.specs.Runs.{IsApplied}
+use Rattle.bohm_apply.proofs.ForCallers.{store_then}
 
 -- what a history that opened at a store holds at its top, behind all of a log
 top_after : (s : Store) (was now : Timeline) (log : List Txn) (keep : ℕ) (a : List Reply) → was.top ≡ 0 → past was 0 ≡ cell_in s

@@ -1,8 +1,8 @@
 -- A refusal says a fault that the text has.
 use Rattle.std.proofs.Common.{◌≡◌, ◌≢◌, ℕ, List, refl}
-use Rattle.bohm_run.specs.FaultLine.{fault_line}
-use Rattle.bohm_run.specs.declared.fault.RunFault.{RunFault}
-use Rattle.bohm_run.specs.declared.fault.RunFault.TheVariants.{Read, TooLong, Text, Check, Trimmed, Future, NoMemory, Write}
+use Rattle.bohm_answer.specs.FaultLine.{fault_line}
+use Rattle.bohm_answer.specs.declared.fault.RunFault.{RunFault}
+use Rattle.bohm_answer.specs.declared.fault.RunFault.TheVariants.{Read, TooLong, Text, Check, Trimmed, Future, NoMemory, Write}
 use Rattle.bohm_c.specs.Reading.{HasFault, IsRefusal, IsRefused}
 
 pub has_fault : (text : List ℕ) (fault : RunFault) → fault ≢ NoMemory → IsRefused text fault → HasFault text fault

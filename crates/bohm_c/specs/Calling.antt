@@ -9,9 +9,9 @@ use Rattle.bohm_text.specs.declared.fault.TextFault.TheVariants as texts
 use Rattle.bohm_procedures.specs.Accepting.{IsAccepted, IsRefusedBy, Takes}
 use Rattle.bohm_procedures.specs.declared.fault.ProcedureFault.{ProcedureFault}
 use Rattle.bohm_procedures.specs.declared.fault.ProcedureFault.TheVariants as faults
-use Rattle.bohm_run.specs.FaultLine.{fault_line}
-use Rattle.bohm_run.specs.declared.fault.RunFault.{RunFault}
-use Rattle.bohm_run.specs.declared.fault.RunFault.TheVariants as runs
+use Rattle.bohm_answer.specs.FaultLine.{fault_line}
+use Rattle.bohm_answer.specs.declared.fault.RunFault.{RunFault}
+use Rattle.bohm_answer.specs.declared.fault.RunFault.TheVariants as runs
 use Rattle.bohm_c.specs.Listed.{Listed}
 
 -- the text is this accepted procedure's

@@ -8,12 +8,12 @@ use Rattle.bohm_txn.specs.declared.outcome.Reply.{Reply}
 use Rattle.bohm_txn.specs.Faulty.{WellFormed}
 use Rattle.bohm_txn.specs.Stores.{cell_in, store_of}
 use Rattle.bohm_text.specs.Print.{print_doc, print_numbered}
-use Rattle.bohm_run.specs.Headline.{answer_of}
+use Rattle.bohm_answer.specs.Answer.{answer_of}
 use Rattle.bohm_store.specs.Versions.{Timeline, total}
 use Rattle.bohm_machine.specs.Machines.{GoesOn, HasRun, floor_of, past_of, top_of}
 use Rattle.bohm_machine.specs.Segments.{AreWholeBatches, IsTaken, RunsOn, IsRefused as IsUntakenBy}
 use Rattle.bohm_machine.specs.declared.fault.SegmentFault.{SegmentFault}
-use Rattle.bohm_run.specs.declared.fault.RunFault.TheVariants.{NoMemory}
+use Rattle.bohm_answer.specs.declared.fault.RunFault.TheVariants.{NoMemory}
 use Rattle.bohm_c.specs.declared.session.BohmCounts.{BohmCounts}
 use Rattle.bohm_c.specs.declared.session.Session.{Session}
 use Rattle.bohm_c.specs.declared.session.OpenFault.{OpenFault}

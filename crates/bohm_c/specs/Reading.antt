@@ -9,9 +9,9 @@ use Rattle.bohm_text.specs.Cut.{whole_lines}
 use Rattle.bohm_text.specs.Faults.{IsFirstBadLine, IsShort}
 use Rattle.bohm_text.specs.Print.{print_doc}
 use Rattle.bohm_text.specs.declared.fault.TextFault.TheVariants as texts
-use Rattle.bohm_run.specs.FaultLine.{fault_line}
-use Rattle.bohm_run.specs.declared.fault.RunFault.{RunFault}
-use Rattle.bohm_run.specs.declared.fault.RunFault.TheVariants.{Read, TooLong, Text, Check, Trimmed, Future, NoMemory, Write}
+use Rattle.bohm_answer.specs.FaultLine.{fault_line}
+use Rattle.bohm_answer.specs.declared.fault.RunFault.{RunFault}
+use Rattle.bohm_answer.specs.declared.fault.RunFault.TheVariants.{Read, TooLong, Text, Check, Trimmed, Future, NoMemory, Write}
 
 -- the text is this well-formed document's
 pub record IsRead (text : List ℕ) (document : Document) : Type 0 where

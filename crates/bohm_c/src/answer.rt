@@ -4,10 +4,10 @@ ghost use Rattle.std.specs.Prelude.{◌≡◌, length, IfOk};
 ghost use Rattle.std.specs.FinMap.{entries};
 ghost use Rattle.bohm_txn.specs.Serial.{replies};
 ghost use Rattle.bohm_txn.specs.Stores.{cell_in, store_after, store_of};
-ghost use Rattle.bohm_run.specs.Headline.{answer_of};
+ghost use Rattle.bohm_answer.specs.Answer.{answer_of};
 
+use bohm_apply::SerialExecutor;
 use bohm_log::DrawnSeed;
-use bohm_run::SerialExecutor;
 use bohm_store::History;
 use bohm_text::print_answer;
 use bohm_txn::{Checked, Replies};

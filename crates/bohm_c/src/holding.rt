@@ -14,8 +14,8 @@ use crate::reading::read;
 use crate::rows::{BohmReply, Rows, rows_of};
 use crate::session::{Session, refuse};
 use crate::status::{DONE, HAS_STORE, NO_MEMORY, REFUSED, STOPPED, TIMESTAMPS, WAITING};
+use bohm_apply::Applied;
 use bohm_machine::SegmentFault;
-use bohm_run::Applied;
 use bohm_txn::{Checked, Replies};
 use std::alloc::Global;
 

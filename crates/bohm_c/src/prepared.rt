@@ -5,9 +5,9 @@ ghost use Rattle.bohm_c.specs.Calling.{IsPrepared, IsProcedureRefusal, IsUnprepa
 
 use crate::session::refuse;
 use crate::status::{NO_MEMORY, REFUSED};
+use bohm_answer::RunFault;
 use bohm_log::DrawnSeed;
 use bohm_procedures::{Procedure, ProcedureFault};
-use bohm_run::RunFault;
 use bohm_text::TextFault;
 use std::alloc::Global;
 

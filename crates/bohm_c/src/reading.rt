@@ -7,8 +7,8 @@ ghost use Rattle.bohm_txn.specs.Stores.{store_of};
 ghost use Rattle.bohm_text.specs.Print.{print_doc};
 ghost use Rattle.bohm_c.specs.Reading.{IsRead, IsRefused, snapshot_of};
 
+use bohm_answer::{LONGEST_TEXT, RunFault};
 use bohm_log::{Doc, DrawnSeed, FixedSeed, HashSeed, Log};
-use bohm_run::{LONGEST_TEXT, RunFault};
 use bohm_text::{parse_with_seed, print_doc};
 use bohm_txn::{Checked, check};
 use bohm_types::{Edition, Key, NoMemory, Value};

@@ -7,8 +7,8 @@ ghost use Rattle.bohm_text.specs.Print.{print_numbered};
 ghost use Rattle.bohm_machine.specs.Digests.{IsDigest};
 ghost use Rattle.bohm_machine.specs.Machines.{floor_of, past_of, top_of};
 ghost use Rattle.bohm_machine.specs.Segments.{IsRefused as IsUntakenBy};
-ghost use Rattle.bohm_run.specs.FaultLine.{fault_line};
-ghost use Rattle.bohm_run.specs.declared.fault.RunFault.TheVariants as run_is;
+ghost use Rattle.bohm_answer.specs.FaultLine.{fault_line};
+ghost use Rattle.bohm_answer.specs.declared.fault.RunFault.TheVariants as run_is;
 ghost use Rattle.bohm_machine.specs.declared.fault.SegmentFault.TheVariants as segment_is;
 ghost use Rattle.bohm_c.specs.Keeping.{HasCounts, HasTransactions, IsDone, IsKept};
 ghost use Rattle.bohm_c.specs.Keeping.{IsOpened, IsOpening, IsReadable, IsRefusedOpening};
@@ -24,9 +24,10 @@ use crate::status::{
     DONE, FUTURE, HAS_LOG, HAS_STORE, KEPT, NO_MEMORY, REFUSED, STOPPED, TIMESTAMPS, TRIMMED,
     WAITING,
 };
+use bohm_answer::{RunFault, print_fault};
+use bohm_apply::Applied;
 use bohm_log::DrawnSeed;
 use bohm_machine::{Machine, SegmentFault};
-use bohm_run::{Applied, RunFault, print_fault};
 use bohm_store::{PastFault, StoreFault};
 use bohm_text::print_numbered;
 use bohm_txn::{Checked, Replies};

@@ -1,10 +1,10 @@
 -- What a run says of a refused log, said of its check.
 use Rattle.std.proofs.Common.{List, ℕ}
 use Rattle.std.specs.Prelude.{Option, None}
-use Rattle.bohm_run.specs.Given.{Given}
+use Rattle.bohm_apply.specs.Given.{Given}
 use Rattle.bohm_run.specs.Headline.{IsBeforeWriting, Refuses}
-use Rattle.bohm_run.specs.declared.fault.RunFault.{RunFault}
-use Rattle.bohm_run.specs.declared.fault.RunFault.TheVariants.{Read, TooLong, Text, Check, Trimmed, Future, NoMemory, Write}
+use Rattle.bohm_answer.specs.declared.fault.RunFault.{RunFault}
+use Rattle.bohm_answer.specs.declared.fault.RunFault.TheVariants.{Read, TooLong, Text, Check, Trimmed, Future, NoMemory, Write}
 use Rattle.bohm_check_cli.specs.Checking.{RefusesLog}
 
 -- a refusal before the writing

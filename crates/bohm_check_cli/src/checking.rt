@@ -4,9 +4,9 @@ ghost use Rattle.std.specs.Prelude.{◌≡◌, OnOk, IfErr};
 ghost use Rattle.bohm_check_cli.specs.Checking.{RefusesLog, Tells};
 ghost use Rattle.bohm_run.specs.Headline.{IsBeforeWriting};
 
+use bohm_answer::{RunFault, write_all};
 use bohm_check::Summary;
 use bohm_report::read_reported;
-use bohm_run::{RunFault, write_all};
 use std::alloc::Global;
 use std::io::{Read, Write};
 use std::random::RandomSource;

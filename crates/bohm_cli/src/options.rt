@@ -23,9 +23,9 @@ Workers that parse the log ahead, window by window, 1 to 16
 [default: 1]. Three pay on logs of 5 MB and more";
 
 const EXEC: &str = "\
-Executing workers, 1 to 16 [default: 1]. For long bodies
-that touch different keys; as measured, two or three gained
-nothing beyond chance";
+Executing workers, 1 to 16 [default: 1]. Several share
+bodies of 32 statements and more; shorter ones run on one,
+unless --batch is below 4096";
 
 const PARTS: &str = "\
 The library's partitions of the keys, 1 to 64 [default: 1].

@@ -1,9 +1,9 @@
 -- What a program ends with.
 use Rattle.std.specs.Prelude.{◌≡◌, ℕ, List, Option, Result, Ok, Err, string_bytes}
 use Rattle.std.specs.Io.KnownBytes.{Appends, Keeps}
-use Rattle.bohm_run.specs.Bytes.{IsWriteFault}
-use Rattle.bohm_run.specs.FaultLine.{fault_line}
-use Rattle.bohm_run.specs.declared.fault.RunFault.TheVariants as run
+use Rattle.bohm_answer.specs.Bytes.{IsWriteFault}
+use Rattle.bohm_answer.specs.FaultLine.{fault_line}
+use Rattle.bohm_answer.specs.declared.fault.RunFault.TheVariants as run
 use Rattle.bohm_command.specs.declared.fault.WordFault.{WordFault}
 use Rattle.bohm_command.specs.declared.fault.WordFault.TheVariants.{Bad, Help, NoMemory}
 use Rattle.bohm_command.specs.declared.ending.NoAnswer.{NoAnswer}

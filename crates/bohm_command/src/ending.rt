@@ -3,12 +3,12 @@
 ghost use Rattle.std.specs.Prelude.{◌≡◌, OnErr, OnOk};
 ghost use Rattle.std.specs.Io.KnownBytes.{Appends};
 ghost use Rattle.std.specs.Process.{exit_status};
-ghost use Rattle.bohm_run.specs.FaultLine.{AppendsFront};
+ghost use Rattle.bohm_answer.specs.FaultLine.{AppendsFront};
 ghost use Rattle.bohm_command.specs.Endings.{status_of, text_of, Ends};
 ghost use Rattle.bohm_command.specs.declared.ending.NoAnswer.TheVariants.{Run};
 
 use crate::fault::WordFault;
-use bohm_run::{RunFault, write_all, write_bytes, write_fault};
+use bohm_answer::{RunFault, write_all, write_bytes, write_fault};
 use std::io::{self, Write};
 use std::process::ExitCode;
 

@@ -1,10 +1,10 @@
 -- What a run says of a refused log, said of its explanation.
 use Rattle.std.proofs.Common.{List, ℕ}
 use Rattle.std.specs.Prelude.{Option, None}
-use Rattle.bohm_run.specs.Given.{Given}
+use Rattle.bohm_apply.specs.Given.{Given}
 use Rattle.bohm_run.specs.Headline.{IsBeforeWriting, Refuses}
-use Rattle.bohm_run.specs.declared.fault.RunFault.{RunFault}
-use Rattle.bohm_run.specs.declared.fault.RunFault.TheVariants.{Read, TooLong, Text, Check, Trimmed, Future, NoMemory, Write}
+use Rattle.bohm_answer.specs.declared.fault.RunFault.{RunFault}
+use Rattle.bohm_answer.specs.declared.fault.RunFault.TheVariants.{Read, TooLong, Text, Check, Trimmed, Future, NoMemory, Write}
 use Rattle.bohm_explain.specs.Asked.{Asked}
 use Rattle.bohm_explain_cli.specs.Explaining.{RefusesLog}
 use Rattle.bohm_explain_cli.specs.declared.fault.ExplainFault.TheVariants.{Run}

@@ -4,10 +4,10 @@ ghost use Rattle.std.specs.Prelude.{◌≡◌, IfErr, OnOk};
 ghost use Rattle.bohm_explain_cli.specs.Explaining.{Explains, IsEarly, RefusesLog};
 
 use crate::fault::ExplainFault;
+use bohm_answer::write_all;
 use bohm_explain::{Request, answer};
 use bohm_log::DrawnSeed;
 use bohm_report::read_reported;
-use bohm_run::write_all;
 use std::alloc::Global;
 use std::io::{Read, Write};
 use std::random::RandomSource;

@@ -4,8 +4,8 @@ ghost use Rattle.std.specs.Prelude.{◌≡◌};
 ghost use Rattle.bohm_explain_cli.specs.declared.fault.ExplainFault.TheVariants.{Run};
 ghost use Rattle.bohm_explain_cli.specs.Told.{IsToldAs};
 
+use bohm_answer::RunFault;
 use bohm_command::NoAnswer;
-use bohm_run::RunFault;
 use bohm_types::NoMemory;
 
 /// What standard error has where the log lacks the batch.
@@ -29,7 +29,7 @@ impl From<RunFault> for ExplainFault {
 }
 
 impl From<NoMemory> for ExplainFault {
-    ghost use Rattle.bohm_run.specs.declared.fault.RunFault.TheVariants as run;
+    ghost use Rattle.bohm_answer.specs.declared.fault.RunFault.TheVariants as run;
 
     ghost from_gives = { λ _ e. e ≡ Run run.NoMemory };
 

@@ -167,7 +167,7 @@ range_more a n j e =
     sym (map_itself (range_with_len a (n + 1))) ∙ map-range_with_len_more (λ i. i) a n j e
     ∙ ap (λ (xs : List ℕ). xs ++ j ∷ []) (map_itself (range_with_len a n))
 
-pub place_stays : (n i : ℕ) → i < n → slice_index_or (range_with_len 0 n) i 0 ≡ i
+place_stays : (n i : ℕ) → i < n → slice_index_or (range_with_len 0 n) i 0 ≡ i
 place_stays n i h = get_or-range_with_len 0 n i 0 h ∙ zero_more
   where
     zero_more : 0 + i ≡ i

@@ -16,7 +16,7 @@ pub record AreSorted (names : List (List ℕ)) (ids sorted : List ℕ) : Type 0 
   pub named : AllNamed names sorted
   pub same : names_at names sorted ≡ key_set (names_at names ids)
 
--- two keys, the second of which is the lower one: exactly then their set has the second first
+-- two keys whose set has the second one first, as the lower one
 abbrev pub IsFalling : List (List ℕ) → Type 0
 IsFalling keys = (length keys ≡ 2) × (key_set keys ≡ get_or keys 1 [] ∷ get_or keys 0 [] ∷ [])
 

@@ -24,7 +24,7 @@ use crate::fault::{LogFault, SumFault};
 use crate::literal::Literal;
 use crate::row::{Action, Pending, Step};
 use crate::sum::AtomParts;
-use bohm_types::{Cmp, Edition, Key};
+use bohm_types::{Cmp, Edition, Key, PackedWord};
 use std::alloc::Global;
 use std::hash::{BuildHasher, BuildHasherDefault, FoldHasher};
 use std::marker::Model;
@@ -110,6 +110,26 @@ impl<S: BuildHasher> Draft<S> {
         key.has_name();
         self.sheet.add_write(key)?;
         Ok(())
+    }
+
+    /// Declares the key that a word names to be written, if it is the declared read at the same index:
+    /// it is compared in place, and no key is made of it. Returns whether it is.
+    #[inline(always)]
+    pub fn write_again(&mut self, word: &PackedWord<'_>) -> Result<bool, LogFault>
+        requires { IsBare self.old }
+        ensures added { IfOk result (λ done. done ≡ true
+            → self.new ≡ with_write self.old word.now) }
+        ensures name { IfOk result (λ done. done ≡ true → is_name word.now ≡ true) }
+        ensures none { IfOk result (λ done. done ≡ false → self.new ≡ self.old) }
+        ensures err { OnErr result (self.new ≡ self.old) }
+        ensures never_full { result ≢ Err Full }
+    {
+        let Some(key) = self.sheet.same_read(word) else {
+            return Ok(false);
+        };
+        key.has_name();
+        self.write(key)?;
+        Ok(true)
     }
 
     /// `Empty` where the sum that is read has no term. The draft stays as it is.
@@ -205,7 +225,7 @@ impl<S: BuildHasher + Drop> Draft<S> {
     /// Adds the declared read that a word names, if it stands where such a one was found last: it
     /// is compared in place, and no key is made of it. Returns whether it does.
     #[inline(always)]
-    pub fn read_again(&mut self, minus: bool, word: &[u8]) -> Result<bool, LogFault>
+    pub fn read_again(&mut self, minus: bool, word: &PackedWord<'_>) -> Result<bool, LogFault>
         ensures added { IfOk result (λ done. done ≡ true
             → self.new ≡ with_term self.old minus (Read word.now)) }
         ensures name { IfOk result (λ done. done ≡ true → is_name word.now ≡ true) }
@@ -226,7 +246,7 @@ impl<S: BuildHasher + Drop> Draft<S> {
     /// The place of the declared write that a word names, if it stands where such a one was found
     /// last: it is compared in place, and no key is made of it.
     #[inline(always)]
-    pub fn write_place(&self, word: &[u8]) -> Option<u32>
+    pub fn write_place(&self, word: &PackedWord<'_>) -> Option<u32>
         ensures place { IfSome result (λ i. slice_get self.now.txn.writes i ≡ Some word.now) }
         ensures name { IsSome result → is_name word.now ≡ true }
     {

@@ -18,7 +18,7 @@ use crate::fault::LogFault;
 use crate::names::Names;
 use crate::row::{Action, AtomKind, StmtRow, TermRow};
 use crate::sum::AtomParts;
-use bohm_types::{Key, NameCache};
+use bohm_types::{Key, NameCache, PackedWord};
 use places::{keys_of, place_again, place_name, place_other};
 use std::alloc::Global;
 use std::hash::BuildHasher;
@@ -92,6 +92,15 @@ impl<S: BuildHasher> DraftColumns<S> {
             self.read_places.note(&key, place);
         }
         Ok(())
+    }
+
+    /// The declared read at the index that the next write gets, if a word names it.
+    #[inline(always)]
+    pub fn same_read(&self, word: &PackedWord<'_>) -> Option<Key>
+        ensures { IfSome result (λ key. key ≡ word.now) }
+    {
+        let key = self.reads.get(self.writes.len())?;
+        if key.is_word(word) { Some(*key) } else { None }
     }
 
     pub fn add_write(&mut self, key: Key) -> Result<(), LogFault>
@@ -207,7 +216,7 @@ impl<S: BuildHasher + Drop> DraftColumns<S> {
     /// The index of the declared read that a word names, if it is where the cache last found such a
     /// name.
     #[inline(always)]
-    pub fn read_place(&self, word: &[u8]) -> Option<u32>
+    pub fn read_place(&self, word: &PackedWord<'_>) -> Option<u32>
         ensures place { IfSome result
             (λ i. slice_get (parts_of self.now).reads i ≡ Some word.now) }
         ensures name { IsSome result → is_name word.now ≡ true }
@@ -218,7 +227,7 @@ impl<S: BuildHasher + Drop> DraftColumns<S> {
     /// The index of the declared write that a word names, if it is where the cache last found such
     /// a name.
     #[inline(always)]
-    pub fn write_place(&self, word: &[u8]) -> Option<u32>
+    pub fn write_place(&self, word: &PackedWord<'_>) -> Option<u32>
         ensures place { IfSome result
             (λ i. slice_get (parts_of self.now).writes i ≡ Some word.now) }
         ensures name { IsSome result → is_name word.now ≡ true }
@@ -227,8 +236,13 @@ impl<S: BuildHasher + Drop> DraftColumns<S> {
             .place_of_word(self.writes.as_slice(), word)
     }
 
-    /// Adds a term that is the declared read at an index.
-    pub fn add_read_at(&mut self, minus: bool, place: u32, name: &[u8]) -> Result<(), LogFault>
+    /// Adds a term that is the declared read at an index, which the word names.
+    pub fn add_read_at(
+        &mut self,
+        minus: bool,
+        place: u32,
+        name: &PackedWord<'_>,
+    ) -> Result<(), LogFault>
         requires place { slice_get (parts_of self.old).reads place ≡ Some name.now }
         requires compact { IsCompact (parts_of self.old) }
         ensures ok { OnOk result

@@ -8,8 +8,8 @@ use Rattle.bohm_txn.specs.Meaning.{Look}
 use Rattle.bohm_txn.specs.Serial.{state, replies}
 use Rattle.bohm_txn.proofs.ForCallers.{state-append, state-front, replies-append}
 use Rattle.bohm_store.specs.Versions.{Timeline, past}
-use Rattle.bohm_run.specs.Runs.{IsApplied}
-use Rattle.bohm_run.proofs.ForCallers.{floor_stays}
+use Rattle.bohm_apply.specs.Runs.{IsApplied}
+use Rattle.bohm_apply.proofs.ForCallers.{floor_stays}
 use Rattle.bohm_machine.specs.Machines.{GoesOn, HasRun, floor_of, now_of, past_of, top_of}
 use Rattle.bohm_machine.specs.Segments.{RunsOn}
 

@@ -10,7 +10,7 @@ use Rattle.bohm_txn.specs.Stores.{cell_in, store_after, store_of}
 use Rattle.bohm_txn.proofs.ForCallers.{length-replies}
 use Rattle.bohm_text.specs.Print.{print_answer, print_numbered, print_store}
 use Rattle.bohm_text.proofs.ForCallers.{numbered-append}
-use Rattle.bohm_run.proofs.ForCallers.{store_then}
+use Rattle.bohm_apply.proofs.ForCallers.{store_then}
 use Rattle.bohm_store.specs.Versions.{Timeline}
 use Rattle.bohm_machine.specs.Machines.{HasRun, now_of}
 use Rattle.bohm_machine.specs.Texts.{Run, GoesThrough, log_of, texts_of}

@@ -7,7 +7,7 @@ use Rattle.bohm_txn.specs.declared.outcome.Reply.{Reply}
 use Rattle.bohm_txn.specs.Meaning.{Look}
 use Rattle.bohm_txn.specs.Serial.{replies}
 use Rattle.bohm_place.specs.Cuttings.{IsEven}
-use Rattle.bohm_run.specs.Runs.{IsEndOfBatch}
+use Rattle.bohm_apply.specs.Runs.{IsEndOfBatch}
 use Rattle.bohm_machine.specs.declared.fault.SegmentFault.{SegmentFault}
 use Rattle.bohm_machine.specs.declared.fault.SegmentFault.TheVariants.{Store, Timestamps}
 use Rattle.bohm_store.specs.Versions.{Timeline}

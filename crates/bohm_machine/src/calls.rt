@@ -7,8 +7,8 @@ ghost use Rattle.bohm_types.specs.Limits.{largest_batch};
 
 use crate::fault::SegmentFault;
 use crate::machine::Machine;
+use bohm_apply::Applied;
 use bohm_procedures::Calls;
-use bohm_run::Applied;
 use std::alloc::Global;
 
 impl Machine {

@@ -8,6 +8,6 @@ mod fault;
 pub mod laws;
 mod machine;
 
-pub use bohm_run::Applied;
+pub use bohm_apply::Applied;
 pub use fault::SegmentFault;
 pub use machine::Machine;

@@ -18,10 +18,10 @@ ghost use Rattle.bohm_machine.specs.Segments.{AreWholeBatches, IsRefused, IsTake
 ghost use Rattle.bohm_types.specs.Limits.{largest_batch};
 
 use crate::fault::SegmentFault;
+use bohm_apply::{Applied, ByteSum, Cuts, Kept, LARGEST_BATCH, SerialExecutor, Settings, apply};
 use bohm_exec::OpenGate;
 use bohm_log::{DrawnSeed, HashSeed, SharedNames};
 use bohm_procedures::Calls;
-use bohm_run::{Applied, ByteSum, Cuts, Kept, LARGEST_BATCH, SerialExecutor, Settings, apply};
 use bohm_store::{History, PastFault, StoreFault};
 use bohm_txn::{Checked, Replies};
 use bohm_types::{Cell, Edition, Key, NoMemory, Value};

@@ -1,7 +1,7 @@
 -- Which fault a run has over a text that the check refuses.
-use Rattle.bohm_run.specs.Refusing.{refusal_of}
-use Rattle.bohm_run.specs.declared.fault.RunFault.{RunFault}
-use Rattle.bohm_run.specs.declared.fault.RunFault.TheVariants as run
+use Rattle.bohm_answer.specs.Refusing.{refusal_of}
+use Rattle.bohm_answer.specs.declared.fault.RunFault.{RunFault}
+use Rattle.bohm_answer.specs.declared.fault.RunFault.TheVariants as run
 use Rattle.bohm_report.specs.declared.refusal.Refusal.{Refusal}
 use Rattle.bohm_report.specs.declared.refusal.Refusal.TheVariants.{Text, Check, NoMemory}
 

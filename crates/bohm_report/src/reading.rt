@@ -2,13 +2,13 @@
 
 ghost use Rattle.std.specs.Prelude.{◌≡◌, OnOk, IfOk, IfErr};
 ghost use Rattle.bohm_report.specs.Refused.{fault_of};
-ghost use Rattle.bohm_run.specs.Given.{Given};
+ghost use Rattle.bohm_apply.specs.Given.{Given};
 ghost use Rattle.bohm_run.specs.Headline.{IsBeforeWriting, ReadsDocument, Refuses};
 
 use crate::checking::check_text;
 use crate::refusal::Refusal;
+use bohm_answer::{RunFault, read_all};
 use bohm_log::DrawnSeed;
-use bohm_run::{RunFault, read_all};
 use bohm_txn::Checked;
 use std::alloc::Global;
 use std::io::Read;

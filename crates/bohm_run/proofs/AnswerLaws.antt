@@ -6,15 +6,15 @@ use Rattle.std.specs.Io.KnownBytes.{Appends}
 use Rattle.bohm_txn.specs.Stores.{cell_in, store_of, store_after}
 use Rattle.bohm_store.specs.Versions.{past}
 use Rattle.bohm_text.specs.Print.{print_store}
-use Rattle.bohm_run.specs.Bytes.{IsWriteFault, Sends}
-use Rattle.bohm_run.specs.Given.{Given}
+use Rattle.bohm_apply.specs.Given.{Given}
+use Rattle.bohm_apply.proofs.ForCallers.{store_then}
+use Rattle.bohm_answer.specs.Bytes.{IsWriteFault, Sends}
 use Rattle.bohm_run.specs.Headline.{answer_of, time_of, Answers, IsReadable, Refuses}
 use Rattle.bohm_run.specs.Streaming.{IsLogRun}
 use Rattle.bohm_run.specs.Times.{IsReadableAt, IsUnreadable}
 use Rattle.bohm_run.specs.declared.chunks.RunState.{RunState}
-use Rattle.bohm_run.specs.declared.fault.RunFault.{RunFault}
-use Rattle.bohm_run.specs.declared.fault.RunFault.TheVariants.{Read, TooLong, Text, Check, Trimmed, Future, NoMemory, Write}
-use Rattle.bohm_run.proofs.Walks.{store_then}
+use Rattle.bohm_answer.specs.declared.fault.RunFault.{RunFault}
+use Rattle.bohm_answer.specs.declared.fault.RunFault.TheVariants.{Read, TooLong, Text, Check, Trimmed, Future, NoMemory, Write}
 
 -- the text of the replies, and then that of the store of a timestamp
 pub answer_text : (keep : ℕ) (u v : Option (List ℕ)) (s : RunState) (run : IsLogRun keep u v s) (ts : ℕ) (entered : List (List ℕ × ℤ)) (text : List ℕ)

@@ -12,12 +12,12 @@ use Rattle.bohm_store.specs.Versions.{past}
 use Rattle.bohm_text.specs.Print.{print_numbered}
 use Rattle.bohm_text.specs.Windows.{with_log}
 use Rattle.bohm_text.proofs.ForCallers.{numbered-append}
+use Rattle.bohm_apply.specs.Runs.{IsApplied}
+use Rattle.bohm_apply.proofs.ForCallers.{went_on}
 use Rattle.bohm_run.specs.declared.chunks.RunState.{RunState}
 use Rattle.bohm_run.specs.declared.checked_chunk.CheckedChunk.{CheckedChunk}
-use Rattle.bohm_run.specs.Runs.{IsApplied}
 use Rattle.bohm_run.specs.Preparing.{count_with, AreReady, IsFaultBehind}
 use Rattle.bohm_run.specs.Chunks.{IsNext, IsPartRun, IsRunTo, RunsChunk, RunsNext}
-use Rattle.bohm_run.proofs.Going.{went_on}
 
 -- ---- counts
 

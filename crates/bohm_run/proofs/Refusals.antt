@@ -5,12 +5,12 @@ use Rattle.bohm_text.specs.Cut.{whole_lines}
 use Rattle.bohm_text.specs.Faults.{IsFirstBadLine, IsShort}
 use Rattle.bohm_text.specs.declared.fault.TextFault.{TextFault}
 use Rattle.bohm_text.specs.declared.fault.TextFault.TheVariants as texts
-use Rattle.bohm_run.specs.Bytes.{ReadsAll}
-use Rattle.bohm_run.specs.Given.{Given}
+use Rattle.bohm_apply.specs.Given.{Given}
+use Rattle.bohm_answer.specs.Bytes.{ReadsAll}
 use Rattle.bohm_run.specs.Headline.{Refuses, IsBeforeWriting}
-use Rattle.bohm_run.specs.declared.fault.RunFault.{RunFault}
-use Rattle.bohm_run.specs.declared.fault.RunFault.TheVariants.{Read, TooLong, Text, Check, Trimmed, Future, NoMemory, Write}
-use Rattle.bohm_run.specs.Refusing.{refusal_of}
+use Rattle.bohm_answer.specs.declared.fault.RunFault.{RunFault}
+use Rattle.bohm_answer.specs.declared.fault.RunFault.TheVariants.{Read, TooLong, Text, Check, Trimmed, Future, NoMemory, Write}
+use Rattle.bohm_answer.specs.Refusing.{refusal_of}
 
 pub text_refused : (given : Given) (unread unread' : Option (List ℕ)) (text : List ℕ) (fault : TextFault) → ReadsAll unread unread' text
     → ((n : ℕ) → fault ≡ texts.Line n → IsFirstBadLine (whole_lines text) n) → (fault ≡ texts.Short → IsShort text)

@@ -1,20 +1,19 @@
 -- What a run over bytes reads, answers and refuses.
-use Rattle.std.specs.Prelude.{ℕ, ◌-◌, ◌<◌, ◌≤◌, List, length, take, Option, unwrap_or}
-use Rattle.std.specs.FinMap.{entries}
+use Rattle.std.specs.Prelude.{ℕ, ◌-◌, ◌<◌, ◌≤◌, List, length, Option, unwrap_or}
 use Rattle.std.specs.Io.KnownBytes.{Consumes, Appends}
 use Rattle.bohm_types.specs.Document.{Document}
 use Rattle.bohm_types.specs.Sound.{IsDocument}
 use Rattle.bohm_txn.specs.Faulty.{WellFormed, IsFirstFault}
-use Rattle.bohm_txn.specs.Serial.{replies}
-use Rattle.bohm_txn.specs.Stores.{store_of, store_after, cell_in}
 use Rattle.bohm_text.specs.Cut.{whole_lines}
 use Rattle.bohm_text.specs.Faults.{IsFirstBadLine, IsShort}
-use Rattle.bohm_text.specs.Print.{print_doc, print_answer}
+use Rattle.bohm_text.specs.Print.{print_doc}
 use Rattle.bohm_text.specs.declared.fault.TextFault.TheVariants as texts
-use Rattle.bohm_run.specs.Bytes.{ReadsAll, Sends}
-use Rattle.bohm_run.specs.Given.{Given}
-use Rattle.bohm_run.specs.declared.fault.RunFault.{RunFault}
-use Rattle.bohm_run.specs.declared.fault.RunFault.TheVariants.{Read, TooLong, Text, Check, Trimmed, Future, NoMemory, Write}
+use Rattle.bohm_apply.specs.Given.{Given}
+use Rattle.bohm_answer.specs.Bytes.{ReadsAll, Sends}
+use Rattle.bohm_answer.specs.declared.fault.RunFault.{RunFault}
+use Rattle.bohm_answer.specs.declared.fault.RunFault.TheVariants.{Read, TooLong, Text, Check, Trimmed, Future, NoMemory, Write}
+pub use Rattle.bohm_answer.specs.Answer.{answer_of}
+pub use Rattle.bohm_answer.specs.Refusing.{IsBeforeWriting}
 
 -- the timestamp whose store is printed: the one that is asked for, or the log's length
 abbrev pub time_of : Given → Document → ℕ
@@ -24,12 +23,6 @@ time_of given d = unwrap_or given.at (length d.log)
 pub record IsReadable (given : Given) (d : Document) : Type 0 where
   pub there : time_of given d ≤ length d.log
   pub kept : length d.log - given.keep ≤ time_of given d
-
--- the text of the serial run's replies, and of the store after the transactions up to a timestamp
-abbrev pub answer_of : Document → ℕ → List ℕ
-answer_of d ts =
-    let start = store_of d.store in
-    print_answer (replies (cell_in start) d.log) (entries (store_after start (take ts d.log)))
 
 -- all that was read is the text of this well-formed document
 pub record ReadsDocument (unread unread' : Option (List ℕ)) (document : Document) : Type 0 where
@@ -88,14 +81,3 @@ Refuses given unread unread' written written' Trimmed = ReadsLog unread unread' 
 Refuses given unread unread' written written' Future = ReadsLog unread unread' (λ document. length document.log < time_of given document)
 Refuses given unread unread' written written' NoMemory = Unit {0}
 Refuses given unread unread' written written' (Write sent) = StopsWriting given unread unread' written written' sent
-
--- a refusal before the writing
-abbrev pub IsBeforeWriting : RunFault → Type 0
-IsBeforeWriting Read = Unit {0}
-IsBeforeWriting TooLong = Unit {0}
-IsBeforeWriting (Text fault) = Unit {0}
-IsBeforeWriting (Check fault) = Unit {0}
-IsBeforeWriting Trimmed = Unit {0}
-IsBeforeWriting Future = Unit {0}
-IsBeforeWriting NoMemory = Unit {0}
-IsBeforeWriting (Write sent) = ⊥

@@ -11,12 +11,12 @@ use Rattle.bohm_reading.specs.declared.fault.ReadingFault.{ReadingFault}
 use Rattle.bohm_reading.specs.declared.reading.Source.{Source}
 use Rattle.bohm_reading.specs.Reading.{IsReading, ReadsOn, RefusesOn}
 use Rattle.bohm_reading.specs.InOrder.{logs_of}
+use Rattle.bohm_apply.specs.Runs.{IsHistoryOf}
 use Rattle.bohm_run.specs.declared.chunks.RunState.{RunState}
 use Rattle.bohm_run.specs.declared.reading_state.ReadingState.{ReadingState}
 use Rattle.bohm_run.specs.Chunks.{IsStarted, RunsChunk}
 use Rattle.bohm_run.specs.Headline.{ReadsDocument}
 use Rattle.bohm_run.specs.Reading.{IsTaken}
-use Rattle.bohm_run.specs.Runs.{IsHistoryOf}
 
 -- a document of this edition and log was read, and this source follows it
 pub record IsBegun (e : Edition) (txns : List Txn) (unread : Option (List ℕ)) (s : Source) (d : Document) : Type 0 where

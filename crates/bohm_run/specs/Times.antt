@@ -1,8 +1,8 @@
 -- Timestamps whose store can be printed, or can't.
 use Rattle.std.specs.Prelude.{◌≡◌, ℕ, ◌-◌, ◌<◌, ◌≤◌, unwrap_or}
-use Rattle.bohm_run.specs.Given.{Given}
-use Rattle.bohm_run.specs.declared.fault.RunFault.{RunFault}
-use Rattle.bohm_run.specs.declared.fault.RunFault.TheVariants.{Read, TooLong, Text, Check, Trimmed, Future, NoMemory, Write}
+use Rattle.bohm_apply.specs.Given.{Given}
+use Rattle.bohm_answer.specs.declared.fault.RunFault.{RunFault}
+use Rattle.bohm_answer.specs.declared.fault.RunFault.TheVariants.{Read, TooLong, Text, Check, Trimmed, Future, NoMemory, Write}
 
 -- after this many transactions the timestamp is the requested one, and it is readable
 pub record IsReadableAt (given : Given) (count ts : ℕ) : Type 0 where

@@ -1,7 +1,7 @@
 //! A log from bytes to bytes.
 
 ghost use Rattle.std.specs.Prelude.{◌≡◌, ◌<◌, ◌≤◌, ℕ, List, Option, None, IfOk, OnOk, IfErr};
-ghost use Rattle.bohm_run.specs.Given.{Given};
+ghost use Rattle.bohm_apply.specs.Given.{Given};
 ghost use Rattle.bohm_run.specs.Headline.{answer_of, Answers, Refuses};
 ghost use Rattle.bohm_run.specs.Headline.{ReadsDocument, IsBeforeWriting};
 ghost use Rattle.bohm_run.specs.Streaming.{IsLogRun};
@@ -10,11 +10,10 @@ ghost use Rattle.bohm_store.specs.Versions.{past};
 ghost use Rattle.bohm_txn.specs.Stores.{store_of, cell_in};
 ghost use Rattle.std.specs.FinMap.{entries};
 
-use crate::bytes::{read_all, write_all};
 use crate::chunks::RunState;
-use crate::fault::RunFault;
-use crate::settings::Settings;
 use crate::streaming::run_log;
+use bohm_answer::{RunFault, read_all, write_all};
+use bohm_apply::Settings;
 use bohm_log::DrawnSeed;
 use bohm_store::History;
 use bohm_text::{parse_with_seed, put_store};
@@ -113,20 +112,22 @@ fn answer(alloc: Global, state: RunState, ts: u32) -> Result<Vec<u8>, NoMemory>
 /// answer is made before the first byte is written. Every failure of a reader or a writer counts,
 /// an interrupted call too.
 ///
-/// The log is read in windows, and runs as it is read: while the transactions of a window are executed,
-/// `cc` threads parse windows behind it, and check them if there are several. One executing worker is
-/// the caller's thread: it runs the transactions in log order, without plans and batches, and reads the
-/// next windows in between. For several the next window is planned meanwhile, on one thread, so the
-/// partitions of the keys aren't used. A log of one window is read and run on the caller's thread where
-/// one worker executes. While the window that is next isn't parsed, the caller's thread parses another
-/// one where several threads do, and then blocks. Where no thread can be started, it parses all windows.
+/// The log is read in windows, and runs as it is read: while the transactions of a window are
+/// executed, `cc` threads parse windows behind it, and check them if there are several. The caller's
+/// thread runs the transactions in log order, without plans and batches, and reads the next windows
+/// in between. Several workers execute a window whose bodies have 32 statements on average, as a
+/// sample tells, or each one where the batches are smaller than the largest; then the next window is
+/// planned meanwhile, on one thread, so the partitions of the keys aren't used. A log of one window of
+/// short bodies is read and run on the caller's thread. While the window that is next isn't parsed,
+/// the caller's thread parses another one where several threads do, and then blocks. Where no thread
+/// can be started, it parses all windows.
 ///
 /// The time grows with the text and its answer, with the terms of the transactions and the keys that
 /// they declare, and with the number of the store's keys k as k log k. Parsing is spread over `cc`
-/// threads, and the sweeps over `exec` threads; all else is done by one thread, or by two where several
-/// workers execute. The memory grows with the keys of the log, with the text of the answer, and with
-/// 2 `cc` + 3 windows. A window has 128 KiB, 256 where several workers execute, or is as long as the
-/// head and the store, or as a transaction, where these are longer.
+/// threads, and the evaluation of long bodies over `exec` threads; all else is done by one thread, or
+/// by two where several workers execute. The memory grows with the keys of the log, with the text of
+/// the answer, and with 2 `cc` + 3 windows. A window has 128 KiB, 256 for several executing workers,
+/// or is as long as the head and the store, or as a transaction, where these are longer.
 pub fn run_text<T: Threads + Wait + Sync + RandomSource + Copy + Send + 'static, R: Read, W: Write>(
     rt: &T,
     alloc: Global,

@@ -4,7 +4,7 @@ ghost use Rattle.std.specs.Prelude.{◌≡◌, IfOk};
 ghost use Rattle.bohm_txn.specs.Chunked.{IsLogCheckedTo};
 ghost use Rattle.bohm_run.specs.Preparing.{count_with, IsPrepared};
 
-use crate::settings::Settings;
+use bohm_apply::{LARGEST_BATCH, Settings};
 use bohm_log::{HashSeed, Log, LogPart};
 use bohm_place::{CutLog, Cuts, Plan, plan_batches};
 use bohm_store::Seats;
@@ -12,6 +12,13 @@ use bohm_text::Chunk;
 use bohm_txn::{CheckFault, check_more};
 use bohm_types::{MOST_TXNS, NoMemory};
 use std::alloc::Global;
+
+/// From how many statements on a body takes several workers less time than one: those plan, claim and
+/// install besides, which takes as long as some thirty statements.
+const SHARED_BODY: usize = 32;
+
+/// Of how many bodies at most the lengths are looked at.
+const SAMPLED: usize = 64;
 
 /// What is known of transactions that stand behind so many others without a fault.
 #[derive(Drop)]
@@ -45,6 +52,26 @@ pub(crate) fn counted(count: usize, more: usize) -> usize
     count.saturating_add(more).min(MOST_TXNS + 1)
 }
 
+/// Whether bodies are long on average. A sample of them tells.
+fn are_long(part: &LogPart<'_>) -> bool {
+    let step = part.len() / SAMPLED + 1;
+    let (mut bodies, mut statements) = (0usize, 0usize);
+    for place in 0..SAMPLED {
+        let index = place.saturating_mul(step);
+        if index < part.len() {
+            bodies = bodies.saturating_add(1);
+            statements = statements.saturating_add(part.txn(index).body_len());
+        }
+    }
+    statements >= bodies.saturating_mul(SHARED_BODY)
+}
+
+/// Whether there are several workers that execute these transactions: where bodies are long, or
+/// smaller batches were asked for.
+fn are_shared(part: &LogPart<'_>, settings: Settings) -> bool {
+    settings.exec().count() > 1 && (settings.batch() < LARGEST_BATCH || are_long(part))
+}
+
 /// Finds what is known of transactions with this first fault that stand behind so many others, and
 /// plans them where several workers are to execute them.
 fn prepare(
@@ -63,7 +90,7 @@ fn prepare(
     if counted(count, part.len()) > MOST_TXNS {
         return Ok(Prepared::TooMany);
     }
-    if settings.exec().count() == 1 || part.len() == 0 {
+    if part.len() == 0 || !are_shared(part, settings) {
         return Ok(Prepared::Ready);
     }
     let cuts = Cuts::even(alloc, part.len() as u32, settings.batch())?;
@@ -73,9 +100,9 @@ fn prepare(
 
 impl CheckedChunk {
     /// A chunk with this first fault that stands behind so many transactions, planned in batches of the
-    /// size that the settings give where they have several executing workers. The seats are those of
-    /// its keys. The time and memory are constant, and where it is planned they grow with the number of
-    /// the log's keys, those that it kept included, and of its transactions.
+    /// size that the settings give where several workers are to execute it. The seats are those of its
+    /// keys. The time and memory are constant, and where it is planned they grow with the number of the
+    /// log's keys, those that it kept included, and of its transactions.
     pub(crate) fn new(
         alloc: Global,
         chunk: Chunk,

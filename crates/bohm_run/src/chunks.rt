@@ -7,14 +7,11 @@ ghost use Rattle.bohm_txn.specs.Chunked.{store_fault};
 ghost use Rattle.bohm_txn.specs.Stores.{cell_in, store_of};
 ghost use Rattle.bohm_store.specs.Versions.{past};
 ghost use Rattle.bohm_place.specs.Cuttings.{ArePlans};
-ghost use Rattle.bohm_run.specs.Runs.{cutting_behind};
+ghost use Rattle.bohm_apply.specs.Runs.{cutting_behind};
 ghost use Rattle.bohm_run.specs.Chunks.{IsNext, IsPartRun, IsStarted, RunsNext};
 
 use crate::checked_chunk::{CheckedChunk, Prepared, counted};
-use crate::executing::{Executor, Progress};
-use crate::serial_executor::SerialExecutor;
-use crate::settings::Settings;
-use crate::workers::ScratchPool;
+use bohm_apply::{Executor, Progress, ScratchPool, SerialExecutor, Settings};
 use bohm_exec::OpenGate;
 use bohm_log::{DrawnSeed, LogPart};
 use bohm_place::{CutLog, Cuts, Plan};
@@ -95,6 +92,29 @@ impl RunState {
     }
 }
 
+/// Runs transactions in log order, and appends the text of their replies. The list of replies is room to
+/// write in: what it held is removed. The seats are those of the transactions' log.
+fn run_to_text(
+    serial: &mut SerialExecutor,
+    history: &mut History,
+    replies: &mut Replies,
+    text: &mut Vec<u8>,
+    txns: &LogPart<'_>,
+    seats: &mut Seats,
+    keep: u32,
+) -> Result<(), NoMemory>
+    requires few { history.old.top + length txns.now ≤ MOST_TXNS }
+    requires formed { All IsWellFormedTxn txns.now }
+    ensures { OnOk result (IsPartRun history.old history.new txns.now keep (history.old.top + 1)
+        text.old.items text.new.items) }
+{
+    let first = history.top() + 1;
+    replies.clear();
+    serial.run_with(history, replies, txns, seats, keep)?;
+    put_replies(text, first as u64, replies)?;
+    Ok(())
+}
+
 /// Runs the transactions behind the history by the plans of their batches, and appends the text of
 /// their replies.
 fn run_clean<T: Threads + Sync>(
@@ -150,7 +170,8 @@ pub(crate) fn run_chunk<T: Threads + Sync>(
             Ok(())
         }
         Prepared::TooMany => Ok(()),
-        Prepared::Ready => state.serial.run_to_text(
+        Prepared::Ready => run_to_text(
+            &mut state.serial,
             &mut state.progress.history,
             &mut state.progress.replies,
             &mut state.text,

@@ -12,7 +12,7 @@ use crate::parse_task::ParseTask;
 use crate::parsers::{Parsers, most_ahead};
 use crate::parsing::Parsing;
 use crate::reading_state::ReadingState;
-use crate::settings::Settings;
+use bohm_apply::Settings;
 use bohm_log::{DrawnSeed, HashSeed, Log, SharedNames};
 use bohm_reading::{ReadingFault, next_window, take_parsed};
 use bohm_store::Seats;

@@ -6,7 +6,7 @@ ghost use Rattle.bohm_handoff.specs.Ends.{promised};
 use crate::checked_window::CheckedWindow;
 use crate::parse_task::ParseTask;
 use crate::promise::ParseOf;
-use crate::settings::Settings;
+use bohm_apply::Settings;
 use bohm_handoff::Giver;
 use bohm_types::NoMemory;
 use crossbeam_channel::{Receiver, Sender, bounded};

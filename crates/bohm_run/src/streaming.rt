@@ -3,19 +3,19 @@
 ghost use Rattle.std.specs.Prelude.{◌≡◌, [], None, IfOk, IfErr, OnOk};
 ghost use denote.Param.Send.{IsSync};
 ghost use Rattle.bohm_reading.specs.Reading.{IsReady};
+ghost use Rattle.bohm_apply.specs.Given.{Given};
 ghost use Rattle.bohm_run.specs.Chunks.{IsNext, RunsNext};
-ghost use Rattle.bohm_run.specs.Given.{Given};
 ghost use Rattle.bohm_run.specs.Headline.{Refuses, IsBeforeWriting};
 ghost use Rattle.bohm_run.specs.Reading.{HasMore, IsGoing, ReadsChunk, RefusesChunk};
 ghost use Rattle.bohm_run.specs.Streaming.{IsLogRun, RefusesLog, RunsBehind, RunsFrom};
 
 use crate::checked_chunk::CheckedChunk;
 use crate::chunks::{RunState, run_chunk};
-use crate::fault::RunFault;
 use crate::log_reader::LogReader;
 use crate::parsers::{Parsers, most_ahead};
 use crate::reading_state::ReadingState;
-use crate::settings::Settings;
+use bohm_answer::RunFault;
+use bohm_apply::Settings;
 use bohm_log::{DrawnSeed, SharedNames};
 use bohm_reading::{ReadingFault, read_first};
 use bohm_store::Seats;

@@ -4,11 +4,12 @@ ghost use Rattle.std.specs.Prelude.{◌≡◌, OnOk, IfErr, IfOk};
 ghost use Rattle.std.specs.FinMap.{entries};
 ghost use Rattle.bohm_txn.specs.Serial.{replies};
 ghost use Rattle.bohm_txn.specs.Stores.{store_of, store_after, cell_in};
-ghost use Rattle.bohm_run.specs.Given.{defaults};
+ghost use Rattle.bohm_apply.specs.Given.{defaults};
 ghost use Rattle.bohm_run.specs.Headline.{Answers, IsBeforeWriting, Refuses, answer_of, time_of};
 
+use bohm_answer::{RunFault, write_all};
 use bohm_log::DrawnSeed;
-use bohm_run::{RunFault, read_log, write_all};
+use bohm_run::read_log;
 use bohm_serial::{Answer, run};
 use bohm_text::print_answer;
 use bohm_txn::Checked;

@@ -28,7 +28,7 @@ use Rattle.bohm_store.proofs.Kept.{by_key, grown_by_key, all_settled}
 use Rattle.bohm_store.proofs.NumberedWrites.{keyed_versions, unnamed_versions, none_past, named_climb}
 
 -- the writes of the batch that follows a top
-pub listed_next : (b : Batch) (top : ℕ) (ws : List KeyedVersion) → first_of b ≡ top + 1 → ws ≡ all_txn_writes (first_of b) (base_of b) (txns_of b)
+listed_next : (b : Batch) (top : ℕ) (ws : List KeyedVersion) → first_of b ≡ top + 1 → ws ≡ all_txn_writes (first_of b) (base_of b) (txns_of b)
     → ws ≡ all_txn_writes (top + 1) (base_of b) (txns_of b)
 listed_next b top ws first listed = listed ∙ ap (λ (u : ℕ). all_txn_writes u (base_of b) (txns_of b)) first
 

@@ -1,11 +1,20 @@
 -- A line that begins with a word and a space has that word first, and behind it the words of the rest.
-use Rattle.std.proofs.Common.{◌≡◌, ℕ, ◌+◌, true, false, List, ◌∷◌, ◌++◌, length, take, drop, Some, None, refl}
+use Rattle.std.proofs.Common.{◌≡◌, ◌≢◌, ℕ, ◌+◌, Bool, true, false, List, [], ◌∷◌, ◌++◌, length, take, drop, Some, None, refl, ap, sym, ◌∙◌, arith}
+use Rattle.std.proofs.Common.{length-append}
 use Rattle.std.specs.Prelude.{Option, MatchOption, IfSome, codes, nat_eq}
 use Rattle.std.specs.Borrow.{Bor}
 use Rattle.std.specs.Cmp.Lexicographic.{pointwise}
 use Rattle.std.proofs.lemmas.Bool.Decides.{Decides-eqb}
-use Rattle.std.proofs.lemmas.Slice.Eq.{strip_prefix_is}
+use Rattle.std.specs.Cmp.{unsigned_Decides}
+use Rattle.std.specs.Str.{bytes_eq}
+use Rattle.std.proofs.lemmas.Bool.Decides.{same_from_decides}
+use Rattle.std.proofs.lemmas.List.{append-nil}
+use Rattle.std.proofs.lemmas.Slice.Eq.{bytes_eq-Decides, strip_prefix_is}
 use Rattle.bohm_text.specs.Cut.{split}
+
+none_left : (xs : List ℕ) → length xs ≡ 0 → xs ≡ []
+none_left [] e = refl
+none_left (x ∷ xs) e = absurd (omega (arith, e))
 
 pub behind_front : (line front : List ℕ) (r : Option (Bor (List ℕ)))
     → MatchOption r (pointwise nat_eq (take (length front) line) front ≡ false)
@@ -38,3 +47,22 @@ module _ (line rest : List ℕ) where
       → IfSome r (λ words. split 32 line ≡ codes "writes" ∷ split 32 words.now)
   of_writes e None h = tt
   of_writes e (Some words) h = split_writes line rest words.now e h
+
+-- a word that begins with a text is the text only if nothing follows
+pub whole_word : (word text rest : List ℕ) (none : Bool) → word ≡ text ++ rest → none ≡ nat_eq (length rest) 0 → none ≡ bytes_eq word text
+whole_word word text rest none e h = same_from_decides none (bytes_eq word text) (there, back) (bytes_eq-Decides word text)
+  where
+    there : none ≡ true → word ≡ text
+    there t = e ∙ ap (λ r. text ++ r) (none_left rest ((unsigned_Decides (length rest) 0).0 (sym h ∙ t))) ∙ append-nil text
+
+    back : word ≡ text → none ≡ true
+    back q = h ∙ (unsigned_Decides (length rest) 0).1 (omega (arith, length-append text rest, ap length e, ap length q))
+
+pub other_word : (word text : List ℕ) → ((rest : List ℕ) → word ≢ text ++ rest) → false ≡ bytes_eq word text
+other_word word text h = same_from_decides false (bytes_eq word text) (there, back) (bytes_eq-Decides word text)
+  where
+    there : false ≡ true → word ≡ text
+    there t = absurd cc
+
+    back : word ≡ text → false ≡ true
+    back q = absurd (h [] (q ∙ sym (append-nil text)))

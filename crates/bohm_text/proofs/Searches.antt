@@ -1,11 +1,11 @@
 -- The first separator, as a search of many bytes at once finds it.
 use Rattle.std.proofs.Common.{◌≡◌, ℕ, zero, suc, ◌+◌, ◌*◌, ◌%◌, ◌^◌, ◌<◌, ◌≤◌, Bool, true, false, not, List, [], ◌∷◌, cond}
-use Rattle.std.proofs.Common.{map, take, replicate, w8, length, Option, Some, None, refl, ap, sym, ◌∙◌, slice_index, arith}
+use Rattle.std.proofs.Common.{map, take, replicate, w8, length, Option, Some, None, refl, ap, sym, subst, ◌∙◌, slice_index, arith}
 use Rattle.std.specs.Prelude.{◌==◌}
 use Rattle.std.specs.List.{position_from, prefix_len}
 use Rattle.std.specs.Int.Count.{count_trailing_zeros}
 use Rattle.std.specs.Simd.Lanes.{mask_l, top, zip2}
-use Rattle.std.proofs.lemmas.List.{length-map, length-take-le}
+use Rattle.std.proofs.lemmas.List.{length-map, length-take-le, take_all}
 use Rattle.std.proofs.lemmas.Simd.{mask_l-mod, tops_compared, trailing_mask_l, zip2_splat}
 use Rattle.std.proofs.lemmas.Option.{same_Some}
 use Rattle.memchr.specs.Find.{IsFirstByte, is_byte}
@@ -82,3 +82,15 @@ module _ (c : ℕ) where
       let there : 0 < mask_l (map (is_byte c) block) = omega (arith, same, some) in
       let lowest = ap (count_trailing_zeros 64) same ∙ trailing_mask_l (is_byte c) 64 block (omega (arith, size, few)) there in
       marked n 0 bytes there ∙ ap Some (omega (arith, lowest))
+
+  pub mark_near : (n : ℕ) (bytes : List ℕ) → n ≤ 64 → n ≤ length bytes → ¬ (marks_of n (take n bytes) ≡ 0)
+      → count_trailing_zeros 64 (marks_of n (take n bytes)) < n
+  mark_near n bytes few long some =
+      let block = take n bytes in
+      let size : length block ≡ n = length-take-le n bytes long in
+      let twice : take n block ≡ block = take_all n block (omega (arith, size)) in
+      let found : position_from (is_byte c) 0 block ≡ Some (count_trailing_zeros 64 (marks_of n block)) =
+      subst (λ b. position_from (is_byte c) 0 block ≡ Some (count_trailing_zeros 64 (marks_of n b))) twice
+      (lowest_mark n block few (omega (arith, size)) (subst (λ b. ¬ (marks_of n b ≡ 0)) (sym twice) some)) in
+      let low = inside_from (is_byte c) 0 block (count_trailing_zeros 64 (marks_of n block)) found in
+      omega (arith, low, size)

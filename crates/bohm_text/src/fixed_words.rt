@@ -2,6 +2,7 @@
 //! bytes are compared as one number.
 
 ghost use Rattle.std.specs.Prelude.{◌≡◌, ◌++◌, ◌∷◌, IfSome, codes};
+ghost use Rattle.std.specs.Str.{bytes_eq};
 ghost use Rattle.bohm_text.specs.Cut.{split};
 
 /// What follows a text at the beginning of a line.
@@ -34,4 +35,15 @@ pub fn behind_equals<'a>(words: &'a [u8]) -> Option<&'a [u8]>
     ensures { IfSome result (λ rest. split 32 words.now ≡ codes "=" ∷ split 32 rest.now) }
 {
     behind(b"= ", words)
+}
+
+/// Whether a word is this one.
+#[inline(always)]
+pub fn is_word(word: &[u8], text: &[u8]) -> bool
+    ensures { result ≡ bytes_eq word.now text.now }
+{
+    match word.strip_prefix(text) {
+        Some(rest) => rest.is_empty(),
+        None => false,
+    }
 }

@@ -7,6 +7,7 @@ use bohm_types::GREATEST_LITERAL;
 
 #[inline(always)]
 fn read_digits(limit: u64, digits: &[u8]) -> Option<u64>
+    requires { limit ≤ 2 ^ 63 }
     ensures value { result ≡ digits_of limit 0 digits.now }
     ensures inside { IfSome result (λ number. number ≤ limit) }
 {
@@ -15,17 +16,21 @@ fn read_digits(limit: u64, digits: &[u8]) -> Option<u64>
         if !byte.is_ascii_digit() {
             return None;
         }
-        let next = u128::from(number) * 10 + u128::from(*byte - b'0');
-        if next > u128::from(limit) {
+        // A greater one is above the limit with any digit behind it; others are so far below 2^64.
+        if number > limit / 10 {
             return None;
         }
-        number = next as u64;
+        number = number * 10 + u64::from(*byte - b'0');
+        if number > limit {
+            return None;
+        }
     }
     Some(number)
 }
 
 #[inline(always)]
 fn read_whole(limit: u64, word: &[u8]) -> Option<u64>
+    requires { limit ≤ 2 ^ 63 }
     ensures value { result ≡ whole_of limit word.now }
     ensures inside { IfSome result (λ number. number ≤ limit) }
 {

@@ -1,6 +1,6 @@
 //! Where words and lines end. Several bytes are compared at once, since most ends are near.
 
-ghost use Rattle.std.specs.Prelude.{◌≡◌, ◌≤◌, ◌<◌, ◌==◌, IfSome, Some, length};
+ghost use Rattle.std.specs.Prelude.{◌≡◌, ◌≤◌, ◌<◌, ◌==◌, IfSome, IsSome, Some, length};
 ghost use Rattle.std.specs.List.{position_from};
 ghost use Rattle.bohm_text.specs.Parse.{newline_in};
 
@@ -43,12 +43,17 @@ pub fn newline_at(bytes: &[u8]) -> Option<usize>
     memchr(b'\n', bytes)
 }
 
-/// The first space, if it is among the first bytes.
+/// The first space, if it is among the first 8 bytes, and these are there.
 #[inline(always)]
-fn space_near(bytes: &[u8]) -> Option<usize>
-    requires { WORD_BLOCK ≤ length bytes.now }
-    ensures { IfSome result (λ at. position_from (λ byte. byte == 32) 0 bytes.now ≡ Some at) }
+pub fn space_near(bytes: &[u8]) -> Option<usize>
+    ensures first { IfSome result
+        (λ at. position_from (λ byte. byte == 32) 0 bytes.now ≡ Some at) }
+    ensures near { IfSome result (λ at. at < 8) }
+    ensures long { IsSome result → 8 ≤ length bytes.now }
 {
+    if bytes.len() < WORD_BLOCK {
+        return None;
+    }
     let block = u8x8::from_slice(bytes);
     let marks = block.simd_eq(u8x8::splat(b' ')).to_bitmask();
     if marks == 0 {
@@ -64,10 +69,8 @@ pub fn space_at(bytes: &[u8]) -> Option<usize>
     ensures first { result ≡ position_from (λ byte. byte == 32) 0 bytes.now }
     ensures inside { IfSome result (λ at. at < length bytes.now) }
 {
-    if bytes.len() >= WORD_BLOCK {
-        if let Some(at) = space_near(bytes) {
-            return Some(at);
-        }
+    if let Some(at) = space_near(bytes) {
+        return Some(at);
     }
     bytes.iter().position(|byte| *byte == b' ')
 }

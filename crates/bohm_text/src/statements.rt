@@ -14,6 +14,7 @@ ghost use Rattle.bohm_text.specs.Targets.{StandsIn, name_in};
 
 use crate::conditions::read_cond;
 use crate::fault::ReadFault;
+use crate::fixed_words::is_word;
 use crate::numbers::read_number;
 use crate::stops::Stop;
 use crate::sums::{read_last_sum, read_sum};
@@ -98,10 +99,10 @@ fn read_put(draft: &mut Draft<HashSeed>, words: &mut Words) -> Result<(), ReadFa
     requires { IsBetween draft.old }
     ensures { TakesStmt result (put_of words.old) draft.old draft.new }
 {
-    let Some(word) = words.next() else {
+    let Some(word) = words.next_packed() else {
         return Err(ReadFault::Bad);
     };
-    let Some(target) = read_target(draft, word) else {
+    let Some(target) = read_target(draft, &word) else {
         return Err(ReadFault::Bad);
     };
     if read_equals(words) {
@@ -208,17 +209,17 @@ pub fn read_stmt(draft: &mut Draft<HashSeed>, words: &mut Words) -> Result<(), R
     let Some(verb) = words.next() else {
         return Err(ReadFault::Bad);
     };
-    if verb == b"set".as_slice() {
+    if is_word(verb, b"set") {
         read_put(draft, words)
-    } else if verb == b"let".as_slice() {
+    } else if is_word(verb, b"let") {
         read_bind(draft, words)
-    } else if verb == b"need".as_slice() {
+    } else if is_word(verb, b"need") {
         read_need(draft, words)
-    } else if verb == b"show".as_slice() {
+    } else if is_word(verb, b"show") {
         read_show(draft, words)
-    } else if verb == b"drop".as_slice() {
+    } else if is_word(verb, b"drop") {
         read_remove(draft, words)
-    } else if verb == b"fail".as_slice() {
+    } else if is_word(verb, b"fail") {
         read_fail(draft, words)
     } else {
         Err(ReadFault::Bad)
@@ -243,8 +244,8 @@ pub fn read_reads(draft: &mut Draft<HashSeed>, words: &mut Words) -> Result<(), 
     requires { IsBare draft.old }
     ensures { Takes result (keys_of words.old) (with_reads draft.old) draft.new }
 {
-    'words: while let Some(word) = words.next() {
-        let Some(key) = Key::new(word) else {
+    'words: while let Some(word) = words.next_packed() {
+        let Some(key) = Key::of_word(&word) else {
             return Err(ReadFault::Bad);
         };
         draft.read(key)?;
@@ -257,11 +258,13 @@ pub fn read_writes(draft: &mut Draft<HashSeed>, words: &mut Words) -> Result<(),
     requires { IsBare draft.old }
     ensures { Takes result (keys_of words.old) (with_writes draft.old) draft.new }
 {
-    'words: while let Some(word) = words.next() {
-        let Some(key) = Key::new(word) else {
-            return Err(ReadFault::Bad);
-        };
-        draft.write(key)?;
+    'words: while let Some(word) = words.next_packed() {
+        if !draft.write_again(&word)? {
+            let Some(key) = Key::of_word(&word) else {
+                return Err(ReadFault::Bad);
+            };
+            draft.write(key)?;
+        }
     }
     Ok(())
 }

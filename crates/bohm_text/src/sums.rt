@@ -16,6 +16,7 @@ use crate::stops::{Stop, read_stop};
 use crate::terms::read_atom;
 use crate::words::Words;
 use bohm_log::{AtomParts, Draft, HashSeed, Literal};
+use bohm_types::PackedWord;
 
 /// Adds the term of an atom, unless it is a literal that has no text.
 fn add_term(draft: &mut Draft<HashSeed>, minus: bool, atom: AtomParts) -> Result<(), ReadFault>
@@ -90,25 +91,29 @@ fn take_other(draft: &mut Draft<HashSeed>, minus: bool, word: &[u8]) -> Result<(
 /// Adds the term of a word whose sign was read. A declared read that is where the cache last found
 /// it is compared in place.
 #[inline(always)]
-fn take_term(draft: &mut Draft<HashSeed>, minus: bool, word: &[u8]) -> Result<(), ReadFault>
+fn take_term(
+    draft: &mut Draft<HashSeed>,
+    minus: bool,
+    word: &PackedWord<'_>,
+) -> Result<(), ReadFault>
     ensures { Takes result (further_of minus word.now) (with_one draft.old) draft.new }
 {
     if draft.read_again(minus, word)? {
         return Ok(());
     }
-    take_other(draft, minus, word)
+    take_other(draft, minus, word.bytes())
 }
 
 /// Adds the first term, whose sign is part of the word.
 #[tactic(auto, unfolding(crate::specs::Reading::first_of, crate::specs::Reading::further_of))]
-fn take_first(draft: &mut Draft<HashSeed>, word: &[u8]) -> Result<(), ReadFault>
+fn take_first(draft: &mut Draft<HashSeed>, word: &PackedWord<'_>) -> Result<(), ReadFault>
     ensures { Takes result (first_of word.now) (with_one draft.old) draft.new }
 {
-    match word {
+    match word.bytes() {
         [] => Err(ReadFault::Bad),
         [first, atom @ ..] => {
             if *first == b'-' {
-                take_term(draft, true, atom)
+                take_term(draft, true, &PackedWord::new(atom))
             } else {
                 take_term(draft, false, word)
             }
@@ -134,10 +139,10 @@ fn read_terms(draft: &mut Draft<HashSeed>, words: &mut Words) -> Result<Stop, Re
 {
     let mut ahead = words.fork();
     'terms: while let Some(minus) = ahead.next_sign() {
-        let Some(word) = ahead.next() else {
+        let Some(word) = ahead.next_packed() else {
             return Err(ReadFault::Bad);
         };
-        take_term(draft, minus, word)?;
+        take_term(draft, minus, &word)?;
     }
     let Some(stop) = read_end(&mut ahead) else {
         return Err(ReadFault::Bad);
@@ -150,10 +155,10 @@ fn read_terms(draft: &mut Draft<HashSeed>, words: &mut Words) -> Result<Stop, Re
 pub fn read_sum(draft: &mut Draft<HashSeed>, words: &mut Words) -> Result<Stop, ReadFault>
     ensures { TakesTerms result (sum_from words.old) words.new draft.old draft.new }
 {
-    let Some(word) = words.next() else {
+    let Some(word) = words.next_packed() else {
         return Err(ReadFault::Bad);
     };
-    take_first(draft, word)?;
+    take_first(draft, &word)?;
     read_terms(draft, words)
 }
 

@@ -7,7 +7,7 @@ ghost use Rattle.bohm_log.specs.Drafting.{put_of, with_stmt};
 ghost use Rattle.bohm_text.specs.Targets.{StandsIn, name_in};
 
 use bohm_log::{Draft, HashSeed, SumFault};
-use bohm_types::{Cmp, Key};
+use bohm_types::{Cmp, Key, PackedWord};
 
 /// The key that a statement writes.
 #[derive(Drop)]
@@ -20,15 +20,15 @@ pub enum Target<'a> {
 
 /// The key that a word names.
 #[inline(always)]
-pub fn read_target<'a>(draft: &Draft<HashSeed>, word: &'a [u8]) -> Option<Target<'a>>
+pub fn read_target<'a>(draft: &Draft<HashSeed>, word: &PackedWord<'a>) -> Option<Target<'a>>
     ensures none { IfNone result (key_of word.now ≡ None) }
     ensures name { IfSome result (λ target. key_of word.now ≡ Some (name_in target)) }
     ensures stands { IfSome result (λ target. StandsIn target draft.now.txn.writes) }
 {
     if let Some(place) = draft.write_place(word) {
-        return Some(Target::Declared(place, word));
+        return Some(Target::Declared(place, word.bytes()));
     }
-    Some(Target::Named(Key::new(word)?))
+    Some(Target::Named(Key::of_word(word)?))
 }
 
 impl Target<'_> {

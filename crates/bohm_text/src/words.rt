@@ -5,7 +5,8 @@ ghost use Rattle.bohm_text.specs.Cut.{split};
 ghost use Rattle.bohm_text.specs.Signs.{begins_signed, behind_sign, sign_ahead};
 
 use crate::fixed_words::behind_equals;
-use crate::separators::space_at;
+use crate::separators::{space_at, space_near};
+use bohm_types::PackedWord;
 use std::marker::Model;
 
 /// What is left of a line: its words, with a space between two of them.
@@ -82,6 +83,20 @@ impl<'a> Words<'a> {
                 true
             }
         }
+    }
+
+    /// The next word, packed. Where it is short and 8 bytes of the line are left, they are read at once.
+    #[inline(always)]
+    pub fn next_packed(&mut self) -> Option<PackedWord<'a>>
+        ensures { MatchOption result ((self.old ≡ []) × (self.new ≡ []))
+            (λ word. self.old ≡ word ∷ self.new) }
+    {
+        let rest = self.rest?;
+        if let Some(at) = space_near(rest) {
+            self.rest = Some(&rest[at + 1..]);
+            return Some(PackedWord::front(rest, at));
+        }
+        Some(PackedWord::new(self.next()?))
     }
 
     #[inline(always)]

@@ -1,7 +1,7 @@
 -- What the program reads and writes.
 use Rattle.std.specs.Prelude.{ℕ, ◌≤◌, List, length, Option}
 use Rattle.std.specs.Io.KnownBytes.{Appends}
-use Rattle.bohm_run.specs.Bytes.{ReadsAll, Sends}
+use Rattle.bohm_answer.specs.Bytes.{ReadsAll, Sends}
 use Rattle.bohm_tidy.specs.Tidied.{IsTidied}
 
 -- all that the reader had is a text whose exact text this is, and that isn't too long

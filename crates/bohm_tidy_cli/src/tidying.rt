@@ -1,13 +1,13 @@
 //! Tidies a log from bytes to bytes.
 
 ghost use Rattle.std.specs.Prelude.{◌≡◌, ◌≤◌, ℕ, length, IfOk, IfErr, OnOk, Err};
-ghost use Rattle.bohm_run.specs.Headline.{IsBeforeWriting};
+ghost use Rattle.bohm_answer.specs.Refusing.{IsBeforeWriting};
 ghost use Rattle.bohm_tidy.specs.Tidied.{IsTidied};
 ghost use Rattle.bohm_tidy_cli.specs.Tidying.{StopsTidying, Tidies};
 
+use bohm_answer::{LONGEST_TEXT, RunFault, read_all, write_all};
 use bohm_check::{put_double, put_loose_end, put_loose_fault};
 use bohm_log::DrawnSeed;
-use bohm_run::{LONGEST_TEXT, RunFault, read_all, write_all};
 use bohm_text::TextFault;
 use bohm_tidy::{TidyFault, read_as, tidy};
 use bohm_txn::{CheckFault, CheckKind};

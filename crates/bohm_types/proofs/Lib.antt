@@ -1,3 +1,4 @@
 mod Words
 mod Sizes
 mod NameBytes
+mod Fronts

@@ -13,7 +13,8 @@ ghost use Rattle.std.specs.Int.{w64, from_be_bytes};
 ghost use Rattle.bohm_types.specs.Words.{padded, words_of};
 ghost use Rattle.bohm_types.specs.Keys.{place};
 
-use crate::packing::{mixed, short_hash_at, size_of, spread, words_of, zeros_behind};
+use crate::packed_word::PackedWord;
+use crate::packing::{mixed, short_hash_at, size_of, spread, zeros_behind};
 use std::cmp::Ordering;
 use std::hash::{Hash, Hasher};
 use std::marker::Model;
@@ -104,16 +105,45 @@ impl KeyText {
 impl Key {
     /// The key of this name, if it is one.
     #[inline(always)]
-    #[tactic(auto, using(crate::proofs::Words::new_name))]
     pub fn new(name: &[u8]) -> Option<Key>
         ensures { result ≡ key_of name.now }
     {
-        if !is_name(name) {
+        Key::of_word(&PackedWord::new(name))
+    }
+
+    /// The key of the name that a word spells, if it spells one.
+    #[inline(always)]
+    #[tactic(auto, using(crate::proofs::Words::new_name))]
+    pub fn of_word(word: &PackedWord<'_>) -> Option<Key>
+        ensures { result ≡ key_of word.now }
+    {
+        if !is_name(word.bytes()) {
             return None;
         }
         Some(Key {
-            words: words_of(name),
+            words: word.words(),
         })
+    }
+
+    /// Whether it is the name that a word spells. No `Key` is made of the word.
+    #[inline(always)]
+    pub fn is_word(&self, word: &PackedWord<'_>) -> bool
+        ensures same { result ≡ bytes_eq self.now word.now }
+        ensures name { result ≡ true → is_name word.now ≡ true }
+    {
+        if word.bytes().len() > 7 {
+            return self.is_long(word);
+        }
+        self.is_short(word.bytes(), word.first())
+    }
+
+    /// `is_word` for a word of more than 7 bytes. Few are so long: its code isn't inlined.
+    #[inline(never)]
+    fn is_long(&self, word: &PackedWord<'_>) -> bool
+        ensures same { result ≡ bytes_eq self.now word.now }
+        ensures name { result ≡ true → is_name word.now ≡ true }
+    {
+        self.is_packed(word.bytes(), &word.words())
     }
 
     /// Its bytes. They are those of a name.

@@ -10,6 +10,7 @@ mod key;
 mod limits;
 mod memory;
 mod name_cache;
+mod packed_word;
 mod packing;
 
 pub use cell::{Cell, Value};
@@ -22,3 +23,4 @@ pub use limits::{
 };
 pub use memory::NoMemory;
 pub use name_cache::NameCache;
+pub use packed_word::PackedWord;

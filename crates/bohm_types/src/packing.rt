@@ -1,6 +1,6 @@
 //! A name as four words.
 
-ghost use Rattle.std.specs.Prelude.{◌≡◌, ◌<◌, ◌≤◌, ◌/◌, List, ℕ, true, length, drop};
+ghost use Rattle.std.specs.Prelude.{◌≡◌, ◌<◌, ◌≤◌, ◌/◌, List, ℕ, true, length, drop, take};
 ghost use Rattle.std.specs.Int.{w64, from_be_bytes, trailing_zeros};
 ghost use Rattle.bohm_types.specs.Name.{is_name};
 ghost use Rattle.bohm_types.specs.Words.{padded, words_of, spread};
@@ -24,6 +24,20 @@ pub(crate) fn first_word(bytes: &[u8]) -> u64
     }
 }
 
+/// `first_word` of a text's first bytes, where 8 are there and are read at once.
+#[inline(always)]
+pub(crate) fn front_word(text: &[u8], size: usize) -> u64
+    requires short { size < 8 }
+    requires there { 8 ≤ length text.now }
+    ensures { result ≡ from_be_bytes w64 (padded 8 (take size text.now)) }
+{
+    if size == 0 {
+        return 0;
+    }
+    let shift = 64 - 8 * size as u32;
+    first_word(text) >> shift << shift
+}
+
 /// The bytes after the first 8.
 fn behind(bytes: &[u8]) -> &[u8]
     ensures { result.now ≡ drop 8 bytes.now }
@@ -42,7 +56,7 @@ fn further_word(bytes: &[u8]) -> u64
 /// The words of a name of more than 8 bytes. They are returned one by one, so that short names
 /// don't go through memory.
 #[inline(always)]
-fn long_words_of(name: &[u8]) -> [u64; 4]
+pub(crate) fn long_words_of(name: &[u8]) -> [u64; 4]
     ensures { result ≡ words_of name.now }
 {
     let second = behind(name);
@@ -54,18 +68,6 @@ fn long_words_of(name: &[u8]) -> [u64; 4]
         further_word(third),
         further_word(fourth),
     ]
-}
-
-/// The words of a name. Most names have one.
-#[inline(always)]
-#[tactic(auto, using(crate::proofs::Words::one_word))]
-pub(crate) fn words_of(name: &[u8]) -> [u64; 4]
-    ensures { result ≡ words_of name.now }
-{
-    if name.len() > 8 {
-        return long_words_of(name);
-    }
-    [first_word(name), 0, 0, 0]
 }
 
 /// The bytes of four words.

@@ -2,9 +2,9 @@ use Rattle.std.proofs.Common.{◌≡◌, ◌+◌, ◌∙◌, List, ℕ, refl, ap
 use Rattle.std.specs.Prelude.{None, length}
 use Rattle.std.proofs.lemmas.Result.{on_ok_weaker}
 use Rattle.bohm_types.specs.Txn.{Txn}
+use Rattle.bohm_apply.specs.Runs.{cutting_behind}
 use Rattle.bohm_run.specs.Preparing.{count_with, ArePlanned, AreReady, IsPrepared}
 use Rattle.bohm_run.specs.Chunks.{IsPartRun}
-use Rattle.bohm_run.specs.Runs.{cutting_behind}
 use Rattle.bohm_place.specs.Cuttings.{ArePlans}
 use Rattle.bohm_run.proofs.ChunkLaws.{next_ran, next_skipped, no_some}
 use Rattle.bohm_run.proofs.chunks.run_chunk.Goals as goal

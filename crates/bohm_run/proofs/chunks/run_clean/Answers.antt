@@ -5,8 +5,8 @@ use Rattle.bohm_txn.proofs.ForCallers.{length-replies}
 use Rattle.bohm_store.specs.Versions.{past}
 use Rattle.bohm_text.specs.Print.{print_numbered}
 use Rattle.bohm_place.specs.Cuttings.{Cutting}
-use Rattle.bohm_run.specs.Progresses.{GoesOn}
-use Rattle.bohm_run.specs.Runs.{IsApplied}
+use Rattle.bohm_apply.specs.Progresses.{GoesOn}
+use Rattle.bohm_apply.specs.Runs.{IsApplied}
 use Rattle.bohm_run.proofs.chunks.run_clean.Goals as goal
 
 pub overflow_add-first : goal.overflow_add-first

@@ -1,6 +1,6 @@
 use Rattle.std.proofs.Common.{rules, IsSome}
 use Rattle.std.proofs.lemmas.List.Elements.{All-push}
-use Rattle.bohm_run.specs.declared.plan_queue.note.PlanNote.{PlanNote}
+use Rattle.bohm_apply.specs.declared.plan_queue.note.PlanNote.{PlanNote}
 use Rattle.bohm_trials.proofs.line.take_plan.Goals as goal
 
 pub returns-clause-open : goal.returns-clause-open

@@ -1,0 +1,4 @@
+pub mod Refusing
+pub mod FaultLine
+pub mod Bytes
+pub mod Answer

@@ -1,0 +1,59 @@
+//! Reads all bytes of a reader, and writes bytes to a writer.
+
+ghost use Rattle.std.specs.Prelude.{◌≡◌, ◌<◌, ◌≤◌, List, ℕ, length, IfOk, IfErr, OnOk, Err};
+ghost use Rattle.std.specs.Io.KnownBytes.{Consumes, IsAtEnd, Appends};
+ghost use Rattle.bohm_answer.specs.Bytes.{IsReadFault, IsWriteFault};
+
+use crate::fault::RunFault;
+use bohm_reading::LONGEST_TEXT;
+use bohm_types::NoMemory;
+use std::alloc::Global;
+use std::io::{Read, Write};
+
+/// How many bytes one read asks for.
+const READ_SIZE: usize = 65_536;
+
+/// All that the reader has left. More than `LONGEST_TEXT` bytes are refused, and the rest may stay
+/// unread.
+pub fn read_all<R: Read>(alloc: Global, reader: &mut R) -> Result<Vec<u8>, RunFault>
+    ensures bytes { IfOk result
+        (λ text. Consumes (R.remaining reader.old) (R.remaining reader.new) text.items) }
+    ensures end { OnOk result (IsAtEnd (R.remaining reader.new)) }
+    ensures short { IfOk result (λ text. length text.items ≤ LONGEST_TEXT) }
+    ensures long { result ≡ Err RunFault.TooLong → (bytes : List ℕ) × (LONGEST_TEXT < length bytes)
+        × Consumes (R.remaining reader.old) (R.remaining reader.new) bytes }
+    ensures refusals { IfErr result IsReadFault }
+{
+    let mut text = Vec::new(alloc);
+    let mut buffer = [0u8; READ_SIZE];
+    'reads: while text.len() <= LONGEST_TEXT {
+        let Ok(count) = reader.read(&mut buffer) else {
+            return Err(RunFault::Read);
+        };
+        if count == 0 {
+            return Ok(text);
+        }
+        text.extend_from_slice(&buffer[..count])
+            .map_err(NoMemory::from)?;
+    }
+    Err(RunFault::TooLong)
+}
+
+/// Writes the bytes, and flushes. At an `Err` the first `sent` of them were written.
+pub fn write_all<W: Write>(writer: &mut W, bytes: &[u8]) -> Result<(), RunFault>
+    ensures ok { OnOk result (Appends (W.contents writer.old) (W.contents writer.new) bytes.now) }
+    ensures err { IfErr result
+        (IsWriteFault (W.contents writer.old) (W.contents writer.new) bytes.now) }
+{
+    let mut sent: usize = 0;
+    'writes: while sent < bytes.len() {
+        match writer.write(&bytes[sent..]) {
+            Ok(count) if count > 0 => sent += count,
+            _ => return Err(RunFault::Write { sent: sent as u64 }),
+        }
+    }
+    match writer.flush() {
+        Ok(()) => Ok(()),
+        Err(_) => Err(RunFault::Write { sent: sent as u64 }),
+    }
+}

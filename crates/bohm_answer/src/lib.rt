@@ -1,0 +1,12 @@
+//! What a run answers, or why it answers nothing: the faults and their lines, and texts that are read
+//! whole from a reader and written whole to a writer.
+#![tactic(auto)]
+
+mod bytes;
+mod fault;
+mod fault_line;
+
+pub use bohm_reading::LONGEST_TEXT;
+pub use bytes::{read_all, write_all};
+pub use fault::RunFault;
+pub use fault_line::{print_fault, write_bytes, write_fault};

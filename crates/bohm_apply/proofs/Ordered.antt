@@ -1,0 +1,27 @@
+-- Transactions that run one after another.
+use Rattle.std.proofs.Common.{◌≡◌, ◌∙◌, ℕ, ◌+◌, ◌-◌, ◌≤◌, List, [], ◌∷◌, ◌++◌, take, Some, ap, arith}
+use Rattle.std.specs.List.{slice_get}
+use Rattle.std.proofs.lemmas.List.{take_more}
+use Rattle.std.proofs.lemmas.Option.{get_or_from_slice_get, slice_get_within}
+use Rattle.bohm_types.specs.Txn.{Txn}
+use Rattle.bohm_txn.specs.declared.outcome.Reply.{Reply}
+use Rattle.bohm_txn.specs.Meaning.{body}
+use Rattle.bohm_txn.specs.Serial.{reply_of}
+use Rattle.bohm_store.specs.Nexts.{IsSettledKept}
+use Rattle.bohm_store.specs.Versions.{Timeline, past}
+use Rattle.bohm_apply.specs.Runs.{IsApplied}
+use Rattle.bohm_apply.proofs.Going.{settled_on, went_on}
+
+-- of a list the first ones, and then the next one
+next_taken : (txns : List Txn) (i : ℕ) (t : Txn) → slice_get txns i ≡ Some t → take (i + 1) txns ≡ take i txns ++ t ∷ []
+next_taken txns i t here =
+    take_more txns i t (slice_get_within txns i t here) ∙ ap (λ (x : Txn). take i txns ++ x ∷ []) (get_or_from_slice_get txns i t t here)
+
+-- a history went on by the first transactions, and then by the next one
+pub one_more : (was mid now : Timeline) (txns : List Txn) (i keep : ℕ) (t : Txn) (a : List Reply) → was.floor ≤ was.top → slice_get txns i ≡ Some t
+    → IsApplied was mid (take i txns) keep a → IsSettledKept mid now (t ∷ []) ((mid.top + 1) - keep)
+    → IsApplied was now (take (i + 1) txns) keep (a ++ reply_of (body (past mid mid.top) t) ∷ [])
+one_more was mid now txns i keep t a ordered here h settled =
+    rw (next_taken txns i t here)
+    (went_on was mid now (take i txns) (t ∷ []) keep a (reply_of (body (past mid mid.top) t) ∷ []) ordered h
+    (settled_on mid now (t ∷ []) keep (omega arith) settled))

@@ -1,0 +1,17 @@
+use Rattle.std.proofs.Common.{◌≡◌, ◌≤◌, ◌++◌, length, take}
+use Rattle.std.specs.Vec.Iter.{into_iter_items, into_iter_len}
+use Rattle.bohm_place.specs.CutLogs.{cutting_of}
+use Rattle.bohm_place.specs.Cuttings.{ahead}
+use Rattle.bohm_apply.specs.Progresses.{GoesOn}
+use Rattle.bohm_apply.proofs.executing.Executor.run_planned.Given as goal
+
+abbrev pub invariant-loop-plan : goal.invariant-loop-plan
+invariant-loop-plan g l = record {
+  items : l.yielded ++ into_iter_items l.plan-iterator ≡ l.fn.plans.items;
+  left : into_iter_len l.plan-iterator ≡ length (into_iter_items l.plan-iterator);
+  place : l.place ≡ length l.yielded;
+  low : l.place ≤ l.start;
+  start : l.start ≡ ahead (cutting_of l.log).sizes l.place;
+  keep : l.self.keep ≡ l.fn.self.keep;
+  goes : GoesOn l.fn.progress l.progress (take l.start (cutting_of l.log).log) l.fn.self.keep;
+}

@@ -1,0 +1,8 @@
+pub mod Given
+pub mod Runs
+pub mod Progresses
+pub mod Replies
+pub mod Sweeps
+pub mod Sides
+pub mod Lines
+pub mod Planning

@@ -1,0 +1,154 @@
+//! The executing side: batch after batch, as their plans come.
+
+ghost use Rattle.std.specs.Prelude.{◌≡◌, ◌+◌, ◌<◌, ◌≤◌, ◌^◌, All, length, IsSome, OnOk, OnErr};
+ghost use Rattle.bohm_txn.specs.Faulty.{IsWellFormedTxn};
+ghost use Rattle.bohm_place.specs.Noting.{MayHaveKeysOf};
+ghost use Rattle.bohm_place.specs.Plans.{IsRightPlan};
+ghost use Rattle.bohm_place.specs.CutLogs.{cutting_of};
+ghost use Rattle.bohm_place.specs.Cuttings.{ArePlans};
+ghost use Rattle.bohm_apply.specs.Lines.{IsWholeLine};
+ghost use Rattle.bohm_apply.specs.Progresses.{GoesOn, IsWalkOf, StaysPut};
+ghost use Rattle.bohm_apply.specs.Sides.{CanExecute};
+ghost use Rattle.bohm_types.specs.Limits.{largest_batch};
+
+use crate::plan_queue::{Line, PlanReceiver};
+use crate::replies::settle_batch;
+use crate::workers::{ScratchPool, finish_batch};
+use bohm_exec::Gate;
+use bohm_log::LogPart;
+use bohm_place::{CutLog, Plan};
+use bohm_store::{History, Seats};
+use bohm_txn::Replies;
+use bohm_types::NoMemory;
+use std::alloc::Global;
+use std::sync::Wait;
+use std::thread::Threads;
+
+/// A history that goes on, and the replies of the transactions that it went on by.
+#[derive(Drop)]
+pub struct Progress {
+    pub history: History,
+    pub replies: Replies,
+}
+
+/// What executes batches: the workers, where the log's keys stand in the history, and how many
+/// timestamps below a batch's end stay readable.
+#[derive(Drop)]
+pub struct Executor {
+    pub pool: ScratchPool,
+    pub seats: Seats,
+    pub keep: u32,
+}
+
+impl Executor {
+    /// Runs the batch that follows the history's top.
+    fn run_batch<G: Gate, R: Threads + Sync>(
+        &mut self,
+        rt: &R,
+        alloc: Global,
+        progress: &mut Progress,
+        txns: &LogPart<'_>,
+        plan: Plan,
+        gate: &G,
+    ) -> Result<(), NoMemory>
+        requires some { 0 < length txns.now }
+        requires few { length txns.now ≤ largest_batch }
+        requires timestamps { progress.old.history.top + 1 + length txns.now ≤ 2 ^ 32 }
+        requires formed { All IsWellFormedTxn txns.now }
+        requires first { plan.first ≡ progress.old.history.top + 1 }
+        requires right { ∥ IsRightPlan txns.now plan ∥₁ }
+        requires keys { MayHaveKeysOf txns.now plan }
+        ensures keep { self.new.keep ≡ self.old.keep }
+        ensures ok { OnOk result (GoesOn progress.old progress.new txns.now self.old.keep) }
+        ensures err { OnErr result (StaysPut progress.old progress.new) }
+    {
+        let batch = progress
+            .history
+            .batch_with(alloc, &mut self.seats, txns, plan)?;
+        let finished = finish_batch(rt, alloc, batch, &mut self.pool, gate)?;
+        settle_batch(
+            alloc,
+            &mut progress.history,
+            &mut progress.replies,
+            &mut self.seats,
+            &finished,
+            self.keep,
+        )?;
+        Ok(())
+    }
+
+    /// Runs the batches of a log by their plans. A refusal ends the run. The time grows with the number
+    /// of the transactions' terms, and with that of batches for the start of their threads.
+    #[tactic(auto, using(crate::proofs::Walks::goes_nowhere))]
+    pub fn run_planned<G: Gate, R: Threads + Sync>(
+        &mut self,
+        rt: &R,
+        alloc: Global,
+        progress: &mut Progress,
+        log: CutLog<'_>,
+        plans: Vec<Plan>,
+        gate: &G,
+    ) -> Result<(), NoMemory>
+        requires first { (cutting_of log).first ≡ progress.old.history.top + 1 }
+        requires ordered { progress.old.history.floor ≤ progress.old.history.top }
+        requires plans { ArePlans (cutting_of log) plans.items }
+        ensures keep { self.new.keep ≡ self.old.keep }
+        ensures ran { OnOk result
+            (GoesOn progress.old progress.new (cutting_of log.entry).log self.old.keep) }
+    {
+        let mut start = 0usize;
+        let mut place = 0u32;
+        for plan in plans {
+            let txns = log.batch(place, start);
+            self.run_batch(rt, alloc, progress, &txns, plan, gate)?;
+            start += txns.len();
+            place += 1;
+        }
+        Ok(())
+    }
+
+    /// Runs the batches of a log, each once its plan has come. After a refusal it executes nothing
+    /// more; after one of its own it takes what planning still sends, so that the planning side
+    /// ends.
+    pub(crate) fn run_batches<L: Line, G: Gate, R: Threads + Wait + Sync>(
+        mut self,
+        rt: &R,
+        alloc: Global,
+        receiver: &mut PlanReceiver<L>,
+        mut progress: Progress,
+        log: CutLog<'_>,
+        gate: &G,
+    ) -> (Progress, Result<(), NoMemory>)
+        requires { CanExecute L.cutting (cutting_of log) receiver.old.notes progress }
+        ensures walk { IsWalkOf progress.history (cutting_of log.entry) self.keep result }
+        ensures drained { IsWholeLine L.cutting receiver.new.notes }
+    {
+        let mut start = 0usize;
+        for place in 0..log.batches() {
+            let note = receiver.take(rt);
+            let Some(plan) = note.plan else {
+                return (progress, Err(NoMemory));
+            };
+            let txns = log.batch(place, start);
+            if let Err(refusal) = self.run_batch(rt, alloc, &mut progress, &txns, plan, gate) {
+                drain(rt, receiver, log.batches() - place - 1);
+                return (progress, Err(refusal));
+            }
+            start += txns.len();
+        }
+        (progress, Ok(()))
+    }
+}
+
+/// Takes what is left: this many notes, or up to one that says that planning was refused.
+fn drain<L: Line, R: Wait>(rt: &R, receiver: &mut PlanReceiver<L>, left: u32)
+    requires batches { length receiver.old.notes + left ≡ length L.cutting.sizes }
+    requires open { All (λ taken. IsSome taken.plan) receiver.old.notes }
+    ensures { IsWholeLine L.cutting receiver.new.notes }
+{
+    for _ in 0..left {
+        if receiver.take(rt).plan.is_none() {
+            return;
+        }
+    }
+}

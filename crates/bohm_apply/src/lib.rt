@@ -1,0 +1,28 @@
+//! Checked transactions applied to a history, batch after batch, with planning ahead of execution in a
+//! thread of its own, or in log order on one thread. The design is that of BOHM: Faleiro and Abadi,
+//! "Rethinking Serializable Multiversion Concurrency Control", VLDB 2015.
+#![tactic(auto)]
+
+mod applying;
+mod executing;
+pub mod laws;
+mod plan_queue;
+mod planning_side;
+mod replies;
+mod retention;
+mod running;
+mod serial_executor;
+mod settings;
+mod worker_counts;
+mod workers;
+
+pub use applying::{Applied, apply};
+pub use bohm_place::{ByteSum, Cuts};
+pub use executing::{Executor, Progress};
+pub use plan_queue::{Line, PlanNote, PlanReceiver, PlanSender, plan_line};
+pub use retention::Kept;
+pub use running::{Answer, run};
+pub use serial_executor::SerialExecutor;
+pub use settings::{LARGEST_BATCH, MOST_KEPT, MOST_PARTS, MOST_WORKERS, Settings};
+pub use worker_counts::{Executors, Planners};
+pub use workers::ScratchPool;

@@ -1,0 +1,78 @@
+//! A whole run of a checked log.
+
+ghost use Rattle.std.specs.Prelude.{◌≡◌, ◌+◌, ◌≤◌, length, IfOk};
+ghost use Rattle.std.specs.List.{sum};
+ghost use Rattle.bohm_txn.specs.Serial.{replies};
+ghost use Rattle.bohm_txn.specs.Stores.{cell_in, store_of};
+ghost use Rattle.bohm_store.specs.Versions.{declared_writes, total};
+ghost use Rattle.bohm_apply.specs.Runs.{IsHistoryOf};
+
+use crate::applying::{Applied, apply};
+use crate::retention::Kept;
+use crate::worker_counts::{Executors, Planners};
+use bohm_exec::Gate;
+use bohm_log::DrawnSeed;
+use bohm_place::{Cuts, Partition};
+use bohm_store::History;
+use bohm_txn::{Checked, Replies};
+use bohm_types::NoMemory;
+use std::alloc::Global;
+use std::random::RandomSource;
+use std::sync::Wait;
+use std::thread::Threads;
+
+/// The result of a run: the replies in log order, and the history that it leaves.
+#[derive(Drop)]
+pub struct Answer {
+    pub replies: Replies,
+    pub history: History,
+}
+
+/// Runs a checked log over its starting store, in batches of this cutting: opens the history of the
+/// store, and applies the log. For every number of workers, partition, cutting and gate the replies
+/// and the past, from the floor to the top, are those of running the transactions one after another
+/// in log order.
+///
+/// The workers are those of `apply`; `keep` is how many timestamps below the last batch's end stay
+/// readable. `NoMemory` where an allocation or the start of the planning side's thread failed.
+///
+/// Keys are hashed from a seed that is drawn for this run, so an author of logs can't choose
+/// colliding keys. A caller without a source of randomness opens a history and calls `apply`.
+///
+/// The time grows with the keys of the starting store and with what `apply` takes.
+pub fn run<P: Partition, G: Gate, R: Threads + Wait + Sync + RandomSource>(
+    rt: &R,
+    alloc: Global,
+    checked: &Checked,
+    cuts: &Cuts,
+    cc: Planners,
+    exec: Executors,
+    keep: Kept,
+    partition: &P,
+    gate: &G,
+) -> Result<Answer, NoMemory>
+    requires { sum cuts.now ≡ length checked.now.log }
+    ensures replies { let start = cell_in (store_of checked.now.store) in
+        IfOk result (λ a. a.replies ≡ replies start checked.now.log) }
+    ensures history { let start = cell_in (store_of checked.now.store) in
+        IfOk result (λ a. IsHistoryOf start checked.now.log keep a.history) }
+    ensures count { let given = length checked.now.store in
+        IfOk result (λ a. total a.history.chains ≤ given + declared_writes checked.now.log) }
+{
+    let mut history = History::open_with_seed(alloc, checked.store(), DrawnSeed::draw(rt))?;
+    let log = checked.log();
+    let Applied { replies, end } = apply(
+        rt,
+        alloc,
+        &mut history,
+        &log,
+        cuts,
+        cc,
+        exec,
+        keep,
+        partition,
+        gate,
+    );
+    end?;
+    Ok(Answer { replies, history })
+}

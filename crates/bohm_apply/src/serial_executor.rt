@@ -1,0 +1,233 @@
+//! Execution on one thread, in log order.
+
+ghost use Rattle.std.specs.Prelude.{◌≡◌, ◌⊎◌, ◌+◌, ◌-◌, ◌<◌, ◌≤◌, ◌^◌, ◌++◌, ◌∷◌, []};
+ghost use Rattle.std.specs.Prelude.{List, All, length, take, true, is_ok, OnOk, OnErr};
+ghost use Rattle.std.specs.List.{sum};
+ghost use Rattle.bohm_txn.specs.declared.outcome.Reply.{Reply};
+ghost use Rattle.bohm_txn.specs.Faulty.{IsWellFormedTxn};
+ghost use Rattle.bohm_txn.specs.Meaning.{body};
+ghost use Rattle.bohm_txn.specs.Serial.{replies, reply_of};
+ghost use Rattle.bohm_store.specs.Nexts.{IsSame, IsSettledKept};
+ghost use Rattle.bohm_store.specs.Versions.{past};
+ghost use Rattle.bohm_place.specs.CutLogs.{cutting_of};
+ghost use Rattle.bohm_apply.specs.Runs.{IsApplied, IsEndOfBatch, IsStillPast, IsWalked, RanSome};
+
+use crate::applying::Applied;
+use bohm_log::{LogPart, TxnView};
+use bohm_place::{CutLog, Cuts};
+use bohm_store::{History, Seats, Workspace};
+use bohm_txn::{Replies, Scratch};
+use bohm_types::NoMemory;
+use std::alloc::Global;
+use std::mem;
+
+/// Runs transactions in log order on the caller's thread. It claims nothing from others, so it plans
+/// nothing. Its memory is used again for each transaction and each log.
+pub struct SerialExecutor {
+    seats: Seats,
+    workspace: Workspace,
+    scratch: Scratch,
+}
+
+// Written out: a derived drop is proved anew in each function that drops such a value.
+impl Drop for SerialExecutor {
+    fn drop(self) {
+        let Self {
+            seats,
+            workspace,
+            scratch,
+        } = self;
+        drop(seats);
+        drop(workspace);
+        drop(scratch);
+    }
+}
+
+impl SerialExecutor {
+    pub fn new(alloc: Global) -> Result<SerialExecutor, NoMemory> {
+        Ok(SerialExecutor {
+            seats: Seats::new(alloc),
+            workspace: Workspace::new(alloc),
+            scratch: Scratch::new(alloc)?,
+        })
+    }
+
+    /// Runs the transaction that follows the history's top, and appends its reply. After an error
+    /// it ran or didn't, and has no reply.
+    fn run_next(
+        &mut self,
+        history: &mut History,
+        replies: &mut Replies,
+        txn: &TxnView<'_>,
+        keep: u32,
+    ) -> Result<(), NoMemory>
+        requires well { IsWellFormedTxn txn.now }
+        requires timestamp { history.old.top + 1 < 2 ^ 32 }
+        ensures settled { OnOk result (IsSettledKept history.old history.new (txn.now ∷ [])
+            ((history.old.top + 1) - keep)) }
+        ensures reply { OnOk result (replies.new
+            ≡ replies.old ++ reply_of (body (past history.old history.old.top) txn.now) ∷ []) }
+        ensures tried { OnErr result (IsSame history.old history.new
+            ⊎ IsSettledKept history.old history.new (txn.now ∷ []) ((history.old.top + 1) - keep)) }
+        ensures unanswered { OnErr result (replies.new ≡ replies.old) }
+    {
+        let outcome = history.run_next(
+            txn,
+            keep,
+            &mut self.seats,
+            &mut self.workspace,
+            &mut self.scratch,
+        )?;
+        replies.push(outcome, self.scratch.shows())?;
+        Ok(())
+    }
+
+    /// Runs the transactions that follow the history's top, all of one log, and appends their
+    /// replies. After a transaction that ends at e the floor becomes `e - keep`, or stays where it
+    /// is above that.
+    ///
+    /// Where an allocation fails, some of the transactions have run, and some replies may have come.
+    /// The time grows with the number of the transactions' terms.
+    pub fn run(
+        &mut self,
+        history: &mut History,
+        answered: &mut Replies,
+        txns: &LogPart<'_>,
+        keep: u32,
+    ) -> Result<(), NoMemory>
+        requires ordered { history.old.floor ≤ history.old.top }
+        requires timestamps { history.old.top + length txns.now < 2 ^ 32 }
+        requires formed { All IsWellFormedTxn txns.now }
+        ensures applied { OnOk result (IsApplied history.old history.new txns.now keep
+            (replies (past history.old history.old.top) txns.now)) }
+        ensures answered { OnOk result
+            (answered.new ≡ answered.old ++ replies (past history.old history.old.top) txns.now) }
+        ensures some { OnErr result (RanSome history.old history.new txns.now keep) }
+        ensures behind { OnErr result
+            ((more : List Reply) × (answered.new ≡ answered.old ++ more)) }
+    {
+        self.seats.cover(txns.keys().names())?;
+        answered.reserve(txns.len())?;
+        for index in 0..txns.len() {
+            self.run_next(history, answered, &txns.txn(index), keep)?;
+        }
+        Ok(())
+    }
+
+    /// The same, with the seats of the transactions' log, which come back with the numbers that were
+    /// found. After an error there are others in their place.
+    pub fn run_with(
+        &mut self,
+        history: &mut History,
+        answered: &mut Replies,
+        txns: &LogPart<'_>,
+        seats: &mut Seats,
+        keep: u32,
+    ) -> Result<(), NoMemory>
+        requires ordered { history.old.floor ≤ history.old.top }
+        requires timestamps { history.old.top + length txns.now < 2 ^ 32 }
+        requires formed { All IsWellFormedTxn txns.now }
+        ensures applied { OnOk result (IsApplied history.old history.new txns.now keep
+            (replies (past history.old history.old.top) txns.now)) }
+        ensures answered { OnOk result
+            (answered.new ≡ answered.old ++ replies (past history.old history.old.top) txns.now) }
+        ensures some { OnErr result (RanSome history.old history.new txns.now keep) }
+        ensures behind { OnErr result
+            ((more : List Reply) × (answered.new ≡ answered.old ++ more)) }
+    {
+        mem::swap(&mut self.seats, seats);
+        self.run(history, answered, txns, keep)?;
+        mem::swap(&mut self.seats, seats);
+        Ok(())
+    }
+
+    /// Runs a batch that follows the history's top, and appends its replies. An error changes
+    /// nothing that is seen.
+    fn run_batch(
+        &mut self,
+        history: &mut History,
+        answered: &mut Replies,
+        txns: &LogPart<'_>,
+        keep: u32,
+    ) -> Result<(), NoMemory>
+        requires some { 0 < length txns.now }
+        requires ordered { history.old.floor ≤ history.old.top }
+        requires timestamps { history.old.top + length txns.now < 2 ^ 32 }
+        requires formed { All IsWellFormedTxn txns.now }
+        ensures applied { OnOk result
+            (IsApplied history.old history.new txns.now keep
+            (replies (past history.old history.old.top) txns.now)) }
+        ensures answered { OnOk result
+            (answered.new ≡ answered.old ++ replies (past history.old history.old.top) txns.now) }
+        ensures same { OnErr result (IsStillPast history.old history.new) }
+        ensures unanswered { OnErr result (answered.new ≡ answered.old) }
+    {
+        let (top, count) = (history.top(), answered.len());
+        // All of the batch's versions stay until its end, so that they can be taken back.
+        if let Err(refusal) = self.run(history, answered, txns, u32::MAX) {
+            history.rewind(top);
+            answered.truncate(count);
+            return Err(refusal);
+        }
+        history.trim(history.top().saturating_sub(keep));
+        Ok(())
+    }
+
+    /// Runs batch after batch, up to one that is refused.
+    fn run_batches(
+        &mut self,
+        history: &mut History,
+        answered: &mut Replies,
+        log: CutLog<'_>,
+        keep: u32,
+    ) -> Result<(), NoMemory>
+        requires first { (cutting_of log).first ≡ history.old.top + 1 }
+        requires ordered { history.old.floor ≤ history.old.top }
+        requires unanswered { answered.old ≡ [] }
+        ensures { IsWalked history.old history.new (cutting_of log.entry) keep answered.new
+            (is_ok result) }
+    {
+        let mut start = 0usize;
+        for place in 0..log.batches() {
+            let txns = log.batch(place, start);
+            self.run_batch(history, answered, &txns, keep)?;
+            start += txns.len();
+        }
+        Ok(())
+    }
+
+    /// Applies the transactions to a history as `apply` does, on the caller's thread alone, for
+    /// callers that can start no threads.
+    ///
+    /// Where an allocation fails, the history stands at the end of a batch, and the replies up to
+    /// there are returned: nothing is lost, and the rest can be applied again. The time grows with
+    /// the number of the transactions' terms, and where an allocation fails with the number of the
+    /// history's keys too.
+    pub fn apply(
+        &mut self,
+        alloc: Global,
+        history: &mut History,
+        txns: &LogPart<'_>,
+        cuts: &Cuts,
+        keep: u32,
+    ) -> Applied
+        requires total { sum cuts.now ≡ length txns.now }
+        requires timestamps { history.old.top + length txns.now < 2 ^ 32 }
+        requires formed { All IsWellFormedTxn txns.now }
+        ensures applied { IsApplied history.old history.new
+            (take (length result.replies) txns.now) keep result.replies }
+        ensures batches { IsEndOfBatch cuts.now (length result.replies) }
+        ensures whole { is_ok result.end ≡ true → length result.replies ≡ length txns.now }
+    {
+        let mut replies = Replies::new(alloc);
+        if txns.len() == 0 {
+            return Applied {
+                replies,
+                end: Ok(()),
+            };
+        }
+        let log = CutLog::new(history.top() + 1, txns, cuts);
+        let end = self.run_batches(history, &mut replies, log, keep);
+        Applied { replies, end }
+    }
+}

@@ -1,0 +1,132 @@
+//! Executes a batch by workers that run in parallel.
+
+ghost use Rattle.std.specs.Prelude.{◌≡◌, ℕ, ◌<◌, ◌≤◌, All, IfOk, length, slice_index_or, vec_len};
+ghost use denote.Param.Send.{IsSync};
+ghost use Rattle.bohm_board.specs.Passes.{IsPassOf, HoldsNothing, batch_of, view};
+ghost use Rattle.bohm_exec.specs.Answers.{batch_of_finished};
+ghost use Rattle.bohm_apply.specs.Sweeps.{workers_of, IsReady, IsSwept, AreAllSwept};
+
+mod job;
+mod scratch_pool;
+
+use bohm_board::{Batch, Board, Pass};
+use bohm_exec::{Aside, Finished, Gate, complete};
+use bohm_types::NoMemory;
+use job::{Job, Swept, work};
+pub(crate) use job::{Worker, sweep_share};
+pub use scratch_pool::ScratchPool;
+use std::alloc::Global;
+use std::thread;
+use std::thread::Threads;
+
+/// A job for each worker, with a pass of its own, and the pass that is left.
+fn deal(
+    alloc: Global,
+    board: &Board,
+    mut pass: Pass,
+    pool: &mut ScratchPool,
+    workers: u32,
+) -> Result<(Pass, Vec<Job>), NoMemory>
+    requires own { IsPassOf board.now pass }
+    requires free { HoldsNothing (view pass) }
+    requires scratches { workers ≤ vec_len pool.old.scratches }
+    ensures own { IfOk result (λ r. IsPassOf board.now r.0) }
+    ensures free { IfOk result (λ r. HoldsNothing (view r.0)) }
+    ensures count { IfOk result (λ r. length r.1.items ≡ workers) }
+    ensures ready { IfOk result (λ r. All (IsReady board.now) r.1.items) }
+    ensures workers { IfOk result (λ r. (w : ℕ) (d : _) → w < workers
+        → (slice_index_or r.1.items w d).worker ≡ record { number = w; count = workers }) }
+    ensures pool { workers_of pool.new ≡ workers_of pool.old }
+{
+    let mut jobs = Vec::with_capacity(alloc, workers as usize)?;
+    for number in 0..workers {
+        let (rest, own) = board.split(pass);
+        pass = rest;
+        jobs.push(Job {
+            worker: Worker {
+                number,
+                count: workers,
+            },
+            pass: own,
+            scratch: pool.take(),
+        })?;
+    }
+    Ok((pass, jobs))
+}
+
+/// Carries each job out, in a thread of its own where there is more than one.
+fn sweep_all<G: Gate, R: Threads + Sync>(
+    rt: &R,
+    alloc: Global,
+    board: &Board,
+    jobs: Vec<Job>,
+    gate: &G,
+) -> Result<Vec<Swept>, NoMemory>
+    requires { All (IsReady board.now) jobs.items }
+    ensures count { IfOk result (λ all. length all.items ≡ length jobs.items) }
+    ensures each { IfOk result (λ all. (w : ℕ) (d : _) (e : _) → w < length jobs.items
+        → IsSwept board.now (slice_index_or jobs.items w d).worker (slice_index_or all.items w e)) }
+{
+    let swept = thread::map_vec(
+        rt,
+        jobs,
+        &|job: Job| -> Swept
+            requires { IsSync G.row × IsReady board.now job }
+            ensures { IsSwept board.entry.now job.worker result }
+        { work(alloc, board, job, gate) },
+    )?;
+    Ok(swept)
+}
+
+/// Joins the passes of the workers, and gathers what they deferred.
+fn gather(
+    alloc: Global,
+    board: &Board,
+    mut pass: Pass,
+    swept: Vec<Swept>,
+    pool: &mut ScratchPool,
+) -> Result<(Pass, Vec<Aside>), NoMemory>
+    requires own { IsPassOf board.now pass }
+    requires free { HoldsNothing (view pass) }
+    requires some { 0 < length swept.items }
+    requires each { let count = length swept.items in (w : ℕ) (d : _) → w < count
+        → IsSwept board.now (record { number = w; count = count }) (slice_index_or swept.items w d) }
+    ensures own { IfOk result (λ r. IsPassOf board.now r.0) }
+    ensures free { IfOk result (λ r. HoldsNothing (view r.0)) }
+    ensures all { IfOk result (λ r. AreAllSwept (batch_of board.now) (view r.0) r.1.items) }
+    ensures pool { workers_of pool.new ≡ workers_of pool.old }
+{
+    let mut asides = Vec::with_capacity(alloc, swept.len())?;
+    for one in swept {
+        pool.give_back(one.scratch)?;
+        pass = board.join(pass, one.pass);
+        asides.push(one.aside?)?;
+    }
+    Ok((pass, asides))
+}
+
+/// Executes a batch by a pool of workers, or by as many as it has transactions where those are
+/// fewer. Each sweeps its share of the positions in a thread of its own, and then once more what it
+/// deferred; a single one takes no thread. What is left then is evaluated in log order.
+///
+/// A worker whose allocation fails ends, and the others end their shares. An error drops the batch,
+/// with the scratches of workers that weren't gathered yet.
+pub fn finish_batch<'a, G: Gate, R: Threads + Sync>(
+    rt: &R,
+    alloc: Global,
+    batch: Batch<'a>,
+    pool: &mut ScratchPool,
+    gate: &G,
+) -> Result<Finished<'a>, NoMemory>
+    ensures batch { IfOk result (λ f. batch_of_finished f ≡ batch.entry) }
+    ensures pool { workers_of pool.new ≡ workers_of pool.old }
+{
+    let workers = pool.workers().min(batch.len());
+    pool.fill(alloc, workers)?;
+    let (board, pass) = Board::open(alloc, batch)?;
+    let (pass, jobs) = deal(alloc, &board, pass, pool, workers)?;
+    let swept = sweep_all(rt, alloc, &board, jobs, gate)?;
+    let (pass, asides) = gather(alloc, &board, pass, swept, pool)?;
+    let closed = board.close(pass);
+    Ok(complete(closed, &asides, &mut pool.last))
+}

@@ -1,0 +1,86 @@
+//! A pool of the scratch memory of a run's workers.
+
+ghost use Rattle.std.specs.Prelude.{◌≡◌, ◌+◌, ◌<◌, ◌≤◌, IfOk, OnOk, vec_len};
+
+use crate::worker_counts::Executors;
+use bohm_txn::Scratch;
+use bohm_types::NoMemory;
+use std::alloc::Global;
+
+/// The scratches of a number of workers, which are made once and go through all batches of a run. A
+/// batch of fewer transactions takes no more than it has.
+pub struct ScratchPool {
+    count: u32,
+    // As many as a batch has needed so far.
+    scratches: Vec<Scratch>,
+    // For what the workers leave.
+    pub(crate) last: Scratch,
+    ghost some: { 0 < count },
+}
+
+// Written out: a derived drop is proved anew in each function that drops such a value.
+impl Drop for ScratchPool {
+    fn drop(self) {
+        let Self {
+            count: _,
+            scratches,
+            last,
+        } = self;
+        drop(scratches);
+        drop(last);
+    }
+}
+
+impl ScratchPool {
+    ghost use Rattle.bohm_apply.specs.Sweeps.{workers_of};
+
+    /// For this many workers.
+    pub fn new(alloc: Global, executors: Executors) -> Result<ScratchPool, NoMemory>
+        ensures { IfOk result (λ pool. workers_of pool ≡ executors) }
+    {
+        Ok(ScratchPool {
+            count: executors.count(),
+            scratches: Vec::new(alloc),
+            last: Scratch::new(alloc)?,
+        })
+    }
+
+    /// The number of workers.
+    pub fn workers(&self) -> u32
+        ensures count { result ≡ workers_of self.now }
+        ensures some { 0 < result }
+    {
+        self.count
+    }
+
+    /// Makes the scratches that this many workers lack.
+    pub(crate) fn fill(&mut self, alloc: Global, workers: u32) -> Result<(), NoMemory>
+        ensures count { workers_of self.new ≡ workers_of self.old }
+        ensures full { OnOk result (workers ≤ vec_len self.new.scratches) }
+    {
+        while self.scratches.len() < workers as usize {
+            self.scratches.push(Scratch::new(alloc)?)?;
+        }
+        Ok(())
+    }
+
+    /// Takes the scratch of one worker out.
+    pub(crate) fn take(&mut self) -> Scratch
+        requires { 0 < vec_len self.old.scratches }
+        ensures count { workers_of self.new ≡ workers_of self.old }
+        ensures rest { vec_len self.new.scratches + 1 ≡ vec_len self.old.scratches }
+    {
+        match self.scratches.pop() {
+            Some(scratch) => scratch,
+            None => unreachable!(),
+        }
+    }
+
+    /// Takes it back.
+    pub(crate) fn give_back(&mut self, scratch: Scratch) -> Result<(), NoMemory>
+        ensures count { workers_of self.new ≡ workers_of self.old }
+    {
+        self.scratches.push(scratch)?;
+        Ok(())
+    }
+}

@@ -1,5 +1,0 @@
-use Rattle.bohm_run.specs.Runs.{cutting_behind}
-use Rattle.bohm_run.proofs.applying.apply.Given as goal
-
-abbrev pub ghosts-apply_on : goal.ghosts-apply_on
-ghosts-apply_on g a = record { cutting = cutting_behind a.history a.txns.now a.cuts.now }

@@ -1,5 +1,0 @@
-use Rattle.bohm_run.proofs.Going.{went_on}
-use Rattle.bohm_run.proofs.laws.applied_twice.Goals as goal
-
-pub returns : goal.returns
-returns c = went_on

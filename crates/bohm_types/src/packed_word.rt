@@ -1,0 +1,101 @@
+//! A word of a text, packed so that names are compared with it in place.
+
+ghost use Rattle.std.specs.Prelude.{◌≡◌, ◌<◌, ◌≤◌, length, take};
+ghost use Rattle.std.specs.Int.{w64, from_be_bytes};
+ghost use Rattle.bohm_types.specs.Words.{padded, words_of};
+
+use crate::packing::{first_word, front_word, long_words_of, short_hash_at, short_hash_of};
+use std::marker::Model;
+
+/// A word, and its first 8 bytes as a number: most significant byte first, padded with zeros. It
+/// borrows the text.
+#[derive(Drop)]
+pub struct PackedWord<'a> {
+    bytes: &'a [u8],
+    first: u64,
+}
+
+impl<'a> Model for PackedWord<'a> {
+    ghost use Rattle.std.specs.Prelude.{◌≡◌, ℕ, List};
+    ghost use Rattle.std.specs.Int.{w64, from_be_bytes};
+    ghost use Rattle.bohm_types.specs.Words.{padded};
+
+    ghost Value = { List ℕ };
+
+    ghost view = { λ w. w.bytes.now };
+
+    ghost invariant = { λ w. w.first ≡ from_be_bytes w64 (padded 8 w.bytes.now) };
+}
+
+impl<'a> PackedWord<'a> {
+    /// The word of these bytes.
+    #[inline(always)]
+    pub fn new(bytes: &'a [u8]) -> PackedWord<'a>
+        ensures { result ≡ bytes.now }
+    {
+        PackedWord {
+            bytes,
+            first: first_word(bytes),
+        }
+    }
+
+    /// The word of a text's first bytes, fewer than 8. As 8 are there, they are read at once.
+    #[inline(always)]
+    pub fn front(text: &'a [u8], size: usize) -> PackedWord<'a>
+        requires short { size < 8 }
+        requires there { 8 ≤ length text.now }
+        ensures { result ≡ take size text.now }
+    {
+        PackedWord {
+            bytes: &text[..size],
+            first: front_word(text, size),
+        }
+    }
+
+    /// Its bytes.
+    #[inline(always)]
+    pub fn bytes(&self) -> &'a [u8]
+        ensures { result.now ≡ self.now }
+    {
+        self.bytes
+    }
+
+    /// Its first 8 bytes as a number.
+    #[inline(always)]
+    pub(crate) fn first(&self) -> u64
+        ensures { result ≡ from_be_bytes w64 (padded 8 self.now) }
+    {
+        self.first
+    }
+
+    /// Its words, as a key has them. Most have one.
+    #[inline(always)]
+    #[tactic(auto, using(crate::proofs::Words::one_word))]
+    pub(crate) fn words(&self) -> [u64; 4]
+        ensures { result ≡ words_of self.now }
+    {
+        if self.bytes.len() > 8 {
+            return long_words_of(self.bytes);
+        }
+        [self.first, 0, 0, 0]
+    }
+
+    /// The short hash of the key that it spells, if it spells one.
+    #[inline(always)]
+    pub(crate) fn short_hash(&self) -> usize
+        ensures { result < 256 }
+    {
+        if self.bytes.len() > 7 {
+            return self.long_hash();
+        }
+        short_hash_of(self.first)
+    }
+
+    /// `short_hash` of a word of more than 7 bytes. Few are so long: its code isn't inlined.
+    #[inline(never)]
+    fn long_hash(&self) -> usize
+        ensures { result < 256 }
+    {
+        short_hash_at(&self.words())
+    }
+}
