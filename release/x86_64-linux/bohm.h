@@ -23,7 +23,7 @@
 
 /* The version, and the checksum of the sources that the library is built from. */
 #define BOHM_VERSION "0.1.0"
-#define BOHM_SOURCES "8f806b753708929c74753406db2d05f7d34233b5e047c84886757fbbcade32dc"
+#define BOHM_SOURCES "69429b5440d9e36fc0ff3126afe646993550ac80b0d66c34d59174e50de1d739"
 
 /* The same, of the library that the program is linked with. */
 extern const char bohm_version[16], bohm_sources[65];

@@ -1,7 +1,11 @@
 -- Bytes written in parts, and a part of which the writer refused some.
-use Rattle.std.proofs.Common.{List, ℕ, [], ◌++◌, Result, Ok, Err, Some, None, OnOk, OnErr, sym, ap, ◌∙◌, append_assoc, append-nil}
+use Rattle.std.proofs.Common.{List, ℕ, ◌+◌, ◌-◌, ◌++◌, length, take, drop, Result, Ok, Err, Some, None, OnOk, OnErr}
+use Rattle.std.proofs.Common.{sym, ap, ◌≡◌, ◌∙◌, append_assoc, arith, length-drop}
 use Rattle.std.specs.Prelude.{Option}
-use Rattle.std.specs.Io.KnownBytes.{Appends, Keeps}
+use Rattle.std.proofs.lemmas.List.{take_all, take-append-drop}
+use Rattle.std.proofs.Math.Seq.{take-add}
+use Rattle.std.specs.Io.KnownBytes.{Appends}
+use Rattle.bohm_answer.specs.Bytes.{Sends}
 use Rattle.bohm_answer.specs.FaultLine.{AppendsFront}
 
 pub joined : (a b c : Option (List ℕ)) (x y : List ℕ) → Appends a b x → Appends b c y → Appends a c (x ++ y)
@@ -9,18 +13,6 @@ joined None b c x y first then = tt
 joined (Some xs) None c x y first then = absurd first
 joined (Some xs) (Some ys) None x y first then = then
 joined (Some xs) (Some ys) (Some zs) x y first then = then ∙ ap (λ (w : List ℕ). w ++ y) first ∙ append_assoc xs x y
-
-pub kept : (a b c : Option (List ℕ)) (x : List ℕ) → Appends a b x → Keeps b c → Appends a c x
-kept None b c x first same = tt
-kept (Some xs) None c x first same = absurd first
-kept (Some xs) (Some ys) None x first same = same
-kept (Some xs) (Some ys) (Some zs) x first same = same ∙ first
-
-pub nothing_more : (a b c : Option (List ℕ)) (x : List ℕ) → Appends a b x → Appends b c [] → Appends a c x
-nothing_more None b c x first then = tt
-nothing_more (Some xs) None c x first then = absurd first
-nothing_more (Some xs) (Some ys) None x first then = then
-nothing_more (Some xs) (Some ys) (Some zs) x first then = then ∙ append-nil ys ∙ first
 
 pub wider : (a b : Option (List ℕ)) (x y : List ℕ) → AppendsFront a b x → AppendsFront a b (x ++ y)
 wider a b x y h = record { front = h.front; rest = h.rest ++ y; whole = ap (λ (w : List ℕ). w ++ y) h.whole ∙ append_assoc h.front h.rest y; wrote = h.wrote }
@@ -45,3 +37,23 @@ module _ {A E : Type 0} (a b c : Option (List ℕ)) (x y : List ℕ) (first : Ap
   pub then_err : (r : Result A E) → OnErr r (AppendsFront b c y) → OnErr r (AppendsFront a c (x ++ y))
   then_err (Ok v) h = tt
   then_err (Err e) h = behind a b c x y first h
+
+-- some of the bytes that are left
+pub appends_more : (old mid new : Option (List ℕ)) (sent n : ℕ) (bytes : List ℕ) → Appends old mid (take sent bytes)
+    → Appends mid new (take n (take (length bytes - sent) (drop sent bytes))) → Appends old new (take (sent + n) bytes)
+appends_more None mid new sent n bytes before now = tt
+appends_more (Some xs) None new sent n bytes before now = absurd before
+appends_more (Some xs) (Some ys) None sent n bytes before now = now
+appends_more (Some xs) (Some ys) (Some zs) sent n bytes before now =
+    let rest : take (length bytes - sent) (drop sent bytes) ≡ drop sent bytes =
+    take_all (length bytes - sent) (drop sent bytes) (omega (arith, length-drop sent bytes)) in
+    now ∙ (ap (λ (w : List ℕ). w ++ take n (take (length bytes - sent) (drop sent bytes))) before
+    ∙ rw (rest, take-add sent n bytes) (append_assoc xs (take sent bytes) (take n (drop sent bytes))))
+
+pub sent_front : (a b : Option (List ℕ)) (bytes : List ℕ) (sent : ℕ) → Sends a b bytes sent → AppendsFront a b bytes
+sent_front a b bytes sent h = record {
+  front = take sent bytes;
+  rest = drop sent bytes;
+  whole = sym (take-append-drop {A = ℕ} sent bytes);
+  wrote = h.wrote;
+}

@@ -1,14 +1,14 @@
-//! Reads all bytes of a reader, and writes bytes to a writer.
+//! Reads all bytes of a reader.
 
 ghost use Rattle.std.specs.Prelude.{◌≡◌, ◌<◌, ◌≤◌, List, ℕ, length, IfOk, IfErr, OnOk, Err};
-ghost use Rattle.std.specs.Io.KnownBytes.{Consumes, IsAtEnd, Appends};
-ghost use Rattle.bohm_answer.specs.Bytes.{IsReadFault, IsWriteFault};
+ghost use Rattle.std.specs.Io.KnownBytes.{Consumes, IsAtEnd};
+ghost use Rattle.bohm_answer.specs.Bytes.{IsReadFault};
 
 use crate::fault::RunFault;
 use bohm_reading::LONGEST_TEXT;
 use bohm_types::NoMemory;
 use std::alloc::Global;
-use std::io::{Read, Write};
+use std::io::Read;
 
 /// How many bytes one read asks for.
 const READ_SIZE: usize = 65_536;
@@ -37,23 +37,4 @@ pub fn read_all<R: Read>(alloc: Global, reader: &mut R) -> Result<Vec<u8>, RunFa
             .map_err(NoMemory::from)?;
     }
     Err(RunFault::TooLong)
-}
-
-/// Writes the bytes, and flushes. At an `Err` the first `sent` of them were written.
-pub fn write_all<W: Write>(writer: &mut W, bytes: &[u8]) -> Result<(), RunFault>
-    ensures ok { OnOk result (Appends (W.contents writer.old) (W.contents writer.new) bytes.now) }
-    ensures err { IfErr result
-        (IsWriteFault (W.contents writer.old) (W.contents writer.new) bytes.now) }
-{
-    let mut sent: usize = 0;
-    'writes: while sent < bytes.len() {
-        match writer.write(&bytes[sent..]) {
-            Ok(count) if count > 0 => sent += count,
-            _ => return Err(RunFault::Write { sent: sent as u64 }),
-        }
-    }
-    match writer.flush() {
-        Ok(()) => Ok(()),
-        Err(_) => Err(RunFault::Write { sent: sent as u64 }),
-    }
 }

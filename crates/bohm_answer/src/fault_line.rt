@@ -6,12 +6,13 @@ ghost use Rattle.bohm_answer.specs.FaultLine.{AppendsFront, check_words, fault_l
 ghost use Rattle.bohm_answer.specs.FaultLine.{fault_words, kind_word, spaced_decimal};
 
 use crate::fault::RunFault;
+use crate::sending::write_bytes;
 use bohm_text::TextFault;
 use bohm_txn::{CheckFault, CheckKind};
 use bohm_types::NoMemory;
 use itoa::Buffer;
 use std::alloc::Global;
-use std::io::{self, ErrorKind, Write};
+use std::io::{self, Write};
 
 fn word_of(kind: CheckKind) -> &'static str
     ensures { result.now ≡ kind_word kind }
@@ -23,23 +24,6 @@ fn word_of(kind: CheckKind) -> &'static str
         CheckKind::Local => "local",
         CheckKind::Limit => "limit",
     }
-}
-
-/// Writes the bytes. If the writer fails, it holds a beginning of them.
-pub fn write_bytes<W: Write>(writer: &mut W, bytes: &[u8]) -> io::Result<()>
-    ensures ok { OnOk result (Appends (W.contents writer.old) (W.contents writer.new) bytes.now) }
-    ensures err { OnErr result
-        (AppendsFront (W.contents writer.old) (W.contents writer.new) bytes.now) }
-{
-    let mut sent: usize = 0;
-    'writes: while sent < bytes.len() {
-        match writer.write(&bytes[sent..]) {
-            Ok(0) => return Err(io::Error::from(ErrorKind::WriteZero)),
-            Ok(count) => sent += count,
-            Err(error) => return Err(error),
-        }
-    }
-    Ok(())
 }
 
 /// Writes a space and a number.

@@ -5,8 +5,10 @@
 mod bytes;
 mod fault;
 mod fault_line;
+mod sending;
 
 pub use bohm_reading::LONGEST_TEXT;
-pub use bytes::{read_all, write_all};
+pub use bytes::read_all;
 pub use fault::RunFault;
-pub use fault_line::{print_fault, write_bytes, write_fault};
+pub use fault_line::{print_fault, write_fault};
+pub use sending::{write_all, write_bytes};

@@ -1,4 +1,3 @@
-pub mod Given
 pub mod Runs
 pub mod Progresses
 pub mod Replies

@@ -15,13 +15,13 @@ ghost use Rattle.bohm_apply.specs.Sweeps.{workers_of};
 use crate::executing::{Executor, Progress};
 use crate::plan_queue::{Line, PlanReceiver, PlanSender, plan_line};
 use crate::planning_side::plan_ahead;
-use crate::retention::Kept;
-use crate::worker_counts::{Executors, Planners};
 use crate::workers::ScratchPool;
 use bohm_exec::{Gate, Point};
+use bohm_hints::IndexHints;
 use bohm_log::LogPart;
 use bohm_place::{CutLog, Cuts, Newest, Partition};
-use bohm_store::{History, Seats};
+use bohm_settings::{Executors, Kept, Planners};
+use bohm_store::History;
 use bohm_txn::Replies;
 use bohm_types::NoMemory;
 use std::alloc::Global;
@@ -73,7 +73,7 @@ fn set_up<L: Line, P: Partition>(
     Ok(Sides {
         executor: Executor {
             pool,
-            seats: Seats::new(alloc),
+            hints: IndexHints::new(alloc),
             keep: keep.timestamps(),
         },
         newest,

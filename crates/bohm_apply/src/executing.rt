@@ -15,9 +15,10 @@ use crate::plan_queue::{Line, PlanReceiver};
 use crate::replies::settle_batch;
 use crate::workers::{ScratchPool, finish_batch};
 use bohm_exec::Gate;
+use bohm_hints::IndexHints;
 use bohm_log::LogPart;
 use bohm_place::{CutLog, Plan};
-use bohm_store::{History, Seats};
+use bohm_store::History;
 use bohm_txn::Replies;
 use bohm_types::NoMemory;
 use std::alloc::Global;
@@ -36,7 +37,7 @@ pub struct Progress {
 #[derive(Drop)]
 pub struct Executor {
     pub pool: ScratchPool,
-    pub seats: Seats,
+    pub hints: IndexHints,
     pub keep: u32,
 }
 
@@ -64,13 +65,13 @@ impl Executor {
     {
         let batch = progress
             .history
-            .batch_with(alloc, &mut self.seats, txns, plan)?;
+            .batch_with(alloc, &mut self.hints, txns, plan)?;
         let finished = finish_batch(rt, alloc, batch, &mut self.pool, gate)?;
         settle_batch(
             alloc,
             &mut progress.history,
             &mut progress.replies,
-            &mut self.seats,
+            &mut self.hints,
             &finished,
             self.keep,
         )?;

@@ -9,20 +9,17 @@ pub mod laws;
 mod plan_queue;
 mod planning_side;
 mod replies;
-mod retention;
 mod running;
 mod serial_executor;
-mod settings;
-mod worker_counts;
 mod workers;
 
 pub use applying::{Applied, apply};
 pub use bohm_place::{ByteSum, Cuts};
+pub use bohm_settings::{
+    Executors, Kept, LARGEST_BATCH, MOST_KEPT, MOST_PARTS, MOST_WORKERS, Planners, Settings,
+};
 pub use executing::{Executor, Progress};
 pub use plan_queue::{Line, PlanNote, PlanReceiver, PlanSender, plan_line};
-pub use retention::Kept;
 pub use running::{Answer, run};
 pub use serial_executor::SerialExecutor;
-pub use settings::{LARGEST_BATCH, MOST_KEPT, MOST_PARTS, MOST_WORKERS, Settings};
-pub use worker_counts::{Executors, Planners};
 pub use workers::ScratchPool;

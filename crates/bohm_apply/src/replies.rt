@@ -8,7 +8,8 @@ ghost use Rattle.bohm_store.specs.Nexts.{IsNext, IsSame, IsSettledKept};
 ghost use Rattle.bohm_apply.specs.Replies.{AreSerialShows, IsReplied, replies_behind, replies_of};
 
 use bohm_exec::Finished;
-use bohm_store::{History, Seats};
+use bohm_hints::IndexHints;
+use bohm_store::History;
 use bohm_txn::{Outcome, Replies, shows};
 use bohm_types::{Cell, NoMemory, Value};
 use std::alloc::Global;
@@ -91,7 +92,7 @@ pub(crate) fn settle_batch(
     alloc: Global,
     history: &mut History,
     replies: &mut Replies,
-    seats: &mut Seats,
+    hints: &mut IndexHints,
     finished: &Finished<'_>,
     keep: u32,
 ) -> Result<(), NoMemory>
@@ -107,7 +108,7 @@ pub(crate) fn settle_batch(
     let before = replies.len();
     push_replies(alloc, replies, finished)?;
     let floor = (history.top() + finished.len()).saturating_sub(keep);
-    let settled = history.settle_kept(alloc, seats, finished, floor);
+    let settled = history.settle_kept(alloc, hints, finished, floor);
     if settled.is_err() {
         replies.truncate(before);
     }

@@ -8,11 +8,10 @@ ghost use Rattle.bohm_store.specs.Versions.{declared_writes, total};
 ghost use Rattle.bohm_apply.specs.Runs.{IsHistoryOf};
 
 use crate::applying::{Applied, apply};
-use crate::retention::Kept;
-use crate::worker_counts::{Executors, Planners};
 use bohm_exec::Gate;
 use bohm_log::DrawnSeed;
 use bohm_place::{Cuts, Partition};
+use bohm_settings::{Executors, Kept, Planners};
 use bohm_store::History;
 use bohm_txn::{Checked, Replies};
 use bohm_types::NoMemory;

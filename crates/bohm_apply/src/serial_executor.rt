@@ -13,9 +13,10 @@ ghost use Rattle.bohm_place.specs.CutLogs.{cutting_of};
 ghost use Rattle.bohm_apply.specs.Runs.{IsApplied, IsEndOfBatch, IsStillPast, IsWalked, RanSome};
 
 use crate::applying::Applied;
+use bohm_hints::IndexHints;
 use bohm_log::{LogPart, TxnView};
 use bohm_place::{CutLog, Cuts};
-use bohm_store::{History, Seats, Workspace};
+use bohm_store::{History, Workspace};
 use bohm_txn::{Replies, Scratch};
 use bohm_types::NoMemory;
 use std::alloc::Global;
@@ -24,7 +25,8 @@ use std::mem;
 /// Runs transactions in log order on the caller's thread. It claims nothing from others, so it plans
 /// nothing. Its memory is used again for each transaction and each log.
 pub struct SerialExecutor {
-    seats: Seats,
+    /// Those of the logs that it applied.
+    hints: IndexHints,
     workspace: Workspace,
     scratch: Scratch,
 }
@@ -33,11 +35,11 @@ pub struct SerialExecutor {
 impl Drop for SerialExecutor {
     fn drop(self) {
         let Self {
-            seats,
+            hints,
             workspace,
             scratch,
         } = self;
-        drop(seats);
+        drop(hints);
         drop(workspace);
         drop(scratch);
     }
@@ -46,7 +48,7 @@ impl Drop for SerialExecutor {
 impl SerialExecutor {
     pub fn new(alloc: Global) -> Result<SerialExecutor, NoMemory> {
         Ok(SerialExecutor {
-            seats: Seats::new(alloc),
+            hints: IndexHints::new(alloc),
             workspace: Workspace::new(alloc),
             scratch: Scratch::new(alloc)?,
         })
@@ -59,6 +61,7 @@ impl SerialExecutor {
         history: &mut History,
         replies: &mut Replies,
         txn: &TxnView<'_>,
+        hints: &mut IndexHints,
         keep: u32,
     ) -> Result<(), NoMemory>
         requires well { IsWellFormedTxn txn.now }
@@ -71,13 +74,7 @@ impl SerialExecutor {
             ⊎ IsSettledKept history.old history.new (txn.now ∷ []) ((history.old.top + 1) - keep)) }
         ensures unanswered { OnErr result (replies.new ≡ replies.old) }
     {
-        let outcome = history.run_next(
-            txn,
-            keep,
-            &mut self.seats,
-            &mut self.workspace,
-            &mut self.scratch,
-        )?;
+        let outcome = history.run_next(txn, keep, hints, &mut self.workspace, &mut self.scratch)?;
         replies.push(outcome, self.scratch.shows())?;
         Ok(())
     }
@@ -86,6 +83,8 @@ impl SerialExecutor {
     /// replies. After a transaction that ends at e the floor becomes `e - keep`, or stays where it
     /// is above that.
     ///
+    /// The hints are those of the transactions' log; they have the indexes that were found.
+    ///
     /// Where an allocation fails, some of the transactions have run, and some replies may have come.
     /// The time grows with the number of the transactions' terms.
     pub fn run(
@@ -93,6 +92,7 @@ impl SerialExecutor {
         history: &mut History,
         answered: &mut Replies,
         txns: &LogPart<'_>,
+        hints: &mut IndexHints,
         keep: u32,
     ) -> Result<(), NoMemory>
         requires ordered { history.old.floor ≤ history.old.top }
@@ -106,38 +106,11 @@ impl SerialExecutor {
         ensures behind { OnErr result
             ((more : List Reply) × (answered.new ≡ answered.old ++ more)) }
     {
-        self.seats.cover(txns.keys().names())?;
+        hints.cover(txns.keys().names())?;
         answered.reserve(txns.len())?;
         for index in 0..txns.len() {
-            self.run_next(history, answered, &txns.txn(index), keep)?;
+            self.run_next(history, answered, &txns.txn(index), hints, keep)?;
         }
-        Ok(())
-    }
-
-    /// The same, with the seats of the transactions' log, which come back with the numbers that were
-    /// found. After an error there are others in their place.
-    pub fn run_with(
-        &mut self,
-        history: &mut History,
-        answered: &mut Replies,
-        txns: &LogPart<'_>,
-        seats: &mut Seats,
-        keep: u32,
-    ) -> Result<(), NoMemory>
-        requires ordered { history.old.floor ≤ history.old.top }
-        requires timestamps { history.old.top + length txns.now < 2 ^ 32 }
-        requires formed { All IsWellFormedTxn txns.now }
-        ensures applied { OnOk result (IsApplied history.old history.new txns.now keep
-            (replies (past history.old history.old.top) txns.now)) }
-        ensures answered { OnOk result
-            (answered.new ≡ answered.old ++ replies (past history.old history.old.top) txns.now) }
-        ensures some { OnErr result (RanSome history.old history.new txns.now keep) }
-        ensures behind { OnErr result
-            ((more : List Reply) × (answered.new ≡ answered.old ++ more)) }
-    {
-        mem::swap(&mut self.seats, seats);
-        self.run(history, answered, txns, keep)?;
-        mem::swap(&mut self.seats, seats);
         Ok(())
     }
 
@@ -148,6 +121,7 @@ impl SerialExecutor {
         history: &mut History,
         answered: &mut Replies,
         txns: &LogPart<'_>,
+        hints: &mut IndexHints,
         keep: u32,
     ) -> Result<(), NoMemory>
         requires some { 0 < length txns.now }
@@ -164,7 +138,7 @@ impl SerialExecutor {
     {
         let (top, count) = (history.top(), answered.len());
         // All of the batch's versions stay until its end, so that they can be taken back.
-        if let Err(refusal) = self.run(history, answered, txns, u32::MAX) {
+        if let Err(refusal) = self.run(history, answered, txns, hints, u32::MAX) {
             history.rewind(top);
             answered.truncate(count);
             return Err(refusal);
@@ -179,6 +153,7 @@ impl SerialExecutor {
         history: &mut History,
         answered: &mut Replies,
         log: CutLog<'_>,
+        hints: &mut IndexHints,
         keep: u32,
     ) -> Result<(), NoMemory>
         requires first { (cutting_of log).first ≡ history.old.top + 1 }
@@ -190,7 +165,7 @@ impl SerialExecutor {
         let mut start = 0usize;
         for place in 0..log.batches() {
             let txns = log.batch(place, start);
-            self.run_batch(history, answered, &txns, keep)?;
+            self.run_batch(history, answered, &txns, hints, keep)?;
             start += txns.len();
         }
         Ok(())
@@ -227,7 +202,9 @@ impl SerialExecutor {
             };
         }
         let log = CutLog::new(history.top() + 1, txns, cuts);
-        let end = self.run_batches(history, &mut replies, log, keep);
+        let mut hints = mem::replace(&mut self.hints, IndexHints::new(alloc));
+        let end = self.run_batches(history, &mut replies, log, &mut hints, keep);
+        self.hints = hints;
         Applied { replies, end }
     }
 }

@@ -7,6 +7,7 @@ ghost use Rattle.bohm_txn.specs.Stores.{cell_in, store_after, store_of};
 ghost use Rattle.bohm_answer.specs.Answer.{answer_of};
 
 use bohm_apply::SerialExecutor;
+use bohm_hints::IndexHints;
 use bohm_log::DrawnSeed;
 use bohm_store::History;
 use bohm_text::print_answer;
@@ -28,7 +29,8 @@ fn executed(
     let log = checked.log();
     let mut history = History::open_with_seed(alloc, checked.store(), seed)?;
     let mut replies = Replies::new(alloc);
-    SerialExecutor::new(alloc)?.run(&mut history, &mut replies, &log, 0)?;
+    let mut hints = IndexHints::new(alloc);
+    SerialExecutor::new(alloc)?.run(&mut history, &mut replies, &log, &mut hints, 0)?;
     match history.store_at(alloc, history.top()) {
         Ok(store) => Ok((replies, store)),
         Err(_) => Err(NoMemory),

@@ -3,7 +3,7 @@ use Rattle.std.specs.Prelude.{◌≡◌, ℕ, List, length, count_by, Option, No
 use Rattle.std.specs.Io.KnownBytes.{Appends}
 use Rattle.bohm_types.specs.Document.{Document}
 use Rattle.bohm_txn.specs.Sure.{is_sure}
-use Rattle.bohm_apply.specs.Given.{Given}
+use Rattle.bohm_settings.specs.Given.{Given}
 use Rattle.bohm_answer.specs.Bytes.{Sends}
 use Rattle.bohm_run.specs.Headline.{ReadsDocument, Refuses}
 use Rattle.bohm_answer.specs.declared.fault.RunFault.{RunFault}

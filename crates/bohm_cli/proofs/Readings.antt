@@ -2,8 +2,8 @@
 use Rattle.std.proofs.Common.{◌≡◌, ◌∙◌, ap, List, Option, Some, None, codes}
 use Rattle.std.specs.Option.{SomeIff}
 use Rattle.clap.specs.Words.{Row, Text}
-use Rattle.bohm_apply.specs.Given.{AreInRange, Given, defaults}
-use Rattle.bohm_apply.specs.declared.settings.TheConstants.{MOST_WORKERS, MOST_PARTS, LARGEST_BATCH, MOST_KEPT}
+use Rattle.bohm_settings.specs.Given.{AreInRange, Given, defaults}
+use Rattle.bohm_settings.specs.declared.settings.TheConstants.{MOST_WORKERS, MOST_PARTS, LARGEST_BATCH, MOST_KEPT}
 use Rattle.bohm_command.specs.Taken.{rows_in}
 use Rattle.bohm_command.proofs.ForCallers.{IsNumber, IsNumberOr}
 use Rattle.bohm_cli.specs.Options.{bohm, given_in}

@@ -3,8 +3,8 @@ use Rattle.std.specs.Prelude.{List, [], ◌∷◌, codes, unwrap_or}
 use Rattle.clap.specs.Simple.{new_shape}
 use Rattle.clap.specs.Words.{App, Row}
 use Rattle.bohm_command.specs.Options.{number_in, number_rule}
-use Rattle.bohm_apply.specs.Given.{Given, defaults}
-use Rattle.bohm_apply.specs.declared.settings.TheConstants.{MOST_WORKERS, MOST_PARTS, LARGEST_BATCH, MOST_KEPT}
+use Rattle.bohm_settings.specs.Given.{Given, defaults}
+use Rattle.bohm_settings.specs.declared.settings.TheConstants.{MOST_WORKERS, MOST_PARTS, LARGEST_BATCH, MOST_KEPT}
 
 -- the command
 abbrev pub bohm : App

@@ -1,7 +1,7 @@
 -- What the words after the program's name give.
 use Rattle.std.specs.Prelude.{List}
 use Rattle.clap.specs.Words.{Text}
-use Rattle.bohm_apply.specs.Given.{Given}
+use Rattle.bohm_settings.specs.Given.{Given}
 use Rattle.bohm_command.specs.Taken.{rows_in}
 use Rattle.bohm_cli.specs.Options.{bohm, given_in}
 

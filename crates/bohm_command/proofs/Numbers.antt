@@ -29,7 +29,7 @@ use Rattle.clap.proofs.CallerLemmas.{entry_by_id}
 use Rattle.clap.proofs.CallerReads.{signed_reads}
 use Rattle.clap.proofs.SimpleLemmas.{all_simple, plain_fields, simple_groups}
 use Rattle.clap.proofs.WalkLemmas.{one_text-rows}
-use Rattle.bohm_apply.specs.Given.{IsBetween}
+use Rattle.bohm_settings.specs.Given.{IsBetween}
 use Rattle.bohm_command.specs.Options.{number_in, number_rule}
 
 -- the option's number, in its range

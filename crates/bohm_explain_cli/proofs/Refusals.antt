@@ -1,7 +1,7 @@
 -- What a run says of a refused log, said of its explanation.
 use Rattle.std.proofs.Common.{List, ℕ}
 use Rattle.std.specs.Prelude.{Option, None}
-use Rattle.bohm_apply.specs.Given.{Given}
+use Rattle.bohm_settings.specs.Given.{Given}
 use Rattle.bohm_run.specs.Headline.{IsBeforeWriting, Refuses}
 use Rattle.bohm_answer.specs.declared.fault.RunFault.{RunFault}
 use Rattle.bohm_answer.specs.declared.fault.RunFault.TheVariants.{Read, TooLong, Text, Check, Trimmed, Future, NoMemory, Write}

@@ -2,7 +2,7 @@
 use Rattle.std.specs.Prelude.{ℕ, List, Option, None}
 use Rattle.std.specs.Io.KnownBytes.{Appends}
 use Rattle.bohm_types.specs.Document.{Document}
-use Rattle.bohm_apply.specs.Given.{Given}
+use Rattle.bohm_settings.specs.Given.{Given}
 use Rattle.bohm_answer.specs.Bytes.{Sends}
 use Rattle.bohm_run.specs.Headline.{IsBeforeWriting, ReadsDocument, ReadsLog, Refuses}
 use Rattle.bohm_answer.specs.declared.fault.RunFault.TheVariants.{Write}

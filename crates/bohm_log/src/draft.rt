@@ -253,6 +253,18 @@ impl<S: BuildHasher + Drop> Draft<S> {
         self.sheet.write_place(word)
     }
 
+    /// Adds a literal, in the way made for atoms of all kinds. Out of line: with two calls of `push`
+    /// in one function neither is inlined.
+    #[inline(never)]
+    fn add_large(&mut self, minus: bool, number: u64) -> Result<(), LogFault>
+        requires { IsTerm (minus, Lit number) }
+        ensures ok { OnOk result (self.new ≡ with_term self.old minus (Lit number)) }
+        ensures err { OnErr result (self.new ≡ self.old) }
+        ensures full { result ≡ Err Full → 2 ^ 32 - 1 ≤ size_of self.old }
+    {
+        self.add_term(minus, AtomParts::Lit(number))
+    }
+
     /// Adds a literal.
     #[inline(always)]
     pub fn literal(&mut self, literal: Literal) -> Result<(), LogFault>
@@ -261,7 +273,14 @@ impl<S: BuildHasher + Drop> Draft<S> {
         ensures full { result ≡ Err Full → 2 ^ 32 - 1 ≤ size_of self.old }
     {
         let (minus, number) = literal.parts();
-        self.add_term(minus, AtomParts::Lit(number))
+        let Ok(small) = u32::try_from(number) else {
+            return self.add_large(minus, number);
+        };
+        if self.sheet.terms.len() >= u32::MAX as usize {
+            return Err(LogFault::Full);
+        }
+        self.sheet.add_small(minus, small)?;
+        Ok(())
     }
 
     /// Adds a key that is read.

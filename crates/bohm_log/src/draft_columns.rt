@@ -259,6 +259,24 @@ impl<S: BuildHasher + Drop> DraftColumns<S> {
         Ok(())
     }
 
+    /// Adds a literal below 2^32.
+    #[inline(always)]
+    pub fn add_small(&mut self, minus: bool, small: u32) -> Result<(), LogFault>
+        requires compact { IsCompact (parts_of self.old) }
+        ensures ok { OnOk result
+            (AddsTerm (parts_of self.old) (parts_of self.new) minus (Lit small)) }
+        ensures err { OnErr result (NamesGrow (parts_of self.old) (parts_of self.new)) }
+        ensures compact { IsCompact (parts_of self.new) }
+        ensures never_full { result ≢ Err Full }
+    {
+        self.terms.push(TermRow {
+            kind: AtomKind::Small,
+            minus,
+            place: small,
+        })?;
+        Ok(())
+    }
+
     #[inline(always)]
     pub fn add_term(&mut self, minus: bool, atom: AtomParts) -> Result<(), LogFault>
         requires compact { IsCompact (parts_of self.old) }

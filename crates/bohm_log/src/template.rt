@@ -1,10 +1,11 @@
 //! Procedures in columns.
 
-ghost use Rattle.std.specs.Prelude.{◌≡◌, ◌≢◌, ◌≤◌, ◌+◌, ◌^◌, Err, length, map, take, IfOk, OnOk};
-ghost use Rattle.std.specs.List.{AllByRecursion, sum_by};
+ghost use Rattle.std.specs.Prelude.{◌≡◌, ◌≢◌, ◌≤◌, ◌+◌, ◌^◌, ◌∷◌, []};
+ghost use Rattle.std.specs.Prelude.{Err, length, map, take, IfOk, OnOk};
+ghost use Rattle.std.specs.List.{AllByRecursion, range_with_len, sum_by};
 ghost use Rattle.bohm_types.specs.Keys.{IsAmong};
 ghost use Rattle.bohm_types.specs.Accesses.{StmtReads, StmtWrites};
-ghost use Rattle.bohm_log.specs.Calling.{declared_name};
+ghost use Rattle.bohm_log.specs.Calling.{declared_name, IsPlaced};
 ghost use Rattle.bohm_log.specs.Locals.{ArePlacesOf};
 ghost use Rattle.bohm_log.specs.Parts.{Begins};
 ghost use Rattle.bohm_log.specs.Sizes.{open_terms, size_of, stmt_terms};
@@ -130,6 +131,33 @@ fn declared_names(
     Ok(declared)
 }
 
+/// The declared names, and the body prepared for their places.
+fn prepared(
+    alloc: Global,
+    keys: &[Key],
+    reads: &[Key],
+    writes: &[Key],
+    terms: &[TermRow],
+    rows: &[StmtRow],
+    locals: &[u32],
+) -> Result<(Vec<DeclaredName>, Vec<DeclaredName>, PlacedBody, PlacedBody), LogFault>
+    requires lets { length locals.now ≤ length rows.now }
+    requires few_reads { length reads.now ≤ most_keys }
+    requires few_writes { length writes.now ≤ most_keys }
+    ensures reads { IfOk result (λ r. r.0.items ≡ map (declared_name keys.now) reads.now) }
+    ensures writes { IfOk result (λ r. r.1.items ≡ map (declared_name keys.now) writes.now) }
+    ensures rising { IfOk result (λ r. IsPlaced terms.now rows.now locals.now
+        (range_with_len 0 (length reads.now)) (range_with_len 0 (length writes.now)) r.2) }
+    ensures falling { IfOk result
+        (λ r. IsPlaced terms.now rows.now locals.now (1 ∷ 0 ∷ []) (1 ∷ 0 ∷ []) r.3) }
+    ensures full { result ≡ Err Full → 2 ^ 32 ≤ length terms.now + length locals.now }
+{
+    let (rising, falling) = placed_bodies(alloc, terms, rows, locals, reads.len(), writes.len())?;
+    let reads = declared_names(alloc, reads, keys)?;
+    let writes = declared_names(alloc, writes, keys)?;
+    Ok((reads, writes, rising, falling))
+}
+
 impl Template {
     /// How many key parameters it has.
     pub fn keys_len(&self) -> usize
@@ -172,30 +200,26 @@ impl Template {
         ensures ok { IfOk result (λ t. t ≡ procedure_with draft.txn keys.items values.now) }
         ensures full { result ≡ Err Full → 2 ^ 32 ≤ size_of draft + length values.now }
     {
-        let (edition, sheet) = draft.into_parts();
+        let (edition, mut sheet) = draft.into_parts();
+        let mut places = Vec::new(alloc);
+        place_names(&mut sheet.others, &mut places, values)?;
+        let names = Vec::from_slice(alloc, sheet.others.as_slice())?;
+        let (reads, writes, rising, falling) = prepared(
+            alloc,
+            keys.as_slice(),
+            sheet.reads.as_slice(),
+            sheet.writes.as_slice(),
+            sheet.terms.as_slice(),
+            sheet.rows.as_slice(),
+            places.as_slice(),
+        )?;
+        let same_sets = are_same(sheet.reads.as_slice(), sheet.writes.as_slice());
         let DraftColumns {
-            reads,
-            writes,
-            mut others,
             large,
             terms,
             rows,
             ..
         } = sheet;
-        let mut places = Vec::new(alloc);
-        place_names(&mut others, &mut places, values)?;
-        let names = Vec::from_slice(alloc, others.as_slice())?;
-        let same_sets = are_same(&reads, &writes);
-        let reads = declared_names(alloc, reads.as_slice(), keys.as_slice())?;
-        let writes = declared_names(alloc, writes.as_slice(), keys.as_slice())?;
-        let (rising, falling) = placed_bodies(
-            alloc,
-            &terms,
-            &rows,
-            &places,
-            reads.len(),
-            writes.len(),
-        )?;
         are_names(keys.as_slice());
         are_names(values);
         Ok(Template {

@@ -2,7 +2,7 @@
 
 ghost use Rattle.std.specs.Prelude.{◌≡◌, OnOk, IfOk, IfErr};
 ghost use Rattle.bohm_report.specs.Refused.{fault_of};
-ghost use Rattle.bohm_apply.specs.Given.{Given};
+ghost use Rattle.bohm_settings.specs.Given.{Given};
 ghost use Rattle.bohm_run.specs.Headline.{IsBeforeWriting, ReadsDocument, Refuses};
 
 use crate::checking::check_text;

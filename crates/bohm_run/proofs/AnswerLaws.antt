@@ -6,7 +6,7 @@ use Rattle.std.specs.Io.KnownBytes.{Appends}
 use Rattle.bohm_txn.specs.Stores.{cell_in, store_of, store_after}
 use Rattle.bohm_store.specs.Versions.{past}
 use Rattle.bohm_text.specs.Print.{print_store}
-use Rattle.bohm_apply.specs.Given.{Given}
+use Rattle.bohm_settings.specs.Given.{Given}
 use Rattle.bohm_apply.proofs.ForCallers.{store_then}
 use Rattle.bohm_answer.specs.Bytes.{IsWriteFault, Sends}
 use Rattle.bohm_run.specs.Headline.{answer_of, time_of, Answers, IsReadable, Refuses}

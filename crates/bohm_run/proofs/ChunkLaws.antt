@@ -15,8 +15,8 @@ use Rattle.bohm_text.proofs.ForCallers.{numbered-append}
 use Rattle.bohm_apply.specs.Runs.{IsApplied}
 use Rattle.bohm_apply.proofs.ForCallers.{went_on}
 use Rattle.bohm_run.specs.declared.chunks.RunState.{RunState}
-use Rattle.bohm_run.specs.declared.checked_chunk.CheckedChunk.{CheckedChunk}
-use Rattle.bohm_run.specs.Preparing.{count_with, AreReady, IsFaultBehind}
+use Rattle.bohm_read_ahead.specs.declared.checked_chunk.CheckedChunk.{CheckedChunk}
+use Rattle.bohm_read_ahead.specs.Preparing.{count_with, AreReady, IsFaultBehind}
 use Rattle.bohm_run.specs.Chunks.{IsNext, IsPartRun, IsRunTo, RunsChunk, RunsNext}
 
 -- ---- counts

@@ -5,7 +5,7 @@ use Rattle.bohm_text.specs.Cut.{whole_lines}
 use Rattle.bohm_text.specs.Faults.{IsFirstBadLine, IsShort}
 use Rattle.bohm_text.specs.declared.fault.TextFault.{TextFault}
 use Rattle.bohm_text.specs.declared.fault.TextFault.TheVariants as texts
-use Rattle.bohm_apply.specs.Given.{Given}
+use Rattle.bohm_settings.specs.Given.{Given}
 use Rattle.bohm_answer.specs.Bytes.{ReadsAll}
 use Rattle.bohm_run.specs.Headline.{Refuses, IsBeforeWriting}
 use Rattle.bohm_answer.specs.declared.fault.RunFault.{RunFault}

@@ -24,16 +24,16 @@ use Rattle.bohm_reading.specs.declared.reading.Source.{Source}
 use Rattle.bohm_reading.specs.Reading.{ReadsBeginning, ReadsTextOf, RefusesReading}
 use Rattle.bohm_reading.specs.InOrder.{logs_of}
 use Rattle.bohm_reading.proofs.ForCallers.{on_none, on_end, later_refused, later_read}
-use Rattle.bohm_apply.specs.Given.{Given}
+use Rattle.bohm_settings.specs.Given.{Given}
 use Rattle.bohm_apply.specs.Runs.{IsApplied}
 use Rattle.bohm_apply.proofs.ForCallers.{at_rest, whole_run}
 use Rattle.bohm_answer.specs.Bytes.{ReadsAll}
 use Rattle.bohm_run.specs.Headline.{Refuses, IsBeforeWriting}
 use Rattle.bohm_answer.specs.Refusing.{reading_refusal_of}
-use Rattle.bohm_run.specs.Reading.{ReadsAhead, ReadsChunk, RefusesChunk}
-use Rattle.bohm_run.specs.declared.checked_chunk.CheckedChunk.{CheckedChunk}
+use Rattle.bohm_read_ahead.specs.Reading.{ReadsAhead, ReadsChunk, RefusesChunk}
+use Rattle.bohm_read_ahead.specs.declared.checked_chunk.CheckedChunk.{CheckedChunk}
 use Rattle.bohm_run.specs.declared.chunks.RunState.{RunState}
-use Rattle.bohm_run.specs.declared.reading_state.ReadingState.{ReadingState}
+use Rattle.bohm_read_ahead.specs.declared.reading_state.ReadingState.{ReadingState}
 use Rattle.bohm_answer.specs.declared.fault.RunFault.TheVariants.{Check}
 use Rattle.bohm_run.specs.Chunks.{IsRunTo, IsStarted, RunsChunk}
 use Rattle.bohm_run.specs.Streaming.{IsBegun, IsLogRun, RefusesLog, RunsBehind, RunsBehindTo, StreamsOn}

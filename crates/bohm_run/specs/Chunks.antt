@@ -9,9 +9,9 @@ use Rattle.bohm_store.specs.Versions.{Timeline, past}
 use Rattle.bohm_text.specs.Print.{print_numbered}
 use Rattle.bohm_text.specs.Windows.{with_log}
 use Rattle.bohm_apply.specs.Runs.{IsApplied}
-use Rattle.bohm_run.specs.declared.checked_chunk.CheckedChunk.{CheckedChunk}
+use Rattle.bohm_read_ahead.specs.declared.checked_chunk.CheckedChunk.{CheckedChunk}
 use Rattle.bohm_run.specs.declared.chunks.RunState.{RunState}
-use Rattle.bohm_run.specs.Preparing.{count_with, IsPrepared}
+use Rattle.bohm_read_ahead.specs.Preparing.{count_with, IsPrepared}
 use Rattle.bohm_types.specs.Limits.{most_txns}
 
 -- transactions were run, and the text of their replies was appended, numbered from the first timestamp

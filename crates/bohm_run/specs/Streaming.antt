@@ -1,5 +1,5 @@
 -- A log that is run as it is read.
-use Rattle.std.specs.Prelude.{◌≡◌, ℤ, ℕ, List, [], ◌++◌, length, Option}
+use Rattle.std.specs.Prelude.{◌≡◌, ℕ, List, [], ◌++◌, length, Option}
 use Rattle.bohm_types.specs.Document.{Document}
 use Rattle.bohm_types.specs.Txn.{Txn}
 use Rattle.bohm_types.specs.declared.edition.Edition.{Edition}
@@ -13,10 +13,10 @@ use Rattle.bohm_reading.specs.Reading.{IsReading, ReadsOn, RefusesOn}
 use Rattle.bohm_reading.specs.InOrder.{logs_of}
 use Rattle.bohm_apply.specs.Runs.{IsHistoryOf}
 use Rattle.bohm_run.specs.declared.chunks.RunState.{RunState}
-use Rattle.bohm_run.specs.declared.reading_state.ReadingState.{ReadingState}
-use Rattle.bohm_run.specs.Chunks.{IsStarted, RunsChunk}
+use Rattle.bohm_read_ahead.specs.declared.reading_state.ReadingState.{ReadingState}
+use Rattle.bohm_run.specs.Chunks.{RunsChunk}
 use Rattle.bohm_run.specs.Headline.{ReadsDocument}
-use Rattle.bohm_run.specs.Reading.{IsTaken}
+use Rattle.bohm_read_ahead.specs.Reading.{IsTaken}
 
 -- a document of this edition and log was read, and this source follows it
 pub record IsBegun (e : Edition) (txns : List Txn) (unread : Option (List ℕ)) (s : Source) (d : Document) : Type 0 where
@@ -42,13 +42,6 @@ pub record StreamsTo (unread unread' : Option (List ℕ)) (d : Document) (first 
 -- the same, whichever document was read before
 abbrev pub RunsBehind : Edition → List Txn → Option (List ℕ) → Option (List ℕ) → Source → RunState → RunState → Type 0
 RunsBehind e log unread unread' s was now = (d : Document) → IsBegun e log unread s d → StreamsOn unread unread' d s.rest.items was now
-
--- the history of a store was opened, and the log was run from it
-pub record RunsFrom (keep : ℕ) (store : List (List ℕ × ℤ)) (e : Edition) (log : List Txn) (unread unread' : Option (List ℕ)) (s : Source) (now : RunState)
-    : Type 0 where
-  pub start : RunState
-  pub started : IsStarted keep store start
-  pub runs : RunsBehind e log unread unread' s start now
 
 abbrev pub RunsBehindTo : Edition → List Txn → Option (List ℕ) → Option (List ℕ) → Source → ReadingState → List Txn → RunState → RunState → Type 0
 RunsBehindTo e log unread unread' s r pending was now = (d : Document) → IsBegun e log unread s d → StreamsTo unread unread' d s.rest.items r pending was now

@@ -1,6 +1,6 @@
 -- Timestamps whose store can be printed, or can't.
 use Rattle.std.specs.Prelude.{◌≡◌, ℕ, ◌-◌, ◌<◌, ◌≤◌, unwrap_or}
-use Rattle.bohm_apply.specs.Given.{Given}
+use Rattle.bohm_settings.specs.Given.{Given}
 use Rattle.bohm_answer.specs.declared.fault.RunFault.{RunFault}
 use Rattle.bohm_answer.specs.declared.fault.RunFault.TheVariants.{Read, TooLong, Text, Check, Trimmed, Future, NoMemory, Write}
 

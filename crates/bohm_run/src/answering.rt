@@ -1,7 +1,7 @@
 //! A log from bytes to bytes.
 
 ghost use Rattle.std.specs.Prelude.{◌≡◌, ◌<◌, ◌≤◌, ℕ, List, Option, None, IfOk, OnOk, IfErr};
-ghost use Rattle.bohm_apply.specs.Given.{Given};
+ghost use Rattle.bohm_settings.specs.Given.{Given};
 ghost use Rattle.bohm_run.specs.Headline.{answer_of, Answers, Refuses};
 ghost use Rattle.bohm_run.specs.Headline.{ReadsDocument, IsBeforeWriting};
 ghost use Rattle.bohm_run.specs.Streaming.{IsLogRun};

@@ -10,12 +10,13 @@ ghost use Rattle.bohm_place.specs.Cuttings.{ArePlans};
 ghost use Rattle.bohm_apply.specs.Runs.{cutting_behind};
 ghost use Rattle.bohm_run.specs.Chunks.{IsNext, IsPartRun, IsStarted, RunsNext};
 
-use crate::checked_chunk::{CheckedChunk, Prepared, counted};
 use bohm_apply::{Executor, Progress, ScratchPool, SerialExecutor, Settings};
 use bohm_exec::OpenGate;
+use bohm_hints::IndexHints;
 use bohm_log::{DrawnSeed, LogPart};
 use bohm_place::{CutLog, Cuts, Plan};
-use bohm_store::{History, Seats};
+use bohm_read_ahead::{CheckedChunk, Prepared, counted};
+use bohm_store::History;
 use bohm_text::put_replies;
 use bohm_txn::{CheckFault, Replies, check_store};
 use bohm_types::{Key, MOST_TXNS, NoMemory, Value};
@@ -81,7 +82,7 @@ impl RunState {
             text: Vec::new(alloc),
             executor: Executor {
                 pool: ScratchPool::new(alloc, settings.exec())?,
-                seats: Seats::new(alloc),
+                hints: IndexHints::new(alloc),
                 keep: settings.keep().timestamps(),
             },
             serial: SerialExecutor::new(alloc)?,
@@ -93,14 +94,14 @@ impl RunState {
 }
 
 /// Runs transactions in log order, and appends the text of their replies. The list of replies is room to
-/// write in: what it held is removed. The seats are those of the transactions' log.
+/// write in: what it held is removed. The hints are those of the transactions' log.
 fn run_to_text(
     serial: &mut SerialExecutor,
     history: &mut History,
     replies: &mut Replies,
     text: &mut Vec<u8>,
     txns: &LogPart<'_>,
-    seats: &mut Seats,
+    hints: &mut IndexHints,
     keep: u32,
 ) -> Result<(), NoMemory>
     requires few { history.old.top + length txns.now ≤ MOST_TXNS }
@@ -110,7 +111,7 @@ fn run_to_text(
 {
     let first = history.top() + 1;
     replies.clear();
-    serial.run_with(history, replies, txns, seats, keep)?;
+    serial.run(history, replies, txns, hints, keep)?;
     put_replies(text, first as u64, replies)?;
     Ok(())
 }
@@ -124,7 +125,7 @@ fn run_clean<T: Threads + Sync>(
     text: &mut Vec<u8>,
     executor: &mut Executor,
     part: &LogPart<'_>,
-    seats: &mut Seats,
+    hints: &mut IndexHints,
     cuts: &Cuts,
     plans: Vec<Plan>,
 ) -> Result<(), NoMemory>
@@ -139,11 +140,11 @@ fn run_clean<T: Threads + Sync>(
 {
     let first = progress.history.top() + 1;
     let log = CutLog::new(first, part, cuts);
-    // The executor takes the seats of this log, since each log numbers its keys itself.
-    mem::swap(&mut executor.seats, seats);
+    // The executor takes the hints of this log, since each log numbers its keys itself.
+    mem::swap(&mut executor.hints, hints);
     progress.replies.clear();
     executor.run_planned(rt, alloc, progress, log, plans, &OpenGate)?;
-    mem::swap(&mut executor.seats, seats);
+    mem::swap(&mut executor.hints, hints);
     put_replies(text, first as u64, &progress.replies)?;
     Ok(())
 }
@@ -176,7 +177,7 @@ pub(crate) fn run_chunk<T: Threads + Sync>(
             &mut state.progress.replies,
             &mut state.text,
             &log,
-            &mut chunk.seats,
+            &mut chunk.hints,
             state.executor.keep,
         ),
         Prepared::Planned { cuts, plans } => run_clean(
@@ -186,7 +187,7 @@ pub(crate) fn run_chunk<T: Threads + Sync>(
             &mut state.text,
             &mut state.executor,
             &log,
-            &mut chunk.seats,
+            &mut chunk.hints,
             &cuts,
             plans,
         ),

@@ -1,17 +1,9 @@
-//! Whole runs from bytes to bytes: `run_text` reads a log in windows, some of them parsed ahead in threads
-//! of their own, and runs each as `bohm_apply` does.
+//! Whole runs from bytes to bytes: `run_text` reads a log in windows, which `bohm_read_ahead` parses ahead, and
+//! runs each as `bohm_apply` does.
 #![tactic(auto)]
 
 mod answering;
-mod checked_chunk;
-mod checked_window;
 mod chunks;
-mod log_reader;
-mod parse_task;
-mod parsers;
-mod parsing;
-mod promise;
-mod reading_state;
 mod streaming;
 
 pub use answering::{read_log, run_text, run_text_in_windows};

@@ -3,27 +3,23 @@
 ghost use Rattle.std.specs.Prelude.{◌≡◌, [], None, IfOk, IfErr, OnOk};
 ghost use denote.Param.Send.{IsSync};
 ghost use Rattle.bohm_reading.specs.Reading.{IsReady};
-ghost use Rattle.bohm_apply.specs.Given.{Given};
+ghost use Rattle.bohm_settings.specs.Given.{Given};
 ghost use Rattle.bohm_run.specs.Chunks.{IsNext, RunsNext};
 ghost use Rattle.bohm_run.specs.Headline.{Refuses, IsBeforeWriting};
-ghost use Rattle.bohm_run.specs.Reading.{HasMore, IsGoing, ReadsChunk, RefusesChunk};
-ghost use Rattle.bohm_run.specs.Streaming.{IsLogRun, RefusesLog, RunsBehind, RunsFrom};
+ghost use Rattle.bohm_read_ahead.specs.Reading.{HasMore, IsGoing, ReadsChunk, RefusesChunk};
+ghost use Rattle.bohm_run.specs.Streaming.{IsLogRun, RefusesLog, RunsBehind};
 
-use crate::checked_chunk::CheckedChunk;
 use crate::chunks::{RunState, run_chunk};
-use crate::log_reader::LogReader;
-use crate::parsers::{Parsers, most_ahead};
-use crate::reading_state::ReadingState;
 use bohm_answer::RunFault;
 use bohm_apply::Settings;
-use bohm_log::{DrawnSeed, SharedNames};
+use bohm_hints::IndexHints;
+use bohm_log::DrawnSeed;
+use bohm_read_ahead::{CheckedChunk, LogReader, ReadingState};
 use bohm_reading::{ReadingFault, read_first};
-use bohm_store::Seats;
 use bohm_text::{Chunk, FirstWindow};
 use bohm_txn::{check_chunk, check_end};
-use bohm_types::{Key, NoMemory, Value};
+use bohm_types::NoMemory;
 use std::alloc::Global;
-use std::collections::VecDeque;
 use std::io::Read;
 use std::random::RandomSource;
 use std::sync::Wait;
@@ -121,42 +117,14 @@ fn run_to_end<R: Read, T: Threads + Wait + Sync>(
         (RefusesLog log_reader.old.state.edition first.log (R.remaining reader.old)
         (R.remaining reader.new) log_reader.old.state.source) }
 {
-    log_reader.names = state.progress.history.shared_names()?;
     let fault = check_chunk(&first.log.part());
-    let mut chunk = log_reader.prepare(alloc, first, fault, Seats::new(alloc))?;
+    let mut chunk = log_reader.prepare(alloc, first, fault, IndexHints::new(alloc))?;
     log_reader.read_ahead(rt, alloc, reader)?;
     'windows: while log_reader.state.is_going() {
         chunk = run_and_read(rt, alloc, log_reader, reader, state, chunk)?;
     }
     run_chunk(rt, alloc, state, &mut chunk)?;
     Ok(())
-}
-
-/// Opens the history of a starting store, and runs a log on it that is read to the reader's end.
-fn run_windows<R: Read, T: Threads + Wait + Sync>(
-    rt: &T,
-    alloc: Global,
-    log_reader: &mut LogReader,
-    reader: &mut R,
-    store: Vec<(Key, Value)>,
-    first: Chunk,
-) -> Result<RunState, ReadingFault>
-    requires ready { IsReady log_reader.old.state.source }
-    requires none { log_reader.old.state.ahead.items ≡ [] }
-    requires count { log_reader.old.state.count ≡ 0 }
-    ensures ok { IfOk result
-        (RunsFrom log_reader.old.settings.keep store.items log_reader.old.state.edition first.log
-        (R.remaining reader.old) (R.remaining reader.new) log_reader.old.state.source) }
-    ensures err { IfErr result
-        (RefusesLog log_reader.old.state.edition first.log (R.remaining reader.old)
-        (R.remaining reader.new) log_reader.old.state.source) }
-{
-    let (seed, settings) = (log_reader.seed, log_reader.settings);
-    // A log of one window shares its names with no other.
-    let shares = !log_reader.state.source.ended;
-    let mut state = RunState::start(alloc, seed, store, settings, shares)?;
-    run_to_end(rt, alloc, log_reader, reader, &mut state, first)?;
-    Ok(state)
 }
 
 /// Reads a log to the reader's end, in windows of so many bytes, checks it, and runs it as it is
@@ -182,30 +150,15 @@ pub(crate) fn run_log<R: Read, T: Threads + Wait + Sync + RandomSource + Copy + 
         store,
         chunk,
     } = first;
-    // A log of one window needs no threads.
-    let threads = if source.ended {
-        0
-    } else {
-        settings.cc().count()
-    };
-    let mut log_reader = LogReader {
-        state: ReadingState {
-            edition,
-            source,
-            ahead: VecDeque::new(alloc),
-            count: 0,
-        },
-        seed,
-        size,
-        settings,
-        names: SharedNames::none(),
-        spare: Vec::new(alloc),
-        // Nothing fails from here on without its threads being waited for.
-        parsers: Parsers::start(rt, alloc, threads, most_ahead(settings))?,
-    };
-    let ran = run_windows(rt, alloc, &mut log_reader, reader, store, chunk);
+    // A log of one window shares its names with no other.
+    let mut state = RunState::start(alloc, seed, store, settings, !source.ended)?;
+    let names = state.progress.history.shared_names()?;
+    let reading = ReadingState::new(alloc, edition, source);
+    // Nothing fails from here on without its threads being waited for.
+    let mut log_reader = LogReader::start(rt, alloc, reading, seed, names, size, settings)?;
+    let ran = run_to_end(rt, alloc, &mut log_reader, reader, &mut state, chunk);
     log_reader.end(rt);
-    let state = ran?;
+    ran?;
     match check_end(state.in_store, state.count, state.fault) {
         None => Ok(state),
         Some(fault) => Err(RunFault::Check(fault)),

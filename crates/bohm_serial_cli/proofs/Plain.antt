@@ -6,7 +6,7 @@ use Rattle.bohm_types.specs.Document.{Document}
 use Rattle.bohm_text.specs.Print.{print_answer}
 use Rattle.bohm_txn.specs.Serial.{replies}
 use Rattle.bohm_txn.specs.Stores.{cell_in, store_after, store_of}
-use Rattle.bohm_apply.specs.Given.{defaults}
+use Rattle.bohm_settings.specs.Given.{defaults}
 use Rattle.bohm_run.specs.Headline.{IsReadable, answer_of, time_of}
 
 pub readable : (d : Document) → IsReadable defaults d

@@ -4,7 +4,7 @@ ghost use Rattle.std.specs.Prelude.{◌≡◌, OnOk, IfErr, IfOk};
 ghost use Rattle.std.specs.FinMap.{entries};
 ghost use Rattle.bohm_txn.specs.Serial.{replies};
 ghost use Rattle.bohm_txn.specs.Stores.{store_of, store_after, cell_in};
-ghost use Rattle.bohm_apply.specs.Given.{defaults};
+ghost use Rattle.bohm_settings.specs.Given.{defaults};
 ghost use Rattle.bohm_run.specs.Headline.{Answers, IsBeforeWriting, Refuses, answer_of, time_of};
 
 use bohm_answer::{RunFault, write_all};

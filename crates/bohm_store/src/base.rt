@@ -8,7 +8,7 @@ ghost use Rattle.bohm_store.specs.Numbered.{timeline, versions_at};
 
 use crate::numbered::NumberedHistory;
 use crate::numbering::is_numbered;
-use crate::seats::Hints;
+use bohm_hints::IndexHints;
 use bohm_log::{HashSeed, Keys, LayeredNames};
 use bohm_place::NumberedKey;
 use bohm_txn::Scratch;
@@ -38,13 +38,13 @@ pub fn cell_of(
 fn cell_by(
     names: &LayeredNames<HashSeed>,
     numbered: &NumberedHistory,
-    hints: &mut Hints,
+    hints: &mut IndexHints,
     place: u32,
     key: &Key,
 ) -> Cell
     ensures { result ≡ past (timeline names.now numbered.now) numbered.now.top key.now }
 {
-    let hint = hints.number(place);
+    let hint = hints.index(place);
     if is_numbered(names.table(), hint, key) {
         return numbered.cell(hint);
     }
@@ -63,7 +63,7 @@ pub fn base_of(
     names: &LayeredNames<HashSeed>,
     numbered: &NumberedHistory,
     alloc: Global,
-    hints: &mut Hints,
+    hints: &mut IndexHints,
     keys: &[NumberedKey],
 ) -> Result<Vec<(Key, Cell)>, NoMemory>
     ensures { IfOk result (λ v. v.items
@@ -83,7 +83,7 @@ pub fn base_of(
 pub fn push_reads(
     names: &LayeredNames<HashSeed>,
     numbered: &NumberedHistory,
-    hints: &mut Hints,
+    hints: &mut IndexHints,
     keys: &Keys<'_>,
     scratch: &mut Scratch,
 )

@@ -12,12 +12,10 @@ mod numbered_write;
 mod numbering;
 mod older;
 mod replacing;
-mod seats;
 mod version;
 mod workspace;
 mod writes;
 
 pub use fault::{PastFault, StoreFault};
 pub use history::History;
-pub use seats::Seats;
 pub use workspace::Workspace;

@@ -9,9 +9,9 @@ ghost use Rattle.bohm_store.specs.Writes.{AreBelow, AreWritesOf, IsTxnWriting};
 ghost use Rattle.bohm_store.specs.Writes.{named_write, txn_writes};
 
 use crate::numbering::number_of;
-use crate::seats::Hints;
 use crate::version::Version;
 use bohm_exec::Finished;
+use bohm_hints::IndexHints;
 use bohm_log::{HashSeed, Keys, LayeredNames};
 use bohm_types::NoMemory;
 use std::alloc::Global;
@@ -27,7 +27,7 @@ pub struct NumberedWrite {
 fn list_writes(
     out: &mut Vec<NumberedWrite>,
     names: &mut LayeredNames<HashSeed>,
-    hints: &mut Hints,
+    hints: &mut IndexHints,
     finished: &Finished<'_>,
     t: u32,
     keys: &Keys<'_>,
@@ -55,7 +55,7 @@ fn list_writes(
 pub fn numbered_writes(
     alloc: Global,
     names: &mut LayeredNames<HashSeed>,
-    hints: &mut Hints,
+    hints: &mut IndexHints,
     finished: &Finished<'_>,
 ) -> Result<Vec<NumberedWrite>, NoMemory>
     ensures longer { Begins names.old names.new }

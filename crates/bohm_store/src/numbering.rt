@@ -5,7 +5,7 @@ ghost use Rattle.bohm_log.specs.Layers.{all_names};
 ghost use Rattle.bohm_log.specs.Parts.{Begins};
 ghost use Rattle.bohm_store.specs.Writes.{AreNumbersOf};
 
-use crate::seats::Hints;
+use bohm_hints::IndexHints;
 use bohm_log::{HashSeed, Keys, LayeredNames, NameTable};
 use bohm_types::{Key, NoMemory};
 
@@ -26,14 +26,14 @@ pub fn is_numbered(names: NameTable<'_>, number: u32, key: &Key) -> bool
 /// when it was last seen is another key's. An error leaves no key without its number.
 pub fn number_of(
     names: &mut LayeredNames<HashSeed>,
-    hints: &mut Hints,
+    hints: &mut IndexHints,
     place: u32,
     key: &Key,
 ) -> Result<u32, NoMemory>
     ensures longer { Begins names.old names.new }
     ensures named { IfOk result (λ n. slice_get names.new n ≡ Some key.now) }
 {
-    let hint = hints.number(place);
+    let hint = hints.index(place);
     if is_numbered(names.table(), hint, key) {
         return Ok(hint);
     }
@@ -50,7 +50,7 @@ pub fn number_of(
 /// now. None is hashed.
 fn push_hinted(
     names: NameTable<'_>,
-    hints: &Hints,
+    hints: &IndexHints,
     keys: &Keys<'_>,
     numbers: &mut Vec<u32>,
 ) -> Result<(), NoMemory>
@@ -60,7 +60,7 @@ fn push_hinted(
         (take (length numbers.new.items) keys.now)) }
 {
     for i in 0..keys.len() {
-        let hint = hints.number(keys.number(i));
+        let hint = hints.index(keys.number(i));
         if !is_numbered(names, hint, keys.key(i)) {
             return Ok(());
         }
@@ -73,7 +73,7 @@ fn push_hinted(
 /// leaves no key without its number.
 pub fn number_all(
     names: &mut LayeredNames<HashSeed>,
-    hints: &mut Hints,
+    hints: &mut IndexHints,
     keys: &Keys<'_>,
     numbers: &mut Vec<u32>,
 ) -> Result<(), NoMemory>

@@ -1,7 +1,7 @@
 -- A line that begins with a word and a space has that word first, and behind it the words of the rest.
 use Rattle.std.proofs.Common.{◌≡◌, ◌≢◌, ℕ, ◌+◌, Bool, true, false, List, [], ◌∷◌, ◌++◌, length, take, drop, Some, None, refl, ap, sym, ◌∙◌, arith}
 use Rattle.std.proofs.Common.{length-append}
-use Rattle.std.specs.Prelude.{Option, MatchOption, IfSome, codes, nat_eq}
+use Rattle.std.specs.Prelude.{Option, MatchOption, IfSome, IfNone, codes, nat_eq}
 use Rattle.std.specs.Borrow.{Bor}
 use Rattle.std.specs.Cmp.Lexicographic.{pointwise}
 use Rattle.std.proofs.lemmas.Bool.Decides.{Decides-eqb}
@@ -16,12 +16,18 @@ none_left : (xs : List ℕ) → length xs ≡ 0 → xs ≡ []
 none_left [] e = refl
 none_left (x ∷ xs) e = absurd (omega (arith, e))
 
-pub behind_front : (line front : List ℕ) (r : Option (Bor (List ℕ)))
-    → MatchOption r (pointwise nat_eq (take (length front) line) front ≡ false)
+-- what a search for a text at the front tells
+abbrev IsStripped : List ℕ → List ℕ → Option (Bor (List ℕ)) → Type 0
+IsStripped line front r = MatchOption r (pointwise nat_eq (take (length front) line) front ≡ false)
     (λ x. (pointwise nat_eq (take (length front) line) front ≡ true) × (x.now ≡ drop (length front) line) × (length x.now + length front ≡ length line))
-    → IfSome r (λ rest. line ≡ front ++ rest.now)
+
+pub behind_front : (line front : List ℕ) (r : Option (Bor (List ℕ))) → IsStripped line front r → IfSome r (λ rest. line ≡ front ++ rest.now)
 behind_front line front None h = tt
 behind_front line front (Some rest) h = strip_prefix_is Decides-eqb line front (Some rest) h
+
+pub not_front : (line front : List ℕ) (r : Option (Bor (List ℕ))) → IsStripped line front r → IfNone r ((rest : List ℕ) → line ≢ front ++ rest)
+not_front line front None h = strip_prefix_is Decides-eqb line front None h
+not_front line front (Some rest) h = tt
 
 pub split_equals : (line : List ℕ) (r : Option (Bor (List ℕ))) → IfSome r (λ rest. line ≡ codes "= " ++ rest.now)
     → IfSome r (λ rest. split 32 line ≡ codes "=" ∷ split 32 rest.now)

@@ -18,6 +18,8 @@ mod Stepping
 mod Lines
 mod Searches
 mod Fronts
+mod Ahead
+mod Verbs
 mod TextLaws
 mod TidyLaws
 mod Behind

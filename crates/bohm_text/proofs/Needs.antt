@@ -1,5 +1,5 @@
 -- What stands behind a `need` is a condition, unless it is a test of a key's presence.
-use Rattle.std.proofs.Common.{◌≡◌, ℕ, Bool, true, false, cond, List, [], ◌∷◌, Some, None, refl, ap, sym}
+use Rattle.std.proofs.Common.{◌≡◌, ℕ, Bool, true, false, cond, List, [], ◌∷◌, Some, None, refl, ap, sym, ◌∙◌}
 use Rattle.std.specs.Prelude.{Option, ◌||◌, codes}
 use Rattle.std.specs.Option.{option_map}
 use Rattle.std.specs.Str.{bytes_eq}
@@ -9,6 +9,7 @@ use Rattle.bohm_types.specs.Name.{key_of}
 use Rattle.bohm_text.specs.declared.stops.Stop.{Stop}
 use Rattle.bohm_text.specs.declared.stops.Stop.TheVariants as stops
 use Rattle.bohm_text.specs.Print.{Words}
+use Rattle.bohm_text.specs.Ahead.{is_ahead}
 use Rattle.bohm_text.specs.Reading.{◌>>=◌, first_of, stop_of, longer, ending, terms_of, sum_from, last_sum, right_side, cond_of, presence_of, need_of}
 
 pub no_words : (words : Words) → words ≡ [] → need_of words ≡ option_map Need (cond_of words)
@@ -51,12 +52,13 @@ untested word name e =
       | false ↦ elim no as Q [ true ↦ λ h. absurd cc | false ↦ λ _. refl ]
     ] e
 
-pub no_test : (words rest : Words) (word : List ℕ) → words ≡ word ∷ rest
-    → bytes_eq word (codes "has") || bytes_eq word (codes "no") ≡ false → need_of words ≡ option_map Need (cond_of words)
+-- neither `has` nor `no` is ahead
+pub no_test : (words : Words) → is_ahead (codes "has") words || is_ahead (codes "no") words ≡ false → need_of words ≡ option_map Need (cond_of words)
 unfolding need_of
-no_test words [] word e none = rw e (ap (option_map Need) (sym (one_is_none word)))
-no_test words (name ∷ []) word e none = rw (e, untested word name none) (ap (option_map Need) (sym (two_are_none word name)))
-no_test words (cmp ∷ right ∷ rest) word e none = rw e refl
+no_test [] none = no_words [] refl
+no_test (word ∷ []) none = ap (option_map Need) (sym (one_is_none word))
+no_test (word ∷ name ∷ []) none = untested word name none ∙ ap (option_map Need) (sym (two_are_none word name))
+no_test (left ∷ cmp ∷ right ∷ rest) none = refl
 
 pub many_words : (words w1 w2 w3 : Words) (left cmp right : List ℕ) → words ≡ left ∷ w1 → w1 ≡ cmp ∷ w2 → w2 ≡ right ∷ w3
     → need_of words ≡ option_map Need (cond_of words)

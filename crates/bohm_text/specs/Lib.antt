@@ -1,6 +1,8 @@
 pub mod Print
 pub mod Cut
+pub mod Ahead
 pub mod Reading
+pub mod Verbs
 pub mod Stepping
 pub mod Signs
 pub mod WordsInside

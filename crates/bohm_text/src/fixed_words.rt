@@ -1,14 +1,17 @@
 //! Words that are expected, compared in place: they aren't sought byte by byte. Texts of at most four
 //! bytes are compared as one number.
 
-ghost use Rattle.std.specs.Prelude.{◌≡◌, ◌++◌, ◌∷◌, IfSome, codes};
+ghost use Rattle.std.specs.Prelude.{◌≡◌, ◌≢◌, ◌++◌, ◌∷◌, ◌||◌, IfSome, IfNone, MatchOption};
+ghost use Rattle.std.specs.Prelude.{List, ℕ, codes, false};
 ghost use Rattle.std.specs.Str.{bytes_eq};
+ghost use Rattle.bohm_text.specs.Ahead.{is_ahead};
 ghost use Rattle.bohm_text.specs.Cut.{split};
 
 /// What follows a text at the beginning of a line.
 #[inline(always)]
 fn behind<'a>(front: &[u8], line: &'a [u8]) -> Option<&'a [u8]>
-    ensures { IfSome result (λ rest. line.now ≡ front.now ++ rest.now) }
+    ensures some { IfSome result (λ rest. line.now ≡ front.now ++ rest.now) }
+    ensures none { IfNone result ((rest : List ℕ) → line.now ≢ front.now ++ rest) }
 {
     line.strip_prefix(front)
 }
@@ -29,12 +32,55 @@ pub fn behind_writes<'a>(line: &'a [u8]) -> Option<&'a [u8]>
     behind(b"es ", behind(b"writ", line)?)
 }
 
+/// What follows `set` and a space at the beginning of a line.
+#[inline(always)]
+pub fn behind_set<'a>(line: &'a [u8]) -> Option<&'a [u8]>
+    ensures { MatchOption result (is_ahead (codes "set") (split 32 line.now) ≡ false)
+        (λ rest. split 32 line.now ≡ codes "set" ∷ split 32 rest.now) }
+{
+    behind(b"set ", line)
+}
+
+/// What follows `need` and a space at the beginning of a line.
+#[inline(always)]
+pub fn behind_need<'a>(line: &'a [u8]) -> Option<&'a [u8]>
+    ensures { MatchOption result (is_ahead (codes "need") (split 32 line.now) ≡ false)
+        (λ rest. split 32 line.now ≡ codes "need" ∷ split 32 rest.now) }
+{
+    behind(b" ", behind(b"need", line)?)
+}
+
 /// What follows an equals sign and a space at the beginning of some words.
 #[inline(always)]
 pub fn behind_equals<'a>(words: &'a [u8]) -> Option<&'a [u8]>
     ensures { IfSome result (λ rest. split 32 words.now ≡ codes "=" ∷ split 32 rest.now) }
 {
     behind(b"= ", words)
+}
+
+/// Whether some words begin with `has` and a space.
+#[inline(always)]
+fn begins_has(words: &[u8]) -> bool
+    ensures { result ≡ is_ahead (codes "has") (split 32 words.now) }
+{
+    behind(b"has ", words).is_some()
+}
+
+/// Whether some words begin with `no` and a space.
+#[inline(always)]
+fn begins_no(words: &[u8]) -> bool
+    ensures { result ≡ is_ahead (codes "no") (split 32 words.now) }
+{
+    behind(b"no ", words).is_some()
+}
+
+/// Whether some words begin as a test of a key's presence does, with more words behind it.
+#[inline(always)]
+pub fn begins_test(words: &[u8]) -> bool
+    ensures { let all = split 32 words.now in
+        result ≡ (is_ahead (codes "has") all || is_ahead (codes "no") all) }
+{
+    begins_has(words) || begins_no(words)
 }
 
 /// Whether a word is this one.

@@ -1,11 +1,29 @@
 //! Numbers in decimal.
 
-ghost use Rattle.std.specs.Prelude.{◌≡◌, ◌≤◌, ◌<◌, ◌^◌, IfSome};
+ghost use Rattle.std.specs.Prelude.{ℕ, ◌≡◌, ◌≤◌, ◌<◌, ◌^◌, IfSome, length};
 ghost use Rattle.bohm_text.specs.Reading.{digits_of, whole_of, lit_of, number_of, negative};
 
 use bohm_types::GREATEST_LITERAL;
 
+/// At most 18 digits: their number is below each limit, so none is tested.
 #[inline(always)]
+fn read_few(digits: &[u8]) -> Option<u64>
+    requires { length digits.now ≤ 18 }
+    ensures value { (limit : ℕ) → 10 ^ 18 ≤ limit → result ≡ digits_of limit 0 digits.now }
+    ensures inside { IfSome result (λ number. number < 10 ^ 18) }
+{
+    let mut number: u64 = 0;
+    for byte in digits {
+        if !byte.is_ascii_digit() {
+            return None;
+        }
+        number = number * 10 + u64::from(*byte - b'0');
+    }
+    Some(number)
+}
+
+/// Digits of any count. Out of line, since few numbers have more than 18.
+#[inline(never)]
 fn read_digits(limit: u64, digits: &[u8]) -> Option<u64>
     requires { limit ≤ 2 ^ 63 }
     ensures value { result ≡ digits_of limit 0 digits.now }
@@ -30,13 +48,15 @@ fn read_digits(limit: u64, digits: &[u8]) -> Option<u64>
 
 #[inline(always)]
 fn read_whole(limit: u64, word: &[u8]) -> Option<u64>
-    requires { limit ≤ 2 ^ 63 }
+    requires low { 10 ^ 18 ≤ limit }
+    requires high { limit ≤ 2 ^ 63 }
     ensures value { result ≡ whole_of limit word.now }
     ensures inside { IfSome result (λ number. number ≤ limit) }
 {
     match word {
         [] => None,
         [b'0', _, ..] => None,
+        _ if word.len() <= 18 => read_few(word),
         _ => read_digits(limit, word),
     }
 }

@@ -19,6 +19,7 @@ ghost use Rattle.bohm_text.specs.Drafted.{with_lets};
 ghost use Rattle.bohm_text.specs.declared.procedures.ParamPlace.TheVariants as places;
 
 use crate::fault::{ReadFault, TextFault};
+use crate::fixed_words::is_word;
 use crate::parsing::split_line;
 use crate::reader::words_after;
 use crate::statements::{read_reads, read_stmt, read_writes};
@@ -149,7 +150,7 @@ impl ProcedureReader {
     {
         let mut words = Words::of(line);
         match words.next() {
-            Some(word) if word == b"value".as_slice() => self.feed_value(&mut words),
+            Some(word) if is_word(word, b"value") => self.feed_value(&mut words),
             _ => self.feed_reads(line),
         }
     }
@@ -164,7 +165,7 @@ impl ProcedureReader {
     {
         let mut words = Words::of(line);
         match words.next() {
-            Some(word) if word == b"key".as_slice() => self.feed_key(&mut words),
+            Some(word) if is_word(word, b"key") => self.feed_key(&mut words),
             _ => {
                 self.place = ParamPlace::Values;
                 self.feed_values(line)
@@ -201,7 +202,7 @@ impl ProcedureReader {
             self.place = ParamPlace::Done;
             return Ok(());
         }
-        read_stmt(&mut self.draft, &mut Words::of(line))
+        read_stmt(&mut self.draft, line)
     }
 
     /// Reads the next line. After an `Err` the reader's contents are unspecified.

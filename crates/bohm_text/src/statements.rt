@@ -1,20 +1,21 @@
 //! Statements and other lines that are read word by word.
 
-ghost use Rattle.std.specs.Prelude.{◌≡◌, ◌∷◌, ◌||◌, [], codes, MatchOption, true, false, List, ℕ};
+ghost use Rattle.std.specs.Prelude.{◌≡◌, ◌∷◌, [], codes, MatchOption, true, false, List, ℕ};
 ghost use Rattle.std.specs.Prelude.{Option, None};
-ghost use Rattle.std.specs.Str.{bytes_eq};
 ghost use Rattle.std.specs.Option.{option_map};
 ghost use Rattle.bohm_types.specs.Stmt.{Need, Show, Stmt};
 ghost use Rattle.bohm_log.specs.Drafting.{IsBare, IsBetween};
+ghost use Rattle.bohm_text.specs.Cut.{split};
 ghost use Rattle.bohm_text.specs.Reading.{Gives, keys_of, local_of, after, last_sum};
 ghost use Rattle.bohm_text.specs.Reading.{assigned_of, bind_of, put_of, presence_of, need_of};
 ghost use Rattle.bohm_text.specs.Reading.{cond_of, remove_of, fail_of, stmt_of, entry_of};
 ghost use Rattle.bohm_text.specs.Taking.{Takes, TakesStmt, with_reads, with_terms, with_writes};
 ghost use Rattle.bohm_text.specs.Targets.{StandsIn, name_in};
+ghost use Rattle.bohm_text.specs.Verbs.{other_of};
 
 use crate::conditions::read_cond;
 use crate::fault::ReadFault;
-use crate::fixed_words::is_word;
+use crate::fixed_words::{behind_need, behind_set, is_word};
 use crate::numbers::read_number;
 use crate::stops::Stop;
 use crate::sums::{read_last_sum, read_sum};
@@ -37,7 +38,7 @@ fn read_bound(draft: &mut Draft<HashSeed>, words: &mut Words) -> Result<(), Read
     ensures { Takes result (after (codes "=") last_sum words.old) (with_terms draft.old) draft.new }
 {
     match words.next() {
-        Some(word) if word == b"=".as_slice() => read_last_sum(draft, words),
+        Some(word) if is_word(word, b"=") => read_last_sum(draft, words),
         _ => Err(ReadFault::Bad),
     }
 }
@@ -89,7 +90,7 @@ fn read_equals(words: &mut Words) -> bool
         return true;
     }
     match words.next() {
-        Some(word) => word == b"=".as_slice(),
+        Some(word) => is_word(word, b"="),
         None => false,
     }
 }
@@ -118,21 +119,14 @@ fn read_presence(draft: &mut Draft<HashSeed>, word: &[u8], name: &[u8]) -> Resul
     ensures { TakesStmt result (presence_of word.now name.now) draft.old draft.new }
 {
     let key = Key::new(name).ok_or(ReadFault::Bad)?;
-    if word == b"has".as_slice() {
+    if is_word(word, b"has") {
         draft.has(key)?;
-    } else if word == b"no".as_slice() {
+    } else if is_word(word, b"no") {
         draft.lacks(key)?;
     } else {
         return Err(ReadFault::Bad);
     }
     Ok(())
-}
-
-/// Whether a word after `need` may begin a test of a key's presence.
-fn is_test(word: &[u8]) -> bool
-    ensures { result ≡ (bytes_eq word.now (codes "has") || bytes_eq word.now (codes "no")) }
-{
-    word == b"has".as_slice() || word == b"no".as_slice()
 }
 
 /// The two words of a test of a key's presence, if there are no others.
@@ -141,11 +135,11 @@ fn test_in<'a>(words: &Words<'a>) -> Option<(&'a [u8], &'a [u8])>
     ensures { MatchOption result (need_of words.now ≡ option_map Need (cond_of words.now))
         (λ test. words.now ≡ test.0.now ∷ test.1.now ∷ []) }
 {
-    let mut ahead = words.fork();
-    let word = ahead.next()?;
-    if !is_test(word) {
+    if !words.begins_test() {
         return None;
     }
+    let mut ahead = words.fork();
+    let word = ahead.next()?;
     let name = ahead.next()?;
     match ahead.next() {
         None => Some((word, name)),
@@ -200,21 +194,19 @@ fn read_fail(draft: &mut Draft<HashSeed>, words: &mut Words) -> Result<(), ReadF
     Ok(())
 }
 
-/// Adds the statement that the words spell. After an `Err` the draft may hold a part of it.
-#[tactic(auto, unfolding(crate::specs::Reading::stmt_of))]
-pub fn read_stmt(draft: &mut Draft<HashSeed>, words: &mut Words) -> Result<(), ReadFault>
+/// Adds the statement that the words spell, if its verb is neither `set` nor `need`. It isn't inlined:
+/// few statements have other verbs.
+#[inline(never)]
+#[tactic(auto, unfolding(crate::specs::Verbs::other_of))]
+fn read_other(draft: &mut Draft<HashSeed>, words: &mut Words) -> Result<(), ReadFault>
     requires { IsBetween draft.old }
-    ensures { TakesStmt result (stmt_of words.old) draft.old draft.new }
+    ensures { TakesStmt result (other_of words.old) draft.old draft.new }
 {
     let Some(verb) = words.next() else {
         return Err(ReadFault::Bad);
     };
-    if is_word(verb, b"set") {
-        read_put(draft, words)
-    } else if is_word(verb, b"let") {
+    if is_word(verb, b"let") {
         read_bind(draft, words)
-    } else if is_word(verb, b"need") {
-        read_need(draft, words)
     } else if is_word(verb, b"show") {
         read_show(draft, words)
     } else if is_word(verb, b"drop") {
@@ -224,6 +216,22 @@ pub fn read_stmt(draft: &mut Draft<HashSeed>, words: &mut Words) -> Result<(), R
     } else {
         Err(ReadFault::Bad)
     }
+}
+
+/// Adds the statement that the line spells. After an `Err` the draft may hold a part of it. Most
+/// statements set or need: these two verbs are compared in place.
+#[tactic(auto, using(crate::proofs::Verbs::other_verb), unfolding(crate::specs::Reading::stmt_of))]
+pub fn read_stmt(draft: &mut Draft<HashSeed>, line: &[u8]) -> Result<(), ReadFault>
+    requires { IsBetween draft.old }
+    ensures { TakesStmt result (stmt_of (split 32 line.now)) draft.old draft.new }
+{
+    if let Some(words) = behind_set(line) {
+        return read_put(draft, &mut Words::of(words));
+    }
+    if let Some(words) = behind_need(line) {
+        return read_need(draft, &mut Words::of(words));
+    }
+    read_other(draft, &mut Words::of(line))
 }
 
 /// A key of the store and its value.

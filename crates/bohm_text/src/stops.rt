@@ -3,6 +3,7 @@
 ghost use Rattle.std.specs.Prelude.{◌≡◌};
 ghost use Rattle.bohm_text.specs.Reading.{cmp_of, stop_of};
 
+use crate::fixed_words::is_word;
 use bohm_types::Cmp;
 
 /// What follows a sum.
@@ -18,15 +19,15 @@ pub enum Stop {
 fn read_cmp(word: &[u8]) -> Option<Cmp>
     ensures { result ≡ cmp_of word.now }
 {
-    if word == b"<".as_slice() {
+    if is_word(word, b"<") {
         Some(Cmp::Lt)
-    } else if word == b"<=".as_slice() {
+    } else if is_word(word, b"<=") {
         Some(Cmp::Le)
-    } else if word == b"=".as_slice() {
+    } else if is_word(word, b"=") {
         Some(Cmp::Eq)
-    } else if word == b">=".as_slice() {
+    } else if is_word(word, b">=") {
         Some(Cmp::Ge)
-    } else if word == b">".as_slice() {
+    } else if is_word(word, b">") {
         Some(Cmp::Gt)
     } else {
         None
@@ -38,7 +39,7 @@ fn read_cmp(word: &[u8]) -> Option<Cmp>
 pub fn read_stop(word: &[u8]) -> Option<Stop>
     ensures { result ≡ stop_of word.now }
 {
-    if word == b"when".as_slice() {
+    if is_word(word, b"when") {
         Some(Stop::When)
     } else {
         Some(Stop::Compared(read_cmp(word)?))

@@ -1,10 +1,11 @@
 //! The words of a line.
 
-ghost use Rattle.std.specs.Prelude.{◌≡◌, ◌∷◌, [], MatchOption, ◌≤◌, true, false, codes, length};
+ghost use Rattle.std.specs.Prelude.{◌≡◌, ◌∷◌, [], MatchOption, ◌≤◌, ◌||◌, true, false, codes, length};
+ghost use Rattle.bohm_text.specs.Ahead.{is_ahead};
 ghost use Rattle.bohm_text.specs.Cut.{split};
 ghost use Rattle.bohm_text.specs.Signs.{begins_signed, behind_sign, sign_ahead};
 
-use crate::fixed_words::behind_equals;
+use crate::fixed_words::{begins_test, behind_equals};
 use crate::separators::{space_at, space_near};
 use bohm_types::PackedWord;
 use std::marker::Model;
@@ -85,7 +86,20 @@ impl<'a> Words<'a> {
         }
     }
 
-    /// The next word, packed. Where it is short and 8 bytes of the line are left, they are read at once.
+    /// Whether the next word is `has` or `no`, and another word follows it. At most 4 bytes are
+    /// compared.
+    #[inline(always)]
+    pub fn begins_test(&self) -> bool
+        ensures { result ≡ (is_ahead (codes "has") self.now || is_ahead (codes "no") self.now) }
+    {
+        match self.rest {
+            Some(rest) => begins_test(rest),
+            None => false,
+        }
+    }
+
+    /// The next word, packed. Where it is short and 8 bytes of the line are left, they are read at once;
+    /// where fewer are left, they are packed first, and the last word is known by their number.
     #[inline(always)]
     pub fn next_packed(&mut self) -> Option<PackedWord<'a>>
         ensures { MatchOption result ((self.old ≡ []) × (self.new ≡ []))
@@ -95,6 +109,13 @@ impl<'a> Words<'a> {
         if let Some(at) = space_near(rest) {
             self.rest = Some(&rest[at + 1..]);
             return Some(PackedWord::front(rest, at));
+        }
+        if rest.len() < 8 {
+            let word = PackedWord::new(rest);
+            if word.lacks(b' ') {
+                self.rest = None;
+                return Some(word);
+            }
         }
         Some(PackedWord::new(self.next()?))
     }

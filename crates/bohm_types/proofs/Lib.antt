@@ -2,3 +2,4 @@ mod Words
 mod Sizes
 mod NameBytes
 mod Fronts
+mod Marks

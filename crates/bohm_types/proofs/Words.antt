@@ -223,7 +223,7 @@ front n xs h = ap (take (length xs)) (padded-behind n xs h) ∙ take-append_seam
 same_front : (n : ℕ) (xs ys : List ℕ) → length xs ≤ n → length xs ≡ length ys → padded n xs ≡ padded n ys → xs ≡ ys
 same_front n xs ys h e p = sym (front n xs h) ∙ (λ i. take (e i) (p i)) ∙ front n ys (omega (arith, h, e))
 
-padded_any : (n : ℕ) (bs : List ℕ) → AreBytes bs → AreBytes (padded n bs)
+pub padded_any : (n : ℕ) (bs : List ℕ) → AreBytes bs → AreBytes (padded n bs)
 padded_any zero bs f = bytes-none
 padded_any (suc n) [] f = bytes-more 0 (padded n []) (omega arith) (padded_any n [] f)
 padded_any (suc n) (x ∷ xs) f = bytes-more x (padded n xs) (f 0) (padded_any n xs (λ i. f (suc i)))

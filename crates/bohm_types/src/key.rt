@@ -10,7 +10,7 @@ ghost use Rattle.std.specs.List.{list_all};
 ghost use Rattle.std.specs.Str.{bytes_eq};
 ghost use Rattle.bohm_types.specs.Name.{key_of, is_name, is_name_byte};
 ghost use Rattle.std.specs.Int.{w64, from_be_bytes};
-ghost use Rattle.bohm_types.specs.Words.{padded, words_of};
+ghost use Rattle.bohm_types.specs.Words.{padded};
 ghost use Rattle.bohm_types.specs.Keys.{place};
 
 use crate::packed_word::PackedWord;
@@ -132,18 +132,32 @@ impl Key {
         ensures name { result ≡ true → is_name word.now ≡ true }
     {
         if word.bytes().len() > 7 {
-            return self.is_long(word);
+            return self.is_long(word.bytes());
         }
         self.is_short(word.bytes(), word.first())
     }
 
-    /// `is_word` for a word of more than 7 bytes. Few are so long: its code isn't inlined.
+    /// `is_word` for a word of more than 7 bytes. Few are so long: its code isn't inlined, and it
+    /// takes the bytes, so that the packed word stays in registers.
     #[inline(never)]
-    fn is_long(&self, word: &PackedWord<'_>) -> bool
+    fn is_long(&self, word: &[u8]) -> bool
         ensures same { result ≡ bytes_eq self.now word.now }
         ensures name { result ≡ true → is_name word.now ≡ true }
     {
-        self.is_packed(word.bytes(), &word.words())
+        let words = PackedWord::new(word).words();
+        self.words == words && word.len() == size_of(&self.words)
+    }
+
+    /// `is_word` for a word of at most 7 bytes, packed into one word. A longer name has no 0 at the end
+    /// of its first word, so the other words aren't compared.
+    #[inline(always)]
+    fn is_short(&self, word: &[u8], packed: u64) -> bool
+        requires short { length word.now ≤ 7 }
+        requires packed { packed ≡ from_be_bytes w64 (padded 8 word.now) }
+        ensures same { result ≡ bytes_eq self.now word.now }
+        ensures name { result ≡ true → is_name word.now ≡ true }
+    {
+        self.words[0] == packed && word.len() == 8 - zeros_behind(packed)
     }
 
     /// Its bytes. They are those of a name.
@@ -164,28 +178,6 @@ impl Key {
         ensures { is_name self.now ≡ true }
     {
         let _ = &self.words;
-    }
-
-    /// Whether a word that was packed into these words is its name. No `Key` is made of it.
-    #[inline(always)]
-    pub(crate) fn is_packed(&self, word: &[u8], words: &[u64; 4]) -> bool
-        requires { words.now ≡ words_of word.now }
-        ensures same { result ≡ bytes_eq self.now word.now }
-        ensures name { result ≡ true → is_name word.now ≡ true }
-    {
-        self.words == *words && word.len() == size_of(&self.words)
-    }
-
-    /// Whether a word of at most 7 bytes, packed into one word, is its name. A longer name has no 0
-    /// at the end of its first word, so the other words aren't compared.
-    #[inline(always)]
-    pub(crate) fn is_short(&self, word: &[u8], packed: u64) -> bool
-        requires short { length word.now ≤ 7 }
-        requires packed { packed ≡ from_be_bytes w64 (padded 8 word.now) }
-        ensures same { result ≡ bytes_eq self.now word.now }
-        ensures name { result ≡ true → is_name word.now ≡ true }
-    {
-        self.words[0] == packed && word.len() == 8 - zeros_behind(packed)
     }
 
     /// A number below 256, equal for equal keys.

@@ -1,11 +1,13 @@
 //! A word of a text, packed so that names are compared with it in place.
 
-ghost use Rattle.std.specs.Prelude.{◌≡◌, ◌<◌, ◌≤◌, length, take};
+ghost use Rattle.std.specs.Prelude.{◌≡◌, ◌<◌, ◌≤◌, ◌==◌, None, true, length, take};
+ghost use Rattle.std.specs.List.{position_from};
 ghost use Rattle.std.specs.Int.{w64, from_be_bytes};
 ghost use Rattle.bohm_types.specs.Words.{padded, words_of};
 
 use crate::packing::{first_word, front_word, long_words_of, short_hash_at, short_hash_of};
 use std::marker::Model;
+use std::simd::prelude::*;
 
 /// A word, and its first 8 bytes as a number: most significant byte first, padded with zeros. It
 /// borrows the text.
@@ -25,6 +27,26 @@ impl<'a> Model for PackedWord<'a> {
     ghost view = { λ w. w.bytes.now };
 
     ghost invariant = { λ w. w.first ≡ from_be_bytes w64 (padded 8 w.bytes.now) };
+}
+
+/// `short_hash` of a word of more than 7 bytes. Few are so long: its code isn't inlined, and it takes
+/// the bytes, so that the packed word stays in registers.
+#[inline(never)]
+fn long_hash(word: &[u8]) -> usize
+    ensures { result < 256 }
+{
+    short_hash_at(&PackedWord::new(word).words())
+}
+
+/// Whether a byte is none of a packed word's.
+#[inline(always)]
+fn lacks(word: &[u8], packed: u64, byte: u8) -> bool
+    requires short { length word.now ≤ 8 }
+    requires packed { packed ≡ from_be_bytes w64 (padded 8 word.now) }
+    ensures { result ≡ true → position_from (λ other. other == byte) 0 word.now ≡ None }
+{
+    let block = u64x1::splat(packed).to_le_bytes();
+    block.simd_eq(u8x8::splat(byte)).to_bitmask() == 0
 }
 
 impl<'a> PackedWord<'a> {
@@ -68,6 +90,15 @@ impl<'a> PackedWord<'a> {
         self.first
     }
 
+    /// Whether a byte is none of a word's, of at most 8. They are compared at once.
+    #[inline(always)]
+    pub fn lacks(&self, byte: u8) -> bool
+        requires { length self.now ≤ 8 }
+        ensures { result ≡ true → position_from (λ other. other == byte) 0 self.now ≡ None }
+    {
+        lacks(self.bytes, self.first, byte)
+    }
+
     /// Its words, as a key has them. Most have one.
     #[inline(always)]
     #[tactic(auto, using(crate::proofs::Words::one_word))]
@@ -86,16 +117,8 @@ impl<'a> PackedWord<'a> {
         ensures { result < 256 }
     {
         if self.bytes.len() > 7 {
-            return self.long_hash();
+            return long_hash(self.bytes);
         }
         short_hash_of(self.first)
-    }
-
-    /// `short_hash` of a word of more than 7 bytes. Few are so long: its code isn't inlined.
-    #[inline(never)]
-    fn long_hash(&self) -> usize
-        ensures { result < 256 }
-    {
-        short_hash_at(&self.words())
     }
 }

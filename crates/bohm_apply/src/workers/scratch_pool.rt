@@ -2,7 +2,7 @@
 
 ghost use Rattle.std.specs.Prelude.{◌≡◌, ◌+◌, ◌<◌, ◌≤◌, IfOk, OnOk, vec_len};
 
-use crate::worker_counts::Executors;
+use bohm_settings::Executors;
 use bohm_txn::Scratch;
 use bohm_types::NoMemory;
 use std::alloc::Global;

@@ -13,9 +13,9 @@ ghost use Rattle.bohm_store.specs.Writes.{AreNumbersOf};
 use crate::base::{push_cells, push_reads, push_reads_and_cells};
 use crate::history::History;
 use crate::numbering::number_all;
-use crate::seats::{Hints, Seats};
 use crate::workspace::Workspace;
 use crate::writes::Writes;
+use bohm_hints::IndexHints;
 use bohm_log::{Keys, TxnView};
 use bohm_txn::{Outcome, Scratch, eval_in_place};
 use bohm_types::{Cell, NoMemory};
@@ -32,7 +32,7 @@ impl History {
         &mut self,
         txn: &TxnView<'_>,
         keep: u32,
-        seats: &mut Seats,
+        hints: &mut IndexHints,
         workspace: &mut Workspace,
         scratch: &mut Scratch,
     ) -> Result<Outcome, NoMemory>
@@ -46,7 +46,6 @@ impl History {
             (IsSettledKept self.old self.new (txn.now ∷ []) ((self.old.top + 1) - keep)) }
         ensures same { OnErr result (IsSame self.old self.new) }
     {
-        let hints = &mut seats.hints;
         self.number_writes(hints, &txn.writes(), &mut workspace.numbers)?;
         let numbers = workspace.numbers.as_slice();
         let outcome = self.evaluate(txn, hints, numbers, scratch);
@@ -58,7 +57,7 @@ impl History {
     // The numbers of keys, in place of what stood in the list. A key without a number gets one.
     fn number_writes(
         &mut self,
-        hints: &mut Hints,
+        hints: &mut IndexHints,
         keys: &Keys<'_>,
         numbers: &mut Vec<u32>,
     ) -> Result<(), NoMemory>
@@ -75,7 +74,7 @@ impl History {
     fn push_held(
         &self,
         txn: &TxnView<'_>,
-        hints: &mut Hints,
+        hints: &mut IndexHints,
         numbers: &[u32],
         scratch: &mut Scratch,
     )
@@ -100,7 +99,7 @@ impl History {
     fn evaluate(
         &self,
         txn: &TxnView<'_>,
-        hints: &mut Hints,
+        hints: &mut IndexHints,
         numbers: &[u32],
         scratch: &mut Scratch,
     ) -> Outcome

@@ -9,8 +9,8 @@ ghost use Rattle.bohm_store.specs.Nexts.{IsNext};
 
 use crate::base::base_of;
 use crate::history::History;
-use crate::seats::Seats;
 use bohm_board::Batch;
+use bohm_hints::IndexHints;
 use bohm_log::LogPart;
 use bohm_place::{BatchKeys, Plan};
 use bohm_types::NoMemory;
@@ -33,10 +33,10 @@ impl History {
         ensures next { IfOk result (IsNext self.now) }
     {
         let plan = plan.gather_keys(alloc, txns, &mut BatchKeys::new(alloc))?;
-        self.batch_with(alloc, &mut Seats::new(alloc), txns, plan)
+        self.batch_with(alloc, &mut IndexHints::new(alloc), txns, plan)
     }
 
-    /// The same with what the run keeps from batch to batch: a key is hashed only if its number
+    /// The same with hints for the keys of the log: a key is hashed only if its number
     /// isn't the one that it had when it was last seen, and none is sorted or searched for. A key
     /// that the history lacks, as one that is only ever read, has no number: it is looked up in
     /// each batch that declares it. The time grows with the number of keys that the transactions
@@ -45,7 +45,7 @@ impl History {
     pub fn batch_with<'a>(
         &self,
         alloc: Global,
-        seats: &mut Seats,
+        hints: &mut IndexHints,
         txns: &LogPart<'a>,
         plan: Plan,
     ) -> Result<Batch<'a>, NoMemory>
@@ -57,7 +57,6 @@ impl History {
         ensures next { IfOk result (IsNext self.now) }
     {
         let plan = plan.ensure_keys(alloc, txns)?;
-        let hints = &mut seats.hints;
         hints.cover(txns.keys().names())?;
         let keys = plan.keys();
         let base = base_of(&self.names, &self.numbered, alloc, hints, keys)?;

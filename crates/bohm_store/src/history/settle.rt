@@ -9,10 +9,10 @@ ghost use Rattle.bohm_store.specs.Writes.{AreWritesOf};
 
 use crate::history::History;
 use crate::numbered_write::{NumberedWrite, numbered_writes};
-use crate::seats::{Hints, Seats};
 use crate::writes::Writes;
 use bohm_board::Batch;
 use bohm_exec::Finished;
+use bohm_hints::IndexHints;
 use bohm_types::NoMemory;
 use std::alloc::Global;
 
@@ -28,13 +28,12 @@ impl History {
         ensures ok { OnOk result
             (IsSettled self.old self.new (txns_of (batch_of_finished finished.now))) }
     {
-        let mut seats = Seats::new(alloc);
-        let writes = self.list_writes(alloc, &mut seats.hints, finished)?;
+        let writes = self.list_writes(alloc, &mut IndexHints::new(alloc), finished)?;
         self.settle_all(finished.batch(), &writes)?;
         Ok(())
     }
 
-    /// Settles the batch as `settle` does, with what the run keeps from batch to batch, and trims at a
+    /// Settles the batch as `settle` does, with hints for the keys of its log, and trims at a
     /// floor, which is at most the batch's end. A key is hashed only if its number isn't the one that
     /// it had when it was last seen. Where the floor is the batch's end, no version is kept but the
     /// newest one of each key that the batch writes, and none is moved.
@@ -45,7 +44,7 @@ impl History {
     pub fn settle_kept(
         &mut self,
         alloc: Global,
-        seats: &mut Seats,
+        hints: &mut IndexHints,
         finished: &Finished<'_>,
         floor: u32,
     ) -> Result<(), NoMemory>
@@ -55,7 +54,7 @@ impl History {
         ensures ok { let txns = txns_of (batch_of_finished finished.now) in
             OnOk result (IsSettledKept self.old self.new txns floor) }
     {
-        let writes = self.list_writes(alloc, &mut seats.hints, finished)?;
+        let writes = self.list_writes(alloc, hints, finished)?;
         self.settle_listed(finished.batch(), &writes, floor)?;
         Ok(())
     }
@@ -65,7 +64,7 @@ impl History {
     fn list_writes(
         &mut self,
         alloc: Global,
-        hints: &mut Hints,
+        hints: &mut IndexHints,
         finished: &Finished<'_>,
     ) -> Result<Vec<NumberedWrite>, NoMemory>
         ensures same { IsSame self.old self.new }

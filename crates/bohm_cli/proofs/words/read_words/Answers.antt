@@ -3,8 +3,8 @@ use Rattle.std.specs.Prelude.{Some, string_bytes}
 use Rattle.std.proofs.lemmas.Result.{err_from_is_err_and}
 use Rattle.clap.specs.Walk.{rows_of, texts}
 use Rattle.clap.specs.Words.{Kinds, found_of}
-use Rattle.bohm_apply.specs.Given.{Given}
-use Rattle.bohm_apply.specs.declared.settings.TheConstants.{MOST_WORKERS, MOST_PARTS, LARGEST_BATCH, MOST_KEPT}
+use Rattle.bohm_settings.specs.Given.{Given}
+use Rattle.bohm_settings.specs.declared.settings.TheConstants.{MOST_WORKERS, MOST_PARTS, LARGEST_BATCH, MOST_KEPT}
 use Rattle.bohm_command.specs.Faults.{IsFoundAmong}
 use Rattle.bohm_command.proofs.ForCallers.{takes_line, same_faults, same_rows, number, number_or}
 use Rattle.bohm_cli.specs.Taken.{settings_in}

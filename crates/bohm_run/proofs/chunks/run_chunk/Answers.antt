@@ -3,7 +3,7 @@ use Rattle.std.specs.Prelude.{None, length}
 use Rattle.std.proofs.lemmas.Result.{on_ok_weaker}
 use Rattle.bohm_types.specs.Txn.{Txn}
 use Rattle.bohm_apply.specs.Runs.{cutting_behind}
-use Rattle.bohm_run.specs.Preparing.{count_with, ArePlanned, AreReady, IsPrepared}
+use Rattle.bohm_read_ahead.specs.Preparing.{count_with, ArePlanned, AreReady, IsPrepared}
 use Rattle.bohm_run.specs.Chunks.{IsPartRun}
 use Rattle.bohm_place.specs.Cuttings.{ArePlans}
 use Rattle.bohm_run.proofs.ChunkLaws.{next_ran, next_skipped, no_some}

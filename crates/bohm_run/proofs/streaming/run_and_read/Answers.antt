@@ -1,8 +1,8 @@
 use Rattle.std.proofs.Common.{subst, sym}
 use Rattle.std.specs.Prelude.{IfErr, IfOk}
 use Rattle.std.proofs.lemmas.Result.{err_from_is_err_and, IfOk-at_ok}
-use Rattle.bohm_run.specs.declared.reading_state.ReadingState.{ReadingState}
-use Rattle.bohm_run.specs.Reading.{ReadsChunk, RefusesChunk}
+use Rattle.bohm_read_ahead.specs.declared.reading_state.ReadingState.{ReadingState}
+use Rattle.bohm_read_ahead.specs.Reading.{ReadsChunk, RefusesChunk}
 use Rattle.bohm_run.proofs.streaming.run_and_read.Goals as goal
 
 pub returns-in_err-ran-clause-err : goal.returns-in_err-ran-clause-err

@@ -2,10 +2,10 @@ use Rattle.std.proofs.Common.{ℕ, List, length, refl, ap, sym, subst, ◌∙◌
 use Rattle.std.proofs.lemmas.Result.{err_from_is_err_and}
 use Rattle.bohm_types.specs.Txn.{Txn}
 use Rattle.bohm_reading.specs.Reading.{IsReady}
-use Rattle.bohm_run.specs.declared.reading_state.ReadingState.{ReadingState}
-use Rattle.bohm_run.specs.declared.parsing.Parsing.{Parsing}
-use Rattle.bohm_run.specs.Parsing.{AreParsing}
-use Rattle.bohm_run.specs.Preparing.{count_with, IsPrepared}
+use Rattle.bohm_read_ahead.specs.declared.reading_state.ReadingState.{ReadingState}
+use Rattle.bohm_read_ahead.specs.declared.parsing.Parsing.{Parsing}
+use Rattle.bohm_read_ahead.specs.Parsing.{AreParsing}
+use Rattle.bohm_read_ahead.specs.Preparing.{count_with, IsPrepared}
 use Rattle.bohm_run.specs.Streaming.{RunsBehindTo}
 use Rattle.bohm_run.proofs.StreamLaws.{begin, ahead_on, go_on, refused, refused_first, at_end}
 use Rattle.bohm_run.proofs.streaming.run_to_end.Goals as goal
@@ -31,14 +31,9 @@ returns-in_err-read_ahead-clause-err g c =
     (ap (λ (r : ReadingState). r.source) same) (ap (λ (r : ReadingState). r.ahead.items) same ∙ c.requires.none) _ c.in_err-read_ahead.field-0.0
     c.in_err-read_ahead.ensures.err)
 
-pub returns-in_err-log_reader-clause-err : goal.returns-in_err-log_reader-clause-err
-returns-in_err-log_reader-clause-err g c =
-    let p = err_from_is_err_and c.from_residual.result c.from_residual.ensures.1 in
-    rw (p.1, p.2) (λ d begun. tt)
-
 pub returns-in_err-chunk-clause-err : goal.returns-in_err-chunk-clause-err
 returns-in_err-chunk-clause-err g c =
-    let p = err_from_is_err_and c.from_residual-in_err-chunk.result c.from_residual-in_err-chunk.ensures.1 in rw (p.1, p.2) (λ d begun. tt)
+    let p = err_from_is_err_and c.from_residual.result c.from_residual.ensures.1 in rw (p.1, p.2) (λ d begun. tt)
 
 pub windows-init : goal.windows-init
 windows-init g c =

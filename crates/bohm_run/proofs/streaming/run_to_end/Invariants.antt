@@ -1,7 +1,7 @@
 use Rattle.std.proofs.Common.{◌≡◌, length}
 use Rattle.bohm_run.specs.Chunks.{IsNext}
-use Rattle.bohm_run.specs.Preparing.{count_with}
-use Rattle.bohm_run.specs.Reading.{IsGoing, left}
+use Rattle.bohm_read_ahead.specs.Preparing.{count_with}
+use Rattle.bohm_read_ahead.specs.Reading.{IsGoing, left}
 use Rattle.bohm_run.specs.Streaming.{RunsBehindTo}
 use Rattle.bohm_run.proofs.streaming.run_to_end.Given as goal
 

@@ -1,5 +1,5 @@
 use Rattle.std.proofs.lemmas.Result.{err_from_is_err_and}
-use Rattle.bohm_apply.specs.Given.{defaults}
+use Rattle.bohm_settings.specs.Given.{defaults}
 use Rattle.bohm_run.proofs.ForCallers.{before_writing}
 use Rattle.bohm_serial_cli.proofs.serial.serial_text.Goals as goal
 

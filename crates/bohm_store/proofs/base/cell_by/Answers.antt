@@ -6,7 +6,7 @@ use Rattle.bohm_store.proofs.base.cell_by.Goals as goal
 pub returns-then-is_numbered : goal.returns-then-is_numbered
 returns-then-is_numbered c =
     let h = c.args.numbered.now in
-    let n = c.number-hint.result in
+    let n = c.index-hint.result in
     let there : slice_get c.args.names.now n ≡ Some c.args.key.now = rw c.table.ensures.names at (c.is_numbered.ensures c.if-is_numbered.true) in
     let (inside, is) = placed_at _ _ n there in
     c.cell.ensures ∙ sym (past_named _ h h.top n _ c.table.ensures.apart inside is)

@@ -8,7 +8,7 @@ pub loop-i-preserved : goal.loop-i-preserved
 loop-i-preserved c =
     let at = c.loop-i in
     let names = all_names c.args.names in
-    let n = c.number-hint.result in
+    let n = c.index-hint.result in
     let k = c.key.result.now in
     let (inside, is) = placed_at names k n (c.if-not-is_numbered.ensures refl) in
     rw c.in_ok-push.ensures.items (record {

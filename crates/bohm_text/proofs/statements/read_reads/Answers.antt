@@ -10,13 +10,14 @@ words-preserved c =
       bare = rw c.in_ok-read.ensures.ok
           (record { body = c.words.invariant.bare.body; done = c.words.invariant.bare.done; latest = c.words.invariant.bare.latest });
       so_far = rw c.in_ok-read.ensures.ok (keys_more with_read with_reads reads_step reads_stay c.args.draft.now c.words.draft c.args.words.now c.words.words
-          c.words.invariant.so_far c.next_packed.new.self c.in-Some.word c.in-Some-of_word.key c.in-Some.ensures (sym c.of_word.ensures ∙ c.in-Some-of_word.is));
+          c.words.invariant.so_far c.next_packed.new.self c.in-Some.word c.in-Some-of_word.key c.in-Some.ensures
+          (sym c.of_word.ensures ∙ c.in-Some-of_word.is));
     }
 
 pub returns-in_default-of_word : goal.returns-in_default-of_word
 returns-in_default-of_word c =
-    keys_bad with_read with_reads reads_step reads_stay c.args.draft.now c.words.draft c.args.words.now c.words.words c.words.invariant.so_far c.next_packed.new.self
-    c.in-Some.word c.in-Some.ensures (sym c.of_word.ensures ∙ c.in_default-of_word.is)
+    keys_bad with_read with_reads reads_step reads_stay c.args.draft.now c.words.draft c.args.words.now c.words.words c.words.invariant.so_far
+    c.next_packed.new.self c.in-Some.word c.in-Some.ensures (sym c.of_word.ensures ∙ c.in_default-of_word.is)
 
 pub returns : goal.returns
 returns c = keys_end with_read with_reads reads_step reads_stay c.args.draft.now c.words.draft c.args.words.now c.words.words c.words.invariant.so_far

@@ -2,9 +2,8 @@ use Rattle.std.proofs.Common.{sym, ◌∙◌}
 use Rattle.bohm_text.proofs.Needs.{no_test, many_words}
 use Rattle.bohm_text.proofs.statements.test_in.Goals as goal
 
-pub returns-then-not-is_test : goal.returns-then-not-is_test
-returns-then-not-is_test c =
-    no_test c.args.words.now c.next.new.self c.in_ok-word.word.now (sym c.fork-ahead.ensures ∙ c.in_ok-word.ensures) (sym c.is_test.ensures ∙ cc)
+pub returns-then-not-begins_test : goal.returns-then-not-begins_test
+returns-then-not-begins_test c = no_test c.args.words.now (sym c.begins_test.ensures ∙ cc)
 
 pub returns-in-Some : goal.returns-in-Some
 returns-in-Some c =

@@ -1,0 +1,19 @@
+//! A log made ready to run: its windows are read in order, parsed and checked ahead of the run by threads of
+//! their own, and planned where several workers are to execute them.
+#![tactic(auto)]
+
+mod checked_chunk;
+mod checked_window;
+mod log_reader;
+mod parse_task;
+mod parsers;
+mod parsing;
+mod promise;
+mod reading_state;
+
+pub use checked_chunk::{CheckedChunk, Prepared, counted};
+pub use checked_window::CheckedWindow;
+pub use log_reader::LogReader;
+pub use parsing::Parsing;
+pub use promise::ParseOf;
+pub use reading_state::ReadingState;

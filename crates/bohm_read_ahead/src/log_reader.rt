@@ -1,0 +1,225 @@
+//! The reading side of a run: it reads a log in windows, has them parsed and checked ahead, and plans
+//! their chunks.
+
+ghost use Rattle.std.specs.Prelude.{◌≡◌, ◌<◌, length, IfOk, IfErr, IfSome, OnOk};
+ghost use Rattle.bohm_txn.specs.Chunked.{IsLogCheckedTo};
+ghost use Rattle.bohm_read_ahead.specs.Preparing.{IsCheckedBehind};
+ghost use Rattle.bohm_read_ahead.specs.Reading.{HasMore, IsGoing, ReadsAhead, ReadsChunk, RefusesChunk};
+
+use crate::checked_chunk::{CheckedChunk, counted};
+use crate::checked_window::CheckedWindow;
+use crate::parse_task::ParseTask;
+use crate::parsers::{Parsers, most_ahead};
+use crate::parsing::Parsing;
+use crate::reading_state::ReadingState;
+use bohm_hints::IndexHints;
+use bohm_log::{DrawnSeed, HashSeed, Log, SharedNames};
+use bohm_reading::{ReadingFault, next_window, take_parsed};
+use bohm_settings::Settings;
+use bohm_text::Chunk;
+use bohm_txn::{CheckFault, check_chunk};
+use bohm_types::NoMemory;
+use std::alloc::Global;
+use std::io::Read;
+use std::sync::Wait;
+use std::thread::Threads;
+
+/// The log and the index hints of a chunk that is done, to be used again for another one.
+#[derive(Drop)]
+struct Spare {
+    log: Log<HashSeed>,
+    /// Where its keys stood in the history.
+    hints: IndexHints,
+}
+
+/// Reads a log in windows, has them parsed and checked ahead, and plans their chunks.
+#[derive(Drop)]
+pub struct LogReader {
+    pub state: ReadingState,
+    seed: DrawnSeed,
+    /// How many bytes a window has at least, but for the first and the last one.
+    size: usize,
+    settings: Settings,
+    /// The names of the starting store's keys, which all logs share with the history.
+    names: SharedNames<HashSeed>,
+    spare: Vec<Spare>,
+    parsers: Parsers,
+}
+
+/// The first fault of a chunk, which is checked where it wasn't yet.
+fn first_fault(chunk: &Chunk, checked: Option<Option<CheckFault>>) -> Option<CheckFault>
+    requires { IfSome checked (IsLogCheckedTo chunk.now.log) }
+    ensures { IsLogCheckedTo chunk.now.log result }
+{
+    match checked {
+        Some(fault) => fault,
+        None => check_chunk(&chunk.log.part()),
+    }
+}
+
+/// The log and the index hints of a chunk that is done, or where there is none new ones, of a log that
+/// shares these names.
+fn take_spare(
+    alloc: Global,
+    spare: &mut Vec<Spare>,
+    seed: DrawnSeed,
+    names: &SharedNames<HashSeed>,
+) -> Result<Spare, NoMemory> {
+    match spare.pop() {
+        Some(spare) => Ok(spare),
+        None => Ok(Spare {
+            log: Log::sharing(alloc, HashSeed::from(seed), names.try_clone()?),
+            hints: IndexHints::new(alloc),
+        }),
+    }
+}
+
+impl LogReader {
+    /// A reader that goes on from this state, in windows of at least so many bytes, but for the last one,
+    /// and the threads that parse for it: as many as the settings say, or as many of them as can be
+    /// started, and none where the text has ended. Names are hashed from the seed, and all logs share the
+    /// given ones.
+    ///
+    /// `NoMemory` where an allocation failed: then no thread runs. The threads of a reader run until
+    /// `end`. The memory grows with their number.
+    pub fn start<T: Threads + Wait + Copy + Send + 'static>(
+        rt: &T,
+        alloc: Global,
+        state: ReadingState,
+        seed: DrawnSeed,
+        names: SharedNames<HashSeed>,
+        size: usize,
+        settings: Settings,
+    ) -> Result<LogReader, NoMemory>
+        ensures { IfOk result (λ r. r.state ≡ state) }
+    {
+        // A log of one window needs no threads.
+        let threads = if state.source.ended {
+            0
+        } else {
+            settings.cc().count()
+        };
+        let spare = Vec::new(alloc);
+        Ok(LogReader {
+            state,
+            seed,
+            size,
+            settings,
+            names,
+            spare,
+            parsers: Parsers::start(rt, alloc, threads, most_ahead(settings))?,
+        })
+    }
+
+    /// Reads windows until as many are ahead as the threads need, or none is left. Where there are no
+    /// threads, it parses them. An error says why the whole text is refused; reading can't continue.
+    ///
+    /// The time grows with the length of the windows, and the memory with that of those that are ahead.
+    pub fn read_ahead<R: Read, T: Wait>(
+        &mut self,
+        rt: &T,
+        alloc: Global,
+        reader: &mut R,
+    ) -> Result<(), ReadingFault>
+        requires going { IsGoing self.old.state }
+        ensures ok { OnOk result
+            (ReadsAhead (R.remaining reader.old) (R.remaining reader.new) self.old.state
+            self.new.state) }
+        ensures some { OnOk result (HasMore self.old.state → 0 < length self.new.state.ahead.items) }
+        ensures err { IfErr result
+            (RefusesChunk (R.remaining reader.old) (R.remaining reader.new) self.old.state) }
+    {
+        let threads = self.settings.cc().count();
+        let most = most_ahead(self.settings);
+        'windows: while !self.state.source.ended && self.state.ahead.len() < most {
+            let window = next_window(alloc, reader, &mut self.state.source, self.size)?;
+            let spare = take_spare(alloc, &mut self.spare, self.seed, &self.names)?;
+            let task = ParseTask {
+                alloc,
+                seed: self.seed,
+                edition: self.state.edition,
+                window,
+                log: spare.log,
+                hints: spare.hints,
+                checks: threads > 1,
+            };
+            let parsing = Parsing::start(rt, &self.parsers, task);
+            self.state.ahead.push_back(parsing)?;
+        }
+        Ok(())
+    }
+
+    /// Counts a chunk with this first fault, which stands behind those that were taken, and plans it in
+    /// batches of the size that the settings give where several workers are to execute it. The hints are
+    /// those of its keys. `NoMemory` where the plans failed to allocate.
+    ///
+    /// The time and memory are constant, and where it is planned they grow with the number of its keys
+    /// and transactions.
+    pub fn prepare(
+        &mut self,
+        alloc: Global,
+        chunk: Chunk,
+        fault: Option<CheckFault>,
+        hints: IndexHints,
+    ) -> Result<CheckedChunk, NoMemory>
+        requires { IsLogCheckedTo chunk.log fault }
+        ensures same { self.new.state ≡ record self.old.state { count = self.new.state.count } }
+        ensures log { IfOk result (λ c. c.log ≡ chunk.log) }
+        ensures checked { IfOk result (IsCheckedBehind self.old.state.count self.new.state.count) }
+    {
+        let count = self.state.count;
+        self.state.count = counted(count, chunk.log.len());
+        CheckedChunk::new(alloc, chunk, fault, count, hints, self.settings)
+    }
+
+    /// The next window's chunk, checked and planned. Before it is awaited, and after it was taken,
+    /// windows are read ahead. While no thread has parsed it, this one parses another window or blocks.
+    /// An error says why the whole text is refused; reading can't continue.
+    ///
+    /// The time and memory grow with those of `read_ahead` and `prepare`, and the time with the length
+    /// of the chunk where its check wasn't done ahead.
+    pub fn next_chunk<R: Read, T: Wait>(
+        &mut self,
+        rt: &T,
+        alloc: Global,
+        reader: &mut R,
+    ) -> Result<CheckedChunk, ReadingFault>
+        requires going { IsGoing self.old.state }
+        requires more { HasMore self.old.state }
+        ensures ok { IfOk result
+            (ReadsChunk (R.remaining reader.old) (R.remaining reader.new) self.old.state
+            self.new.state) }
+        ensures err { IfErr result
+            (RefusesChunk (R.remaining reader.old) (R.remaining reader.new) self.old.state) }
+    {
+        self.read_ahead(rt, alloc, reader)?;
+        let Some(parsing) = self.state.ahead.pop_front() else {
+            unreachable!()
+        };
+        let CheckedWindow {
+            parsed,
+            fault,
+            hints,
+        } = parsing.finish(rt, &self.parsers, self.state.edition);
+        let chunk = take_parsed(reader, self.state.edition, &mut self.state.source, parsed)?;
+        self.read_ahead(rt, alloc, reader)?;
+        let fault = first_fault(&chunk, fault);
+        Ok(self.prepare(alloc, chunk, fault, hints)?)
+    }
+
+    /// Keeps the log and the index hints of a chunk that is done for a later window. `NoMemory` where
+    /// there is no room for them. The time is constant.
+    pub fn keep(&mut self, done: CheckedChunk) -> Result<(), NoMemory>
+        ensures { self.new.state ≡ self.old.state }
+    {
+        let CheckedChunk { log, hints, .. } = done;
+        self.spare.push(Spare { log, hints })?;
+        Ok(())
+    }
+
+    /// Has the parsing threads end, and waits for them. Windows that were ahead are dropped.
+    pub fn end<T: Threads>(self, rt: &T) {
+        let LogReader { parsers, .. } = self;
+        parsers.end(rt);
+    }
+}

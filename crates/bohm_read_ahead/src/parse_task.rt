@@ -1,0 +1,61 @@
+//! A window that is to be parsed.
+
+ghost use Rattle.std.specs.Prelude.{◌≡◌, ◌++◌, ◌∷◌, [], codes, take};
+ghost use Rattle.bohm_read_ahead.specs.Parsing.{IsChecked};
+
+use crate::checked_window::CheckedWindow;
+use bohm_hints::IndexHints;
+use bohm_log::{DrawnSeed, HashSeed, Log};
+use bohm_reading::{Parsed, Window};
+use bohm_text::parse_window;
+use bohm_txn::check_chunk;
+use bohm_types::Edition;
+use std::alloc::Global;
+
+/// A window of a text of this edition that is to be parsed.
+#[derive(Drop)]
+pub(crate) struct ParseTask {
+    pub(crate) alloc: Global,
+    pub(crate) seed: DrawnSeed,
+    pub(crate) edition: Edition,
+    pub(crate) window: Window,
+    /// The log into which it is parsed, in place of what that has.
+    pub(crate) log: Log<HashSeed>,
+    /// Where the keys of that log stood in the history.
+    pub(crate) hints: IndexHints,
+    /// Whether it is checked too.
+    pub(crate) checks: bool,
+    ghost begins: { take 4 window.text.items ≡ codes "txn" ++ 10 ∷ [] },
+}
+
+impl ParseTask {
+    /// The time grows with the length of the window, and the memory too where the log is new.
+    pub(crate) fn run(self) -> CheckedWindow
+        ensures { IsChecked self.edition self.window result }
+    {
+        let ParseTask {
+            alloc,
+            seed,
+            edition,
+            window,
+            log,
+            mut hints,
+            checks,
+        } = self;
+        let result = parse_window(alloc, seed, edition, log, window.text.as_slice());
+        let fault = match &result {
+            Ok(chunk) => {
+                if chunk.renumbered {
+                    hints.clear();
+                }
+                checks.then(|| check_chunk(&chunk.log.part()))
+            }
+            Err(_) => None,
+        };
+        CheckedWindow {
+            parsed: Parsed { window, result },
+            fault,
+            hints,
+        }
+    }
+}
