@@ -1,4 +1,4 @@
-"""Instructions as valgrind's callgrind counts them: of a whole run, and by function with what each one calls."""
+"""Instruction counts by valgrind's callgrind: for a whole run, and by function with the functions that each one calls."""
 import re
 import subprocess
 from collections import defaultdict
@@ -8,7 +8,7 @@ SETTLED = 60
 
 
 def run_callgrind(command, log, out):
-    """Runs the command on the log; answers its instructions, and leaves the profile in the file `out`."""
+    """Runs the command on the log; returns its instruction count, and leaves the profile in the file `out`."""
     words = ["valgrind", "--tool=callgrind", f"--callgrind-out-file={out}"]
     with open(log, "rb") as source:
         done = subprocess.run(words + command, stdin=source, capture_output=True, check=True)
@@ -16,7 +16,7 @@ def run_callgrind(command, log, out):
 
 
 class Profile:
-    """Of each function its own instructions, and of each caller and callee those of the calls."""
+    """Each function's own instructions, and the instructions of the calls between each caller and callee."""
 
     def __init__(self, path):
         self.own, self.calls, self.names = defaultdict(int), defaultdict(int), {}
@@ -38,15 +38,15 @@ class Profile:
                     function = None
 
     def name_of(self, text):
-        """A name, which stands in full where it comes first."""
+        """A name, which is written in full only where it first occurs."""
         number, name = NAME.match(text.strip()).groups()
         if name:
             self.names[number] = name
         return self.names[number]
 
     def parts(self, patterns):
-        """The instructions of each part. A function belongs to the part of the first pattern that is found in its
-        name; one with no pattern, of the C library say, to its callers' parts, by what each of them had it do."""
+        """The instructions of each part. A function belongs to the part of the first pattern that matches its name; a
+        function without a match, such as one of the C library, is divided among its callers' parts, by their calls."""
         part_of = {}
         for name in set(self.own) | {name for call in self.calls for name in call}:
             part_of[name] = next((part for pattern, part in patterns if re.search(pattern, name)), None)
@@ -57,7 +57,7 @@ class Profile:
                 found[part_of[name]] += own
             else:
                 left[name] = float(own)
-        # Each round hands what is left to the callers; a circle of calls keeps less in each.
+        # Each round passes the rest to the callers; less of it stays in a cycle of calls each time.
         for _ in range(SETTLED):
             nexts = defaultdict(float)
             for name, amount in left.items():
@@ -82,6 +82,6 @@ class Profile:
         }
 
     def largest(self, patterns, count):
-        """The functions with no part that have most instructions of their own."""
+        """The functions without a part that have the most instructions of their own."""
         others = {name: own for name, own in self.own.items() if not any(re.search(p, name) for p, _ in patterns)}
         return sorted(others.items(), key=lambda item: -item[1])[:count]

@@ -1,4 +1,4 @@
-"""Draws curves over the number of cores as SVG, a panel for each, with each point in the colour of what bounds it."""
+"""Draws curves over the number of cores as SVG, a panel for each, with each point in the colour of the term that bounds it."""
 from math import ceil, floor, log2
 
 ACROSS, PANEL_WIDTH, PANEL_HEIGHT = 3, 296, 232
@@ -10,7 +10,7 @@ STYLE = ("text { font: 12px sans-serif; fill: #24292f } .title { font-weight: bo
 
 
 class Panel:
-    """Where a curve's points stand. The axis of cores has powers of two, that of rates begins with 0."""
+    """The coordinates of a curve's points. The cores' axis has powers of two, the rates' axis begins with 0."""
 
     def __init__(self, number, most_cores, most_rate):
         row, column = divmod(number, ACROSS)
@@ -49,7 +49,7 @@ class Panel:
 
 
 def round_step(least):
-    """The smallest of 1, 2, 2.5 and 5 times a power of ten that isn't below."""
+    """The smallest of 1, 2, 2.5 and 5 times a power of ten that is at least this."""
     power = 10.0 ** floor(len(f"{least:.0f}") - 1)
     return next(digit * power for digit in (1, 2, 2.5, 5, 10) if digit * power >= least)
 
@@ -76,7 +76,7 @@ def legend(colour_of, top):
 
 
 def draw(title, curves, measured):
-    """An SVG of the curves, by name lists of points, and of what was measured, by name pairs of cores and rate."""
+    """An SVG of the curves, lists of points by name, and of the measurements, pairs of cores and rate by name."""
     bounds = sorted({at.bound for points in curves.values() for at in points})
     colour_of = dict(zip(bounds, COLOURS))
     most_cores = max(at.cores for points in curves.values() for at in points)

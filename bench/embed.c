@@ -1,6 +1,6 @@
 /* The cost of segments: `embed STORE SIZE < SEGMENTS` opens a machine on the snapshot in the file STORE, applies
- * the transactions on standard input in segments of SIZE, trims the past behind each, and writes the store, and the
- * seconds that this took on standard error. */
+ * the transactions on standard input in segments of SIZE, trims the past after each, and writes the store, and on
+ * standard error the seconds that this took. */
 #include "../crates/bohm_c/include/bohm.h"
 
 #include <stdio.h>

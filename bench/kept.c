@@ -1,5 +1,5 @@
-/* The memory of a kept version: `kept KEYS TRANSFERS` runs transfers between so many keys on a machine that lets none
- * of the past go, and writes the bytes that they added to the heap, over the versions that they added. */
+/* The memory of a kept version: `kept KEYS TRANSFERS` runs transfers between KEYS keys on a machine that drops none of
+ * its past, and writes the bytes that they added to the heap, divided by the versions that they added. */
 #include "../crates/bohm_c/include/bohm.h"
 
 #include <malloc.h>

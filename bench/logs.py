@@ -1,15 +1,16 @@
 #!/usr/bin/env python3
-"""Makes a log on standard output; the same words give the same bytes.
+"""Writes a generated log to standard output; the same arguments give the same bytes.
 
-    logs.py transfers [--n 100000] [--keys 10000] [--seed 1] [--two]   moves an amount between two keys, if there
-                                                               is that much
+    logs.py transfers [--n 100000] [--keys 10000] [--seed 1] [--two]   moves an amount between two keys, if the
+                                                               first has that much
     logs.py counters  ..                                       adds one to one of the keys, and shows it
     logs.py adds      ..                                       adds an amount to one of the keys by way of a local
     logs.py hot       ..                                       adds one to the first key, and shows it
     logs.py blind     ..                                       sets two keys to literals
     logs.py long      ..                                       1,024 terms over 16 keys, two of which it writes
 
-With --two the log is of edition 2. Names are as short as the number of keys allows, so that many transactions fit into the longest text.
+With --two the log has edition 2. Names are as short as the number of keys allows, so that many transactions fit into
+the longest text.
 """
 import argparse
 import random

@@ -1,12 +1,12 @@
-"""How long a transaction takes on so many cores, computed from what its parts take on one. README.md has the model."""
+"""The time of a transaction on a number of cores, computed from the times of its parts on one. README.md has the model."""
 from dataclasses import dataclass, replace
 from itertools import product
 
 # The most workers of each side that the program takes.
 MOST_WORKERS = 16
 
-# Where a part is done: `before` and `behind` the rest on one thread, by all workers of the planning or the executing
-# side, or by one thread of the executing side in the log's order.
+# Where a part is done: on one thread before or after (`behind`) the rest, by all workers of the planning or the executing
+# side, or by one thread of the executing side in log order.
 BEFORE, PLANNING, EXECUTING_ORDER, EXECUTING, BEHIND = ("before", "planning", "executing in order", "executing", "behind")
 
 DESIGNS = {
@@ -17,22 +17,22 @@ DESIGNS = {
     "whole": {"input": BEFORE, "reading": BEFORE, "checking": BEFORE, "planning": PLANNING,
               "sweep": EXECUTING, "settling": EXECUTING_ORDER, "printing": BEHIND, "rest": BEHIND},
 }
-# The terms that more workers make shorter.
+# The terms that more workers shorten.
 WORK = {"planning side, its workers", "executing side, its workers", "all cores at work"}
 PARTS = list(DESIGNS["windows"])
 
 
 @dataclass
 class Measured:
-    """What was measured of a log. Times are in seconds."""
+    """The measurements of a log. Times are in seconds."""
     txns: int
-    # What is done once for each run: starting, the store's lines, writing.
+    # The work done once for each run: starting, the store's lines, writing.
     fixed: float
-    # Of each part the time of one transaction, with no other core at work.
+    # The time of each part for one transaction, with no other core busy.
     parts: dict
     # The share of a batch that is the longest chain of transactions, each reading what the one before it wrote.
     chain: float
-    # How much longer one core takes for each other one that is at work: caches and memory are shared.
+    # How much longer one core takes for each other busy core: caches and memory are shared.
     crowding: float
 
 
@@ -41,7 +41,7 @@ class Point:
     cores: int
     planners: int
     executors: int
-    # For each transaction.
+    # Seconds for each transaction.
     seconds: float
     # The term that is largest.
     bound: str
@@ -52,7 +52,7 @@ class Point:
 
 
 def terms(measured, places, cores, planners, executors):
-    """The terms of a transaction's time, of which the sides' and the cores' are beside one another."""
+    """The terms of a transaction's time; those of the two sides and of the cores overlap in time."""
     sums = dict.fromkeys((BEFORE, PLANNING, EXECUTING_ORDER, EXECUTING, BEHIND), 0.0)
     for part, seconds in measured.parts.items():
         sums[places[part]] += seconds
@@ -84,8 +84,8 @@ def best_division(measured, design, cores):
 
 
 def best(measured, design, cores):
-    """The best division of the cores between the two sides, with the fewest workers. Where more of them would pay if
-    they didn't crowd one another, it is told what would bound those, or that they crowd."""
+    """The best division of the cores between the two sides, with the fewest workers. If more workers would pay off but
+    for crowding, the bound is the one that they would have, or the crowding itself."""
     found = best_division(measured, design, cores)
     uncrowded = best_division(replace(measured, crowding=0.0), design, cores)
     if uncrowded.planners + uncrowded.executors == found.planners + found.executors:

@@ -1,11 +1,11 @@
-/* Loaded before the C library: makes the allocation with a number, or all from it on, fail,
-   and the same for threads. The numbers count from 1 over the whole process.
-       FAIL_ALLOCATION=N   allocation N is refused
-       FAIL_ALLOCATIONS=N  so are all later ones
-       FAIL_THREAD=N       thread N isn't given
-       FAIL_THREADS=N      nor is any later one
-   Where FAIL_REPORT names a file descriptor that is open, 'A T' is written to it at the end: the
-   numbers of allocations and of threads that were asked for. */
+/* Preloaded: makes allocation N, or N and all later ones, fail, and the same for threads.
+   The numbers count from 1 over the whole process.
+       FAIL_ALLOCATION=N   allocation N fails
+       FAIL_ALLOCATIONS=N  allocation N and all later ones fail
+       FAIL_THREAD=N       starting thread N fails
+       FAIL_THREADS=N      starting thread N or any later one fails
+   If FAIL_REPORT names an open file descriptor, 'A T' is written to it at the end: the numbers of
+   allocations and of threads that were requested. */
 #define _GNU_SOURCE
 #include <dlfcn.h>
 #include <errno.h>
@@ -31,7 +31,7 @@ static void *(*real_aligned_alloc)(size_t, size_t);
 static int (*real_posix_memalign)(void **, size_t, size_t);
 static int (*real_pthread_create)(pthread_t *, const pthread_attr_t *, void *(*)(void *), void *);
 
-/* What dlsym asks for before calloc is found. */
+/* The memory for dlsym's own allocations, before calloc is found. */
 static char early[65536];
 static size_t early_used;
 

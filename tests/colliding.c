@@ -1,6 +1,6 @@
-/* A log of tests/colliding_keys by each way of bohm.h: `colliding drawn|zeros < LOG` answers it as a whole, as a segment
- * and by calls of a procedure, which have to leave the same store. It writes the answer, and on standard error the
- * processor's seconds that each way took. With `drawn` the seed is drawn, with `zeros` it is known. */
+/* A log of tests/colliding_keys by each way of bohm.h: `colliding drawn|zeros < LOG` runs it as a whole, as a segment and
+ * by calls of a procedure, which must produce the same store. It writes the answer, and on standard error the processor
+ * seconds that each way took. With `drawn` the seed is random, with `zeros` it is known. */
 #include "../crates/bohm_c/include/bohm.h"
 
 #include <stdio.h>
@@ -33,7 +33,7 @@ static void open_store(bohm_machine *machine) {
     need(bohm_open(machine, seed, (uint8_t *)text, store_len, 0, NULL) == BOHM_DONE, "open");
 }
 
-/* Lets the machine go, whose store has to be the one that the answer ends with. */
+/* Closes the machine, whose store must be the one that the answer ends with. */
 static void end(bohm_machine *machine, bohm_bytes answer) {
     bohm_bytes out = BOHM_NO_BYTES;
     uint32_t floor, top;
@@ -47,7 +47,7 @@ static void apply(bohm_bytes answer) {
     bohm_machine machine = {0};
     open_store(&machine);
     char *segment = text + store_len - 6;
-    memcpy(segment, "log 1\n", 6); /* over the store's end, which has been read */
+    memcpy(segment, "log 1\n", 6); /* overwrites the end of the store, which has been read */
     need(bohm_apply(&machine, (uint8_t *)segment, len - store_len + 6, NULL) == BOHM_DONE, "apply");
     end(&machine, answer);
 }

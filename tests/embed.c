@@ -1,13 +1,13 @@
-/* What the calls of bohm.h do where something is refused: each status, and each allocation of each call refused in
- * turn, alone and with all later ones. The call says so, the machine answers as before, and goes on.
+/* How the calls of bohm.h fail: each status, and each allocation of each call failing in turn, alone and with all later
+ * ones. The call reports the failure, and the machine answers as before, and continues.
  * Linked with -Wl,--wrap=malloc,--wrap=realloc,--wrap=free. */
 #include "embed.h"
 
-/* ---- the C library's heap, which refuses what it is told to, and counts the blocks that nobody has freed */
+/* ---- the C library's heap, with allocations that fail on demand, and a count of the blocks that aren't freed */
 
 static long asked, refused_from, refused_to, blocks;
 
-/* The bytes of the largest block that was asked for. */
+/* The size in bytes of the largest requested block. */
 static size_t largest;
 
 void *__real_malloc(size_t size);
@@ -39,20 +39,20 @@ void __wrap_free(void *at) {
     __real_free(at);
 }
 
-/* From now on the allocations from number `from` to number `to`, counted from 1, are refused. */
+/* From here on the allocations with numbers `from` to `to`, counted from 1, fail. */
 static void refuse(long from, long to) {
     asked = 0;
     refused_from = from;
     refused_to = to;
 }
 
-/* Ends that, and tells how many were asked for. */
+/* Ends the failures, and returns how many allocations were requested. */
 static long relent(void) {
     refused_to = 0;
     return asked;
 }
 
-/* ---- what holds of a machine */
+/* ---- the state of a machine */
 
 static const char *now = "";
 
@@ -75,7 +75,7 @@ static void check_value(bohm_machine *machine, const char *key, uint32_t ts, int
     hold(present == is_there && (!is_there || value == right), "another value");
 }
 
-/* The machine stands behind `top`, no reply waits, and its past is the log's. */
+/* The machine's top is `top`, no replies are waiting, and its past is the log's. */
 static void check_machine(bohm_machine *machine, uint32_t top) {
     bohm_machine_counts counts = counts_of(machine);
     hold(counts.top == top && counts.waiting == 0, "another top, or replies that wait");
@@ -111,7 +111,7 @@ static void go_on(bohm_machine *machine, uint32_t count) {
     check_machine(machine, top + count);
 }
 
-/* ---- each call with refused allocations; each tells how many it asked for */
+/* ---- each call with failing allocations; each returns how many it requested */
 
 static uint32_t least_count;
 
@@ -147,8 +147,8 @@ static long open_refused(long from, long to) {
     return asked_for;
 }
 
-/* The replies that wait are those of the last `ran` transactions: each allocation of their text is refused in turn,
- * with all later ones (room for the text may be refused alone, since it may well be shorter), and then none. */
+/* The waiting replies are those of the last `ran` transactions: each allocation of their text fails in turn, with all
+ * later ones (a request for the text's buffer may fail alone, since the text may well be shorter), and then none. */
 static void take_waiting(bohm_machine *machine, uint32_t top, uint32_t ran) {
     bohm_bytes out = BOHM_NO_BYTES;
     text more = segment_behind(top + ran, 1);
@@ -213,7 +213,7 @@ static long store_at_refused(long from, long to) {
     return asked_for;
 }
 
-/* Writes a digest's text and its digits, which tests/embed holds against those of sha256sum. */
+/* Writes a digest's text and its hex digits, which tests/embed compares with those of sha256sum. */
 static void tell_digest(uint32_t ts, const uint8_t digest[32]) {
     const char *folder = getenv("DIGESTS");
     if (!folder) return;
@@ -230,7 +230,7 @@ static void tell_digest(uint32_t ts, const uint8_t digest[32]) {
     hold(fprintf(told, "  %" PRIu32 "\n", ts) > 0 && !fclose(told), "the digest isn't written");
 }
 
-/* A digest behind a refusal is what it was before. */
+/* Whether a digest is unchanged, as it must be after a refusal. */
 static int is_as_before(const uint8_t digest[32]) {
     for (int i = 0; i < 32; i++)
         if (digest[i] != 0xa5) return 0;
@@ -254,7 +254,7 @@ static long digest_refused(long from, long to) {
     return asked_for;
 }
 
-/* Two machines have one digest where they hold the same, however they came to it, and others elsewhere. */
+/* Two machines have the same digest if they have the same store, however they came to it, and otherwise different ones. */
 static void digests(void) {
     now = "digests";
     bohm_machine one = {0}, other = {0};
@@ -291,7 +291,7 @@ static long prepare_refused(long from, long to) {
     return asked_for;
 }
 
-/* Runs calls on a machine behind `top`, which have to be those of the next `count` transactions. */
+/* Runs calls on a machine whose top is `top`; they must be those of the next `count` transactions. */
 static void run_on(bohm_machine *machine, bohm_calls *calls, uint32_t count) {
     uint32_t top = counts_of(machine).top;
     bohm_bytes out = BOHM_NO_BYTES;
@@ -300,7 +300,7 @@ static void run_on(bohm_machine *machine, bohm_calls *calls, uint32_t count) {
     check_machine(machine, top + count);
 }
 
-/* Of each push the allocations are refused; the list has afterwards just the calls that were taken. */
+/* The allocations of each push fail; afterwards the list has exactly the calls that were accepted. */
 static long push_refused(long from, long to) {
     procedures of = prepare_all(now);
     bohm_machine machine = {0};
@@ -324,13 +324,13 @@ static long push_refused(long from, long to) {
     return asked_for;
 }
 
-/* A list that shares the machine's names, or one that has its own. */
+/* Opens a list that shares the machine's names, or one that has its own. */
 static uint32_t open_list(const bohm_machine *machine, bohm_calls *calls, int shares) {
     return shares ? bohm_open_calls_for(machine, calls, 1) : bohm_open_calls(calls, seed, 1);
 }
 
-/* The same of handles, and of pushes by them. A handle that was made names its key behind all refusals, and when the calls
- * are cleared. */
+/* The allocations of making handles fail, and those of pushes by them. A handle names its key also after failures, and
+ * after the calls are cleared. */
 static long named_refused(int shares, long from, long to) {
     procedures of = prepare_all(now);
     bohm_machine machine = {0};
@@ -391,7 +391,7 @@ static long run_calls_refused(long from, long to) {
     return asked_for;
 }
 
-/* The rows of the transactions behind `top`, as the log's rules have them. */
+/* The rows of the transactions after `top` are those that the log's rules give. */
 static void check_rows(bohm_reply_rows *rows, bohm_values *values, uint32_t top, uint32_t count) {
     uint64_t shown = 0;
     hold(rows->len == count, "another number of rows");
@@ -416,7 +416,7 @@ static int are_none(bohm_reply_rows rows, bohm_values values) {
     return !rows.at && !rows.len && !values.at && !values.len;
 }
 
-/* A segment of a text, and then calls, whose replies are handed out as rows. */
+/* A segment as text, and then calls, with replies returned as rows. */
 static long rows_refused(long from, long to) {
     uint32_t top = 6, count = least_count;
     procedures of = prepare_all(now);
@@ -499,7 +499,7 @@ static void outcomes(void) {
     bohm_close(&machine);
 }
 
-/* What a procedure's text is refused with, or "" where it is taken. */
+/* A procedure's text is refused with this line, or accepted if the line is "". */
 static void check_refusal(const char *procedure, const char *line) {
     bohm_procedure made = {0};
     bohm_bytes out = BOHM_NO_BYTES;
@@ -550,7 +550,7 @@ static void each_call_status(void) {
     bohm_close_calls(&calls);
 }
 
-/* The same of calls whose keys are named by handles. */
+/* Each status of calls whose keys are named by handles. */
 static void each_handle_status(int shares) {
     now = shares ? "shared handles" : "handles";
     procedures of = prepare_all(now);
@@ -574,7 +574,7 @@ static void each_handle_status(int shares) {
     hold(bohm_push_named(&calls, &of.need, keys, 2, NULL, 0) == BOHM_UNFIT, "too many keys");
     hold(bohm_push_named(&calls, &other, NULL, 0, NULL, 0) == BOHM_UNFIT, "another edition");
     run_on(&machine, &calls, 0);
-    /* both handles of `a`, and lists that are cleared, with more handles each time */
+    /* both handles of `a`, and a list that is cleared, with more handles each time */
     for (uint32_t top = 0; top < 24; top += 4) {
         handles by = {keys[top / 4 % 2 * 2], keys[1], keys[3]};
         char name[16];
@@ -590,7 +590,7 @@ static void each_handle_status(int shares) {
     close_all(&of);
 }
 
-/* A list that shares a machine's names runs on another one, whose store has other keys, once the first one is closed. */
+/* A list that shares a machine's names runs on another machine, whose store has other keys, after the first is closed. */
 static void another_machines_list(void) {
     now = "another machine's list";
     procedures of = prepare_all(now);
@@ -611,8 +611,8 @@ static void another_machines_list(void) {
     close_all(&of);
 }
 
-/* The handles of keys that a list shares with a machine take four bytes each, in an array that doubles; others have the key.
- * Calls on shared keys, which are let go one by one, leave no table of names in the list. */
+/* The handles of keys that a list shares with a machine take four bytes each, in an array that doubles; other handles
+ * contain the key. Calls on shared keys, cleared one by one, leave no table of names in the list. */
 static void small_handles(void) {
     now = "small handles";
     enum { KEYS = 1000 };
@@ -641,8 +641,8 @@ static void small_handles(void) {
     bohm_close(&machine);
 }
 
-/* Calls of one procedure have their statements in common: no block is as large as these would be, once for each call. Keys come in
- * both orders, and then in the falling one alone; values have both signs. */
+/* Calls of one procedure share their statements: no block is as large as one copy of the statements for each call would
+ * be. Keys are given in both orders, and then only in falling order; values have both signs. */
 static void common_statements(void) {
     now = "common statements";
     enum { CALLS = 4096, STATEMENTS = 6, BYTES = 24 };
@@ -698,8 +698,8 @@ static void arguments(void) {
     hold(bohm_push(&calls, &move, both, 2, &values[1], 1) == BOHM_DONE, "a call isn't taken");
     hold(bohm_push(&calls, &move, both, 2, &values[2], 1) == BOHM_DONE, "a call isn't taken");
     hold(bohm_push(&calls, &move, both, 2, &values[3], 1) == BOHM_DONE, "a call isn't taken");
-    /* a 0, b 7; b 4, a 3; both sets are of one key, and the last one counts: b 1; b - least passes the greatest; a +
-     * greatest passes it */
+    /* a 0, b 7; b 4, a 3; both sets write one key, and the last one counts: b 1; b - least exceeds the greatest; a +
+     * greatest exceeds it */
     put(&right, "1 commit 7 0 3\n2 commit 4 4 3\n3 abort range 3\n4 abort range 2\n5 commit 1 3 0\n", 0, "");
     hold(bohm_run_calls(&machine, &calls, &out) == BOHM_DONE, "the calls aren't run");
     take(now, &out, right);
@@ -710,7 +710,7 @@ static void arguments(void) {
     bohm_close(&machine);
 }
 
-/* A text that is refused, at its third line, is refused so, or since an allocation failed. */
+/* A text with a bad third line is refused for that, or because an allocation failed. */
 static long line_refused(long from, long to) {
     const char *segment = "log 1\ntxn\nreads  a\nwrites a\nend\n";
     text line = {0};
@@ -734,14 +734,15 @@ static long line_refused(long from, long to) {
     return asked_for;
 }
 
-/* A call after which each block is free again that came. */
+/* A call after which all blocks are freed. */
 static long freed_again(long (*call)(long, long), long from, long to) {
     long before = blocks, asked_for = call(from, to);
     hold(blocks == before, "a block that nobody frees");
     return asked_for;
 }
 
-/* Refuses each allocation in turn, and then each with all later ones; of very many some, and all of the last. */
+/* Makes each allocation fail in turn, and then each with all later ones; if there are very many, only some, and all of
+ * the last ones. */
 static void each_refused(const char *name, long (*call)(long, long), uint32_t count) {
     now = name;
     least_count = count;
@@ -754,7 +755,7 @@ static void each_refused(const char *name, long (*call)(long, long), uint32_t co
     printf("%s: %ld of %ld allocations refused in turn\n", name, tried, all);
 }
 
-/* ---- the other statuses, and the calls that take no memory */
+/* ---- the other statuses, and the calls that allocate nothing */
 
 static uint32_t apply_text(bohm_machine *machine, const char *segment) {
     bohm_bytes out = BOHM_NO_BYTES;
@@ -787,7 +788,7 @@ static void each_status(void) {
     bohm_close(&machine);
 }
 
-/* What is answered doesn't depend on the seed, and a machine goes on from another one's snapshot. */
+/* Answers don't depend on the seed, and a machine continues from another machine's snapshot. */
 static void seeds(void) {
     now = "seeds";
     static const uint8_t others[3][16] = {{0}, {255, 255, 255, 255, 255, 255, 255, 255}, "\1\2\3\4\5\6\7\b\t\n"};
@@ -840,9 +841,9 @@ static void without_memory(void) {
     hold(relent() == 0, "memory is asked for");
 }
 
-/* ---- misuse, which is answered, and touches nothing */
+/* ---- misuse, which is reported, and touches nothing */
 
-/* Each call on a closed machine and on none, and with a null where one may not be. */
+/* Each call on a closed machine and on a null one, and with null pointers that aren't allowed. */
 static void misused_machine(bohm_machine *machine) {
     bohm_calls calls = {0};
     bohm_bytes out = BOHM_NO_BYTES;
@@ -872,7 +873,7 @@ static void misused_machine(bohm_machine *machine) {
     bohm_close_calls(&calls);
 }
 
-/* An open machine, and nulls. */
+/* Null pointers with an open machine. */
 static void misused_pointers(void) {
     bohm_machine machine = {0}, same;
     bohm_bytes out = BOHM_NO_BYTES;
@@ -906,7 +907,7 @@ static void misused_pointers(void) {
     hold(present == 7 && value == 8 && is_none(out) && are_none(rows, values), "something is handed out");
     hold(machine.at == same.at, "another machine");
     check_machine(&machine, 5);
-    /* nulls that are good: of no bytes, and of an `out` */
+    /* allowed null pointers: to no bytes, and an `out` */
     hold(bohm_value_at(&machine, NULL, 0, 0, &present, &value) == BOHM_NO_KEY, "no bytes are no key");
     hold(bohm_apply(&machine, NULL, 0, NULL) == BOHM_REFUSED, "no bytes are no segment");
     hold(bohm_apply(&machine, bytes_of(segment), segment.len, NULL) == BOHM_DONE, "replies that nobody wants");
@@ -919,7 +920,7 @@ static void misused_pointers(void) {
     free(segment.at);
 }
 
-/* Handles of a list and calls by them, with nulls, closed handles and handles that nobody made. */
+/* Key handles and calls by them, with null pointers, closed handles and handles that were never made. */
 static void misused_handles(procedures *of, bohm_calls *calls) {
     bohm_procedure none = {0};
     bohm_calls closed = {0};
@@ -965,7 +966,7 @@ static void misused_calls(void) {
     hold(bohm_push(&calls, &of.count, NULL, 0, NULL, 0) == BOHM_UNFIT, "no arguments");
     hold(bohm_clear_calls(&closed) == BOHM_MISUSE && bohm_clear_calls(NULL) == BOHM_MISUSE, "a closed list");
     misused_handles(&of, &calls);
-    /* a handle of another kind is no such handle */
+    /* a handle of another kind isn't accepted */
     bohm_calls odd = {of.count.at};
     hold(bohm_clear_calls(&odd) == BOHM_MISUSE && odd.at == of.count.at, "a procedure in the place of a list");
     uint32_t key = 9;
@@ -988,7 +989,7 @@ static void misused_calls(void) {
     bohm_close_procedure(NULL);
 }
 
-/* A null in the place of a seed. */
+/* A null pointer instead of a seed. */
 static void misused_seeds(void) {
     const uint8_t *some = (const uint8_t *)"log 1\n", *copy = (const uint8_t *)COPY_TEXT;
     bohm_machine machine = {0};

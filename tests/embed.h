@@ -1,8 +1,8 @@
-/* A made log, and what the log's rules say of it. Transaction `k`, counted from 1, is by k % 4
- *     1, 3   counts `a` up, and shows it as it was
- *     2      sets `c` to `b`, counts `b` up, and shows it as it was
- *     0      needs what doesn't hold
- * over a store of `a 0` and `b 7`. */
+/* A generated log, and its results by the log's rules. Transaction `k`, counted from 1, depends on k % 4:
+ *     1, 3   increments `a`, and shows its old value
+ *     2      sets `c` to `b`, increments `b`, and shows its old value
+ *     0      has a `need` that is false
+ * The store is `a 0` and `b 7`. */
 #include "../crates/bohm_c/include/bohm.h"
 
 #include <inttypes.h>
@@ -35,11 +35,11 @@ static inline void put(text *to, const char *line, uint32_t number, const char *
     to->len += (size_t)sprintf(to->at + to->len, "%s", rest);
 }
 
-/* How often `a`, and `b`, are counted up by the transactions up to `k`. */
+/* How often the transactions up to `k` increment `a`, and `b`. */
 static inline uint32_t counted_a(uint32_t k) { return k / 2 + k % 2; }
 static inline uint32_t counted_b(uint32_t k) { return k / 4 + (k % 4 >= 2); }
 
-/* The segment of `count` transactions behind `top`. */
+/* The segment of the `count` transactions after `top`. */
 static inline text segment_behind(uint32_t top, uint32_t count) {
     text made = {0};
     put(&made, "log 1\n", 0, "");
@@ -81,7 +81,7 @@ static inline void close_all(procedures *of) {
 
 static inline bohm_key key_of(const char *name) { return (bohm_key){(const uint8_t *)name, strlen(name)}; }
 
-/* Adds the call that is transaction `k`. */
+/* Appends the call that is transaction `k`. */
 static inline uint32_t push(bohm_calls *calls, procedures *of, uint32_t k) {
     bohm_key a = key_of("a"), both[] = {key_of("b"), key_of("c")};
     int64_t one = 1;
@@ -105,7 +105,7 @@ static inline uint32_t make_handles(bohm_calls *calls, handles *keys) {
     return status ? status : handle_of(calls, "c", &keys->c);
 }
 
-/* Adds the call that is transaction `k`, whose keys are named by handles. */
+/* Appends the call that is transaction `k`, with keys named by handles. */
 static inline uint32_t push_named(bohm_calls *calls, procedures *of, const handles *keys, uint32_t k) {
     uint32_t both[] = {keys->b, keys->c};
     int64_t one = 1;
@@ -114,7 +114,7 @@ static inline uint32_t push_named(bohm_calls *calls, procedures *of, const handl
     return bohm_push_named(calls, &of->need, &keys->a, 1, &one, 0);
 }
 
-/* The calls that are the segment of `count` transactions behind `top`: some name their keys by handles. */
+/* The calls that are the segment of the `count` transactions after `top`: some name their keys by handles. */
 static inline bohm_calls calls_behind(const char *what, procedures *of, uint32_t top, uint32_t count) {
     bohm_calls calls = {0};
     handles keys;
@@ -135,7 +135,7 @@ static inline void put_replies(text *made, uint32_t top, uint32_t count) {
     }
 }
 
-/* The text of its replies. */
+/* The text of the replies of that segment. */
 static inline text replies_behind(uint32_t top, uint32_t count) {
     text made = {0};
     put_replies(&made, top, count);
@@ -148,7 +148,7 @@ static inline void put_store(text *made, uint32_t top) {
     if (top >= 2) put(made, "c %" PRIu32 "\n", 6 + counted_b(top), "");
 }
 
-/* The snapshot behind a timestamp. */
+/* The snapshot at a timestamp. */
 static inline text snapshot_behind(uint32_t top) {
     text made = {0};
     put(&made, "log 1\n", 0, "");
@@ -156,7 +156,7 @@ static inline text snapshot_behind(uint32_t top) {
     return made;
 }
 
-/* The answer of the log of `count` transactions. */
+/* The answer to the log of `count` transactions. */
 static inline text answer_of(uint32_t count) {
     text made = {0};
     put_replies(&made, 0, count);
@@ -165,7 +165,7 @@ static inline text answer_of(uint32_t count) {
     return made;
 }
 
-/* That log. */
+/* The log of `count` transactions. */
 static inline text log_of(uint32_t count) {
     text made = snapshot_behind(0), segment = segment_behind(0, count);
     made.at = realloc(made.at, made.room = made.len + segment.len + 1);
@@ -178,7 +178,7 @@ static inline text log_of(uint32_t count) {
 
 static inline const uint8_t *bytes_of(text it) { return (const uint8_t *)it.at; }
 
-/* The text whose SHA-256 a digest is: the store's lines behind a line of two dashes. */
+/* The text whose SHA-256 is the digest: a line of two dashes, then the store's lines. */
 static inline text digested_behind(uint32_t top) {
     text made = {0};
     put(&made, "--\n", 0, "");
@@ -186,7 +186,7 @@ static inline text digested_behind(uint32_t top) {
     return made;
 }
 
-/* Lets go bytes that were handed out, which have to be these. */
+/* Frees bytes that a call returned, which must be these. */
 static inline void take(const char *what, bohm_bytes *out, text right) {
     if (out->len != right.len || (right.len && memcmp(out->at, right.at, right.len))) fault(what, "other bytes are handed out");
     bohm_free_bytes(out);

@@ -1,6 +1,6 @@
-/* Two threads call at once, each with a machine of its own: each has its own log's replies, each time. So it is where their
- * lists of calls share the names of a third machine, which is closed meanwhile. And a machine goes from one thread to the
- * next, which joins the one before. */
+/* Two threads call at the same time, each with its own machine: each gets its own log's replies, each time. The same holds
+ * if their lists of calls share the names of a third machine, which is closed meanwhile. And a machine is passed from one
+ * thread to the next, which joins the one before. */
 #include "embed.h"
 
 #include <pthread.h>
@@ -58,7 +58,7 @@ static void *thread(void *size) {
     return NULL;
 }
 
-/* Runs the calls of a list on a machine of the thread's own, and closes both. */
+/* Runs the calls of a list on the thread's own machine, and closes both. */
 static void *run_shared(void *given) {
     bohm_calls *calls = given;
     bohm_machine machine = {0};

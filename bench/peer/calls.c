@@ -1,5 +1,5 @@
-/* The executor by calls of a prepared procedure, whose replies come as rows. The past below the last segment is let go. With
- * BY_HANDLES defined, each account was looked up before the first call, and is named by its handle. */
+/* The executor by calls of a prepared procedure, with replies as rows. The past below the last segment is dropped. With
+ * BY_HANDLES defined, each account is looked up before the first call, and named by its handle. */
 #include "peer.h"
 
 #include "../../crates/bohm_c/include/bohm.h"

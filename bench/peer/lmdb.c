@@ -1,4 +1,4 @@
-/* LMDB in memory, which isn't written to a disk: transfers by one write transaction. */
+/* LMDB in memory, not written to a disk: the transfers of a call in one write transaction. */
 #include "peer.h"
 
 #include <lmdb.h>

@@ -1,5 +1,5 @@
 /* Transfers by a peer: `PEER STORE TOGETHER < TRANSFERS` takes lines PAYER AMOUNT PAYEE, runs TOGETHER of them as one
- * transaction of the peer, and writes the answer that the log of these transfers has; on standard error the seconds
+ * transaction of the peer, and writes the answer of the log of these transfers; on standard error it writes the seconds
  * that running took, without reading, filling and writing. */
 #include "peer.h"
 

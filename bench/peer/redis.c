@@ -1,4 +1,4 @@
-/* Redis over a socket of its own, without files: a script for each transfer. Those of one call are sent together, and
+/* Redis over its own socket, without files: a script for each transfer. The transfers of one call are sent together, and
  * then their replies are read. */
 #include "peer.h"
 
@@ -16,7 +16,7 @@ static const char *const script = "if tonumber(redis.call('get', KEYS[1])) < ton
 static pid_t server;
 static redisContext *base;
 static char hash[41];
-/* How many replies are still to be read. */
+/* The number of replies that are still to be read. */
 static size_t asked;
 
 static redisReply *reply(void) {

@@ -1,4 +1,4 @@
-/* RocksDB's transactions, pessimistic ones, on files in memory and without its own log. */
+/* RocksDB's pessimistic transactions, on files in memory and without its write-ahead log. */
 #include "peer.h"
 
 #include <rocksdb/c.h>
@@ -13,7 +13,7 @@ static char *error;
 
 static void checked(void) { check(!error, error); }
 
-/* The transaction before is used again. */
+/* The previous transaction is reused. */
 static void begin(void) { txn = rocksdb_transaction_begin(base, writes, options, txn); }
 
 static void commit(void) {

@@ -1,6 +1,6 @@
 /* A ledger in a C program: `ledger LOG SIZE` opens the store of a log, applies its transactions in segments of
- * SIZE, and writes the log's answer. On the way it takes a snapshot and goes on from it on a second machine,
- * which has to answer the same, and reads past balances, which have to be those of the past's snapshots. */
+ * SIZE, and writes the log's answer. On the way it takes a snapshot and continues from it on a second machine,
+ * which must give the same replies, and reads past balances, which must be those of the past snapshots. */
 #include "../../crates/bohm_c/include/bohm.h"
 
 #include <stdio.h>
@@ -30,7 +30,7 @@ static text read_file(const char *name) {
     return all;
 }
 
-/* Where the transactions begin: behind the first line and the store. */
+/* The offset of the transactions: after the first line and the store. */
 static size_t store_end(text log) {
     char *first = strstr(log.text, "\ntxn\n");
     return first ? (size_t)(first - log.text) + 1 : log.len;
@@ -51,7 +51,7 @@ static void open_at(bohm_machine *machine, const uint8_t *snapshot, size_t len, 
     if (status) fail("open", status);
 }
 
-/* Applies a segment, and hands out its replies. */
+/* Applies a segment, and returns its replies. */
 static bohm_bytes apply(bohm_machine *machine, const uint8_t *segment, size_t len) {
     bohm_bytes replies = BOHM_NO_BYTES;
     uint32_t status = bohm_apply(machine, segment, len, &replies);
@@ -72,7 +72,7 @@ static bohm_machine_counts counts_of(bohm_machine *machine) {
     return counts;
 }
 
-/* Each balance of a past timestamp is the one in that timestamp's snapshot. */
+/* Checks that each balance at a past timestamp is the one in that timestamp's snapshot. */
 static void check_balances(bohm_machine *machine, uint32_t ts) {
     bohm_bytes snapshot = store_at(machine, ts);
     const char *line = (const char *)snapshot.at + 6, *end = (const char *)snapshot.at + snapshot.len;
@@ -97,7 +97,7 @@ int main(int argc, char **argv) {
     open_at(&ledger, (const uint8_t *)log.text, at, 0);
     uint8_t *segment = malloc(log.len + 6);
     if (!segment) fail("memory", 0);
-    memcpy(segment, log.text, 6); /* the edition's line */
+    memcpy(segment, log.text, 6); /* the line with the edition */
     while (at < log.len) {
         size_t end = segment_end(log, at, size);
         memcpy(segment + 6, log.text + at, end - at);

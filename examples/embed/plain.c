@@ -1,4 +1,4 @@
-/* A ledger in a C program that needs no C library's headers, so that the toolchain alone builds it: `plain SIZE`
+/* A ledger in a C program without headers of a C library, so that the toolchain alone can build it: `plain SIZE`
  * takes a log on standard input, applies its transactions in segments of SIZE, and writes the log's answer. */
 typedef __SIZE_TYPE__ size_t;
 typedef __PTRDIFF_TYPE__ ssize_t;
@@ -28,7 +28,7 @@ static int tell(const uint8_t *at, size_t len) {
     return 0;
 }
 
-/* Copies the lines of a segment of `size` transactions, and tells its end. */
+/* Copies the lines of a segment of `size` transactions, and returns its end. */
 static size_t fill(size_t at, size_t len, uint64_t size, size_t *filled) {
     while (at < len && size) {
         int ends = is_at(at, len, "end\n");

@@ -1,5 +1,5 @@
-/* Transfers between accounts by procedures: each is read once, and then called with keys and amounts. Each account is
- * looked up once, and named by its handle. Writes the replies, a line `--` and the balances. */
+/* Transfers between accounts by procedures: each procedure is read once, and then called with keys and amounts. Each
+ * account is looked up once, and named by its handle. Writes the replies, a line `--` and the balances. */
 #include "../../crates/bohm_c/include/bohm.h"
 
 #include <stdio.h>

@@ -1,7 +1,7 @@
-"""The store's digest at fixed places of the log, by which replicas see that one of them went wrong.
+"""The store's digest at fixed places of the log, by which replicas detect that one of them is wrong.
 
-A replica publishes its digest behind every 1,000th entry as an etcd key, `digests/PREFIX/PLACE/NAME`, and its name as
-`replicas/PREFIX/NAME`. One whose digest differs from that of more than half of the named ones is diverged.
+A replica publishes its digest after every 1,000th entry as an etcd key, `digests/PREFIX/PLACE/NAME`, and its name as
+`replicas/PREFIX/NAME`. A replica whose digest differs from that of more than half of the named replicas has diverged.
 """
 from __future__ import annotations
 
@@ -34,8 +34,8 @@ class Digests:
     """A replica's own digests, and those of others that differ from them."""
 
     def __init__(self, log: Etcd, prefix: bytes, name: str, address: str, entries: int) -> None:
-        """Makes the name known, and goes on behind so many entries with what was published under the name. `log` is
-        used by one thread of this."""
+        """Publishes the name, and continues after `entries` entries with what was published under it. `log` is used by
+        one thread of this object."""
         self.log, self.prefix, self.name = log, prefix, name
         log.overwrite(names_of(prefix) + name.encode(), address.encode())
         self.own = {place: digest for place, whose, digest in self.published() if whose == name and place <= entries}
@@ -46,7 +46,7 @@ class Digests:
         threading.Thread(target=self.work, daemon=True).start()
 
     def published(self) -> Iterator[tuple[int, str, str]]:
-        """Places with whose digest it is, by rising places."""
+        """Each place with the replica and its digest, by rising places."""
         for key, digest in sorted(self.log.held(b"digests/" + self.prefix).items()):
             place, _, whose = key.removeprefix(b"digests/" + self.prefix).partition(b"/")
             yield int(place), whose.decode(), digest.decode()
@@ -56,7 +56,7 @@ class Digests:
         return max(self.own.items(), default=(0, None))
 
     def note(self, change: Change) -> None:
-        """Takes another replica's digest from a change of a key, where it tells one."""
+        """Notes another replica's digest from a change of a key, if it has one."""
         start = b"digests/" + self.prefix
         if not change.value or not change.key.startswith(start):
             return
@@ -65,7 +65,7 @@ class Digests:
         self.compare(int(place))
 
     def add(self, place: int, digest: str) -> None:
-        """Takes this replica's digest of the next place, and lets the oldest one go."""
+        """Adds this replica's digest of the next place, and drops the oldest one."""
         self.own[place] = digest
         for old in [old for old in (*self.own, *self.told) if old <= place - KEPT * EVERY]:
             self.own.pop(old, None)
@@ -81,7 +81,7 @@ class Digests:
             self.waiting.put((place, None))
 
     def work(self) -> None:
-        """Publishes digests, and judges places where one differs."""
+        """Publishes digests, and judges places at which one differs."""
         while True:
             place, digest = self.waiting.get()
             try:
@@ -95,7 +95,7 @@ class Digests:
                 self.waiting.put((place, digest))
 
     def judge(self, place: int) -> None:
-        """Finds that this replica is diverged, where more than half of the named replicas hold another digest."""
+        """Records that this replica has diverged, if more than half of the named replicas have another digest."""
         names = {name.removeprefix(names_of(self.prefix)) for name in self.log.held(names_of(self.prefix))}
         told = self.log.held(folder_of(self.prefix, place))
         votes = collections.Counter(value.decode() for key, value in told.items()
@@ -107,6 +107,6 @@ class Digests:
                               f"replicas have {digest}")
 
     def check(self) -> None:
-        """Raises Diverged if it was found."""
+        """Raises Diverged if that was found."""
         if self.fault:
             raise Diverged(self.fault)

@@ -1,4 +1,4 @@
-"""What the values of a log say: a procedure's definition, a call of one, or a transaction as text."""
+"""The kinds of values of a log: a procedure's definition, a call of one, or a transaction as text."""
 from __future__ import annotations
 
 import re
@@ -15,7 +15,7 @@ SHAPELESS = b"skipped: shape"
 
 @dataclass(frozen=True)
 class Definition:
-    """From here on the name stands for the procedure of a text."""
+    """From here on the name means the procedure of a text."""
     name: bytes
     text: bytes
 
@@ -29,13 +29,13 @@ class Call:
 
 @dataclass(frozen=True)
 class Transaction:
-    """Lines, of which the first alone is `txn`, and the last alone is `end`."""
+    """Lines; only the first is `txn`, and only the last is `end`."""
     text: bytes
 
 
 @dataclass(frozen=True)
 class Shapeless:
-    """A value that says none of these."""
+    """A value that is none of these."""
 
 
 Entry = Definition | Call | Transaction | Shapeless
@@ -57,7 +57,7 @@ def is_transaction(value: bytes) -> bool:
 
 
 def number(word: bytes) -> int | None:
-    """The value that a word says, if it says one as a log writes it."""
+    """The number that a word is, if it is one as a log writes it."""
     if not NUMBER.fullmatch(word):
         return None
     found = int(word)

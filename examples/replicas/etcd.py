@@ -1,4 +1,4 @@
-"""etcd's log by its JSON gateway: keys that are made once, and every change of a key, by revisions."""
+"""etcd's log through its JSON gateway: keys that are created once, and every change of a key, by revisions."""
 from __future__ import annotations
 
 import base64
@@ -11,16 +11,16 @@ from collections.abc import Iterator
 from dataclasses import dataclass
 from typing import Any, ClassVar
 
-# Seconds: for one answer at least and at most, and between two tries.
+# Seconds: for one answer, at least and at most, and between two attempts.
 ANSWER, SLOWEST, PAUSE = 2.0, 30.0, 0.05
-# Seconds until a silent watch is opened at the next member: at least, more for each revision that there is to tell, and
-# at most. A member tells 1,000 revisions at once, which takes its time.
+# Seconds until a silent watch is reopened at the next member: at least, more for each revision that is to be sent, and at
+# most. A member sends 1,000 revisions at once, which takes time.
 SILENCE, EACH, LONGEST = 2.0, 0.02, 120.0
-# gRPC's codes of requests that no other try can help: bad ones, and those that are too large or find no room.
+# gRPC's codes of requests that can't succeed by retrying: bad ones, and ones that are too large or exceed the space.
 FINAL = {3, 8}
 # gRPC's code of a compaction that was done before.
 PAST = 11
-# A range from this key to this key is all keys.
+# A range from this key to this key means all keys.
 ALL = b"\0"
 
 
@@ -33,11 +33,11 @@ class Refused(Exception):
 
 
 class Compacted(Exception):
-    """The log is no longer held from the revision that was asked for."""
+    """The log no longer contains the requested revision."""
 
 
 class Unavailable(Exception):
-    """This member can't answer now; another one, or a later try, may."""
+    """This member can't answer now; another one, or a later attempt, may."""
 
     def __init__(self, words: str | None, code: int = 0) -> None:
         super().__init__(words)
@@ -49,7 +49,7 @@ FAULTS = (OSError, http.client.HTTPException, ValueError, Unavailable)
 
 @dataclass(frozen=True)
 class Change:
-    """What a revision did to a key: its value, or None where it was deleted; `makes` says that it wasn't there."""
+    """What a revision did to a key: its value, or None if it was deleted; `makes` says that it was created."""
     revision: int
     key: bytes
     value: bytes | None
@@ -57,7 +57,7 @@ class Change:
 
 
 def pause() -> None:
-    """Waits by a lock, as libfaketime, with which the demo lets clocks jump, refuses to sleep."""
+    """Waits by a lock, since libfaketime, with which the demo makes clocks jump, refuses to sleep."""
     threading.Event().wait(PAUSE)
 
 
@@ -74,7 +74,7 @@ def change_of(event: dict[str, Any]) -> Change:
 
 
 def end_of(prefix: bytes) -> bytes:
-    """The first key behind all those with the prefix, whose last byte isn't 255."""
+    """The first key after all keys with the prefix, whose last byte isn't 255."""
     return prefix[:-1] + bytes([prefix[-1] + 1])
 
 
@@ -83,10 +83,10 @@ def put_of(key: bytes, value: bytes) -> dict[str, Any]:
 
 
 class Etcd:
-    """The members of one cluster, as HOST:PORT, asked in turn from `first` on. For one thread at a time."""
+    """The members of one cluster, as HOST:PORT, asked in turn, beginning with `first`. For one thread at a time."""
 
-    # How long an answer may take: longer after each one that took too long, for all threads, so that a machine that is
-    # short of time doesn't try for ever.
+    # How long an answer may take: longer after each one that took too long, for all threads, so that an overloaded machine
+    # doesn't retry forever.
     answer: ClassVar[float] = ANSWER
 
     def __init__(self, members: list[str], first: int = 0, patience: float = 60.0) -> None:
@@ -96,7 +96,7 @@ class Etcd:
         self.line: http.client.HTTPConnection | None = None
 
     def turn(self) -> None:
-        """Goes on with the next member."""
+        """Switches to the next member."""
         self.close()
         self.member = next(self.members)
 
@@ -118,7 +118,7 @@ class Etcd:
         raise Unavailable(fault.get("message"), fault.get("code", 0))
 
     def ask(self, path: str, words: dict[str, Any], patience: float | None = None) -> Any:
-        """The answer of the first member that has one. The request may have had its effect more than once."""
+        """The first answer of a member. The request may have taken effect more than once."""
         end = time.monotonic() + (self.patience if patience is None else patience)
         while True:
             try:
@@ -136,11 +136,11 @@ class Etcd:
                 pause()
 
     def cluster(self) -> str:
-        """The cluster's number, by which its revisions are told from another one's."""
+        """The cluster's number, which distinguishes its revisions from another cluster's."""
         return str(self.ask("/v3/maintenance/status", {})["header"]["cluster_id"])
 
     def revision(self, patience: float | None = None) -> int:
-        """The revision of the last change that was acknowledged before this call, or of a later one."""
+        """The revision of the last change that was acknowledged before this call, or a later revision."""
         return int(self.ask("/v3/kv/range", {"key": coded(ALL), "count_only": True}, patience)["header"]["revision"])
 
     def held(self, prefix: bytes) -> dict[bytes, bytes]:
@@ -149,8 +149,8 @@ class Etcd:
         return {base64.b64decode(kv["key"]): base64.b64decode(kv.get("value", "")) for kv in found.get("kvs", [])}
 
     def make(self, puts: dict[bytes, bytes]) -> int:
-        """Puts keys that aren't there, all in one revision, and answers it: also where an earlier try put them and its
-        answer was lost. So they are put once, however often it is tried."""
+        """Puts keys that don't exist, all in one revision, and returns the revision, even if an earlier attempt put them and
+        its answer was lost. So they are put once, however often it is tried."""
         first = min(puts)
         answer = self.ask("/v3/kv/txn", {
             "compare": [{"key": coded(first), "target": "CREATE", "create_revision": "0", "result": "EQUAL"}],
@@ -161,12 +161,12 @@ class Etcd:
         return int(answer["responses"][0]["response_range"]["kvs"][0]["create_revision"])
 
     def overwrite(self, key: bytes, value: bytes) -> int:
-        """Puts a key whether it is there or not, perhaps more than once, and answers the revision
-        of one of these puts."""
+        """Puts a key whether it exists or not, perhaps more than once, and returns the revision of one of these
+        puts."""
         return int(self.ask("/v3/kv/put", {"key": coded(key), "value": coded(value)})["header"]["revision"])
 
     def publish(self, key: bytes, value: bytes, first: bytes, end: bytes) -> None:
-        """Puts a key, and deletes those from `first` up to `end`, which isn't deleted."""
+        """Puts a key, and deletes the keys from `first` up to, but not including, `end`."""
         self.ask("/v3/kv/txn", {"success": [put_of(key, value), {"request_delete_range": {
             "key": coded(first), "range_end": coded(end)}}]})
 
@@ -174,16 +174,16 @@ class Etcd:
         self.ask("/v3/kv/deleterange", {"key": coded(key)})
 
     def compact(self, revision: int) -> None:
-        """Lets go what keys held before a revision. What is held now stays."""
+        """Drops the values that keys had before a revision. Current values stay."""
         try:
             self.ask("/v3/kv/compaction", {"revision": str(revision)})
         except Unavailable:
-            """It was compacted up to there, or further, before."""
+            """It is already compacted up to there, or further."""
 
     def watch(self, first: int, patience: float) -> Iterator[list[Change]]:
-        """All changes from revision `first` on, as one member tells them: each list holds whole revisions. Ends by
-        one of FAULTS where the member is gone, or silent for too long: `patience` seconds before the first news. It
-        isn't asked for fragments of large answers: it takes a time for each that grows with the square of its size."""
+        """All changes from revision `first` on, as one member sends them: each list has whole revisions. Ends with one of
+        FAULTS if the member is gone, or silent for too long: `patience` seconds before the first answer. Large answers
+        aren't requested in fragments: a fragment takes the member a time that grows with the square of its size."""
         said = self.post("/v3/watch", {"create_request": {
             "key": coded(ALL), "range_end": coded(ALL), "start_revision": str(first)}}, patience)
         while line := said.readline():
@@ -199,13 +199,13 @@ class Etcd:
                 yield changes
 
     def be_patient(self, seconds: float) -> None:
-        """How long the next news of a watch may take."""
+        """Sets how long the next answer of a watch may take."""
         if self.line and self.line.sock:
             self.line.sock.settimeout(seconds)
 
     def follow(self, first: int) -> Iterator[list[Change]]:
-        """The same without end, a revision at a time, its changes by their keys: by rising revisions, each once, and
-        by another member where one fails."""
+        """All changes from revision `first` on, without end, a revision at a time, sorted by key: by rising revisions, each
+        once; if a member fails, another one continues."""
         tries = 0
         while True:
             begin, missing = first, self.missing(first)
@@ -214,7 +214,7 @@ class Etcd:
                 for changes in self.watch(first, silence(missing, tries)):
                     changes.sort(key=lambda change: (change.revision, change.key))
                     for revision, group in itertools.groupby(changes, lambda change: change.revision):
-                        # A member that is behind may tell revisions from before the one that was asked for.
+                        # A member that lags may send revisions from before the requested one.
                         if revision >= first:
                             first = revision + 1
                             yield list(group)
@@ -225,7 +225,7 @@ class Etcd:
             pause()
 
     def missing(self, first: int) -> int:
-        """How many revisions there are from one on; 1 where no member says so at once."""
+        """How many revisions there are from `first` on; 1 if no member answers at once."""
         try:
             return max(0, self.revision(patience=0.0) - first + 1)
         except Unreachable:
@@ -233,5 +233,5 @@ class Etcd:
 
 
 def silence(revisions: int, tries: int = 0) -> float:
-    """Seconds that a member may take to tell revisions, after so many tries in which that was too short."""
+    """Seconds that a member may take to send revisions, after this many tries in which the time was too short."""
     return min(LONGEST, (SILENCE + max(0, revisions) * EACH) * 2**min(tries, 10))

@@ -1,4 +1,4 @@
-"""What is done to the members and the replicas on the way, drawn from a seed."""
+"""The faults that members and replicas suffer during the demo, drawn from a seed."""
 from __future__ import annotations
 
 import itertools
@@ -17,14 +17,14 @@ from scene import Failed, Scene
 from stage import Child, ReplicaChild
 
 OPERATE = Path(__file__).with_name("operate")
-# Seconds that a fault lasts, and from its end to the next one.
+# Seconds that a fault lasts, and from its end to the next fault.
 LASTS, BETWEEN = (0.5, 4.5), (0.3, 2.0)
-# Seconds that a clock jumps forth or back.
+# Seconds that a clock jumps forwards or back.
 JUMPS = (1, 60, 86_400, 10_000_000)
 
 
 class Faults(threading.Thread):
-    """Disturbs one process of some at a time, for some seconds."""
+    """Disturbs one of several processes at a time, for some seconds."""
 
     def __init__(self, scene: Scene, rng: random.Random, seconds: float) -> None:
         super().__init__(daemon=True)
@@ -45,7 +45,7 @@ class Faults(threading.Thread):
         self.done[name] += 1
 
     def shuffled(self, names: list[str], until: float) -> Iterator[str]:
-        """All names in a drawn order, over and over, with pauses, until a part of the time is over."""
+        """All names in a random order, repeated, with pauses, until a part of the time is over."""
         self.rng.shuffle(names)
         for name in itertools.cycle(names):
             time.sleep(self.rng.uniform(*BETWEEN))
@@ -73,7 +73,7 @@ class Faults(threading.Thread):
 
 
 class MemberFaults(Faults):
-    """Kills, pauses and, where there are namespaces, parts etcd's members."""
+    """Kills, pauses and, if there are namespaces, partitions etcd's members."""
 
     def play(self) -> None:
         acts = {"member killed": self.kill, "member paused": self.pause}
@@ -96,8 +96,8 @@ class MemberFaults(Faults):
 
 
 class ReplicaFaults(Faults):
-    """Disturbs the replicas in turn and upgrades them; starts the late one; at last compacts the log, and kills one
-    more. `newer` is the folder of the program that an upgrade starts."""
+    """Disturbs the replicas in turn and upgrades them; starts the late one; finally compacts the log, and kills one more
+    replica. `newer` is the folder of the program that an upgrade starts."""
 
     def __init__(self, scene: Scene, rng: random.Random, seconds: float, late: ReplicaChild, newer: Path) -> None:
         super().__init__(scene, rng, seconds)
@@ -116,11 +116,11 @@ class ReplicaFaults(Faults):
         self.do("replica killed", lambda: self.kill(self.rng.choice(self.scene.replicas)))
 
     def fill(self, replica: ReplicaChild) -> None:
-        """A replica ends by name where its disk is full, and goes on when there is room."""
+        """A replica whose disk is full ends with that error, and continues when there is space."""
         replica.disturbed = True
         network.fill(replica.folder)
         self.scene.tell(f"{replica.name}'s disk is full")
-        # Without clients it writes nothing, until it is told to end.
+        # Without clients it writes nothing until it is told to end.
         self.scene.wait(f"{replica.name} ends", lambda: replica.ended_alone() or not self.scene.loaded())
         if not replica.ended_alone():
             replica.tell_to_end()
@@ -141,7 +141,7 @@ class ReplicaFaults(Faults):
         self.scene.tell(f"{replica.name}'s clock jumps back")
 
     def spoil(self, replica: ReplicaChild) -> None:
-        """A snapshot of which a byte was changed is refused, and the log run from its beginning."""
+        """A snapshot with a changed byte is refused, and the log runs from its beginning."""
         replica.disturbed = True
         path = replica.folder / "snapshot"
         if path.exists():
@@ -174,7 +174,7 @@ class ReplicaFaults(Faults):
             self.scene.tell(f"{replica.name} upgraded, from revision {began}")
 
     def join_late(self, source: ReplicaChild) -> None:
-        """One more replica from the snapshot of another one that goes on meanwhile."""
+        """One more replica starts from the snapshot of another one, which continues meanwhile."""
         file = self.late.folder.with_suffix(".backup")
         operate("backup", f"127.0.0.1:{source.port}", str(file))
         operate("restore", str(file), str(self.late.folder))
@@ -202,7 +202,7 @@ def set_clock(replica: ReplicaChild, by: int) -> None:
 
 
 def faked_clock(replica: ReplicaChild, faketime: Path) -> None:
-    """Gives a replica a clock of its own, that of days; the one that only counts seconds stays the system's."""
+    """Gives a replica its own wall clock; the monotonic clock stays the system's."""
     set_clock(replica, 0)
     replica.variables |= {"LD_PRELOAD": str(faketime), "FAKETIME_CACHE_DURATION": "1",
                           "FAKETIME_TIMESTAMP_FILE": str(replica.folder.with_suffix(".clock")),
@@ -214,7 +214,7 @@ def find_faketime() -> Path | None:
 
 
 def left_out() -> list[str]:
-    """What can't be done here, and why."""
+    """The faults that can't be made here, and why."""
     why = network.missing()
     found = [f"left out: partitions and full disks: {why}"] if why else []
     return found + ([] if find_faketime() else ["left out: clocks that jump: there is no libfaketime"])

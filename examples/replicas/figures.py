@@ -1,4 +1,4 @@
-"""What a replica counts and measures, as JSON for people and as Prometheus' text for machines."""
+"""A replica's counts and measurements, as JSON for people and as Prometheus' text for machines."""
 from __future__ import annotations
 
 import bisect
@@ -10,7 +10,7 @@ import time
 from collections.abc import Iterable, Iterator, Sequence
 from pathlib import Path
 
-# The upper bounds of a segment's entries, and of seconds.
+# The upper bounds of the histograms: of a segment's entries, and of seconds.
 SIZES = [1, 10, 100, 1000, 10_000, 100_000]
 SECONDS = [0.0001, 0.001, 0.01, 0.1, 1.0, 10.0]
 
@@ -37,7 +37,7 @@ class Histogram:
 
 
 class Lag:
-    """How far a replica is behind etcd, by etcd's revisions as they were told at their times."""
+    """How far a replica is behind etcd, by etcd's revisions and the times at which they were learned."""
 
     def __init__(self) -> None:
         self.told: collections.deque[tuple[float, int]] = collections.deque()
@@ -50,7 +50,7 @@ class Lag:
             self.told.append(self.last)
 
     def behind(self, seen: int) -> dict[str, float]:
-        """Revisions that are missing, seconds since the first of them was known, and since etcd was last heard."""
+        """The missing revisions, the seconds since the first of them was known, and since etcd last answered."""
         with self.lock:
             while self.told and self.told[0][1] <= seen:
                 self.told.popleft()
@@ -61,7 +61,7 @@ class Lag:
 
 
 class Figures:
-    """Counts from a replica's start on."""
+    """Counts since the start of a replica."""
 
     def __init__(self) -> None:
         self.transactions = 0

@@ -1,7 +1,7 @@
-"""Checks the clients' own record against the log and its serial run.
+"""Compares the clients' own record with the log and its serial run.
 
 Each acknowledged put is in the log once, at the revision and with the reply that its client was told. The order of the
-log agrees with real time: what was acknowledged before something else was begun is before it. A fresh read answers the
+log agrees with real time: a put that was acknowledged before another one began precedes it. A fresh read returns the
 serial run's value at a timestamp that agrees with real time in the same way.
 """
 from __future__ import annotations
@@ -17,7 +17,7 @@ from serial import Serial
 
 @dataclass
 class Verdict:
-    """What was seen, and what shouldn't be, in words."""
+    """The counts of what was checked, and the faults, as texts."""
     acknowledged: int = 0
     unanswered: int = 0
     reads: int = 0
@@ -47,14 +47,14 @@ def check(asked: list[Asked], serial: Serial) -> Verdict:
 
 
 def check_puts(puts: list[Asked], serial: Serial, found: Verdict) -> dict[int, Asked]:
-    """What each put's client was told, held against the log. Answers who put what, by the log's places."""
+    """Compares the answer to each put with the log. Returns the puts by their places in the log."""
     places: dict[tuple[bytes, bool], list[int]] = {}
     for at, put in enumerate(serial.puts):
         places.setdefault((put.key, put.makes), []).append(at)
     who = {}
     for each in puts:
         there = places.get((each.key, not each.over), [])
-        # A put over a key may have been tried, and done, more than once; its client was told of one of them.
+        # A put over a key may have been tried, and done, more than once; its client was told of one of these.
         if len(there) > 1 and not each.over:
             found.wrong.append(f"{each.key!r} is in the log {len(there)} times")
         at = next((at for at in there if serial.puts[at].revision == each.revision), -1)
@@ -68,7 +68,7 @@ def check_puts(puts: list[Asked], serial: Serial, found: Verdict) -> dict[int, A
 
 
 def check_unasked(asked: list[Asked], serial: Serial, found: Verdict) -> None:
-    """Nothing is in the log that nobody put."""
+    """The log has nothing that no client put."""
     values = {(each.key, each.value) for each in asked}
     for put in serial.puts:
         if (put.key, put.value) not in values and not put.key.startswith((b"log/open/", b"log/define")):
@@ -77,14 +77,14 @@ def check_unasked(asked: list[Asked], serial: Serial, found: Verdict) -> None:
 
 @dataclass(frozen=True)
 class Span:
-    """Something at a place of the order, begun at a time, and acknowledged at one, if it was."""
+    """An operation at a place of the order, with the times at which it began and, if it was, was acknowledged."""
     place: float
     begin: float
     end: float | None
 
 
 def check_order(spans: Iterable[Span], faults: list[str], name: Callable[[int], str]) -> None:
-    """Nothing is ordered behind what was begun after its end. Those at one place are in any order."""
+    """No operation is ordered after one that began after its end. Operations at one place are in any order."""
     latest = pending = 0.0
     place = -1.0
     for span in sorted(spans, key=lambda span: span.place):

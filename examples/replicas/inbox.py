@@ -1,4 +1,4 @@
-"""What a thread reads from etcd ahead of the machine, cut into segments."""
+"""The changes that a thread reads from etcd ahead of the machine, cut into segments."""
 from __future__ import annotations
 
 import queue
@@ -7,15 +7,15 @@ import time
 
 from etcd import Change, Etcd
 
-# Bytes, and whole revisions, that a segment and what waits for one stop at. A revision is a request of etcd's,
+# Bytes, and whole revisions, at which a segment, and the queue for the next one, stop. A revision is one etcd request,
 # 1.5 MiB at most, so a segment stays below the 64 MiB of a log.
 LARGEST, WAITING = 16 * 2**20, 4096
-# Seconds after which a replica without news sees that it is to end.
+# Seconds after which a replica that receives nothing notices that it is to end.
 TICK = 0.1
 
 
 class Inbox:
-    """What comes from a revision on, until it is taken: whole revisions, in their order."""
+    """The changes from a revision on, until they are taken: whole revisions, in order."""
 
     def __init__(self, log: Etcd, first: int) -> None:
         self.waiting: queue.Queue[list[Change] | Exception] = queue.Queue(WAITING)
@@ -29,7 +29,7 @@ class Inbox:
             self.waiting.put(fault)
 
     def take(self, wait: float) -> list[Change]:
-        """The next revision, if it comes within this many seconds; else nothing."""
+        """The next revision, if it arrives within this many seconds; else nothing."""
         try:
             found = self.waiting.get(timeout=max(0.0, wait))
         except queue.Empty:
@@ -39,7 +39,7 @@ class Inbox:
         return found
 
     def segment(self, most: int, linger: float) -> list[Change]:
-        """At most this many revisions: what is there, and what comes within `linger` seconds of the first."""
+        """At most this many revisions: those available, and those that arrive within `linger` seconds of the first."""
         changes: list[Change] = []
         count = size = 0
         more = self.take(TICK)

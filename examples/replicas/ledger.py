@@ -1,4 +1,4 @@
-"""A machine with its procedures that takes a log's values, and the rule which of them are transactions."""
+"""A machine with its procedures that applies a log's values, and the rule that says which of them are transactions."""
 from __future__ import annotations
 
 import itertools
@@ -17,12 +17,12 @@ from bohm import BohmError, HasLogError, Library, Machine, NoKeyError, RefusedEr
 __all__ = ["BohmError", "Ledger", "Library", "NoKeyError", "TrimmedError", "Unread"]
 
 HEAD = b"log 1\n"
-# Calls that are run at once. A list takes 1,000,000.
+# The most calls that are run at once. A list takes 1,000,000.
 MOST = 65_536
 
 
 class Unread(Exception):
-    """A text that is no store's, or a procedure's that isn't accepted."""
+    """A text that isn't a store's, or that of a procedure that isn't accepted."""
 
 
 def skipped_by(refusal: RefusedError) -> bytes:
@@ -31,16 +31,16 @@ def skipped_by(refusal: RefusedError) -> bytes:
 
 
 def merged(skipped: dict[int, bytes], replies: Iterable[bytes], count: int) -> list[bytes]:
-    """The replies to `count` values, of which some, by their places, were skipped."""
+    """The replies to `count` values, some of which were skipped; `skipped` is by index."""
     rest = iter(replies)
     return [skipped[at] if at in skipped else next(rest) for at in range(count)]
 
 
 class Ledger:
-    """Replies to values in their order, the same however they are cut into calls."""
+    """Replies to values in order, the same however they are divided into calls of `apply`."""
 
     def __init__(self, library: Library, store: bytes, top: int, texts: dict[bytes, bytes]) -> None:
-        """Goes on from a store behind the transaction with a timestamp, with procedures by their names. Raises Unread,
+        """Continues from the store after the transaction with a timestamp, with procedures by their names. Raises Unread,
         or BohmError."""
         self.library = library
         try:
@@ -51,7 +51,7 @@ class Ledger:
 
     def apply(self, values: list[bytes]) -> list[bytes]:
         """The reply to each value: the machine's, or why it is skipped. After a BohmError, for lack of memory or of
-        timestamps, the machine may have gone a part of the way, and the ledger isn't to be used any more."""
+        timestamps, the machine may have applied only a part, and the ledger must not be used any more."""
         replies: list[bytes] = []
         for group in alike(map(entries.read, values)):
             if calls := [entry for entry in group if isinstance(entry, Call)]:
@@ -78,7 +78,7 @@ class Ledger:
         return merged(skipped, (str(reply).encode() for reply in replies), len(calls))
 
     def prepared(self, call: Call) -> bohm.Call | bytes:
-        """What the machine runs; or why the call is skipped."""
+        """The call that the machine runs; or why it is skipped."""
         procedure = self.procedures.get(call.name)
         if not procedure:
             return b"skipped: procedure"
@@ -104,7 +104,7 @@ class Ledger:
         return merged(skipped, (str(reply).encode() for reply in replies), len(texts))
 
     def fault(self, text: bytes) -> bytes | None:
-        """Why a text is skipped: the line by which the log that has it alone is refused."""
+        """Why a text is skipped: the line by which a log with that text alone is refused."""
         try:
             bohm.answer(HEAD + text, library=self.library)
         except RefusedError as refusal:
@@ -117,7 +117,7 @@ class Ledger:
 
 
 def alike(given: Iterable[Entry]) -> Iterator[list[Entry]]:
-    """Neighbours of one kind, in groups."""
+    """Groups of neighbours of the same kind."""
     for _, group in itertools.groupby(given, type):
         while part := list(itertools.islice(group, MOST)):
             yield part

@@ -1,4 +1,4 @@
-"""The clients: transfers between accounts, reads, and what no replica may stumble over; and their own record of it."""
+"""The clients: transfers between accounts, reads, and bad values, which no replica may fail on; and the clients' record."""
 from __future__ import annotations
 
 import http.client
@@ -12,11 +12,11 @@ import etcd
 
 ACCOUNTS = [f"a{number:03d}" for number in range(160)]
 OPENING = 1000
-# Seconds that a client asks for a reply; and one answer may take.
+# Seconds for which a client asks for a reply; and that one answer may take.
 PATIENCE, ANSWER = 300.0, 10.0
-# Of this many values one is no transaction, one is put to a key that was there, and one is read.
+# Of this many values one is no transaction, one is put to an existing key, and one is read.
 BAD, RUDE, READ = 50, 200, 12
-# How many keys one revision has, drawn from these. The share of transfers that are text.
+# The number of keys in one revision is drawn from these. The share of transfers that are text.
 BATCHES = [1, 1, 1, 3, 16, 64]
 TEXT = 0.25
 OVERWRITTEN = b"skipped: overwrites"
@@ -35,8 +35,8 @@ end
 
 
 def openings() -> dict[bytes, bytes]:
-    """The procedure, and transactions that open all accounts, 16 in each: the keys of one revision, the last one
-    first."""
+    """The procedure, and transactions that open all accounts, 16 in each: the keys of one revision, in reverse
+    order."""
     groups = [ACCOUNTS[at:at + 16] for at in range(0, len(ACCOUNTS), 16)]
     texts = [f"txn\nreads\nwrites {' '.join(group)}\n" + "".join(f"set {key} = {OPENING}\n" for key in group) + "end\n"
              for group in groups]
@@ -45,8 +45,8 @@ def openings() -> dict[bytes, bytes]:
 
 
 def transfer(rng: random.Random, text: float = TEXT) -> bytes:
-    """An amount from one account to another one, if there is so much, as text or as a call. Some name an account that
-    isn't there."""
+    """Moves an amount from one account to another, if the first has that much, as text or as a call. Some name an account
+    that doesn't exist."""
     payer, payee = rng.sample(ACCOUNTS, 2)
     if rng.randrange(40) == 0:
         payee = "nobody"
@@ -59,7 +59,7 @@ def transfer(rng: random.Random, text: float = TEXT) -> bytes:
 
 
 def bad_values() -> list[tuple[bytes, bytes]]:
-    """Values that are no transaction, each with the reply by which it is skipped. Lines count from `log 1` on."""
+    """Values that are no transaction, each with the reply by which it is skipped. Lines are counted from `log 1`."""
     one = b"txn\nreads\nwrites a\nset a = 1\nend\n"
     shapeless = [b"", b"\n", b"\0\xff\n", b"hello", one + one, b"a 5\n" + one, b"log 1\n" + one, one[:-1], one + b"\n",
                  b"txn\nend\nend\n", b"txn\ntxn\nend\n", b"end\ntxn\n", b"txn\r\nreads\r\nwrites\r\nend\r\n",
@@ -84,8 +84,8 @@ def bad_values() -> list[tuple[bytes, bytes]]:
 
 @dataclass
 class Asked:
-    """What a client asked, and, once it knows, what it was told: a put's revision and line of reply, or what a fresh
-    read of an account answered. Times are seconds of one clock. `port` is the replica's."""
+    """A client's request, and the answer once it has it: a put's revision and line of reply, or the result of a fresh read
+    of an account. Times are seconds of one clock. `port` is the replica's."""
     key: bytes
     value: bytes | None
     begin: float
@@ -101,7 +101,7 @@ class Asked:
 
 
 class Client(threading.Thread):
-    """Puts one value after another, each when it has the reply to the one before; at most `rate` a second."""
+    """Puts one value after another, each when it has the reply to the previous one; at most `rate` a second."""
 
     def __init__(self, number: int, seed: int, members: list[str], ports: list[int], seconds: float, rate: float = 0.0,
                  text: float = TEXT, mixed: bool = True, batch: int = 1) -> None:
@@ -169,7 +169,7 @@ class Client(threading.Thread):
         asked.end = time.monotonic()
 
     def ask(self, path: str) -> tuple[int, bytes]:
-        """The replica that answers first, from the client's own one on, and its answer."""
+        """The first replica that answers, beginning with the client's own, and its answer."""
         end = time.monotonic() + PATIENCE
         while time.monotonic() < end:
             for port in self.ports:
@@ -179,7 +179,7 @@ class Client(threading.Thread):
         raise TimeoutError(f"no replica answers {path}")
 
     def get(self, port: int, path: str) -> bytes:
-        """What a replica answers; nothing where it doesn't."""
+        """A replica's answer; empty if there is none."""
         line = self.lines.setdefault(port, http.client.HTTPConnection("127.0.0.1", port, timeout=ANSWER))
         try:
             line.request("GET", path)

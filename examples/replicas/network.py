@@ -1,6 +1,6 @@
-"""Namespaces of Linux: a network in which members of etcd can be parted, and folders that can be full.
+"""Linux namespaces: a network in which members of etcd can be partitioned, and folders that can be full.
 
-All of it belongs to the namespaces of one run, which end with its processes, and nothing of it is seen outside.
+All of it belongs to the namespaces of one run, which end with its processes, and none of it is visible outside.
 """
 from __future__ import annotations
 
@@ -14,7 +14,7 @@ from pathlib import Path
 INSIDE = "BOHM_REPLICAS_INSIDE"
 SUBNET = "10.77.0."
 BRIDGE = "bohm0"
-# An address of the link layer that nobody has: what is sent there is lost without a word.
+# A link-layer address that no interface has: packets sent there are lost silently.
 NOBODY = "02:00:00:00:00:ff"
 
 
@@ -28,7 +28,7 @@ def unshare() -> list[str]:
 
 
 def missing() -> str | None:
-    """Why there can't be namespaces here, if so."""
+    """Why namespaces can't be made here; None if they can."""
     if inside():
         return None
     for command in ("unshare", "nsenter", "ip", "mount"):
@@ -40,7 +40,7 @@ def missing() -> str | None:
 
 
 def enter() -> None:
-    """Goes on as the same program in namespaces of its own, unless it is there."""
+    """Restarts the same program in its own namespaces, unless it is in them already."""
     if not inside():
         os.execvpe("unshare", [*unshare(), sys.executable, *sys.argv], os.environ | {INSIDE: "1"})
 
@@ -51,7 +51,7 @@ def inside() -> bool:
 
 @dataclass(frozen=True)
 class Seat:
-    """Where a member of etcd runs: its address, its two ports, and the words before its command."""
+    """Where a member of etcd runs: its address, its two ports, and the words that precede its command."""
     host: str
     client: int
     peer: int
@@ -59,7 +59,7 @@ class Seat:
 
 
 def make(count: int) -> list[Seat]:
-    """A namespace for each member, all on one bridge, at which this one is too."""
+    """Makes a namespace for each member, all on one bridge, to which this namespace is connected too."""
     Path("/run/netns").mkdir(parents=True, exist_ok=True)
     run("mount", "-t", "tmpfs", "none", "/run/netns")
     run("ip", "link", "set", "lo", "up")
@@ -79,7 +79,7 @@ def make(count: int) -> list[Seat]:
 
 
 def part(one: int, other: int) -> None:
-    """What two members send to one another is lost from now on."""
+    """From here on, packets between two members are lost."""
     for here, there in ((one, other), (other, one)):
         run("ip", "-n", f"m{here}", "neigh", "replace", f"{SUBNET}{there}", "lladdr", NOBODY, "dev", "eth0",
             "nud", "permanent")
@@ -91,7 +91,7 @@ def join(one: int, other: int) -> None:
 
 
 def small_disk(folder: Path, size: str) -> None:
-    """A disk of its own for a folder."""
+    """Gives a folder its own small disk."""
     folder.mkdir(parents=True)
     run("mount", "-t", "tmpfs", "-o", f"size={size}", "none", str(folder))
 
@@ -102,7 +102,7 @@ def drop_disk(folder: Path) -> None:
 
 
 def fill(folder: Path) -> None:
-    """Fills a folder's disk up to its last byte."""
+    """Fills a folder's disk to the last byte."""
     with (folder / "filler").open("wb", buffering=0) as file:
         for size in (2**20, 4096, 1):
             try:

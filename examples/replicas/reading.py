@@ -1,4 +1,4 @@
-"""What a replica can be asked, each answer as of a timestamp or a revision that it names."""
+"""The reads of a replica; each answer names the timestamp or revision that it is for."""
 from __future__ import annotations
 
 import threading
@@ -12,12 +12,12 @@ from ledger import HERE, TrimmedError
 if TYPE_CHECKING:
     from replica import Replica
 
-# Seconds that an asker waits for a revision, a timestamp or etcd.
+# Seconds that a reader waits for a revision, a timestamp or etcd.
 WAIT = 5.0
 
 
 class NotYet(Exception):
-    """What is asked for isn't applied here yet, or etcd doesn't tell what is."""
+    """The requested revision or timestamp isn't applied here yet, or etcd doesn't report its revision."""
 
 
 class Gone(Exception):
@@ -25,7 +25,7 @@ class Gone(Exception):
 
 
 class Reader:
-    """A replica as its askers see it. Any thread may ask."""
+    """A replica as its readers see it. Any thread may call it."""
 
     def __init__(self, replica: Replica) -> None:
         self.replica = replica
@@ -41,13 +41,13 @@ class Reader:
                 raise NotYet(f"{what} isn't applied yet")
 
     def reply(self, revision: int) -> bytes:
-        """The lines of a revision, empty where it has none here."""
+        """The lines of a revision, empty if it has none here."""
         self.wait(lambda: self.replica.revision >= revision, f"revision {revision}")
         with self.replica.changed:
             return self.replica.replies.find(revision)
 
     def timestamp(self, at: int | None, fresh: bool) -> int:
-        """The timestamp to read at: a given one; or else the last, `fresh`: behind all that was acknowledged before."""
+        """The timestamp to read at: the given one, or else the last; if `fresh`, after all that was acknowledged before."""
         if at is not None:
             wanted = at
             self.wait(lambda: self.replica.top >= wanted, f"timestamp {at}")
@@ -59,9 +59,9 @@ class Reader:
             return self.replica.top
 
     def current(self) -> int:
-        """etcd's revision, each thread by a connection of its own."""
+        """etcd's revision; each thread has its own connection."""
         if not hasattr(self.logs, "log"):
-            self.logs.log = Etcd(self.replica.words.members, patience=WAIT)
+            self.logs.log = Etcd(self.replica.options.members, patience=WAIT)
         try:
             return self.logs.log.revision()
         except (Unreachable, Refused) as fault:
@@ -77,7 +77,7 @@ class Reader:
         return {"timestamp": ts, "store": store}
 
     def kept(self, at: int | None, fresh: bool, look: Callable[[int], Any]) -> tuple[int, Any]:
-        """What is found at a timestamp, and the timestamp. The last one is taken anew where it is let go meanwhile."""
+        """The result of `look` at a timestamp, and the timestamp. If the last one is dropped meanwhile, it is taken anew."""
         while True:
             ts = self.timestamp(at, fresh)
             try:
@@ -90,14 +90,14 @@ class Reader:
         return self.replica.snapshot().text()
 
     def digests(self) -> dict[int, str]:
-        """The digests of the last hundred places, by how many entries are before them."""
+        """The digests of the last hundred places, by the number of entries before them."""
         return dict(self.replica.digests.own)
 
     def status(self) -> dict[str, Any]:
         replica = self.replica
         counts = replica.ledger.machine.counts()
         with replica.changed:
-            found = {"name": replica.words.name, "program": str(HERE), "began": replica.began,
+            found = {"name": replica.options.name, "program": str(HERE), "began": replica.began,
                      "revision": replica.revision, "entries": replica.entries, "top": replica.top,
                      "floor": counts.floor, "behind": replica.lag.behind(replica.revision),
                      "snapshot_revision": replica.saved, **replica.figures.status()}

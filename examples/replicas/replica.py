@@ -1,10 +1,10 @@
 #!/usr/bin/env python3
-"""A replica: takes a log on etcd through a machine, and keeps replies and a snapshot in a folder.
+"""A replica: applies a log on etcd to a machine, and keeps replies and a snapshot in a folder.
 
     replica.py --library libbohm.so --folder F --members H:P,H:P,H:P --port N
         [--name NAME] [--host 127.0.0.1] [--prefix log/] [--most 4096] [--linger 0] [--every 10000] [--past 10000]
 
-It answers HTTP; docs/replicas.md lists what. SIGTERM ends it behind a last snapshot, with status 0.
+It serves HTTP; docs/replicas.md lists the paths. SIGTERM ends it after a last snapshot, with status 0.
 """
 from __future__ import annotations
 
@@ -30,12 +30,12 @@ from replies import Replies
 from snapshot import Snapshot
 
 OVERWRITES = b"skipped: overwrites"
-# Seconds between two looks at etcd's revision, and that one takes at most.
+# Seconds between two requests for etcd's revision, and the most that one takes.
 LOOK = 1.0
 
 
-def say(words: str) -> None:
-    print(words, file=sys.stderr, flush=True)
+def say(text: str) -> None:
+    print(text, file=sys.stderr, flush=True)
 
 
 def line_of(put: Change, reply: bytes) -> bytes:
@@ -43,30 +43,30 @@ def line_of(put: Change, reply: bytes) -> bytes:
 
 
 class Replica:
-    """A ledger behind a revision of a log, with the replies and the snapshots up to there."""
+    """A ledger at a revision of a log, with the replies and the snapshots up to there."""
 
-    def __init__(self, words: argparse.Namespace, library: Library) -> None:
-        self.words, self.library = words, library
-        self.prefix = words.prefix.encode()
-        self.path = words.folder / "snapshot"
-        log = Etcd(words.members)
+    def __init__(self, options: argparse.Namespace, library: Library) -> None:
+        self.options, self.library = options, library
+        self.prefix = options.prefix.encode()
+        self.path = options.folder / "snapshot"
+        log = Etcd(options.members)
         self.cluster = log.cluster()
         begin, self.ledger = self.begin()
         self.began = self.revision = self.saved = begin.revision
         self.entries, self.top, self.procedures = begin.entries, begin.top, begin.procedures
-        self.replies = Replies(words.folder / "replies", begin.revision)
+        self.replies = Replies(options.folder / "replies", begin.revision)
         self.since = 0
         self.figures, self.lag = Figures(), Lag()
         self.changed = threading.Condition()
         self.ended = threading.Event()
-        address = f"{words.host}:{words.port}"
-        self.digests = Digests(Etcd(words.members), self.prefix, words.name, address, begin.entries)
+        address = f"{options.host}:{options.port}"
+        self.digests = Digests(Etcd(options.members), self.prefix, options.name, address, begin.entries)
         self.inbox = Inbox(log, begin.revision + 1)
         self.reader = Reader(self)
         threading.Thread(target=self.look, daemon=True).start()
 
     def begin(self) -> tuple[Snapshot, Ledger]:
-        """The folder's snapshot; where there is none, or it is refused, which is said, the log's beginning."""
+        """The folder's snapshot; the log's beginning if there is none, or if it is refused, which is reported."""
         try:
             found = snapshot.read(self.path, self.cluster, self.prefix)
             return found, Ledger(self.library, found.store, found.top, found.procedures)
@@ -79,10 +79,10 @@ class Replica:
 
     def run(self) -> None:
         while not self.ended.is_set():
-            if changes := self.inbox.segment(self.words.most, self.words.linger):
+            if changes := self.inbox.segment(self.options.most, self.options.linger):
                 self.apply(changes)
             self.digests.check()
-            if self.since >= self.words.every:
+            if self.since >= self.options.every:
                 self.save()
         self.save()
 
@@ -106,7 +106,7 @@ class Replica:
             self.changed.notify_all()
 
     def note_digests(self, changes: list[Change], replies: list[bytes]) -> None:
-        """Digests at the places that a segment passes: the machine has its past."""
+        """Notes digests at the places that a segment passes: the machine keeps its past."""
         entries, top = self.entries, self.top
         for reply in replies:
             entries += 1
@@ -117,32 +117,32 @@ class Replica:
             self.digests.note(change)
 
     def snapshot(self) -> Snapshot:
-        """What stands behind the last segment. Raises TrimmedError where the past was let go meanwhile."""
+        """The state after the last segment. Raises TrimmedError if the past was dropped meanwhile."""
         with self.changed:
             revision, entries, top, texts = self.revision, self.entries, self.top, self.procedures
         store = self.ledger.machine.snapshot(top)
         return Snapshot(self.cluster, self.prefix, revision, entries, top, texts, store)
 
     def save(self) -> None:
-        """The replies last before the snapshot does: none up to its revision is lost. Old versions are let go."""
+        """Syncs the replies before the snapshot, so that none up to its revision is lost. Drops old versions."""
         begun = time.monotonic()
         self.replies.sync()
         made = self.snapshot()
         snapshot.write(made.text(), self.path)
-        self.ledger.machine.trim(max(0, made.top - self.words.past))
+        self.ledger.machine.trim(max(0, made.top - self.options.past))
         with self.changed:
             self.saved = made.revision
             self.since = 0
             self.figures.snapshots.add(time.monotonic() - begun)
 
     def look(self) -> None:
-        """Asks for etcd's revision again and again, to know how far this replica is behind."""
-        log = Etcd(self.words.members, patience=0.0)
+        """Asks for etcd's revision repeatedly, to know how far this replica is behind."""
+        log = Etcd(self.options.members, patience=0.0)
         while not self.ended.wait(LOOK):
             try:
                 self.lag.tell(log.revision())
             except Unreachable:
-                """The status tells since when etcd wasn't heard."""
+                """The status says since when etcd hasn't answered."""
 
 
 class InUse(Exception):
@@ -150,7 +150,7 @@ class InUse(Exception):
 
 
 def alone(folder: Path) -> TextIO:
-    """Holds a folder for one replica as long as the file that it answers is open."""
+    """Locks a folder for one replica as long as the returned file is open."""
     folder.mkdir(parents=True, exist_ok=True)
     lock = (folder / "lock").open("w")
     try:
@@ -160,30 +160,30 @@ def alone(folder: Path) -> TextIO:
     return lock
 
 
-def read_words() -> argparse.Namespace:
-    words = argparse.ArgumentParser(description="takes a log on etcd through a machine")
-    words.add_argument("--library", required=True, help="libbohm.so")
-    words.add_argument("--folder", type=Path, required=True, help="of the replies and the snapshot")
-    words.add_argument("--members", type=lambda given: given.split(","), required=True, help="HOST:PORT,..")
-    words.add_argument("--name", help="in the group of replicas; else the folder's")
-    words.add_argument("--host", default="127.0.0.1", help="that is answered on")
-    words.add_argument("--port", type=int, required=True, help="that is answered on")
-    words.add_argument("--prefix", default="log/", help="of the log's keys")
-    words.add_argument("--most", type=int, default=4096, help="revisions of a segment")
-    words.add_argument("--linger", type=float, default=0.0, help="seconds that a segment waits for more")
-    words.add_argument("--every", type=int, default=10_000, help="entries from snapshot to snapshot")
-    words.add_argument("--past", type=int, default=10_000, help="timestamps that can be read at, at least")
-    given = words.parse_args()
+def read_options() -> argparse.Namespace:
+    parser = argparse.ArgumentParser(description="takes a log on etcd through a machine")
+    parser.add_argument("--library", required=True, help="libbohm.so")
+    parser.add_argument("--folder", type=Path, required=True, help="of the replies and the snapshot")
+    parser.add_argument("--members", type=lambda given: given.split(","), required=True, help="HOST:PORT,..")
+    parser.add_argument("--name", help="in the group of replicas; else the folder's")
+    parser.add_argument("--host", default="127.0.0.1", help="to listen on")
+    parser.add_argument("--port", type=int, required=True, help="to listen on")
+    parser.add_argument("--prefix", default="log/", help="of the log's keys")
+    parser.add_argument("--most", type=int, default=4096, help="revisions of a segment")
+    parser.add_argument("--linger", type=float, default=0.0, help="seconds that a segment waits for more")
+    parser.add_argument("--every", type=int, default=10_000, help="entries from snapshot to snapshot")
+    parser.add_argument("--past", type=int, default=10_000, help="the least number of timestamps that stay readable")
+    given = parser.parse_args()
     if not given.prefix or given.most < 1 or given.every < 1 or given.past < 0:
-        words.error("--prefix isn't empty, --most and --every are 1 at least, --past isn't below 0")
+        parser.error("--prefix isn't empty, --most and --every are 1 at least, --past isn't below 0")
     given.name = given.name or given.folder.resolve().name
     return given
 
 
 def stop_diverged(replica: Replica, fault: Diverged) -> None:
-    """Answers no read any more, and leaves a mark, so that the folder isn't started on again."""
+    """Stops answering reads, and leaves a mark, so that no replica starts on the folder again."""
     replica.reader.stop()
-    (replica.words.folder / "diverged").write_text(f"{fault}\n")
+    (replica.options.folder / "diverged").write_text(f"{fault}\n")
 
 
 def refuse_diverged(folder: Path) -> None:
@@ -193,13 +193,13 @@ def refuse_diverged(folder: Path) -> None:
 
 
 def main() -> None:
-    words = read_words()
+    options = read_options()
     try:
-        lock = alone(words.folder)
-        refuse_diverged(words.folder)
-        replica = Replica(words, Library(words.library))
+        lock = alone(options.folder)
+        refuse_diverged(options.folder)
+        replica = Replica(options, Library(options.library))
         signal.signal(signal.SIGTERM, lambda *_: replica.ended.set())
-        serving.start(replica.reader, words.host, words.port)
+        serving.start(replica.reader, options.host, options.port)
         try:
             replica.run()
         except Diverged as fault:

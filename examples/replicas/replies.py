@@ -11,7 +11,7 @@ class Replies:
     """The file, and where in it each revision's lines begin."""
 
     def __init__(self, path: Path, revision: int) -> None:
-        """Keeps the lines up to a revision; what is behind, and a torn last line, is cut off."""
+        """Keeps the lines up to a revision; later lines, and a torn last line, are cut off."""
         self.revisions, self.places = array("Q"), array("Q")
         self.end = 0
         self.file = path.open("a+b", buffering=0)
@@ -38,7 +38,7 @@ class Replies:
             self.note(line)
 
     def find(self, revision: int) -> bytes:
-        """The lines of a revision; none where the file has none."""
+        """The lines of a revision; none if the file has none."""
         at = bisect_left(self.revisions, revision)
         if at == len(self.revisions) or self.revisions[at] != revision:
             return b""

@@ -1,4 +1,4 @@
-"""What runs in a demo, and the story of it as it happens."""
+"""The processes and clients of a demo, and its log of events as they happen."""
 from __future__ import annotations
 
 import sys
@@ -12,18 +12,18 @@ from etcd import Change, Etcd
 from load import Client
 from stage import Child, ReplicaChild
 
-# Seconds: for what was just started to answer on a machine that has other work, and between two looks.
+# Seconds: for a new process to answer on a machine that has other work, and between two checks.
 STARTED, LOOK = 600.0, 0.02
-# Seconds that a replica may take to say how far it is, for the story.
+# Seconds that a replica may take to report its progress, for the log of events.
 GLANCE = 2.0
 
 
 class Failed(Exception):
-    """The demo can't go on, or has seen what shouldn't be."""
+    """The demo can't continue, or has found an error."""
 
 
 class Witness(threading.Thread):
-    """Keeps every change from the first revision on, as the log is compacted later."""
+    """Keeps every change from the first revision on, since the log is compacted later."""
 
     def __init__(self, members: list[str]) -> None:
         super().__init__(daemon=True)
@@ -39,7 +39,7 @@ class Witness(threading.Thread):
 
 @dataclass
 class Scene:
-    """The processes and the clients, and when all has to be over. `addresses` are the members'."""
+    """The processes and the clients, and the time by which all must be over. `addresses` are the members'."""
     addresses: list[str]
     members: list[Child]
     replicas: list[ReplicaChild]
@@ -63,7 +63,7 @@ class Scene:
         return any(client.is_alive() for client in self.clients)
 
     def look(self) -> None:
-        """Keeps in mind how far each replica is."""
+        """Records the progress of each replica."""
         while not self.over:
             for replica in list(self.replicas):
                 status = replica.status(GLANCE) if replica.process else None
@@ -82,7 +82,7 @@ class Scene:
             print(line, flush=True)
 
     def check(self) -> None:
-        """Raises Failed where a client or a process went wrong by itself."""
+        """Raises Failed if a client or a process failed by itself."""
         if self.fault:
             raise Failed(f"{type(self.fault).__name__}: {self.fault}")
         for client in self.clients:
@@ -101,13 +101,13 @@ class Scene:
             time.sleep(LOOK)
 
     def start(self, child: Child) -> dict[str, Any]:
-        """Starts a process. Of a replica it waits for the first status, and answers it."""
+        """Starts a process. For a replica it waits for the first status, and returns it."""
         child.start()
         child.disturbed = False
         return self.status(child) if isinstance(child, ReplicaChild) else {}
 
     def status(self, replica: ReplicaChild) -> dict[str, Any]:
-        """What a replica says of itself, as soon as it does."""
+        """A replica's status, as soon as it answers."""
         found: dict[str, Any] = {}
 
         def answers() -> bool:
@@ -118,7 +118,7 @@ class Scene:
         return found
 
     def caught_up(self, replica: ReplicaChild) -> None:
-        """Waits until a replica has all that etcd has now."""
+        """Waits until a replica has applied all that etcd has at the time of the call."""
         revision = Etcd(self.addresses).revision()
         self.wait(f"{replica.name} at revision {revision}",
                   lambda: (replica.status() or {"revision": 0})["revision"] >= revision)

@@ -1,4 +1,4 @@
-"""What a log's serial run gives, by `./bohm` on its text: the text of calls is made here by docs/procedures.md."""
+"""The results of a log's serial run, by `./bohm` on its text: the text of calls is made here as docs/procedures.md says."""
 from __future__ import annotations
 
 import hashlib
@@ -18,7 +18,7 @@ OPENING = re.compile(rb"set (\w+) = (\d+)\n")
 
 
 def instance(text: bytes, arguments: list[bytes]) -> bytes:
-    """The transaction that a call of a procedure stands for. Of the procedure no parameter is a statement's word."""
+    """The transaction that a call of a procedure represents. No parameter of the procedure may be a statement's word."""
     lines = [line.split(b" ") for line in text.splitlines()[1:-1]]
     names = [line[1] for line in lines if line[0] in (b"key", b"value")]
     count = sum(line[0] == b"key" for line in lines)
@@ -30,14 +30,14 @@ def instance(text: bytes, arguments: list[bytes]) -> bytes:
 
 
 def literal(value: bytes) -> bytes:
-    """The least value has no literal."""
+    """A value as a sum: the least value has no literal."""
     return b"-9223372036854775807 - 1" if value == b"-9223372036854775808" else value
 
 
 @dataclass
 class Serial:
     """For each put of the log its line of reply, the timestamp of the last transaction up to it, and the transaction
-    that it stands for, or nothing. The store is that behind them all; the accounts' values lie by timestamps."""
+    that it represents, if any. The store is the final one; the accounts' values are kept by timestamps."""
     puts: list[Change]
     lines: list[bytes] = field(default_factory=list)
     tops: list[int] = field(default_factory=list)
@@ -48,12 +48,12 @@ class Serial:
 
 
 def puts_of(changes: list[Change]) -> list[Change]:
-    """The log's puts among all changes."""
+    """The log's puts, selected from all changes."""
     return [change for change in changes if change.key.startswith(PREFIX) and change.value is not None]
 
 
 def texts_of(puts: list[Change]) -> list[bytes]:
-    """For each put the transaction that it stands for, or the reply of one that stands for none."""
+    """For each put the transaction that it represents, or its reply if it represents none."""
     bad, procedures, found = dict(bad_values()), {}, []
     for put in puts:
         value = put.value or b""
@@ -91,7 +91,7 @@ def run(puts: list[Change], program: Path) -> Serial:
 
 
 def move(values: dict[bytes, list[tuple[int, int]]], text: bytes, reply: bytes, ts: int) -> None:
-    """What a transfer or an opening that committed did to the accounts."""
+    """Applies a committed transfer or opening to the accounts."""
     if reply.split()[1] != b"commit":
         return
     if found := TRANSFER.fullmatch(text):
@@ -105,12 +105,12 @@ def move(values: dict[bytes, list[tuple[int, int]]], text: bytes, reply: bytes, 
 
 
 def answer_of(texts: list[bytes], program: Path) -> tuple[bytes, bytes]:
-    """The replies of transactions, and the store behind them."""
+    """The replies of transactions, and the store after them."""
     answer = subprocess.run([program], input=HEAD + b"".join(texts), stdout=subprocess.PIPE, check=True).stdout
     replies, _, store = answer.partition(b"--\n")
     return replies, store
 
 
 def digest_at(serial: Serial, place: int, program: Path) -> str:
-    """The SHA-256 of the serial run's store behind so many entries, with a line `--` before it."""
+    """The SHA-256 of the serial run's store after `place` entries, with a line `--` before it."""
     return hashlib.sha256(b"--\n" + answer_of(serial.texts[:place], program)[1]).hexdigest()

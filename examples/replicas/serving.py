@@ -1,4 +1,4 @@
-"""What a replica answers by HTTP."""
+"""A replica's HTTP server."""
 from __future__ import annotations
 
 import json
@@ -15,11 +15,11 @@ TEXT, JSON, BYTES = "text/plain; charset=utf-8", "application/json", "applicatio
 
 
 class BadWords(Exception):
-    """What stands behind the path's question mark is none of what can be asked."""
+    """The query string isn't one that is supported."""
 
 
 def read_query(query: str) -> tuple[int | None, bool]:
-    """The timestamp of `at=T`, and whether `fresh=1` is there."""
+    """The timestamp of `at=T`, and whether `fresh=1` is present."""
     words = parse_qs(query, keep_blank_values=True)
     at = words.pop("at", [])
     fresh = words.pop("fresh", ["0"])[0]
@@ -84,7 +84,7 @@ class Handler(BaseHTTPRequestHandler):
         self.wfile.write(text)
 
     def log_message(self, *words: Any) -> None:
-        """Says nothing of single requests."""
+        """Doesn't log single requests."""
 
 
 class Server(ThreadingHTTPServer):

@@ -1,4 +1,4 @@
-"""A snapshot: what a replica holds behind a revision of a log, in a text that is whole or refused."""
+"""A snapshot: a replica's state at a revision of a log, as a text that is complete or refused."""
 from __future__ import annotations
 
 import hashlib
@@ -13,13 +13,13 @@ PROCEDURE = re.compile(rb"procedure (\S+) (\d+)\n")
 
 
 class Refused(Exception):
-    """A text that is no whole snapshot, or one of another log."""
+    """A text that isn't a complete snapshot, or is one of another log."""
 
 
 @dataclass(frozen=True)
 class Snapshot:
-    """Behind all changes up to a revision: how many entries the log had, the timestamp of the last transaction among
-    them, the procedures' texts by their names, and the store as text."""
+    """The state after all changes up to a revision: how many entries the log had, the timestamp of the last transaction
+    among them, the procedures' texts by their names, and the store as text."""
     cluster: str
     prefix: bytes
     revision: int
@@ -37,7 +37,7 @@ class Snapshot:
 
 
 def write(text: bytes, path: Path) -> None:
-    """After a crash at any moment the file is the old one or this one, whole."""
+    """Writes the file so that after a crash at any moment it is the old one or this one, complete."""
     new = path.with_name(path.name + ".new")
     with new.open("wb") as file:
         file.write(text)
@@ -48,7 +48,7 @@ def write(text: bytes, path: Path) -> None:
 
 
 def sync_folder(folder: Path) -> None:
-    """Makes names in a folder last."""
+    """Makes the names in a folder durable."""
     handle = os.open(folder, os.O_RDONLY)
     try:
         os.fsync(handle)
@@ -61,7 +61,7 @@ def hash_line(body: bytes) -> bytes:
 
 
 def parse(text: bytes) -> Snapshot:
-    """The snapshot that a text is. Raises Refused."""
+    """Parses the text of a snapshot. Raises Refused."""
     body = text[:-len(hash_line(b""))]
     if text != body + hash_line(body):
         raise Refused("its last line isn't the SHA-256 of the others")
@@ -77,7 +77,7 @@ def parse(text: bytes) -> Snapshot:
 
 
 def read(path: Path, cluster: str, prefix: bytes) -> Snapshot:
-    """The snapshot of a log that a file holds. Raises Refused, or FileNotFoundError."""
+    """Reads a log's snapshot from a file. Raises Refused, or FileNotFoundError."""
     found = parse(path.read_bytes())
     if (found.cluster, found.prefix) != (cluster, prefix):
         raise Refused("it is of another log")

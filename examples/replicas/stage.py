@@ -17,16 +17,16 @@ from typing import Any, ClassVar
 
 from network import Seat
 
-# Ports below those that the system gives to outgoing connections, so that a port stays free while its owner is down.
+# Ports below those that the system uses for outgoing connections, so that a port stays free while its owner is down.
 PORTS = range(10_000, 32_000)
-# Seconds that an answer, and a process that was told to end, may take on a machine that has other work.
+# Seconds that an answer, and the end of a process, may take on a machine that has other work.
 ANSWER, END = 30.0, 300.0
-# Milliseconds after which etcd's members miss one another, for machines that have other work.
+# Milliseconds after which etcd's members consider one another lost, for machines that have other work.
 PATIENT = ["--heartbeat-interval", "200", "--election-timeout", "2000"]
 
 
 def free_ports(count: int) -> list[int]:
-    """Different ports of loopback that nobody is bound to."""
+    """Distinct loopback ports that no process is bound to."""
     found: list[int] = []
     with ExitStack() as held:
         while len(found) < count:
@@ -40,22 +40,22 @@ def free_ports(count: int) -> list[int]:
 
 
 def on_loopback(count: int) -> list[Seat]:
-    """Where members run that can't be parted."""
+    """Where members run if they can't be partitioned."""
     ports = free_ports(2 * count)
     return [Seat("127.0.0.1", client, peer, []) for client, peer in zip(ports[::2], ports[1::2])]
 
 
 @dataclass
 class Child:
-    """A process, which may be started again. What it says on standard error is added to a file."""
+    """A process, which may be started again. Its standard error is appended to a file."""
     name: str
     command: list[str]
     said: Path
     variables: dict[str, str] = field(default_factory=dict)
     process: subprocess.Popen[bytes] | None = None
-    # Something is done to it on purpose, so that it may end.
+    # It is being disturbed on purpose, so that it may end.
     disturbed: bool = False
-    # When all is over, no thread starts a process again.
+    # When everything is over, no thread starts a process again.
     over: ClassVar[bool] = False
     lock: ClassVar[threading.Lock] = threading.Lock()
 
@@ -67,7 +67,7 @@ class Child:
     def launch(self) -> None:
         plain = {name: value for name, value in os.environ.items() if not name.startswith("ETCD")}
         with self.said.open("ab") as said:
-            # In a session of its own, so that Ctrl-C reaches the demo alone, which ends its processes.
+            # In its own session, so that Ctrl-C reaches only the demo, which ends its processes.
             self.process = subprocess.Popen(self.command, stdin=subprocess.DEVNULL, stdout=said, stderr=said,
                                             env=plain | self.variables, start_new_session=True)
 
@@ -90,7 +90,7 @@ class Child:
             self.process.send_signal(signal.SIGTERM)
 
     def end(self) -> int:
-        """Tells it to end, and answers the status with which it does."""
+        """Tells it to end, and returns its exit status."""
         self.tell_to_end()
         return self.await_end()
 
@@ -106,7 +106,7 @@ class Child:
 
 
 def members_of(folder: Path, seats: list[Seat]) -> list[Child]:
-    """The members of a cluster, by where they run."""
+    """The members of a cluster, from where they run."""
     cluster = ",".join(f"m{number}=http://{seat.host}:{seat.peer}" for number, seat in enumerate(seats, 1))
     found = []
     for number, seat in enumerate(seats, 1):
@@ -122,14 +122,14 @@ def members_of(folder: Path, seats: list[Seat]) -> list[Child]:
 
 @dataclass
 class ReplicaChild(Child):
-    """A replica with its folder, port and way to cut segments, and the revision that its first run began behind."""
+    """A replica with its folder, port and way to cut segments, and the revision after which its first run began."""
     folder: Path = field(default=Path())
     port: int = 0
     cut: str = ""
     base: int = 0
 
     def ask(self, path: str, wait: float) -> Any:
-        """What it says of itself, if it answers."""
+        """Its status, if it answers."""
         line = http.client.HTTPConnection("127.0.0.1", self.port, timeout=wait)
         try:
             line.request("GET", path)

@@ -5,7 +5,7 @@ import statistics
 
 
 def table(heads: list[str], rows: list[list[str]], markdown: bool) -> str:
-    """Columns are set to the right where all their cells begin with a digit, are `-` or are empty."""
+    """Columns are right-aligned if all their cells begin with a digit, are `-` or are empty."""
     right = [all(row[at][:1].isdigit() or row[at] in ("-", "") for row in rows) for at in range(len(heads))]
     if markdown:
         rule = ["--:" if each else "---" for each in right]

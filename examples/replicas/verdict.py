@@ -1,4 +1,4 @@
-"""What the replicas and the clients hold in the end, against one another and the serial run by `./bohm`."""
+"""Compares the final state of replicas and clients with one another and with the serial run by `./bohm`."""
 from __future__ import annotations
 
 import base64
@@ -20,7 +20,7 @@ from stage import ReplicaChild
 
 @dataclass
 class Outcome:
-    """What the run showed. `faults` says what shouldn't be."""
+    """The results of the run. `faults` lists the errors."""
     serial: Serial
     verdict: history.Verdict
     places: int = 0
@@ -29,7 +29,7 @@ class Outcome:
 
 
 def judge(scene: Scene, program: Path) -> Outcome:
-    """Reads what was left by the replicas, which have ended."""
+    """Reads the files of the replicas, which have ended, and judges the run."""
     puts = serial.puts_of(scene.witness.changes)
     run = serial.run(puts, program)
     verdict = history.check([each for client in scene.clients for each in client.asked], run)
@@ -42,7 +42,7 @@ def judge(scene: Scene, program: Path) -> Outcome:
 
 
 def check_witness(scene: Scene, puts: list[Change], found: Outcome) -> None:
-    """The witness saw what etcd holds by its own client: each key's first and last revision, value and count."""
+    """The witness saw what etcd has by its own client: each key's first and last revision, value and count."""
     said = subprocess.run(["etcdctl", "--endpoints", ",".join(scene.addresses), "get", PREFIX.decode(), "--prefix",
                            "--write-out", "json"], env=os.environ | {"ETCDCTL_API": "3"}, capture_output=True,
                           check=True, timeout=300)
@@ -61,7 +61,7 @@ def check_witness(scene: Scene, puts: list[Change], found: Outcome) -> None:
 
 
 def check_digests(scene: Scene, program: Path, found: Outcome) -> None:
-    """All digests that replicas ever published, place by place, against one another and the serial run's."""
+    """Compares all digests that replicas ever published, place by place, with one another and the serial run's."""
     told: dict[int, set[str]] = defaultdict(set)
     for change in scene.witness.changes:
         if change.key.startswith(b"digests/" + PREFIX) and change.value is not None:
@@ -75,7 +75,7 @@ def check_digests(scene: Scene, program: Path, found: Outcome) -> None:
 
 
 def check_replica(replica: ReplicaChild, found: Outcome) -> None:
-    """A replica's replies are those of the serial run behind its first revision, and so is its store."""
+    """A replica's replies after its first revision, and its store, are those of the serial run."""
     wanted = b"".join(line for line in found.serial.lines if int(line.split(b" ", 1)[0]) > replica.base)
     if (replica.folder / "replies").read_bytes() != wanted:
         found.faults.append(f"{replica.name}: other replies than the serial run's")

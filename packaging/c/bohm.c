@@ -1,9 +1,9 @@
-/* The calls of bohm.h. Each sees to it that no pointer is null, which the proved call behind it has from its caller, and
- * gives it a pointer to nothing in the place of a null one of no elements. Whether a handle is open the proved call sees
- * itself. scripts/pack builds this file into the library, where the names of the proved calls begin with `proved_`.
+/* The calls of bohm.h. Each makes sure that no pointer is null, which the proved call that it wraps requires, and passes
+ * a pointer to nothing instead of a null pointer to no elements. The proved call itself checks whether a handle is open.
+ * scripts/pack builds this file into the library, where the names of the proved calls begin with `proved_`.
  *
- * A call that doesn't change a handle hands a copy of it on: a proved call empties the handle that it has, and fills it
- * again before it returns. */
+ * A call that doesn't change a handle passes on a copy of it: a proved call empties the handle that it is given, and
+ * fills it again before it returns. */
 typedef __SIZE_TYPE__ size_t;
 typedef __UINT8_TYPE__ uint8_t;
 typedef __UINT32_TYPE__ uint32_t;
@@ -38,13 +38,13 @@ uint32_t proved_bohm_run_calls_held(bohm_machine *machine, bohm_calls *calls);
 uint32_t proved_bohm_clear_calls(bohm_calls *calls);
 void proved_bohm_close(void *handle);
 
-/* Where a pointer to no elements lies: the proved calls take no null, and read nothing there. */
+/* The pointer that is passed for no elements: the proved calls don't accept null, and read nothing there. */
 #define NOWHERE ((void *)16)
 
 #define is_array(at, len) ((at) || !(len))
 #define array_of(at) ((at) ? (at) : NOWHERE)
 
-/* Gives the caller what a proved call has handed out, or lets it go. */
+/* Passes the bytes that a proved call returned to the caller, or frees them. */
 static uint32_t hand_out(bohm_bytes *out, bohm_bytes told, uint32_t status) {
     if (!told.len) told.at = 0;
     if (!out) free(told.at);
@@ -59,17 +59,17 @@ const char *bohm_status_text(uint32_t status) {
         [BOHM_NO_MEMORY] = "an allocation failed",
         [BOHM_TRIMMED] = "the timestamp is below the floor",
         [BOHM_FUTURE] = "the timestamp is above the top",
-        [BOHM_HAS_STORE] = "the segment has a store of its own",
+        [BOHM_HAS_STORE] = "the segment has a store",
         [BOHM_TIMESTAMPS] = "the segment's timestamps would pass 4294967295",
         [BOHM_HAS_LOG] = "the snapshot has transactions",
-        [BOHM_NO_KEY] = "the bytes are no key's",
-        [BOHM_WAITING] = "replies of an earlier segment wait",
-        [BOHM_STOPPED] = "an allocation failed on the way",
+        [BOHM_NO_KEY] = "the bytes are not a key",
+        [BOHM_WAITING] = "replies of an earlier segment were not taken yet",
+        [BOHM_STOPPED] = "an allocation failed after part of the segment had run",
         [BOHM_KEPT] = "the text of the replies could not be allocated",
-        [BOHM_UNFIT] = "an edition, or a number of arguments or calls doesn't fit",
-        [BOHM_MISUSE] = "a handle or a pointer isn't as the call wants it",
+        [BOHM_UNFIT] = "an edition, a number of arguments or the number of calls is not acceptable",
+        [BOHM_MISUSE] = "a handle or a pointer is not valid for the call",
     };
-    return status < sizeof texts / sizeof *texts ? texts[status] : "no status";
+    return status < sizeof texts / sizeof *texts ? texts[status] : "unknown status";
 }
 
 void bohm_free(void *at) { free(at); }
@@ -197,7 +197,7 @@ uint32_t bohm_open_calls_for(const bohm_machine *machine, bohm_calls *calls, uin
     return proved_bohm_open_calls_for(&held, calls, edition);
 }
 
-/* BOHM_DONE where each key has bytes; a null one of no bytes is no key. */
+/* BOHM_DONE if no key's pointer is null, BOHM_MISUSE if a null one has a length, and otherwise BOHM_NO_KEY. */
 static uint32_t look_at(const bohm_key *keys, size_t count) {
     uint32_t status = BOHM_DONE;
     for (size_t i = 0; i < count; i++) {

@@ -1,4 +1,4 @@
-# The options of bohm and of the programs beside it, as their --help tells them.
+# The options of bohm and of its companion programs, as their --help lists them.
 _bohm() {
     local word=${COMP_WORDS[COMP_CWORD]}
     case $word in

@@ -1,8 +1,8 @@
-//! Finds libbohm.a: in the folder that `BOHM_LIB` names, by pkg-config, or in the repository that this folder lies in,
-//! where it is proved and built if it isn't there yet.
+//! Finds libbohm.a: in the folder that `BOHM_LIB` names, by pkg-config, or in the repository that contains this folder,
+//! where it is proved and built if it doesn't exist yet.
 use std::{env, path::Path, path::PathBuf, process::Command};
 
-/// What a command writes, where it ends well.
+/// The trimmed standard output of a command, if it succeeds.
 fn told(command: &mut Command) -> Option<String> {
     let ran = command.output().ok().filter(|ran| ran.status.success())?;
     String::from_utf8(ran.stdout).ok().map(|said| said.trim().to_owned())

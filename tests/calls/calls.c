@@ -1,5 +1,5 @@
-/* Runs the calls of a script of tests/procedures: `calls < SCRIPT` writes their answer. Segments' replies are handed out as
- * text and as rows in turn. Calls name their keys by handles, by bytes, and so on in turn. */
+/* Runs the calls of a script of tests/procedures: `calls < SCRIPT` writes their answer. Segments' replies are returned as
+ * text and as rows in turn. Calls name their keys by handles and by bytes in turn. */
 #include "../../crates/bohm_c/include/bohm.h"
 
 #include <inttypes.h>
@@ -25,7 +25,7 @@ static bohm_procedure procedures[MOST];
 static size_t prepared;
 static uint32_t edition;
 
-/* Opens the machine, and a list of calls, which shares its names in edition 1. */
+/* Opens the machine, and a list of calls, which in edition 1 shares the machine's names. */
 static void open_both(void) {
     need(bohm_open(&machine, seed, (uint8_t *)store, strlen(store), 0, NULL) == BOHM_DONE, "open");
     uint32_t status = edition == 1 ? bohm_open_calls_for(&machine, &calls, 1) : bohm_open_calls(&calls, seed, edition);
@@ -42,7 +42,7 @@ static size_t count(void) {
     return strtoul(strtok(NULL, " "), NULL, 10);
 }
 
-/* The handle of a key, which is looked up the first time. Another key may be numbered in between. */
+/* The handle of a key, which is looked up once. Another key may be numbered in between. */
 static uint32_t handle_of(bohm_key key) {
     static char names[MOST][33];
     static uint32_t handles[MOST];

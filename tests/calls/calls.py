@@ -1,5 +1,5 @@
 """Runs the calls of a script of tests/procedures: `calls.py LIBRARY < SCRIPT` writes their answer. Calls name their keys by
-texts, by what the machine looked up, and by both in turn."""
+texts, by looked-up keys, and by both in turn."""
 import sys
 from pathlib import Path
 
@@ -34,7 +34,7 @@ def main(library, lines):
             values = [int(value) for value in words[int(count) + 1:]]
             calls.append(procedures[int(number)].call(*keys, *values))
         elif word == "run":
-            # One call goes by the procedure itself.
+            # One call is made through the procedure itself.
             replies = machine.run(calls) if len(calls) != 1 else [calls[0].procedure(*calls[0].keys, *calls[0].values)]
             sys.stdout.writelines(f"{reply}\n" for reply in replies)
             calls = []

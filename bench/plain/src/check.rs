@@ -1,4 +1,4 @@
-//! The check of a log that was read, with its exact first fault.
+//! The check of a parsed log, with its exact first fault.
 
 use crate::fault::{Fault, Kind};
 use crate::log::{
@@ -24,10 +24,10 @@ pub fn check_store(log: &Log) -> Result<(), Fault> {
     if rises { Ok(()) } else { Err(Fault::Check(Kind::Order, 0, 0)) }
 }
 
-/// The first fault of the transactions, which it counts from 1. So many names are those of the store.
+/// The first fault of the transactions, counted from 1. The first `stored` names are those of the store.
 #[inline(always)]
 pub fn check_txns<'a>(txns: &Columns, stored: usize, name: impl Fn(u32) -> &'a Name) -> Result<(), Fault> {
-    // The numbers of stored keys are in the order of their names.
+    // Stored keys are numbered in the order of their names.
     let rises = |[first, second]: &[u32; 2]| match (*first, *second) {
         (first, second) if (first as usize) < stored && (second as usize) < stored => first < second,
         (first, second) => name(first) < name(second),
@@ -55,7 +55,7 @@ pub fn check_txns<'a>(txns: &Columns, stored: usize, name: impl Fn(u32) -> &'a N
     Ok(())
 }
 
-/// Whether a body has no fault, at a glance over its terms and statements.
+/// Whether a body has no fault, by a quick scan of its terms and statements.
 #[inline(always)]
 fn is_sound(txn: &Txn) -> bool {
     let worst = txn.terms.iter().fold(0, |worst, term| worst.max(term.source as u8));

@@ -1,6 +1,6 @@
-//! The transaction that is being read: the names that it declares and binds, and its statement under way.
-//! Terms and statements go to their columns at once, declared keys when the transaction is closed: numbered all
-//! together, so that waits for the table of names overlap.
+//! The transaction that is being read: the names that it declares and binds, and its current statement.
+//! Terms and statements go to their columns at once, declared keys when the transaction is closed: they are
+//! numbered together, so that cache misses in the table of names overlap.
 
 use crate::log::{
     Act, Columns, Comparison, MOST_KEYS, MOST_STATEMENTS, MOST_TERMS, NOWHERE, Source, Statement, Term,
@@ -11,20 +11,20 @@ use crate::text::Window;
 pub struct Draft {
     reads: Vec<Known>,
     writes: Vec<Known>,
-    /// Of each write its place among the reads, or `NOWHERE`.
+    /// For each write its index among the reads, or `NOWHERE`.
     own: Vec<u8>,
     locals: Vec<Known>,
-    /// By the glance of a local the transaction that bound one last, and its index.
+    /// By a local's `glance`: the transaction that last bound such a local, and the local's index.
     bound: [(u32, u8); 256],
     txn: u32,
-    /// The places of the read and of the write that are expected next.
+    /// The indices of the read and of the write that are expected next.
     next_read: usize,
     next_write: usize,
-    /// By the glance of a name its place among the reads when it was last looked for, perhaps of another
+    /// By a name's `glance`: its index among the reads when it was last looked up, perhaps in another
     /// transaction.
     places: [u8; 256],
     statement: Statement,
-    /// Which of the statement's sums is being read, from 1, and how many terms of it are kept.
+    /// Which of the statement's sums is being read, from 1, and how many of its terms are kept.
     sum: usize,
     terms: usize,
     shows: u32,
@@ -77,7 +77,7 @@ impl Draft {
         self.writes.push(Known { name, size });
     }
 
-    /// Finds the writes among the reads. Where either don't rise, the check refuses the transaction for that.
+    /// Finds the writes among the reads. If either aren't in rising order, the check refuses the transaction.
     #[inline(always)]
     pub fn match_writes(&mut self) {
         let mut read = 0;
@@ -108,7 +108,7 @@ impl Draft {
         self.statement.terms[self.sum - 1] = self.terms as u8;
     }
 
-    /// The sum was that of a guarded `set`.
+    /// Notes that the sum was that of a guarded `set`.
     pub fn guard(&mut self) {
         self.statement.act = Act::PutWhen;
     }
@@ -118,16 +118,16 @@ impl Draft {
         self.statement.comparison = comparison;
     }
 
-    /// A `need has` or a `need no`.
+    /// Adds a `need has` or a `need no`.
     pub fn test(&mut self, act: Act, name: &Name) {
         self.open(act);
         self.statement.place = self.place_of_read(name);
     }
 
-    /// Counts the local as bound, unless it was before.
+    /// Binds the local, unless it is bound already.
     pub fn bind(&mut self, name: Name, size: usize) {
         let index = self.locals.len();
-        // With more of them the transaction has too many statements.
+        // A transaction with more locals has too many statements.
         if index < MOST_STATEMENTS && self.index_of_local(&name).is_none() {
             self.statement.place = (MOST_KEYS + index) as u8;
             self.bound[Name::glance(name.first_word())] = (self.txn, index as u8);
@@ -171,7 +171,7 @@ impl Draft {
         }
     }
 
-    /// The local whose name begins at `at`; answers where it ends.
+    /// Reads the local whose name begins at `at`; returns where it ends.
     #[inline(always)]
     pub fn local(&mut self, txns: &mut Columns, minus: bool, text: Window, at: usize) -> Option<usize> {
         let (index, end) = match self.glimpsed_local(text, at) {
@@ -191,7 +191,7 @@ impl Draft {
         Some(end)
     }
 
-    /// A local of less than eight bytes that is the last one of its glance, and where it ends.
+    /// A local of less than eight bytes that is the last one with its `glance`, and where it ends.
     #[inline(always)]
     fn glimpsed_local(&self, text: Window, at: usize) -> Option<(usize, usize)> {
         let (word, size) = glimpse(text, at)?;
@@ -200,7 +200,7 @@ impl Draft {
         (txn == self.txn && self.locals[index].name.first_word() == word).then_some((index, at + size))
     }
 
-    /// The key whose name begins at `at`; answers where it ends.
+    /// Reads the key whose name begins at `at`; returns where it ends.
     #[inline(always)]
     pub fn read(&mut self, txns: &mut Columns, minus: bool, text: Window, at: usize) -> Option<usize> {
         let (place, end) = match self.glimpsed_read(text, at) {
@@ -216,8 +216,8 @@ impl Draft {
         Some(end)
     }
 
-    /// The read that is expected next, or one of less than eight bytes, and where it ends. What stands in
-    /// the text is compared in place: no name is made of it.
+    /// The read that is expected next, or one of less than eight bytes, and where it ends. The text is
+    /// compared in place: no name is made from it.
     #[inline(always)]
     fn glimpsed_read(&mut self, text: Window, at: usize) -> Option<(usize, usize)> {
         let reads = &self.reads[..self.reads.len().min(MOST_KEYS)];
@@ -237,13 +237,13 @@ impl Draft {
         Some((usize::from(*last), at + size))
     }
 
-    /// The key's place among the reads, of which a checked transaction has no more than are looked at.
+    /// The key's index among the reads; it looks at as many as a checked transaction can have.
     fn place_of_read(&self, name: &Name) -> u8 {
         let reads = &self.reads[..self.reads.len().min(MOST_KEYS)];
         reads.iter().position(|read| read.name == *name).map_or(NOWHERE, |place| place as u8)
     }
 
-    /// Opens a `set` or a `drop` of the key whose name begins at `at`; answers where it ends.
+    /// Opens a `set` or a `drop` of the key whose name begins at `at`; returns where it ends.
     #[inline(always)]
     pub fn target(&mut self, act: Act, text: Window, at: usize) -> Option<usize> {
         self.open(act);
@@ -258,7 +258,7 @@ impl Draft {
         }
         self.statement.place = found as u8;
         self.next_write = if found + 1 < count { found + 1 } else { 0 };
-        // A write is mostly read in its own sum.
+        // A written key is usually read in its own sum.
         if self.own[found] != NOWHERE {
             self.next_read = usize::from(self.own[found]);
         }

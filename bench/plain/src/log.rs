@@ -1,17 +1,17 @@
 //! A log as flat columns that its transactions share. A transaction's part of a column begins where its head
-//! says, and ends where that of the next one begins; behind the last one stands a head for its end.
+//! says, and ends where that of the next one begins; after the last head is one more, for its end.
 
 use crate::names::Names;
 
-/// The most that a checked transaction has.
+/// The limits of a checked transaction.
 pub const MOST_KEYS: usize = 16;
 pub const MOST_STATEMENTS: usize = 64;
 pub const MOST_TERMS: usize = 16;
 
-/// Where the values of a transaction stand while it runs: those of its reads first, then those of its locals.
+/// The registers of a running transaction: the values of its reads first, then those of its locals.
 pub const REGISTERS: usize = MOST_KEYS + MOST_STATEMENTS;
 
-/// The place of what isn't declared, or isn't bound.
+/// The index of a name that isn't declared, or isn't bound.
 pub const NOWHERE: u8 = u8::MAX;
 
 #[derive(Clone, Copy, PartialEq, Eq, PartialOrd, Ord)]
@@ -19,9 +19,9 @@ pub const NOWHERE: u8 = u8::MAX;
 pub enum Source {
     /// A literal below 65,536.
     Small,
-    /// A literal, by its place among the large ones of its transaction.
+    /// A literal, by its index among the large literals of its transaction.
     Large,
-    /// A declared read, by its place.
+    /// A declared read, by its index.
     Read,
     /// A local that is bound, by its register.
     Local,
@@ -62,14 +62,13 @@ pub enum Comparison {
     More,
 }
 
-/// A statement. The terms of its sums stand one behind the other: of a `set` or a `let` or a `show` the sum
-/// first, then the two sides of a comparison. Of a sum that is too long the parser keeps one term more than
-/// it may have.
+/// A statement. The terms of its sums follow each other: first the sum of a `set`, a `let` or a `show`, then
+/// the two sides of a comparison. For a sum that is too long the parser keeps one term more than the limit.
 #[derive(Clone, Copy)]
 pub struct Statement {
     pub act: Act,
     pub comparison: Comparison,
-    /// Of a `set` or `drop` the place among the writes, of `has` or `no` among the reads, of `let` the
+    /// For a `set` or `drop` the index among the writes, for `has` or `no` among the reads, for `let` the
     /// register.
     pub place: u8,
     pub terms: [u8; 3],
@@ -97,7 +96,7 @@ pub struct Columns {
     heads: Vec<Head>,
     pub reads: Vec<u32>,
     pub writes: Vec<u32>,
-    /// Of each write its place among the reads, or `NOWHERE`.
+    /// For each write its index among the reads, or `NOWHERE`.
     pub own: Vec<u8>,
     pub body: Vec<Statement>,
     pub terms: Vec<Term>,
@@ -165,7 +164,7 @@ impl Columns {
         4 * self.len() + self.heads.last().map_or(0, |head| head.body as usize)
     }
 
-    /// Takes all transactions away, and keeps the room.
+    /// Removes all transactions, and keeps the capacity.
     pub fn clear(&mut self) {
         self.heads.truncate(1);
         self.reads.clear();
@@ -177,7 +176,7 @@ impl Columns {
         self.shows = 0;
     }
 
-    /// Takes away what stands behind the last transaction.
+    /// Removes everything after the last transaction.
     pub fn reopen(&mut self) {
         let head = self.heads.last().copied().unwrap_or_default();
         self.body.truncate(head.body as usize);
@@ -185,7 +184,7 @@ impl Columns {
         self.large.truncate(head.large as usize);
     }
 
-    /// What stands in the columns after the last transaction is one more, with this many `show`s.
+    /// Closes a transaction from the columns' contents after the last one, with this many `show`s.
     #[inline(always)]
     pub fn close(&mut self, shows: u32) {
         self.shows += shows;
@@ -221,13 +220,13 @@ impl Columns {
         (&self.reads[reads..end_of_reads], &self.writes[writes..end_of_writes])
     }
 
-    /// Where the reads of a transaction begin, and its writes; also of the end.
+    /// Where the reads and the writes of a transaction begin; also for the end.
     #[inline(always)]
     pub fn accesses(&self, index: usize) -> (usize, usize) {
         (self.heads[index].reads as usize, self.heads[index].writes as usize)
     }
 
-    /// Where the shown values of a transaction stand, if it commits; also of the end.
+    /// Where the shown values of a transaction begin, if it commits; also for the end.
     #[inline(always)]
     pub fn shows(&self, index: usize) -> usize {
         self.heads[index].shows as usize

@@ -2,7 +2,7 @@
 //! answer.
 //!
 //!     plain tree        a tree of small objects, without a check, over a hash map by name
-//!     plain tree-parse  the reading of that tree alone
+//!     plain tree-parse  only the parsing of that tree
 //!     plain serial      flat columns and dense key numbers, one transaction after another
 //!     plain bohm [--cc 1] [--exec 1] [--parts 1] [--batch 4096]
 //!                       the same log by BOHM's steps, on the given planning and executing threads
@@ -10,7 +10,7 @@
 //!                       the log in windows of --window bytes, read, checked and printed on --threads threads and
 //!                       run in order
 //!
-//! With --times each says on standard error how many seconds its parts took, as JSON.
+//! With --times each reports on standard error how many seconds its parts took, as JSON.
 
 mod board;
 mod bohm;
@@ -49,7 +49,7 @@ fn flat(times: &mut Times, run: impl FnOnce(&Log, &mut Times) -> Answer) -> Resu
     let answer = times.take_with("execute", |times| run(&log, times));
     let out = times.take("print", || print::print(&log, &answer));
     let written = times.take("write", || text::write([out.as_slice()]));
-    // The process ends, which gives all back at once.
+    // The process ends, which frees everything at once.
     std::mem::forget((log, answer, out));
     written
 }
@@ -72,7 +72,7 @@ struct Settings {
     tells: bool,
 }
 
-/// The words behind the engine's name.
+/// The arguments after the engine's name.
 fn settings(mut words: impl Iterator<Item = String>) -> Option<Settings> {
     let mut settings = Settings {
         bohm: bohm::Settings { planners: 1, executors: 1, parts: 1, batch: 4096 },

@@ -3,7 +3,7 @@
 use crate::text::Window;
 use std::hash::{BuildHasher, RandomState};
 
-/// A name of up to 32 bytes, big-endian with zeros behind it: names are ordered as their words.
+/// A name of up to 32 bytes, big-endian and padded with zeros: names are ordered as their words.
 #[derive(Clone, Copy, Default, Eq, PartialOrd, Ord)]
 pub struct Name([u64; 4]);
 
@@ -18,7 +18,7 @@ impl PartialEq for Name {
 const LOW: u64 = 0x0101_0101_0101_0101;
 const HIGH: u64 = 0x8080_8080_8080_8080;
 
-/// The top bit of each byte that stands in no name.
+/// The top bit of each byte that can't be in a name.
 #[inline(always)]
 fn strange(word: u64) -> u64 {
     let seven = word & !HIGH;
@@ -51,7 +51,7 @@ impl Name {
         Some((Name([front(word, count), 0, 0, 0]), at + count))
     }
 
-    /// The same for a name of eight bytes at least.
+    /// The same for a name of at least eight bytes.
     fn scan_on(text: Window, at: usize) -> Option<(Name, usize)> {
         let mut words = [0; 4];
         for (number, place) in words.iter_mut().enumerate() {
@@ -89,7 +89,7 @@ impl Name {
     }
 }
 
-/// A name that may come again, with its size: told in the text without making a name of what stands there.
+/// A name that may occur again, with its size: it is recognized in the text without parsing a name there.
 #[derive(Clone, Copy)]
 pub struct Known {
     pub name: Name,
@@ -97,7 +97,7 @@ pub struct Known {
 }
 
 impl Known {
-    /// Whether the name stands at `at`, with a space or a newline behind it.
+    /// Whether the name is at `at`, followed by a space or a newline.
     #[inline(always)]
     pub fn stands(&self, text: Window, at: usize) -> bool {
         if self.size <= 8 {
@@ -116,13 +116,13 @@ impl Known {
     }
 }
 
-/// What stands before the next space or newline, if that is less than eight bytes: as the first word of a
-/// name, and its size. It may be no name, but then it is the first word of none.
+/// The bytes before the next space or newline, if they are fewer than eight: as the first word of a name, and
+/// their count. They may be no name, but then this is the first word of none.
 #[inline(always)]
 pub fn glimpse(text: Window, at: usize) -> Option<(u64, usize)> {
     let word = text.word(at);
-    // The top bit of each byte up to a space; a byte before one may be taken for one as well, if no name
-    // has it.
+    // The top bit of each byte up to a space; a byte before it may be counted too, if no name contains that
+    // byte.
     let ends = word.wrapping_sub(LOW * 0x21) & !word & HIGH;
     let bits = ends.leading_zeros();
     (bits < 64).then(|| (word & !(u64::MAX >> bits), bits as usize / 8))
@@ -136,14 +136,14 @@ struct Slot {
 
 const FREE: Slot = Slot { first: 0, number: 0 };
 
-/// Names, and for each its number, by order of coming: a table of open addressing, at most half full. Its
-/// hash is seeded anew in each run, so that no log can choose names that collide.
+/// Names, numbered in order of arrival: a hash table with open addressing, at most half full. Its hash has a
+/// new seed in each run, so that no log can choose names that collide.
 pub struct Names {
     table: Vec<Slot>,
     shift: u32,
     seed: u64,
     names: Vec<Name>,
-    /// How many of the names stand in the table.
+    /// How many of the names are in the table.
     indexed: usize,
 }
 
@@ -195,13 +195,13 @@ impl Names {
         }
     }
 
-    /// The next number for a name that is new. It isn't found before `index`.
+    /// Gives a new name the next number. The name can't be found before `index`.
     #[inline(always)]
     pub fn push(&mut self, name: Name) {
         self.names.push(name);
     }
 
-    /// Lets all names be found: one table of their final number is cheaper than one that grows with them.
+    /// Makes all names findable: one table of the final size is cheaper than one that grows with them.
     pub fn index(&mut self) {
         if self.indexed < self.names.len() {
             let slots = (2 * self.names.len()).next_power_of_two().max(self.table.len());
@@ -221,7 +221,7 @@ impl Names {
         number
     }
 
-    /// The table anew, with this many bits.
+    /// Rebuilds the table with this many bits.
     fn rebuild(&mut self, bits: u32) {
         self.shift = 64 - bits;
         self.table = vec![FREE; 1 << bits];
@@ -237,7 +237,7 @@ impl Names {
     }
 }
 
-/// What gives names numbers.
+/// Gives names numbers.
 pub trait Numbers {
     /// The name's number; a new name gets the next one.
     fn number(&mut self, name: &Name) -> u32;
@@ -254,7 +254,7 @@ impl Numbers for Names {
             {
                 return slot.number;
             }
-            // A name's first word is no 0.
+            // A name's first word is never 0.
             if slot.first == 0 {
                 return self.add(at & mask, name);
             }
@@ -263,7 +263,7 @@ impl Numbers for Names {
     }
 }
 
-/// Names that threads share and none adds to, and behind them those that one thread met first.
+/// Names that threads share and none adds to, followed by those that one thread met first.
 pub struct Layered<'a> {
     pub shared: &'a Names,
     pub own: Names,

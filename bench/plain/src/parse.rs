@@ -1,4 +1,4 @@
-//! The text into a log, in one pass, with the exact first bad line.
+//! Parses the text into a log, in one pass, with the exact first bad line.
 
 use crate::draft::Draft;
 use crate::fault::Fault;
@@ -18,7 +18,7 @@ const LET: u32 = four(b"let ");
 const DROP: u32 = four(b"drop");
 const FAIL: u32 = four(b"fail");
 
-/// What ends a sum.
+/// The token that ends a sum.
 enum Stop {
     Line,
     When,
@@ -28,18 +28,18 @@ enum Stop {
 pub struct Parser<'a> {
     text: Window<'a>,
     at: usize,
-    /// Where the line begins that is being read.
+    /// Where the line that is being read begins.
     line: usize,
     draft: &'a mut Draft,
 }
 
-/// The whole log. The window is read line by line of the head and the store, then transaction by
-/// transaction; what it breaks off in is read again when more has come.
+/// Parses the whole log. The window is read line by line for the head and the store, then transaction by
+/// transaction; a part that the window cuts off is read again when more bytes have been read.
 pub fn parse(text: &mut Text) -> Result<Log, Fault> {
     read_log(text, false).map(|(log, _)| log)
 }
 
-/// The head and the store; answers also where the first transaction begins, or the window ends.
+/// The head and the store; also returns where the first transaction begins, or the window ends.
 pub fn parse_store(text: &mut Text) -> Result<(Log, usize), Fault> {
     let (mut log, at) = read_log(text, true)?;
     log.names.index();
@@ -75,7 +75,7 @@ fn starts_txn(text: Window, at: usize) -> bool {
     (text.word(at) >> 32) as u32 == TXN
 }
 
-/// The number of the line that begins at `line`, from 1; none if the text breaks off in it.
+/// The number of the line that begins at `line`, from 1; none if the text ends within it.
 pub fn bad_line(text: Window, line: usize, is_last: bool) -> Option<usize> {
     let (before, behind) = text.bytes().split_at(line);
     let is_short = is_last && !behind.contains(&b'\n');
@@ -83,13 +83,13 @@ pub fn bad_line(text: Window, line: usize, is_last: bool) -> Option<usize> {
 }
 
 impl<'a> Parser<'a> {
-    /// A parser that goes on at `at`, where a line begins.
+    /// A parser that continues at `at`, where a line begins.
     pub fn new(text: Window<'a>, at: usize, draft: &'a mut Draft) -> Parser<'a> {
         Parser { text, at, line: at, draft }
     }
 
-    /// All transactions of a window that ends with one; else answers where the line begins that none goes on
-    /// with.
+    /// Reads all transactions of a window that ends with one; the error is where the first bad line
+    /// begins.
     pub fn txns(&mut self, txns: &mut Columns, names: &mut impl Numbers) -> Result<(), usize> {
         while self.at < self.text.len() {
             self.line = self.at;
@@ -98,7 +98,7 @@ impl<'a> Parser<'a> {
         Ok(())
     }
 
-    /// All parts that stand whole in the window; answers where the first other one begins.
+    /// Reads all parts that are complete in the window; returns where the first other one begins.
     fn parts(&mut self, log: &mut Log) -> usize {
         let mut from = self.at;
         while from < self.text.len() && self.part(log).is_some() {
@@ -107,7 +107,7 @@ impl<'a> Parser<'a> {
         from
     }
 
-    /// The same of the head and the store.
+    /// The same for the head and the store.
     fn entries(&mut self, log: &mut Log) -> usize {
         let mut from = self.at;
         while from < self.text.len() && !(log.edition.is_some() && starts_txn(self.text, from)) {
@@ -121,7 +121,7 @@ impl<'a> Parser<'a> {
         from
     }
 
-    /// The head, a line of the store, or a transaction.
+    /// Reads the head, a line of the store, or a transaction.
     #[inline(always)]
     fn part(&mut self, log: &mut Log) -> Option<()> {
         self.line = self.at;
@@ -152,7 +152,7 @@ impl<'a> Parser<'a> {
         (self.byte() == byte).then(|| self.at += 1)
     }
 
-    /// These bytes, of which there are at most eight.
+    /// Expects these bytes, at most eight.
     #[inline(always)]
     fn eat_all<const N: usize>(&mut self, bytes: &[u8; N]) -> Option<()> {
         let wanted = bytes.iter().fold(0u64, |word, byte| word << 8 | u64::from(*byte));
@@ -176,7 +176,7 @@ impl<'a> Parser<'a> {
             if digit > 9 {
                 break;
             }
-            // Of more than 19 digits the number is refused below.
+            // A number of more than 19 digits is refused below.
             number = number.wrapping_mul(10).wrapping_add(u64::from(digit));
             self.at += 1;
         }
@@ -223,7 +223,7 @@ impl<'a> Parser<'a> {
                 self.at += 1;
                 return Some(Stop::Line);
             }
-            // Which of the two signs it is decides no branch, since none could tell it beforehand.
+            // There is no branch on which of the two signs it is, since that couldn't be predicted.
             if !matches!(sign, b'+' | b'-') || first != b' ' || second != b' ' {
                 return self.stop();
             }
@@ -284,13 +284,13 @@ impl<'a> Parser<'a> {
         }
     }
 
-    /// A `need` behind its first word.
+    /// A `need` after its first word.
     #[inline(always)]
     fn need(&mut self, txns: &mut Columns) -> Option<()> {
         let word = self.text.word(self.at);
         let has = (word >> 32) as u32 == four(b"has ");
         if has || word >> 40 == u64::from(four(b"\0no ")) {
-            // A key before the line's end; else `has` and `no` are keys themselves.
+            // A key follows before the line's end; else `has` and `no` are themselves keys.
             let from = self.at + if has { 4 } else { 3 };
             if let Some((name, end)) = Name::scan(self.text, from)
                 && self.text.byte(end) == b'\n'

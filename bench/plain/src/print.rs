@@ -37,7 +37,7 @@ fn push_number(out: &mut Vec<u8>, value: i64) {
     out.extend_from_slice(&text[at..]);
 }
 
-/// The number of a reply as text, which is counted up in place.
+/// The number of a reply as text, which is incremented in place.
 struct Counter {
     text: [u8; 8],
     from: usize,
@@ -92,7 +92,7 @@ fn push_reply(out: &mut Vec<u8>, number: &[u8], reply: Reply, shows: &[i64]) {
     out.push(b'\n');
 }
 
-/// The numbers of all keys in the order of their names. Those of the starting store are in order already.
+/// The numbers of all keys in the order of their names. The keys of the starting store are already in order.
 pub fn in_order(names: &[Name], stored: usize) -> Vec<u32> {
     let mut fresh: Vec<u32> = (stored as u32..names.len() as u32).collect();
     fresh.sort_unstable_by_key(|key| names[*key as usize]);
@@ -114,7 +114,7 @@ pub const BETWEEN: &[u8] = b"--\n";
 
 pub fn print(log: &Log, answer: &Answer) -> Vec<u8> {
     let names = log.names.all();
-    // Room for usual answers; others take more when they need it.
+    // Capacity for usual answers; others grow when they need it.
     let mut out = Vec::with_capacity(18 * log.txns.len() + 8 * answer.shows.len() + 16 * names.len() + 64);
     print_replies(&mut out, &log.txns, 0, &answer.replies, &answer.shows);
     out.extend_from_slice(BETWEEN);
@@ -122,7 +122,7 @@ pub fn print(log: &Log, answer: &Answer) -> Vec<u8> {
     out
 }
 
-/// The replies of transactions that stand after this many others.
+/// The replies of transactions that follow this many others.
 pub fn print_replies(out: &mut Vec<u8>, txns: &Columns, before: usize, replies: &[Reply], shows: &[i64]) {
     let mut counter = Counter::new(before);
     for (index, reply) in replies.iter().enumerate() {
@@ -131,7 +131,7 @@ pub fn print_replies(out: &mut Vec<u8>, txns: &Columns, before: usize, replies: 
     }
 }
 
-/// What these keys hold in the store that is left.
+/// The values of these keys in the final store.
 pub fn print_entries(out: &mut Vec<u8>, keys: &[u32], names: &[Name], cells: &[Cell]) {
     for key in keys {
         let cell = cells[*key as usize];

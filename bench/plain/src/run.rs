@@ -1,4 +1,4 @@
-//! What a transaction does, and the log one transaction after another.
+//! The effect of a transaction, and the log run one transaction after another.
 
 use crate::log::{
     Act, Columns, Comparison, Log, MOST_KEYS, NOWHERE, REGISTERS, Source, Statement, Term, Txn,
@@ -15,7 +15,7 @@ pub enum Reason {
 
 #[derive(Clone, Copy)]
 pub enum Reply {
-    /// What it shows stands where its log says.
+    /// Its shown values are where its log says.
     Commit,
     /// The reason, and the statement from 1.
     Abort(Reason, u8),
@@ -51,7 +51,7 @@ impl Machine {
         }
     }
 
-    /// Before the reads of a transaction.
+    /// Starts a transaction, before its reads.
     #[inline(always)]
     pub fn clear(&mut self) {
         self.missing = 0;
@@ -63,7 +63,7 @@ impl Machine {
         self.missing |= u32::from(!cell.present) << place;
     }
 
-    /// The cell of a read that was handed in.
+    /// The cell of a read that was passed in.
     #[inline(always)]
     pub fn cell(&self, place: usize) -> Cell {
         Cell { value: self.registers[place], present: self.missing >> place & 1 == 0 }
@@ -79,7 +79,7 @@ impl Machine {
         &self.shows[..self.shown]
     }
 
-    /// Runs the body over the reads that were handed in.
+    /// Runs the body on the reads that were passed in.
     #[inline(always)]
     pub fn run(&mut self, txn: &Txn, sees_writes: bool) -> Reply {
         self.performed = 0;
@@ -186,7 +186,7 @@ fn take<'a>(terms: &mut &'a [Term], count: u8) -> &'a [Term] {
     first
 }
 
-/// Whether the transaction commits over every store, with the same cells.
+/// Whether the transaction commits on every store, with the same cells.
 pub fn is_sure(txn: &Txn) -> bool {
     let (mut terms, mut targets) = (txn.terms, 0u32);
     let machine = Machine::new();
@@ -204,7 +204,7 @@ pub fn is_sure(txn: &Txn) -> bool {
     targets.count_ones() as usize == txn.writes.len()
 }
 
-/// What a log leaves: the replies, the shown values where the log says, and a cell for each key.
+/// The result of a log: the replies, the shown values where the log says, and a cell for each key.
 pub struct Answer {
     pub replies: Vec<Reply>,
     pub shows: Vec<i64>,
@@ -227,8 +227,8 @@ pub fn serial(log: &Log) -> Answer {
     Answer { replies, shows, cells }
 }
 
-/// One transaction after another. A key's cell is the one that `number` says; what is shown goes where the
-/// columns say.
+/// Runs one transaction after another. A key's cell is the one with the index that `number` gives; shown values
+/// go where the columns say.
 #[inline(always)]
 pub fn run_all(
     txns: &Columns,

@@ -9,13 +9,13 @@ use std::time::{Duration, Instant};
 /// The most bytes that a log may have.
 const LIMIT: usize = 67_108_864;
 
-/// The usual size of a window. One that a transaction is too large for grows.
+/// The usual size of a window. It grows if a transaction is larger.
 pub const WINDOW: usize = 1 << 18;
 
-/// Zero bytes behind the window, so that a word may be loaded at any place of it. No line has a zero byte.
+/// Zero bytes after the window, so that a word can be loaded at any offset. No line has a zero byte.
 const PAD: usize = 64;
 
-/// A window, the room that it may fill, and the pad.
+/// A window, the space that it may fill, and the pad.
 #[derive(Default)]
 pub struct Buffer {
     bytes: Vec<u8>,
@@ -42,7 +42,7 @@ impl Buffer {
     }
 }
 
-/// What can be read of a text, and the pad behind it.
+/// The readable part of a text, followed by the pad.
 #[derive(Clone, Copy)]
 pub struct Window<'a> {
     bytes: &'a [u8],
@@ -73,14 +73,14 @@ impl<'a> Window<'a> {
 pub struct Text {
     input: File,
     buffer: Buffer,
-    /// How many bytes came in all.
+    /// How many bytes were read in all.
     came: usize,
     /// How long reading took.
     pub reading: Duration,
 }
 
 impl Text {
-    /// Standard input, of which nothing is read yet, by windows of this many bytes.
+    /// Standard input, not yet read, by windows of this many bytes.
     pub fn open(room: usize) -> Result<Text, Fault> {
         let input = file(std::io::stdin())?;
         Ok(Text { input, buffer: Buffer::new(room), came: 0, reading: Duration::ZERO })
@@ -90,8 +90,8 @@ impl Text {
         self.buffer.window()
     }
 
-    /// Lets go of what stands before `at`, so that the rest stands at 0, and reads on behind it. Answers
-    /// how many bytes came, 0 at the input's end.
+    /// Discards the bytes before `at`, moves the rest to 0, and continues reading after it. Returns how
+    /// many bytes were read, 0 at the end of the input.
     pub fn read_on(&mut self, at: usize) -> Result<usize, Fault> {
         let length = self.buffer.length;
         self.buffer.bytes.copy_within(at..length, 0);
@@ -102,12 +102,12 @@ impl Text {
         self.read()
     }
 
-    /// Twice the room.
+    /// Doubles the capacity.
     pub fn grow(&mut self) {
         self.buffer.bytes.resize(2 * self.buffer.room() + PAD, 0);
     }
 
-    /// Reads until the room is full; false if the input ends before.
+    /// Reads until the buffer is full; false if the input ends first.
     pub fn fill(&mut self) -> Result<bool, Fault> {
         while self.buffer.length < self.buffer.room() {
             if self.read()? == 0 {
@@ -127,7 +127,7 @@ impl Text {
         if self.came > LIMIT { Err(Fault::TooLong) } else { Ok(count) }
     }
 
-    /// Hands over what stands before `at`, for the room of another window; the rest stands at 0 then.
+    /// Passes the bytes before `at` to `other`, in exchange for its buffer; the rest moves to 0.
     pub fn hand_over(&mut self, at: usize, other: &mut Buffer) {
         let rest = &self.buffer.bytes[at..self.buffer.length];
         other.bytes.resize(self.buffer.bytes.len(), 0);

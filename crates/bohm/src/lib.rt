@@ -1,5 +1,5 @@
-//! What a program needs, in one `use`: a log is parsed, checked and run, or a machine executes it
-//! segment by segment. `CALLING.md` shows how.
+//! All that a program needs, in one `use`: a log is parsed, checked and run, or a machine executes
+//! it segment by segment. `CALLING.md` shows how.
 #![tactic(auto)]
 
 mod running;

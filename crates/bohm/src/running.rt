@@ -20,7 +20,7 @@ use std::thread::Threads;
 /// from the history's floor to its top, are those of executing the transactions one after another
 /// in log order. The last `keep` timestamps before the top stay readable; `at` is ignored.
 ///
-/// Keys are hashed from a seed that is drawn for this run.
+/// Keys are hashed with a seed that is drawn for this run.
 ///
 /// # Errors
 ///

@@ -4,7 +4,7 @@ use Rattle.std.specs.Io.KnownBytes.{Consumes, IsAtEnd, Appends}
 use Rattle.bohm_answer.specs.declared.fault.RunFault.{RunFault}
 use Rattle.bohm_answer.specs.declared.fault.RunFault.TheVariants.{Read, TooLong, Text, Check, Trimmed, Future, NoMemory, Write}
 
--- a fault in the reading
+-- a fault of reading
 abbrev pub IsReadFault : RunFault → Type 0
 IsReadFault Read = Unit {0}
 IsReadFault TooLong = Unit {0}
@@ -15,12 +15,12 @@ IsReadFault Future = ⊥
 IsReadFault NoMemory = Unit {0}
 IsReadFault (Write sent) = ⊥
 
--- the first bytes were written, as many as `sent`
+-- the first `sent` bytes were written
 pub record Sends (written written' : Option (List ℕ)) (bytes : List ℕ) (sent : ℕ) : Type 0 where
   pub within : sent ≤ length bytes
   pub wrote : Appends written written' (take sent bytes)
 
--- a fault in the writing
+-- a fault of writing
 abbrev pub IsWriteFault : Option (List ℕ) → Option (List ℕ) → List ℕ → RunFault → Type 0
 IsWriteFault written written' bytes Read = ⊥
 IsWriteFault written written' bytes TooLong = ⊥

@@ -38,7 +38,7 @@ fault_words (Write sent) = codes "refused: write" ++ spaced_decimal sent
 abbrev pub fault_line : RunFault → List ℕ
 fault_line f = fault_words f ++ 10 ∷ []
 
--- first bytes of these were appended to what a writer holds
+-- a prefix of these bytes was appended to the contents of a writer
 pub record AppendsFront (written written' : Option (List ℕ)) (bytes : List ℕ) : Type 0 where
   pub front : List ℕ
   pub rest : List ℕ

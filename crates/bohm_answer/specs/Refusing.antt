@@ -1,4 +1,4 @@
--- A fault of the text, or of its reading, as a run's fault; and which faults come before the writing.
+-- Faults of the text and of reading it as faults of a run, and the faults that occur before writing.
 use Rattle.bohm_text.specs.declared.fault.TextFault.{TextFault}
 use Rattle.bohm_text.specs.declared.fault.TextFault.TheVariants as texts
 use Rattle.bohm_reading.specs.declared.fault.ReadingFault.{ReadingFault}
@@ -19,7 +19,7 @@ reading_refusal_of (reading.Line n) = Text (texts.Line n)
 reading_refusal_of reading.Short = Text texts.Short
 reading_refusal_of reading.NoMemory = NoMemory
 
--- a refusal before the writing
+-- a refusal before anything is written
 abbrev pub IsBeforeWriting : RunFault → Type 0
 IsBeforeWriting Read = Unit {0}
 IsBeforeWriting TooLong = Unit {0}

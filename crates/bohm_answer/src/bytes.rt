@@ -10,11 +10,11 @@ use bohm_types::NoMemory;
 use std::alloc::Global;
 use std::io::Read;
 
-/// How many bytes one read asks for.
+/// The number of bytes that one read requests.
 const READ_SIZE: usize = 65_536;
 
-/// All that the reader has left. More than `LONGEST_TEXT` bytes are refused, and the rest may stay
-/// unread.
+/// Reads the rest of the input. More than `LONGEST_TEXT` bytes are refused, and then part of the
+/// input may stay unread.
 pub fn read_all<R: Read>(alloc: Global, reader: &mut R) -> Result<Vec<u8>, RunFault>
     ensures bytes { IfOk result
         (λ text. Consumes (R.remaining reader.old) (R.remaining reader.new) text.items) }

@@ -10,31 +10,32 @@ use bohm_txn::CheckFault;
 use bohm_types::NoMemory;
 use thiserror::Error;
 
-/// A refused run. Before every fault but the last one nothing was written.
+/// Why a run was refused. Before every fault but the last one of these, nothing was written.
 #[derive(Clone, Copy, Debug, PartialEq, Eq, Error)]
 pub enum RunFault {
-    /// A read failed, an interrupted one too.
+    /// A read failed. An interrupted read counts too.
     #[error("a read failed")]
     Read,
-    /// More bytes came than a text may have.
+    /// The input has more bytes than a text may have.
     #[error("the text is too long")]
     TooLong,
-    /// The text isn't a document's. An allocation failure is never reported so.
+    /// The text isn't that of a document. An allocation failure is never reported as this fault.
     #[error("the text is no log's: {0:?}")]
     Text(TextFault),
     /// The document isn't well formed.
     #[error("the log isn't well formed: {0:?}")]
     Check(CheckFault),
-    /// The timestamp asked for lies below those that stay readable.
+    /// The requested timestamp is below those that stay readable.
     #[error("that timestamp was trimmed away")]
     Trimmed,
-    /// The timestamp asked for lies above the log's length.
+    /// The requested timestamp is above the log's length.
     #[error("that timestamp lies in the future")]
     Future,
     /// An allocation failed.
     #[error("out of memory")]
     NoMemory,
-    /// A write failed or took no byte, or the flush failed, after this many bytes of the answer.
+    /// A write failed or accepted no byte, or the flush failed, after this many bytes of the
+    /// answer.
     #[error("a write failed after {sent} bytes")]
     Write { sent: u64 },
 }

@@ -37,7 +37,7 @@ fn write_spaced<W: Write>(writer: &mut W, number: u64) -> io::Result<()>
     write_bytes(writer, Buffer::new().format(number).as_bytes())
 }
 
-/// Writes some words and a number after them.
+/// Writes some words, then a space and a number.
 fn write_numbered<W: Write>(writer: &mut W, words: &[u8], number: u64) -> io::Result<()>
     ensures ok { OnOk result (Appends (W.contents writer.old) (W.contents writer.new)
         (words.now ++ spaced_decimal number)) }
@@ -48,7 +48,7 @@ fn write_numbered<W: Write>(writer: &mut W, words: &[u8], number: u64) -> io::Re
     write_spaced(writer, number)
 }
 
-/// Writes the line's words of a fault that the check found.
+/// Writes the words of the line for a fault that the check found.
 fn write_check<W: Write>(writer: &mut W, fault: &CheckFault) -> io::Result<()>
     ensures ok { OnOk result (Appends (W.contents writer.old) (W.contents writer.new)
         (check_words fault.now)) }
@@ -60,7 +60,7 @@ fn write_check<W: Write>(writer: &mut W, fault: &CheckFault) -> io::Result<()>
     write_spaced(writer, u64::from(fault.stmt))
 }
 
-/// Writes the line's words.
+/// Writes the line without its newline byte.
 fn write_words<W: Write>(writer: &mut W, fault: &RunFault) -> io::Result<()>
     ensures ok { OnOk result (Appends (W.contents writer.old) (W.contents writer.new)
         (fault_words fault.now)) }
@@ -87,8 +87,8 @@ fn write_words<W: Write>(writer: &mut W, fault: &RunFault) -> io::Result<()>
 }
 
 /// Writes the line that says why a run was refused, with its newline byte. It allocates nothing, so
-/// the line is written even when memory has run out. If the writer fails, it holds a beginning of
-/// the line.
+/// the line is written even when memory has run out. If the writer fails, it has received a prefix
+/// of the line.
 pub fn write_fault<W: Write>(writer: &mut W, fault: &RunFault) -> io::Result<()>
     ensures ok { OnOk result
         (Appends (W.contents writer.old) (W.contents writer.new) (fault_line fault.now)) }

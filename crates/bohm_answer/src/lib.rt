@@ -1,4 +1,4 @@
-//! What a run answers, or why it answers nothing: the faults and their lines, and texts that are read
+//! The answer of a run, or why there is none: the faults and their lines, and texts that are read
 //! whole from a reader and written whole to a writer.
 #![tactic(auto)]
 

@@ -8,14 +8,14 @@ ghost use Rattle.bohm_answer.specs.FaultLine.{AppendsFront};
 use crate::fault::RunFault;
 use std::io::{self, ErrorKind, Write};
 
-/// How many bytes a writer took, and why it took no more.
+/// The number of bytes that a writer accepted, and the error that it then returned.
 #[derive(Drop)]
 struct Unsent {
     sent: usize,
     error: io::Error,
 }
 
-/// Sends the bytes, as many at a time as the writer takes.
+/// Sends the bytes, as many at a time as the writer accepts.
 fn send<W: Write>(writer: &mut W, bytes: &[u8]) -> Result<(), Unsent>
     ensures ok { OnOk result (Appends (W.contents writer.old) (W.contents writer.new) bytes.now) }
     ensures err { IfErr result (λ unsent.
@@ -36,7 +36,7 @@ fn send<W: Write>(writer: &mut W, bytes: &[u8]) -> Result<(), Unsent>
     Ok(())
 }
 
-/// Writes the bytes. If the writer fails, it holds a beginning of them.
+/// Writes the bytes. If the writer fails, it has received a prefix of them.
 pub fn write_bytes<W: Write>(writer: &mut W, bytes: &[u8]) -> io::Result<()>
     ensures ok { OnOk result (Appends (W.contents writer.old) (W.contents writer.new) bytes.now) }
     ensures err { OnErr result
@@ -48,7 +48,7 @@ pub fn write_bytes<W: Write>(writer: &mut W, bytes: &[u8]) -> io::Result<()>
     }
 }
 
-/// Writes the bytes, and flushes. At an `Err` the first `sent` of them were written.
+/// Writes the bytes, and flushes. On an error the first `sent` bytes were written.
 pub fn write_all<W: Write>(writer: &mut W, bytes: &[u8]) -> Result<(), RunFault>
     ensures ok { OnOk result (Appends (W.contents writer.old) (W.contents writer.new) bytes.now) }
     ensures err { IfErr result

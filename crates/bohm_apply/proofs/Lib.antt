@@ -4,5 +4,4 @@ mod Ordered
 mod Walks
 mod Replying
 mod Swept
-mod OneSweep
 pub mod ForCallers

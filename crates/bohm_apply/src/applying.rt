@@ -1,4 +1,4 @@
-//! Applies a log to a history: planning in a thread of its own, ahead of execution.
+//! Applies a log to a history: planning runs in its own thread, ahead of execution.
 
 ghost use Rattle.std.specs.Prelude.{◌≡◌, ℕ, ◌+◌, ◌<◌, ◌^◌, [], All, length, min, take, true, is_ok};
 ghost use Rattle.std.specs.Prelude.{IfOk};
@@ -39,7 +39,7 @@ pub struct Applied {
     pub end: Result<(), NoMemory>,
 }
 
-/// What both sides of a run start with.
+/// The initial state of both sides of a run.
 #[derive(Drop)]
 struct Sides<L: Line> {
     executor: Executor,
@@ -48,7 +48,7 @@ struct Sides<L: Line> {
     receiver: PlanReceiver<L>,
 }
 
-/// No more workers plan than the keys have parts.
+/// Creates the initial state of both sides. At most as many workers plan as the keys have parts.
 fn set_up<L: Line, P: Partition>(
     alloc: Global,
     planners: Planners,
@@ -82,7 +82,7 @@ fn set_up<L: Line, P: Partition>(
     })
 }
 
-/// Goes through the log, with the planning side in a thread of its own.
+/// Executes the log, with the planning side in its own thread.
 fn walk<L: Line + Send + Sync, P: Partition, G: Gate, R: Threads + Wait + Sync>(
     rt: &R,
     alloc: Global,
@@ -129,7 +129,7 @@ fn walk<L: Line + Send + Sync, P: Partition, G: Gate, R: Threads + Wait + Sync>(
     )
 }
 
-/// Goes through some transactions, whose cutting the plan queue is for.
+/// Plans and executes some transactions; the plan queue is for their cutting.
 fn apply_on<L: Line + Send + Sync, P: Partition, G: Gate, R: Threads + Wait + Sync>(
     rt: &R,
     alloc: Global,
@@ -165,22 +165,21 @@ fn apply_on<L: Line + Send + Sync, P: Partition, G: Gate, R: Threads + Wait + Sy
 /// Applies the transactions to a history, in batches of this cutting, the first of which starts
 /// after the top.
 ///
-/// A planning side in a thread of its own plans batch after batch, with `cc` workers, and is up to
-/// three batches ahead; of each batch that it has planned `exec` workers sweep their shares at the
-/// same time. After a batch that ends at e the floor becomes `e - keep`, or stays where it is above
-/// that. Both numbers of workers may be larger than there is work for: no worker starts that has
-/// none.
+/// A planning side in its own thread plans batch after batch, with `cc` workers, and is up to three
+/// batches ahead. `exec` workers sweep their shares of each planned batch at the same time. After a
+/// batch that ends at e the floor becomes `e - keep`, unless it is above that already. Both numbers
+/// of workers may be larger than the work requires: a worker without work isn't started.
 ///
-/// Where an allocation or the start of the planning side's thread fails, the history stands at the
-/// end of a batch, and the replies up to there are returned: nothing is lost, and the rest can be
-/// applied again.
+/// If an allocation or the start of the planning side's thread fails, the history is at the end of
+/// a batch, and the replies up to there are returned: nothing is lost, and the rest can be applied
+/// again.
 ///
-/// The time grows with the terms of the transactions, these spread over the executing workers where
-/// bodies don't wait for one another. On the executing side's one thread it grows besides with the
-/// number of the log's keys, with that of the keys that each batch declares, and with a start of
-/// threads for each batch where there are several workers. The memory grows with the number of the
-/// log's keys, on the planning side once for each worker, and with the values that the transactions
-/// show.
+/// The time grows with the terms of the transactions, which are spread over the executing workers
+/// if bodies don't wait for one another. On the executing side's single thread it also grows with
+/// the number of the log's keys, with the number of keys that each batch declares, and, if there
+/// are several workers, with the start of threads for each batch. The memory grows with the number
+/// of the log's keys, on the planning side once for each worker, and with the values that the
+/// transactions show.
 pub fn apply<P: Partition, G: Gate, R: Threads + Wait + Sync>(
     rt: &R,
     alloc: Global,

@@ -1,8 +1,8 @@
-//! The executing side: batch after batch, as their plans come.
+//! The executing side: it runs batch after batch, as their plans arrive.
 
 ghost use Rattle.std.specs.Prelude.{◌≡◌, ◌+◌, ◌<◌, ◌≤◌, ◌^◌, All, length, IsSome, OnOk, OnErr};
 ghost use Rattle.bohm_txn.specs.Faulty.{IsWellFormedTxn};
-ghost use Rattle.bohm_place.specs.Noting.{MayHaveKeysOf};
+ghost use Rattle.bohm_place.specs.Noting.{HasKeysOf};
 ghost use Rattle.bohm_place.specs.Plans.{IsRightPlan};
 ghost use Rattle.bohm_place.specs.CutLogs.{cutting_of};
 ghost use Rattle.bohm_place.specs.Cuttings.{ArePlans};
@@ -25,14 +25,14 @@ use std::alloc::Global;
 use std::sync::Wait;
 use std::thread::Threads;
 
-/// A history that goes on, and the replies of the transactions that it went on by.
+/// A history, and the replies of the transactions that were applied to it.
 #[derive(Drop)]
 pub struct Progress {
     pub history: History,
     pub replies: Replies,
 }
 
-/// What executes batches: the workers, where the log's keys stand in the history, and how many
+/// Executes batches: it has the workers, the indexes of the log's keys in the history, and how many
 /// timestamps below a batch's end stay readable.
 #[derive(Drop)]
 pub struct Executor {
@@ -58,7 +58,7 @@ impl Executor {
         requires formed { All IsWellFormedTxn txns.now }
         requires first { plan.first ≡ progress.old.history.top + 1 }
         requires right { ∥ IsRightPlan txns.now plan ∥₁ }
-        requires keys { MayHaveKeysOf txns.now plan }
+        requires keys { HasKeysOf txns.now plan }
         ensures keep { self.new.keep ≡ self.old.keep }
         ensures ok { OnOk result (GoesOn progress.old progress.new txns.now self.old.keep) }
         ensures err { OnErr result (StaysPut progress.old progress.new) }
@@ -78,8 +78,9 @@ impl Executor {
         Ok(())
     }
 
-    /// Runs the batches of a log by their plans. A refusal ends the run. The time grows with the number
-    /// of the transactions' terms, and with that of batches for the start of their threads.
+    /// Runs the batches of a log by their plans. An error ends the run. The time grows with the
+    /// number of the transactions' terms, and with the number of batches for the start of their
+    /// threads.
     #[tactic(auto, using(crate::proofs::Walks::goes_nowhere))]
     pub fn run_planned<G: Gate, R: Threads + Sync>(
         &mut self,
@@ -108,9 +109,9 @@ impl Executor {
         Ok(())
     }
 
-    /// Runs the batches of a log, each once its plan has come. After a refusal it executes nothing
-    /// more; after one of its own it takes what planning still sends, so that the planning side
-    /// ends.
+    /// Runs the batches of a log, each once its plan has arrived. After a failed allocation it
+    /// executes nothing more; if the failure was its own, it takes the notes that planning still
+    /// sends, so that the planning side ends.
     pub(crate) fn run_batches<L: Line, G: Gate, R: Threads + Wait + Sync>(
         mut self,
         rt: &R,
@@ -141,7 +142,7 @@ impl Executor {
     }
 }
 
-/// Takes what is left: this many notes, or up to one that says that planning was refused.
+/// Takes the rest of the notes: this many, or up to one that says that planning failed to allocate.
 fn drain<L: Line, R: Wait>(rt: &R, receiver: &mut PlanReceiver<L>, left: u32)
     requires batches { length receiver.old.notes + left ≡ length L.cutting.sizes }
     requires open { All (λ taken. IsSome taken.plan) receiver.old.notes }

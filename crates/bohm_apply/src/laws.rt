@@ -6,8 +6,8 @@ ghost use Rattle.bohm_txn.specs.declared.outcome.Reply.{Reply};
 ghost use Rattle.bohm_store.specs.Versions.{Timeline};
 ghost use Rattle.bohm_apply.specs.Runs.{IsApplied};
 
-/// A history that goes on by some transactions and then by others goes on by both, one after
-/// another, and the replies are those of both.
+/// If some transactions are applied to a history and then others to the result, all of them are
+/// applied to it, one after another, and the replies are those of both, in this order.
 pub fn applied_twice()
     ensures { (was mid now : Timeline) (xs ys : List Txn) (keep : ℕ) (a b : List Reply)
         → was.floor ≤ was.top → IsApplied was mid xs keep a → IsApplied mid now ys keep b

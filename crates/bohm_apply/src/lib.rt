@@ -1,5 +1,5 @@
-//! Checked transactions applied to a history, batch after batch, with planning ahead of execution in a
-//! thread of its own, or in log order on one thread. The design is that of BOHM: Faleiro and Abadi,
+//! Checked transactions applied to a history, batch after batch, with planning ahead of execution
+//! in its own thread, or in log order on one thread. The design is that of BOHM: Faleiro and Abadi,
 //! "Rethinking Serializable Multiversion Concurrency Control", VLDB 2015.
 #![tactic(auto)]
 

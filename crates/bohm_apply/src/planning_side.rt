@@ -16,7 +16,7 @@ use std::alloc::Global;
 use std::sync::Wait;
 use std::thread::Threads;
 
-/// The plan of a batch, with its keys. An error drops the arrays.
+/// Plans a batch and gathers its keys. An error drops the arrays of newest placeholders.
 fn plan_batch<P: Partition, R: Threads + Sync>(
     rt: &R,
     alloc: Global,
@@ -43,9 +43,9 @@ fn plan_batch<P: Partition, R: Threads + Sync>(
 }
 
 /// Plans the batches of a log and sends a note for each, in order: its plan, or, as the last note,
-/// that planning was refused. It calls `planned` with the number of each batch, counted from 1,
-/// after planning and before sending it. It blocks while the queue is full, forever if no note is
-/// taken.
+/// that planning failed to allocate. It calls `planned` with the number of each batch, counted from
+/// 1, after planning and before sending it. It blocks while the queue is full, forever if no note
+/// is taken.
 ///
 /// There are as many planning workers as arrays of newest placeholders. The time grows with the
 /// number of keys that the transactions declare.

@@ -14,8 +14,8 @@ use bohm_txn::{Outcome, Replies, shows};
 use bohm_types::{Cell, NoMemory, Value};
 use std::alloc::Global;
 
-/// Puts the values that the transaction with a timestamp shows in place of those in the list: none
-/// on an abort.
+/// Replaces the contents of the list with the values that the transaction with a timestamp shows:
+/// none on an abort.
 fn values_shown(values: &mut Vec<Value>, finished: &Finished<'_>, t: u32) -> Result<(), NoMemory>
     requires { IsIn (batch_of_finished finished.now) t }
     ensures { OnOk result
@@ -31,7 +31,7 @@ fn values_shown(values: &mut Vec<Value>, finished: &Finished<'_>, t: u32) -> Res
     Ok(())
 }
 
-/// Appends the reply of the transaction with a timestamp. An error leaves the replies as they were.
+/// Appends the reply of the transaction with a timestamp. An error leaves the replies unchanged.
 fn push_reply(
     replies: &mut Replies,
     values: &mut Vec<Value>,
@@ -52,8 +52,8 @@ fn push_reply(
     }
 }
 
-/// Pushes the replies as far as allocations succeed. One list holds the shown values of each reply
-/// in turn.
+/// Appends the replies as long as allocations succeed. One list holds the shown values of each
+/// reply in turn.
 fn push_some(alloc: Global, replies: &mut Replies, finished: &Finished<'_>) -> Result<(), NoMemory>
     ensures ok { OnOk result (replies.new ≡ replies.old ++ replies_of finished.now) }
     ensures err { OnErr result
@@ -68,7 +68,7 @@ fn push_some(alloc: Global, replies: &mut Replies, finished: &Finished<'_>) -> R
 }
 
 /// Appends the reply of each transaction of a finished batch, in log order. An error leaves the
-/// list as it was. The time grows with the number of the batch's statements.
+/// list unchanged. The time grows with the number of the batch's statements.
 fn push_replies(
     alloc: Global,
     replies: &mut Replies,
@@ -86,8 +86,8 @@ fn push_replies(
 }
 
 /// Appends the replies of the finished batch, which is the next one of the history, and settles it
-/// there, trimmed at this many timestamps below the batch's end. An error changes nothing that is
-/// seen.
+/// there, trimmed at `keep` timestamps below the batch's end. An error leaves the visible state
+/// unchanged.
 pub(crate) fn settle_batch(
     alloc: Global,
     history: &mut History,

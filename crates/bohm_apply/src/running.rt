@@ -33,12 +33,13 @@ pub struct Answer {
 /// in log order.
 ///
 /// The workers are those of `apply`; `keep` is how many timestamps below the last batch's end stay
-/// readable. `NoMemory` where an allocation or the start of the planning side's thread failed.
+/// readable. It fails with `NoMemory` if an allocation or the start of the planning side's thread
+/// fails.
 ///
-/// Keys are hashed from a seed that is drawn for this run, so an author of logs can't choose
+/// Keys are hashed with a seed that is drawn for this run, so an author of logs can't choose
 /// colliding keys. A caller without a source of randomness opens a history and calls `apply`.
 ///
-/// The time grows with the keys of the starting store and with what `apply` takes.
+/// The time is that of `apply`, and grows with the number of keys of the starting store.
 pub fn run<P: Partition, G: Gate, R: Threads + Wait + Sync + RandomSource>(
     rt: &R,
     alloc: Global,

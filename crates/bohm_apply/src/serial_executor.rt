@@ -22,10 +22,10 @@ use bohm_types::NoMemory;
 use std::alloc::Global;
 use std::mem;
 
-/// Runs transactions in log order on the caller's thread. It claims nothing from others, so it plans
-/// nothing. Its memory is used again for each transaction and each log.
+/// Runs transactions in log order on the caller's thread. It shares no transaction with other
+/// workers, so it claims and plans nothing. Its memory is reused for each transaction and each log.
 pub struct SerialExecutor {
-    /// Those of the logs that it applied.
+    /// The index hints of the logs that it applied.
     hints: IndexHints,
     workspace: Workspace,
     scratch: Scratch,
@@ -55,7 +55,7 @@ impl SerialExecutor {
     }
 
     /// Runs the transaction that follows the history's top, and appends its reply. After an error
-    /// it ran or didn't, and has no reply.
+    /// the transaction may or may not have run, and has no reply.
     fn run_next(
         &mut self,
         history: &mut History,
@@ -80,13 +80,13 @@ impl SerialExecutor {
     }
 
     /// Runs the transactions that follow the history's top, all of one log, and appends their
-    /// replies. After a transaction that ends at e the floor becomes `e - keep`, or stays where it
-    /// is above that.
+    /// replies. After the transaction with the timestamp e the floor becomes `e - keep`, unless it
+    /// is above that already.
     ///
-    /// The hints are those of the transactions' log; they have the indexes that were found.
+    /// The hints are those of the transactions' log; the indexes that were found are noted in them.
     ///
-    /// Where an allocation fails, some of the transactions have run, and some replies may have come.
-    /// The time grows with the number of the transactions' terms.
+    /// If an allocation fails, the first of the transactions may have run, and replies may have
+    /// been appended. The time grows with the number of the transactions' terms.
     pub fn run(
         &mut self,
         history: &mut History,
@@ -114,8 +114,8 @@ impl SerialExecutor {
         Ok(())
     }
 
-    /// Runs a batch that follows the history's top, and appends its replies. An error changes
-    /// nothing that is seen.
+    /// Runs a batch that follows the history's top, and appends its replies. An error leaves the
+    /// visible state unchanged.
     fn run_batch(
         &mut self,
         history: &mut History,
@@ -137,7 +137,7 @@ impl SerialExecutor {
         ensures unanswered { OnErr result (answered.new ≡ answered.old) }
     {
         let (top, count) = (history.top(), answered.len());
-        // All of the batch's versions stay until its end, so that they can be taken back.
+        // All versions are kept until the batch's end, so that the batch can be undone.
         if let Err(refusal) = self.run(history, answered, txns, hints, u32::MAX) {
             history.rewind(top);
             answered.truncate(count);
@@ -147,7 +147,7 @@ impl SerialExecutor {
         Ok(())
     }
 
-    /// Runs batch after batch, up to one that is refused.
+    /// Runs batch after batch, up to one that fails.
     fn run_batches(
         &mut self,
         history: &mut History,
@@ -174,10 +174,10 @@ impl SerialExecutor {
     /// Applies the transactions to a history as `apply` does, on the caller's thread alone, for
     /// callers that can start no threads.
     ///
-    /// Where an allocation fails, the history stands at the end of a batch, and the replies up to
-    /// there are returned: nothing is lost, and the rest can be applied again. The time grows with
-    /// the number of the transactions' terms, and where an allocation fails with the number of the
-    /// history's keys too.
+    /// If an allocation fails, the history is at the end of a batch, and the replies up to there
+    /// are returned: nothing is lost, and the rest can be applied again. The time grows with the
+    /// number of the transactions' terms; if an allocation fails, also with the number of the
+    /// history's keys.
     pub fn apply(
         &mut self,
         alloc: Global,

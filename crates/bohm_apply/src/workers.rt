@@ -19,7 +19,7 @@ use std::alloc::Global;
 use std::thread;
 use std::thread::Threads;
 
-/// A job for each worker, with a pass of its own, and the pass that is left.
+/// A job for each worker, with its own pass, and the pass that is left.
 fn deal(
     alloc: Global,
     board: &Board,
@@ -54,7 +54,7 @@ fn deal(
     Ok((pass, jobs))
 }
 
-/// Carries each job out, in a thread of its own where there is more than one.
+/// Carries out each job, in its own thread if there is more than one.
 fn sweep_all<G: Gate, R: Threads + Sync>(
     rt: &R,
     alloc: Global,
@@ -78,7 +78,7 @@ fn sweep_all<G: Gate, R: Threads + Sync>(
     Ok(swept)
 }
 
-/// Joins the passes of the workers, and gathers what they deferred.
+/// Joins the passes of the workers, and gathers the positions that they deferred.
 fn gather(
     alloc: Global,
     board: &Board,
@@ -105,12 +105,13 @@ fn gather(
     Ok((pass, asides))
 }
 
-/// Executes a batch by a pool of workers, or by as many as it has transactions where those are
-/// fewer. Each sweeps its share of the positions in a thread of its own, and then once more what it
-/// deferred; a single one takes no thread. What is left then is evaluated in log order.
+/// Executes a batch with the workers of a pool, or with one worker for each transaction if those
+/// are fewer. Each worker sweeps its share of the positions in its own thread, and then once more
+/// the positions that it deferred; a single worker starts no thread. The positions that are left
+/// then are evaluated in log order.
 ///
-/// A worker whose allocation fails ends, and the others end their shares. An error drops the batch,
-/// with the scratches of workers that weren't gathered yet.
+/// A worker whose allocation fails ends, and the others finish their shares. An error drops the
+/// batch, with the scratches of workers that weren't gathered yet.
 pub fn finish_batch<'a, G: Gate, R: Threads + Sync>(
     rt: &R,
     alloc: Global,

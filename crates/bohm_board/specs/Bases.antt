@@ -1,4 +1,4 @@
--- The data of a batch: its transactions and plan, and what its keys hold before it.
+-- The data of a batch: its transactions and plan, and the cells of its keys before it.
 use Rattle.std.specs.Prelude.{ℕ, ◌+◌, ◌<◌, ◌≤◌, ◌^◌, All, List, [], ◌∷◌, ◌++◌, length, map}
 use Rattle.bohm_types.specs.declared.cell.Cell.{Cell}
 use Rattle.bohm_types.specs.Txn.{Txn}
@@ -15,7 +15,7 @@ abbrev pub declared_keys : List Txn → List (List ℕ)
 declared_keys [] = []
 declared_keys (t ∷ ts) = (t.reads ++ t.writes) ++ declared_keys ts
 
--- the plan is right, and its transactions are well-formed and as many as a batch may have
+-- the plan is right, its transactions are well-formed, and their number is a possible size of a batch
 pub record IsBatched (txns : List Txn) (plan : Planned) : Type 0 where
   pub some : 0 < length txns
   pub few : length txns ≤ largest_batch
@@ -23,6 +23,6 @@ pub record IsBatched (txns : List Txn) (plan : Planned) : Type 0 where
   pub formed : All IsWellFormedTxn txns
   pub right : ∥ IsRightPlan txns plan ∥₁
 
--- a key has one entry if a transaction declares it, else none
+-- a key has one entry if a transaction declares it, and otherwise none
 abbrev pub IsBase : List Txn → List (List ℕ × Cell) → Type 0
 IsBase txns entries = AreKeysOf txns (keys_of entries)

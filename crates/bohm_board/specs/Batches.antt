@@ -29,7 +29,7 @@ entries_of b = b.base
 abbrev pub first_of : Batch → ℕ
 first_of b = b.plan.first
 
--- what each key holds before the batch
+-- the cell of each key before the batch
 abbrev pub base_of : Batch → Look
 base_of b = λ k. newest (entries_of b) k Absent
 
@@ -55,7 +55,7 @@ pub record IsSlot (b : Batch) (s : Slot) : Type 0 where
   pub txn : IsIn b s.txn
   pub index : s.index < width_at b s.txn
 
--- the number of a slot among all of the batch, counted from 0
+-- the number of a slot among all slots of the batch, counted from 0
 abbrev pub number : Batch → Slot → ℕ
 number b s = offset (txns_of b) (position b s.txn) + s.index
 

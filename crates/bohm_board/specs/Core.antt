@@ -1,4 +1,4 @@
--- The core: what the board of a batch holds and what its passes know, without words, steps and threads.
+-- The core: the contents of a batch's board and what its passes know, without words, steps and threads.
 use Rattle.std.specs.Prelude.{◌≡◌, ℕ, ℤ, pos, List, ◌++◌, map, zip, Contains, Option, None, Some, slice_get}
 use Rattle.std.specs.Option.{option_map}
 use Rattle.bohm_types.specs.declared.cell.Cell.{Cell}
@@ -54,7 +54,7 @@ cell_by (Some Present) z = cells.Present z
 abbrev pub cell_in : State → Slot → Cell
 cell_in s x = cell_by (s.presences x) (s.values x)
 
--- the key's cell by its source: the base's, or that of the slot with this index of u
+-- the key's cell by its source: the base's cell, or the cell of the slot of u at this index
 abbrev pub cell_from : Batch → State → List ℕ → ℕ → Source → Cell
 cell_from b s k index Before = base_of b k
 cell_from b s k index (Within u) = cell_in s (record { txn = u; index = index })
@@ -66,7 +66,7 @@ cell_at b s k a = cell_from b s k a.index a.source
 abbrev pub entries : Batch → State → List (List ℕ) → List Access → List (List ℕ × Cell)
 entries b s keys accesses = map (λ e. (e.0, cell_at b s e.0 e.1)) (zip keys accesses)
 
--- Input(t), of the transaction with the timestamp t: at each declared key the cell by its access
+-- Input(t), of the transaction with the timestamp t: for each declared key the cell by its access
 abbrev pub input : Batch → State → ℕ → Txn → Look
 input b s t txn = λ k. newest (entries b s txn.reads (reads_at b t) ++ entries b s txn.writes (writes_at b t)) k cells.Absent
 
@@ -74,6 +74,6 @@ input b s t txn = λ k. newest (entries b s txn.reads (reads_at b t) ++ entries 
 abbrev pub outcome_over : Batch → State → ℕ → Option Outcome
 outcome_over b s t = option_map (λ txn. outcome_of (body (input b s t txn) txn)) (txn_at b t)
 
--- the cell for a slot of t: for a write, its key's in After(Input(t), t), and for a `show`, its value in Reply(Input(t), t), or absence on an abort
+-- the cell for a slot of t: for a write, its key's cell in After(Input(t), t); for a `show`, its value in Reply(Input(t), t), or absence on an abort
 abbrev pub cell_over : Batch → State → Slot → Option Cell
 cell_over b s x = txn_at b x.txn >>= λ txn. slice_get (own_cells (input b s x.txn txn) txn) x.index

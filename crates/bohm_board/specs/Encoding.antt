@@ -16,7 +16,7 @@ use Rattle.bohm_board.specs.Views as views
 
 -- ---- status words
 
--- 0 is open, 1 busy, and every other word an outcome
+-- 0 represents open, 1 busy, and every other word an outcome
 abbrev pub status_of : ℕ → Status
 status_of zero = Open
 status_of (suc zero) = Busy
@@ -28,7 +28,7 @@ status_of_claim claimed.Mine = Open
 status_of_claim claimed.Busy = Busy
 status_of_claim claimed.Done = Done
 
--- the answer of an exchange that found this word
+-- the result of an exchange that found this word
 abbrev pub claim_of_word : ℕ → Claimed
 claim_of_word zero = claimed.Mine
 claim_of_word (suc zero) = claimed.Busy
@@ -45,7 +45,7 @@ abbrev pub word_of : Outcome → ℕ
 word_of Commit = 2
 word_of (Abort reason stmt) = 1000 * thousands_of reason + stmt
 
--- the statement at which it failed, or 0
+-- the statement at which the transaction aborted, or 0
 abbrev pub stmt_of : Outcome → ℕ
 stmt_of Commit = 0
 stmt_of (Abort reason stmt) = stmt
@@ -69,7 +69,7 @@ progress_word (core.Done o) = word_of o
 
 -- ---- the words of a slot
 
--- 0 stands for no cell, 1 for `Absent` and 2 for `Present`
+-- 0 represents no cell, 1 `Absent` and 2 `Present`
 abbrev pub presence_word : Option views.Presence → ℕ
 presence_word None = 0
 presence_word (Some views.Absent) = 1

@@ -16,7 +16,7 @@ use Rattle.bohm_board.specs.Views.{Presence, presence_of, new_view, spent_view, 
 use Rattle.bohm_board.specs.Views.{after_presence_store, after_finish, after_join, Holds, HoldsNothing, HasStored, KnowsWanted, HasFilledAll}
 use Rattle.bohm_board.specs.Encoding.{status_of_claim}
 
--- an event of the pass p (and of q), with the answer or with what it stored
+-- an event of the pass p (and of q), with the answer or with the value that it stored
 pub data Event : Type 0 where
   LookPresence : (p : ℕ) (x : Slot) (answer : Option Presence) → Event
   LookValue : (p : ℕ) (x : Slot) (answer : ℤ) → Event
@@ -51,7 +51,7 @@ pub record MayFinish (b : Batch) (s : State) (p t : ℕ) (o : Outcome) : Type 0 
   pub wanted : KnowsWanted b (s.views p) t
   pub outcome : outcome_over b s t ≡ Some o
 
--- the pass belongs to this batch: one that a join consumed takes no further step
+-- the pass belongs to this batch: a pass that a join consumed takes no further step
 abbrev pub IsOf : Batch → State → ℕ → Type 0
 IsOf b s p = (s.views p).right ≡ rights_of b
 
@@ -67,20 +67,20 @@ IsAllowed b s (Finish p t o) = IsOf b s p × MayFinish b s p t o
 IsAllowed b s (Split p q) = IsOf b s p × HoldsNothing (s.views p) × (s.views q ≡ new_view (rights_of b))
 IsAllowed b s (Join p q) = IsOf b s p × (q ≢ p) × HoldsNothing (s.views p) × HoldsNothing (s.views q)
 
--- ---- what it changes
+-- ---- what an event changes
 
--- the same except at t
+-- the function with its value at t replaced
 abbrev pub point_update : {A : Type 0} → (ℕ → A) → ℕ → A → ℕ → A
 point_update f t a = λ u. if u == t then a else f u
 
 abbrev pub is_slot : Slot → Slot → Bool
 is_slot x y = (y.txn == x.txn) && (y.index == x.index)
 
--- the same except at the slot x
+-- the function with its value at the slot x replaced
 abbrev pub slot_update : {A : Type 0} → (Slot → A) → Slot → A → Slot → A
 slot_update f x a = λ y. if is_slot x y then a else f y
 
--- the words stay, and the view of p becomes v
+-- the words are unchanged, and the view of p becomes v
 abbrev pub with_view : State → ℕ → View → State
 with_view s p v = record s { views = point_update s.views p v }
 
@@ -106,7 +106,7 @@ next_state s (Join p q) = with_view (with_view s p (after_join (s.views p) (s.vi
 
 -- ---- lists of events
 
--- each event is allowed in the state after those before it
+-- each event is allowed in the state after the events before it
 abbrev pub IsRun : Batch → State → List Event → Type 0
 IsRun b s [] = Unit {0}
 IsRun b s (e ∷ es) = IsAllowed b s e × IsRun b (next_state s e) es
@@ -120,7 +120,7 @@ final_state s (e ∷ es) = final_state (next_state s e) es
 abbrev pub IsReached : Batch → State → Type 0
 IsReached b s = (es : List Event) × IsRun b (empty_state b) es × (final_state (empty_state b) es ≡ s)
 
--- a claim of t that is answered Mine
+-- a claim of t that returns Mine
 abbrev pub is_win : ℕ → Event → Bool
 is_win t (Claim p u won.Mine) = u == t
 is_win t _ = false

@@ -19,7 +19,7 @@ IsCellFrom b k index c (Within u) = IsRightCell b (record { txn = u; index = ind
 abbrev pub IsCellOf : Batch → List ℕ → Access → Cell → Type 0
 IsCellOf b k a c = IsCellFrom b k a.index c a.source
 
--- each of these cells is its key's, by the key's access
+-- each of these cells is the cell of its key, by the key's access
 pub record AreCellsOf (b : Batch) (keys : List (List ℕ)) (accesses : List Access) (cells : List Cell) : Type 0 where
   pub paired : length keys ≡ length cells
   pub each : (j : ℕ) (k : List ℕ) (a : Access) (c : Cell) → slice_get keys j ≡ Some k → slice_get accesses j ≡ Some a → slice_get cells j ≡ Some c

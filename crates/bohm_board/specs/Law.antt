@@ -9,9 +9,9 @@ use Rattle.bohm_board.specs.Batches.{IsIn, IsSlot, IsRightCell, IsRightOutcome, 
 use Rattle.bohm_board.specs.Core.{Open, Claimed, Done, State, IsFull}
 use Rattle.bohm_board.specs.Views.{Presence, Absent, Present, Holds, spent_view}
 
--- (a), (b) and (c): what is on the board
+-- (a), (b) and (c): the contents of the board
 pub record IsSound (b : Batch) (s : State) : Type 0 where
-  -- each presence is that of the right cell, and so is the value, if there is one
+  -- each presence is that of the right cell, and so is the value, if the cell has one
   pub absent : (x : Slot) → s.presences x ≡ Some Absent → IsRightCell b x cells.Absent
   pub present : (x : Slot) → s.presences x ≡ Some Present → IsRightCell b x (cells.Present (s.values x))
   -- a Done position is one of the batch and has its right outcome, and all its slots are filled
@@ -21,22 +21,22 @@ pub record IsSound (b : Batch) (s : State) : Type 0 where
   -- no slot of an Open position has a presence
   pub untouched : (x : Slot) → s.positions x.txn ≡ Open → s.presences x ≡ None
 
--- (d), (e) and (f): what the view of the pass p says
+-- (d), (e) and (f): the view of the pass p is true
 pub record IsTrueOf (b : Batch) (s : State) (p : ℕ) (v : View) : Type 0 where
-  -- what it holds is claimed by it; what it filled is filled, and what it stored is the right value
+  -- the position that it holds is claimed by it; slots that it filled are filled, and values that it stored are right
   pub held : (t : ℕ) → Holds b v t → s.positions t ≡ Claimed p
   pub filled : (x : Slot) → Contains v.filled x → IsFull s x
   pub stored : (x : Slot) → Contains v.stored x → IsRightCell b x (cells.Present (s.values x))
-  -- what it saw Done is Done, and what it saw Busy isn't Open
+  -- positions that it saw Done are Done, and positions that it saw Busy aren't Open
   pub done : (t : ℕ) → Contains v.done t → (o : Outcome) × (s.positions t ≡ Done o)
   pub busy : (t : ℕ) → Contains v.busy t → s.positions t ≢ Open
-  -- what it knows of a slot is the slot's presence
+  -- the presence that it knows of a slot is the slot's presence
   pub absent : (x : Slot) → Contains v.absent x → s.presences x ≡ Some Absent
   pub present : (x : Slot) → Contains v.present x → s.presences x ≡ Some Present
   -- it belongs to the batch, or to a pass that a join consumed
   pub named : (v ≡ spent_view) ⊎ (v.right ≡ rights_of b)
 
--- a position is claimed by the pass that holds it, and by no other; so no two passes hold one
+-- a position is claimed by the pass that holds it, and by no other pass; so no two passes hold the same position
 pub record IsLawful (b : Batch) (s : State) : Type 0 where
   pub sound : IsSound b s
   pub each : (p : ℕ) → IsTrueOf b s p (s.views p)

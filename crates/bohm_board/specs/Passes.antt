@@ -14,13 +14,13 @@ batch_of b = b.batch
 abbrev pub view : Pass → View
 view p = p.seat.me.0
 
--- it steps on this board, and knows what is right there
+-- it steps on this board, and knows the right outcomes and cells of its batch
 pub record IsSeatOf (b : Board) (s : Seat (Unit {0}) View) : Type 0 where
   pub table : s.table_id ≡ b.table.shared.table_id
   pub right : s.me.0.right ≡ rights_of (batch_of b)
   pub bare : s.me.1 ≡ []
 
--- the pass is one of this board
+-- the pass belongs to this board
 pub record IsPassOf (b : Board) (p : Pass) : Type 0 where
   pub seat : IsSeatOf b p.seat
   pub first : p.first ≡ first_of (batch_of b)

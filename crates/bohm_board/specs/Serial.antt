@@ -9,7 +9,7 @@ use Rattle.bohm_txn.specs.Meaning.{Look, body}
 use Rattle.bohm_txn.specs.Serial.{after, outcome_of, shows_of}
 use Rattle.bohm_board.specs.declared.knowledge.RightSlot.{RightSlot}
 
--- n cells: the values, then absence
+-- n cells: those of the values, then absent ones
 abbrev pub show_cells : ℕ → List ℤ → List Cell
 show_cells zero zs = []
 show_cells (suc n) [] = Absent ∷ show_cells n []

@@ -22,7 +22,7 @@ pub record Words : Type 0 where
   pub presences : List ℕ
   pub values : List ℕ
 
--- all of them, in the order of a table
+-- all words, in their order in a table
 abbrev pub all_words : Words → List ℕ
 all_words w = w.statuses ++ (w.presences ++ w.values)
 
@@ -34,7 +34,7 @@ pub record IsSized (r : Rights) (w : Words) : Type 0 where
   pub presences : length w.presences ≡ length r.slots
   pub values : length w.values ≡ length r.slots
 
--- each status word is that of its position, each presence word that of its slot, and each value word has its slot's value
+-- each status word represents its position's progress, each presence word its slot's presence, and each value word its slot's value
 pub record AreShown (b : Batch) (w : Words) (s : State) : Type 0 where
   pub sized : IsSized (rights_of b) w
   pub positions : (t : ℕ) → IsIn b t → slice_index w.statuses (position b t) ≡ progress_word (s.positions t)
@@ -66,7 +66,7 @@ pub record IsStep (b : Batch) (s : State) (e : Event) (after : Table (Unit {0}) 
   pub allowed : IsAllowed b s e
   pub shows : Shows b after (next_state s e)
 
--- the word i is n now, and the view of p is v
+-- the table with n as word i, and v as the view of p
 abbrev pub table_after_step : Table (Unit {0}) View → ℕ → ℕ → ℕ → View → Table (Unit {0}) View
 table_after_step t i n p v = record { words = slice_set t.words i n; homes = t.homes; views = slice_set t.views p v }
 
@@ -77,7 +77,7 @@ presence_place b x = length (rights_of b).outcomes + number b x
 abbrev pub value_place : Batch → Slot → ℕ
 value_place b x = length (rights_of b).outcomes + (length (rights_of b).slots + number b x)
 
--- words that have left their table: each outcome and cell in them is right, and a position with an outcome has all its cells
+-- words copied from their table: each outcome and cell in them is right, and a position with an outcome has all its cells
 pub record AreSound (b : Batch) (w : Words) : Type 0 where
   pub outcomes : (t : ℕ) → IsIn b t → 2 ≤ slice_index w.statuses (position b t) → IsRightOutcome b t (outcome_at (slice_index w.statuses (position b t)))
   pub presences : (x : Slot) (c : Cell) → IsSlot b x → IsRightCell b x c → slice_index w.presences (number b x) ≢ 0

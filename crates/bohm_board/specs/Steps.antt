@@ -13,7 +13,7 @@ use Rattle.bohm_board.specs.Encoding.{status_of, presence_at, filled_word, prese
 abbrev pub SeatState : Type 0
 SeatState = Me (Unit {0}) View
 
--- what is right stays, and so does what is held
+-- the right outcomes and cells are unchanged, and so is the held position
 abbrev pub IsSteady : SeatState → SeatState → Type 0
 IsSteady m m' = (m'.1 ≡ m.1) × (m'.0.right ≡ m.0.right) × (m'.0.held ≡ m.0.held)
 
@@ -49,7 +49,7 @@ MeetsStore st m put m' = IsSteady m m' × ((k : ℕ) → st.word ≡ length m.0.
 abbrev pub MeetsFill : Step (Unit {0}) → SeatState → ℕ → SeatState → Type 0
 MeetsFill st m put m' = IsSteady m m' × ((k : ℕ) → st.word ≡ length m.0.right.outcomes + k → m'.0 ≡ after_presence_store m.0 (slot_numbered m.0.right k))
 
--- the pass holds the slot's position, knows what that wants, and hasn't filled the slot
+-- the pass holds the slot's position, knows the slots that the position wants, and hasn't filled the slot
 pub record IsFillable (b : Batch) (v : View) (x : Slot) : Type 0 where
   pub holds : Holds b v x.txn
   pub wanted : KnowsWanted b v x.txn

@@ -22,7 +22,7 @@ abbrev pub presence_of : Cell → Presence
 presence_of cells.Absent = Absent
 presence_of (cells.Present z) = Present
 
--- it knows what is right in its batch, and nothing else
+-- it knows the right outcomes and cells of its batch, and nothing else
 abbrev pub new_view : Rights → View
 new_view r = record { right = r; done = []; busy = []; absent = []; present = []; held = None; stored = []; filled = [] }
 
@@ -37,13 +37,13 @@ after_status v t Open = v
 after_status v t Busy = record v { busy = v.busy ++ t ∷ [] }
 after_status v t Done = record v { done = v.done ++ t ∷ [] }
 
--- an open position is claimed; of another one the status was seen
+-- an open position is claimed; the status of any other position was seen
 abbrev pub after_claim : View → ℕ → Status → View
 after_claim v t Open = record v { held = Some t; stored = []; filled = [] }
 after_claim v t Busy = after_status v t Busy
 after_claim v t Done = after_status v t Done
 
--- an empty slot says nothing lasting
+-- an empty slot changes nothing, since it may be filled later
 abbrev pub after_presence_look : View → Slot → Option Presence → View
 after_presence_look v x None = v
 after_presence_look v x (Some Absent) = record v { absent = v.absent ++ x ∷ [] }
@@ -119,7 +119,7 @@ pub record IsUnseen (v : View) (x : Slot) : Type 0 where
   pub filled : ¬ Contains v.filled x
   pub done : ¬ Contains v.done x.txn
 
--- a position that was seen Done is Done for good, and one that was seen Busy is never Open
+-- a position that was seen Done stays Done, and a position that was seen Busy is never Open again
 pub record Recalls (v : View) (t : ℕ) (status : Status) : Type 0 where
   pub done : Contains v.done t → status ≡ Done
   pub busy : Contains v.busy t → status ≢ Open
@@ -130,7 +130,7 @@ pub record Recalls (v : View) (t : ℕ) (status : Status) : Type 0 where
 abbrev pub Continues : {A : Type 0} → List A → List A → Type 0
 Continues {A} old new = (more : List A) × (new ≡ old ++ more)
 
--- all that was observed stays observed
+-- everything that was observed remains observed
 pub record Keeps (old new : View) : Type 0 where
   pub right : new.right ≡ old.right
   pub done : Continues old.done new.done
@@ -138,7 +138,7 @@ pub record Keeps (old new : View) : Type 0 where
   pub absent : Continues old.absent new.absent
   pub present : Continues old.present new.present
 
--- the invariant of a pass and its view: it holds this position, with its timestamp, and of its slots it has stored the values of filled ones only
+-- the invariant of a pass and its view: it holds this position, with its timestamp, and has stored the values of only those slots that it has filled
 pub record IsKept (v : View) (first : ℕ) (held : Option ℕ) : Type 0 where
   pub holds : v.held ≡ option_map (λ i. first + i) held
   pub timestamp : (i : ℕ) → held ≡ Some i → first + i < 2 ^ 32

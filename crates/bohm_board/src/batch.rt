@@ -1,4 +1,4 @@
-//! A batch: its transactions, their plan and base.
+//! A batch: its transactions, their plan and their base.
 
 ghost use Rattle.std.specs.Prelude.{◌≡◌, ◌<◌, length, Some, IsSomeAnd, slice_get, true};
 ghost use Rattle.std.specs.List.{IsDistinct};
@@ -33,8 +33,8 @@ fn cell_of(entries: &[(Key, Cell)], key: &Key) -> Cell
     Cell::Absent
 }
 
-/// Transactions of a log that run together, their plan, and what each key that they declare holds
-/// before them.
+/// Transactions of a log that run together, their plan, and the cell before them of each key that
+/// they declare.
 pub struct Batch<'a> {
     txns: LogPart<'a>,
     plan: Plan,
@@ -44,7 +44,7 @@ pub struct Batch<'a> {
     ghost noted: { AreNoted txns plan (keys_of base) },
 }
 
-// Written out: a derived drop is proved anew in each function that drops such a value.
+// Written by hand: a derived drop is proved again in each function that drops such a value.
 impl<'a> Drop for Batch<'a> {
     fn drop(self) {
         let Self { txns, plan, base } = self;
@@ -132,7 +132,7 @@ impl<'a> Batch<'a> {
         (t - self.plan.first()) as usize
     }
 
-    /// The transaction with a timestamp.
+    /// The transaction with the timestamp `t`.
     pub fn txn(&self, t: u32) -> TxnView<'a>
         requires { IsIn self.now t }
         ensures { txn_at self.now t ≡ Some result }
@@ -140,7 +140,7 @@ impl<'a> Batch<'a> {
         self.txns.txn((t - self.plan.first()) as usize)
     }
 
-    /// Whether the transaction with a timestamp is sure. Its time is constant.
+    /// Whether the transaction with the timestamp `t` is sure. Its time is constant.
     pub fn sure(&self, t: u32) -> bool
         requires { IsIn self.now t }
         ensures { result ≡ is_sure_at self.now t }
@@ -148,7 +148,8 @@ impl<'a> Batch<'a> {
         self.plan.sure(t)
     }
 
-    /// How many slots the transaction with a timestamp has. The time grows with its statements.
+    /// The number of slots of the transaction with the timestamp `t`. The time grows with the
+    /// number of its statements.
     pub fn width(&self, t: u32) -> u32
         requires { IsIn self.now t }
         ensures { result ≡ width_at self.now t }
@@ -156,7 +157,8 @@ impl<'a> Batch<'a> {
         width(&self.txn(t))
     }
 
-    /// The source of a declared read, counted from 0, of the transaction with a timestamp.
+    /// The source of the declared read at `index`, counted from 0, of the transaction with the
+    /// timestamp `t`.
     pub fn read(&self, t: u32, index: u32) -> Source
         requires txn { IsIn self.now t }
         requires index { index < length (reads_at self.now t) }
@@ -165,8 +167,8 @@ impl<'a> Batch<'a> {
         self.plan.read(t, index)
     }
 
-    /// The source of a declared write, counted from 0, of the transaction with a timestamp: the
-    /// version of its key before the transaction.
+    /// The source of the declared write at `index`, counted from 0, of the transaction with the
+    /// timestamp `t`: the version of its key before the transaction.
     pub fn write(&self, t: u32, index: u32) -> Source
         requires txn { IsIn self.now t }
         requires index { index < length (writes_at self.now t) }
@@ -175,8 +177,8 @@ impl<'a> Batch<'a> {
         self.plan.write(t, index)
     }
 
-    /// The access of the key of this index, counted from 0, in a declared set of the transaction
-    /// with a timestamp. Its time is constant.
+    /// The access of the key at `index`, counted from 0, in a declared set of the transaction with
+    /// the timestamp `t`. Its time is constant.
     pub fn access(&self, set: DeclaredSet, t: u32, index: u32) -> Access
         requires txn { IsIn self.now t }
         requires index { index < length (accesses_in set self.now t) }
@@ -185,8 +187,8 @@ impl<'a> Batch<'a> {
         self.plan.access(set, t, index)
     }
 
-    /// The cell before the batch of the key of this index, counted from 0, in a declared set of the
-    /// transaction with a timestamp. The access takes the version before the batch. Its time is
+    /// The cell, before the batch, of the key at `index`, counted from 0, in a declared set of the
+    /// transaction with the timestamp `t`. The source of the access must be `Before`. Its time is
     /// constant.
     pub fn cell_before(&self, set: DeclaredSet, t: u32, index: u32) -> Cell
         requires txn { IsIn self.now t }
@@ -199,8 +201,8 @@ impl<'a> Batch<'a> {
         self.base.as_slice()[access.index as usize].1
     }
 
-    /// What a key holds before the batch; `Absent` if no transaction of the batch declares it. The
-    /// time grows with the number of declared keys.
+    /// The cell of a key before the batch; `Absent` if no transaction of the batch declares the
+    /// key. The time grows with the number of declared keys.
     pub fn before(&self, key: &Key) -> Cell
         ensures { result ≡ base_of self.now key.now }
     {

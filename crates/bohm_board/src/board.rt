@@ -35,7 +35,7 @@ pub struct Board<'a> {
     table: Table<(), View, Batch<'a>, BoardRule, Global>,
     batch: Batch<'a>,
     layout: Layout,
-    // Room for the words once the board is closed.
+    // Memory for the words once the board is closed.
     columns: Columns,
     ghost keyed: { table.shared.key ≡ batch },
     ghost laid: { IsLayoutOf (txns_of batch) layout },
@@ -46,7 +46,7 @@ pub struct Board<'a> {
     ghost room: { IsSized (rights_of batch) (words_of columns) },
 }
 
-// Written out: a derived drop is proved anew in each function that drops such a value.
+// Written by hand: a derived drop is proved again in each function that drops such a value.
 impl<'a> Drop for Board<'a> {
     fn drop(self) {
         let Self {

@@ -13,7 +13,7 @@ use crate::columns::Columns;
 use crate::layout::Layout;
 use std::alloc::Global;
 
-/// The words of a board that no thread steps on any more.
+/// The words of a board on which no thread steps any more.
 pub struct Closed<'a> {
     pub(crate) batch: Batch<'a>,
     pub(crate) layout: Layout,
@@ -25,7 +25,7 @@ pub struct Closed<'a> {
     ghost sound: { AreSound batch (words_of columns) },
 }
 
-// Written out: a derived drop is proved anew in each function that drops such a value.
+// Written by hand: a derived drop is proved again in each function that drops such a value.
 impl<'a> Drop for Closed<'a> {
     fn drop(self) {
         let Self {
@@ -39,7 +39,7 @@ impl<'a> Drop for Closed<'a> {
     }
 }
 
-/// Fills a vector with the words from an index on.
+/// Fills the vector `into` with the words from index `from` on.
 pub(crate) fn copy_words(words: &atomic_table::Closed<(), Global>, from: usize, into: &mut Vec<u64>)
     requires full { IsFull words.now.words }
     requires inside { from + vec_len into.old ≤ slots_len words.now.words }

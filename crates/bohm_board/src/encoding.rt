@@ -83,7 +83,7 @@ pub(crate) fn value_word(value: Value) -> u64
     value.get().cast_unsigned()
 }
 
-/// The presence and the value word of a cell, the second 0 where it has no value.
+/// The presence word and the value word of a cell. The value word is 0 if the cell has no value.
 pub(crate) fn slot_words(cell: Cell) -> (u64, u64)
     ensures presence { result.0 ≡ filled_word cell }
     ensures value { filled_word cell ≡ 2 → present_at result.1 ≡ cell }
@@ -94,7 +94,7 @@ pub(crate) fn slot_words(cell: Cell) -> (u64, u64)
     }
 }
 
-/// The cell of a value word whose slot is there and has a value.
+/// The cell of a value word, if its slot's cell is present.
 pub(crate) fn present_cell(word: u64) -> Cell
     ensures { result ≡ present_at word }
 {

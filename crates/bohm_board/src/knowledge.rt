@@ -1,4 +1,4 @@
-//! Ghost views: what passes have observed. No value of these types is made.
+//! Ghost views: what passes have observed. No value of these types is constructed.
 
 use crate::slot::Slot;
 use bohm_txn::Outcome;
@@ -12,7 +12,8 @@ pub struct RightSlot {
     pub cell: Cell,
 }
 
-/// What the serial run of a batch gives: the outcome of each position, and the cell of each slot.
+/// The results of the serial run of a batch: the outcome of each position, and the cell of each
+/// slot.
 pub struct Rights {
     /// The timestamp of the first position.
     pub first: u32,
@@ -21,17 +22,17 @@ pub struct Rights {
 }
 
 /// What a pass knows. Positions are timestamps; positions and slots are listed in the order in
-/// which they were learnt.
+/// which the pass learned of them.
 pub struct View {
-    /// What is right in the pass's batch.
+    /// The right outcomes and cells of the pass's batch.
     pub right: Rights,
     /// Positions that it saw Done.
     pub done: LinkedList<u32>,
     /// Positions that it saw Busy.
     pub busy: LinkedList<u32>,
-    /// Slots that it knows as `Absent`.
+    /// Slots that it knows to be `Absent`.
     pub absent: LinkedList<Slot>,
-    /// Slots that it knows as `Present`.
+    /// Slots that it knows to be `Present`.
     pub present: LinkedList<Slot>,
     /// The position that it holds.
     pub held: Option<u32>,

@@ -29,7 +29,7 @@ ghost use Rattle.bohm_board.specs.Encoding.{status_of, claim_of_word, word_of, p
 ghost use Rattle.bohm_board.specs.Encoding.{filled_word, value_at, present_at};
 
 /// A table that meets the rule shows a state that meets the board law, so that no two passes hold
-/// one position.
+/// the same position.
 pub fn ruled_is_lawful()
     ensures alone { (b : Batch) (s : State) (p q u : ℕ) → IsLawful b s → Holds b (s.views p) u
         → Holds b (s.views q) u → p ≡ q }

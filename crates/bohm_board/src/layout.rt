@@ -12,7 +12,7 @@ use bohm_log::LogPart;
 use bohm_types::NoMemory;
 use std::alloc::Global;
 
-/// How many positions and slots there are, and how many slots before each position.
+/// The number of positions, the number of slots, and the number of slots before each position.
 #[derive(Drop)]
 pub struct Layout {
     pub positions: usize,
@@ -42,7 +42,7 @@ impl Layout {
         })
     }
 
-    /// The number of a slot among all of the batch, counted from 0.
+    /// The number of a slot among all slots of the batch, counted from 0.
     pub fn number(&self, batch: &Batch, slot: Slot) -> usize
         requires layout { IsLayoutOf (txns_of batch.now) self.now }
         requires slot { IsSlot batch.now slot }

@@ -1,4 +1,4 @@
-//! The shared words of a batch, which any number of threads step on, and what each of them may
+//! The shared words of a batch, on which any number of threads step, and what each thread may
 //! know. The design is that of BOHM: Faleiro and Abadi, "Rethinking Serializable Multiversion
 //! Concurrency Control", VLDB 2015.
 #![tactic(auto)]

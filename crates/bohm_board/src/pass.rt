@@ -13,7 +13,7 @@ pub struct Pass {
     pub(crate) seat: Seat<(), View>,
     // The timestamp of the batch's first transaction.
     pub(crate) first: u32,
-    // The position that it holds, counted from the batch's first.
+    // The position that it holds, counted from the batch's first position.
     pub(crate) held: Option<u32>,
     ghost bare: { seat.me.1 ≡ [] },
     ghost fits: { IsKept seat.me.0 first held },

@@ -1,4 +1,4 @@
-//! Slots: places for the cells that transactions produce.
+//! Slots: locations for the cells that transactions produce.
 
 ghost use Rattle.std.specs.Prelude.{◌≡◌, ◌≤◌};
 ghost use Rattle.bohm_txn.specs.Faulty.{IsWellFormedTxn};
@@ -7,8 +7,8 @@ ghost use Rattle.bohm_board.specs.Serial.{width};
 use bohm_log::TxnView;
 use bohm_txn::shows;
 
-/// A place for a cell that a transaction produces. Index 0 up counts its declared writes, and then
-/// its `show`s.
+/// A location for a cell that a transaction produces. Indices count from 0 through its declared
+/// writes, and then through its `show`s.
 #[derive(Clone, Copy, Debug, PartialEq, Eq)]
 pub struct Slot {
     /// The timestamp of the transaction.
@@ -16,7 +16,7 @@ pub struct Slot {
     pub index: u32,
 }
 
-/// How many slots a transaction has.
+/// The number of slots of a transaction.
 pub(crate) fn width(txn: &TxnView<'_>) -> u32
     requires { IsWellFormedTxn txn.now }
     ensures width { result ≡ width txn.now }

@@ -11,12 +11,12 @@ pub enum Status {
     Done,
 }
 
-/// What a claim of a position found.
+/// The result of a claim of a position.
 #[derive(Clone, Copy, Debug, PartialEq, Eq)]
 pub enum Claimed {
-    /// It was open, and the pass holds it now.
+    /// It was open, and the claiming pass holds it.
     Mine,
-    /// A pass holds it, or one that held it was dropped.
+    /// A pass holds it, or the pass that held it was dropped.
     Busy,
     /// It has an outcome.
     Done,

@@ -1,4 +1,4 @@
--- How the logic stores procedures and lists of calls.
+-- How the logic encodes procedures and lists of calls.
 use Rattle.std.specs.Prelude.{◌≡◌, ℕ, zero, suc, ℤ, Bool, true, false, List, [], Option, Some, None, Result, Ok, Err, refl}
 use Rattle.std.specs.Coded.{Coded, code_by, coded×, coded_ℕ, coded_ℤ, coded_bool, coded_list, coded_option, coded_result}
 use Rattle.bohm_types.specs.declared.cmp.Cmp.{Cmp}
@@ -92,7 +92,7 @@ abbrev cond_code : Coded Cond
 cond_code = code_by (Sum × (Cmp × Sum)) (coded× sum_code (coded× cmp_code sum_code)) (λ c. (c.left, (c.cmp, c.right)))
     (λ p. record { left = p.0; cmp = p.1.0; right = p.1.1 }) (λ _. refl)
 
--- ---- statements: which one, its name, its sum, its condition
+-- ---- statements: the kind, the name, the sum, the condition
 
 abbrev Fields : Type 0
 Fields = (ℕ × List ℕ) × (Sum × Option Cond)
@@ -137,7 +137,7 @@ stmt_back Fail = refl
 abbrev stmt_code : Coded Stmt
 stmt_code = code_by Fields (coded× (coded× coded_ℕ (coded_list coded_ℕ)) (coded× sum_code (coded_option cond_code))) fields_of stmt_of stmt_back
 
--- ---- what the handles keep
+-- ---- what handles keep
 
 abbrev pub procedure_code : Coded Procedure
 procedure_code = code_by ((Edition × (Names × Names)) × ((Names × Names) × List Stmt))

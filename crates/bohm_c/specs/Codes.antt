@@ -1,4 +1,4 @@
--- How the logic stores what a handle keeps.
+-- How the logic encodes what a handle keeps.
 use Rattle.std.specs.Prelude.{◌≡◌, ℕ, zero, suc, ℤ, List, Option, Some, None, Result, Ok, Err, refl}
 use Rattle.std.specs.Coded.{Coded, code_by, coded×, coded_ℕ, coded_ℤ, coded_list, coded_option, coded_result}
 use Rattle.bohm_types.specs.declared.cell.Cell.{Cell}

@@ -6,7 +6,7 @@ use Rattle.bohm_c.specs.declared.session.Session.{Session}
 use Rattle.bohm_c.specs.declared.kept.Kept.{Kept}
 use Rattle.bohm_c.specs.declared.kept.Kept.TheVariants.{Machine, Prepared, Calls}
 
--- it keeps a machine, and this holds of it
+-- the handle keeps a machine that satisfies this
 abbrev pub OnMachine : Option Kept → (Session → Type 0) → Type 0
 OnMachine None P = ⊥
 OnMachine (Some (Machine k)) P = P k
@@ -16,7 +16,7 @@ OnMachine (Some (Calls l)) P = ⊥
 abbrev pub IsMachine : Option Kept → Type 0
 IsMachine h = OnMachine h (λ _. Unit {0})
 
--- it keeps a procedure, and this holds of it
+-- the handle keeps a procedure that satisfies this
 abbrev pub OnProcedure : Option Kept → (Procedure → Type 0) → Type 0
 OnProcedure None P = ⊥
 OnProcedure (Some (Machine k)) P = ⊥
@@ -26,7 +26,7 @@ OnProcedure (Some (Calls l)) P = ⊥
 abbrev pub IsProcedure : Option Kept → Type 0
 IsProcedure h = OnProcedure h (λ _. Unit {0})
 
--- it keeps a list of calls, and this holds of it
+-- the handle keeps a list of calls that satisfies this
 abbrev pub OnCalls : Option Kept → (Listed → Type 0) → Type 0
 OnCalls None P = ⊥
 OnCalls (Some (Machine k)) P = ⊥

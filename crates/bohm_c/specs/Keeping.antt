@@ -1,4 +1,4 @@
--- What the calls on a handle say.
+-- What the functions on a handle guarantee.
 use Rattle.std.specs.Prelude.{◌≡◌, ℕ, ℤ, ◌+◌, ◌<◌, ◌≤◌, Bool, true, false, List, [], length, max, min, take}
 use Rattle.std.specs.FinMap.{entries}
 use Rattle.bohm_types.specs.Document.{Document}
@@ -21,7 +21,7 @@ use Rattle.bohm_c.specs.declared.session.OpenFault.TheVariants.{Text, HasLog}
 use Rattle.bohm_c.specs.Reading.{IsRead, IsRefused, snapshot_of}
 use Rattle.bohm_types.specs.Limits.{largest_batch}
 
--- the machine of a snapshot's store, as it stands behind a timestamp, and no reply waits
+-- a machine on a snapshot's store, as it was at a timestamp, and no reply is waiting
 pub record IsOpened (snapshot : Document) (start : ℕ) (session : Session) : Type 0 where
   pub alone : snapshot.log ≡ []
   pub top : top_of session.machine ≡ start
@@ -29,18 +29,18 @@ pub record IsOpened (snapshot : Document) (start : ℕ) (session : Session) : Ty
   pub run : HasRun (cell_in (store_of snapshot.store)) start [] session.machine
   pub handed : session.waiting ≡ []
 
--- that of the snapshot that a text is
+-- such a machine, on the snapshot that the text is
 pub record IsOpening (text : List ℕ) (start : ℕ) (session : Session) : Type 0 where
   pub document : Document
   pub read : IsRead text document
   pub opened : IsOpened document start session
 
--- why a snapshot isn't opened: it has transactions, or memory was refused
+-- why a snapshot isn't opened: it has transactions, or an allocation failed
 abbrev pub IsUnopened : Document → OpenFault → Type 0
 IsUnopened snapshot (Text fault) = (snapshot.log ≡ []) × (fault ≡ NoMemory)
 IsUnopened snapshot HasLog = 0 < length snapshot.log
 
--- no reply waited, and whole batches of a segment were run, with these replies
+-- no reply was waiting, and whole batches of a segment were run, with these replies
 pub record IsRun (was now : Session) (segment : Document) (answered : List Reply) : Type 0 where
   pub waited : was.waiting ≡ []
   pub taken : IsTaken was.machine segment
@@ -48,7 +48,7 @@ pub record IsRun (was now : Session) (segment : Document) (answered : List Reply
   pub runs_on : RunsOn was.machine now.machine (take (length answered) segment.log) answered
   pub batches : 0 < length answered → AreWholeBatches segment.log largest_batch (length answered)
 
--- all of it was, and the text of the replies is handed out
+-- the whole segment was run, and the text of the replies is returned
 pub record IsRunWhole (was now : Session) (segment : Document) (answer : List ℕ) : Type 0 where
   pub answered : List Reply
   pub run : IsRun was now segment answered
@@ -56,7 +56,7 @@ pub record IsRunWhole (was now : Session) (segment : Document) (answer : List �
   pub says : answer ≡ print_numbered (top_of was.machine + 1) answered
   pub handed : now.waiting ≡ []
 
--- some of it was and not all, and the text of the replies is handed out
+-- the segment was run in part, and the text of the replies is returned
 pub record IsRunPartly (was now : Session) (segment : Document) (answer : List ℕ) : Type 0 where
   pub answered : List Reply
   pub run : IsRun was now segment answered
@@ -64,17 +64,17 @@ pub record IsRunPartly (was now : Session) (segment : Document) (answer : List �
   pub says : answer ≡ print_numbered (top_of was.machine + 1) answered
   pub handed : now.waiting ≡ []
 
--- some of it was, and the replies wait
+-- the segment was run, in part or whole, and the replies are waiting
 pub record IsRunUntold (was now : Session) (segment : Document) : Type 0 where
   pub run : IsRun was now segment now.waiting
   pub behind : now.behind ≡ top_of was.machine
 
--- the same, of one transaction at least
+-- the segment was run, in part or whole, and the replies, at least one, are waiting
 pub record IsRunKept (was now : Session) (segment : Document) : Type 0 where
   pub run : IsRunUntold was now segment
   pub some : 0 < length now.waiting
 
--- these of the segment that a text is
+-- `IsRunWhole`, `IsRunPartly` and `IsRunKept` of the segment that a text is
 pub record IsDone (was now : Session) (text answer : List ℕ) : Type 0 where
   pub document : Document
   pub read : IsRead text document
@@ -90,27 +90,27 @@ pub record IsKept (was now : Session) (text : List ℕ) : Type 0 where
   pub read : IsRead text document
   pub run : IsRunKept was now document
 
--- all of it was run, and the replies wait
+-- the segment that the text is was run whole, and the replies are waiting
 pub record IsHeld (was now : Session) (text : List ℕ) : Type 0 where
   pub document : Document
   pub read : IsRead text document
   pub run : IsRunUntold was now document
   pub whole : length now.waiting ≡ length document.log
 
--- some of it was and not all, and the replies wait
+-- the segment that the text is was run in part, and the replies are waiting
 pub record IsHeldPartly (was now : Session) (text : List ℕ) : Type 0 where
   pub document : Document
   pub read : IsRead text document
   pub run : IsRunUntold was now document
   pub part : length now.waiting < length document.log
 
--- the text is a segment that the machine refuses, and why
+-- the text is a segment that the machine refuses, with this fault
 pub record IsUntaken (m : Timeline) (text : List ℕ) (fault : SegmentFault) : Type 0 where
   pub document : Document
   pub read : IsRead text document
   pub untaken : IsUntakenBy m document fault
 
--- the text is a well-formed document's that has transactions
+-- the text is that of a well-formed document with transactions
 pub record HasTransactions (text : List ℕ) : Type 0 where
   pub document : Document
   pub read : IsRead text document
@@ -120,25 +120,25 @@ abbrev pub IsRefusedOpening : List ℕ → OpenFault → Type 0
 IsRefusedOpening text (Text fault) = IsRefused text fault
 IsRefusedOpening text HasLog = HasTransactions text
 
--- ---- the other calls
+-- ---- the other functions
 
--- the text is a well-formed document's, and these bytes are its answer
+-- the text is that of a well-formed document, and these bytes are its answer
 pub record IsAnswer (text answer : List ℕ) : Type 0 where
   pub document : Document
   pub read : IsRead text document
   pub answers : answer ≡ answer_of document (length document.log)
 
--- from the floor to the top
+-- the timestamp lies between the floor and the top, both included
 pub record IsReadable (m : Timeline) (ts : ℕ) : Type 0 where
   pub kept : floor_of m ≤ ts
   pub there : ts ≤ top_of m
 
--- the cell that a truth value and a number tell
+-- the cell that a truth value and a number represent
 abbrev pub told : Bool → ℤ → Cell
 told true z = Present z
 told false z = Absent
 
--- the text is that of a well-formed document without transactions, which has the store after the transaction with a timestamp
+-- the text is that of a well-formed document without transactions, whose store is the store after the transaction with a timestamp
 pub record IsSnapshot (m : Timeline) (ts : ℕ) (text : List ℕ) : Type 0 where
   pub store : List (List ℕ × ℤ)
   pub readable : IsReadable m ts
@@ -154,7 +154,7 @@ pub record HasCounts (session : Session) (counts : BohmCounts) : Type 0 where
   pub versions : counts.versions ≡ min (total session.machine.chains) 18446744073709551615
   pub waiting : counts.waiting ≡ length session.waiting
 
--- the past from the new floor on is as it was, and so are the replies that wait
+-- the past from the new floor on is unchanged, and so are the waiting replies
 pub record IsTrimmed (was now : Session) (least : ℕ) : Type 0 where
   pub floor : floor_of now.machine ≡ max (floor_of was.machine) least
   pub top : top_of now.machine ≡ top_of was.machine

@@ -1,4 +1,4 @@
--- What a handle keeps: how the logic stores it, and the memory that it owns.
+-- What a handle keeps: how the logic encodes it, and the memory that it owns.
 use base.Fml.{Fml, feq}
 use denote.RawPtr.{Ptr, null_ptr}
 use Rattle.std.specs.Prelude.{◌≡◌, Option, Some, None, Result, Ok, Err, refl}
@@ -32,7 +32,7 @@ kept_back (Calls l) = refl
 abbrev pub kept_code : Coded (Option Kept)
 kept_code = coded_option (code_by Parts (coded_result keeper_code (coded_result procedure_code listed_code)) parts_of kept_of kept_back)
 
--- what is behind a pointer: a box, or nothing, and then it is null
+-- the memory that a pointer owns: a box, or nothing if the pointer is null
 abbrev pub owned : (Ptr → Kept → Fml) → Ptr → Option Kept → Fml
 owned box p None = feq Ptr p null_ptr
 owned box p (Some x) = box p x

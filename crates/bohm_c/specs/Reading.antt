@@ -1,4 +1,4 @@
--- What a text is read as, and why one is refused.
+-- The document that a text is read as, and why a text is refused.
 use Rattle.std.specs.Prelude.{◌≡◌, ℕ, ℤ, ◌<◌, List, [], length}
 use Rattle.bohm_types.specs.Document.{Document}
 use Rattle.bohm_types.specs.Sound.{IsDocument}
@@ -13,13 +13,13 @@ use Rattle.bohm_answer.specs.FaultLine.{fault_line}
 use Rattle.bohm_answer.specs.declared.fault.RunFault.{RunFault}
 use Rattle.bohm_answer.specs.declared.fault.RunFault.TheVariants.{Read, TooLong, Text, Check, Trimmed, Future, NoMemory, Write}
 
--- the text is this well-formed document's
+-- the text is that of this well-formed document
 pub record IsRead (text : List ℕ) (document : Document) : Type 0 where
   pub sound : IsDocument document
   pub well_formed : WellFormed document
   pub printed : print_doc document ≡ text
 
--- the text is a document's with this first fault
+-- the text is that of a document with this first fault
 pub record IsFaulty (text : List ℕ) (fault : CheckFault) : Type 0 where
   pub document : Document
   pub sound : IsDocument document
@@ -39,7 +39,7 @@ HasFault text Future = ⊥
 HasFault text NoMemory = ⊥
 HasFault text (Write sent) = ⊥
 
--- why a text isn't read: memory was refused, or the text has this fault
+-- why a text isn't read: an allocation failed, or the text has this fault
 abbrev pub IsRefused : List ℕ → RunFault → Type 0
 IsRefused text Read = ⊥
 IsRefused text TooLong = HasFault text TooLong
@@ -50,12 +50,12 @@ IsRefused text Future = ⊥
 IsRefused text NoMemory = Unit {0}
 IsRefused text (Write sent) = ⊥
 
--- these bytes are the line of a fault that the text has
+-- these bytes are the line that reports a fault of the text
 pub record IsRefusal (text line : List ℕ) : Type 0 where
   pub fault : RunFault
   pub faulty : HasFault text fault
   pub says : line ≡ fault_line fault
 
--- the document that has this store and no transactions
+-- the document with this store and no transactions
 abbrev pub snapshot_of : List (List ℕ × ℤ) → Document
 snapshot_of store = record { edition = One; store = store; log = [] }

@@ -16,7 +16,7 @@ abbrev pub shows_of : Reply → List ℤ
 shows_of (Commit shows) = shows
 shows_of (Abort reason stmt) = []
 
--- where so many values were shown before
+-- the row of a reply, where this many values were shown before it
 abbrev pub row_of : ℕ → Reply → BohmReply
 row_of first (Commit shows) = record { outcome = 0; statement = 0; first = first; shown = length shows }
 row_of first (Abort reason stmt) = record { outcome = outcome_of reason; statement = stmt; first = first; shown = 0 }

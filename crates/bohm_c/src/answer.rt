@@ -15,7 +15,7 @@ use bohm_txn::{Checked, Replies};
 use bohm_types::{Key, NoMemory, Value};
 use std::alloc::Global;
 
-/// The replies of a log, and the entries of the store that it leaves.
+/// The replies of a log, and the entries of the store after it.
 fn executed(
     alloc: Global,
     seed: DrawnSeed,

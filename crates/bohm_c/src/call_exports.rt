@@ -1,4 +1,4 @@
-//! The functions that C calls on procedures, and those that add and run their calls.
+//! The C functions that prepare procedures, and those that add and run their calls.
 
 ghost use Rattle.std.specs.Prelude.{◌≡◌, ◌≢◌, ◌<◌, ◌⊎◌, ◌↔◌, length, map, None, Some};
 ghost use Rattle.std.specs.List.{Any};
@@ -21,7 +21,7 @@ use crate::status::{
 };
 use std::alloc::Global;
 
-/// Reads a procedure's text, whose names are hashed from the seed, and opens its handle.
+/// Parses a procedure's text, hashing its names with the seed, and opens its handle.
 #[unsafe(no_mangle)]
 pub extern "C" fn bohm_prepare<'a>(
     alloc: Global,
@@ -54,7 +54,7 @@ pub extern "C" fn bohm_prepare<'a>(
     }
 }
 
-/// Adds the call of a procedure to a list, where they are these.
+/// Adds the call of a procedure to a list; `MISUSE` if either is something else.
 fn push_on(calls: &mut Kept, procedure: &Kept, keys: &[&[u8]], values: &[i64]) -> u32
     ensures status { (result ≡ DONE) ⊎ (result ≡ NO_MEMORY) ⊎ (result ≡ NO_KEY)
         ⊎ (result ≡ UNFIT)
@@ -85,7 +85,7 @@ fn push_on(calls: &mut Kept, procedure: &Kept, keys: &[&[u8]], values: &[i64]) -
     }
 }
 
-/// Adds the call of a procedure with these arguments.
+/// Adds a call of the procedure with these arguments.
 #[unsafe(no_mangle)]
 pub extern "C" fn bohm_push(
     alloc: Global,
@@ -125,7 +125,7 @@ pub extern "C" fn bohm_push(
     status
 }
 
-/// Runs calls on a machine, where they are these.
+/// Runs calls on a machine; `MISUSE` if either is something else.
 fn run_on<'a>(machine: &mut Kept, alloc: Global, calls: &Kept, out: &mut &'a mut [u8]) -> u32
     ensures status { (result ≡ DONE) ⊎ (result ≡ TIMESTAMPS) ⊎ (result ≡ WAITING)
         ⊎ (result ≡ STOPPED) ⊎ (result ≡ KEPT)
@@ -158,8 +158,8 @@ fn run_on<'a>(machine: &mut Kept, alloc: Global, calls: &Kept, out: &mut &'a mut
     session.run_calls(alloc, list, out)
 }
 
-/// Runs the calls as a segment, and hands out the text of its replies, numbered on from the top.
-/// The calls stay.
+/// Runs the calls as a segment, and returns the text of its replies, numbered on from the top. The
+/// list keeps its calls.
 #[unsafe(no_mangle)]
 pub extern "C" fn bohm_run_calls<'a>(
     alloc: Global,

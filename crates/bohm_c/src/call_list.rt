@@ -1,4 +1,4 @@
-//! Lists of calls, and the room in which C's arguments are read.
+//! Lists of calls, with buffers for C's arguments.
 
 ghost use Rattle.std.specs.Prelude.{◌≡◌, ◌≢◌, ◌↔◌, [], true, length, map};
 ghost use Rattle.std.specs.Prelude.{None, Err, IfOk, OnOk, OnErr};
@@ -21,7 +21,7 @@ use bohm_types::{Edition, Key, NoMemory, Value};
 use std::alloc::Global;
 use std::marker::Model;
 
-/// Calls, the keys that handles name by their numbers, and room for the arguments of the next call.
+/// Calls, the keys that handles name by their numbers, and buffers for the next call's arguments.
 pub struct CallList {
     calls: Calls,
     names: KeyNames,
@@ -75,7 +75,7 @@ impl From<NoMemory> for PushFault {
     }
 }
 
-/// The handles of the keys that are named so.
+/// Fills a vector with handles of the keys with these names.
 fn fill_handles(
     handles: &mut Vec<KeyHandle>,
     calls: &Calls,
@@ -97,7 +97,7 @@ fn fill_handles(
     Ok(())
 }
 
-/// These numbers as values.
+/// Fills a vector with these numbers as values.
 fn fill_values(values: &mut Vec<Value>, numbers: &[i64]) -> Result<(), NoMemory>
     ensures { OnOk result (values.new.items ≡ numbers.now) }
 {
@@ -133,7 +133,7 @@ fn add_call(
 }
 
 impl CallList {
-    /// No calls and no handles; keys are hashed from the seed. It allocates nothing.
+    /// No calls and no handles; keys are hashed with the seed. It allocates nothing.
     pub fn new(alloc: Global, seed: DrawnSeed, edition: Edition) -> CallList
         ensures { result ≡ empty_list edition }
     {
@@ -157,7 +157,7 @@ impl CallList {
         })
     }
 
-    /// Lets all calls go. Their room is kept for others, and handles name what they named.
+    /// Removes all calls. Their memory is kept for later ones, and handles keep their keys.
     pub fn clear(&mut self)
         ensures { self.new ≡ cleared self.old }
     {
@@ -183,8 +183,8 @@ impl CallList {
         add_call(&mut self.calls, procedure, &self.named, &self.values)
     }
 
-    /// A new handle of a key, which names it until the list is dropped. `NoMemory` where an
-    /// allocation fails, or there are 2^32 handles and shared keys.
+    /// A new handle of a key, valid until the list is dropped. `NoMemory` if an allocation fails,
+    /// or if there are 2^32 handles and shared keys.
     pub fn handle(&mut self, key: &Key) -> Result<u32, NoMemory>
         ensures place { IfOk result (λ h. h ≡ length self.old.names) }
         ensures ok { OnOk result (self.new ≡ with_name self.old key.now) }
@@ -205,7 +205,7 @@ impl CallList {
         handles.iter().all(|handle| (*handle as usize) < count)
     }
 
-    /// Adds a call with these arguments, whose keys are named by their handles.
+    /// Adds a call with these arguments, whose keys are given by their handles.
     pub fn push_named(
         &mut self,
         procedure: &Procedure,

@@ -26,7 +26,7 @@ use crate::status::{
 use bohm_types::Key;
 use std::alloc::Global;
 
-/// Runs the log of a text, and hands out the text of its answer. Keys are hashed from the seed.
+/// Runs the log of a text, and returns the text of its answer. Keys are hashed with the seed.
 #[unsafe(no_mangle)]
 pub extern "C" fn bohm_answer<'a>(
     alloc: Global,
@@ -54,7 +54,7 @@ pub extern "C" fn bohm_answer<'a>(
 }
 
 /// Opens a machine on a snapshot, which is the store after the transaction with a timestamp. Keys
-/// are hashed from the seed.
+/// are hashed with the seed.
 #[unsafe(no_mangle)]
 pub extern "C" fn bohm_open<'a>(
     alloc: Global,
@@ -90,7 +90,7 @@ pub extern "C" fn bohm_open<'a>(
     }
 }
 
-/// Runs a segment, and hands out the text of its replies, numbered on from the top.
+/// Runs a segment, and returns the text of its replies, numbered on from the top.
 #[unsafe(no_mangle)]
 pub extern "C" fn bohm_apply<'a>(
     alloc: Global,
@@ -131,7 +131,7 @@ pub extern "C" fn bohm_apply<'a>(
     status
 }
 
-/// Hands out the text of the replies that wait.
+/// Returns the text of the waiting replies.
 #[unsafe(no_mangle)]
 pub extern "C" fn bohm_replies<'a>(
     alloc: Global,
@@ -158,7 +158,7 @@ pub extern "C" fn bohm_replies<'a>(
     status
 }
 
-/// What a key holds after the transaction with a timestamp: whether it has a value, and which.
+/// The cell of a key after the transaction with a timestamp: whether it has a value, and the value.
 #[unsafe(no_mangle)]
 pub extern "C" fn bohm_value_at(
     alloc: Global,
@@ -194,8 +194,8 @@ pub extern "C" fn bohm_value_at(
     status
 }
 
-/// Hands out a snapshot: the text of the store after the transaction with a timestamp, which
-/// `bohm_open` takes.
+/// Returns a snapshot: the text of the store after the transaction with a timestamp, which
+/// `bohm_open` accepts.
 #[unsafe(no_mangle)]
 pub extern "C" fn bohm_store_at<'a>(
     alloc: Global,
@@ -263,7 +263,7 @@ pub extern "C" fn bohm_digest(
     status
 }
 
-/// Drops the past below a timestamp, where it is above the floor.
+/// Drops the past below a timestamp, if it is above the floor.
 #[unsafe(no_mangle)]
 pub extern "C" fn bohm_trim(alloc: Global, machine: &mut BohmHandle, floor: u32) -> u32
     ensures status { (result ≡ DONE) ⊎ (result ≡ FUTURE) ⊎ (result ≡ MISUSE) }
@@ -317,7 +317,7 @@ pub extern "C" fn bohm_timestamps(
     status
 }
 
-/// Counts what the machine has.
+/// Writes the machine's counts.
 #[unsafe(no_mangle)]
 pub extern "C" fn bohm_counts(
     alloc: Global,
@@ -344,7 +344,7 @@ pub extern "C" fn bohm_counts(
     status
 }
 
-/// Frees what the handle keeps, if it keeps something. Calls of a procedure stay.
+/// Frees what the handle keeps, if anything. Calls of a closed procedure stay in their lists.
 #[unsafe(no_mangle)]
 pub extern "C" fn bohm_close(alloc: Global, handle: &mut BohmHandle)
     ensures { handle.new.value ≡ None }

@@ -1,4 +1,4 @@
-//! What is kept behind a pointer that C has.
+//! What a handle's pointer points to.
 
 ghost use Rattle.std.specs.Prelude.{◌≡◌, Option, None, Some, MatchOption};
 ghost use Rattle.bohm_c.specs.Kept.{kept_code};
@@ -11,8 +11,8 @@ use std::marker::Model;
 use std::mem::replace;
 use std::ptr::null_mut;
 
-/// A machine, a procedure or a list of calls that C has, and gives back with each call; or nothing,
-/// where it is closed. It isn't `Drop`: an open one ends by `take_back` alone.
+/// A machine, a procedure or a list of calls that C holds, and passes with each call; or nothing,
+/// if the handle is closed. It isn't `Drop`: only `take_back` ends an open one.
 #[repr(C)]
 pub struct BohmHandle {
     at: *mut u8,
@@ -30,7 +30,7 @@ impl Model for BohmHandle {
         h.value };
 }
 
-/// The pointer, whose type C doesn't know.
+/// A handle with the box's pointer, whose type C doesn't know.
 fn erased(raw_box: RawBox<Kept, Global>) -> BohmHandle
     ensures { result.value ≡ Some raw_box.value }
 {
@@ -38,7 +38,7 @@ fn erased(raw_box: RawBox<Kept, Global>) -> BohmHandle
     BohmHandle { at: at as *mut u8 }
 }
 
-/// What is behind the pointer, if it isn't null.
+/// The box that the handle points to, if the pointer isn't null.
 fn named(alloc: Global, held: BohmHandle) -> Option<RawBox<Kept, Global>>
     ensures { MatchOption result (held.value ≡ None) (λ l. held.value ≡ Some l.value) }
 {
@@ -67,7 +67,7 @@ pub fn end_closed(held: BohmHandle)
     let BohmHandle { at: _ } = held;
 }
 
-/// Hands it out by a closed handle.
+/// Stores a box in a closed handle, which opens it.
 pub fn put_back(held: &mut BohmHandle, kept: Box<Kept>)
     requires { held.old.value ≡ None }
     ensures { held.new.value ≡ Some kept.value }
@@ -75,7 +75,7 @@ pub fn put_back(held: &mut BohmHandle, kept: Box<Kept>)
     end_closed(replace(held, erased(RawBox::of(kept))));
 }
 
-/// Takes back what it keeps, and leaves the handle closed.
+/// Takes the box out of the handle, and leaves the handle closed.
 pub fn take_back(alloc: Global, held: &mut BohmHandle) -> Option<Box<Kept>>
     ensures value { MatchOption result (held.old.value ≡ None)
         (λ b. held.old.value ≡ Some b.value) }

@@ -1,4 +1,4 @@
-//! Segments whose replies wait until they are asked for, as rows or as text.
+//! Segments whose replies wait until they are fetched, as rows or as text.
 
 ghost use Rattle.std.specs.Prelude.{◌≡◌, ◌≢◌, ◌<◌, ◌⊎◌, [], length};
 ghost use Rattle.std.specs.List.{flat_map};
@@ -20,7 +20,7 @@ use bohm_txn::{Checked, Replies};
 use std::alloc::Global;
 
 impl Session {
-    /// Runs a segment, whose replies wait.
+    /// Runs a segment, and keeps its replies waiting.
     fn hold(&mut self, alloc: Global, segment: &Checked) -> u32
         requires { self.old.waiting ≡ [] }
         ensures status { (result ≡ DONE) ⊎ (result ≡ HAS_STORE) ⊎ (result ≡ TIMESTAMPS)
@@ -49,7 +49,7 @@ impl Session {
         }
     }
 
-    /// Runs the segment of a text, whose replies wait.
+    /// Runs the segment of a text, and keeps its replies waiting.
     pub fn apply_held<'a>(&mut self, alloc: Global, text: &[u8], out: &mut &'a mut [u8]) -> u32
         ensures status { (result ≡ DONE) ⊎ (result ≡ REFUSED) ⊎ (result ≡ NO_MEMORY)
             ⊎ (result ≡ HAS_STORE)
@@ -75,7 +75,7 @@ impl Session {
         }
     }
 
-    /// Runs calls, as the segment of their instances; the replies wait.
+    /// Runs calls, as the segment of their instances, and keeps the replies waiting.
     pub fn run_calls_held(&mut self, alloc: Global, calls: &CallList) -> u32
         ensures status { (result ≡ DONE) ⊎ (result ≡ TIMESTAMPS) ⊎ (result ≡ WAITING)
             ⊎ (result ≡ STOPPED) }
@@ -95,7 +95,7 @@ impl Session {
         }
     }
 
-    /// Hands out the replies that wait as rows, and the values that they show.
+    /// Returns the waiting replies as rows, and the values that they show.
     pub fn rows<'a>(
         &mut self,
         alloc: Global,

@@ -1,4 +1,4 @@
-//! The functions by which C names keys by handles in calls.
+//! The C functions that name keys by handles in calls.
 
 ghost use Rattle.std.specs.Prelude.{◌≡◌, ◌≢◌, ◌<◌, ◌⊎◌, ◌↔◌, length, None, Some};
 ghost use Rattle.bohm_types.specs.Name.{key_of};
@@ -14,7 +14,7 @@ use crate::status::{DONE, MISUSE, NO_KEY, NO_MEMORY, UNFIT};
 use bohm_types::{Key, NoMemory};
 use std::alloc::Global;
 
-/// Makes a handle of a key in a list, where it is one.
+/// Makes a handle of a key in a list; `MISUSE` if it is no list.
 fn key_handle_on(calls: &mut Kept, name: &[u8], handle: &mut u32) -> u32
     ensures status { (result ≡ DONE) ⊎ (result ≡ NO_MEMORY) ⊎ (result ≡ NO_KEY)
         ⊎ (result ≡ MISUSE) }
@@ -43,8 +43,8 @@ fn key_handle_on(calls: &mut Kept, name: &[u8], handle: &mut u32) -> u32
     }
 }
 
-/// Makes a handle of a key in an open list, by which `bohm_push_named` names the key. It is the
-/// number of handles that were made before, and stays when the calls are cleared.
+/// Makes a handle of a key in an open list, by which `bohm_push_named` names the key. Its number is
+/// the count of the handles made before, and it stays valid when the calls are cleared.
 #[unsafe(no_mangle)]
 pub extern "C" fn bohm_key_handle(
     alloc: Global,
@@ -72,7 +72,8 @@ pub extern "C" fn bohm_key_handle(
     status
 }
 
-/// Adds the call of a procedure to a list, where they are these and the handles are the list's.
+/// Adds the call of a procedure to a list; `MISUSE` if either is something else, or a handle isn't
+/// the list's.
 fn push_named_on(calls: &mut Kept, procedure: &Kept, handles: &[u32], values: &[i64]) -> u32
     ensures status { (result ≡ DONE) ⊎ (result ≡ NO_MEMORY) ⊎ (result ≡ UNFIT)
         ⊎ (result ≡ MISUSE) }
@@ -103,7 +104,7 @@ fn push_named_on(calls: &mut Kept, procedure: &Kept, handles: &[u32], values: &[
     }
 }
 
-/// Adds the call of a procedure with these arguments, whose keys are named by handles of the list.
+/// Adds a call of the procedure with these arguments, whose keys are given by handles of the list.
 #[unsafe(no_mangle)]
 pub extern "C" fn bohm_push_named(
     alloc: Global,

@@ -11,13 +11,13 @@ use bohm_types::{Key, NoMemory};
 use std::alloc::Global;
 use std::marker::Model;
 
-/// Keys, each at the number of its handle. One that a machine shares takes four bytes.
+/// Keys, indexed by handle number. A key that a machine shares takes four bytes.
 #[derive(Drop)]
 pub struct KeyNames {
     shared: SharedNames<HashSeed>,
-    /// The other keys.
+    /// The keys that aren't shared.
     own: Vec<KeyHandle>,
-    /// For each handle, the number of a shared key, or behind those the place of another one.
+    /// For each handle, the number of its key: shared keys first, then those in `own`.
     numbers: Vec<u32>,
 }
 
@@ -34,7 +34,7 @@ impl Model for KeyNames {
     ghost invariant = { λ n. AllNamed (n.shared ++ keys_named n.own.items) n.numbers.items };
 }
 
-/// Adds a key behind the shared ones, and returns its number.
+/// Adds a key after the shared ones, and returns its number.
 fn add_own(
     shared: &SharedNames<HashSeed>,
     own: &mut Vec<KeyHandle>,
@@ -52,7 +52,7 @@ fn add_own(
     Ok(number)
 }
 
-/// The number of a key, which is added where it isn't shared.
+/// The number of a key, which is added if it isn't shared.
 fn number_of(
     shared: &SharedNames<HashSeed>,
     own: &mut Vec<KeyHandle>,
@@ -75,7 +75,8 @@ fn number_of(
     Ok(number)
 }
 
-/// Adds the key with a number, and the number that it is likely to have in a list. It is copied once.
+/// Appends the handle of the key with a number, copied once, with the number that it is likely to
+/// have in a list.
 #[inline(always)]
 fn push_key(
     keys: &mut Vec<KeyHandle>,
@@ -106,14 +107,14 @@ impl KeyNames {
         }
     }
 
-    /// How many handles there are.
+    /// The number of handles.
     pub fn len(&self) -> usize
         ensures { result ≡ length self.now }
     {
         self.numbers.len()
     }
 
-    /// Adds a handle of a key, which a list of calls looks up where it isn't shared.
+    /// Adds a handle of a key, which is looked up in a list of calls if it isn't shared.
     pub fn push(&mut self, calls: &mut Calls, key: &Key) -> Result<(), NoMemory>
         ensures calls { calls.new ≡ calls.old }
         ensures ok { OnOk result (self.new ≡ self.old ++ key.now ∷ []) }
@@ -124,7 +125,7 @@ impl KeyNames {
         Ok(())
     }
 
-    /// Adds the key of a handle.
+    /// Appends the key of a handle.
     #[inline(always)]
     fn push_named(&self, keys: &mut Vec<KeyHandle>, handle: u32) -> Result<(), NoMemory>
         requires { handle < length self.now }

@@ -14,8 +14,8 @@ use crate::status::{
 };
 use bohm_text::laws::one_text;
 
-/// The number of each status, which is that of its name in `include/bohm.h`: `tests/embed` holds
-/// the one list against the other.
+/// The number of each status, which is its number in `include/bohm.h`: `tests/embed` compares the
+/// two lists.
 pub fn status_numbers()
     ensures done { DONE ≡ 0 }
     ensures refused { REFUSED ≡ 1 }
@@ -33,9 +33,9 @@ pub fn status_numbers()
     ensures misuse { MISUSE ≡ 13 }
 {}
 
-/// A machine that is opened on a snapshot of another one's top, at that top, holds what that one
-/// holds there: so it goes on as that one does. The names of the snapshot's keys are names, as
-/// those of every `Key` are.
+/// A machine opened at another machine's top, on a snapshot of that top, holds what the other holds
+/// there: so both continue alike. The names of the snapshot's keys are valid names, as those of
+/// every `Key` are.
 pub fn snapshot_goes_on()
     ensures { (m : Timeline) (text : List ℕ) (session : Session)
         → (snapshot : IsSnapshot m (top_of m) text) → IsDocument (snapshot_of snapshot.store)

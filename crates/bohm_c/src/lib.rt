@@ -1,4 +1,4 @@
-//! The executor for C and its callers: `include/bohm.h` declares the exports.
+//! The executor as a C library: `include/bohm.h` declares the exports.
 #![tactic(auto)]
 
 mod answer;

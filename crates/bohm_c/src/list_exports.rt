@@ -1,4 +1,4 @@
-//! The functions by which C opens and clears lists of calls.
+//! The C functions that open and clear lists of calls.
 
 ghost use Rattle.std.specs.Prelude.{◌≡◌, ◌≢◌, ◌<◌, ◌⊎◌, ◌↔◌, IfSome, IfNone, None, Some};
 ghost use Rattle.bohm_c.specs.Handles.{IsCallList, IsMachine, OnCalls};
@@ -25,7 +25,7 @@ fn edition_numbered(number: u32) -> Option<Edition>
     }
 }
 
-/// Opens a closed handle of a list.
+/// Stores a list in a closed handle, which opens it.
 fn keep_list(alloc: Global, calls: &mut BohmHandle, list: CallList) -> u32
     requires { calls.old.value ≡ None }
     ensures status { (result ≡ DONE) ⊎ (result ≡ NO_MEMORY) }
@@ -41,7 +41,7 @@ fn keep_list(alloc: Global, calls: &mut BohmHandle, list: CallList) -> u32
     }
 }
 
-/// Opens a list of no calls, of procedures of edition 1 or 2. Keys are hashed from the seed.
+/// Opens an empty list for calls of procedures of edition 1 or 2. Keys are hashed with the seed.
 #[unsafe(no_mangle)]
 pub extern "C" fn bohm_open_calls(
     alloc: Global,
@@ -66,7 +66,7 @@ pub extern "C" fn bohm_open_calls(
     keep_list(alloc, calls, CallList::new(alloc, draw(seed), edition))
 }
 
-/// Opens a closed handle of a list of no calls that shares the names of a session's machine.
+/// Opens an empty list, in a closed handle, that shares the names of a session's machine.
 fn open_list_of(alloc: Global, session: &Session, calls: &mut BohmHandle, edition: u32) -> u32
     requires { calls.old.value ≡ None }
     ensures status { (result ≡ DONE) ⊎ (result ≡ UNFIT) ⊎ (result ≡ NO_MEMORY) }
@@ -83,8 +83,9 @@ fn open_list_of(alloc: Global, session: &Session, calls: &mut BohmHandle, editio
     }
 }
 
-/// Opens a list of no calls, of procedures of edition 1 or 2, that shares the names of the keys that a
-/// machine's store had when it was opened. The list runs on any machine, also once this one is closed.
+/// Opens an empty list for calls of procedures of edition 1 or 2, which shares the names of the
+/// keys that a machine's store had when it was opened. The list runs on any machine, even after
+/// this one is closed.
 #[unsafe(no_mangle)]
 pub extern "C" fn bohm_open_calls_for(
     alloc: Global,
@@ -116,7 +117,7 @@ pub extern "C" fn bohm_open_calls_for(
     status
 }
 
-/// Lets all calls of an open list go. Its handles of keys stay.
+/// Removes all calls of an open list. Its handles of keys stay valid.
 #[unsafe(no_mangle)]
 pub extern "C" fn bohm_clear_calls(alloc: Global, calls: &mut BohmHandle) -> u32
     ensures status { (result ≡ DONE) ⊎ (result ≡ MISUSE) }

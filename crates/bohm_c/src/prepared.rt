@@ -19,7 +19,7 @@ pub fn prepare(alloc: Global, seed: DrawnSeed, text: &[u8]) -> Result<Procedure,
     Procedure::read(alloc, seed, text)
 }
 
-/// The fault of a log that is told by the same line.
+/// The fault of a log that the same line reports.
 fn told_as(fault: ProcedureFault) -> RunFault
     ensures { result ≡ told_as fault }
 {
@@ -31,7 +31,7 @@ fn told_as(fault: ProcedureFault) -> RunFault
     }
 }
 
-/// Hands out the line of a fault that a procedure's text has.
+/// Returns the line that reports a fault of a procedure's text.
 pub fn refuse_procedure<'a>(
     alloc: Global,
     fault: ProcedureFault,

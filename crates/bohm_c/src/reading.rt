@@ -26,7 +26,7 @@ pub fn read(alloc: Global, seed: DrawnSeed, text: &[u8]) -> Result<Checked, RunF
     Ok(check(doc)?)
 }
 
-/// The text of the document that has this store, whose keys rise, and no transactions.
+/// The text of the document with this store, whose keys ascend, and no transactions.
 pub fn print_snapshot(alloc: Global, store: Vec<(Key, Value)>) -> Result<Vec<u8>, NoMemory>
     requires { store.items ≡ entries (store_of store.items) }
     ensures formed { WellFormed (snapshot_of store.items) }

@@ -1,4 +1,4 @@
-//! The functions by which C has replies as rows.
+//! The C functions that return replies as rows.
 
 ghost use Rattle.std.specs.Prelude.{◌≡◌, ◌≢◌, ◌<◌, ◌⊎◌, ◌↔◌, [], length, Some};
 ghost use Rattle.std.specs.List.{flat_map};
@@ -15,7 +15,7 @@ use crate::rows::BohmReply;
 use crate::status::{DONE, HAS_STORE, MISUSE, NO_MEMORY, REFUSED, STOPPED, TIMESTAMPS, WAITING};
 use std::alloc::Global;
 
-/// Runs a segment, as `bohm_apply` does; its replies wait.
+/// Runs a segment, as `bohm_apply` does, and keeps its replies waiting.
 #[unsafe(no_mangle)]
 pub extern "C" fn bohm_apply_held<'a>(
     alloc: Global,
@@ -54,7 +54,7 @@ pub extern "C" fn bohm_apply_held<'a>(
     status
 }
 
-/// Runs calls on a machine, where they are these; the replies wait.
+/// Runs calls on a machine and keeps the replies waiting; `MISUSE` if either is something else.
 fn hold_on(machine: &mut Kept, alloc: Global, calls: &Kept) -> u32
     ensures status { (result ≡ DONE) ⊎ (result ≡ TIMESTAMPS) ⊎ (result ≡ WAITING)
         ⊎ (result ≡ STOPPED)
@@ -83,7 +83,7 @@ fn hold_on(machine: &mut Kept, alloc: Global, calls: &Kept) -> u32
     session.run_calls_held(alloc, list)
 }
 
-/// Runs calls, as `bohm_run_calls` does; their replies wait.
+/// Runs calls, as `bohm_run_calls` does, and keeps their replies waiting.
 #[unsafe(no_mangle)]
 pub extern "C" fn bohm_run_calls_held(
     alloc: Global,
@@ -125,7 +125,7 @@ pub extern "C" fn bohm_run_calls_held(
     status
 }
 
-/// Hands out the replies that wait as rows, and the values that they show in one array.
+/// Returns the waiting replies as rows, and the values that they show in one array.
 #[unsafe(no_mangle)]
 pub extern "C" fn bohm_rows<'a>(
     alloc: Global,

@@ -9,8 +9,8 @@ use bohm_txn::{Reason, Replies, ReplyView};
 use bohm_types::{NoMemory, Value};
 use std::alloc::Global;
 
-/// How a transaction ended: 0 where it committed, or else why it aborted, and at which statement,
-/// counted from 1. Its shown values are so many of all, from the first on.
+/// How a transaction ended: 0 if it committed, else why it aborted and at which statement, counted
+/// from 1. Its shown values are the `shown` values from index `first` on in the array of all.
 #[repr(C)]
 #[derive(Clone, Copy, Debug)]
 pub struct BohmReply {
@@ -27,7 +27,7 @@ pub struct Rows {
     pub values: Vec<i64>,
 }
 
-/// The number of an abort's reason.
+/// The number of the reason of an abort.
 fn outcome_of(reason: Reason) -> u32
     ensures { result ≡ outcome_of reason }
 {
@@ -78,7 +78,7 @@ fn put_reply(rows: &mut Rows, reply: ReplyView<'_>) -> Result<(), NoMemory>
     Ok(())
 }
 
-/// The rows of replies. Their memory is allocated at once.
+/// The rows of replies. Their memory is reserved up front.
 pub fn rows_of(alloc: Global, replies: &Replies) -> Result<Rows, NoMemory>
     ensures replies { IfOk result (λ r. r.replies.items ≡ rows_from 0 replies.now) }
     ensures values { IfOk result (λ r. r.values.items ≡ flat_map shows_of replies.now) }

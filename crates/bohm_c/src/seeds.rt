@@ -1,4 +1,4 @@
-//! Seeds of key hashes, whose bytes C gives.
+//! Seeds of key hashes, from bytes that C passes.
 
 use bohm_log::DrawnSeed;
 use std::io;
@@ -19,7 +19,7 @@ impl RandomSource for CallersBytes<'_> {
     }
 }
 
-/// The seed of these bytes. Whether they are random is the caller's to see to.
+/// The seed of these bytes. The caller must make sure that they are random.
 pub fn draw(bytes: &[u8; 16]) -> DrawnSeed {
     DrawnSeed::draw(&CallersBytes { bytes })
 }

@@ -1,4 +1,4 @@
-//! The state behind a handle: a machine, and the replies that could not be handed out yet.
+//! The state behind a machine's handle: a machine, and the replies that haven't been returned yet.
 
 ghost use Rattle.std.specs.Prelude.{◌≡◌, ◌≢◌, ◌+◌, ◌<◌, ◌≤◌, ◌^◌, ◌⊎◌, ◌↔◌, ℕ, List, []};
 ghost use Rattle.std.specs.Prelude.{length, true, false, is_ok, None, IfSome, IfOk, IfErr};
@@ -35,11 +35,11 @@ use bohm_types::{Cell, Key, NoMemory};
 use std::alloc::Global;
 use std::mem;
 
-/// A machine, and the replies of its last segment whose text could not be allocated.
+/// A machine, and the waiting replies of its last segment.
 pub struct Session {
     pub machine: Machine,
     pub waiting: Replies,
-    /// The timestamp before the first of them.
+    /// The timestamp before the first waiting reply.
     pub behind: u32,
 }
 
@@ -57,7 +57,7 @@ impl Drop for Session {
 }
 
 /// The least and the greatest timestamp that can be read, how many versions are kept, and how many
-/// replies wait.
+/// replies are waiting.
 #[repr(C)]
 #[derive(Clone, Copy, Debug)]
 pub struct BohmCounts {
@@ -71,7 +71,7 @@ pub struct BohmCounts {
 #[derive(Drop)]
 pub enum OpenFault {
     Text(RunFault),
-    /// It has transactions.
+    /// The text has transactions.
     HasLog,
 }
 
@@ -86,7 +86,7 @@ fn number_in(cell: Cell) -> Option<i64>
     }
 }
 
-/// Hands out the line of a fault that a text has.
+/// Returns the line that reports a fault of a text.
 pub fn refuse<'a>(alloc: Global, fault: RunFault, out: &mut &'a mut [u8]) -> u32
     ensures status { (result ≡ REFUSED) ⊎ (result ≡ NO_MEMORY) }
     ensures some { 0 < result }
@@ -109,7 +109,7 @@ pub fn refuse<'a>(alloc: Global, fault: RunFault, out: &mut &'a mut [u8]) -> u32
     }
 }
 
-/// Hands out the line of a fault that a snapshot's text has. It may have none.
+/// Returns the line that reports a fault of a snapshot's text. `HasLog` has no line.
 pub fn refuse_opening<'a>(alloc: Global, fault: OpenFault, out: &mut &'a mut [u8]) -> u32
     ensures status { (result ≡ REFUSED) ⊎ (result ≡ NO_MEMORY) ⊎ (result ≡ HAS_LOG) }
     ensures some { 0 < result }
@@ -126,7 +126,7 @@ pub fn refuse_opening<'a>(alloc: Global, fault: OpenFault, out: &mut &'a mut [u8
     }
 }
 
-/// The text of the replies of a segment after a timestamp. That of none needs no memory.
+/// The text of the replies of a segment after a timestamp. It allocates nothing for no replies.
 fn text_of(alloc: Global, behind: u32, replies: &Replies) -> Result<Vec<u8>, NoMemory>
     requires { behind + length replies.now < 2 ^ 32 }
     ensures ok { IfOk result (λ t. t.items ≡ print_numbered (behind + 1) replies.now) }
@@ -139,8 +139,8 @@ fn text_of(alloc: Global, behind: u32, replies: &Replies) -> Result<Vec<u8>, NoM
 }
 
 impl Session {
-    /// Hands out the text of the replies of a segment of so many transactions after a timestamp. If
-    /// the allocation failed, the replies wait.
+    /// Returns the text of the replies of a segment of `count` transactions after the timestamp
+    /// `behind`. If allocating the text failed, the replies are kept waiting.
     fn hand_out<'a>(
         &mut self,
         alloc: Global,
@@ -181,7 +181,7 @@ impl Session {
         }
     }
 
-    /// Runs a segment, and hands out the text of its replies.
+    /// Runs a segment, and returns the text of its replies.
     fn run<'a>(&mut self, alloc: Global, segment: &Checked, out: &mut &'a mut [u8]) -> u32
         requires { self.old.waiting ≡ [] }
         ensures status { (result ≡ DONE) ⊎ (result ≡ HAS_STORE) ⊎ (result ≡ TIMESTAMPS)
@@ -256,7 +256,7 @@ impl Session {
         }
     }
 
-    /// Hands out the text of the replies that wait; there may be none.
+    /// Returns the text of the waiting replies; there may be none.
     pub fn replies<'a>(&mut self, alloc: Global, out: &mut &'a mut [u8]) -> u32
         ensures status { (result ≡ DONE) ⊎ (result ≡ NO_MEMORY) }
         ensures machine { self.new.machine ≡ self.old.machine }
@@ -281,7 +281,7 @@ impl Session {
 }
 
 impl Session {
-    /// Counts what the machine has.
+    /// The machine's counts.
     pub fn counts(&self) -> BohmCounts
         ensures { HasCounts self.now result }
     {
@@ -293,7 +293,7 @@ impl Session {
         }
     }
 
-    /// Tells what a key holds after the transaction with a timestamp.
+    /// Writes the cell of a key after the transaction with a timestamp.
     pub fn value_at(&self, key: &Key, ts: u32, present: &mut bool, value: &mut i64) -> u32
         ensures status { (result ≡ DONE) ⊎ (result ≡ TRIMMED) ⊎ (result ≡ FUTURE) }
         ensures done { result ≡ DONE
@@ -317,7 +317,7 @@ impl Session {
         DONE
     }
 
-    /// Hands out the snapshot of a timestamp.
+    /// Returns the snapshot of a timestamp.
     pub fn store_at<'a>(&self, alloc: Global, ts: u32, out: &mut &'a mut [u8]) -> u32
         ensures status { (result ≡ DONE) ⊎ (result ≡ NO_MEMORY) ⊎ (result ≡ TRIMMED)
             ⊎ (result ≡ FUTURE) }
@@ -379,7 +379,7 @@ impl Session {
     }
 }
 
-/// The machine of a snapshot's store, as it stands after the transaction with a timestamp.
+/// A machine on a snapshot's store, as it was after the transaction with a timestamp.
 fn restore(
     alloc: Global,
     seed: DrawnSeed,

@@ -1,9 +1,9 @@
 //! Status codes, as in the header's enum.
 
-/// It did what it is for.
+/// The call succeeded.
 pub const DONE: u32 = 0;
 
-/// The text was refused: the line that says why is handed out.
+/// The text was refused; the line that says why is returned.
 pub const REFUSED: u32 = 1;
 
 /// An allocation failed, and nothing has changed.
@@ -15,7 +15,7 @@ pub const TRIMMED: u32 = 3;
 /// The timestamp is above the top.
 pub const FUTURE: u32 = 4;
 
-/// The segment has a store of its own.
+/// The segment has a store.
 pub const HAS_STORE: u32 = 5;
 
 /// The segment's timestamps would pass 4294967295.
@@ -24,21 +24,21 @@ pub const TIMESTAMPS: u32 = 6;
 /// The snapshot has transactions.
 pub const HAS_LOG: u32 = 7;
 
-/// The bytes are no key's.
+/// The bytes are no valid key.
 pub const NO_KEY: u32 = 8;
 
-/// The replies of an earlier segment wait to be handed out, and nothing has changed.
+/// The replies of an earlier segment are still waiting to be fetched, and nothing has changed.
 pub const WAITING: u32 = 9;
 
-/// The segment ran up to a failed allocation, and the replies up to there are handed out.
+/// The segment ran up to a failed allocation, and the replies up to there are returned.
 pub const STOPPED: u32 = 10;
 
-/// The segment ran, all of it or up to a failed allocation, and its replies wait.
+/// The segment ran, whole or up to a failed allocation, and its replies are kept waiting.
 pub const KEPT: u32 = 11;
 
-/// The edition, the numbers of arguments or the number of calls don't fit, and nothing has changed.
+/// The edition, the argument counts or the number of calls don't fit, and nothing has changed.
 pub const UNFIT: u32 = 12;
 
-/// A handle isn't open or closed as the call wants it, and nothing has changed. C's callers have it
+/// A handle isn't open or closed as the call requires, and nothing has changed. C's callers get it
 /// for a null pointer too.
 pub const MISUSE: u32 = 13;

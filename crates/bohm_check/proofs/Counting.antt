@@ -27,10 +27,6 @@ txn_length t = rw (length-append (map stmt_words t.body) _, length-map stmt_word
 log_length : (d : Document) (log : List Txn) → length (doc_lines (record d { log = log })) ≡ 1 + length d.store + length (flat_map txn_lines log)
 log_length d log = rw (length-append (map store_words d.store) (flat_map txn_lines log), length-map store_words d.store) (omega arith)
 
--- the first transaction stands behind the store
-pub first_opening : (d : Document) → opening_line d 0 ≡ 2 + length d.store
-first_opening d = omega (arith, log_length d [])
-
 next_suc : (d : Document) (i : ℕ) (t : Txn) → slice_get d.log i ≡ Some t → opening_line d (suc i) ≡ opening_line d i + length t.body + 4
 next_suc d i t at =
     let more = flat_more txn_lines d.log i t at in

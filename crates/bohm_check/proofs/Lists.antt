@@ -3,7 +3,7 @@ use Rattle.std.proofs.Common.{◌≡◌, Option, None, ℕ, zero, suc, ◌+◌, 
 use Rattle.std.proofs.Common.{get_or, take, drop, Bool, true, false, Some, Contains, refl, ap, sym, ◌∙◌, arith}
 use Rattle.std.specs.Prelude.{◌&&◌, IsSomeAnd, is_some}
 use Rattle.std.specs.List.{All, list_all, slice_get}
-use Rattle.std.proofs.lemmas.List.{take-append-le, drop_all}
+use Rattle.std.proofs.lemmas.List.{take-append-le}
 use Rattle.bohm_txn.specs.Faulty.{passes_at}
 use Rattle.bohm_txn.proofs.ForCallers.{drop_at}
 
@@ -56,9 +56,6 @@ module _ {X : Type 0} (p : X → Bool) (xs : List X) (i : ℕ) (so_far : list_al
 
   pub one_passes : (x : X) → slice_get xs i ≡ Some x → p x ≡ true → list_all p (drop (i + 1) xs) ≡ list_all p xs
   one_passes x at holds = sym (at_it x at ∙ ap (λ b. b && list_all p (drop (i + 1) xs)) holds) ∙ so_far
-
-  pub all_pass : length xs ≤ i → true ≡ list_all p xs
-  all_pass end = sym (ap (list_all p) (drop_all i xs end)) ∙ so_far
 
 -- ---- options
 

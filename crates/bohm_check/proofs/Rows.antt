@@ -1,8 +1,7 @@
 -- A statement of a transaction by its row.
-use Rattle.std.proofs.Common.{◌≡◌, ℕ, zero, suc, ◌<◌, List, [], ◌∷◌, length, map, take, get_or, Some, refl, ap, sym, ◌∙◌, subst, arith}
+use Rattle.std.proofs.Common.{◌≡◌, ℕ, zero, suc, ◌<◌, List, [], ◌∷◌, length, map, get_or, Some, refl, ap, sym, ◌∙◌, subst, arith}
 use Rattle.std.specs.Prelude.{Option, IsSomeAnd}
 use Rattle.std.specs.List.{slice_get}
-use Rattle.std.proofs.lemmas.List.{take-map}
 use Rattle.bohm_types.specs.declared.edition.Edition.{Edition}
 use Rattle.bohm_types.specs.Stmt.{Stmt}
 use Rattle.bohm_types.specs.Txn.{Txn}
@@ -25,10 +24,6 @@ module _ (t : Txn) (e : Edition) (p : Parts) (same : txn_of e p ≡ t) (rows : L
   -- a statement is that of its row
   pub row_there : (d : StmtRow) → i < length rows → slice_get t.body i ≡ Some (stmt_of p (get_or rows i d))
   row_there d inside = rw body_mapped (mapped (stmt_of p) rows i d inside)
-
-  -- and those before it those of the rows before it
-  pub rows_before : map (stmt_of p) (take i rows) ≡ take i t.body
-  rows_before = sym (take-map (stmt_of p) i rows) ∙ ap (take i) (sym body_mapped)
 
   pub rows_within : i < length t.body → i < length rows
   rows_within inside = subst (λ (n : ℕ). i < n) (ap length body_mapped ∙ mapped_length (stmt_of p) rows) inside

@@ -15,7 +15,7 @@ told_of t s kind line = record { fault = record { txn = t; stmt = s; kind = kind
 abbrev pub told_if : Bool → Told → List Told
 told_if there told = if there then told ∷ [] else []
 
--- the kinds that pass at a place, in their order
+-- the faults of the kinds that pass at a place, in the order of the kinds
 abbrev pub kinds_told : ℕ → ℕ → (CheckKind → Bool) → (CheckKind → ℕ) → List Told
 kinds_told t s passes line =
     told_if (passes Order) (told_of t s Order (line Order))
@@ -24,7 +24,7 @@ kinds_told t s passes line =
     ++ (told_if (passes Local) (told_of t s Local (line Local))
     ++ told_if (passes Limit) (told_of t s Limit (line Limit)))))
 
--- what is told of each element by its index, counted from i
+-- the faults reported of each element by its index, counted from i
 abbrev pub each_from : {A : Type 0} → (ℕ → A → List Told) → ℕ → List A → List Told
 each_from tell i [] = []
 each_from tell i (x ∷ xs) = tell i x ++ each_from tell (i + 1) xs
@@ -44,10 +44,10 @@ log_told d = each_from (λ i. txn_told (i + 1) (opening_line d i))
 abbrev pub doc_told : Document → List Told
 doc_told d = kinds_told 0 0 (whole_faulty d) (whole_line d) ++ log_told d 0 d.log
 
--- these were added behind others, or the first 20 of them all
+-- the first 20 are those of the faults before with these appended
 abbrev pub AreTold : List Told → List Told → List Told → Type 0
 AreTold before more now = take 20 now ≡ take 20 (before ++ more)
 
--- the statement with this index is one of which this holds
+-- there is a statement with this index, and it satisfies this
 abbrev pub stmt_at : Txn → ℕ → (Stmt → Type 0) → Type 0
 stmt_at t i P = IsSomeAnd (slice_get t.body i) P

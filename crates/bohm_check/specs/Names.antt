@@ -1,4 +1,4 @@
--- Sets of names in a tree, and what of a statement keeps to them.
+-- Sets of names in a tree, and the parts of a statement that use only these names.
 use Rattle.std.specs.Prelude.{◌≡◌, ℕ, List, Bool, true}
 use Rattle.std.specs.Fn.{Shared}
 use denote.Ref.{Bor}
@@ -33,6 +33,6 @@ locals_in names (Lit n) = true
 locals_in names (Read k) = true
 locals_in names (Local x) = has names x
 
--- each call of the test f answers p
+-- each call of the test f returns p
 abbrev pub Computes : {F X K : Type 0} → Shared F (Bor X × Unit {0}) K → (X → K) → F → Type 0
 Computes {F} {X} {K} g p f = (x : Bor X) (r : K) → g.post f (x, tt) r → r ≡ p x.now

@@ -6,7 +6,7 @@ use Rattle.bohm_check.specs.declared.shown.Window.{Window}
 abbrev pub printable : ℕ → ℕ
 printable b = if nat_le 32 b && nat_le b 126 then b else 63
 
--- a line after four blanks, and below it so many carets from an offset on
+-- a line after four blanks, and below it this many carets from an offset on
 abbrev pub marked : List ℕ → ℕ → ℕ → List ℕ
 marked line offset carets =
     replicate 4 32 ++ (map printable line ++ 10 ∷ (replicate 4 32 ++ (replicate offset 32 ++ (replicate carets 94 ++ 10 ∷ []))))

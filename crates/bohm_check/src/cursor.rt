@@ -1,4 +1,4 @@
-//! A place in a text that advances line by line.
+//! A cursor that advances through a text line by line.
 
 use crate::lines::{behind_lines, first_line};
 

@@ -1,4 +1,4 @@
-//! All faults of a document, up to 20, in the order of their places.
+//! All faults of a document, up to 20, ordered by their places.
 
 ghost use Rattle.std.specs.Prelude.{◌≡◌, ◌+◌, ◌<◌, ◌≤◌, ◌++◌, ℕ, length, take, All};
 ghost use Rattle.std.specs.Prelude.{Contains, IfOk, OnOk, Some, [], slice_get};
@@ -23,7 +23,7 @@ use bohm_txn::{
 use bohm_types::{Items, Key, MOST_KEYS, MOST_STMTS, MOST_TXNS, NoMemory, Value};
 use std::alloc::Global;
 
-/// A place of a document where faults are, and its line.
+/// A place of a document where faults can be, and its line.
 #[derive(Clone, Copy)]
 struct Spot {
     txn: u32,
@@ -111,7 +111,7 @@ fn tell_stmt(
     tell(told, is_stmt_long(txn, index), spot, CheckKind::Limit)
 }
 
-/// Adds the faults of a transaction's statements until there are enough. `opening` is the line of
+/// Adds the faults of a transaction's body until there are `MOST_TOLD`. `opening` is the line of
 /// its `txn`. The time grows with the number n of declared keys, terms and statements as n log n.
 fn tell_body(
     alloc: Global,
@@ -139,7 +139,8 @@ fn tell_body(
     Ok(())
 }
 
-/// The line of a transaction's first set whose keys don't rise. `opening` is the line of its `txn`.
+/// The line of a transaction's first set whose keys aren't ascending. `opening` is the line of its
+/// `txn`.
 fn unordered_line(txn: &TxnView<'_>, opening: u64) -> Result<u64, NoMemory>
     ensures { IfOk result (λ n. n ≡ unordered_line txn.now opening) }
 {
@@ -190,8 +191,8 @@ fn tell_sets(
     tell(told, is_large(txn), large, CheckKind::Limit)
 }
 
-/// Adds the faults of a transaction, counted from 0, until there are enough. `opening` is the line
-/// of its `txn`.
+/// Adds the faults of a transaction, counted from 0, until there are `MOST_TOLD`. `opening` is the
+/// line of its `txn`.
 fn tell_txn(
     alloc: Global,
     told: &mut Items<Told>,
@@ -229,7 +230,7 @@ fn opening_line(doc: &Doc, index: usize) -> Result<u64, NoMemory>
     Ok(line)
 }
 
-/// Adds the faults of a document's transactions until there are enough.
+/// Adds the faults of a document's transactions until there are `MOST_TOLD`.
 fn tell_log(alloc: Global, told: &mut Items<Told>, doc: &Doc) -> Result<(), NoMemory>
     ensures { OnOk result (AreTold told.old (log_told doc.now 0 doc.now.log) told.new) }
 {
@@ -299,7 +300,7 @@ fn tell_whole(told: &mut Items<Told>, doc: &Doc) -> Result<(), NoMemory>
     tell(told, doc.log().len() > MOST_TXNS, long, CheckKind::Limit)
 }
 
-/// The faults of a document until there are enough.
+/// The faults of a document, until there are `MOST_TOLD`.
 #[tactic(auto, using(crate::proofs::Adding::two_told))]
 fn collected(alloc: Global, doc: &Doc) -> Result<Items<Told>, NoMemory>
     ensures { IfOk result (AreTold [] (doc_told doc.now)) }
@@ -319,8 +320,8 @@ fn first_faults(alloc: Global, doc: &Doc) -> Result<Vec<Told>, NoMemory>
     Ok(told)
 }
 
-/// The first 20 faults of a document in the order of their places, each with its line of the
-/// document's text. Faults of one place are in the order of their kinds.
+/// The first 20 faults of a document, ordered by their places, each with its line in the document's
+/// text. Faults at one place are ordered by kind.
 ///
 /// Its time grows with the number of the document's store entries, keys, terms and statements, and
 /// in a transaction with faults with the number n of these as n log n.

@@ -1,4 +1,4 @@
-//! What may stand on a line, word by word.
+//! The words that a line may have, one by one.
 
 use crate::spelling::{Fit, Spelling, best_fit};
 
@@ -65,7 +65,8 @@ pub enum State {
     LetName,
     LetEquals,
     Need,
-    /// What is after `need has` and `need no`: a key, or what is after a sum's first term.
+    /// After `need has` or `need no`: a key, or, where `has` or `no` is a key, what follows a sum's
+    /// first term.
     Presence,
     DropKey,
     FirstTerm(SumEnd),
@@ -79,7 +80,7 @@ const CMP: Spelling = Spelling::OneOf(&[b"<", b"<=", b"=", b">=", b">"]);
 const SIGN: Spelling = Spelling::OneOf(&[b"+", b"-"]);
 
 impl State {
-    /// The first word of a line.
+    /// The state before the first word of a line.
     pub fn at(place: Place) -> State {
         match place {
             Place::Head => State::Log,
@@ -128,7 +129,7 @@ impl State {
         }
     }
 
-    /// What the word is called.
+    /// The description of the word in messages.
     pub fn called(self) -> &'static str {
         match self {
             State::Log | State::Edition => "`log 1` or `log 2`",
@@ -195,7 +196,7 @@ impl State {
     }
 }
 
-/// What comes after a statement's first word.
+/// The state after a statement's first word.
 fn behind_verb(verb: &[u8]) -> State {
     match verb.first() {
         Some(b's') if verb == b"set".as_slice() => State::SetKey,
@@ -207,7 +208,7 @@ fn behind_verb(verb: &[u8]) -> State {
     }
 }
 
-/// What comes after the word after a term: a sign, `when` or a comparison.
+/// The state after the word that follows a term: a sign, `when` or a comparison.
 fn behind_term(end: SumEnd, word: &[u8]) -> State {
     match word.first() {
         Some(b'+') => State::FurtherTerm { minus: false, end },
@@ -220,7 +221,7 @@ fn behind_term(end: SumEnd, word: &[u8]) -> State {
 /// Where a line stops being valid at its place.
 #[derive(Clone, Copy, Debug, PartialEq, Eq)]
 pub struct Halt {
-    /// How many bytes before it are a prefix of a valid line.
+    /// The number of its bytes that are a prefix of a valid line.
     pub offset: usize,
     /// Which word was expected there.
     pub state: State,

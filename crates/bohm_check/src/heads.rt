@@ -23,7 +23,7 @@ fn put_order(out: &mut Vec<u8>, set: &str, before: Key, key: Key) -> Result<(), 
     put_text(out, " rise\n")
 }
 
-/// The message about the first key of a store that doesn't rise, on this line.
+/// The message about the store's first key out of order, which is on this line.
 pub fn put_store_order(out: &mut Vec<u8>, doc: &Doc, line: u64) -> Result<(), NoMemory> {
     let Some(index) = line.checked_sub(2) else {
         return Ok(());
@@ -36,7 +36,7 @@ pub fn put_store_order(out: &mut Vec<u8>, doc: &Doc, line: u64) -> Result<(), No
     }
 }
 
-/// A limited count: whose it is, and of what.
+/// A limited count: the words of its message, and its limit.
 #[derive(Clone, Copy)]
 struct Count {
     rule: &'static str,
@@ -96,7 +96,7 @@ pub fn put_length(out: &mut Vec<u8>, doc: &Doc) -> Result<(), NoMemory> {
     put_limit(out, TRANSACTIONS, doc.log().len())
 }
 
-/// A set of a transaction: its word, its name in a sentence, and its keys.
+/// A set of a transaction: the word that begins its line, its name in a sentence, and its keys.
 #[derive(Drop)]
 struct Set<'a> {
     word: &'static str,
@@ -104,7 +104,7 @@ struct Set<'a> {
     keys: Keys<'a>,
 }
 
-/// The message about a set whose keys don't rise, and the set in order.
+/// The message about a set whose keys aren't ascending, and the sorted set.
 fn put_set_order(alloc: Global, out: &mut Vec<u8>, set: &Set<'_>) -> Result<(), NoMemory> {
     let keys = keys_of(alloc, &set.keys)?;
     if let Some((before, key)) = first_fall(keys.as_slice()) {
@@ -114,7 +114,7 @@ fn put_set_order(alloc: Global, out: &mut Vec<u8>, set: &Set<'_>) -> Result<(), 
     put_set_help(out, None, set.word, sorted.as_slice())
 }
 
-/// The message about a transaction's first set whose keys don't rise.
+/// The message about a transaction's first set whose keys aren't ascending.
 pub fn put_sets_order(alloc: Global, out: &mut Vec<u8>, txn: &TxnView<'_>) -> Result<(), NoMemory> {
     if !are_rising(&txn.reads()) {
         let set = Set {

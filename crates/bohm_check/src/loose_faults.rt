@@ -1,4 +1,4 @@
-//! Messages about a text that was written at ease, and that no exact text is made of.
+//! Messages about a loosely written text that has no exact text.
 
 use crate::grammar::{Halt, Place, State};
 use crate::lines::line_at;
@@ -9,12 +9,12 @@ use crate::text_faults::{BadLine, put_shown, whole_lines};
 use bohm_types::NoMemory;
 use std::alloc::Global;
 
-/// What a line says: it without a byte order mark before the text, a carriage return at its end, a
-/// comment, and blanks at both ends.
+/// The content of a line: without a byte order mark at the text's start, a carriage return at its
+/// end, a comment, and blanks at both ends.
 #[derive(Clone, Copy)]
 struct Said<'a> {
     bytes: &'a [u8],
-    /// The bytes of the line before it.
+    /// The number of bytes of the line before the content.
     before: usize,
 }
 
@@ -23,7 +23,7 @@ fn is_blank(byte: u8) -> bool {
 }
 
 impl<'a> Said<'a> {
-    /// What a text's line of this number says.
+    /// The content of the line with this number.
     fn on(number: u64, line: &'a [u8]) -> Said<'a> {
         let mark = if number == 1 && line.starts_with(BYTE_ORDER_MARK) {
             BYTE_ORDER_MARK.len()
@@ -44,7 +44,7 @@ impl<'a> Said<'a> {
         }
     }
 
-    /// The offset of the byte that has so many others before it, without blanks, or the end.
+    /// The offset of the nonblank byte that has this many nonblank bytes before it, or the end.
     fn offset_of(self, letters: usize) -> usize {
         let mut left = letters;
         for (offset, byte) in self.bytes.iter().enumerate() {
@@ -69,7 +69,7 @@ impl<'a> Said<'a> {
     }
 }
 
-/// How many bytes before an offset are no spaces.
+/// The number of bytes before an offset that aren't spaces.
 fn letters_before(line: &[u8], offset: usize) -> usize {
     let mut letters: usize = 0;
     for byte in line.get(..offset).unwrap_or(line) {
@@ -80,13 +80,14 @@ fn letters_before(line: &[u8], offset: usize) -> usize {
     letters
 }
 
-/// Whether the word at a halt ends too soon: the byte behind it is the wrong one, be it a blank.
+/// Whether the word at a halt ends too soon: then the byte after the word is the wrong one, even a
+/// blank.
 fn is_cut_short(line: &[u8], halt: Halt) -> bool {
     halt.state != State::LineEnd && line.get(halt.offset) == Some(&b' ')
 }
 
-/// A line that can't stand behind a place, under the kind of line that it comes nearest to: the lines
-/// `reads` and `writes` may be missing.
+/// A line that isn't valid at a place, as the kind of line that it matches best: the lines `reads`
+/// and `writes` may be missing.
 fn nearest(number: u64, place: Place, line: &[u8]) -> BadLine<'_> {
     let others: &[Place] = match place {
         Place::Reads => &[Place::Reads, Place::Writes],
@@ -117,10 +118,10 @@ fn nearest(number: u64, place: Place, line: &[u8]) -> BadLine<'_> {
     best
 }
 
-/// The message about the line of this number of a text that was written at ease: where it stops
-/// being one that may stand there, what was expected, and the line that was meant where that is
-/// plain. `above` and `exact` have the lines of an exact text that the text is read as down to the
-/// line above and down to that one.
+/// The message about a line of a loosely written text, given its number: where the line stops being
+/// valid there, what was expected, and the line that was meant if that is clear. `above` and
+/// `exact` are the lines of an exact text that the text is read as, up to the line above and up to
+/// the line itself.
 pub fn put_loose_fault(
     alloc: Global,
     out: &mut Vec<u8>,
@@ -146,7 +147,7 @@ pub fn put_loose_fault(
     };
     put_shown(out, number, line, said.before.saturating_add(offset))?;
     bad.put_mistake(out, halt, mistake)?;
-    // `==` is read as two signs.
+    // The exact line has `==` as two signs.
     let meant = match mistake {
         Mistake::DoubledEquals => BadLine {
             line: said.bytes,
@@ -157,7 +158,7 @@ pub fn put_loose_fault(
     meant.put_help(alloc, out)
 }
 
-/// The lines of a text, one that no newline ends too.
+/// The number of lines of a text, including a last line without a newline.
 fn lines_of(text: &[u8]) -> u64 {
     let whole = whole_lines(text);
     match text.last() {
@@ -166,8 +167,8 @@ fn lines_of(text: &[u8]) -> u64 {
     }
 }
 
-/// The same of a text that ends too soon, told at the line behind its last one. `exact` has the lines
-/// that it is read as.
+/// The message about a loosely written text that ends too soon, reported at the line after its last
+/// one. `exact` has the exact lines that the text is read as.
 pub fn put_loose_end(
     alloc: Global,
     out: &mut Vec<u8>,
@@ -187,7 +188,7 @@ pub fn put_loose_end(
     end.put(alloc, out)
 }
 
-/// The message about a key that the store of such a text names on two lines.
+/// The message about a key that the store of a loosely written text names on two lines.
 pub fn put_double(out: &mut Vec<u8>, text: &[u8], first: u64, again: u64) -> Result<(), NoMemory> {
     let line = line_at(text, again);
     put_text(out, "line ")?;

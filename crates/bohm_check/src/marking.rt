@@ -12,7 +12,8 @@ pub struct PlacedName {
     pub word: usize,
 }
 
-/// The bytes of a line before a word, counted from 0; all of them if there are fewer words.
+/// The number of bytes of a line before the word at an index, counted from 0; all of them if there
+/// are fewer words.
 pub fn bytes_before(line: &[u8], word: usize) -> usize {
     let mut offset: usize = 0;
     for (place, part) in line.split(|byte| *byte == b' ').enumerate() {

@@ -5,7 +5,7 @@ use crate::mistakes::BYTE_ORDER_MARK;
 use bohm_types::NoMemory;
 use std::alloc::Global;
 
-/// What stands before a comment.
+/// The line up to a comment.
 pub fn uncommented(line: &[u8]) -> &[u8] {
     let end = line
         .iter()
@@ -38,8 +38,8 @@ fn put_word(out: &mut Vec<u8>, word: &[u8]) -> Result<(), NoMemory> {
 }
 
 /// The line that was probably meant at a place: without a byte order mark, a comment and a carriage
-/// return, in lower case, with one space between words and `=` for `==`. `None` if that isn't valid
-/// there either.
+/// return, in lower case, with one space between words and `=` for `==`. `None` if that line isn't
+/// valid there either.
 pub fn mended(alloc: Global, place: Place, line: &[u8]) -> Result<Option<Vec<u8>>, NoMemory> {
     let mut out = Vec::new(alloc);
     for word in uncommented(unmarked(line)).split(|byte| is_blank(*byte)) {

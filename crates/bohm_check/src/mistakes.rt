@@ -1,9 +1,9 @@
-//! Common mistakes that have a message of their own.
+//! Common mistakes that have their own messages.
 
 use crate::grammar::{Halt, Place, State};
 use crate::spelling::{LONGEST_NAME, is_name_byte};
 
-/// A mistake with a message of its own.
+/// A mistake with its own message.
 #[derive(Clone, Copy, Debug, PartialEq, Eq)]
 pub enum Mistake {
     ByteOrderMark,
@@ -22,11 +22,11 @@ pub enum Mistake {
     LargeNumber,
     LongName,
     MissingEnd,
-    /// A byte that no text has.
+    /// A byte that occurs in no log.
     ForeignByte,
-    /// The line ends where more has to come.
+    /// The line ends where more must follow.
     TooShort,
-    /// Another byte, in a word or at its beginning.
+    /// Any other byte, in a word or at its beginning.
     Word,
 }
 
@@ -34,7 +34,7 @@ pub enum Mistake {
 pub const BYTE_ORDER_MARK: &[u8] = b"\xEF\xBB\xBF";
 
 impl Mistake {
-    /// The mistake at which a line stops being valid at a place.
+    /// The mistake at the byte where a line stops being valid at a place.
     pub fn at(place: Place, line: &[u8], halt: Halt) -> Mistake {
         if line.is_empty() {
             return Mistake::EmptyLine;
@@ -93,7 +93,7 @@ impl Mistake {
         )
     }
 
-    /// The message about it.
+    /// The mistake's message.
     pub fn words(self) -> &'static str {
         match self {
             Mistake::ByteOrderMark =>

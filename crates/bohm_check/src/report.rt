@@ -11,7 +11,7 @@ use bohm_txn::{CheckFault, CheckKind};
 use bohm_types::{MOST_TXNS, NoMemory};
 use std::alloc::Global;
 
-/// The line of a fault's place, its transaction and its statement; 0 stands for none.
+/// The line of a fault's place, its transaction and its statement; 0 means none.
 fn put_head(out: &mut Vec<u8>, line: u64, txn: u64, stmt: u32) -> Result<(), NoMemory> {
     put_text(out, "line ")?;
     put_number(out, line)?;

@@ -19,7 +19,7 @@ pub struct Scope {
 }
 
 impl Scope {
-    /// Before the first statement. The time grows with the number n of declared keys as n log n.
+    /// The first statement's scope. The time grows with the number n of declared keys as n log n.
     #[tactic(auto, using(crate::proofs::Named::none_yet))]
     pub fn of(alloc: Global, txn: &TxnView<'_>) -> Result<Scope, NoMemory>
         ensures { IfOk result (IsScopeOf txn.now 0) }

@@ -5,7 +5,7 @@ use bohm_log::Keys;
 use bohm_types::{Key, MOST_KEYS, NoMemory};
 use std::alloc::Global;
 
-/// The first key that isn't above the one before it, with that one first.
+/// The first key that isn't above the key before it, preceded by the key before it.
 pub fn first_fall(keys: &[Key]) -> Option<(Key, Key)> {
     let nexts = keys.get(1..).unwrap_or(&[]);
     for (key, next) in keys.iter().zip(nexts.iter()) {
@@ -37,8 +37,8 @@ pub fn in_order(alloc: Global, mut keys: Vec<Key>) -> Result<Vec<Key>, NoMemory>
     Ok(sorted)
 }
 
-/// The corrected line of a set, to replace the shown line or this one. Nothing if it would have too
-/// many keys.
+/// The corrected line of a set, to replace the shown line or the line with this number. Nothing if
+/// it would have too many keys.
 pub fn put_set_help(
     out: &mut Vec<u8>,
     line: Option<u64>,

@@ -61,7 +61,7 @@ fn put_printable(out: &mut Vec<u8>, bytes: &[u8]) -> Result<(), NoMemory>
 #[derive(Clone, Copy)]
 struct Window<'a> {
     bytes: &'a [u8],
-    /// The bytes before it and after it.
+    /// The numbers of bytes of the line before and after the window.
     before: usize,
     behind: usize,
 }
@@ -104,9 +104,9 @@ pub fn put_quoted(out: &mut Vec<u8>, line: &[u8]) -> Result<(), NoMemory> {
     Ok(())
 }
 
-/// A line after four spaces, and below it this many carets from a column on; no line below if there
-/// are none. Columns count bytes from 1. Of a line of more than 120 bytes, 120 around the column
-/// are shown.
+/// A line after four spaces, and below it this many carets from a column on; no line below if
+/// `carets` is 0. Columns count bytes from 1. Of a line of more than 120 bytes, 120 around the
+/// column are shown.
 pub fn put_line(
     out: &mut Vec<u8>,
     line: &[u8],

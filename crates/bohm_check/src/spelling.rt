@@ -25,7 +25,7 @@ pub enum Spelling {
 /// How much of a word matches.
 #[derive(Clone, Copy, Debug, PartialEq, Eq)]
 pub struct Fit {
-    /// The length of the longest prefix with which a word of the kind begins.
+    /// The length of the word's longest prefix that begins a word of the kind.
     pub good: usize,
     /// Whether it is a word of the kind.
     pub is_whole: bool,
@@ -37,7 +37,7 @@ impl Fit {
         is_whole: false,
     };
 
-    /// The same fit with this many more bytes before it.
+    /// The fit with this many more bytes before it.
     fn behind(self, bytes: usize) -> Fit {
         Fit {
             good: self.good.saturating_add(bytes),

@@ -10,7 +10,7 @@ use bohm_log::{Keys, StmtView, TxnView};
 use bohm_types::{Key, MOST_TERMS, NoMemory};
 use std::alloc::Global;
 
-/// A text, and the lines in it of a transaction and of its statement that a message is about.
+/// A text, with the line of the statement that a message is about, and of its transaction.
 #[derive(Clone, Copy)]
 pub struct Site<'a> {
     pub text: Cursor<'a>,
@@ -29,7 +29,7 @@ impl<'a> Site<'a> {
 #[derive(Drop)]
 struct Declared<'a> {
     keys: Keys<'a>,
-    /// Its line, the word there, and what its keys are.
+    /// The set's line, the word that begins it, and what its keys are.
     line: u64,
     word: &'static str,
     are: &'static str,
@@ -62,7 +62,7 @@ fn put_missing(
     put_set_help(out, Some(set.line), set.word, keys.as_slice())
 }
 
-/// The keys that a statement reads or tests and that aren't among these.
+/// The keys that a statement reads and that aren't among these, and the key that it tests.
 fn unread_names(
     alloc: Global,
     reads: &Keys<'_>,

@@ -1,4 +1,4 @@
-//! A valid log in one line.
+//! A valid log summarized in one line.
 
 ghost use Rattle.std.specs.Prelude.{◌≡◌, length, count_by, IfOk};
 ghost use Rattle.bohm_txn.specs.Sure.{is_sure};
@@ -10,7 +10,7 @@ use bohm_txn::{Checked, sure};
 use bohm_types::{Edition, Key, NoMemory, Value};
 use std::alloc::Global;
 
-/// What a log holds, in numbers.
+/// A log in numbers.
 #[derive(Clone, Copy, Debug, PartialEq, Eq)]
 pub struct Summary {
     pub edition: Edition,
@@ -23,7 +23,7 @@ pub struct Summary {
     pub sure: usize,
 }
 
-/// Marks the numbers of a set.
+/// Sets the marks at these numbers.
 fn mark(marks: &mut [bool], numbers: &[u32]) {
     for number in numbers {
         if let Some(mark) = marks.get_mut(*number as usize) {
@@ -53,7 +53,7 @@ fn declared_keys(alloc: Global, log: &LogPart<'_>) -> Result<Vec<Key>, NoMemory>
     Ok(keys)
 }
 
-/// How many of these entries' keys aren't among those sorted keys.
+/// The number of entries whose key isn't among these sorted keys.
 fn count_others(store: &[(Key, Value)], keys: &[Key]) -> usize {
     let mut others: usize = 0;
     for (key, _) in store {
@@ -64,7 +64,7 @@ fn count_others(store: &[(Key, Value)], keys: &[Key]) -> usize {
     others
 }
 
-/// How many of the transactions are sure.
+/// The number of sure transactions.
 fn count_sure(log: &LogPart<'_>) -> usize
     ensures { result ≡ count_by is_sure log.now }
 {
@@ -87,8 +87,8 @@ fn edition_words(edition: Edition) -> &'static str
 }
 
 impl Summary {
-    /// What a checked log holds. The time grows with the number k of its keys as k log k, and with
-    /// its transactions; the memory with the keys.
+    /// The summary of a checked log. The time grows with the number k of its keys as k log k, and
+    /// with its transactions; the memory with the keys.
     pub fn of(alloc: Global, checked: &Checked) -> Result<Summary, NoMemory>
         ensures edition { IfOk result (λ s. s.edition ≡ checked.now.edition) }
         ensures keys { IfOk result (λ s. s.keys ≡ length checked.now.store) }
@@ -109,7 +109,7 @@ impl Summary {
         })
     }
 
-    /// Its line, with a newline.
+    /// The summary line, with a newline.
     pub fn print(&self, alloc: Global) -> Result<Vec<u8>, NoMemory>
         ensures { IfOk result (λ line. line.items ≡ summary_line self.now) }
     {

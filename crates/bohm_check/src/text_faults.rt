@@ -9,7 +9,7 @@ use bohm_text::TextFault;
 use bohm_types::NoMemory;
 use std::alloc::Global;
 
-/// The first bad line of a text, and which lines may stand there.
+/// The first bad line of a text, and which lines may be there.
 #[derive(Clone, Copy)]
 pub struct BadLine<'a> {
     pub number: u64,
@@ -20,7 +20,7 @@ pub struct BadLine<'a> {
 }
 
 impl<'a> BadLine<'a> {
-    /// The line after the lines that begin some document's text.
+    /// The line after the first `whole` lines, which begin some document's text.
     pub fn behind(text: &'a [u8], whole: u64) -> BadLine<'a> {
         let mut place = Place::Head;
         let mut rest = text;
@@ -37,7 +37,8 @@ impl<'a> BadLine<'a> {
         }
     }
 
-    /// Where it stops being one, and the line after the last one at its begin.
+    /// Where the line stops being valid: at its end if it is valid, and at its beginning if it is
+    /// the empty line after the last one.
     pub fn halt(&self) -> Halt {
         first_halt(self.place, self.line).unwrap_or(Halt {
             offset: self.line.len(),
@@ -45,7 +46,7 @@ impl<'a> BadLine<'a> {
         })
     }
 
-    /// The message about it.
+    /// The message about the line.
     fn put_words(&self, out: &mut Vec<u8>, halt: Halt) -> Result<(), NoMemory> {
         if !self.is_whole && self.line.is_empty() {
             return self.put_end(out);
@@ -59,7 +60,7 @@ impl<'a> BadLine<'a> {
         self.put_mistake(out, halt, Mistake::at(self.place, self.line, halt))
     }
 
-    /// The message about a mistake in it.
+    /// The message about a mistake on the line.
     pub fn put_mistake(
         &self,
         out: &mut Vec<u8>,
@@ -103,7 +104,8 @@ impl<'a> BadLine<'a> {
         )
     }
 
-    /// The line that was meant, if the text can go on with it, and else, if it ends there, end.
+    /// The line that was meant, if the text can continue with it, and `end` if the text ends in a
+    /// transaction's body.
     pub fn put_help(&self, alloc: Global, out: &mut Vec<u8>) -> Result<(), NoMemory> {
         if !self.is_whole && self.line.is_empty() && self.place == Place::Body {
             return put_text(out, "help: end\n");
@@ -119,8 +121,8 @@ impl<'a> BadLine<'a> {
         Ok(())
     }
 
-    /// The line with a caret, what was expected there, and the line that was meant where that is
-    /// plain.
+    /// The line with a caret, what was expected there, and the line that was meant if that is
+    /// clear.
     pub fn put(&self, alloc: Global, out: &mut Vec<u8>) -> Result<(), NoMemory> {
         let halt = self.halt();
         put_shown(out, self.number, self.line, halt.offset)?;
@@ -157,7 +159,7 @@ fn word_round(line: &[u8], offset: usize) -> &[u8] {
     word.get(..end).unwrap_or(word)
 }
 
-/// How many whole lines a text has.
+/// The number of lines of a text that end with a newline.
 pub fn whole_lines(text: &[u8]) -> u64 {
     let mut count: u64 = 0;
     for byte in text {

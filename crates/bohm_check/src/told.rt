@@ -9,6 +9,6 @@ pub const MOST_TOLD: usize = 20;
 #[derive(Clone, Copy, Debug, PartialEq, Eq)]
 pub struct Told {
     pub fault: CheckFault,
-    /// The line of the document's text on which its place stands, counted from 1.
+    /// The line of the fault's place in the document's text, counted from 1.
     pub line: u64,
 }

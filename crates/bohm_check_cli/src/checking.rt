@@ -11,8 +11,8 @@ use std::alloc::Global;
 use std::io::{Read, Write};
 use std::random::RandomSource;
 
-/// Reads a log to the reader's end, and writes only the line that says what it holds. It refuses
-/// what a run refuses, and a failed write, as a run does. Messages for people on why a log is
+/// Reads a log to the reader's end, and writes only its summary line. It refuses what a run
+/// refuses, and reports a failed write, as a run does. Messages for people about why a log is
 /// refused are added to the report, as long as allocations succeed.
 pub fn check_log<T: RandomSource, R: Read, W: Write>(
     rt: &T,
@@ -29,7 +29,7 @@ pub fn check_log<T: RandomSource, R: Read, W: Write>(
         (RefusesLog (R.remaining reader.old) (R.remaining reader.new) (W.contents writer.old)
         (W.contents writer.new)) }
 
-    // Before all faults but a failed write the writer is untouched.
+    // If the fault isn't a failed write, the writer is untouched.
     ensures untouched { IfErr result (λ e. IsBeforeWriting e → writer.new ≡ writer.old) }
 {
     let checked = read_reported(rt, alloc, reader, report)?;

@@ -5,17 +5,17 @@ use bohm_command::Program;
 /// What help says above the options.
 const ABOUT: &str = "\
 Checks whether the text on standard input is a log that bohm runs, and if it
-isn't, shows what to mend. Nothing is run.";
+isn't, shows what to fix. Nothing is run.";
 
-/// What help says below them.
+/// What help says below the options.
 const AFTER_HELP: &str = "\
 A log is summarized in one line: its edition, the keys of its store, its
 transactions, the distinct keys of the store and of all sets, and how many
-transactions are sure, that is, commit over every store.
+transactions are sure, that is, commit on every store.
 
 Otherwise standard error has the line with which bohm refuses the text, and then
 what is wrong. A bad line is shown with a caret below the byte at which it goes
-wrong, and what was expected. Of a log with faults, up to 20 are shown in order:
+wrong, and what was expected. If a log has faults, up to 20 are shown in order:
 
   line 9, transaction 2, statement 1:
       set carol = bob + 5
@@ -23,9 +23,9 @@ wrong, and what was expected. Of a log with faults, up to 20 are shown in order:
   carol is written and isn't declared: line 8 has `writes bob`
   help, line 8: writes bob carol
 
-After 'help: ' is the line to replace the one that is shown, after
-'help, line 8: ' the one to replace line 8. Lines, transactions and statements
-count from 1. docs/log.md describes logs by examples.
+'help: ' is followed by the line to write instead of the one shown,
+'help, line 8: ' by the line to write instead of line 8. Lines, transactions and
+statements count from 1. docs/log.md describes logs by examples.
 
 tidy writes the exact text of a loosely written log: with comments, indents,
 empty lines or its keys in any order.

@@ -1,5 +1,5 @@
-//! The program: a log on standard input; what it holds on standard output, or its faults on
-//! standard error.
+//! The program: a log on standard input; its summary on standard output, or its faults on standard
+//! error.
 #![tactic(auto)]
 
 mod checking;

@@ -1,4 +1,4 @@
--- Numbers that are read as the words give them make the settings that the words give.
+-- Numbers that are read as the arguments give them make the settings that the arguments give.
 use Rattle.std.proofs.Common.{◌≡◌, ◌∙◌, ap, List, Option, Some, None, codes}
 use Rattle.std.specs.Option.{SomeIff}
 use Rattle.clap.specs.Words.{Row, Text}
@@ -27,7 +27,7 @@ settings_read rows given cc exec parts batch keep at result = go result
     go None none = absurd (none in_range)
     go (Some settings) is = ap Some (is.1 ∙ same)
 
--- what clap read is what it reads in the words
-pub same_settings : (rows : List Row) (words : List Text) → rows ≡ rows_in bohm words → given_in rows ≡ settings_in words
+-- what clap read is what it reads in the arguments
+pub same_settings : (rows : List Row) (arguments : List Text) → rows ≡ rows_in bohm arguments → given_in rows ≡ settings_in arguments
 unfolding settings_in
-same_settings rows words same = ap given_in same
+same_settings rows arguments same = ap given_in same

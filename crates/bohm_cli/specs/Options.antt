@@ -1,4 +1,4 @@
--- The program's options, as clap knows them, and the settings that they give.
+-- The program's options, as clap represents them, and the settings that they give.
 use Rattle.std.specs.Prelude.{List, [], ◌∷◌, codes, unwrap_or}
 use Rattle.clap.specs.Simple.{new_shape}
 use Rattle.clap.specs.Words.{App, Row}

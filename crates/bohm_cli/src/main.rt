@@ -1,20 +1,20 @@
 //! The program: a log on standard input, its answer on standard output.
 #![tactic(auto)]
 
+mod arguments;
 mod options;
-mod words;
 
-use bohm_command::{NoAnswer, WordFault, exit_code, tell, without_request, words_given};
+use arguments::read_arguments;
+use bohm_command::{ArgumentFault, NoAnswer, arguments_given, exit_code, tell, without_request};
 use bohm_run::{Settings, run_text};
 use options::NAME;
 use std::io;
 use std::process::ExitCode;
-use words::read_words;
 
 /// The settings that the program was started with.
-fn settings_given(rt: &HostRuntime) -> Result<Settings, WordFault> {
-    let words = words_given(rt, NAME)?;
-    read_words(rt.alloc(), words.as_slice())
+fn settings_given(rt: &HostRuntime) -> Result<Settings, ArgumentFault> {
+    let arguments = arguments_given(rt, NAME)?;
+    read_arguments(rt.alloc(), arguments.as_slice())
 }
 
 fn main(rt: HostRuntime) -> ExitCode {

@@ -20,7 +20,7 @@ never the answer.";
 
 const CC: &str = "\
 Workers that parse the log ahead, window by window, 1 to 16
-[default: 1]. Three pay on logs of 5 MB and more";
+[default: 1]. Three pay off on logs of 5 MB and more";
 
 const EXEC: &str = "\
 Executing workers, 1 to 16 [default: 1]. Several share
@@ -29,7 +29,7 @@ unless --batch is below 4096";
 
 const PARTS: &str = "\
 The library's partitions of the keys, 1 to 64 [default: 1].
-It has no effect here: bohm shares out windows of the log";
+It has no effect here: bohm distributes windows of the log";
 
 const BATCH: &str = "\
 Transactions in a batch, 1 to 4096 [default: 4096]. Small

@@ -1,4 +1,4 @@
--- What a parse that succeeds gives an option is the number that its words have, and lies in the option's range.
+-- What a parse that succeeds gives an option is the number that its arguments have, and lies in the option's range.
 use Rattle.std.proofs.Common.{◌≡◌, ◌∙◌, ◌<◌, ◌^◌, ap, cond, ℕ, Bool, true, false, List, [], ◌∷◌, length, map, filter, Option, Some}
 use Rattle.std.proofs.Common.{None, refl, sym, subst, inl, inr, arith, zero, suc, codes, is_some, true≢false, le-ltb, lt-ltb}
 use Rattle.std.specs.List.{All, list_any, slice_index_or}

@@ -1,4 +1,4 @@
--- Options that take a number, and flags, as clap knows them.
+-- Options that take a number, and flags, as clap represents them.
 use Rattle.std.specs.Prelude.{ℕ, Bool, false, List, Option, Some, pos, option_map, codes}
 use Rattle.std.specs.Option.{option_map_or}
 use Rattle.std.specs.Str.{bytes_eq}
@@ -15,7 +15,7 @@ number_rule name least most = record (new_rule name) {
   value_names = 1;
 }
 
--- the number that the option of this name has among what was matched, if it was
+-- the number of the option of this name in the matched rows, if it is there
 abbrev pub number_in : List Row → Text → Option ℕ
 number_in rows name = option_map (λ text. digits_value 10 (without_leading_plus text)) (one_of name rows)
 
@@ -23,6 +23,6 @@ number_in rows name = option_map (λ text. digits_value 10 (without_leading_plus
 abbrev pub flag_rule : Text → Rule
 flag_rule name = record (new_rule name) { long = Some name; action = Some SetTrue }
 
--- whether it is among what was matched
+-- whether the flag of this name is in the matched rows
 abbrev pub flag_in : List Row → Text → Bool
 flag_in rows name = option_map_or (λ text. bytes_eq text (codes "true")) (one_of name rows) false

@@ -7,25 +7,25 @@ ghost use Rattle.bohm_answer.specs.FaultLine.{AppendsFront};
 ghost use Rattle.bohm_command.specs.Endings.{status_of, text_of, Ends};
 ghost use Rattle.bohm_command.specs.declared.ending.NoAnswer.TheVariants.{Run};
 
-use crate::fault::WordFault;
+use crate::fault::ArgumentFault;
 use bohm_answer::{RunFault, write_all, write_bytes, write_fault};
 use std::io::{self, Write};
 use std::process::ExitCode;
 
-/// The exit status where the run was refused.
+/// The exit status if the run was refused.
 const REFUSED: u8 = 1;
 
-/// The exit status where the arguments were refused.
-const BAD_WORDS: u8 = 2;
+/// The exit status if the arguments were refused.
+const BAD_ARGUMENTS: u8 = 2;
 
 /// Why a program gives no answer.
 #[derive(Debug, Drop)]
 pub enum NoAnswer {
     /// The arguments don't fit the program; the text that says so.
-    BadWords(String),
-    /// The run was refused, or the help that was asked for couldn't be written.
+    BadArguments(String),
+    /// The run was refused, or the requested help couldn't be written.
     Run(RunFault),
-    /// It was refused for a reason that no run has; the line that says so.
+    /// The program refused for a reason that runs don't have; the line that says so.
     Refused(&'static str),
 }
 
@@ -37,17 +37,17 @@ impl From<RunFault> for NoAnswer {
     }
 }
 
-/// Ends a program whose arguments made no request. If help was asked for, it is the output.
-pub fn without_request<O: Write>(out: &mut O, fault: WordFault) -> Result<(), NoAnswer>
+/// Ends a program whose arguments made no request. If help was requested, it is the output.
+pub fn without_request<O: Write>(out: &mut O, fault: ArgumentFault) -> Result<(), NoAnswer>
     ensures { Ends fault (O.contents out.old) (O.contents out.new) result }
 {
     match fault {
-        WordFault::Help(text) => match write_all(out, text.as_bytes()) {
+        ArgumentFault::Help(text) => match write_all(out, text.as_bytes()) {
             Ok(()) => Ok(()),
             Err(fault) => Err(NoAnswer::Run(fault)),
         },
-        WordFault::Bad(text) => Err(NoAnswer::BadWords(text)),
-        WordFault::NoMemory => Err(NoAnswer::Run(RunFault::NoMemory)),
+        ArgumentFault::Bad(text) => Err(NoAnswer::BadArguments(text)),
+        ArgumentFault::NoMemory => Err(NoAnswer::Run(RunFault::NoMemory)),
     }
 }
 
@@ -57,13 +57,13 @@ pub fn exit_code(answered: &Result<(), NoAnswer>) -> ExitCode
 {
     match answered {
         Ok(()) => ExitCode::SUCCESS,
-        Err(NoAnswer::BadWords(_)) => ExitCode::from(BAD_WORDS),
+        Err(NoAnswer::BadArguments(_)) => ExitCode::from(BAD_ARGUMENTS),
         Err(NoAnswer::Run(_) | NoAnswer::Refused(_)) => ExitCode::from(REFUSED),
     }
 }
 
-/// Writes why there is no answer. It allocates nothing. After an error the writer has a prefix of
-/// the text.
+/// Writes why there is no answer. It allocates nothing. After an error, a prefix of the text has
+/// been written.
 pub fn tell<E: Write>(err: &mut E, reason: &NoAnswer) -> io::Result<()>
     ensures ok { OnOk result (Appends (E.contents err.old) (E.contents err.new)
         (text_of reason.now)) }
@@ -71,7 +71,7 @@ pub fn tell<E: Write>(err: &mut E, reason: &NoAnswer) -> io::Result<()>
         (text_of reason.now)) }
 {
     match reason {
-        NoAnswer::BadWords(text) => write_bytes(err, text.as_bytes()),
+        NoAnswer::BadArguments(text) => write_bytes(err, text.as_bytes()),
         NoAnswer::Run(fault) => write_fault(err, fault),
         NoAnswer::Refused(line) => write_bytes(err, line.as_bytes()),
     }

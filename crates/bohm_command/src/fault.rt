@@ -2,7 +2,7 @@
 
 ghost use Rattle.std.specs.Prelude.{◌≡◌};
 ghost use Rattle.bohm_command.specs.Faults.{IsOfKind};
-ghost use Rattle.bohm_command.specs.declared.fault.WordFault.TheVariants.{NoMemory};
+ghost use Rattle.bohm_command.specs.declared.fault.ArgumentFault.TheVariants.{NoMemory};
 ghost use Rattle.clap.specs.Words.{kind_of};
 
 use crate::version::VERSION;
@@ -12,28 +12,28 @@ use std::alloc::{AllocError, AllocFailed, Global};
 
 /// Why arguments make no request.
 #[derive(Debug, Drop)]
-pub enum WordFault {
+pub enum ArgumentFault {
     /// The arguments don't fit the program; clap's text.
     Bad(String),
-    /// Help was asked for, with its text.
+    /// Help was requested; its text.
     Help(String),
     /// An allocation failed.
     NoMemory,
 }
 
-impl From<AllocError> for WordFault {
+impl From<AllocError> for ArgumentFault {
     ghost from_gives = { λ _ e. e ≡ NoMemory };
 
-    fn from(_e: AllocError) -> WordFault {
-        WordFault::NoMemory
+    fn from(_e: AllocError) -> ArgumentFault {
+        ArgumentFault::NoMemory
     }
 }
 
-impl<T: Drop> From<AllocFailed<T>> for WordFault {
+impl<T: Drop> From<AllocFailed<T>> for ArgumentFault {
     ghost from_gives = { λ _ e. e ≡ NoMemory };
 
-    fn from(_e: AllocFailed<T>) -> WordFault {
-        WordFault::NoMemory
+    fn from(_e: AllocFailed<T>) -> ArgumentFault {
+        ArgumentFault::NoMemory
     }
 }
 
@@ -45,19 +45,19 @@ fn text_of(alloc: Global, error: &Error) -> Result<String, AllocError> {
     }
 }
 
-impl WordFault {
+impl ArgumentFault {
     /// clap's error, with its text.
-    pub(crate) fn of(alloc: Global, error: Error) -> WordFault
+    pub(crate) fn of(alloc: Global, error: Error) -> ArgumentFault
         ensures { IsOfKind (kind_of error) result }
     {
         let kind = error.kind();
         let Ok(text) = text_of(alloc, &error) else {
-            return WordFault::NoMemory;
+            return ArgumentFault::NoMemory;
         };
         match kind {
-            ErrorKind::OutOfMemory => WordFault::NoMemory,
-            ErrorKind::DisplayHelp => WordFault::Help(text),
-            _ => WordFault::Bad(text),
+            ErrorKind::OutOfMemory => ArgumentFault::NoMemory,
+            ErrorKind::DisplayHelp => ArgumentFault::Help(text),
+            _ => ArgumentFault::Bad(text),
         }
     }
 }

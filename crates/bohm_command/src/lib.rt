@@ -1,4 +1,4 @@
-//! What the programs share: the arguments that a program is started with, and how it ends.
+//! What the programs share: how they read their arguments, and how they end.
 #![tactic(auto)]
 
 mod ending;
@@ -9,8 +9,8 @@ mod options;
 mod version;
 
 pub use ending::{NoAnswer, exit_code, tell, without_request};
-pub use fault::WordFault;
-pub use line::{command_line, parse_line, words_given};
+pub use fault::ArgumentFault;
+pub use line::{arguments_given, command_line, parse_line};
 pub use no_options::{Program, no_options_given, read_no_options};
 pub use options::{flag, is_given, number};
 pub use version::VERSION;

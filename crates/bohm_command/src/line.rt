@@ -6,33 +6,36 @@ ghost use Rattle.clap.specs.Walk.{texts};
 ghost use Rattle.clap.specs.Words.{app_of, fault_of, found_of, is_simple_and_free, matches_of};
 ghost use Rattle.clap.specs.Words.{rows_of, takes, IsParsedFrom};
 
-use crate::fault::WordFault;
+use crate::fault::ArgumentFault;
 use clap::{ArgMatches, Command};
 use std::alloc::{AllocError, Global};
 use std::env::{self, Env};
 use std::io;
 
-/// The arguments of the program with this name. One that isn't UTF-8 can't be passed to clap here,
-/// and is refused with the text that clap has for it in Rust.
-pub fn words_given<R: Env + AllocGlobal>(rt: &R, name: &str) -> Result<Vec<String>, WordFault> {
+/// The arguments of the program with this name. An argument that isn't UTF-8 can't be passed to
+/// clap here, and is refused with the text that clap has for it in Rust.
+pub fn arguments_given<R: Env + AllocGlobal>(
+    rt: &R,
+    name: &str,
+) -> Result<Vec<String>, ArgumentFault> {
     let mut given = match env::args(rt) {
         Ok(given) => given,
         Err(error) if error.kind() == io::ErrorKind::OutOfMemory => {
-            return Err(WordFault::NoMemory);
+            return Err(ArgumentFault::NoMemory);
         }
         Err(error) if error.kind() == io::ErrorKind::InvalidData => {
-            return Err(WordFault::Bad(not_utf8(rt.alloc(), name)?));
+            return Err(ArgumentFault::Bad(not_utf8(rt.alloc(), name)?));
         }
         Err(error) => {
-            return Err(WordFault::Bad(format!(in rt.alloc(); "error: {error}\n")?));
+            return Err(ArgumentFault::Bad(format!(in rt.alloc(); "error: {error}\n")?));
         }
     };
     let _program = given.next();
-    let mut words = Vec::new(rt.alloc());
-    for word in given {
-        words.push(word)?;
+    let mut arguments = Vec::new(rt.alloc());
+    for argument in given {
+        arguments.push(argument)?;
     }
-    Ok(words)
+    Ok(arguments)
 }
 
 /// The message about an argument that isn't UTF-8.
@@ -52,26 +55,26 @@ For more information, try '--help'.
 pub fn command_line<'a>(
     alloc: Global,
     name: &'a str,
-    words: &'a [String],
+    arguments: &'a [String],
 ) -> Result<Vec<&'a str>, AllocError>
     ensures { IfOk result (λ line. texts line.items
-        ≡ name.entry.now ∷ map string_bytes words.entry.now) }
+        ≡ name.entry.now ∷ map string_bytes arguments.entry.now) }
 {
     let mut line = Vec::new(alloc);
     line.push(name)?;
-    for word in words {
-        line.push(word.as_str())?;
+    for argument in arguments {
+        line.push(argument.as_str())?;
     }
     Ok(line)
 }
 
-/// What the command reads from a line that begins with its name. A line that it doesn't accept is
+/// Parses a line that begins with the command's name. A line that the command doesn't accept is
 /// refused with clap's text.
 pub fn parse_line<'a>(
     alloc: Global,
     command: Command<'a>,
     line: &'a [&'a str],
-) -> Result<ArgMatches<'a>, WordFault>
+) -> Result<ArgMatches<'a>, ArgumentFault>
     requires simple { is_simple_and_free (app_of command) ≡ true }
     ensures parsed { IfOk result (IsParsedFrom command.entry) }
     ensures rows { IfOk result (λ matches. rows_of (found_of matches)
@@ -85,6 +88,6 @@ pub fn parse_line<'a>(
 {
     match command.try_get_matches_from(line) {
         Ok(matches) => Ok(matches),
-        Err(error) => Err(WordFault::of(alloc, error)),
+        Err(error) => Err(ArgumentFault::of(alloc, error)),
     }
 }

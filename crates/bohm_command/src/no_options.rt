@@ -1,12 +1,12 @@
-//! Programs without options of their own.
+//! Programs without their own options.
 
 ghost use Rattle.std.specs.Prelude.{◌≡◌, true, [], map, string_bytes, IfOk, IfErr};
 ghost use Rattle.clap.specs.Words.{app_of, is_simple_and_free, new_app};
 ghost use Rattle.bohm_command.specs.Faults.{IsNoMemory, IsFoundAmong};
 ghost use Rattle.bohm_command.specs.Taken.{AreTaken, faults_in};
 
-use crate::fault::WordFault;
-use crate::line::{command_line, parse_line, words_given};
+use crate::fault::ArgumentFault;
+use crate::line::{arguments_given, command_line, parse_line};
 use clap::Command;
 use std::alloc::Global;
 use std::env::Env;
@@ -15,12 +15,12 @@ use std::env::Env;
 #[derive(Clone, Copy, Debug)]
 pub struct Program<'a> {
     pub name: &'a str,
-    /// What help says above the options, and below them.
+    /// The help texts above and below the options.
     pub about: &'a str,
     pub after_help: &'a str,
 }
 
-/// Its command.
+/// The program's command.
 fn command<'a>(alloc: Global, program: Program<'a>) -> Command<'a>
     ensures { app_of result ≡ new_app program.entry.name.now }
 {
@@ -29,22 +29,22 @@ fn command<'a>(alloc: Global, program: Program<'a>) -> Command<'a>
         .after_help(program.after_help)
 }
 
-/// Accepts no arguments after the program's name. Others, and a request for help, are refused with
-/// clap's text.
+/// Accepts no arguments after the program's name. Arguments, and a request for help, are refused
+/// with clap's text.
 pub fn read_no_options(
     alloc: Global,
     program: Program<'_>,
-    words: &[String],
-) -> Result<(), WordFault>
+    arguments: &[String],
+) -> Result<(), ArgumentFault>
     requires simple { is_simple_and_free (new_app program.name.now) ≡ true }
     ensures faultless { IfOk result (λ _.
-        faults_in (new_app program.entry.name.now) (map string_bytes words.now) ≡ []) }
-    ensures taken { AreTaken (new_app program.entry.name.now) (map string_bytes words.now)
+        faults_in (new_app program.entry.name.now) (map string_bytes arguments.now) ≡ []) }
+    ensures taken { AreTaken (new_app program.entry.name.now) (map string_bytes arguments.now)
         → IfErr result IsNoMemory }
     ensures found { IfErr result (IsFoundAmong
-        (faults_in (new_app program.entry.name.now) (map string_bytes words.now))) }
+        (faults_in (new_app program.entry.name.now) (map string_bytes arguments.now))) }
 {
-    let line = command_line(alloc, program.name, words)?;
+    let line = command_line(alloc, program.name, arguments)?;
     match parse_line(alloc, command(alloc, program), line.as_slice()) {
         Ok(_) => Ok(()),
         Err(fault) => Err(fault),
@@ -52,9 +52,12 @@ pub fn read_no_options(
 }
 
 /// Accepts no arguments on the command line, as `read_no_options` does.
-pub fn no_options_given<R: Env + AllocGlobal>(rt: &R, program: Program<'_>) -> Result<(), WordFault>
+pub fn no_options_given<R: Env + AllocGlobal>(
+    rt: &R,
+    program: Program<'_>,
+) -> Result<(), ArgumentFault>
     requires simple { is_simple_and_free (new_app program.name.now) ≡ true }
 {
-    let words = words_given(rt, program.name)?;
-    read_no_options(rt.alloc(), program, words.as_slice())
+    let arguments = arguments_given(rt, program.name)?;
+    read_no_options(rt.alloc(), program, arguments.as_slice())
 }

@@ -22,7 +22,7 @@ abbrev pub slot_from : Source → ℕ → Option Slot
 slot_from Before j = None
 slot_from (Within u) j = Some (slot_of u j)
 
--- the same for the access at an index
+-- the slot of the version that the access at this index takes, if the batch makes that version
 pub record TakesSlot (accesses : List Access) (j : ℕ) (slot : Option Slot) : Type 0 where
   pub access : Access
   pub at : slice_get accesses j ≡ Some access

@@ -11,7 +11,7 @@ use Rattle.bohm_txn.specs.Stores.{cell_of}
 use Rattle.bohm_board.specs.declared.batch.Batch.{Batch}
 use Rattle.bohm_board.specs.Batches.{txns_of, base_of, position, txn_at}
 
--- what each key holds before the transaction with the timestamp t, and after it
+-- the cell of each key before the transaction with the timestamp t, and after it
 abbrev pub state_before : Batch → ℕ → Look
 state_before b t = state (base_of b) (txns_of b) (position b t)
 

@@ -2,7 +2,7 @@
 use Rattle.std.specs.Prelude.{ℕ, ◌-◌, ◌%◌, ◌==◌, List}
 use Rattle.std.specs.List.{filter, range_with_len}
 
--- of the `len` positions from `first` on those whose distance from the first is `worker` modulo
+-- of the `len` positions from `first` on, those whose distance from the first is `worker` modulo
 -- `workers`
 abbrev pub share : ℕ → ℕ → ℕ → ℕ → List ℕ
 share first len worker workers =

@@ -4,8 +4,6 @@ use Rattle.std.specs.Global.{Global}
 use Rattle.bohm_board.specs.declared.batch.Batch.{Batch}
 use Rattle.bohm_board.specs.declared.board.Board.{Board}
 use Rattle.bohm_board.specs.declared.pass.Pass.{Pass}
-use Rattle.bohm_board.specs.declared.status.Claimed.{Claimed}
-use Rattle.bohm_board.specs.declared.status.Claimed.TheVariants as claimed
 use Rattle.bohm_board.specs.declared.knowledge.View.{View}
 use Rattle.bohm_board.specs.Batches.{IsIn, Wants, txns_of}
 use Rattle.bohm_board.specs.Passes.{IsPassOf, Holds, HoldsNothing, IsDone, Keeps, KnowsWanted, batch_of, view}
@@ -28,7 +26,7 @@ batch_on s = batch_of s.board.now
 abbrev pub seen_by : Stepper → View
 seen_by s = view s.pass.now
 
--- the board and the pass are the same, whatever the pass learned
+-- the board and the pass are unchanged, except for what the pass learned
 pub record IsSame (s z : Stepper) : Type 0 where
   pub board : z.board ≡ s.board
   pub pass : z.pass.ghost_name ≡ s.pass.ghost_name
@@ -43,7 +41,7 @@ pub record IsPassFor (s : Stepper) (t : ℕ) : Type 0 where
   pub own : IsPassOf s.board.now s.pass.now
   pub inside : IsIn (batch_on s) t
 
--- a pass that has claimed the position, knows its wanted slots, and has filled none of its own
+-- a pass that has claimed the position, knows its wanted slots, and has filled none of the position's own slots
 pub record HasClaimed (s : Stepper) (t : ℕ) : Type 0 where
   pub own : IsPassOf s.board.now s.pass.now
   pub inside : IsIn (batch_on s) t
@@ -51,7 +49,7 @@ pub record HasClaimed (s : Stepper) (t : ℕ) : Type 0 where
   pub wanted : KnowsWanted (batch_on s) (seen_by s) t
   pub empty : (seen_by s).filled ≡ []
 
--- a position wants this one, which the pass hasn't seen Done
+-- the position t wants the position u, which the pass hasn't seen Done
 abbrev pub IsMissing : Stepper → ℕ → ℕ → Type 0
 IsMissing s t u = Wants (batch_on s) t u × ¬ IsDone (batch_on s) (seen_by s) u
 
@@ -69,34 +67,28 @@ pub record LooksOnly (v w : View) : Type 0 where
   pub stored : w.stored ≡ v.stored
   pub filled : w.filled ≡ v.filled
 
--- and the pass is still one of the board
+-- slots were looked up, nothing else changed, and the pass still belongs to the board
 pub record Looks (s z : Stepper) : Type 0 where
   pub same : IsSame s z
   pub own : IsPassOf s.board.now z.pass.now
   pub view : LooksOnly (seen_by s) (seen_by z)
 
--- the position was seen Done, and nothing Busy
+-- the position was seen Done, and no position was seen Busy
 pub record SeesDone (b : Batch) (v : View) (t : ℕ) (w : View) : Type 0 where
   pub done : w.done ≡ v.done ++ t ∷ []
   pub busy : w.busy ≡ v.busy
 
--- the position was seen Busy, and nothing Done
+-- the position was seen Busy, and no position was seen Done
 pub record SeesBusy (b : Batch) (v : View) (t : ℕ) (w : View) : Type 0 where
   pub done : w.done ≡ v.done
   pub busy : w.busy ≡ v.busy ++ t ∷ []
 
--- it wants u, which wasn't seen Done
+-- the position wants u, which wasn't seen Done
 pub record SeesNeed (b : Batch) (v : View) (t u : ℕ) (w : View) : Type 0 where
   pub done : w.done ≡ v.done
   pub busy : w.busy ≡ v.busy
   pub wants : Wants b t u
   pub undone : ¬ IsDone b v u
-
--- the result of claiming a position whose wanted slots are known
-abbrev pub Attempted : Batch → View → ℕ → Claimed → View → Type 0
-Attempted b v t claimed.Mine w = SeesDone b v t w
-Attempted b v t claimed.Done w = SeesDone b v t w
-Attempted b v t claimed.Busy w = SeesBusy b v t w
 
 -- the result of a whole step on a position
 abbrev pub TookTurn : Batch → View → ℕ → Step → View → Type 0
@@ -104,7 +96,7 @@ TookTurn b v t Done w = SeesDone b v t w
 TookTurn b v t Busy w = SeesBusy b v t w
 TookTurn b v t (Needs u) w = SeesNeed b v t u w
 
--- what a step on t makes of a free pass
+-- the effect of a step on t on a free pass
 pub record Steps (s : Stepper) (t : ℕ) (step : Step) (z : Stepper) : Type 0 where
   pub same : IsSame s z
   pub free : IsFree s.board.now z.pass.now

@@ -4,8 +4,8 @@ ghost use Rattle.std.specs.Prelude.{◌≡◌};
 
 use std::marker::Model;
 
-/// Pairs of a deferred position and of the position that was busy, by their timestamps, in the
-/// order in which they were deferred. Only `sweep` makes one.
+/// Pairs of a deferred position and the position that was busy, by their timestamps, in the order
+/// in which they were deferred. Only `sweep` constructs one.
 #[derive(Drop)]
 pub struct Aside {
     pairs: Vec<(u32, u32)>,

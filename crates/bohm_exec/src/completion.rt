@@ -1,4 +1,4 @@
-//! Evaluates the positions that no sweep finished.
+//! Evaluating the positions that no sweep finished.
 
 ghost use Rattle.std.specs.Prelude.{◌≡◌, ◌≢◌, ◌<◌, ℕ};
 ghost use Rattle.bohm_board.specs.Batches.{accesses_in, IsIn, position, width_at};
@@ -17,8 +17,8 @@ use bohm_place::DeclaredSet;
 use bohm_txn::Scratch;
 use bohm_types::{Cell, MOST_KEYS};
 
-/// Copies the cells of the accesses of a declared set that take a version of the batch, each to its
-/// key's index.
+/// Copies the cells of those accesses of a declared set that take a version of the batch, each to
+/// its key's index.
 fn take_cells(closed: &Closed, t: u32, set: DeclaredSet, cells: &mut [Cell; MOST_KEYS])
     requires inside { IsIn (batch_of_closed closed.now) t }
     requires before { IsFinishedBefore closed.now t }
@@ -74,8 +74,8 @@ fn evaluate_left(closed: &mut Closed, t: u32, evaluator: &mut Evaluator)
     closed.set_outcome(t, outcome);
 }
 
-/// Evaluates in log order each position without an outcome. It allocates nothing. Each such
-/// position was deferred by a sweep, as one of the `Aside`s shows.
+/// Evaluates, in log order, each position without an outcome. It allocates nothing. Each such
+/// position was deferred by a sweep, so that one of the `Aside`s contains it.
 pub fn complete<'a>(mut closed: Closed<'a>, asides: &[Aside], scratch: &mut Scratch) -> Finished<'a>
     requires aside { (t : ℕ) →
         IsIn (batch_of_closed closed) t → IsUnfinished closed t → IsSetAside asides.now t }

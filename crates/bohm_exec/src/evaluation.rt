@@ -14,8 +14,8 @@ use bohm_place::{DeclaredSet, Source};
 use bohm_txn::{Outcome, Scratch, eval};
 use bohm_types::{Cell, MOST_KEYS};
 
-/// Copies the base's cells of the accesses that take the version before the batch, each to its
-/// key's index.
+/// Copies from the base the cells of the accesses that take the version before the batch, each to
+/// its key's index.
 fn add_base(batch: &Batch, t: u32, set: DeclaredSet, cells: &mut [Cell])
     requires inside { IsIn batch.now t }
     requires paired { length (accesses_in set batch.now t) ≡ length cells.old }
@@ -36,11 +36,11 @@ fn add_base(batch: &Batch, t: u32, set: DeclaredSet, cells: &mut [Cell])
 /// two positions.
 #[derive(Drop)]
 pub(crate) struct Evaluator<'a> {
-    /// The cells of the position's declared reads, in their order. Those after them belong to other
-    /// positions.
+    /// The cells of the position's declared reads, in their order. The cells after them belong to
+    /// other positions.
     pub(crate) reads: [Cell; MOST_KEYS],
-    /// The cells of the position's declared writes before it, in their order. A sure position needs
-    /// none.
+    /// The cells that the keys of the position's declared writes have before it, in their order. A
+    /// sure position needs none.
     pub(crate) earlier: [Cell; MOST_KEYS],
     /// Whether the position is sure.
     pub(crate) sure: bool,
@@ -57,8 +57,8 @@ impl<'a> Evaluator<'a> {
         }
     }
 
-    /// Evaluates the position over its cells. All but those of the base have to be there.
-    /// Afterwards `slot_cell` has the cells of its slots.
+    /// Evaluates the position over its cells. All cells except those of the base must be there
+    /// before the call. After it `slot_cell` returns the cells of the position's slots.
     pub(crate) fn evaluate(&mut self, batch: &Batch, t: u32) -> Outcome
         requires inside { IsIn batch.now t }
         requires ready { IsReady batch.now t self.old }
@@ -74,8 +74,8 @@ impl<'a> Evaluator<'a> {
         eval(&batch.txn(t), reads, earlier, self.scratch)
     }
 
-    /// The cell of a slot of the position that was evaluated last: for a declared write the key's
-    /// cell afterwards, for a `show` its value, or `Absent` on an abort.
+    /// The cell of a slot of the position that was evaluated last: for a declared write, the key's
+    /// cell after the position; for a `show`, its value, or `Absent` on an abort.
     pub(crate) fn slot_cell(&self, index: u32) -> Cell
         ensures { result ≡ slot_cell self.now.scratch.now index }
     {

@@ -1,4 +1,4 @@
-//! Fills a position's slots, and finishes it.
+//! Filling a position's slots, and finishing the position.
 
 ghost use Rattle.std.specs.Prelude.{◌≡◌};
 ghost use Rattle.bohm_board.specs.Batches.{IsRightOutcome};
@@ -11,7 +11,7 @@ use bohm_board::Slot;
 use bohm_txn::Outcome;
 
 impl<G> Sweeper<'_, '_, G> {
-    /// Fills all slots of the position that the pass holds, and gives it its outcome.
+    /// Fills all slots of the position that the pass holds, and stores its outcome.
     pub(crate) fn settle(&mut self, t: u32, outcome: Outcome)
         requires claimed { HasClaimed self.old.stepper t }
         requires outcome { IsRightOutcome (batch_on self.old.stepper) t outcome }

@@ -8,8 +8,8 @@ use bohm_board::{Batch, Closed, Slot};
 use bohm_txn::Outcome;
 use bohm_types::Cell;
 
-/// A batch whose positions have all been evaluated: its results are the serial run's. Only
-/// `complete` makes one.
+/// A batch whose positions have all been evaluated: its results are those of the serial run. Only
+/// `complete` constructs one.
 #[derive(Drop)]
 pub struct Finished<'a> {
     closed: Closed<'a>,
@@ -60,7 +60,7 @@ impl<'a> Finished<'a> {
         }
     }
 
-    /// The outcome of the transaction with a timestamp.
+    /// The outcome of the transaction with the timestamp `t`.
     pub fn outcome(&self, t: u32) -> Outcome
         requires { IsIn (batch_of_finished self.now) t }
         ensures { IsSerialOutcome (batch_of_finished self.now) t result }
@@ -71,8 +71,8 @@ impl<'a> Finished<'a> {
         }
     }
 
-    /// What the key of a declared write of this index, counted from 0, of the transaction with a
-    /// timestamp holds after the transaction.
+    /// The cell, after the transaction with the timestamp `t`, of the key of its declared write at
+    /// `index`, counted from 0.
     pub fn cell(&self, t: u32, index: u32) -> Cell
         requires txn { IsIn (batch_of_finished self.now) t }
         requires index { index < writes_in_txn (batch_of_finished self.now) t }
@@ -81,8 +81,8 @@ impl<'a> Finished<'a> {
         self.slot(Slot { txn: t, index })
     }
 
-    /// The value of the `show` of this index, counted from 0, of the transaction with a timestamp;
-    /// `Absent` if the transaction aborts.
+    /// The value of the `show` at `index`, counted from 0, of the transaction with the timestamp
+    /// `t`; `Absent` if the transaction aborts.
     pub fn show(&self, t: u32, index: u32) -> Cell
         requires txn { IsIn (batch_of_finished self.now) t }
         requires index { index < shows_in_txn (batch_of_finished self.now) t }

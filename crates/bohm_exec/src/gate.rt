@@ -1,6 +1,6 @@
 //! Hooks at fixed points of a run.
 
-/// A point of a run. Batches count from 1.
+/// A point of a run. Batches are counted from 1.
 #[derive(Clone, Copy, Debug, PartialEq, Eq)]
 pub enum Point {
     /// The plan of this batch is made.
@@ -11,7 +11,7 @@ pub enum Point {
     Finished(u32),
 }
 
-/// Called at each point, by the thread that gets there. It returns.
+/// Called at each point, by the thread that reaches it. The call returns.
 pub trait Gate: Sync {
     fn at(&self, point: Point);
 }

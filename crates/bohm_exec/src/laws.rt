@@ -20,7 +20,7 @@ ghost use Rattle.bohm_board.specs.Views.{Holds, HasFilledAll, KnowsWanted};
 ghost use Rattle.bohm_exec.specs.Asides.{IsPickedFrom};
 ghost use Rattle.bohm_exec.specs.Shares.{share};
 
-// ---- of lists of events
+// ---- lists of events
 
 /// Every list of events meets the board law.
 pub fn reached_is_lawful()
@@ -36,16 +36,17 @@ pub fn claimed_and_finished_once()
         IsRun b (empty_state b) es → count_by (is_finish t) es ≤ 1 }
 {}
 
-/// Whatever events follow, presences, outcomes, and the values of slots that are `Present` stay.
+/// Whatever events follow, presences, outcomes, and the values of slots that are `Present` don't
+/// change.
 pub fn filled_and_done_stay()
     ensures { (b : Batch) (s : State) (es : List Event) →
         IsReached b s → IsRun b s es → Stays s (final_state s es) }
 {}
 
-// ---- of inputs
+// ---- inputs
 
-/// The input of a transaction has for each key that it declares the cell that the key's access
-/// takes.
+/// The input of a transaction has, for each key that the transaction declares, the cell that the
+/// key's access takes.
 pub fn input_is_by_access()
     ensures reads { (b : Batch) (s : State) (t j : ℕ) (txn : Txn) (k : List ℕ) (a : Access) →
         txn_at b t ≡ Some txn → slice_get txn.reads j ≡ Some k →
@@ -55,8 +56,8 @@ pub fn input_is_by_access()
         slice_get (writes_at b t) j ≡ Some a → input b s t txn k ≡ cell_at b s k a }
 {}
 
-/// On a state that meets the board law, a position whose wanted slots are filled has over its input
-/// the right outcome and the right cells, and no others.
+/// In a state that meets the board law, a position whose wanted slots are filled has, over its
+/// input, the right outcome and the right cells, and no others.
 pub fn input_gives_what_is_right()
     ensures outcome { (b : Batch) (s : State) (t : ℕ) (o : Outcome) →
         IsLawful b s → IsIn b t → HasWanted b s t →
@@ -72,8 +73,8 @@ pub fn sure_wants_its_reads()
         txn_at b t ≡ Some txn → IsSure txn → wanted_at b t ≡ reads_at b t }
 {}
 
-/// So if a pass knows the wanted slots of the position that it holds, the core allows it to fill
-/// one of its slots with the right cell, and to finish it with the right outcome.
+/// If a pass knows the wanted slots of the position that it holds, the core allows it to fill one
+/// of the position's slots with the right cell, and to finish the position with the right outcome.
 pub fn right_steps_are_the_cores()
     ensures fill { (b : Batch) (s : State) (p : ℕ) (x : Slot) (c : Cell) →
         IsLawful b s → IsSlot b x → Holds b (s.views p) x.txn → ¬ Contains (s.views p).filled x →
@@ -83,7 +84,7 @@ pub fn right_steps_are_the_cores()
         KnowsWanted b (s.views p) t → IsRightOutcome b t o → MayFinish b s p t o }
 {}
 
-// ---- of shares
+// ---- shares
 
 /// Each position of a batch is in the share of the worker whose number is its distance from the
 /// first, modulo the number of workers; and a share has only positions of the batch.

@@ -1,6 +1,6 @@
-//! Evaluation on demand. A pass sweeps a share of a batch's positions, and defers those for which
-//! it finds another one busy; once no thread steps on the board any more, the positions that are
-//! left are evaluated in log order. The design is that of BOHM: Faleiro and Abadi, "Rethinking
+//! Evaluation on demand. A pass sweeps a share of a batch's positions, and defers a position if it
+//! finds another one busy; once no thread steps on the board any more, the remaining positions are
+//! evaluated in log order. The design is that of BOHM: Faleiro and Abadi, "Rethinking
 //! Serializable Multiversion Concurrency Control", VLDB 2015.
 #![tactic(auto)]
 

@@ -1,4 +1,4 @@
-//! Looks up on the board the cells that a position needs.
+//! Looking up, on the board, the cells that a position needs.
 
 ghost use Rattle.std.specs.Prelude.{◌≡◌, IfSome, IsNone};
 ghost use Rattle.bohm_board.specs.Batches.{accesses_in};
@@ -13,8 +13,8 @@ use bohm_place::DeclaredSet;
 use bohm_types::{Cell, MOST_KEYS};
 
 impl Stepper<'_, '_> {
-    /// Copies the cells of the accesses of a declared set that take a version of the batch, each to
-    /// its key's index. Returns the producer of the first version that isn't there yet.
+    /// Copies the cells of those accesses of a declared set that take a version of the batch, each
+    /// to its key's index. Returns the producer of the first version that isn't available yet.
     fn find(&mut self, t: u32, set: DeclaredSet, cells: &mut [Cell; MOST_KEYS]) -> Option<u32>
         requires pass { IsPassFor self.old t }
         requires wanted { WantsAllOf (batch_on self.old) t set }
@@ -43,8 +43,8 @@ impl Stepper<'_, '_> {
 
 impl<G> Sweeper<'_, '_, G> {
     /// Copies the cells of all versions of the batch that a position wants: for its reads and,
-    /// unless it is sure, for its writes. Returns the producer of the first one that isn't there
-    /// yet.
+    /// unless it is sure, for its writes. Returns the producer of the first version that isn't
+    /// available yet.
     pub(crate) fn find_wanted(&mut self, t: u32) -> Option<u32>
         requires pass { IsPassFor self.old.stepper t }
         ensures looks { Looks self.old.stepper self.new.stepper }

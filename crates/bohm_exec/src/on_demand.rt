@@ -1,4 +1,4 @@
-//! Evaluates one position after those that it depends on.
+//! Evaluating one position after the positions that it depends on.
 
 ghost use Rattle.std.specs.Prelude.{◌≡◌, ◌∷◌, [], ◌++◌, MatchOption};
 ghost use Rattle.bohm_board.specs.Batches.{Leads};
@@ -11,7 +11,7 @@ use crate::sweeper::Sweeper;
 
 impl<G: Gate> Sweeper<'_, '_, G> {
     /// Evaluates a position after all positions that it leads to. If another pass holds one of
-    /// these, it stops, and returns that one.
+    /// these, it stops, and returns the held position.
     pub(crate) fn pursue(&mut self, start: u32) -> Option<u32>
         requires start { IsFreeFor self.old.stepper start }
         requires stack { IsEmptyFor (batch_on self.old.stepper) self.old.stack.now }

@@ -1,4 +1,4 @@
-//! Divides a batch's positions among workers.
+//! Dividing a batch's positions among workers.
 
 ghost use Rattle.std.specs.Prelude.{◌≡◌, ◌+◌, ◌-◌, ◌%◌, ◌<◌, ◌≤◌, ◌^◌, ◌==◌, IfOk};
 ghost use Rattle.std.specs.List.{filter, range_with_len};
@@ -6,9 +6,9 @@ ghost use Rattle.std.specs.List.{filter, range_with_len};
 use bohm_types::NoMemory;
 use std::alloc::Global;
 
-/// The positions, in ascending order, that one of the workers sweeps of a batch with this first
-/// position and length: those whose distance from the first is `worker` modulo `workers`. The time
-/// grows with the length.
+/// The positions, in ascending order, that one of the workers sweeps in a batch with this first
+/// position and this length: those whose distance from the first position is `worker` modulo
+/// `workers`. The time grows with the length.
 pub fn share_of(
     alloc: Global,
     first: u32,

@@ -19,7 +19,7 @@ pub(crate) enum Step {
 }
 
 impl<G: Gate> Sweeper<'_, '_, G> {
-    /// Claims a position and evaluates it, if the versions that it wants are there.
+    /// Claims a position and evaluates it, if the versions that it wants are available.
     fn attempt(&mut self, t: u32) -> Step
         requires { IsFreeFor self.old.stepper t }
         ensures step_on { Steps self.old.stepper t result self.new.stepper }
@@ -41,7 +41,7 @@ impl<G: Gate> Sweeper<'_, '_, G> {
         }
     }
 
-    /// A step on a position. One that is Done or Busy stays as it is.
+    /// A step on a position. A position that is Done or Busy is left unchanged.
     pub(crate) fn step_on(&mut self, t: u32) -> Step
         requires { IsFreeFor self.old.stepper t }
         ensures step_on { Steps self.old.stepper t result self.new.stepper }

@@ -11,7 +11,7 @@ use bohm_txn::Scratch;
 #[derive(Drop)]
 pub(crate) struct Sweeper<'a, 'b, G> {
     pub(crate) stepper: Stepper<'a, 'b>,
-    /// Has capacity for as many positions as the batch has, and is empty between two calls of `pursue`.
+    /// Has capacity for all positions of the batch, and is empty between two calls of `pursue`.
     pub(crate) stack: &'a mut Vec<u32>,
     pub(crate) gate: &'a G,
     pub(crate) evaluator: Evaluator<'a>,

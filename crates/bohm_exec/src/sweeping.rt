@@ -15,9 +15,9 @@ use bohm_txn::Scratch;
 use bohm_types::NoMemory;
 use std::alloc::Global;
 
-/// Evaluates the positions of the share, in its order, each after all that it leads to. If another
-/// pass holds one of these, the position is deferred. An error comes before the first step: the
-/// work stack has room for the batch, and the answer for the share.
+/// Evaluates the positions of the share, in its order, each after all positions that it leads to.
+/// If another pass holds one of these, the position is deferred. An error can occur only before the
+/// first step: the work stack has room for the batch, and the result for the share.
 pub fn sweep<G: Gate>(
     alloc: Global,
     board: &Board,
@@ -46,7 +46,7 @@ pub fn sweep<G: Gate>(
             };
         }
     }
-    // Taking the sweeper apart ends its borrow of the pass.
+    // Destructuring the sweeper ends its borrow of the pass.
     let Sweeper {
         stepper,
         stack: _,

@@ -8,7 +8,7 @@ ghost use Rattle.bohm_types.specs.Limits.{most_keys};
 use bohm_board::{Batch, Slot};
 use bohm_place::{DeclaredSet, Source};
 
-/// How many keys a declared set of a position has.
+/// The number of keys in a declared set of a position.
 pub(crate) fn count(batch: &Batch, t: u32, set: DeclaredSet) -> usize
     requires { IsIn batch.now t }
     ensures all { result ≡ length (accesses_in set batch.now t) }
@@ -17,7 +17,7 @@ pub(crate) fn count(batch: &Batch, t: u32, set: DeclaredSet) -> usize
     set.keys(&batch.txn(t)).len()
 }
 
-/// The slot of the version that an access takes, if that version is one of the batch.
+/// The slot of the version that an access takes, if the batch produces that version.
 pub(crate) fn slot_at(batch: &Batch, t: u32, set: DeclaredSet, index: u32) -> Option<Slot>
     requires inside { IsIn batch.now t }
     requires index { index < length (accesses_in set batch.now t) }

@@ -256,11 +256,6 @@ module _ (weights : List ℕ) (n : ℕ) (paired : length weights ≡ n) (arrows 
             from_one_more p a has at (omega (arith, rule, same)) low later
       ]
 
-  pub chain_from : (p : ℕ) → p < n → IsGreatest (weight_of weights) (λ c. IsChain n arrows c × BeginsAt p c) (from p)
-  chain_from p low =
-      let f = from_above (suc n) p (omega arith) low in
-      record { chain = p ∷ f.rest; is = (f.chain, refl); measures = sum_by-cons own p f.rest ∙ f.weighs; none_above = none_from p }
-
   -- ---- chains by an arrow
 
   pub none_by : (p q : ℕ) (chain : List ℕ) → IsChain n arrows chain × LeadsOn p q chain → weight_of weights chain ≤ to p + from q

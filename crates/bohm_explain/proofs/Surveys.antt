@@ -1,5 +1,5 @@
 -- What is found out of a log, one batch more, and what is made of it.
-use Rattle.std.proofs.Common.{◌≡◌, ◌∙◌, ℕ, ◌+◌, ◌*◌, ◌≤◌, Bool, true, false, ◌||◌, List, [], ◌∷◌, ◌++◌, take, refl, ap, subst, arith, add-one}
+use Rattle.std.proofs.Common.{◌≡◌, ◌∙◌, ℕ, ◌+◌, ◌*◌, Bool, true, false, ◌||◌, List, [], ◌∷◌, ◌++◌, take, refl, ap, subst, add-one}
 use Rattle.std.specs.List.{AllByRecursion, IsDistinct}
 use Rattle.std.specs.Str.{bytes_eq}
 use Rattle.std.specs.Cmp.Lexicographic.{nat_list_eq_equiv}
@@ -8,11 +8,11 @@ use Rattle.bohm_types.specs.Keys.{is_among}
 use Rattle.bohm_place.specs.Shares.{AreDistinct}
 use Rattle.bohm_explain.specs.declared.figures.Figures.{Figures}
 use Rattle.bohm_explain.specs.declared.gathering.Gathering.{Gathering}
-use Rattle.bohm_explain.specs.Figures.{batch_at, batch_count, figures_below, figures_of}
+use Rattle.bohm_explain.specs.Figures.{batch_at, figures_below, figures_of}
 use Rattle.bohm_explain.specs.Heats.{Chained}
-use Rattle.bohm_explain.specs.Printed.{chained, chained_below, chained_in}
+use Rattle.bohm_explain.specs.Printed.{chained, chained_below}
 use Rattle.bohm_explain.specs.Tallies.{IsGathered}
-use Rattle.bohm_explain.proofs.Cutting.{joined, whole}
+use Rattle.bohm_explain.proofs.Cutting.{joined}
 
 module _ (size : ℕ) (log : List Txn) (i : ℕ) (txns : List Txn) (is : txns ≡ batch_at size log i) where
   pub figures_more : (old new : List Figures) (f : Figures) → old ≡ figures_below size log i → f ≡ figures_of txns → new ≡ old ++ f ∷ []
@@ -29,15 +29,6 @@ module _ (size : ℕ) (log : List Txn) (i : ℕ) (txns : List Txn) (is : txns �
       subst (λ (b : List Txn). IsGathered (take (i * size) log ++ b) (chained_below size log i ++ chained b ∷ []) new) is noted in
       subst (λ (l : List Txn). IsGathered l (chained_below size log (i + 1)) new) (joined size log i)
       (subst (λ (cs : List Chained). IsGathered (take (i * size) log ++ batch_at size log i) cs new) step cut)
-
--- after the last batch
-pub all_keys : (size : ℕ) (log : List Txn) (i : ℕ) (keys : Gathering) → 1 ≤ size → i ≡ batch_count size log
-    → IsGathered (take (i * size) log) (chained_below size log i) keys → IsGathered log (chained_in size log) keys
-all_keys size log i keys size_ok last gathered =
-    let all : take (batch_count size log * size) log ≡ log = whole size log (batch_count size log) size_ok (omega arith) in
-    let done : IsGathered (take (batch_count size log * size) log) (chained_in size log) keys =
-    subst (λ (n : ℕ). IsGathered (take (n * size) log) (chained_below size log n) keys) last gathered in
-    subst (λ (l : List Txn). IsGathered l (chained_in size log) keys) all done
 
 -- ---- keys that stand in a list once
 

@@ -52,12 +52,6 @@ module _ (weights : List ℕ) (arrows : List Arrow) where
   IsPassed i first = (k : ℕ) (d : Arrow) → i ≤ k → k < length arrows → (slice_index_or arrows k d).to ≡ first
       → to (slice_index_or arrows k d).from + own first ≢ to first
 
-  pub walk_begins : (end : ℕ) → end < n → Walked end end (end ∷ [])
-  walk_begins end low = record { rest = []; shape = refl; chain = low; ends = refl; weighs = omega arith }
-
-  pub none_passed : (first : ℕ) → IsPassed (length arrows) first
-  none_passed first k d le low = absurd (omega (arith, le, low))
-
   module _ (all : AreChainable weights arrows) (end first : ℕ) (items : List ℕ) (i : ℕ) (a : Arrow)
       (there : i < length arrows) (at : a ≡ slice_index_or arrows i a) where
     leads : IsWantedBy arrows a.from a.to

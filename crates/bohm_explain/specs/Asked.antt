@@ -1,4 +1,4 @@
--- What is asked of an explanation, the ranges and the defaults.
+-- A request for an explanation, with its ranges and defaults.
 use Rattle.std.specs.Prelude.{ℕ, ◌≤◌, false, Option, None, IfSome}
 use Rattle.bohm_explain.specs.declared.layout.Layout.{Layout}
 use Rattle.bohm_types.specs.Limits.{largest_batch, most_txns}
@@ -12,7 +12,7 @@ pub record Asked : Type 0 where
 abbrev pub IsBetween : ℕ → ℕ → ℕ → Type 0
 IsBetween least most n = (least ≤ n) × (n ≤ most)
 
--- each number lies in its range
+-- each number is in its range
 pub record AreInRange (asked : Asked) : Type 0 where
   pub batch : IsBetween 1 largest_batch asked.batch
   pub top : asked.top ≤ 1000

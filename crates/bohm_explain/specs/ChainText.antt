@@ -4,11 +4,11 @@ use Rattle.std.specs.Prelude.{ℕ, ◌-◌, ◌==◌, nat_le, List, [], ◌∷�
 abbrev pub spaced : ℕ → List ℕ
 spaced n = 32 ∷ decimal n
 
--- how many are not listed
+-- how many aren't listed
 abbrev pub more_text : ℕ → List ℕ
 more_text n = if n == 0 then [] else (codes " and " ++ decimal n ++ codes " more")
 
--- the first hundred transactions, below an empty line; nothing where nobody waits
+-- the first hundred transactions, below an empty line; nothing if none waits
 abbrev pub chain_text : List ℕ → List ℕ
 chain_text places =
     if nat_le (length places) 1 then []

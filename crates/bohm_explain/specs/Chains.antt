@@ -8,7 +8,7 @@ use Rattle.bohm_explain.specs.Wanted.{arrows}
 abbrev pub IsWantedBy : List Arrow → ℕ → ℕ → Type 0
 IsWantedBy arrows p q = (a : Arrow) × Contains arrows a × (a.from ≡ p) × (a.to ≡ q)
 
--- p and then these, among so many positions
+-- p followed by these is a chain, among n positions
 abbrev pub IsChainFrom : ℕ → List Arrow → ℕ → List ℕ → Type 0
 IsChainFrom n arrows p [] = p < n
 IsChainFrom n arrows p (q ∷ rest) = (p < n) × IsWantedBy arrows p q × IsChainFrom n arrows q rest
@@ -17,7 +17,7 @@ abbrev pub IsChain : ℕ → List Arrow → List ℕ → Type 0
 IsChain n arrows [] = ⊥
 IsChain n arrows (p ∷ rest) = IsChainFrom n arrows p rest
 
--- of a batch's transactions
+-- a chain of a batch's transactions
 abbrev pub IsChainOf : List Txn → List ℕ → Type 0
 IsChainOf txns chain = IsChain (length txns) (arrows txns) chain
 
@@ -33,7 +33,7 @@ abbrev pub EndsAt : ℕ → List ℕ → Type 0
 EndsAt p [] = ⊥
 EndsAt p (q ∷ rest) = last_of q rest ≡ p
 
--- q stands behind p in the chain
+-- q follows p in the chain
 pub record LeadsOn (p q : ℕ) (chain : List ℕ) : Type 0 where
   pub before : List ℕ
   pub after : List ℕ
@@ -41,18 +41,18 @@ pub record LeadsOn (p q : ℕ) (chain : List ℕ) : Type 0 where
   pub to : EndsAt p before
   pub from : BeginsAt q after
 
--- what its positions weigh together
+-- the total weight of its positions
 abbrev pub weight_of : List ℕ → List ℕ → ℕ
 weight_of weights chain = sum_by (slice_index weights) chain
 
--- there is a chain of a batch's transactions with this one in it, and it has so many
+-- there is a chain of a batch's transactions with this one in it, and of this length
 pub record IsOn (txns : List Txn) (p length_of_it : ℕ) : Type 0 where
   pub chain : List ℕ
   pub is : IsChainOf txns chain
   pub has : Contains chain p
   pub long : length chain ≡ length_of_it
 
--- one of these chains measures so much, and none measures more
+-- one of these chains has this measure, and none has a greater one
 pub record IsGreatest (measure : List ℕ → ℕ) (Is : List ℕ → Type 0) (n : ℕ) : Type 0 where
   pub chain : List ℕ
   pub is : Is chain

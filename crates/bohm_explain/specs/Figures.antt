@@ -9,7 +9,7 @@ use Rattle.bohm_explain.specs.Heaviest.{heaviest_to}
 use Rattle.bohm_explain.specs.Wanted.{arrows}
 use Rattle.bohm_explain.specs.Weighing.{weights, declared_by}
 
--- each transaction alike
+-- each transaction weighs 1
 abbrev pub alike : List Txn → List ℕ
 alike txns = replicate (length txns) 1
 
@@ -36,7 +36,7 @@ batch_at size log i = take size (drop (i * size) log)
 abbrev pub batch_count : ℕ → List Txn → ℕ
 batch_count size log = (length log + (size - 1)) / size
 
--- of the first n batches
+-- the figures of the first n batches
 abbrev pub figures_below : ℕ → List Txn → ℕ → List Figures
 figures_below size log zero = []
 figures_below size log (suc n) = figures_below size log n ++ figures_of (batch_at size log n) ∷ []

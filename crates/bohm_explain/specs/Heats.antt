@@ -1,4 +1,4 @@
--- What a log does with its keys: who declares them, and how long the chains are that they make.
+-- How a log uses its keys: which transactions declare them, and how long the chains are that they make.
 use Rattle.std.specs.Prelude.{◌≡◌, ℕ, List, map, filter, count_by, Bool, ◌||◌, All}
 use Rattle.std.specs.List.{list_any}
 use Rattle.std.specs.Str.{bytes_eq}
@@ -24,11 +24,11 @@ readers_of k log = count_by (λ t. is_among t.reads k) log
 abbrev pub Chained : Type 0
 Chained = List (Arrow × ℕ)
 
--- the longest chain through an arrow for the key, and 0 where there is none
+-- the longest chain through an arrow for the key, or 0 if there is none
 abbrev pub chain_in : List ℕ → Chained → ℕ
 chain_in k arrows = greatest (map (λ a. a.1) (filter (λ a. bytes_eq a.0.key k) arrows))
 
--- the same in any of these batches
+-- the longest such chain in any of these batches
 abbrev pub chain_of : List ℕ → List Chained → ℕ
 chain_of k batches = greatest (map (chain_in k) batches)
 
@@ -38,7 +38,7 @@ heat_of log batches k = record { key = k; writers = writers_of k log; readers = 
 abbrev pub keys_of : List Heat → List (List ℕ)
 keys_of heats = map (λ h. h.key) heats
 
--- each key that a transaction of the log declares is listed once, with its heat, and no other
+-- exactly the keys that a transaction of the log declares are listed, each once, with its heat
 pub record AreHeatsOf (log : List Txn) (batches : List Chained) (heats : List Heat) : Type 0 where
   pub distinct : AreDistinct (keys_of heats)
   pub listed : (k : List ℕ) → is_among (keys_of heats) k ≡ list_any (declares k) log

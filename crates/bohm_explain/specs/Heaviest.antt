@@ -1,19 +1,19 @@
--- Chains of wanted versions, and the greatest weight that one has. Each position of a chain but its first wants the version of the one before.
+-- Chains of wanted versions, and the greatest weight of one. Each position of a chain but the first wants the version of the one before.
 use Rattle.std.specs.Prelude.{ℕ, zero, suc, ◌+◌, ◌-◌, ◌<◌, ◌≤◌, ◌==◌, List, [], ◌∷◌, ◌++◌, All, Bool, length, map, filter, zip, slice_index}
 use Rattle.bohm_place.specs.Chains.{greatest}
 use Rattle.bohm_explain.specs.declared.arrow.Arrow.{Arrow}
 use Rattle.bohm_types.specs.Limits.{largest_batch}
 
--- both ends are among so many positions
+-- both ends are among the first n positions
 abbrev pub IsInside : ℕ → Arrow → Type 0
 IsInside n a = (a.from < n) × (a.to < n)
 
--- each arrow leads upwards, to n or above, and none to a position below that of an arrow before it
+-- each arrow leads upwards, to n or above, and none leads to a position below that of an earlier arrow
 abbrev pub AreRising : ℕ → List Arrow → Type 0
 AreRising n [] = Unit {0}
 AreRising n (a ∷ rest) = (n ≤ a.to) × (a.from < a.to) × AreRising a.to rest
 
--- arrows between positions that weigh so much, so few and so light that each chain's weight fits in a number
+-- arrows between positions with these weights, so few and so light that each chain's weight fits in a number
 pub record AreChainable (weights : List ℕ) (arrows : List Arrow) : Type 0 where
   pub inside : All (IsInside (length weights)) arrows
   pub rising : AreRising 0 arrows
@@ -31,7 +31,7 @@ greatest_wanting number arrows p = greatest (map (λ a. number a.to) (filter (λ
 
 -- ---- the heaviest chain that ends at each position
 
--- of each position below a count: its weight, and the greatest of the chains to what it wants
+-- for each position below a count: its weight, plus the greatest weight of a chain to a position whose version it wants
 abbrev pub ending_below : List ℕ → List Arrow → ℕ → List ℕ
 ending_below weights arrows zero = []
 ending_below weights arrows (suc p) =
@@ -43,7 +43,7 @@ heaviest_to weights arrows = ending_below weights arrows (length weights)
 
 -- ---- the heaviest chain that begins at each position
 
--- of each position from p on, with these weights: its weight, and the greatest of the chains from what wants it
+-- for each position from p on, with these weights: its weight, plus the greatest weight of a chain from a position that wants its version
 abbrev pub beginning_from : ℕ → List ℕ → List Arrow → List ℕ
 beginning_from p [] arrows = []
 beginning_from p (weight ∷ weights) arrows =
@@ -59,6 +59,6 @@ heaviest_from weights arrows = beginning_from 0 weights arrows
 abbrev pub through : List ℕ → List ℕ → List Arrow → List ℕ
 through to from arrows = map (λ a. slice_index to a.from + slice_index from a.to) arrows
 
--- whether each position is on a chain of so many transactions: the chain to it and the one from it both count it
+-- whether each position is on a chain of `depth` transactions: the chain to it and the chain from it both count it
 abbrev pub on_longest : List ℕ → List ℕ → ℕ → List Bool
 on_longest to from depth = map (λ p. (p.0 + p.1) == (depth + 1)) (zip to from)

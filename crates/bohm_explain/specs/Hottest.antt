@@ -3,7 +3,7 @@ use Rattle.std.specs.Prelude.{ℕ, ◌-◌, List, [], ◌∷◌, ◌++◌, lengt
 use Rattle.bohm_explain.specs.declared.heat.Heat.{Heat}
 use Rattle.bohm_explain.specs.Table.{cell}
 
--- a text at the left end of a column
+-- a text left-aligned in a column
 abbrev pub left_cell : ℕ → List ℕ → List ℕ
 left_cell width text = text ++ replicate (width - length text) 32
 
@@ -16,11 +16,11 @@ heat_line h =
     left_cell 32 h.key ++ cell 9 (decimal h.writers) ++ cell 10 (decimal h.readers) ++ cell 9 (decimal h.chain)
     ++ 10 ∷ []
 
--- an empty line, the head and a line for each; nothing where there is none
+-- an empty line, the head and a line for each heat; nothing if there are none
 abbrev pub heat_lines : List Heat → List ℕ
 heat_lines [] = []
 heat_lines (h ∷ hs) = 10 ∷ (hottest_head ++ flat_map heat_line (h ∷ hs))
 
--- of the first so many
+-- the lines of the first `top` heats
 abbrev pub hottest_text : ℕ → List Heat → List ℕ
 hottest_text top ranked = heat_lines (take top ranked)

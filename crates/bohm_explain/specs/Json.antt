@@ -1,4 +1,4 @@
--- Figures in JSON. A key needs no escapes: it has lower-case letters, digits and underscores alone.
+-- Figures in JSON. A key needs no escapes: it has only lower-case letters, digits and underscores.
 use Rattle.std.specs.Prelude.{ℕ, zero, suc, ◌+◌, Bool, List, [], ◌∷◌, ◌++◌, take, codes, decimal, if◌then◌else◌}
 use Rattle.bohm_explain.specs.declared.figures.Figures.{Figures}
 use Rattle.bohm_explain.specs.declared.figures.Totals.{Totals}
@@ -7,11 +7,11 @@ use Rattle.bohm_explain.specs.Figures.{alone, totals_of}
 use Rattle.bohm_explain.specs.Table.{hundredths, hundredths_cell}
 use Rattle.bohm_explain.specs.Verdict.{execution_limit, run_limit}
 
--- a further field of an object
+-- a field of an object after others
 abbrev pub field : List ℕ → List ℕ → List ℕ
 field name value = codes ",\"" ++ name ++ codes "\":" ++ value
 
--- with a number, or with one of hundredths
+-- such a field with a number, or with a number of hundredths
 abbrev pub number_field : List ℕ → ℕ → List ℕ
 number_field name n = field name (decimal n)
 
@@ -31,7 +31,7 @@ heat_json h =
     codes "{\"key\":\"" ++ h.key ++ codes "\"" ++ number_field (codes "writers") h.writers ++ number_field (codes "readers") h.readers
     ++ number_field (codes "chain") h.chain ++ codes "}"
 
--- what stands before an item of a list with n before it
+-- the separator before an item of a list with n items before it
 abbrev pub separator : ℕ → List ℕ
 separator zero = codes "\n"
 separator (suc n) = codes ",\n"
@@ -42,7 +42,7 @@ figures_item n t = separator n ++ figures_json t
 abbrev pub heat_item : ℕ → Heat → List ℕ
 heat_item n h = separator n ++ heat_json h
 
--- these, with n before them
+-- the items of these figures, with n items before them
 abbrev pub figures_from : ℕ → List Figures → List ℕ
 figures_from n [] = []
 figures_from n (f ∷ fs) = figures_item n (alone f) ++ figures_from (n + 1) fs
@@ -51,21 +51,21 @@ abbrev pub heats_from : ℕ → List Heat → List ℕ
 heats_from n [] = []
 heats_from n (h ∷ hs) = heat_item n h ++ heats_from (n + 1) hs
 
--- of each batch; a summary leaves them out
+-- the figures of each batch; a summary leaves them out
 abbrev pub batches_json : Bool → List Figures → List ℕ
 batches_json summary fs = if summary then [] else (codes "\"batches\":[" ++ figures_from 0 fs ++ codes "],\n")
 
--- the first so many keys
+-- the first `top` keys
 abbrev pub hottest_json : ℕ → List Heat → List ℕ
 hottest_json top ranked = codes ",\n\"hottest\":[" ++ heats_from 0 (take top ranked) ++ codes "]"
 
--- how many times as fast all workers can at most make the execution, and a run
+-- the greatest speedups that all workers can give to the execution, and to a run
 abbrev pub limits_json : Totals → List ℕ
 limits_json t =
     codes ",\n\"execution_at_most\":" ++ hundredths_cell 0 (execution_limit t)
     ++ codes ",\"run_at_most\":" ++ hundredths_cell 0 (run_limit t)
 
--- with n before it
+-- a place with n places before it
 abbrev pub place_item : ℕ → ℕ → List ℕ
 place_item zero place = decimal place
 place_item (suc n) place = codes "," ++ decimal place

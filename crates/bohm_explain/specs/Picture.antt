@@ -1,5 +1,5 @@
--- The picture of a batch, as text in Graphviz's language. Positions count from 0; transactions are drawn under their places in the log, of which
--- `first` is that of the batch's first one.
+-- The picture of a batch, as text in Graphviz's language. Positions count from 0; transactions are labelled with their places in the log, where `first` is the
+-- place of the batch's first one.
 use Rattle.std.specs.Prelude.{ℕ, zero, suc, ◌+◌, ◌-◌, ◌*◌, ◌/◌, min, ◌==◌, nat_le, List, [], ◌∷◌, ◌++◌, length, take, flat_map, Option}
 use Rattle.std.specs.Prelude.{Some, None, count_by, slice_index, slice_index_or, Bool, false, not, ◌&&◌, codes, decimal, if◌then◌else◌}
 use Rattle.std.specs.Int.{div_ceil}
@@ -10,11 +10,11 @@ use Rattle.bohm_explain.specs.declared.bands.Band.{Band}
 use Rattle.bohm_explain.specs.declared.nodes.Node.{Node}
 use Rattle.bohm_explain.specs.declared.bands.TheConstants.{MOST_NODES}
 
--- a text where this holds
+-- a text if this holds
 abbrev pub shown : Bool → List ℕ → List ℕ
 shown holds text = if holds then text else []
 
--- the title of a batch, in a text that is still open
+-- the title of a batch, as a string that isn't closed yet
 abbrev pub opening : ℕ → List ℕ
 opening batch =
     codes "digraph {\n  graph [fontname=Helvetica, label=\"Batch " ++ decimal batch
@@ -23,7 +23,7 @@ opening batch =
 abbrev pub closing : List ℕ
 closing = codes "}\n"
 
--- a node of the row of depths, with n before it, is joined to the last of these
+-- joins a node of the row of depths, with n nodes before it, to the last of these
 abbrev pub joined : ℕ → List ℕ
 joined zero = []
 joined (suc n) =
@@ -31,13 +31,13 @@ joined (suc n) =
 
 -- ---- each transaction in the column of its depth
 
--- the head of a column, with n before it
+-- the head of a column, with n columns before it
 abbrev pub column_line : ℕ → List ℕ
 column_line n =
     codes "  d" ++ decimal (n + 1) ++ codes " [label=\"depth " ++ decimal (n + 1)
     ++ codes "\"];\n" ++ joined n
 
--- the first n of them
+-- the heads of the first n columns
 abbrev pub column_lines : ℕ → List ℕ
 column_lines zero = []
 column_lines (suc n) = column_lines n ++ column_line n
@@ -57,7 +57,7 @@ node_at first sure depths longest p = record {
   longest = slice_index_or longest p false;
 }
 
--- of the positions below p
+-- the nodes of the positions below p
 abbrev pub node_lines : ℕ → List Bool → List ℕ → List Bool → ℕ → List ℕ
 node_lines first sure depths longest zero = []
 node_lines first sure depths longest (suc p) =
@@ -69,7 +69,7 @@ is_bold depths longest a =
     slice_index_or longest a.from false && (slice_index_or longest a.to false
     && (slice_index depths a.to == slice_index depths a.from + 1))
 
--- a version that one transaction wants twice is drawn once: these arrows have one key for Graphviz too
+-- a version that one transaction wants twice is drawn once: Graphviz identifies arrows by their `key`
 abbrev pub arrow_line : ℕ → Bool → Arrow → List ℕ
 arrow_line first bold a =
     codes "  " ++ decimal (first + a.from) ++ codes " -> " ++ decimal (first + a.to)
@@ -80,13 +80,13 @@ abbrev pub arrow_lines : ℕ → List ℕ → List Bool → List Arrow → List 
 arrow_lines first depths longest arrows =
     flat_map (λ a. arrow_line first (is_bold depths longest a) a) arrows
 
--- what the marks mean, which ends the text of the title
+-- the meaning of the marks, which closes the title's string
 abbrev pub legend : List ℕ
 legend =
     codes "\\narrow: to one that wants the key's version"
     ++ codes "\\nbox: sure; filled, bold: on a longest chain" ++ codes "\"];\n"
 
--- columns from left to right, with nothing to be seen of what joins their heads
+-- columns from left to right, with invisible edges between their heads
 abbrev pub layout : List ℕ
 layout = codes "  rankdir=LR;\n  edge [style=invis];\n"
 
@@ -107,11 +107,11 @@ by_transaction batch first sure arrows depths longest =
 
 -- ---- how many transactions each depth has
 
--- so many neighbouring depths are drawn as one
+-- this many neighbouring depths are drawn as one node
 abbrev pub band_width : ℕ → ℕ
 band_width deepest = div_ceil deepest MOST_NODES
 
--- the band with n before it
+-- the band with n bands before it
 abbrev pub band_at : ℕ → ℕ → ℕ → Band
 band_at deepest width n = record { first = n * width + 1; last = min deepest ((n + 1) * width) }
 
@@ -128,7 +128,7 @@ count_text b count =
     depths_text b ++ codes ": " ++ decimal count ++ codes " other"
     ++ shown (not (count == 1)) (codes "s")
 
--- a band with n before it, and so many transactions
+-- a band with n bands before it, and this many transactions
 abbrev pub band_line : ℕ → Band → ℕ → List ℕ
 band_line n b count =
     codes "  d" ++ decimal (n + 1) ++ codes " [label=\"" ++ count_text b count
@@ -145,7 +145,7 @@ bands_below deepest width depths (suc n) =
 abbrev pub bands : ℕ → ℕ → List ℕ → List ℕ
 bands deepest width depths = bands_below deepest width depths (div_ceil deepest width)
 
--- the bands down to the deepest, with so many of these depths in them
+-- the bands down to the deepest, each with the number of these depths in it
 abbrev pub band_lines : ℕ → List ℕ → List ℕ
 band_lines deepest depths = bands deepest (band_width deepest) depths
 
@@ -180,7 +180,7 @@ abbrev pub link_text : ℕ → Option Arrow → List ℕ
 link_text first None = []
 link_text first (Some a) = arrow_line first false a
 
--- of the first n + 1 transactions of the chain
+-- the arrows between the first n + 1 transactions of the chain
 abbrev pub links_below : ℕ → List Arrow → List ℕ → ℕ → List ℕ
 links_below first arrows drawn zero = []
 links_below first arrows drawn (suc n) =
@@ -189,7 +189,7 @@ links_below first arrows drawn (suc n) =
 abbrev pub links : ℕ → List Arrow → List ℕ → List ℕ
 links first arrows drawn = links_below first arrows drawn (length drawn - 1)
 
--- what is drawn of the chain, which ends the text of the title
+-- how much of the chain is drawn, which closes the title's string
 abbrev pub chain_legend : ℕ → ℕ → List ℕ
 chain_legend drawn all =
     codes "\\nellipses: " ++ decimal drawn ++ codes " of the " ++ decimal all

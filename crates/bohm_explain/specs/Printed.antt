@@ -1,4 +1,4 @@
--- What is printed of a log.
+-- The text that is printed for a log.
 use Rattle.std.specs.Prelude.{◌≡◌, ℕ, zero, suc, ◌+◌, ◌-◌, ◌*◌, ◌<◌, ◌≤◌, ◌⊎◌, List, [], ◌∷◌, ◌++◌}
 use Rattle.std.specs.Prelude.{length, map, Bool, if◌then◌else◌, Option, Some, None, IfSome, IsSomeAnd}
 use Rattle.std.specs.List.{zip}
@@ -41,7 +41,7 @@ chained_in size log = chained_below size log (batch_count size log)
 
 -- ---- the longest chain
 
--- a chain of a batch's transactions, under their places in the log
+-- a chain of a batch's transactions, as places in the log
 pub record IsPlacedChain (size : ℕ) (log : List Txn) (places : List ℕ) : Type 0 where
   pub index : ℕ
   pub there : index < batch_count size log
@@ -49,14 +49,14 @@ pub record IsPlacedChain (size : ℕ) (log : List Txn) (places : List ℕ) : Typ
   pub is : IsChainOf (batch_at size log index) chain
   pub placed : places ≡ map (λ p. (index * size + 1) + p) chain
 
--- none is longer; it is empty where the log has no transactions
+-- no such chain is longer; it is empty if the log has no transactions
 pub record IsLongestChain (size : ℕ) (log : List Txn) (places : List ℕ) : Type 0 where
   pub placed : (places ≡ []) ⊎ IsPlacedChain size log places
   pub none_longer : (other : List ℕ) → IsPlacedChain size log other → length other ≤ length places
 
 -- ---- figures
 
--- a table, the first so many keys, the longest chain and the line of words; or the same in JSON
+-- a table, the first `top` keys, the longest chain and the last line; or the same figures in JSON
 abbrev pub figures_text : Layout → ℕ → List Figures → List Heat → List ℕ → List ℕ
 figures_text layout top fs ranked longest =
     if layout.json then json_text layout.summary top fs ranked longest
@@ -78,33 +78,33 @@ pub record IsTextOf (size top : ℕ) (layout : Layout) (log : List Txn) (text : 
 abbrev pub longest : List Txn → List Bool
 longest txns = on_longest (depths txns) (heights txns) (greatest (depths txns))
 
--- a chain of the batch, and none has more terms
+-- a chain of the batch such that no chain has more terms
 pub record IsHeaviestChain (txns : List Txn) (chain : List ℕ) : Type 0 where
   pub is : IsChainOf txns chain
   pub none_heavier : (other : List ℕ) → IsChainOf txns other → weight_of (weights txns) other ≤ weight_of (weights txns) chain
 
--- where the batch is large, with one of its heaviest chains
+-- the picture of a batch; if the batch is large, with one of its heaviest chains
 pub record IsPictureOf (number first : ℕ) (txns : List Txn) (text : List ℕ) : Type 0 where
   pub chain : List ℕ
   pub is_heaviest : IsHeaviestChain txns chain
   pub says : text ≡ picture_text number first (map is_sure txns) (arrows txns) (depths txns) (longest txns) chain
 
--- of the batch of this number, counted from 1
+-- the picture of the batch with this number, counted from 1
 abbrev pub IsPictureIn : ℕ → List Txn → ℕ → List ℕ → Type 0
 IsPictureIn size log number text = IsPictureOf number ((number - 1) * size + 1) (batch_at size log (number - 1)) text
 
--- ---- what is asked
+-- ---- requests
 
--- the picture of a batch, or the figures where none is asked for
+-- the picture of a batch, or the figures if no picture is requested
 abbrev pub Says : Asked → List Txn → List ℕ → Option ℕ → Type 0
 Says asked log text None = IsTextOf asked.batch asked.top asked.layout log text
 Says asked log text (Some number) = IsPictureIn asked.batch log number text
 
--- the log has the batch whose picture is asked for, and this is the text of what is asked
+-- the log has the batch whose picture is requested, if any, and this is the text that answers the request
 pub record IsAnswerTo (asked : Asked) (log : List Txn) (text : List ℕ) : Type 0 where
   pub there : IfSome asked.picture (λ number. number ≤ batch_count asked.batch log)
   pub says : Says asked log text asked.picture
 
--- the picture of a batch is asked for that the log doesn't have
+-- a picture is requested of a batch that the log doesn't have
 abbrev pub LacksBatch : Asked → List Txn → Type 0
 LacksBatch asked log = IsSomeAnd asked.picture (λ number. batch_count asked.batch log < number)

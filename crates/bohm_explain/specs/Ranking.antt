@@ -8,11 +8,11 @@ use Rattle.std.specs.Ordering.{nat_cmp, ordering_then}
 use Rattle.std.specs.Cmp.Lexicographic.{slice_cmp}
 use Rattle.bohm_explain.specs.declared.heat.Heat.{Heat}
 
--- the transactions that write the key, and those that read it
+-- the number of transactions that write the key, plus the number of those that read it
 abbrev pub accesses : Heat → ℕ
 accesses h = h.writers + h.readers
 
--- first the one with more accesses, then that with the longer chain, then that with the lesser key
+-- first the key with more accesses, then the one with the longer chain, then the lesser key
 abbrev pub rank_cmp : Heat → Heat → Ordering
 rank_cmp h g =
     ordering_then
@@ -22,7 +22,7 @@ rank_cmp h g =
 abbrev pub IsHotter : Heat → Heat → Type 0
 IsHotter h g = rank_cmp h g ≡ Less
 
--- the same heats, each hotter than those behind it
+-- the same heats, each hotter than those after it
 pub record IsRanking (heats ranked : List Heat) : Type 0 where
   pub same : IsPermutation heats ranked
   pub hottest_first : AllPairs IsHotter ranked

@@ -1,4 +1,4 @@
--- The last line: what keeps the log from being faster, in words. bench/README.md has the measured share of execution.
+-- The last line: what limits the log's speed, in words. bench/README.md has the measured share of execution.
 use Rattle.std.specs.Prelude.{ℕ, ◌+◌, ◌*◌, List, [], ◌∷◌, ◌++◌, map, nat_le, ◌==◌, codes, decimal, Option, Some, None, if◌then◌else◌}
 use Rattle.std.specs.Int.{div_ceil}
 use Rattle.std.specs.List.{find}
@@ -7,24 +7,23 @@ use Rattle.bohm_explain.specs.declared.figures.Totals.{Totals}
 use Rattle.bohm_explain.specs.declared.heat.Heat.{Heat}
 use Rattle.bohm_explain.specs.Table.{hundredths_cell}
 
--- the transactions on the longest chain of a batch, 0 where nobody wants anything
+-- the transactions on the longest chain of a batch, or 0 if no version is wanted
 abbrev pub longest : List Heat → ℕ
 longest heats = greatest (map (λ h. h.chain) heats)
 
--- the first key on it, none where nobody wants anything
+-- the first key on that chain, or none if no version is wanted
 abbrev pub leading : List Heat → Option Heat
 leading ranked = if longest ranked == 0 then None else find (λ h. h.chain == longest ranked) ranked
 
--- a quotient in hundredths, rounded up; 0 where nothing is divided by
+-- a quotient in hundredths, rounded up; 0 if the divisor is 0
 abbrev pub hundredths_up : ℕ → ℕ → ℕ
 hundredths_up n d = if d == 0 then 0 else div_ceil (n * 100) d
 
--- how many times as fast as one all executing workers can be at most, in hundredths: the terms over the
--- heaviest chain
+-- the greatest speedup of the execution over one worker, in hundredths: the terms over those of the heaviest chain
 abbrev pub execution_limit : Totals → ℕ
 execution_limit t = hundredths_up t.terms t.heaviest
 
--- the same of a whole run, of which the execution by one worker takes an eighth: what is left of it is as it was
+-- the greatest speedup of a whole run, of which the execution by one worker takes an eighth; the rest of the run takes as long as before
 abbrev pub run_limit : Totals → ℕ
 run_limit t = hundredths_up (8 * t.terms) (7 * t.terms + t.heaviest)
 
@@ -45,7 +44,7 @@ key_words t h =
 abbrev pub free_words : Totals → List ℕ
 free_words t = codes "no transaction waits for another of its batch: " ++ limit_words t
 
--- where no key is on a chain, no transaction wants a version of its batch
+-- if no key is on a chain, no transaction wants a version of its batch
 abbrev pub waiting_words : Totals → Option Heat → List ℕ
 waiting_words t None = free_words t
 waiting_words t (Some h) = key_words t h

@@ -1,4 +1,4 @@
--- What is waited for in a batch.
+-- The versions that a batch's transactions wait for.
 use Rattle.std.specs.Prelude.{◌≡◌, ◌≤◌, ◌^◌, List, All, length}
 use Rattle.bohm_types.specs.Txn.{Txn}
 use Rattle.bohm_explain.specs.declared.waits.Waits.{Waits}
@@ -7,7 +7,7 @@ use Rattle.bohm_explain.specs.Heaviest.{IsInside}
 use Rattle.bohm_explain.specs.Printed.{heights}
 use Rattle.bohm_explain.specs.Wanted.{arrows}
 
--- the arrows of the transactions, and for each position the longest chains that end and begin there
+-- the arrows of the transactions, and for each position the length of the longest chain that ends there, and that begins there
 pub record AreWaits (txns : List Txn) (w : Waits) : Type 0 where
   pub arrows : w.arrows.items ≡ arrows txns
   pub inside : All (IsInside (length txns)) w.arrows.items

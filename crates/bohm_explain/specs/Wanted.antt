@@ -25,7 +25,7 @@ abbrev pub place_of : ℕ → Source → Option ℕ
 place_of first Before = None
 place_of first (Within u) = Some (u - first)
 
--- the arrow for the key, where a transaction of the batch writes it before this position
+-- the arrow for the key, if a transaction of the batch writes it before this position
 abbrev pub arrow_of : List Txn → ℕ → List ℕ → Option Arrow
 arrow_of txns p k = option_map (λ f. record { from = f; to = p; key = k }) (newest_before txns k p)
 
@@ -43,11 +43,11 @@ is_sure_at txns p = unwrap_or (option_map is_sure (slice_get txns p)) false
 abbrev pub arrows_at : List Txn → ℕ → List Arrow
 arrows_at txns p = arrows_in Reads txns p ++ (if is_sure_at txns p then [] else arrows_in Writes txns p)
 
--- of the positions below p
+-- the arrows to the positions below p
 abbrev pub arrows_below : List Txn → ℕ → List Arrow
 arrows_below txns zero = []
 arrows_below txns (suc p) = arrows_below txns p ++ arrows_at txns p
 
--- the versions of the batch that its transactions want, in the order of their wanting
+-- the versions of the batch that its transactions want, in the order of the transactions that want them
 abbrev pub arrows : List Txn → List Arrow
 arrows txns = arrows_below txns (length txns)

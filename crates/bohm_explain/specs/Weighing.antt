@@ -1,4 +1,4 @@
--- What a transaction weighs: the terms of its body, and 1 where it has none.
+-- The weight of a transaction: the number of terms of its body, or 1 if it has none.
 use Rattle.std.specs.Prelude.{ℕ, ◌+◌, List, length, map, max, sum_by}
 use Rattle.bohm_types.specs.Stmt.{Stmt}
 use Rattle.bohm_types.specs.Txn.{Txn}
@@ -13,6 +13,6 @@ weight t = max 1 (sum_by terms_in t.body)
 abbrev pub weights : List Txn → List ℕ
 weights txns = map weight txns
 
--- the keys that it declares to read, and those that it declares to write
+-- the number of keys that it declares to read, plus the number of those that it declares to write
 abbrev pub declared_by : Txn → ℕ
 declared_by t = length t.reads + length t.writes

@@ -12,9 +12,9 @@ use bohm_log::{DrawnSeed, LogPart};
 use bohm_types::NoMemory;
 use std::alloc::Global;
 
-/// The text of what is asked of a log, or `None` where that is the picture of a batch that the log
-/// doesn't have. The time grows with the number of declared keys, and for figures with the number
-/// n of different ones as n log n.
+/// The text that answers a request about a log, or `None` if the request is for the picture of a
+/// batch that the log doesn't have. The time grows with the number of declared keys, and for
+/// figures with the number n of distinct keys as n log n.
 pub fn answer(
     alloc: Global,
     seed: DrawnSeed,

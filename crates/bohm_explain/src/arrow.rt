@@ -1,4 +1,4 @@
-//! Arrows: which transaction wants whose version.
+//! Arrows: which transaction wants which one's version.
 
 ghost use Rattle.std.specs.Prelude.{◌≡◌, ◌+◌, ◌*◌, ◌++◌, ◌<◌, ◌≤◌, ◌^◌, All, length, IfOk};
 ghost use Rattle.bohm_place.specs.Plans.{IsRightPlan};
@@ -13,8 +13,8 @@ use bohm_txn::sure;
 use bohm_types::{Key, NoMemory};
 use std::alloc::Global;
 
-/// The transaction at `to` wants the version of the key that the one at `from` produces. Both are
-/// positions in their batch, counted from 0.
+/// The transaction at `to` wants the version of the key that the transaction at `from` produces.
+/// Both are positions in their batch, counted from 0.
 #[derive(Clone, Copy, Debug, PartialEq, Eq)]
 pub struct Arrow {
     pub from: u32,

@@ -1,4 +1,4 @@
-//! Bands of depths, drawn as a node each.
+//! Bands of depths, each drawn as one node.
 
 ghost use Rattle.std.specs.Prelude.{◌≡◌, ℕ, ◌*◌, ◌++◌, ◌<◌, ◌≤◌, All, IfOk, count_by, length};
 ghost use Rattle.std.specs.Prelude.{slice_index};
@@ -14,14 +14,14 @@ use bohm_types::NoMemory;
 /// The most transactions that are drawn one by one, and the most bands of depths.
 pub const MOST_NODES: u32 = 200;
 
-/// Neighbouring depths that are drawn as one.
+/// Neighbouring depths that are drawn as one node.
 #[derive(Clone, Copy, Debug, PartialEq, Eq)]
 struct Band {
     first: u32,
     last: u32,
 }
 
-/// So many depths are drawn as one that at most 200 nodes are drawn.
+/// The number of depths in a band, such that at most 200 bands are drawn.
 pub fn band_width(deepest: u32) -> u32
     requires few { deepest ≤ largest_batch }
     ensures { result ≡ band_width deepest }
@@ -41,7 +41,7 @@ fn band_at(deepest: u32, width: u32, before: u32) -> Band
     }
 }
 
-/// How many of the depths are in each band.
+/// The number of these depths in each band.
 fn band_counts(deepest: u32, width: u32, depths: &[u32]) -> [u32; MOST_NODES as usize]
     requires few { length depths.now ≤ largest_batch }
     requires depths { All (IsBetween 1 deepest) depths.now }
@@ -57,7 +57,7 @@ fn band_counts(deepest: u32, width: u32, depths: &[u32]) -> [u32; MOST_NODES as 
     counts
 }
 
-/// The depths of a band in words.
+/// Appends the depths of a band in words.
 fn put_depths(out: &mut Vec<u8>, band: Band) -> Result<(), NoMemory>
     ensures { IfOk result (λ _. out.new.items ≡ out.old.items ++ depths_text band) }
 {
@@ -71,7 +71,7 @@ fn put_depths(out: &mut Vec<u8>, band: Band) -> Result<(), NoMemory>
     put_decimal(out, band.last)
 }
 
-/// This many transactions in a band, in words.
+/// Appends the number of transactions in a band in words.
 fn put_count(out: &mut Vec<u8>, band: Band, count: u32) -> Result<(), NoMemory>
     ensures { IfOk result (λ _. out.new.items ≡ out.old.items ++ count_text band count) }
 {
@@ -82,7 +82,7 @@ fn put_count(out: &mut Vec<u8>, band: Band, count: u32) -> Result<(), NoMemory>
     put_where(out, count != 1, b"s")
 }
 
-/// This many transactions in a band after this many others.
+/// Appends a band with this many transactions, after `before` other bands.
 fn put_band(out: &mut Vec<u8>, before: u32, band: Band, count: u32) -> Result<(), NoMemory>
     requires few { before < 200 }
     ensures { IfOk result (λ _. out.new.items ≡ out.old.items ++ band_line before band count) }
@@ -95,7 +95,7 @@ fn put_band(out: &mut Vec<u8>, before: u32, band: Band, count: u32) -> Result<()
     put_joined(out, before)
 }
 
-/// The bands down to the deepest, with so many of these depths in them.
+/// Appends the bands down to the deepest, each with the number of these depths in it.
 pub fn put_bands(out: &mut Vec<u8>, deepest: u32, depths: &[u32]) -> Result<(), NoMemory>
     requires deepest { IsBetween 1 largest_batch deepest }
     requires few { length depths.now ≤ largest_batch }

@@ -8,7 +8,7 @@ ghost use Rattle.bohm_types.specs.Limits.{largest_batch, most_txns};
 
 use bohm_log::LogPart;
 
-/// The transactions of the batch of this index, counted from 0.
+/// The transactions of the batch at this index, counted from 0.
 pub fn batch_at<'a>(log: &LogPart<'a>, size: u32, index: u32) -> LogPart<'a>
     requires size { IsBetween 1 largest_batch size }
     requires few { length log.now ≤ most_txns }

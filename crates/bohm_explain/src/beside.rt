@@ -32,7 +32,7 @@ fn others(alloc: Global, drawn: &[u32], depths: &[u32]) -> Result<Vec<u32>, NoMe
     Ok(others)
 }
 
-/// A transaction of the chain as it is drawn beside bands of this width.
+/// A transaction of the chain, as it is drawn beside bands of this width.
 fn link_node(first: u32, width: u32, depths: &[u32], position: u32) -> Node
     requires first { first ≤ most_txns }
     requires wide { 0 < width }
@@ -79,7 +79,7 @@ fn leading<'a>(arrows: &'a [Arrow], from: u32, to: u32) -> Option<&'a Arrow>
         .find(|arrow| arrow.from == from && arrow.to == to)
 }
 
-/// An arrow from one transaction of the chain to the next.
+/// Appends an arrow from one transaction of the chain to the next.
 fn put_link(
     out: &mut Vec<u8>,
     first: u32,
@@ -98,7 +98,7 @@ fn put_link(
     }
 }
 
-/// The same from each transaction of the chain to the next.
+/// Appends an arrow from each transaction of the chain to the next.
 fn put_links(out: &mut Vec<u8>, first: u32, arrows: &[Arrow], drawn: &[u32]) -> Result<(), NoMemory>
     requires first { first ≤ most_txns }
     requires inside { All (IsInside largest_batch) arrows.now }
@@ -110,7 +110,7 @@ fn put_links(out: &mut Vec<u8>, first: u32, arrows: &[Arrow], drawn: &[u32]) -> 
     Ok(())
 }
 
-/// How much of the chain is drawn, which ends the title.
+/// Appends how much of the chain is drawn, which ends the title.
 fn put_chain_legend(out: &mut Vec<u8>, drawn: usize, all: usize) -> Result<(), NoMemory>
     ensures { IfOk result (λ _. out.new.items ≡ out.old.items ++ chain_legend drawn all) }
 {
@@ -124,7 +124,8 @@ fn put_chain_legend(out: &mut Vec<u8>, drawn: usize, all: usize) -> Result<(), N
     Ok(())
 }
 
-/// The first 200 transactions of a chain, by their positions, and how many others each depth has.
+/// Appends the first 200 transactions of a chain, by their positions, and how many others each
+/// depth has.
 pub fn put_by_depth(
     out: &mut Vec<u8>,
     alloc: Global,

@@ -9,7 +9,7 @@ use bohm_types::NoMemory;
 /// The most transactions that are listed.
 const MOST_LISTED: usize = 100;
 
-/// A number behind a space.
+/// Appends a space and a number.
 fn put_spaced(out: &mut Vec<u8>, number: u32) -> Result<(), NoMemory>
     ensures { IfOk result (λ _. out.new.items ≡ out.old.items ++ spaced number) }
 {
@@ -17,7 +17,7 @@ fn put_spaced(out: &mut Vec<u8>, number: u32) -> Result<(), NoMemory>
     put_decimal(out, number)
 }
 
-/// Numbers, each behind a space.
+/// Appends numbers, each after a space.
 fn put_all(out: &mut Vec<u8>, places: &[u32]) -> Result<(), NoMemory>
     ensures { IfOk result (λ _. out.new.items ≡ out.old.items ++ flat_map spaced places.now) }
 {
@@ -27,7 +27,7 @@ fn put_all(out: &mut Vec<u8>, places: &[u32]) -> Result<(), NoMemory>
     Ok(())
 }
 
-/// How many are not listed.
+/// Appends how many transactions aren't listed.
 fn put_more(out: &mut Vec<u8>, count: usize) -> Result<(), NoMemory>
     ensures { IfOk result (λ _. out.new.items ≡ out.old.items ++ more_text count) }
 {
@@ -40,8 +40,8 @@ fn put_more(out: &mut Vec<u8>, count: usize) -> Result<(), NoMemory>
     Ok(())
 }
 
-/// An empty line, and a line with the first hundred transactions of a chain. Nothing where it has
-/// one at most: nobody waits.
+/// Appends an empty line, and a line with the first hundred transactions of a chain. Nothing if the
+/// chain has at most one transaction: then none waits.
 pub fn put_chain(out: &mut Vec<u8>, places: &[u32]) -> Result<(), NoMemory>
     ensures { IfOk result (λ _. out.new.items ≡ out.old.items ++ chain_text places.now) }
 {

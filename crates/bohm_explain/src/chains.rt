@@ -41,8 +41,8 @@ pub fn heaviest_from(alloc: Global, weights: &[u32], arrows: &[Arrow]) -> Result
     Ok(heaviest)
 }
 
-/// For each arrow the greatest weight of a chain through it, made of those that end and begin at
-/// each position.
+/// For each arrow the greatest weight of a chain through it, from the greatest weights of the
+/// chains that end and begin at each position.
 pub fn chains_through(
     alloc: Global,
     arrows: &[Arrow],

@@ -5,7 +5,7 @@ ghost use Rattle.std.specs.Prelude.{◌≡◌, ◌++◌, IfOk};
 use bohm_types::NoMemory;
 use itoa::{Buffer, Integer};
 
-/// A number among words.
+/// Appends a number in decimal.
 pub fn put_decimal<I: Integer>(out: &mut Vec<u8>, number: I) -> Result<(), NoMemory>
     ensures { IfOk result (λ _. out.new.items ≡ out.old.items ++ I.text number) }
 {

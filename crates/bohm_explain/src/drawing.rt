@@ -50,7 +50,8 @@ fn heaviest_of(alloc: Global, txns: &LogPart<'_>, arrows: &[Arrow]) -> Result<Ve
     heaviest_chain(alloc, weights.as_slice(), arrows, heaviest.as_slice())
 }
 
-/// The picture of a batch of this number, whose first transaction has this place in the log.
+/// The picture of the batch with this number, whose first transaction is at place `first` in the
+/// log.
 fn draw_batch(
     alloc: Global,
     number: u32,
@@ -84,7 +85,8 @@ fn draw_batch(
     Ok(out)
 }
 
-/// The picture of the batch of this number, counted from 1, or `None` where the log has fewer.
+/// The picture of the batch with this number, counted from 1, or `None` if the log has fewer
+/// batches.
 pub fn print_picture(
     alloc: Global,
     log: &LogPart<'_>,

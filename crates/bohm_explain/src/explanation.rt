@@ -32,18 +32,18 @@ use bohm_place::{Newest, Plan, plan_alone};
 use bohm_types::NoMemory;
 use std::alloc::Global;
 
-/// What is found out of a log.
+/// The results of going through a log.
 #[derive(Drop)]
 struct Survey {
-    /// Of each batch.
+    /// The figures of each batch.
     figures: Vec<Figures>,
     keys: Gathering,
-    /// The places in the log of a longest chain's transactions.
+    /// The places in the log of the transactions of a longest chain.
     longest: Vec<u32>,
 }
 
-/// The figures of a batch, of which this is the plan, whose keys are noted, and whose longest chain
-/// is kept where it is longer than the one before.
+/// The figures of the batch with this plan. Its keys are noted in `keys`, and its longest chain
+/// replaces `longest` if it is longer.
 fn explain_batch(
     alloc: Global,
     plan: &Plan,
@@ -72,7 +72,7 @@ fn explain_batch(
     counted(alloc, txns, arrows, depths)
 }
 
-/// The figures of each batch of a log, and its keys.
+/// The figures of each batch of a log, its keys, and a longest chain.
 fn survey_log(
     alloc: Global,
     seed: DrawnSeed,
@@ -104,7 +104,7 @@ fn survey_log(
     })
 }
 
-/// The text of these figures and keys, the hottest first.
+/// The text of these figures and of these keys, which are ranked hottest first.
 fn print_figures(
     alloc: Global,
     figures: &[Figures],
@@ -129,8 +129,8 @@ fn print_figures(
     Ok(out)
 }
 
-/// The figures of a log, its `top` hottest keys, and what limits its speed-up. The time grows with
-/// the number of declared keys, and with the number n of different ones as n log n.
+/// The figures of a log, its `top` hottest keys, and what limits its speedup. The time grows with
+/// the number of declared keys, and with the number n of distinct keys as n log n.
 pub fn print_log(
     alloc: Global,
     seed: DrawnSeed,

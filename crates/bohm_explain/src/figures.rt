@@ -17,26 +17,26 @@ use bohm_txn::sure;
 use bohm_types::NoMemory;
 use std::alloc::Global;
 
-/// What is counted of one batch.
+/// The counts of one batch.
 #[derive(Clone, Copy, Debug, PartialEq, Eq)]
 pub struct Figures {
     /// Its transactions.
     pub transactions: u32,
-    /// The keys that they declare: a key that one reads and writes counts twice.
+    /// The keys that they declare; a key that a transaction both reads and writes counts twice.
     pub keys: u32,
-    /// The sure ones among them.
+    /// The sure transactions among them.
     pub sure: u32,
-    /// The accesses that take a version of the batch.
+    /// The accesses that want a version of the batch.
     pub taken: u32,
-    /// The transactions on the longest chain of such versions.
+    /// The transactions on the longest chain of wanted versions.
     pub depth: u32,
-    /// The terms of the bodies, a body without terms as one.
+    /// The terms of the bodies; a body without terms counts as one term.
     pub terms: u32,
     /// The terms on the heaviest chain.
     pub heaviest: u32,
 }
 
-/// The same of a whole log: the sums of its batches, since these run one after another.
+/// The counts of a whole log: the sums over its batches, since batches run one after another.
 #[derive(Clone, Copy, Debug, PartialEq, Eq)]
 pub struct Totals {
     pub transactions: u64,
@@ -66,7 +66,7 @@ impl From<Figures> for Totals {
 }
 
 impl Totals {
-    /// One batch more.
+    /// The totals with one more batch.
     fn plus(self, figures: Figures) -> Totals
         requires { AreAtMost (2 ^ 63) self }
         ensures sum { result ≡ plus self figures }
@@ -105,7 +105,7 @@ impl Totals {
     }
 }
 
-/// The greatest of these, or 0.
+/// The greatest of these values, or 0.
 pub fn greatest(values: &[u32]) -> u32
     ensures { result ≡ greatest values.now }
 {
@@ -116,7 +116,7 @@ pub fn greatest(values: &[u32]) -> u32
     most
 }
 
-/// The sum of these.
+/// The sum of these weights.
 fn sum_of(weights: &[u32]) -> u32
     requires few { length weights.now ≤ largest_batch }
     requires light { All (λ w. w ≤ 3072) weights.now }
@@ -129,7 +129,7 @@ fn sum_of(weights: &[u32]) -> u32
     total
 }
 
-/// How many of the transactions are sure.
+/// The number of sure transactions.
 fn count_sure(txns: &LogPart<'_>) -> u32
     requires few { length txns.now ≤ largest_batch }
     ensures { result ≡ count_by is_sure txns.now }

@@ -16,14 +16,14 @@ use bohm_types::{Key, NoMemory};
 use indexmap::IndexMap;
 use std::alloc::Global;
 
-/// What is known of the keys of a log's first batches, each with what is counted of it.
+/// The keys of a log's first batches, each with its counts.
 #[derive(Drop)]
 pub struct Gathering {
     tallies: IndexMap<Key, Tally, HashSeed>,
 }
 
 impl Gathering {
-    /// For no batch yet. Keys are hashed from this seed. It allocates nothing.
+    /// For no batch yet. Keys are hashed with this seed. It allocates nothing.
     pub fn new(alloc: Global, seed: HashSeed) -> Gathering
         ensures { IsGathered [] [] result }
     {
@@ -32,8 +32,8 @@ impl Gathering {
         }
     }
 
-    /// One batch more: its transactions, its arrows, and for each of these the transactions on the
-    /// longest chain through it. The time grows with the number of declared keys and arrows.
+    /// Adds a batch: its transactions, its arrows, and for each arrow the number of transactions on
+    /// the longest chain through it. The time grows with the number of declared keys and arrows.
     pub fn note(
         &mut self,
         txns: &LogPart<'_>,

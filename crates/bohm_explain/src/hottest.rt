@@ -10,7 +10,7 @@ use bohm_types::NoMemory;
 /// The columns end where `sure`, `taken` and `depth` do in the table.
 const HEAD: &[u8] = b"hottest keys                      writers   readers    chain\n";
 
-/// A text at the left end of a column.
+/// Appends a text, left-aligned in a column.
 fn put_left_cell(out: &mut Vec<u8>, width: usize, text: &[u8]) -> Result<(), NoMemory>
     ensures { IfOk result (λ _. out.new.items ≡ out.old.items ++ left_cell width text.now) }
 {
@@ -18,7 +18,7 @@ fn put_left_cell(out: &mut Vec<u8>, width: usize, text: &[u8]) -> Result<(), NoM
     put_blanks(out, width, text.len())
 }
 
-/// The line of a key.
+/// Appends the line of a key.
 fn put_heat(out: &mut Vec<u8>, heat: &Heat) -> Result<(), NoMemory>
     ensures { IfOk result (λ _. out.new.items ≡ out.old.items ++ heat_line heat.now) }
 {
@@ -30,7 +30,7 @@ fn put_heat(out: &mut Vec<u8>, heat: &Heat) -> Result<(), NoMemory>
     Ok(())
 }
 
-/// An empty line, a head and a line for each of these. Nothing where there is none.
+/// Appends an empty line, a head and a line for each of these heats. Nothing if there are none.
 fn put_heats(out: &mut Vec<u8>, heats: &[Heat]) -> Result<(), NoMemory>
     ensures { IfOk result (λ _. out.new.items ≡ out.old.items ++ heat_lines heats.now) }
 {
@@ -45,7 +45,8 @@ fn put_heats(out: &mut Vec<u8>, heats: &[Heat]) -> Result<(), NoMemory>
     Ok(())
 }
 
-/// The lines of the first `top` heats, below an empty line and a head. Nothing where there is none.
+/// Appends the lines of the first `top` heats, below an empty line and a head. Nothing if there are
+/// none.
 pub fn put_hottest(out: &mut Vec<u8>, ranked: &[Heat], top: u32) -> Result<(), NoMemory>
     ensures { IfOk result (λ _. out.new.items ≡ out.old.items ++ hottest_text top ranked.now) }
 {

@@ -17,7 +17,7 @@ use crate::verdict::{execution_limit, run_limit};
 use bohm_types::NoMemory;
 use itoa::Integer;
 
-/// The name of a further field.
+/// Appends the name of a field after others.
 fn put_name(out: &mut Vec<u8>, name: &[u8]) -> Result<(), NoMemory>
     ensures { IfOk result (λ _. out.new.items ≡ out.old.items ++ field name.now []) }
 {
@@ -27,7 +27,7 @@ fn put_name(out: &mut Vec<u8>, name: &[u8]) -> Result<(), NoMemory>
     Ok(())
 }
 
-/// A further field with a number.
+/// Appends a field with a number after others.
 fn put_field<I: Integer>(out: &mut Vec<u8>, name: &[u8], number: I) -> Result<(), NoMemory>
     ensures { IfOk result (λ _. out.new.items ≡ out.old.items ++ field name.now (I.text number)) }
 {
@@ -35,7 +35,7 @@ fn put_field<I: Integer>(out: &mut Vec<u8>, name: &[u8], number: I) -> Result<()
     put_decimal(out, number)
 }
 
-/// A further field with a quotient.
+/// Appends a field with a quotient after others.
 fn put_width(out: &mut Vec<u8>, name: &[u8], number: u64, divisor: u64) -> Result<(), NoMemory>
     ensures { IfOk result (λ _. out.new.items
         ≡ out.old.items ++ hundredths_field name.now (hundredths number divisor)) }
@@ -44,7 +44,7 @@ fn put_width(out: &mut Vec<u8>, name: &[u8], number: u64, divisor: u64) -> Resul
     put_quotient(out, 0, number, divisor)
 }
 
-/// The figures of a batch or of the log.
+/// Appends the figures of a batch or of the log.
 fn put_figures(out: &mut Vec<u8>, totals: Totals) -> Result<(), NoMemory>
     ensures { IfOk result (λ _. out.new.items ≡ out.old.items ++ figures_json totals) }
 {
@@ -62,7 +62,7 @@ fn put_figures(out: &mut Vec<u8>, totals: Totals) -> Result<(), NoMemory>
     Ok(())
 }
 
-/// A key with what is counted of it.
+/// Appends a key with its counts.
 fn put_heat(out: &mut Vec<u8>, heat: &Heat) -> Result<(), NoMemory>
     ensures { IfOk result (λ _. out.new.items ≡ out.old.items ++ heat_json heat.now) }
 {
@@ -76,7 +76,7 @@ fn put_heat(out: &mut Vec<u8>, heat: &Heat) -> Result<(), NoMemory>
     Ok(())
 }
 
-/// What stands before an item of a list, after this many others.
+/// Appends the separator before an item of a list, after this many others.
 fn put_separator(out: &mut Vec<u8>, before: usize) -> Result<(), NoMemory>
     ensures { IfOk result (λ _. out.new.items ≡ out.old.items ++ separator before) }
 {
@@ -88,7 +88,7 @@ fn put_separator(out: &mut Vec<u8>, before: usize) -> Result<(), NoMemory>
     Ok(())
 }
 
-/// An item with figures, after this many others.
+/// Appends an item with figures, after this many others.
 fn put_figures_item(out: &mut Vec<u8>, before: usize, totals: Totals) -> Result<(), NoMemory>
     ensures { IfOk result (λ _. out.new.items ≡ out.old.items ++ figures_item before totals) }
 {
@@ -96,7 +96,7 @@ fn put_figures_item(out: &mut Vec<u8>, before: usize, totals: Totals) -> Result<
     put_figures(out, totals)
 }
 
-/// An item with a key, after this many others.
+/// Appends an item with a key, after this many others.
 fn put_heat_item(out: &mut Vec<u8>, before: usize, heat: &Heat) -> Result<(), NoMemory>
     ensures { IfOk result (λ _. out.new.items ≡ out.old.items ++ heat_item before heat.now) }
 {
@@ -104,7 +104,7 @@ fn put_heat_item(out: &mut Vec<u8>, before: usize, heat: &Heat) -> Result<(), No
     put_heat(out, heat)
 }
 
-/// The figures of each batch, as the items of a list.
+/// Appends the figures of each batch, as the items of a list.
 fn put_items(out: &mut Vec<u8>, figures: &[Figures]) -> Result<(), NoMemory>
     ensures { IfOk result (λ _. out.new.items ≡ out.old.items ++ figures_from 0 figures.now) }
 {
@@ -114,7 +114,7 @@ fn put_items(out: &mut Vec<u8>, figures: &[Figures]) -> Result<(), NoMemory>
     Ok(())
 }
 
-/// The same as a list under its name, which a summary leaves out.
+/// Appends the figures of each batch as a named list, unless a summary is requested.
 fn put_batches(out: &mut Vec<u8>, summary: bool, figures: &[Figures]) -> Result<(), NoMemory>
     ensures { IfOk result (λ _. out.new.items
         ≡ out.old.items ++ batches_json summary figures.now) }
@@ -128,7 +128,7 @@ fn put_batches(out: &mut Vec<u8>, summary: bool, figures: &[Figures]) -> Result<
     Ok(())
 }
 
-/// These keys, as the items of a list.
+/// Appends these keys, as the items of a list.
 fn put_heats(out: &mut Vec<u8>, heats: &[Heat]) -> Result<(), NoMemory>
     ensures { IfOk result (λ _. out.new.items ≡ out.old.items ++ heats_from 0 heats.now) }
 {
@@ -138,7 +138,7 @@ fn put_heats(out: &mut Vec<u8>, heats: &[Heat]) -> Result<(), NoMemory>
     Ok(())
 }
 
-/// The first `top` of these keys, as the items of a list.
+/// Appends the first `top` of these keys, as the items of a list.
 fn put_first(out: &mut Vec<u8>, top: u32, ranked: &[Heat]) -> Result<(), NoMemory>
     ensures { IfOk result
         (λ _. out.new.items ≡ out.old.items ++ heats_from 0 (take top ranked.now)) }
@@ -146,7 +146,7 @@ fn put_first(out: &mut Vec<u8>, top: u32, ranked: &[Heat]) -> Result<(), NoMemor
     put_heats(out, &ranked[..ranked.len().min(top as usize)])
 }
 
-/// The same as a list under its name.
+/// Appends the first `top` of these keys as a named list.
 fn put_hottest(out: &mut Vec<u8>, top: u32, ranked: &[Heat]) -> Result<(), NoMemory>
     ensures { IfOk result (λ _. out.new.items ≡ out.old.items ++ hottest_json top ranked.now) }
 {
@@ -156,7 +156,7 @@ fn put_hottest(out: &mut Vec<u8>, top: u32, ranked: &[Heat]) -> Result<(), NoMem
     Ok(())
 }
 
-/// A transaction's place, after this many others.
+/// Appends a transaction's place, after this many others.
 fn put_place_item(out: &mut Vec<u8>, before: usize, place: u32) -> Result<(), NoMemory>
     ensures { IfOk result (λ _. out.new.items ≡ out.old.items ++ place_item before place) }
 {
@@ -167,7 +167,7 @@ fn put_place_item(out: &mut Vec<u8>, before: usize, place: u32) -> Result<(), No
     put_decimal(out, place)
 }
 
-/// These places, as the items of a list.
+/// Appends these places, as the items of a list.
 fn put_places(out: &mut Vec<u8>, places: &[u32]) -> Result<(), NoMemory>
     ensures { IfOk result (λ _. out.new.items ≡ out.old.items ++ places_from 0 places.now) }
 {
@@ -177,7 +177,7 @@ fn put_places(out: &mut Vec<u8>, places: &[u32]) -> Result<(), NoMemory>
     Ok(())
 }
 
-/// The transactions on the longest chain.
+/// Appends the transactions on the longest chain.
 fn put_chain(out: &mut Vec<u8>, longest: &[u32]) -> Result<(), NoMemory>
     ensures { IfOk result (λ _. out.new.items ≡ out.old.items ++ chain_json longest.now) }
 {
@@ -187,7 +187,7 @@ fn put_chain(out: &mut Vec<u8>, longest: &[u32]) -> Result<(), NoMemory>
     Ok(())
 }
 
-/// How many times as fast all workers can at most make the execution, and a run.
+/// Appends the greatest speedups that all workers can give to the execution, and to a run.
 fn put_limits(out: &mut Vec<u8>, totals: Totals) -> Result<(), NoMemory>
     ensures { IfOk result (λ _. out.new.items ≡ out.old.items ++ limits_json totals) }
 {
@@ -197,8 +197,8 @@ fn put_limits(out: &mut Vec<u8>, totals: Totals) -> Result<(), NoMemory>
     put_hundredths(out, 0, run_limit(totals))
 }
 
-/// The figures of each batch, unless a summary is asked for, and of the log; the first `top` keys;
-/// the longest chain; and what workers can at most gain.
+/// Appends the figures of each batch, unless a summary is requested, and of the log; the first
+/// `top` keys; the longest chain; and the most that workers can gain.
 pub fn put_json(
     out: &mut Vec<u8>,
     summary: bool,

@@ -24,40 +24,39 @@ ghost use Rattle.bohm_explain.specs.Ranking.{IsRanking};
 ghost use Rattle.bohm_explain.specs.Wanted.{arrows};
 ghost use Rattle.bohm_explain.specs.Weighing.{weights};
 
-/// Each transaction wants versions of earlier ones alone, and the wanted versions stand in log
-/// order.
+/// Each transaction wants only versions of earlier ones, and the wanted versions are in log order.
 pub fn arrows_rise()
     ensures { (txns : List Txn) → AreRising 0 (arrows txns) }
 {}
 
-/// The longest chain that ends at a transaction has one transaction more than the longest that ends
-/// at one whose version it wants, and one alone where it wants none.
+/// The longest chain that ends at a transaction has one more transaction than the longest that ends
+/// at a transaction whose version it wants, or just one if it wants none.
 pub fn depth_of_each()
     ensures { (txns : List Txn) (p : ℕ) → p < length txns → slice_index (depths txns) p
         ≡ 1 + greatest_wanted (slice_index (depths txns)) (arrows txns) p }
 {}
 
-/// The heaviest chain that ends at a position weighs what the position does, and as much as the
-/// heaviest one that ends at a position whose version it wants, where it wants any.
+/// The weight of the heaviest chain that ends at a position is the position's weight, plus that of
+/// the heaviest chain that ends at a position whose version it wants, if it wants any.
 pub fn chain_to_each()
     ensures { (weights : List ℕ) (wanted : List Arrow) (p : ℕ) → AreRising 0 wanted
         → p < length weights → slice_index (heaviest_to weights wanted) p
         ≡ slice_index weights p + greatest_wanted (slice_index (heaviest_to weights wanted)) wanted p }
 {}
 
-/// The heaviest chain that begins at a position weighs what the position does, and as much as the
-/// heaviest one that begins at a position that wants its version, where any does.
+/// The weight of the heaviest chain that begins at a position is the position's weight, plus that
+/// of the heaviest chain that begins at a position that wants its version, if any does.
 pub fn chain_from_each()
     ensures { (weights : List ℕ) (wanted : List Arrow) (p : ℕ) → AreRising 0 wanted
         → p < length weights → slice_index (heaviest_from weights wanted) p
         ≡ slice_index weights p + greatest_wanting (slice_index (heaviest_from weights wanted)) wanted p }
 {}
 
-/// What the figures say of a batch's chains: a chain is a list of its transactions, each of which
-/// but the first wants a version of the one before. A depth is the length of a longest chain, of
-/// all or of those that end at a transaction; an arrow's chain that of a longest one by the arrow;
-/// the heaviest weight that of a heaviest chain; and a transaction is marked exactly where a
-/// longest chain has it.
+/// What the figures say about a batch's chains. A chain is a list of its transactions, each of
+/// which but the first wants a version of the one before. A depth is the length of a longest chain,
+/// of all or of those that end at a transaction; an arrow's chain is a longest one through the
+/// arrow; the heaviest weight is that of a heaviest chain; and a transaction is marked exactly if
+/// it is on a longest chain.
 pub fn chains_of_a_batch()
     ensures depth { (txns : List Txn) → 0 < length txns
         → IsGreatest length (IsChainOf txns) (greatest (depths txns)) }
@@ -73,14 +72,14 @@ pub fn chains_of_a_batch()
         → (slice_index_or (longest txns) p false ≡ true) ↔ IsOn txns p (greatest (depths txns)) }
 {}
 
-/// The listed chain of a log has as many transactions as the deepest batch is deep.
+/// The length of the listed chain of a log is the depth of the deepest batch.
 pub fn longest_is_deepest()
     ensures { (size : ℕ) (log : List Txn) (places : List ℕ) → 1 ≤ size
         → IsLongestChain size log places
         → length places ≡ greatest (map (λ f. f.depth) (figures_in size log)) }
 {}
 
-/// Whatever the batch, a picture by depth has at most 200 bands, and at most 200 transactions of a
+/// For any batch, a picture by depth has at most 200 bands, and at most 200 transactions of a
 /// chain.
 pub fn few_are_drawn()
     ensures bands { (deepest : ℕ) → 1 ≤ deepest → div_ceil deepest (band_width deepest) ≤ 200 }
@@ -93,7 +92,7 @@ pub fn steps_are_drawn()
         → IsSomeAnd (leading wanted p q) (λ a. (a.from ≡ p) × (a.to ≡ q)) }
 {}
 
-/// An arrow leads from one transaction to another exactly where, on the board of a run, the second
+/// There is an arrow from one transaction to another exactly if, on the board of a run, the second
 /// wants a version that the first produces.
 pub fn arrows_are_wanted()
     ensures { (b : Batch) (t u : ℕ) → IsRightPlan (txns_of b) (plan_of b) → IsIn b t → IsIn b u
@@ -108,7 +107,7 @@ pub fn batches_are_those_of_a_run()
         → i < length c.sizes → batch_at size c.log i ≡ txns_at c i }
 {}
 
-/// There is one ranking of some heats, however they come.
+/// Heats have only one ranking, in whatever order they are given.
 pub fn one_ranking()
     ensures { (heats ranked other : List Heat)
         → IsRanking heats ranked → IsRanking heats other → ranked ≡ other }

@@ -3,8 +3,8 @@
 /// How the figures of a log are printed.
 #[derive(Clone, Copy, Debug, PartialEq, Eq)]
 pub struct Layout {
-    /// Those of the whole log alone, without those of each batch.
+    /// Only the figures of the whole log, without those of each batch.
     pub summary: bool,
-    /// In JSON, and not as a table.
+    /// In JSON instead of as a table.
     pub json: bool,
 }

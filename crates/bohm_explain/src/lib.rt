@@ -1,5 +1,5 @@
-//! Why a log scales or doesn't: the plan of each batch explained. Who wants whose version, the
-//! chains of that, and the keys that make them.
+//! Why a log scales or doesn't: explains the plan of each batch. Which transaction wants which
+//! version, the chains that this makes, and the keys that cause them.
 #![tactic(auto)]
 
 mod answering;

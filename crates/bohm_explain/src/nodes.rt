@@ -18,7 +18,7 @@ use bohm_types::{Key, NoMemory};
 pub struct Node {
     /// Its place in the log, from 1.
     pub number: u32,
-    /// The column or the band that it stands at, from 1.
+    /// The column or the band that it is drawn at, from 1.
     pub depth: u32,
     pub sure: bool,
     /// Whether it is on a longest chain.
@@ -76,7 +76,7 @@ fn is_bold(arrow: Arrow, depths: &[u32], longest: &[bool]) -> bool
     longest[from] && longest[to] && depths[to] == depths[from] + 1
 }
 
-/// It needs no escapes: a key has only lower-case letters, digits and underscores.
+/// Appends a key. It needs no escapes: a key has only lower-case letters, digits and underscores.
 fn put_key(out: &mut Vec<u8>, key: Key) -> Result<(), NoMemory>
     ensures { IfOk result (λ _. out.new.items ≡ out.old.items ++ key) }
 {
@@ -124,8 +124,8 @@ fn put_arrows(
     Ok(())
 }
 
-/// Each transaction in the column of its depth, under its place in the log, of which the first one's
-/// is given.
+/// Appends each transaction in the column of its depth, labelled with its place in the log. The
+/// first one's place is `first`.
 pub fn put_by_transaction(
     out: &mut Vec<u8>,
     batch: u32,

@@ -13,11 +13,10 @@ use crate::nodes::put_by_transaction;
 use bohm_types::NoMemory;
 use std::alloc::Global;
 
-/// Draws the batch of this number, whose first transaction has this place in the log, from what
-/// holds at each position: whether the transaction there
-/// is sure, its depth, and whether it is on a longest chain. Of a batch of more than 200 transactions
-/// the first 200 of this chain are drawn, and the others by depth. The time grows with the numbers of
-/// transactions and of arrows.
+/// Draws the batch with this number, whose first transaction is at place `first` in the log. For
+/// each position it is given whether the transaction is sure, its depth, and whether it is on a
+/// longest chain. For a batch of more than 200 transactions, the first 200 of `chain` are drawn,
+/// and the others by depth. The time grows with the numbers of transactions and of arrows.
 pub fn put_picture(
     out: &mut Vec<u8>,
     alloc: Global,

@@ -8,7 +8,7 @@ ghost use Rattle.bohm_types.specs.Limits.{largest_batch};
 use crate::decimal::put_decimal;
 use bohm_types::NoMemory;
 
-/// The title of a batch, in a text that is still open.
+/// Appends the title of a batch, as a string that isn't closed yet.
 pub fn put_opening(out: &mut Vec<u8>, batch: u32) -> Result<(), NoMemory>
     ensures { IfOk result (λ _. out.new.items ≡ out.old.items ++ opening batch) }
 {
@@ -18,7 +18,7 @@ pub fn put_opening(out: &mut Vec<u8>, batch: u32) -> Result<(), NoMemory>
     Ok(())
 }
 
-/// What the marks mean, which ends that text.
+/// Appends the meaning of the marks, and closes the title's string.
 pub fn put_legend(out: &mut Vec<u8>) -> Result<(), NoMemory>
     ensures { IfOk result (λ _. out.new.items ≡ out.old.items ++ legend) }
 {
@@ -28,7 +28,7 @@ pub fn put_legend(out: &mut Vec<u8>) -> Result<(), NoMemory>
     Ok(())
 }
 
-/// A text where this holds, and else nothing.
+/// Appends a text if `holds`.
 pub fn put_where(out: &mut Vec<u8>, holds: bool, text: &[u8]) -> Result<(), NoMemory>
     ensures { IfOk result (λ _. out.new.items ≡ out.old.items ++ shown holds text.now) }
 {
@@ -54,7 +54,7 @@ pub fn put_joined(out: &mut Vec<u8>, before: u32) -> Result<(), NoMemory>
     Ok(())
 }
 
-/// The head of a column, after this many others.
+/// Appends the head of a column, after this many others.
 fn put_column(out: &mut Vec<u8>, before: u32) -> Result<(), NoMemory>
     requires few { before < largest_batch }
     ensures { IfOk result (λ _. out.new.items ≡ out.old.items ++ column_line before) }

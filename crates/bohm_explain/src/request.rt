@@ -15,11 +15,12 @@ pub const LARGEST_BATCH: u32 = bohm_types::LARGEST_BATCH;
 pub const MOST_LISTED: u32 = 1000;
 
 /// The greatest number that a batch can have: a log has at most this many transactions, and a batch
-/// at least one.
+/// has at least one.
 pub const LAST_BATCH: u32 = bohm_types::MOST_TXNS as u32;
 
-/// The transactions of a batch, how many keys are listed, the hottest first, and the number of the
-/// batch whose picture is printed instead of the figures, from 1 on (`None`: the figures, so laid out).
+/// The transactions of a batch, how many keys are listed, the hottest first, and the number, from 1
+/// on, of the batch whose picture is printed instead of the figures (`None`: the figures, in this
+/// layout).
 #[derive(Clone, Copy, Debug, PartialEq, Eq)]
 pub struct Request {
     batch: u32,
@@ -72,7 +73,7 @@ impl Request {
         })
     }
 
-    /// Transactions of a batch.
+    /// The number of transactions in a batch.
     pub fn batch(&self) -> u32
         ensures value { result ≡ self.now.batch }
         ensures in_range { IsBetween 1 largest_batch result }
@@ -88,7 +89,7 @@ impl Request {
         self.top
     }
 
-    /// The number of the batch whose picture is printed, from 1 on; `None` are the figures.
+    /// The number of the batch whose picture is printed, from 1 on; `None` means the figures.
     pub fn picture(&self) -> Option<u32>
         ensures value { result ≡ self.now.picture }
         ensures in_range { IfSome result (IsBetween 1 most_txns) }

@@ -12,7 +12,7 @@ use itoa::{Buffer, Integer};
 const HEAD: &[u8] =
     b"  batch  transactions      keys      sure     taken    depth     width       terms   heaviest     width\n";
 
-/// What a text of this many bytes leaves of a column, as blanks.
+/// Appends the blanks that fill a column after a text of `written` bytes.
 pub fn put_blanks(out: &mut Vec<u8>, width: usize, written: usize) -> Result<(), NoMemory>
     ensures { IfOk result (λ _. out.new.items ≡ out.old.items ++ replicate (width - written) 32) }
 {
@@ -24,7 +24,7 @@ pub fn put_blanks(out: &mut Vec<u8>, width: usize, written: usize) -> Result<(),
     Ok(())
 }
 
-/// A text at the right end of a column.
+/// Appends a text, right-aligned in a column.
 pub fn put_cell(out: &mut Vec<u8>, width: usize, text: &[u8]) -> Result<(), NoMemory>
     ensures { IfOk result (λ _. out.new.items ≡ out.old.items ++ cell width text.now) }
 {
@@ -33,14 +33,14 @@ pub fn put_cell(out: &mut Vec<u8>, width: usize, text: &[u8]) -> Result<(), NoMe
     Ok(())
 }
 
-/// A number at the right end of a column.
+/// Appends a number, right-aligned in a column.
 pub fn put_number<I: Integer>(out: &mut Vec<u8>, width: usize, number: I) -> Result<(), NoMemory>
     ensures { IfOk result (λ _. out.new.items ≡ out.old.items ++ cell width (I.text number)) }
 {
     put_cell(out, width, Buffer::new().format(number).as_bytes())
 }
 
-/// A number of hundredths at the right end of a column, with its point.
+/// Appends a number of hundredths with two decimals, right-aligned in a column.
 pub fn put_hundredths(out: &mut Vec<u8>, width: usize, hundredths: u128) -> Result<(), NoMemory>
     ensures { IfOk result (λ _. out.new.items
         ≡ out.old.items ++ hundredths_cell width hundredths) }
@@ -52,7 +52,7 @@ pub fn put_hundredths(out: &mut Vec<u8>, width: usize, hundredths: u128) -> Resu
     Ok(())
 }
 
-/// A quotient in hundredths, cut off, and 0 where nothing is divided by.
+/// A quotient in hundredths, rounded down, or 0 if the divisor is 0.
 fn hundredths(number: u64, divisor: u64) -> u128
     ensures { result ≡ hundredths number divisor }
 {
@@ -62,7 +62,7 @@ fn hundredths(number: u64, divisor: u64) -> u128
     u128::from(number) * 100 / u128::from(divisor)
 }
 
-/// A quotient with two decimals, cut off, and 0.00 where nothing is divided by.
+/// Appends a quotient with two decimals, rounded down, or 0.00 if the divisor is 0.
 pub fn put_quotient(
     out: &mut Vec<u8>,
     width: usize,
@@ -75,7 +75,7 @@ pub fn put_quotient(
     put_hundredths(out, width, hundredths(number, divisor))
 }
 
-/// The line of a batch or of the log.
+/// Appends the line of a batch or of the log.
 fn put_row(out: &mut Vec<u8>, name: &[u8], totals: Totals) -> Result<(), NoMemory>
     ensures { IfOk result (λ _. out.new.items ≡ out.old.items ++ row_line name.now totals) }
 {
@@ -93,7 +93,7 @@ fn put_row(out: &mut Vec<u8>, name: &[u8], totals: Totals) -> Result<(), NoMemor
     Ok(())
 }
 
-/// A line for each batch, numbered from 1.
+/// Appends a line for each batch, numbered from 1.
 fn put_rows(out: &mut Vec<u8>, figures: &[Figures]) -> Result<(), NoMemory>
     requires { length figures.now ≤ most_txns }
     ensures { IfOk result (λ _. out.new.items ≡ out.old.items ++ rows_from 1 figures.now) }
@@ -109,7 +109,7 @@ fn put_rows(out: &mut Vec<u8>, figures: &[Figures]) -> Result<(), NoMemory>
     Ok(())
 }
 
-/// The same, which a summary leaves out.
+/// Appends a line for each batch, unless a summary is requested.
 fn put_batches(out: &mut Vec<u8>, summary: bool, figures: &[Figures]) -> Result<(), NoMemory>
     requires { length figures.now ≤ most_txns }
     ensures { IfOk result (λ _. out.new.items ≡ out.old.items ++ batch_rows summary figures.now) }
@@ -120,7 +120,7 @@ fn put_batches(out: &mut Vec<u8>, summary: bool, figures: &[Figures]) -> Result<
     put_rows(out, figures)
 }
 
-/// A line for each batch below a head, unless a summary is asked for, and one for the log.
+/// Appends a head, a line for each batch unless a summary is requested, and a line for the log.
 pub fn put_table(out: &mut Vec<u8>, summary: bool, figures: &[Figures]) -> Result<(), NoMemory>
     requires { length figures.now ≤ most_txns }
     ensures { IfOk result (λ _. out.new.items ≡ out.old.items ++ table_text summary figures.now) }

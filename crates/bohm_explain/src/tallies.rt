@@ -15,19 +15,19 @@ use bohm_place::DeclaredSet;
 use bohm_types::{Key, NoMemory};
 use indexmap::IndexMap;
 
-/// What is counted of a key.
+/// The counts of a key.
 #[derive(Clone, Copy, Debug, PartialEq, Eq)]
 pub struct Tally {
-    /// The transactions that declare to write it.
+    /// The transactions that declare to write the key.
     pub writers: u32,
-    /// The transactions that declare to read it.
+    /// The transactions that declare to read the key.
     pub readers: u32,
-    /// The transactions on the longest chain through an arrow for it.
+    /// The transactions on the longest chain through an arrow for the key.
     pub chain: u32,
 }
 
 impl Tally {
-    /// Of a key that nothing is known of.
+    /// The tally of a key that hasn't been counted.
     fn nothing() -> Tally
         ensures { result ≡ nothing }
     {
@@ -38,7 +38,7 @@ impl Tally {
         }
     }
 
-    /// One transaction more that has the key in this set.
+    /// The tally with one more transaction that has the key in this set.
     fn plus(self, set: DeclaredSet) -> Tally
         requires { HasRoom set 1 self }
         ensures { result ≡ plus set self }
@@ -120,7 +120,7 @@ pub fn count_all(
     Ok(())
 }
 
-/// Notes a chain through an arrow for the key.
+/// Records a chain through an arrow for the key.
 fn raise(tallies: &mut IndexMap<Key, Tally, HashSeed>, key: &Key, chain: u32)
     requires there { lists tallies.old key.now ≡ true }
     ensures chains { (k : List ℕ) → tally tallies.new k
@@ -132,7 +132,7 @@ fn raise(tallies: &mut IndexMap<Key, Tally, HashSeed>, key: &Key, chain: u32)
     }
 }
 
-/// Notes the longest chain through each of these arrows.
+/// Records the longest chain through each of these arrows.
 pub fn raise_all(tallies: &mut IndexMap<Key, Tally, HashSeed>, arrows: &[Arrow], through: &[u32])
     requires there { All (λ a. lists tallies.old a.key ≡ true) arrows.now }
     ensures chains { (k : List ℕ) → tally tallies.new k

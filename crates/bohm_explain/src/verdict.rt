@@ -1,4 +1,4 @@
-//! The last line: what limits the speed-up.
+//! The last line: what limits the speedup.
 
 ghost use Rattle.std.specs.Prelude.{◌≡◌, ◌≤◌, ◌^◌, ◌++◌, IfOk};
 ghost use Rattle.bohm_explain.specs.Verdict.{execution_limit, free_words, hundredths_up};
@@ -11,7 +11,7 @@ use crate::heat::Heat;
 use crate::table::put_hundredths;
 use bohm_types::NoMemory;
 
-/// The hottest key on the longest chain, where there is a chain.
+/// The hottest key on the longest chain, if there is a chain.
 fn leading(ranked: &[Heat]) -> Option<Heat>
     ensures { result ≡ leading ranked.now }
 {
@@ -26,11 +26,11 @@ fn leading(ranked: &[Heat]) -> Option<Heat>
     leading
 }
 
-/// The time of a run over that of its execution by one worker, as measured (bench/README.md, "Where
-/// the time goes": 7.1 for short bodies, 8.5 for long ones).
+/// The time of a run divided by that of its execution by one worker, as measured (bench/README.md,
+/// "Where the time goes": 7.1 for short bodies, 8.5 for long ones).
 const RUN_OVER_EXECUTION: u128 = 8;
 
-/// A quotient in hundredths, rounded up, and 0 where nothing is divided by.
+/// A quotient in hundredths, rounded up, or 0 if the divisor is 0.
 fn hundredths_up(number: u128, divisor: u128) -> u128
     requires { number ≤ 2 ^ 100 }
     ensures { result ≡ hundredths_up number divisor }
@@ -41,15 +41,15 @@ fn hundredths_up(number: u128, divisor: u128) -> u128
     (number * 100).div_ceil(divisor)
 }
 
-/// How many times as fast as one executing workers can be at most, in hundredths: the terms over the
-/// heaviest chain, rounded up.
+/// The greatest speedup of the execution over one worker, in hundredths: the terms divided by those
+/// of the heaviest chain, rounded up.
 pub fn execution_limit(totals: Totals) -> u128
     ensures { result ≡ execution_limit totals }
 {
     hundredths_up(u128::from(totals.terms), u128::from(totals.heaviest))
 }
 
-/// The same of a whole run, in which the execution alone gets faster.
+/// The greatest speedup of a whole run, in hundredths; only its execution gets faster.
 pub fn run_limit(totals: Totals) -> u128
     ensures { result ≡ run_limit totals }
 {
@@ -61,7 +61,7 @@ pub fn run_limit(totals: Totals) -> u128
     )
 }
 
-/// What more executing workers are good for.
+/// Appends how much more executing workers can help.
 fn put_limit(out: &mut Vec<u8>, totals: Totals) -> Result<(), NoMemory>
     ensures { IfOk result (λ _. out.new.items ≡ out.old.items ++ limit_words totals) }
 {
@@ -80,7 +80,7 @@ fn put_limit(out: &mut Vec<u8>, totals: Totals) -> Result<(), NoMemory>
     Ok(())
 }
 
-/// The words where a key is on the longest chain.
+/// Appends the words for a key on the longest chain.
 fn put_key_words(out: &mut Vec<u8>, totals: Totals, heat: &Heat) -> Result<(), NoMemory>
     ensures { IfOk result (λ _. out.new.items ≡ out.old.items ++ key_words totals heat.now) }
 {
@@ -96,7 +96,7 @@ fn put_key_words(out: &mut Vec<u8>, totals: Totals, heat: &Heat) -> Result<(), N
     put_limit(out, totals)
 }
 
-/// The words where no key is on a chain.
+/// Appends the words if no key is on a chain.
 fn put_free_words(out: &mut Vec<u8>, totals: Totals) -> Result<(), NoMemory>
     ensures { IfOk result (λ _. out.new.items ≡ out.old.items ++ free_words totals) }
 {
@@ -104,7 +104,7 @@ fn put_free_words(out: &mut Vec<u8>, totals: Totals) -> Result<(), NoMemory>
     put_limit(out, totals)
 }
 
-/// The words for a log with these totals.
+/// Appends the words for a log with these totals.
 fn put_words(out: &mut Vec<u8>, totals: Totals, ranked: &[Heat]) -> Result<(), NoMemory>
     ensures { IfOk result (λ _. out.new.items ≡ out.old.items ++ verdict_words totals ranked.now) }
 {
@@ -120,8 +120,8 @@ fn put_words(out: &mut Vec<u8>, totals: Totals, ranked: &[Heat]) -> Result<(), N
     Ok(())
 }
 
-/// An empty line and a line of words: which key is on the longest chain, and what more executing
-/// workers can at most be good for.
+/// Appends an empty line, and a line that says which key is on the longest chain, and how much more
+/// executing workers can help at most.
 pub fn put_verdict(out: &mut Vec<u8>, totals: Totals, ranked: &[Heat]) -> Result<(), NoMemory>
     ensures { IfOk result (λ _. out.new.items ≡ out.old.items ++ verdict_text totals ranked.now) }
 {

@@ -12,7 +12,7 @@ use crate::arrow::Arrow;
 use bohm_types::NoMemory;
 use std::alloc::Global;
 
-/// The first position of the greatest of these.
+/// The first position of the greatest of these values.
 fn heaviest_end(heaviest: &[u32]) -> u32
     requires some { 0 < length heaviest.now }
     requires few { length heaviest.now ≤ largest_batch }
@@ -28,7 +28,7 @@ fn heaviest_end(heaviest: &[u32]) -> u32
     end as u32
 }
 
-/// Whether a heaviest chain to `first` comes by this arrow.
+/// Whether a heaviest chain to `first` comes through this arrow.
 fn goes_on(weights: &[u32], heaviest: &[u32], first: u32, arrow: &Arrow) -> bool
     requires first { first < length weights.now }
     requires paired { length heaviest.now ≡ length weights.now }
@@ -41,7 +41,8 @@ fn goes_on(weights: &[u32], heaviest: &[u32], first: u32, arrow: &Arrow) -> bool
     arrow.to == first && heaviest[arrow.from as usize] + weights[reached] == heaviest[reached]
 }
 
-/// The first position of the chain that was walked back, with one more where the arrow goes on.
+/// Extends a chain, walked backwards to `first`, by the arrow's start if the chain comes through
+/// the arrow. Returns the chain's new first position.
 fn step(
     out: &mut Vec<u32>,
     weights: &[u32],
@@ -66,8 +67,8 @@ fn step(
     Ok(arrow.from)
 }
 
-/// The positions of a heaviest chain that ends at this one. Of each position the heaviest chain to
-/// it is known.
+/// The positions of a heaviest chain that ends at this one. `heaviest` has the weight of the
+/// heaviest chain to each position.
 fn chain_to(
     alloc: Global,
     weights: &[u32],
@@ -95,8 +96,8 @@ fn chain_to(
     Ok(chain)
 }
 
-/// The positions of one of the heaviest chains. Of each position the heaviest chain to it is known.
-/// The time grows with the number of arrows.
+/// The positions of one of the heaviest chains. `heaviest` has the weight of the heaviest chain to
+/// each position. The time grows with the number of arrows.
 pub fn heaviest_chain(
     alloc: Global,
     weights: &[u32],

@@ -27,7 +27,7 @@ fn terms_in(stmt: &StmtView<'_>) -> u32
     }
 }
 
-/// The terms of a transaction's body, and 1 where it has none.
+/// The number of terms of a transaction's body, or 1 if it has none.
 fn weight(txn: &TxnView<'_>) -> u32
     requires { IsUsable txn.now }
     ensures weight { result ≡ weight txn.now }
@@ -40,7 +40,7 @@ fn weight(txn: &TxnView<'_>) -> u32
     terms.max(1)
 }
 
-/// What each transaction weighs.
+/// The weight of each transaction.
 pub fn weights(alloc: Global, txns: &LogPart<'_>) -> Result<Vec<u32>, NoMemory>
     requires formed { AreWellFormed txns.now }
     ensures weights { IfOk result (λ v. v.items ≡ weights txns.now) }
@@ -54,7 +54,7 @@ pub fn weights(alloc: Global, txns: &LogPart<'_>) -> Result<Vec<u32>, NoMemory>
     Ok(weights)
 }
 
-/// The same where all weigh 1.
+/// Weights of 1 for `count` transactions.
 pub fn alike(alloc: Global, count: usize) -> Result<Vec<u32>, NoMemory>
     ensures weights { IfOk result (λ v. v.items ≡ replicate count 1) }
     ensures paired { IfOk result (λ v. length v.items ≡ count) }
@@ -68,7 +68,7 @@ pub fn alike(alloc: Global, count: usize) -> Result<Vec<u32>, NoMemory>
     Ok(weights)
 }
 
-/// How many keys a transaction declares.
+/// The number of keys that a transaction declares.
 fn declared_by(txn: &TxnView<'_>) -> u32
     requires { IsUsable txn.now }
     ensures keys { result ≡ declared_by txn.now }
@@ -77,7 +77,8 @@ fn declared_by(txn: &TxnView<'_>) -> u32
     (txn.reads().len() + txn.writes().len()) as u32
 }
 
-/// How many keys the transactions declare: a key that one reads and writes counts twice.
+/// The number of keys that the transactions declare; a key that a transaction both reads and writes
+/// counts twice.
 pub fn declared(txns: &LogPart<'_>) -> u32
     requires formed { AreWellFormed txns.now }
     requires few { length txns.now ≤ largest_batch }

@@ -1,4 +1,4 @@
--- Numbers that are read as the words give them make the request that the words make.
+-- Numbers that are read as the arguments give them make the request that the arguments make.
 use Rattle.std.proofs.Common.{◌≡◌, ◌∙◌, ap, List, Option, Some, None, codes}
 use Rattle.std.specs.Option.{SomeIff}
 use Rattle.clap.specs.Words.{Row, Text}
@@ -27,7 +27,7 @@ request_read rows asked batch top picture layout result = go result
     go None none = absurd (none in_range)
     go (Some request) is = ap Some (is.1 ∙ same)
 
--- what clap read is what it reads in the words
-pub same_request : (rows : List Row) (words : List Text) → rows ≡ rows_in explain words → asked_in rows ≡ request_in words
+-- what clap read is what it reads in the arguments
+pub same_request : (rows : List Row) (arguments : List Text) → rows ≡ rows_in explain arguments → asked_in rows ≡ request_in arguments
 unfolding request_in
-same_request rows words same = ap asked_in same
+same_request rows arguments same = ap asked_in same

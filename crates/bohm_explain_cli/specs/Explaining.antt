@@ -11,8 +11,7 @@ use Rattle.bohm_explain.specs.Printed.{IsAnswerTo, LacksBatch}
 use Rattle.bohm_explain_cli.specs.declared.fault.ExplainFault.{ExplainFault}
 use Rattle.bohm_explain_cli.specs.declared.fault.ExplainFault.TheVariants.{Run, NoBatch}
 
--- a well-formed document was read to the reader's end, and the text of what is asked of it was written
--- and nothing else
+-- a well-formed document was read to the reader's end, and only the text that answers the request was written
 pub record Explains (asked : Asked) (unread unread' written written' : Option (List ℕ)) : Type 0 where
   pub document : Document
   pub read : ReadsDocument unread unread' document
@@ -28,14 +27,13 @@ pub record StopsExplaining (asked : Asked) (unread unread' written written' : Op
   pub answers : IsAnswerTo asked document.log text
   pub wrote : Sends written written' text sent
 
--- what each refusal says: that the log lacks the batch whose picture is asked for, and else, before the writing,
--- what a run with any settings says of it
+-- what each refusal means: that the log lacks the batch whose picture was requested, or else, before writing, what it means of a run with any settings
 abbrev pub RefusesLog : Asked → Option (List ℕ) → Option (List ℕ) → Option (List ℕ) → Option (List ℕ) → ExplainFault → Type 0
 RefusesLog asked unread unread' written written' NoBatch = ReadsLog unread unread' (λ document. LacksBatch asked document.log)
 RefusesLog asked unread unread' written written' (Run (Write sent)) = StopsExplaining asked unread unread' written written' sent
 RefusesLog asked unread unread' written written' (Run fault) = (given : Given) → Refuses given unread unread' None None fault
 
--- a refusal before the writing
+-- a refusal before writing
 abbrev pub IsEarly : ExplainFault → Type 0
 IsEarly NoBatch = Unit {0}
 IsEarly (Run fault) = IsBeforeWriting fault

@@ -1,4 +1,4 @@
--- The program's options, as clap knows them, and the request that they make.
+-- The program's options, as clap represents them, and the request that they make.
 use Rattle.std.specs.Prelude.{List, [], ◌∷◌, codes, unwrap_or}
 use Rattle.clap.specs.Simple.{new_shape}
 use Rattle.clap.specs.Words.{App, Row}
@@ -21,7 +21,7 @@ explain = record {
   subs = [];
 }
 
--- each option's number, or its default, and whether each flag is there
+-- each option's number, or its default, and whether each flag is given
 abbrev pub asked_in : List Row → Asked
 asked_in rows = record {
   batch = unwrap_or (number_in rows (codes "batch")) defaults.batch;

@@ -5,9 +5,9 @@ use Rattle.bohm_command.specs.declared.ending.NoAnswer.TheVariants as ending
 use Rattle.bohm_explain_cli.specs.declared.fault.ExplainFault.{ExplainFault}
 use Rattle.bohm_explain_cli.specs.declared.fault.ExplainFault.TheVariants.{Run, NoBatch}
 
--- as a run that is refused so; a batch that the log lacks has a line of its own, with the same status
+-- as a run that is refused with this fault; a batch that the log lacks has its own line, with the same status
 abbrev pub IsToldAs : ExplainFault → NoAnswer → Type 0
 IsToldAs (Run fault) reason = reason ≡ ending.Run fault
 IsToldAs NoBatch (ending.Refused line) = line.now ≡ codes "refused: no such batch\n"
 IsToldAs NoBatch (ending.Run fault) = ⊥
-IsToldAs NoBatch (ending.BadWords text) = ⊥
+IsToldAs NoBatch (ending.BadArguments text) = ⊥

@@ -12,10 +12,10 @@ use std::alloc::Global;
 use std::io::{Read, Write};
 use std::random::RandomSource;
 
-/// Reads a log to the reader's end, and writes the text of what is asked of it and nothing else. It
-/// refuses what a run refuses, and a failed write, as a run does, and the picture of a batch that the
-/// log doesn't have. Messages for people on why a text isn't a valid log are added to the report, as
-/// far as allocations succeed. The whole text is made before the first byte is written.
+/// Reads a log to the reader's end, and writes only the answer to the request. It refuses what a
+/// run refuses, reports a failed write, as a run does, and refuses the picture of a batch that the
+/// log doesn't have. Messages for people about why a text isn't a valid log are added to the
+/// report, as long as allocations succeed. The whole text is made before the first byte is written.
 pub fn explain_text<T: RandomSource, R: Read, W: Write>(
     rt: &T,
     alloc: Global,
@@ -32,7 +32,7 @@ pub fn explain_text<T: RandomSource, R: Read, W: Write>(
         (RefusesLog request (R.remaining reader.old) (R.remaining reader.new)
         (W.contents writer.old) (W.contents writer.new)) }
 
-    // Before all faults but a failed write the writer is untouched.
+    // If the fault isn't a failed write, the writer is untouched.
     ensures untouched { IfErr result (λ e. IsEarly e → writer.new ≡ writer.old) }
 {
     let checked = read_reported(rt, alloc, reader, report)?;

@@ -8,15 +8,15 @@ use bohm_answer::RunFault;
 use bohm_command::NoAnswer;
 use bohm_types::NoMemory;
 
-/// What standard error has where the log lacks the batch.
+/// The line on standard error if the log lacks the batch.
 const NO_BATCH: &str = "refused: no such batch\n";
 
 /// Why a log isn't explained.
 #[derive(Clone, Copy, Debug, PartialEq, Eq)]
 pub enum ExplainFault {
-    /// A run refuses the log so, or the explanation couldn't be written.
+    /// A run refuses the log with this fault, or the explanation couldn't be written.
     Run(RunFault),
-    /// The log lacks the batch whose picture is asked for.
+    /// The log lacks the batch whose picture was requested.
     NoBatch,
 }
 
@@ -38,7 +38,7 @@ impl From<NoMemory> for ExplainFault {
     }
 }
 
-/// What the program ends with.
+/// How the program ends after a fault.
 pub fn no_answer(fault: ExplainFault) -> NoAnswer
     ensures { IsToldAs fault result }
 {

@@ -1,27 +1,27 @@
-//! The program: a log on standard input, why it scales or doesn't on standard output.
+//! The program: a log on standard input; on standard output, why it scales or doesn't.
 #![tactic(auto)]
 
+mod arguments;
 mod explaining;
 mod fault;
 mod options;
-mod words;
 
-use bohm_command::{NoAnswer, WordFault, exit_code, tell, without_request, words_given};
+use arguments::read_arguments;
+use bohm_command::{ArgumentFault, NoAnswer, arguments_given, exit_code, tell, without_request};
 use bohm_explain::Request;
 use explaining::explain_text;
 use fault::no_answer;
 use options::NAME;
 use std::io::{self, Write};
 use std::process::ExitCode;
-use words::read_words;
 
 /// The request that the program was started with.
-fn request_given(rt: &HostRuntime) -> Result<Request, WordFault> {
-    let words = words_given(rt, NAME)?;
-    read_words(rt.alloc(), words.as_slice())
+fn request_given(rt: &HostRuntime) -> Result<Request, ArgumentFault> {
+    let arguments = arguments_given(rt, NAME)?;
+    read_arguments(rt.alloc(), arguments.as_slice())
 }
 
-/// Explains the log on standard input, as far as it is asked for.
+/// Explains the log on standard input, as the arguments request.
 fn explain(rt: &HostRuntime, report: &mut Vec<u8>) -> Result<(), NoAnswer> {
     let mut out = io::writer(rt);
     match request_given(rt) {

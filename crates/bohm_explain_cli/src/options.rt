@@ -15,15 +15,15 @@ pub const NAME: &str = "explain";
 /// What help says above the options.
 const ABOUT: &str = "\
 Explains why the log of transactions on standard input scales or doesn't: how
-many of its transactions wait for one another, and how long the longest chain
-of them is, as a table with a line for each batch, and which keys are the
+many of its transactions wait for one another, and how long their longest
+chain is, as a table with a line for each batch, and which keys are the
 hottest. Nothing is run.";
 
 const SUMMARY: &str = "\
 Leave out the figures of each batch";
 
 const JSON: &str = "\
-Print the figures in JSON, in the place of the table";
+Print the figures as JSON instead of a table";
 
 const BATCH: &str = "\
 Transactions in a batch, 1 to 4096 [default: 4096], as
@@ -34,25 +34,26 @@ Keys to list below the table, the hottest first, 0 to 1000
 [default: 10]";
 
 const DOT: &str = "\
-Print the picture of this batch for Graphviz's dot, in the
-place of all figures, 1 to 1000000. The log has to have it";
+Print a picture of this batch for Graphviz's dot instead of
+all figures, 1 to 1000000. The log must have this batch";
 
 /// What help says below the options.
 const AFTER_HELP: &str = "\
 Columns:
   batch         the number of the batch, from 1, and 'all' for the whole log
   transactions  the transactions of the batch
-  keys          the keys that they declare, one that is read and written twice
-  sure          those that commit whatever the store holds
+  keys          the keys that they declare; one both read and written counts twice
+  sure          the transactions that commit whatever the store holds
   taken         declared keys whose version an earlier transaction of the
-                batch makes, which is waited for: those that are read and,
-                but for sure transactions, those that are written
+                batch makes, so that it is waited for: the keys read and,
+                except for sure transactions, the keys written
   depth         transactions on the longest chain of such waits
-  width         transactions over depth: how many times as fast executing
-                workers can at most make it, were all transactions alike
-  terms         the terms in the transactions' bodies, 1 for one without
+  width         transactions over depth: the highest speedup that executing
+                workers can give, if all transactions take equally long
+  terms         the terms in the transactions' bodies, 1 for a body without
   heaviest      the most terms on a chain of waits
-  width         terms over heaviest: the same for transactions as they are
+  width         terms over heaviest: the same if a transaction takes as long
+                as it has terms
 
 Batches run one after another, so the depths of 'all' are sums.
 
@@ -61,15 +62,15 @@ Hottest keys:
   readers       those that declare to read it
   chain         transactions on the longest chain with a wait for the key
 
-Below them stand the transactions of one of the longest chains, by their places
-in the log: the first hundred of them, and with --json all.
+Below them are the transactions of one of the longest chains, by their numbers in
+the log: the first hundred, or all of them with --json.
 
-A picture has the transactions of the batch. Of a batch with more than 200 it has
+A picture shows the transactions of the batch. If they are more than 200, it shows
 the first 200 of a heaviest chain, and how many others each depth has.
 
-The last line says which key is on the longest chain, and how many times as fast
-more executing workers can at most make the execution, and the whole run. The
-second follows from the first: as measured, execution takes an eighth of a run.
+The last line says which key is on the longest chain, and the highest speedup that
+more executing workers can give to the execution, and to the whole run. The second
+follows from the first: as measured, execution takes an eighth of a run.
 
 Examples:
   explain --batch 1000 --top 20 < bank.log
@@ -79,8 +80,8 @@ Examples:
 Exit status:
   0  the explanation was printed, or this help
   1  the log was refused, or lacks the batch to be drawn: standard error has
-     the fault's line, and of a bad log what check says
-  2  the words were refused: standard error says why";
+     the fault's line, and for a bad log what check says
+  2  the arguments were refused: standard error says why";
 
 /// The command.
 pub fn command<'a>(alloc: Global) -> Result<Command<'a>, AllocError>

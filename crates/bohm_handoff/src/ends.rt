@@ -22,7 +22,7 @@ pub struct Giver<T: Drop, P: Promise<T>> {
     ghost holds: { seat.me ≡ (side place.value.shared.key false, (0, None) ∷ []) },
 }
 
-/// The end that takes it.
+/// The end that takes the value.
 #[derive(Drop)]
 pub struct Taker<T: Drop, P: Promise<T>> {
     pub(crate) place: Arc<Place<T, P>>,

@@ -1,4 +1,4 @@
-//! A value that one thread hands to another, and that keeps a promise.
+//! Passes a value that keeps a promise from one thread to another.
 #![tactic(auto)]
 
 mod ends;

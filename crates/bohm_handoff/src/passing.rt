@@ -10,8 +10,8 @@ use std::alloc::{AllocError, Global};
 use std::sync::{Arc, Wait};
 use std::thread::Promise;
 
-/// A handoff of a value that keeps this promise. An `Err` says that an allocation failed. The time is
-/// constant.
+/// The two ends of a handoff of a value that keeps this promise. An `Err` means that an allocation
+/// failed. The time is constant.
 pub fn handoff<T: Drop, P: Promise<T>>(
     alloc: Global,
     promise: &P,
@@ -41,12 +41,12 @@ impl<T: Drop, P: Promise<T>> Giver<T, P> {
 }
 
 impl<T: Drop, P: Promise<T>> Taker<T, P> {
-    /// Whether the value is there. The time is constant.
+    /// Whether the value has been given. The time is constant.
     pub fn is_given(&self) -> bool {
         self.place.shared.peek(0) == 0
     }
 
-    /// Takes the value, once it is there. It blocks until then, forever if none is given.
+    /// Takes the value. It blocks until the value is given, forever if none is given.
     pub fn take<R: Wait>(self, rt: &R) -> T
         ensures { P.kept_by (awaited self) result }
     {

@@ -4,10 +4,10 @@ use atomic_table::{Play, TableRule};
 use std::marker::PhantomData;
 use std::thread::Promise;
 
-/// What a thread knows of a handoff. No value of it is made.
+/// What a thread knows about a handoff. No value of this type is created.
 pub struct Side<P> {
     pub promise: P,
-    /// It may still take the empty slot, to fill it.
+    /// Whether it may still take the empty slot, to fill it.
     pub fresh: bool,
 }
 
@@ -33,14 +33,14 @@ impl<T, P> Play<Option<T>, Side<P>> for Begins {
     ghost then = { λ st m n after. HasEmpty m.0.promise after };
 }
 
-/// It gives the slot back.
+/// The first side gives the slot back.
 pub struct Gives;
 
 impl<T, P> Play<Option<T>, Side<P>> for Gives {
     ghost then = { λ st m n after. Unit {0} };
 }
 
-/// Another side takes the slot, if a value is there.
+/// Another side takes the slot, if there is a value in it.
 pub struct Takes<T, P> {
     of: PhantomData<(T, P)>,
 }

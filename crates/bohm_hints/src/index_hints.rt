@@ -1,22 +1,22 @@
-//! Index hints: where the keys of a log stand in a history.
+//! Index hints: the indexes of a log's keys in a history.
 
 use bohm_log::NameTable;
 use bohm_types::NoMemory;
 use std::alloc::Global;
 
-/// For each key of a log, by its number there, the index that it last had in a history. Each is compared
-/// with its key before it is used, so that no answer depends on it.
+/// For each key of a log, by its number in the log, the index that it last had in a history. Each
+/// index is compared with its key before it is used, so that no result depends on it.
 #[derive(Drop)]
 pub struct IndexHints {
-    /// How many keys the log shares with others: each is likely to have its number in the log as its
-    /// index.
+    /// How many keys the log shares with other logs: the likely index of each is its number in the
+    /// log.
     shared: usize,
     /// The indexes of the log's other keys.
     indexes: Vec<u32>,
 }
 
 impl IndexHints {
-    /// Those of a log none of whose keys was looked up. It allocates nothing.
+    /// The hints of a log none of whose keys was looked up. It allocates nothing.
     pub fn new(alloc: Global) -> IndexHints {
         IndexHints {
             shared: 0,
@@ -24,8 +24,8 @@ impl IndexHints {
         }
     }
 
-    /// Makes room for the keys of a log with these names; `NoMemory` where there is none. The time grows
-    /// with the number of keys for which there was no room.
+    /// Makes room for the keys of a log with these names. It fails with `NoMemory` if the
+    /// allocation fails. The time grows with the number of keys for which there was no room.
     pub fn cover(&mut self, names: NameTable<'_>) -> Result<(), NoMemory> {
         self.shared = names.shared().len();
         if self.indexes.len() < names.own().len() {
@@ -34,7 +34,7 @@ impl IndexHints {
         Ok(())
     }
 
-    /// The index of the key with a number in the log, or one that no key has.
+    /// The likely index of the key with this number in the log, or an index that no key has.
     #[inline(always)]
     pub fn index(&self, number: u32) -> u32 {
         let own = match (number as usize).checked_sub(self.shared) {
@@ -47,7 +47,7 @@ impl IndexHints {
         }
     }
 
-    /// Notes the index of the key with a number in the log, where there is room for it.
+    /// Notes the index of the key with this number in the log, if there is room for it.
     pub fn note(&mut self, number: u32, index: u32) {
         if let Some(own) = (number as usize).checked_sub(self.shared)
             && let Some(hint) = self.indexes.get_mut(own)
@@ -56,7 +56,7 @@ impl IndexHints {
         }
     }
 
-    /// Forgets the indexes of all keys. Room is kept for as many.
+    /// Removes the indexes of all keys. The capacity is kept.
     pub fn clear(&mut self) {
         self.indexes.clear();
     }

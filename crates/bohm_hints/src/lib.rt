@@ -1,4 +1,4 @@
-//! Where a history had each key of a log, so that a run looks each key up once.
+//! The index that each key of a log last had in a history, so that a run looks each key up once.
 #![tactic(auto)]
 
 mod index_hints;

@@ -1,4 +1,4 @@
-//! Boards over histories, what passes do on them, and what completing them leaves.
+//! Boards over histories, passes on them, and the results of completing them.
 
 ghost use Rattle.std.specs.Prelude.{◌≡◌, ◌<◌, ◌≤◌, All, length, IfOk};
 ghost use Rattle.bohm_txn.specs.Faulty.{IsWellFormedTxn};
@@ -46,7 +46,7 @@ pub fn next_batch<'a, R: Threads + Sync>(
     history.batch(alloc, txns, plan)
 }
 
-// ---- what a call asks of positions, tested as it runs
+// ---- preconditions on positions, asserted at run time
 
 /// Asserts that a transaction of the batch has the timestamp.
 pub fn assert_in(rt: &impl Abort, batch: &Batch, t: u32)
@@ -59,7 +59,7 @@ pub fn assert_in(rt: &impl Abort, batch: &Batch, t: u32)
     assert!(rt; below);
 }
 
-/// Asserts for each of these that a transaction of the batch has the timestamp.
+/// Asserts for each of these timestamps that a transaction of the batch has it.
 fn assert_all_in(rt: &impl Abort, batch: &Batch, share: &[u32])
     ensures { All (IsIn batch.now) share.now }
 {
@@ -142,7 +142,7 @@ pub fn finish<'a>(
     complete(closed, asides, &mut scratch)
 }
 
-/// Runs a batch by one pass.
+/// Runs a batch with one pass.
 pub fn execute<'a>(
     rt: &impl Abort,
     alloc: Global,
@@ -156,7 +156,7 @@ pub fn execute<'a>(
     Ok(finish(rt, alloc, board.close(pass), &[aside]))
 }
 
-// ---- what a finished batch says
+// ---- the results of a finished batch
 
 /// How the transaction with a timestamp ends.
 pub fn outcome(rt: &impl Abort, finished: &Finished, t: u32) -> Outcome {

@@ -7,7 +7,7 @@ ghost use Rattle.bohm_board.specs.Passes.{batch_of};
 ghost use Rattle.bohm_exec.specs.Steps.{IsFree};
 
 use crate::boards::{assert_in, share};
-use crate::logs::{checked, repeated};
+use crate::shared_logs::{checked, repeated};
 use crate::sweeper::Sweeper;
 use bohm_board::{Board, Claimed, Pass};
 use bohm_txn::Checked;
@@ -68,7 +68,7 @@ fn takes(board: &Board, mut pass: Pass, t: u32) -> bool
     matches!(board.claim(&mut pass, t), Claimed::Mine)
 }
 
-// The positions that a thread gets, each claimed by a pass of its own.
+// The positions that a thread gets, each claimed by its own pass.
 fn claim_all(rt: &impl Abort, alloc: Global, board: &Board, job: Job) -> Vec<u32>
     requires { IsFree board.now job.pass }
 {
@@ -85,8 +85,8 @@ fn claim_all(rt: &impl Abort, alloc: Global, board: &Board, job: Job) -> Vec<u32
     mine
 }
 
-// The positions that four threads get of a board of this log, and how many positions have no
-// outcome.
+// The positions that four threads get on a board of this log, and the number of positions without
+// an outcome.
 fn race<R: Abort + Threads + Sync>(rt: &R, alloc: Global, log: &Checked) -> (Vec<u32>, u32) {
     let (board, pass, other) = Sweeper::new(rt, alloc, log).split();
     let claimed = thread::map_vec(
@@ -100,7 +100,7 @@ fn race<R: Abort + Threads + Sync>(rt: &R, alloc: Global, log: &Checked) -> (Vec
     (all, board.close(pass).unfinished())
 }
 
-// All of these, in order.
+// The elements of all lists, in order.
 fn sorted(rt: &impl Abort, alloc: Global, lists: Vec<Vec<u32>>) -> Vec<u32> {
     let mut all = Vec::new(alloc);
     for list in lists {
@@ -122,8 +122,9 @@ fn up_to(rt: &impl Abort, alloc: Global, last: u32) -> Vec<u32> {
 #[test]
 fn threads_that_race_get_each_position_once(rt: HostRuntime) {
     let alloc: Global = rt.alloc();
-    let idle = repeated(&rt, alloc, "txn\nreads\nwrites\nend\n", 4096);
-    let log = checked(&rt, alloc, "log 1\n", idle.as_str());
+    let idle = repeated(alloc, b"log 1\n", b"txn\nreads\nwrites\nend\n", 4096);
+    let idle = idle.expect(&rt, "memory");
+    let log = checked(alloc, idle.as_slice()).expect(&rt, "a log");
     let each = up_to(&rt, alloc, 4096);
     for _ in 0..20 {
         let (claimed, unfinished) = race(&rt, alloc, &log);

@@ -29,7 +29,7 @@ set a = -9223372036854775807 - 1
 end
 ";
 
-/// Transactions that aren't.
+/// Transactions that aren't sure.
 const UNSURE: &str = "\
 txn
 reads

@@ -71,7 +71,7 @@ fn opened(rt: &impl Abort, alloc: Global, store: &str) -> History {
     History::open(alloc, doc.store()).expect(rt, "memory")
 }
 
-// Runs a batch, or trims, and asserts what is readable then.
+// Runs a batch, or trims, and asserts what is readable afterwards.
 fn goes_on_so<R: Abort + Threads + Sync>(rt: &R, alloc: Global, history: &mut History, part: &str) {
     let (step, want) = part.split_once('@').expect(rt, "a step");
     if step.starts_with("txn") {
@@ -83,8 +83,8 @@ fn goes_on_so<R: Abort + Threads + Sync>(rt: &R, alloc: Global, history: &mut Hi
     assert_eq!(rt; told(rt, alloc, history).as_str(), want, "{part}");
 }
 
-/// Opens a history of the store before the first `#`. Each further part has a batch to run, or a
-/// number to trim at, and after `@` what is readable then.
+/// Opens a history of the store before the first `#`. Each part after it has a batch to run, or a
+/// number to trim at, and after `@` what is readable afterwards.
 fn goes_so<R: Abort + Threads + Sync>(rt: &R, alloc: Global, row: &str) {
     let (store, parts) = row.split_once('#').expect(rt, "a store");
     let mut history = opened(rt, alloc, store);
@@ -149,7 +149,7 @@ end
 --
 ";
 
-/// Each batch sees the one before, and a floor is still readable.
+/// Each batch sees the one before, and the floor is still readable.
 const COUNTERS: &str = "\
 a 0
 #txn

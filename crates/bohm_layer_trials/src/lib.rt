@@ -1,13 +1,18 @@
-//! Tests of the layers that a run is made of, over their public calls. They cover sure
-//! transactions, plans, sweeps by several passes and threads, and histories in use.
+//! Tests of the layers that a run is made of, over their public calls. They cover texts, sums
+//! without terms, procedures and their calls, sure transactions, plans, sweeps by several passes and
+//! threads, and histories in use. The logs, the gate and the generator are shared with the tests of whole runs.
 #![tactic(auto)]
 
 #[cfg(test)]
 mod boards;
 #[cfg(test)]
+mod calls;
+mod counting_gate;
+#[cfg(test)]
 mod crowds;
 #[cfg(test)]
 mod documents;
+mod draws;
 #[cfg(test)]
 mod histories;
 #[cfg(test)]
@@ -15,6 +20,19 @@ mod logs;
 #[cfg(test)]
 mod planning;
 #[cfg(test)]
+mod procedure_draws;
+#[cfg(test)]
+mod procedure_faults;
+mod shared_logs;
+#[cfg(test)]
+mod sums;
+#[cfg(test)]
 mod sweeper;
 #[cfg(test)]
 mod sweeps;
+#[cfg(test)]
+mod texts;
+
+pub use counting_gate::CountingGate;
+pub use draws::{Draws, one_of};
+pub use shared_logs::{checked, counters, repeated};

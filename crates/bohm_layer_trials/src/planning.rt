@@ -1,4 +1,4 @@
-//! Plans of a batch after an earlier one, and the chains that they leave.
+//! Plans of a batch after an earlier batch, and the resulting chains.
 
 ghost use Rattle.std.specs.Prelude.{◌≡◌, ◌%◌, ◌<◌, ℕ, List, [], length, slice_index};
 ghost use Rattle.std.proofs.Math.Nat.{mod-lt};
@@ -54,8 +54,8 @@ impl Partition for FirstByte {
     ghost in_range = { λ s k. mod-lt (slice_index k 0) s.some };
 }
 
-/// A partition by a key's first byte, whose first call waits for a while until a second one has
-/// begun.
+/// A partition by a key's first byte, whose first call waits for a limited time until a second call
+/// has begun.
 #[derive(Drop)]
 struct Meeting {
     bytes: FirstByte,
@@ -88,7 +88,7 @@ impl Partition for Meeting {
     ghost in_range = { λ s k. mod-lt (slice_index k 0) s.bytes.some };
 }
 
-/// Writes a.
+/// A transaction that writes a.
 const EARLIER: &str = "txn\nreads\nwrites a\nend\n";
 
 /// Transactions without statements.
@@ -231,7 +231,7 @@ fn assert_chains(
     assert_chain(rt, shards, 99 % parts.parts, b"c", c);
 }
 
-// Chains of no key, in this many parts, whose tables hash from a drawn seed.
+// Chains of no key, in this many parts, whose tables hash with a drawn seed.
 fn no_chains<R: Abort + RandomSource>(rt: &R, alloc: Global, parts: u32) -> Shards
     ensures parts { length result ≡ parts }
     ensures empty { (part : List ℕ → ℕ) (k : List ℕ) → chain_in part result k ≡ [] }
@@ -239,7 +239,7 @@ fn no_chains<R: Abort + RandomSource>(rt: &R, alloc: Global, parts: u32) -> Shar
     Shards::with_seed(alloc, parts, DrawnSeed::draw(rt)).expect(rt, "memory")
 }
 
-// Plans the batch after an earlier one, checks the plan and the chains, and trims these twice.
+// Plans the batch after an earlier one, checks the plan and the chains, and trims the chains twice.
 fn plan_batch<R: Abort + RandomSource + Threads + Sync>(
     rt: &R,
     alloc: Global,

@@ -43,7 +43,7 @@ pub fn seen(
     (status, found)
 }
 
-/// One pass that knows what each of the two knew.
+/// One pass that knows what each of the two passes knew.
 pub fn joined(board: &Board, left: Pass, right: Pass) -> Pass
     requires { IsFree board.now left × IsFree board.now right }
     ensures { IsFree board.now result }
@@ -72,7 +72,7 @@ impl<'a> Sweeper<'a> {
         Sweeper { board, pass }
     }
 
-    /// What a sweep of these positions defers.
+    /// Sweeps these positions, and returns what it sets aside.
     pub fn sweep<G: Gate>(
         &mut self,
         rt: &impl Abort,
@@ -83,7 +83,7 @@ impl<'a> Sweeper<'a> {
         sweep_these(rt, alloc, &self.board, &mut self.pass, share, gate)
     }
 
-    /// Another pass, which claims an open position.
+    /// Splits off another pass, which claims an open position.
     pub fn hold(self, rt: &impl Abort, t: u32) -> (Sweeper<'a>, Pass) {
         let Sweeper { board, pass } = self;
         assert_in(rt, board.batch(), t);
@@ -116,7 +116,7 @@ impl<'a> Sweeper<'a> {
         Sweeper { board, pass }
     }
 
-    /// Closes the board: how many positions have no outcome, and the result of completing it.
+    /// Closes and completes the board. Returns how many positions had no outcome, and the result.
     pub fn finish(self, rt: &impl Abort, alloc: Global, asides: &[Aside]) -> (u32, Finished<'a>) {
         let Sweeper { board, pass } = self;
         let closed = board.close(pass);

@@ -1,10 +1,12 @@
-//! Worked examples of sweeps. Their answers are the serial run's, made by hand.
+//! Worked examples of sweeps. Their answers are the serial run's, computed by hand.
 
 ghost use Rattle.bohm_exec.specs.Steps.{IsFree};
 ghost use denote.Param.Send.{IsSync};
 
 use crate::boards::{cell, outcome, present, shown, sweep_these};
-use crate::logs::{checked, repeated};
+use crate::counting_gate::CountingGate;
+use crate::logs::checked;
+use crate::shared_logs::counters;
 use crate::sweeper::{Sweeper, joined, seen};
 use bohm_board::{Board, Pass, Status};
 use bohm_exec::{Aside, Finished, Gate, OpenGate, Point, share_of};
@@ -15,17 +17,8 @@ use std::sync::atomic::{AtomicU64, Ordering};
 use std::thread;
 use std::thread::Threads;
 
-/// Shows `a` and counts it up.
-const COUNTER: &str = "txn\nreads a\nwrites a\nshow a\nset a = a + 1\nend\n";
-
-/// Increments `a` from 0, this many times.
-fn counters(rt: &impl Abort, alloc: Global, count: u32) -> Checked {
-    let txns = repeated(rt, alloc, COUNTER, count);
-    checked(rt, alloc, "log 1\na 0\n", txns.as_str())
-}
-
-/// Asserts of this many transactions that each shows the number of those before it, and leaves one
-/// more.
+/// Asserts for this many transactions that each shows the number of transactions before it, and
+/// stores one more.
 fn assert_counted(rt: &impl Abort, finished: &Finished, len: u32) {
     let mut before = 0u32;
     for t in 1..=len {
@@ -43,7 +36,7 @@ fn assert_counted(rt: &impl Abort, finished: &Finished, len: u32) {
     }
 }
 
-/// Sweeps these positions, and asserts that these pairs are deferred.
+/// Sweeps these positions, and asserts that these pairs are set aside.
 fn sweeps_so(
     rt: &impl Abort,
     alloc: Global,
@@ -56,7 +49,7 @@ fn sweeps_so(
     aside
 }
 
-/// Closes a board of this many counters, of which this many have no outcome yet.
+/// Closes a board of `len` counters, of which `without` have no outcome yet.
 fn ends_counted(
     rt: &impl Abort,
     alloc: Global,
@@ -80,7 +73,7 @@ struct FirstHeld {
     finished: AtomicU64,
 }
 
-/// Waits, for a while, until the flag is set.
+/// Waits, for a limited time, until the flag is set.
 fn wait_for(flag: &AtomicU64) {
     for _ in 0..10_000_000u32 {
         if flag.load(Ordering::SeqCst) > 0 {
@@ -102,7 +95,7 @@ impl Gate for FirstHeld {
     }
 }
 
-// What another pass finds while position 1 is held.
+// Asserts what another pass finds while position 1 is held.
 fn assert_held(rt: &impl Abort, board: &Board, pass: &mut Pass)
     requires { IsFree board.now pass.old }
     ensures { IsFree board.now pass.new }
@@ -120,7 +113,7 @@ fn assert_held(rt: &impl Abort, board: &Board, pass: &mut Pass)
     assert_eq!(rt; held.as_slice(), want.as_slice());
 }
 
-// What it finds once position 1 is finished.
+// Asserts what that pass finds once position 1 is finished.
 fn assert_finished(rt: &impl Abort, board: &Board, mut pass: Pass)
     requires { IsFree board.now pass }
 {
@@ -135,7 +128,7 @@ fn assert_finished(rt: &impl Abort, board: &Board, mut pass: Pass)
     assert_eq!(rt; done.as_slice(), want.as_slice());
 }
 
-// What another pass finds while position 1 is held, and once it is finished.
+// Asserts what another pass finds while position 1 is held, and once it is finished.
 fn look_at_held(rt: &impl Abort, alloc: Global, board: &Board, mut pass: Pass, gate: &FirstHeld)
     requires { IsFree board.now pass }
 {
@@ -203,7 +196,7 @@ fn hold_and_look<R: Abort + Threads + Sync>(
     assert!(rt; ended.is_ok());
 }
 
-// A board whose position 1 was held, while another pass looked at it, and is finished.
+// A board whose position 1 was held while another pass looked at it, and is finished.
 fn held_before<'a, R: Abort + Threads + Sync>(
     rt: &R,
     alloc: Global,
@@ -220,7 +213,7 @@ fn held_before<'a, R: Abort + Threads + Sync>(
 #[test]
 fn held_then_finished(rt: HostRuntime) {
     let alloc: Global = rt.alloc();
-    let log = counters(&rt, alloc, 3);
+    let log = counters(alloc, 3).expect(&rt, "a log");
     let mut sweeper = held_before(&rt, alloc, &log);
     sweeps_so(&rt, alloc, &mut sweeper, &[3, 2], &[]);
     ends_counted(&rt, alloc, sweeper, &[], 0, 3);
@@ -252,34 +245,9 @@ fn sure_write_goes_past(rt: HostRuntime) {
     assert_eq!(rt; cells, (present(6), present(9)));
 }
 
-/// Counts the claims and the finished positions.
-#[derive(Drop)]
-struct Counts {
-    claimed: AtomicU64,
-    finished: AtomicU64,
-}
-
-impl Gate for Counts {
-    fn at(&self, point: Point) {
-        match point {
-            Point::Planned(_) => {}
-            Point::Claimed(_) => {
-                self.claimed.fetch_add(1, Ordering::SeqCst);
-            }
-            Point::Finished(_) => {
-                self.finished.fetch_add(1, Ordering::SeqCst);
-            }
-        }
-    }
-}
-
-// What a sweep of eight positions leaves if another pass holds the fourth.
-fn assert_held_up(rt: &impl Abort, sweeper: &mut Sweeper<'_>, counts: &Counts) {
-    let counted = (
-        counts.claimed.load(Ordering::SeqCst),
-        counts.finished.load(Ordering::SeqCst),
-    );
-    assert_eq!(rt; counted, (3, 3));
+// Asserts what a sweep of eight positions leaves if another pass holds the fourth.
+fn assert_held_up(rt: &impl Abort, sweeper: &mut Sweeper<'_>, counts: &CountingGate) {
+    assert_eq!(rt; counts.counts(), (3, 3));
     let found = [
         sweeper.see(rt, 3, 0),
         sweeper.see(rt, 4, 0),
@@ -293,12 +261,9 @@ fn assert_held_up(rt: &impl Abort, sweeper: &mut Sweeper<'_>, counts: &Counts) {
     assert_eq!(rt; found.as_slice(), want.as_slice());
 }
 
-// Sweeps eight positions, of which another pass holds the fourth.
+// Sweeps eight positions; another pass holds the fourth.
 fn sweep_around(rt: &impl Abort, alloc: Global, sweeper: &mut Sweeper<'_>) -> Aside {
-    let counts = Counts {
-        claimed: AtomicU64::new(0),
-        finished: AtomicU64::new(0),
-    };
+    let counts = CountingGate::new();
     let aside = sweeper.sweep(rt, alloc, &[1, 2, 3, 4, 5, 6, 7, 8], &counts);
     let pairs = [(4, 4), (5, 4), (6, 4), (7, 4), (8, 4)];
     assert_eq!(rt; aside.pairs(), pairs.as_slice());
@@ -309,7 +274,7 @@ fn sweep_around(rt: &impl Abort, alloc: Global, sweeper: &mut Sweeper<'_>) -> As
 #[test]
 fn eight_one_held(rt: HostRuntime) {
     let alloc: Global = rt.alloc();
-    let log = counters(&rt, alloc, 8);
+    let log = counters(alloc, 8).expect(&rt, "a log");
     let (mut sweeper, holder) = Sweeper::new(&rt, alloc, &log).hold(&rt, 4);
     let aside = sweep_around(&rt, alloc, &mut sweeper);
     drop(holder);
@@ -328,7 +293,7 @@ fn falling(rt: &impl Abort, alloc: Global, first: u32) -> Vec<u32> {
 #[test]
 fn deepest_work_stack(rt: HostRuntime) {
     let alloc: Global = rt.alloc();
-    let log = counters(&rt, alloc, 4096);
+    let log = counters(alloc, 4096).expect(&rt, "a log");
     let mut sweeper = Sweeper::new(&rt, alloc, &log);
     let share = falling(&rt, alloc, 4096);
     let aside = sweeps_so(&rt, alloc, &mut sweeper, share.as_slice(), &[]);

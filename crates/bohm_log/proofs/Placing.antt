@@ -8,9 +8,9 @@ use Rattle.std.specs.Str.{bytes_eq}
 use Rattle.std.specs.Ordering.{nat_cmp, is_eq}
 use Rattle.std.specs.declared.cmp.Ordering.TheVariants.{Less, Equal, Greater}
 use Rattle.std.specs.Cmp.Lexicographic.{slice_cmp}
-use Rattle.std.proofs.lemmas.List.{drop_all, take_all, take_more, take-append-drop, length-map, get_or_append_left, get_or-append_right, get_or_default}
+use Rattle.std.proofs.lemmas.List.{drop_all, take_more, take-append-drop, length-map, get_or_append_left, get_or-append_right, get_or_default}
 use Rattle.std.proofs.lemmas.List.{map-append, take-map, drop-map, get_or-map}
-use Rattle.std.proofs.lemmas.List.Elements.{All-append, All-push, All-cons, All-take, All-drop, All-get_or}
+use Rattle.std.proofs.lemmas.List.Elements.{All-get_or}
 use Rattle.std.proofs.lemmas.List.FromFn.{get_or-range_with_len, map-range_with_len_more}
 use Rattle.std.proofs.lemmas.Option.{get_or_from_slice_get, slice_get-get_or}
 use Rattle.std.proofs.lemmas.Bool.{or_right}
@@ -57,13 +57,6 @@ inserted_after k xs i x h is greater e =
     e ∙ ap (λ ys. take i xs ++ ys) here ∙ sym (append_assoc (take i xs) (x ∷ []) (inserted k (drop (i + 1) xs)))
     ∙ ap (λ ys. ys ++ inserted k (drop (i + 1) xs)) (sym more)
 
-pub inserted_last : (k : List ℕ) (xs : List (List ℕ)) (i : ℕ) → length xs ≤ i → inserted k xs ≡ take i xs ++ inserted k (drop i xs)
-    → xs ++ k ∷ [] ≡ inserted k xs
-inserted_last k xs i h e =
-    let none : drop i xs ≡ [] = drop_all i xs h in
-    let all : take i xs ≡ xs = take_all i xs h in
-    sym (e ∙ (λ j. all j ++ inserted k (none j)))
-
 -- ---- keys that are their own set
 
 pub own_last : (keys : List (List ℕ)) (i : ℕ) → length keys ≤ i + 1 → i < length keys → key_set (drop i keys) ≡ drop i keys
@@ -100,11 +93,6 @@ inserted_name names sorted i id =
     map-append (name_at names) (take i sorted) (id ∷ drop i sorted)
     ∙ (λ j. sym (take-map (name_at names) i sorted) j ++ name_at names id ∷ sym (drop-map (name_at names) i sorted) j)
 
-pub still_named : (names : List (List ℕ)) (sorted : List ℕ) (i id : ℕ) → id < length names → AllNamed names sorted → AllNamed names (insert sorted i id)
-still_named names sorted i id inside named =
-    All-append (λ m. m < length names) (take i sorted) (id ∷ drop i sorted) (All-take (λ m. m < length names) i sorted named)
-    (All-cons (λ m. m < length names) id (drop i sorted) inside (All-drop (λ m. m < length names) i sorted named))
-
 -- the names before a place are below another one
 abbrev pub BelowUpTo : List (List ℕ) → List ℕ → ℕ → ℕ → Type 0
 BelowUpTo names sorted id i = inserted (name_at names id) (names_at names sorted)
@@ -134,27 +122,6 @@ number_after names sorted id i n k x inside is named within number there greater
     let same : k ≡ name_at names id = is ∙ sym (get_or_default names id [] k inside) in
     inserted_after (name_at names id) (names_at names sorted) i x (omega (arith, within, length-map sorted (name_at names)))
     (name_read names sorted i n x named within number there) (ap (λ (y : List ℕ). slice_cmp nat_cmp y x) (sym same) ∙ greater) e
-
-pub number_last : (names : List (List ℕ)) (sorted : List ℕ) (id i : ℕ) → length sorted ≤ i → BelowUpTo names sorted id i
-    → names_at names (sorted ++ id ∷ []) ≡ inserted (name_at names id) (names_at names sorted)
-number_last names sorted id i past e =
-    map-append (name_at names) sorted (id ∷ [])
-    ∙ inserted_last (name_at names id) (names_at names sorted) i (omega (arith, past, length-map sorted (name_at names))) e
-
-pub named_last : (names : List (List ℕ)) (sorted : List ℕ) (id : ℕ) → id < length names → AllNamed names sorted → AllNamed names (sorted ++ id ∷ [])
-named_last names sorted id inside named = All-push (λ m. m < length names) sorted id named inside
-
--- the numbers from a place on, once that before it is there too
-pub sorted_next : (names : List (List ℕ)) (ids sorted new : List ℕ) (i j id : ℕ) → j ≡ i + 1 → i < length ids → id ≡ get_or ids i id
-    → names_at names sorted ≡ key_set (names_at names (drop j ids)) → names_at names new ≡ inserted (name_at names id) (names_at names sorted)
-    → names_at names new ≡ key_set (names_at names (drop i ids))
-sorted_next names ids sorted new i j id next inside is so e =
-    let there : drop i ids ≡ id ∷ drop j ids = drop-cons ids i id inside
-    ∙ (λ m. sym is m ∷ drop (suc_is m) ids) in
-    e ∙ ap (inserted (name_at names id)) so ∙ ap (λ (ns : List ℕ). key_set (names_at names ns)) (sym there)
-  where
-    suc_is : suc i ≡ j
-    suc_is = omega (arith, next)
 
 -- ---- places in order
 

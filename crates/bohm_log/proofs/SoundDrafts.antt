@@ -5,9 +5,8 @@ use Rattle.std.specs.List.{AllByRecursion}
 use Rattle.bohm_types.specs.Term.{Atom}
 use Rattle.bohm_types.specs.Stmt.{Stmt}
 use Rattle.bohm_types.specs.Txn.{Txn}
-use Rattle.bohm_types.specs.Sound.{IsName, IsTerm, IsSum, IsStmt, IsTxn}
-use Rattle.bohm_types.specs.declared.edition.Edition.{Edition}
-use Rattle.bohm_log.specs.Drafting.{Drafted, fresh, with_read, with_write, with_term, with_sum, with_stmt}
+use Rattle.bohm_types.specs.Sound.{IsName, IsTerm, IsStmt, IsTxn}
+use Rattle.bohm_log.specs.Drafting.{Drafted, with_read, with_write, with_term, with_stmt}
 use Rattle.bohm_log.specs.SoundLogs.{IsSoundDraft, AreTxns}
 
 pub each_append : {A : Type 0} (P : A → Type 0) (xs ys : List A) → AllByRecursion P xs → AllByRecursion P ys → AllByRecursion P (xs ++ ys)
@@ -22,9 +21,6 @@ pub taken_more : {A : Type 0} (P : A → Type 0) (xs : List A) (i : ℕ) (x : A)
     → AllByRecursion P (take (i + 1) xs)
 taken_more P xs i x inside is h one =
     subst (AllByRecursion P) (ap (λ y. take i xs ++ y ∷ []) is ∙ sym (take_more xs i x inside)) (one_more P (take i xs) x h one)
-
-pub sound_fresh : (e : Edition) → IsSoundDraft (fresh e)
-sound_fresh e = record { txn = record { same = refl; reads = tt; writes = tt; body = tt }; done = tt; latest = tt }
 
 pub sound_read : (d : Drafted) (k : List ℕ) → IsSoundDraft d → IsName k → IsSoundDraft (with_read d k)
 sound_read d k h name = record {
@@ -42,9 +38,6 @@ sound_write d k h name = record {
 
 pub sound_term : (d : Drafted) (minus : Bool) (atom : Atom) → IsSoundDraft d → IsTerm (minus, atom) → IsSoundDraft (with_term d minus atom)
 sound_term d minus atom h term = record { txn = h.txn; done = h.done; latest = one_more IsTerm d.latest (minus, atom) h.latest term }
-
-pub sound_sum : (d : Drafted) → IsSoundDraft d → IsSum d.latest → IsSoundDraft (with_sum d)
-sound_sum d h sum = record { txn = h.txn; done = one_more IsSum d.done d.latest h.done sum; latest = tt }
 
 pub sound_stmt : (d : Drafted) (s : Stmt) → IsSoundDraft d → IsStmt s → IsSoundDraft (with_stmt d s)
 sound_stmt d s h stmt = record {

@@ -1,4 +1,4 @@
--- A procedure in memory, and the instance that a call makes of it.
+-- A procedure in memory, and the instance that a call builds from it.
 use Rattle.std.specs.Prelude.{◌≡◌, ℕ, ℤ, pos, ◌+◌, ◌-◌, ◌^◌, ◌<◌, ◌≤◌, List, [], ◌∷◌, ◌++◌, map, length, drop}
 use Rattle.std.specs.Prelude.{Bool, true, false, Some, nat_lt, replicate, if◌then◌else◌}
 use Rattle.std.specs.List.{AllByRecursion, IsDistinct, slice_index_or, slice_get, range_with_len}
@@ -27,11 +27,11 @@ use Rattle.bohm_types.specs.Limits.{most_keys}
 abbrev pub names_in : List DeclaredName → List (List ℕ)
 names_in names = map (λ n. n.name) names
 
--- the name, with the parameter that it is
+-- the name, with the index of the parameter that it is, if it is one
 abbrev pub declared_name : List (List ℕ) → List ℕ → DeclaredName
 declared_name params name = record { name = name; param = place params name }
 
--- the key that a declared name stands for
+-- the key that a declared name represents
 abbrev pub argument_of : List (List ℕ) → DeclaredName → List ℕ
 argument_of args n = argument_or n.name args n.param
 
@@ -73,7 +73,7 @@ pub record IsOwn (p : Parts) (locals : List ℕ) : Type 0 where
 
 -- ---- other keys
 
--- by the index of each key, its index in the set
+-- for each key's index, the key's index in the set
 pub record ArePlaces (keys set : List (List ℕ)) (to : List ℕ) : Type 0 where
   pub each : (i : ℕ) → i < length keys → slice_get set (slice_index_or to i 0) ≡ Some (slice_index_or keys i [])
 
@@ -142,7 +142,7 @@ let_rows start (i ∷ is) (v ∷ vs) = let_row i start (start + length (value_te
 
 -- ---- a body that is prepared
 
--- the terms and statements of a call whose keys are at these places, and whose values are a term each
+-- the terms and statements of a call whose keys are at these indices, and whose values are one term each
 pub record IsPlaced (terms : List TermRow) (rows : List StmtRow) (locals reads writes : List ℕ) (b : PlacedBody) : Type 0 where
   pub same_terms : b.terms.items ≡ map (term_to reads) terms
   pub same_rows : b.rows.items ≡ let_rows (length terms) locals (replicate (length locals) (pos 0))

@@ -81,27 +81,27 @@ pub record Widens (c d : Shared) : Type 0 where
 
 -- ---- how long columns are
 
--- the entries of the columns without the numbers of names
+-- how many entries the columns have, except names and their numbers
 abbrev pub rest_in : Shared → ℕ
 rest_in c = length c.others + length c.large + length c.terms + length c.rows
 
--- the entries of all columns but the names
+-- how many entries all columns but the names have
 abbrev pub entries_in : Shared → ℕ
 entries_in c = length c.ids + rest_in c
 
--- the entries that a transaction's parts are
+-- how many entries a transaction's parts are
 abbrev pub entries_of : Parts → ℕ
 entries_of p = length p.reads + length p.writes + length p.others + length p.large + length p.terms + length p.rows
 
--- more names than come with this many declared keys
+-- more names than this many declared keys add
 abbrev pub most_names : ℕ → ℕ → ℕ
 most_names reads writes = 32 * (1 + reads + writes)
 
--- more than all columns hold once the parts have come
+-- more than all columns hold after the parts are appended
 abbrev pub held_with : Shared → Parts → ℕ
 held_with c p = length c.names + most_names (length p.reads) (length p.writes) + entries_in c + entries_of p
 
--- parts came, of which those may stand there already that an earlier call added, and few names
+-- parts were appended, except those that an earlier call may have appended already, and few names were added
 pub record Longer (c d : Shared) (p : Parts) : Type 0 where
   pub names : length d.names ≤ length c.names + most_names (length p.reads) (length p.writes)
   pub entries : entries_in d ≤ entries_in c + entries_of p

@@ -26,7 +26,7 @@ stmt_terms (Remove k) = 0
 stmt_terms (Show sum) = length sum
 stmt_terms Fail = 0
 
--- the terms of the statement that is read
+-- the terms of the statement being read
 abbrev pub open_terms : Drafted → ℕ
 open_terms d = sum_by length d.done + length d.latest
 
@@ -53,7 +53,7 @@ pub record IsCompact (p : Parts) : Type 0 where
   pub others : length p.others ≤ length p.terms + length p.rows
   pub large : length p.large ≤ length p.terms
 
--- one other name may have come, or one large literal
+-- at most one other name and one large literal were added
 pub record GrowsByOne (p q : Parts) : Type 0 where
   pub others : length q.others ≤ length p.others + 1
   pub large : length q.large ≤ length p.large + 1
@@ -64,13 +64,13 @@ pub record IsCounted (p : Parts) (d : Drafted) : Type 0 where
   pub rows : length p.rows ≡ length d.txn.body
   pub compact : IsCompact p
 
--- the names and literals of a procedure's own instance are few beside its terms, and of its terms few are left out of a call
+-- the names and literals of a procedure's own instance are few compared with its terms, and few of its terms are left out of a call
 pub record IsFilled (p : Parts) (procedure : Procedure) : Type 0 where
   pub terms : length p.terms ≤ sum_by stmt_terms procedure.body + length procedure.values
   pub others : length p.others ≤ length p.terms + length p.rows + length procedure.values
   pub large : length p.large ≤ length p.terms
 
--- columns are as long as the transactions ask for. Handles alone make 2^30 names and no more
+-- the columns' lengths are bounded by the size of the transactions. Handles alone add at most 2^30 names
 pub record IsMeasured (c : Shared) (ts : List Txn) : Type 0 where
   pub names : length c.names ≤ 2 ^ 30 + 32 * log_size ts
   pub entries : entries_in c ≤ 16 * log_size ts

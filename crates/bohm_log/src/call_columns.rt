@@ -1,4 +1,4 @@
-//! Adds calls to the columns.
+//! Appends calls to the columns.
 
 ghost use Rattle.std.specs.Prelude.{◌≡◌, ◌≢◌, ◌≤◌, ◌+◌, ◌*◌, ◌^◌, [], ◌∷◌, IfOk, OnOk, OnErr};
 ghost use Rattle.std.specs.Prelude.{Err, IfSome, true, length, map, max};
@@ -24,7 +24,7 @@ use crate::template::{BodyColumns, DeclaredName};
 use bohm_types::{Edition, Key, Value};
 use std::hash::BuildHasher;
 
-/// Where a body's keys move, by their places in the sets of a call.
+/// Where a body's keys move, given their indices in the sets of a call.
 fn moves_by<'a, 'b>(body: &'b BodyColumns, places: &'a CallPlaces) -> Moves<'a, 'b>
     requires reads { IsOrdered (length body.now.reads.items) places.now.reads }
     requires writes { IsOrdered (length body.now.writes.items) (written body.now places.now) }
@@ -64,8 +64,8 @@ impl<S: BuildHasher> Columns<S> {
 }
 
 impl<S: BuildHasher + Drop> Columns<S> {
-    /// The handle of a key, which is numbered if it is new. Where there are 2^30 names it is not: then
-    /// the handle has the number that was noted last for its hash.
+    /// The handle of a key, which is numbered if it is new. If there are 2^30 names it isn't
+    /// numbered: then the handle has the number that was noted last for its hash.
     pub fn handle(&mut self, key: &Key) -> Result<KeyHandle, LogFault>
         ensures key { IfOk result (λ h. h.key ≡ key.now) }
         ensures interns { Interns (shared_of self.old) (shared_of self.new) }
@@ -82,7 +82,7 @@ impl<S: BuildHasher + Drop> Columns<S> {
         Ok(KeyHandle { key: *key, number })
     }
 
-    /// Adds the number of the key that a declared name stands for.
+    /// Appends the number of the key that a declared name represents.
     #[inline(always)]
     fn add_argument(&mut self, name: &DeclaredName, args: &[KeyHandle]) -> Result<(), LogFault>
         ensures ok { OnOk result
@@ -98,7 +98,7 @@ impl<S: BuildHasher + Drop> Columns<S> {
         }
     }
 
-    /// Adds the numbers of the keys that declared names stand for, in their order.
+    /// Appends the numbers of the keys that declared names represent, in the names' order.
     #[tactic(auto, using(crate::proofs::Widening::numbered_each))]
     fn add_arguments(&mut self, names: &[DeclaredName], args: &[KeyHandle]) -> Result<(), LogFault>
         ensures ok { OnOk result
@@ -115,8 +115,8 @@ impl<S: BuildHasher + Drop> Columns<S> {
         Ok(())
     }
 
-    /// Adds the numbers of the set of the keys that declared names stand for, and finds the keys'
-    /// places in it. Keys that rise are numbered where they stay.
+    /// Appends the numbers of the set of keys that declared names represent, and finds the keys'
+    /// indices in it. The numbers of ascending keys are appended in their final order.
     #[tactic(auto, using(crate::proofs::Widening::come_longer))]
     fn add_set(
         &mut self,
@@ -146,9 +146,9 @@ impl<S: BuildHasher + Drop> Columns<S> {
         Ok(())
     }
 
-    /// Adds the numbers of the set of the keys that are written, and finds the keys' places in it.
-    /// Where the same keys are read, whose numbers stand from `start` on up to the end, these come
-    /// once more.
+    /// Appends the numbers of the set of keys that are written, and finds the keys' indices in it.
+    /// If the same keys are read, whose numbers are the entries from `start` to the end, those
+    /// entries are repeated.
     fn add_written_set(
         &mut self,
         start: usize,
@@ -182,9 +182,9 @@ impl<S: BuildHasher + Drop> Columns<S> {
         self.add_set(&mut places.writes, body.writes.as_slice(), args)
     }
 
-    /// Adds the numbers of a call's sets, and finds its keys' places in them. What a procedure
-    /// reads and writes in the same order is looked up once. The three offsets are where the reads
-    /// begin, where the writes begin and where they end.
+    /// Appends the numbers of a call's sets, and finds its keys' indices in them. Keys that a
+    /// procedure reads and writes in the same order are looked up once. The three offsets are where
+    /// the reads begin, where the writes begin and where the writes end.
     fn add_call_sets(
         &mut self,
         places: &mut CallPlaces,
@@ -213,9 +213,9 @@ impl<S: BuildHasher + Drop> Columns<S> {
         Ok((start, middle, end))
     }
 
-    /// Adds what a call makes of a body, whose values' names have these places. No part of it is
-    /// copied but into the columns, and names and statements that an earlier call added aren't added
-    /// again.
+    /// Appends the parts of a call's instance, given the body and the indices of its values' names.
+    /// Its parts are copied only into the columns, and names and statements that an earlier call
+    /// appended aren't appended again.
     #[tactic(auto, using(crate::proofs::Measuring::called_terms, crate::proofs::Measuring::called_rows))]
     pub fn append_call(
         &mut self,

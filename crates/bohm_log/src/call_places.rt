@@ -1,4 +1,4 @@
-//! Where the keys of a call stand in its sets.
+//! The indices of a call's keys in its sets.
 
 ghost use Rattle.std.specs.Prelude.{◌≡◌, ◌≢◌, ◌<◌, ◌≤◌, ◌+◌, [], ◌∷◌, true, false, drop, length, IfSome, IfNone};
 ghost use Rattle.std.specs.Prelude.{OnOk, Some, Err, slice_get};
@@ -21,7 +21,7 @@ use bohm_types::{Key, MOST_KEYS};
 use std::alloc::Global;
 use std::cmp::Ordering;
 
-/// Puts a name's number in its place among those of rising names, if it isn't among them.
+/// Inserts a name's number in order among those of ascending names, if it isn't among them.
 fn insert_number(sorted: &mut Vec<u32>, names: NameTable<'_>, id: u32) -> Result<(), LogFault>
     requires id { id < length (all_names names) }
     requires named { AllNamed (all_names names) sorted.old.items }
@@ -60,7 +60,7 @@ fn sort_numbers(sorted: &mut Vec<u32>, names: NameTable<'_>, ids: &[u32]) -> Res
     Ok(())
 }
 
-/// The place of a key in a set of at most 16.
+/// The index of a key in a set of at most 16 keys.
 #[tactic(auto, using(crate::proofs::Seeking::found, crate::proofs::Seeking::not_found))]
 fn place_in_set(set: &Keys<'_>, key: &Key) -> Option<u32>
     ensures found { IfSome result (λ i. slice_get set.now i ≡ Some key.now) }
@@ -73,7 +73,7 @@ fn place_in_set(set: &Keys<'_>, key: &Key) -> Option<u32>
     Some(place as u32)
 }
 
-/// Where each of some keys stands in their set.
+/// Finds the index of each key in the keys' set.
 fn find_places(places: &mut Vec<u32>, set: &Keys<'_>, keys: &Keys<'_>) -> Result<(), LogFault>
     requires few { length keys.now ≤ most_keys }
     requires set { set.now ≡ key_set keys.now }
@@ -91,7 +91,7 @@ fn find_places(places: &mut Vec<u32>, set: &Keys<'_>, keys: &Keys<'_>) -> Result
     Ok(())
 }
 
-/// Whether the key at a place is below the next one, if there is one.
+/// Whether the key at an index is below the next key, if there is one.
 #[tactic(auto, using(crate::proofs::Placing::own_further_at, crate::proofs::Placing::own_last))]
 fn is_below_next(keys: &Keys<'_>, i: usize) -> bool
     requires { i < length keys.now }
@@ -119,7 +119,7 @@ fn are_rising(keys: &Keys<'_>) -> bool
     true
 }
 
-/// The places 0, 1, .. of so many keys.
+/// The indices 0, 1, .. of `count` keys.
 #[tactic(auto, using(crate::proofs::Placing::range_more))]
 pub(crate) fn count_places(places: &mut Vec<u32>, count: usize) -> Result<(), LogFault>
     requires { count ≤ most_keys }
@@ -133,10 +133,10 @@ pub(crate) fn count_places(places: &mut Vec<u32>, count: usize) -> Result<(), Lo
     Ok(())
 }
 
-/// In which order the keys come that a procedure's names stand for.
+/// The order of the keys that a procedure's names represent.
 #[derive(Clone, Copy)]
 pub enum KeyOrder {
-    /// Each key is below the next one, so each is at its name's own place in the set.
+    /// Each key is below the next one, so each is at its name's own index in the set.
     Rising,
     /// There are two keys, and the second one is the lower one.
     Falling,
@@ -164,13 +164,13 @@ fn order_of(keys: &Keys<'_>) -> KeyOrder
     }
 }
 
-/// Where the keys that a procedure's names stand for are in their set.
+/// The indices, in their set, of the keys that a procedure's names represent.
 #[derive(Drop)]
 pub struct SetPlaces {
-    /// At each place of a name in the procedure, the place of its key in the set.
+    /// At the index of each name in the procedure, the index of its key in the set.
     pub places: Vec<u32>,
     pub order: KeyOrder,
-    /// The numbers of the set's keys, where they don't rise.
+    /// The numbers of the set's keys, if the keys don't ascend.
     pub numbers: Vec<u32>,
 }
 
@@ -183,7 +183,7 @@ impl SetPlaces {
         }
     }
 
-    /// Whether the keys rise.
+    /// Whether the keys ascend.
     pub fn is_rising(&self) -> bool
         ensures rising { result ≡ true → self.now.order ≡ Rising }
         ensures others { result ≡ false → self.now.order ≢ Rising }
@@ -191,14 +191,14 @@ impl SetPlaces {
         matches!(self.order, KeyOrder::Rising)
     }
 
-    /// Whether there are two keys that fall.
+    /// Whether there are two keys in descending order.
     pub fn is_falling(&self) -> bool
         ensures { result ≡ true → self.now.order ≡ Falling }
     {
         matches!(self.order, KeyOrder::Falling)
     }
 
-    /// The set of two names, the second of which is the lower one.
+    /// Stores the set of two names, the second of which is the lower one.
     fn turn(&mut self, first: u32, second: u32) -> Result<(), LogFault>
         ensures numbers { OnOk result (self.new.numbers.items ≡ second ∷ first ∷ []) }
         ensures places { OnOk result (self.new.places.items ≡ 1 ∷ 0 ∷ []) }
@@ -214,7 +214,7 @@ impl SetPlaces {
         Ok(())
     }
 
-    /// The set of the names with these numbers, in any order.
+    /// Stores the set of the names with these numbers, which are in any order.
     fn sort(&mut self, names: NameTable<'_>, ids: &[u32]) -> Result<(), LogFault>
         requires few { length ids.now ≤ most_keys }
         requires named { AllNamed (all_names names) ids.now }
@@ -234,7 +234,7 @@ impl SetPlaces {
         find_places(&mut self.places, &set, &keys)
     }
 
-    /// The set of the names with these numbers, and where each of them stands in it.
+    /// Stores the set of the names with these numbers, and the index of each of them in it.
     pub fn settle(&mut self, names: NameTable<'_>, ids: &[u32]) -> Result<(), LogFault>
         requires few { length ids.now ≤ most_keys }
         requires named { AllNamed (all_names names) ids.now }
@@ -251,20 +251,21 @@ impl SetPlaces {
     }
 }
 
-/// From where on the columns have what earlier calls added. They are compared with what the next call
-/// needs, so wrong offsets cost room alone.
+/// The offsets in the columns of what earlier calls added. The entries there are compared with what
+/// the next call needs, so wrong offsets cost only memory.
 #[derive(Clone, Copy)]
 pub struct EarlierCalls {
-    /// The last call's names of locals.
+    /// The offset of the last call's names of locals.
     pub others: u32,
-    /// The statements of the last call whose keys fell.
+    /// The offset of the statements of the last call whose keys descended.
     pub falling: u32,
-    /// Those of the last other call.
+    /// The offset of the statements of the last other call.
     pub rising: u32,
 }
 
 impl EarlierCalls {
-    /// From where on the statements of a call may stand already, whose keys fall or don't.
+    /// The offset at which the statements of a call may already be. `falls` says whether its keys
+    /// descend.
     pub fn rows(&self, falls: bool) -> u32
         ensures falling { falls ≡ true → result ≡ self.now.falling }
         ensures others { falls ≡ false → result ≡ self.now.rising }
@@ -272,7 +273,8 @@ impl EarlierCalls {
         if falls { self.falling } else { self.rising }
     }
 
-    /// Notes where the names and the statements of a call stand, whose keys fall or don't.
+    /// Notes the offsets of the names and the statements of a call. `falls` says whether its keys
+    /// descend.
     pub fn note(&mut self, falls: bool, others: u32, rows: u32)
         ensures names { self.new.others ≡ others }
         ensures falling { falls ≡ true → self.new.falling ≡ rows }
@@ -287,7 +289,7 @@ impl EarlierCalls {
     }
 }
 
-/// Where the keys of a call stand in its sets, in vectors that are used again for the next one.
+/// The indices of a call's keys in its sets, in vectors that are reused for the next call.
 pub struct CallPlaces {
     pub(crate) reads: SetPlaces,
     pub(crate) writes: SetPlaces,
@@ -322,7 +324,8 @@ impl CallPlaces {
     }
 }
 
-/// The places to which a body's keys move, and the body at these places, if it is prepared for them.
+/// The indices to which a body's keys move, and the body with these indices, if it is prepared for
+/// them.
 #[derive(Clone, Copy)]
 pub struct Moves<'a, 'b> {
     pub reads: &'a [u32],

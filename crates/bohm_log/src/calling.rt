@@ -22,10 +22,10 @@ use crate::row::{Action, AtomKind, StmtRow, TermRow};
 use crate::template::{BodyColumns, DeclaredName};
 use bohm_types::{GREATEST_LITERAL, Value};
 
-/// The end of the literals that a term's index can be.
+/// The exclusive upper bound of the literals that are stored as a term's index.
 const SMALL_END: u64 = 1 << 32;
 
-/// The handle that a declared name stands for, if it is a parameter.
+/// The handle that a declared name represents, if the name is a parameter.
 #[inline(always)]
 pub(crate) fn handle_of<'a>(name: &DeclaredName, args: &'a [KeyHandle]) -> Option<&'a KeyHandle>
     ensures some { IfSome result
@@ -63,7 +63,7 @@ fn term_to(places: &[u32], term: &TermRow) -> TermRow
     moved
 }
 
-/// The place of a statement's name over other keys.
+/// The index of a statement's name over other keys.
 fn name_to(reads: &[u32], writes: &[u32], action: Action, name: u32) -> u32
     ensures { result ≡ name_by reads.now writes.now action name }
 {
@@ -82,7 +82,7 @@ fn row_to(reads: &[u32], writes: &[u32], row: &StmtRow) -> StmtRow
     moved
 }
 
-/// Adds terms over other keys.
+/// Appends terms over other keys.
 #[tactic(auto, using(crate::proofs::Widening::begins_by))]
 pub(crate) fn relocate_terms(
     column: &mut Vec<TermRow>,
@@ -100,7 +100,7 @@ pub(crate) fn relocate_terms(
     Ok(())
 }
 
-/// Adds statements over other keys.
+/// Appends statements over other keys.
 #[tactic(auto, using(crate::proofs::Widening::begins_by))]
 pub(crate) fn relocate_rows(
     column: &mut Vec<StmtRow>,
@@ -126,7 +126,7 @@ fn is_minus(number: i64) -> bool
     number < 0
 }
 
-/// Adds the literal of a value, if it is a large one. The least value has the greatest literal.
+/// Appends the literal of a value, if it is a large one. The least value has the greatest literal.
 #[inline(always)]
 #[tactic(auto, using(crate::proofs::Widening::begins_by))]
 fn add_large_value(column: &mut Vec<u64>, value: Value) -> Result<(), LogFault>
@@ -146,7 +146,7 @@ fn add_large_value(column: &mut Vec<u64>, value: Value) -> Result<(), LogFault>
     Ok(())
 }
 
-/// Adds the large literals of values.
+/// Appends the large literals of values.
 #[tactic(auto, using(crate::proofs::Lets::large_next, crate::proofs::Lets::large_all))]
 fn add_large_values(column: &mut Vec<u64>, values: &[Value]) -> Result<(), LogFault>
     ensures begins { Begins column.old.items column.new.items }
@@ -159,7 +159,7 @@ fn add_large_values(column: &mut Vec<u64>, values: &[Value]) -> Result<(), LogFa
     Ok(())
 }
 
-/// Adds a body's large literals, and those of values.
+/// Appends a body's large literals, and then those of values.
 pub(crate) fn add_large(
     column: &mut Vec<u64>,
     large: &[u64],
@@ -182,8 +182,8 @@ pub(crate) fn add_large(
     Ok((from, to))
 }
 
-/// Adds the terms of a value, where there are so many large literals. It returns how many there
-/// are with the value's own.
+/// Appends the terms of a value, given the number of large literals before it. Returns their number
+/// with the value's own.
 #[inline(always)]
 #[tactic(auto, using(crate::proofs::Widening::begins_by))]
 fn add_value(column: &mut Vec<TermRow>, many: usize, value: Value) -> Result<usize, LogFault>
@@ -219,7 +219,7 @@ fn add_value(column: &mut Vec<TermRow>, many: usize, value: Value) -> Result<usi
     Ok(many + 1)
 }
 
-/// Adds the terms of values, where there are so many large literals before theirs.
+/// Appends the terms of values, given the number of large literals before theirs.
 #[tactic(auto, using(crate::proofs::Lets::terms_next, crate::proofs::Lets::terms_all, crate::proofs::Lets::many_next))]
 fn add_values(column: &mut Vec<TermRow>, large: usize, values: &[Value]) -> Result<(), LogFault>
     ensures begins { Begins column.old.items column.new.items }
@@ -234,7 +234,7 @@ fn add_values(column: &mut Vec<TermRow>, large: usize, values: &[Value]) -> Resu
     Ok(())
 }
 
-/// Adds a body's terms over other keys.
+/// Appends a body's terms over other keys.
 #[tactic(auto, using(crate::proofs::Widening::begins_by))]
 fn copy_terms(
     column: &mut Vec<TermRow>,
@@ -257,7 +257,7 @@ fn copy_terms(
     }
 }
 
-/// Adds a body's terms over other keys, and those of values.
+/// Appends a body's terms over other keys, and then those of values.
 pub(crate) fn add_terms(
     column: &mut Vec<TermRow>,
     body: &BodyColumns,
@@ -298,8 +298,8 @@ fn terms_len(value: Value) -> usize
     }
 }
 
-/// Adds the statements that bind values to the names at these places. Their terms begin at an
-/// offset.
+/// Appends the statements that bind values to the names at these indices. Their terms begin at
+/// offset `first`.
 #[tactic(auto, using(crate::proofs::Lets::rows_next, crate::proofs::Lets::rows_all, crate::proofs::Lets::start_next))]
 pub(crate) fn add_lets(
     column: &mut Vec<StmtRow>,
@@ -337,9 +337,10 @@ fn are_short(values: &[Value]) -> bool
     values.iter().all(|value| terms_len(*value) == 1)
 }
 
-/// Adds statements that bind values to the names at these places, and then a body's, over other
-/// keys, without as many at its start. Those of a body that is prepared for the call aren't added
-/// where the same stand from an offset on.
+/// Appends statements that bind values to the names at these indices, and then the body's
+/// statements over other keys, without its first statements, one for each value. The statements of
+/// a body that is prepared for the call aren't appended if the column already has them at offset
+/// `earlier`.
 pub(crate) fn add_rows(
     column: &mut Vec<StmtRow>,
     body: &BodyColumns,

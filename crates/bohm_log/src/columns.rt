@@ -28,26 +28,28 @@ use bohm_types::{Edition, Key};
 use std::alloc::Global;
 use std::hash::BuildHasher;
 
-/// How many entries a cleared column keeps room for, however few it had.
+/// A cleared column keeps capacity for up to this many entries, however few it had.
 const KEPT_ROOM: usize = 4096;
 
-/// Cleared columns keep their names where there are at most this many.
+/// Cleared columns keep their names if there are at most this many.
 const FEWEST_KEPT: usize = 1 << 14;
 
-/// They keep more where these are at most this many for each declared key and each handle.
+/// They keep more names if there are at most this many for each declared key and each handle.
 const KEPT_NAMES: usize = 4;
 
-/// How many handles count for that, so that handles of ever new keys don't fill the memory.
+/// The most handles that count for `KEPT_NAMES`, so that handles of ever new keys don't fill the
+/// memory.
 const KEPT_HANDLES: usize = 1 << 16;
 
-/// With this many names, a handle makes no other, and a clearing keeps no more.
+/// With this many names, making a handle adds no name, and clearing keeps no more names than this.
 pub(crate) const MOST_NAMED: usize = 1 << 30;
 
 pub struct Columns<S: BuildHasher> {
     pub names: LayeredNames<S>,
-    /// Where names were found last, of those that aren't noted among the shared ones.
+    /// Where names that aren't noted among the shared ones were last found.
     pub hints: NameHints,
-    /// How many handles of keys were made, before the last clearing too.
+    /// How many handles `handle` made, including those before the last clearing. Handles of numbers
+    /// that were noted aren't counted, since they add no name.
     pub handles: usize,
     pub ids: Vec<u32>,
     pub others: Vec<Key>,
@@ -79,7 +81,7 @@ impl<S: BuildHasher + Drop> Drop for Columns<S> {
     }
 }
 
-/// How long the columns are.
+/// The lengths of the columns.
 #[derive(Clone, Copy)]
 pub struct Ends {
     pub names: usize,
@@ -90,7 +92,7 @@ pub struct Ends {
     pub rows: usize,
 }
 
-/// The offset after this many entries. A column with more than 2^32 - 1 is `Full`.
+/// The offset after this many entries. It fails with `Full` for more than 2^32 - 1.
 #[inline(always)]
 pub(crate) fn offset(length: usize) -> Result<u32, LogFault>
     ensures ok { IfOk result (λ n. n ≡ length) }
@@ -103,7 +105,7 @@ pub(crate) fn offset(length: usize) -> Result<u32, LogFault>
     }
 }
 
-/// Adds a list at a column's end, between the offsets that it returns.
+/// Appends a list to a column. Returns the offsets between which the list is.
 #[tactic(auto, using(crate::proofs::Widening::landed))]
 pub(crate) fn add_all<T: Copy>(column: &mut Vec<T>, part: &[T]) -> Result<(u32, u32), LogFault>
     ensures begins { Begins column.old.items column.new.items }
@@ -138,8 +140,8 @@ impl<S: BuildHasher> Columns<S> {
     }
 }
 
-/// Makes room for this many more entries. Where there is no memory for it, the column grows as it
-/// is filled.
+/// Reserves capacity for this many more entries. If the allocation fails, the column grows as it is
+/// filled.
 pub(crate) fn make_room<T>(column: &mut Vec<T>, more: usize)
     ensures { column.new.items ≡ column.old.items }
 {
@@ -147,7 +149,7 @@ pub(crate) fn make_room<T>(column: &mut Vec<T>, more: usize)
 }
 
 impl<S: BuildHasher> Columns<S> {
-    /// Columns of no transactions, which share these names.
+    /// The columns of no transactions, which share these names.
     pub fn sharing(alloc: Global, hasher: S, shared: SharedNames<S>) -> Columns<S>
         ensures ids { (shared_of result).ids ≡ [] }
         ensures empty { entries_in (shared_of result) ≡ 0 }
@@ -166,7 +168,7 @@ impl<S: BuildHasher> Columns<S> {
         }
     }
 
-    /// Makes room for what a text of this many bytes usually holds.
+    /// Reserves capacity for what a text of this many bytes usually holds.
     pub fn make_room(&mut self, bytes: usize)
         ensures { shared_of self.new ≡ shared_of self.old }
     {
@@ -190,8 +192,8 @@ impl<S: BuildHasher> Columns<S> {
     }
 }
 
-/// Removes all entries of a column. Its room is kept where it is for at most four times as many, or for
-/// some thousand; else it is freed.
+/// Removes all entries of a column. Its capacity is kept if it is for at most four times as many,
+/// or for at most `KEPT_ROOM`; otherwise it is freed.
 pub(crate) fn empty<T: Copy>(column: &mut Vec<T>)
     ensures { column.new.items ≡ [] }
 {
@@ -210,7 +212,7 @@ pub(crate) fn are_same(one: &[Key], other: &[Key]) -> bool
     one == other
 }
 
-/// Adds the entries of a column from this offset on once more.
+/// Appends a copy of the column's entries from this offset on.
 pub(crate) fn repeat_end(column: &mut Vec<u32>, from: usize) -> Result<(), LogFault>
     requires { from ≤ length column.old.items }
     ensures ok { OnOk result (column.new.items ≡ column.old.items ++ drop from column.old.items) }
@@ -238,8 +240,8 @@ fn number_anew<S: BuildHasher + Drop>(
     Ok(number)
 }
 
-/// The number of a name, which is added if it is new. It is searched for only if it isn't this one, if
-/// any, nor one that is noted for the name's hash.
+/// The number of a name, which is added if it is new. The name is searched for only if its number
+/// is neither `hint` nor one that is noted for the name's hash.
 #[inline(always)]
 #[tactic(auto, using(crate::proofs::Seeking::named_already))]
 pub(crate) fn number_of<S: BuildHasher + Drop>(
@@ -277,7 +279,7 @@ impl<S: BuildHasher> Columns<S> {
         }
     }
 
-    /// How long they are.
+    /// The lengths of the columns.
     #[inline(always)]
     pub fn ends(&self) -> Ends
         ensures { result ≡ ends_of (shared_of self.now) }
@@ -294,7 +296,7 @@ impl<S: BuildHasher> Columns<S> {
 }
 
 impl<S: BuildHasher + Drop> Columns<S> {
-    /// Removes what came after these ends.
+    /// Removes the entries after these ends.
     #[inline(never)]
     pub fn cut_back(&mut self, ends: Ends)
         ensures { shared_of self.new ≡ cut_to ends (shared_of self.old) }
@@ -307,10 +309,11 @@ impl<S: BuildHasher + Drop> Columns<S> {
         self.rows.truncate(ends.rows);
     }
 
-    /// Removes what the transactions had. Shared names stay. The others stay with their numbers, for
-    /// transactions that declare them again, where there are at most 16,384, or at most four for each
-    /// declared key and each handle, and with the shared ones at most 2^30. Else they are removed. A
-    /// key counts each time that it was declared, and of all handles that were ever made 65,536 count.
+    /// Removes the transactions' entries. Shared names stay. The other names stay with their
+    /// numbers, for transactions that declare them again, if there are at most 16,384 of them, or
+    /// at most four for each declared key and each handle, and at most 2^30 together with the
+    /// shared ones. Otherwise they are removed. A key counts each time that it was declared, and of
+    /// all handles that `handle` ever made at most 65,536 count.
     pub fn clear(&mut self)
         ensures ids { (shared_of self.new).ids ≡ [] }
         ensures empty { entries_in (shared_of self.new) ≡ 0 }
@@ -331,7 +334,7 @@ impl<S: BuildHasher + Drop> Columns<S> {
         empty(&mut self.rows);
     }
 
-    /// Adds the number of a name, which may be this one.
+    /// Appends the number of a name, which may be `hint`.
     #[inline(always)]
     pub(crate) fn add_name(&mut self, name: &Key, hint: u32) -> Result<(), LogFault>
         ensures ok { OnOk result
@@ -345,7 +348,7 @@ impl<S: BuildHasher + Drop> Columns<S> {
         Ok(())
     }
 
-    /// Adds the numbers of these names.
+    /// Appends the numbers of these names.
     fn add_names(&mut self, names: &[Key]) -> Result<(), LogFault>
         ensures ok { OnOk result (NumbersCome (shared_of self.old) (shared_of self.new) names.now) }
         ensures few { OnOk result
@@ -359,8 +362,8 @@ impl<S: BuildHasher + Drop> Columns<S> {
         Ok(())
     }
 
-    /// Adds the number of a name that is written. That of a name which is read too stands from the
-    /// start of the reads on: it isn't hashed again.
+    /// Appends the number of a name that is written. A name that is also read has its number among
+    /// those of the reads, which begin at `start`: it isn't hashed again.
     fn add_write(&mut self, reads: &[Key], start: usize, name: Key) -> Result<(), LogFault>
         requires { NumbersStand (shared_of self.old) start reads.now }
         ensures ok { OnOk result
@@ -379,7 +382,7 @@ impl<S: BuildHasher + Drop> Columns<S> {
         }
     }
 
-    /// Adds the numbers of names that are written, where those of the reads stand from `start` on.
+    /// Appends the numbers of names that are written. The numbers of the reads begin at `start`.
     fn add_writes(&mut self, reads: &[Key], start: usize, writes: &[Key]) -> Result<(), LogFault>
         requires { NumbersStand (shared_of self.old) start reads.now }
         ensures ok { OnOk result
@@ -395,8 +398,8 @@ impl<S: BuildHasher + Drop> Columns<S> {
         Ok(())
     }
 
-    /// Adds the numbers of names that are written. Where they are the reads, whose numbers stand
-    /// from `start` on up to the end, these come once more.
+    /// Appends the numbers of names that are written. If these names are the reads, whose numbers
+    /// are the entries from `start` to the end, those entries are repeated.
     fn add_written(&mut self, reads: &[Key], start: usize, writes: &[Key]) -> Result<(), LogFault>
         requires { NumbersEnd (shared_of self.old) start reads.now }
         ensures ok { OnOk result
@@ -413,8 +416,8 @@ impl<S: BuildHasher + Drop> Columns<S> {
         self.add_writes(reads, start, writes)
     }
 
-    /// Adds the numbers of the reads and then of the writes. The three offsets are where the reads
-    /// begin, where the writes begin and where they end.
+    /// Appends the numbers of the reads and then of the writes. The three offsets are where the
+    /// reads begin, where the writes begin and where the writes end.
     #[tactic(auto, using(crate::proofs::Widening::interns_itself))]
     fn add_sets(&mut self, reads: &[Key], writes: &[Key]) -> Result<(u32, u32, u32), LogFault>
         ensures ok { IfOk result
@@ -432,7 +435,7 @@ impl<S: BuildHasher + Drop> Columns<S> {
         Ok((start, middle, end))
     }
 
-    /// Adds a transaction's parts.
+    /// Appends a transaction's parts.
     pub fn append(&mut self, edition: Edition, sheet: &DraftColumns<S>) -> Result<Head, LogFault>
         ensures apart { IsDistinct bytes_eq (parts_of sheet.now).others }
         ensures ok { IfOk result
@@ -454,7 +457,7 @@ impl<S: BuildHasher + Drop> Columns<S> {
         )
     }
 
-    /// The same, of parts that lie in slices of their own.
+    /// Appends a transaction's parts, each of which is its own slice.
     #[tactic(auto, using(crate::proofs::Widening::interns_wider))]
     pub fn append_parts(
         &mut self,

@@ -11,8 +11,8 @@ use crate::name_table::NameTable;
 use crate::table::Head;
 use std::marker::Model;
 
-/// The names of a log's keys and, for each transaction of a part of it, the numbers of the keys
-/// that it declares. It has nothing of what the transactions do.
+/// The names of a log's keys and, for each transaction of a part of the log, the numbers of the
+/// keys that it declares. It has nothing of the transactions' bodies.
 #[derive(Drop)]
 pub struct DeclaredKeys<'a> {
     pub(crate) names: NameTable<'a>,
@@ -33,7 +33,7 @@ impl<'a> Model for DeclaredKeys<'a> {
     ghost invariant = { λ k. IsNumbered (all_names k.names) k.ids.now k.heads.now };
 }
 
-/// The numbers of the keys that the transaction at a head reads, and of those that it writes.
+/// The numbers of the keys that the transaction of a head reads, and of the keys that it writes.
 #[tactic(auto, using(crate::proofs::Dividing::named_between))]
 fn sets_by<'a>(
     names: NameTable<'_>,
@@ -70,8 +70,8 @@ impl<'a> DeclaredKeys<'a> {
         self.names
     }
 
-    /// The numbers of the keys that a transaction, counted from 0, reads, and of those that it
-    /// writes.
+    /// The numbers of the keys that the transaction at an index, counted from 0, reads, and of the
+    /// keys that it writes.
     pub fn sets(&self, index: usize) -> (&'a [u32], &'a [u32])
         requires { index < length self.now.sets }
         ensures sets { slice_get self.now.sets index ≡ Some (result.0.now, result.1.now) }

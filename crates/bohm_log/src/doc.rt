@@ -88,7 +88,8 @@ impl Doc {
         }
     }
 
-    /// No store and no transactions, in a log that shares these names. It allocates nothing.
+    /// An empty store, and a log without transactions that shares these names. It allocates
+    /// nothing.
     pub fn sharing(
         alloc: Global,
         seed: HashSeed,
@@ -104,10 +105,10 @@ impl Doc {
         }
     }
 
-    /// Adds the instance of a procedure for the keys of these handles, none of which is hashed
-    /// where its number is its key's. `Full` comes only where the document's transactions and this
-    /// one, with their declared keys, terms and statements, are 2^26 or more. An `Err` leaves the
-    /// document as it was. The time grows with what the instance holds.
+    /// Appends the instance of a procedure for the keys of these handles. A key isn't hashed if its
+    /// handle's number is the key's number. It fails with `Full` only if the document's
+    /// transactions and this one, with their declared keys, terms and statements, are 2^26 or more.
+    /// An `Err` leaves the document unchanged. The time grows with the size of the instance.
     pub fn push_call(
         &mut self,
         template: &Template,
@@ -127,8 +128,8 @@ impl Doc {
         self.log.push_call(template, places, keys, values)
     }
 
-    /// The handle of a key with the number that it is likely to have: the one that was noted last
-    /// for its hash. Nothing is searched for.
+    /// The handle of a key with its likely number: the one that was noted last for its hash. No
+    /// search is made.
     #[inline(always)]
     pub fn noted_handle(&self, key: &Key) -> KeyHandle
         ensures { result.key ≡ key.now }
@@ -136,8 +137,8 @@ impl Doc {
         self.log.noted_handle(key)
     }
 
-    /// The handle of a key, which gets a number if it has none and fewer than 2^30 keys have one. The
-    /// document stays as it is.
+    /// The handle of a key, which is numbered if it has no number and fewer than 2^30 keys have
+    /// one. The document is unchanged.
     pub fn handle(&mut self, key: &Key) -> Result<KeyHandle, LogFault>
         ensures key { IfOk result (λ h. h.key ≡ key.now) }
         ensures same { self.new ≡ self.old }
@@ -146,7 +147,7 @@ impl Doc {
         self.log.handle(key)
     }
 
-    /// Removes the store and all transactions. Room is kept for others.
+    /// Removes the store's entries and all transactions. Capacity is kept for others.
     pub fn clear(&mut self)
         ensures { self.new ≡ empty_document self.old.edition }
     {
@@ -174,7 +175,7 @@ impl Doc {
         self.log.part()
     }
 
-    /// A law: whatever it holds has a text. It takes no time.
+    /// A law: whatever the document holds has a text. The call costs nothing.
     pub fn has_text(&self)
         ensures { IsDocument self.now }
     {

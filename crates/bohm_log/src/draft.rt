@@ -29,11 +29,11 @@ use std::alloc::Global;
 use std::hash::{BuildHasher, BuildHasherDefault, FoldHasher};
 use std::marker::Model;
 
-/// A transaction so far. Its memory is reused for the next one. The declared keys are read before
-/// the body, and the sums of a statement term by term before the statement itself, in the order in
-/// which they stand in it. After an `Err` it shows what it showed before; of the names and literals
-/// that came no more stay in memory than it has terms and statements. `Full` comes only where these
-/// together are 2^32 - 1 or more.
+/// The transaction as far as it was read. Its memory is reused for the next one. The declared keys
+/// are read before the body, and the sums of a statement are read term by term before the statement
+/// itself, in the statement's order. An `Err` leaves the contract view unchanged; no more of the
+/// names and literals that were read stay in memory than there are terms and statements. An
+/// operation fails with `Full` only if the terms and statements together are 2^32 - 1 or more.
 pub struct Draft<S: BuildHasher = BuildHasherDefault<FoldHasher>> {
     edition: Edition,
     sheet: DraftColumns<S>,
@@ -112,8 +112,9 @@ impl<S: BuildHasher> Draft<S> {
         Ok(())
     }
 
-    /// Declares the key that a word names to be written, if it is the declared read at the same index:
-    /// it is compared in place, and no key is made of it. Returns whether it is.
+    /// Declares as written the key that a word spells, if it is the declared read at the same
+    /// index. The word is compared in place, and no `Key` is built from it. Returns whether the key
+    /// was declared.
     #[inline(always)]
     pub fn write_again(&mut self, word: &PackedWord<'_>) -> Result<bool, LogFault>
         requires { IsBare self.old }
@@ -132,7 +133,7 @@ impl<S: BuildHasher> Draft<S> {
         Ok(true)
     }
 
-    /// `Empty` where the sum that is read has no term. The draft stays as it is.
+    /// Fails with `Empty` if the sum being read has no terms. The draft is unchanged.
     fn require_terms(&self) -> Result<(), SumFault>
         ensures sum { OnOk result (IsSum self.now.latest) }
         ensures done { AllByRecursion IsSum self.now.done }
@@ -146,7 +147,7 @@ impl<S: BuildHasher> Draft<S> {
         }
     }
 
-    /// Whether sums of a statement were read, and not yet the statement.
+    /// Whether a statement is open: sums of it were read, but not yet the statement itself.
     #[tactic(auto, using(crate::proofs::Counting::open_counted))]
     pub(crate) fn is_open(&self) -> bool
         ensures open { result ≡ true → 0 < open_terms self.now }
@@ -155,7 +156,8 @@ impl<S: BuildHasher> Draft<S> {
         (self.pending.start as usize) < self.sheet.terms.len()
     }
 
-    /// Ends a sum of a statement that has another. One without terms is `Empty`.
+    /// Ends a sum that isn't the last one of its statement. It fails with `Empty` if the sum has no
+    /// terms.
     pub fn next_sum(&mut self) -> Result<(), SumFault>
         requires { length self.old.done < 2 }
         ensures ok { OnOk result (self.new ≡ with_sum self.old) }
@@ -169,8 +171,8 @@ impl<S: BuildHasher> Draft<S> {
         Ok(())
     }
 
-    /// Whether the transaction declares to read or to write a key. The time grows with how many
-    /// keys it declares.
+    /// Whether the transaction declares to read or to write a key. The time grows with the number
+    /// of keys that it declares.
     pub fn declares(&self, key: &Key) -> bool
         ensures { result
             ≡ (is_among self.now.txn.reads key.now || is_among self.now.txn.writes key.now) }
@@ -188,7 +190,7 @@ impl<S: BuildHasher> Draft<S> {
         (self.edition, &self.sheet)
     }
 
-    /// The same, of a draft that is done with.
+    /// The edition and the columns of the draft, which is consumed.
     pub(crate) fn into_parts(self) -> (Edition, DraftColumns<S>)
     where
         S: Drop,
@@ -206,7 +208,7 @@ impl<S: BuildHasher> Draft<S> {
     }
 }
 
-/// Terms of the sum that is read.
+/// Terms of the sum being read.
 impl<S: BuildHasher + Drop> Draft<S> {
     #[inline(always)]
     fn add_term(&mut self, minus: bool, atom: AtomParts) -> Result<(), LogFault>
@@ -222,8 +224,9 @@ impl<S: BuildHasher + Drop> Draft<S> {
         Ok(())
     }
 
-    /// Adds the declared read that a word names, if it stands where such a one was found last: it
-    /// is compared in place, and no key is made of it. Returns whether it does.
+    /// Adds a term for the declared read that a word spells, if it is at the index where such a
+    /// name was last found. The word is compared in place, and no `Key` is built from it. Returns
+    /// whether the term was added.
     #[inline(always)]
     pub fn read_again(&mut self, minus: bool, word: &PackedWord<'_>) -> Result<bool, LogFault>
         ensures added { IfOk result (λ done. done ≡ true
@@ -243,8 +246,8 @@ impl<S: BuildHasher + Drop> Draft<S> {
         Ok(true)
     }
 
-    /// The place of the declared write that a word names, if it stands where such a one was found
-    /// last: it is compared in place, and no key is made of it.
+    /// The index of the declared write that a word spells, if it is where such a name was last
+    /// found. The word is compared in place, and no `Key` is built from it.
     #[inline(always)]
     pub fn write_place(&self, word: &PackedWord<'_>) -> Option<u32>
         ensures place { IfSome result (λ i. slice_get self.now.txn.writes i ≡ Some word.now) }
@@ -253,8 +256,8 @@ impl<S: BuildHasher + Drop> Draft<S> {
         self.sheet.write_place(word)
     }
 
-    /// Adds a literal, in the way made for atoms of all kinds. Out of line: with two calls of `push`
-    /// in one function neither is inlined.
+    /// Adds a literal by the path for atoms of all kinds. Out of line: if one function had two
+    /// calls of `push`, neither would be inlined.
     #[inline(never)]
     fn add_large(&mut self, minus: bool, number: u64) -> Result<(), LogFault>
         requires { IsTerm (minus, Lit number) }
@@ -283,7 +286,7 @@ impl<S: BuildHasher + Drop> Draft<S> {
         Ok(())
     }
 
-    /// Adds a key that is read.
+    /// Adds a term that reads a key.
     pub fn key(&mut self, minus: bool, name: Key) -> Result<(), LogFault>
         ensures ok { OnOk result (self.new ≡ with_term self.old minus (Read name)) }
         ensures err { OnErr result (self.new ≡ self.old) }
@@ -293,7 +296,7 @@ impl<S: BuildHasher + Drop> Draft<S> {
         self.add_term(minus, AtomParts::Read(name))
     }
 
-    /// Adds a local.
+    /// Adds a term that reads a local.
     pub fn local(&mut self, minus: bool, name: Key) -> Result<(), LogFault>
         ensures ok { OnOk result (self.new ≡ with_term self.old minus (Local name)) }
         ensures err { OnErr result (self.new ≡ self.old) }
@@ -304,7 +307,7 @@ impl<S: BuildHasher + Drop> Draft<S> {
     }
 }
 
-/// Statements, each after its sums. A sum without terms is `Empty`.
+/// Statements, each after its sums. A sum without terms fails with `Empty`.
 impl<S: BuildHasher + Drop> Draft<S> {
     /// Ends a statement with this name.
     fn end_named(&mut self, action: Action, name: Key) -> Result<(), LogFault>
@@ -323,7 +326,7 @@ impl<S: BuildHasher + Drop> Draft<S> {
         Ok(())
     }
 
-    /// Ends a statement that writes the declared key at a place.
+    /// Ends a statement that writes the declared write at an index.
     fn end_written(&mut self, action: Action, place: u32, name: &[u8]) -> Result<(), LogFault>
         requires writes { IsWriting action }
         requires place { slice_get self.old.txn.writes place ≡ Some name.now }
@@ -453,7 +456,7 @@ impl<S: BuildHasher + Drop> Draft<S> {
         Ok(())
     }
 
-    /// `set KEY = SUM`, of the declared write at a place.
+    /// `set KEY = SUM`, for the declared write at an index.
     #[tactic(auto, using(crate::proofs::Statements::put_made, crate::proofs::Statements::put_sound, crate::proofs::Statements::put_counted))]
     pub fn put_at(&mut self, place: u32, key: &[u8]) -> Result<(), SumFault>
         requires done { self.old.done ≡ [] }
@@ -470,7 +473,7 @@ impl<S: BuildHasher + Drop> Draft<S> {
         Ok(())
     }
 
-    /// `set KEY = SUM when SUM CMP SUM`, of the declared write at a place.
+    /// `set KEY = SUM when SUM CMP SUM`, for the declared write at an index.
     #[tactic(auto, using(crate::proofs::Statements::put_when_made, crate::proofs::Statements::put_when_sound, crate::proofs::Statements::put_when_counted))]
     pub fn put_when_at(&mut self, place: u32, key: &[u8], cmp: Cmp) -> Result<(), SumFault>
         requires done { length self.old.done ≡ 2 }

@@ -39,7 +39,7 @@ pub struct DraftColumns<S: BuildHasher> {
     pub other_places: NameCache,
 }
 
-/// The index of a literal, which is added at the end.
+/// The index of a literal, which is appended.
 fn add_large(large: &mut Vec<u64>, number: u64) -> Result<u32, LogFault>
     requires few { length large.old.items < 2 ^ 32 }
     ensures grows { Begins large.old.items large.new.items }
@@ -94,7 +94,7 @@ impl<S: BuildHasher> DraftColumns<S> {
         Ok(())
     }
 
-    /// The declared read at the index that the next write gets, if a word names it.
+    /// The declared read at the index of the next declared write, if a word spells it.
     #[inline(always)]
     pub fn same_read(&self, word: &PackedWord<'_>) -> Option<Key>
         ensures { IfSome result (λ key. key ≡ word.now) }
@@ -118,8 +118,9 @@ impl<S: BuildHasher> DraftColumns<S> {
 }
 
 impl<S: BuildHasher + Drop> DraftColumns<S> {
-    /// Cuts names and literals back to as many as terms and statements can have. Else calls that
-    /// fail could fill these lists, and a draft with few terms and statements would be `Full`.
+    /// Truncates names and literals to as many as the terms and statements can have. Otherwise
+    /// failing calls could fill these lists, and a draft with few terms and statements would be
+    /// `Full`.
     fn cut_back(&mut self)
         ensures grows { (before : Parts) → NamesGrow before (parts_of self.old) → IsCompact before
             → NamesGrow before (parts_of self.new) }
@@ -213,8 +214,8 @@ impl<S: BuildHasher + Drop> DraftColumns<S> {
         }
     }
 
-    /// The index of the declared read that a word names, if it is where the cache last found such a
-    /// name.
+    /// The index of the declared read that a word spells, if it is where the cache last found such
+    /// a name.
     #[inline(always)]
     pub fn read_place(&self, word: &PackedWord<'_>) -> Option<u32>
         ensures place { IfSome result
@@ -224,7 +225,7 @@ impl<S: BuildHasher + Drop> DraftColumns<S> {
         self.read_places.place_of_word(self.reads.as_slice(), word)
     }
 
-    /// The index of the declared write that a word names, if it is where the cache last found such
+    /// The index of the declared write that a word spells, if it is where the cache last found such
     /// a name.
     #[inline(always)]
     pub fn write_place(&self, word: &PackedWord<'_>) -> Option<u32>
@@ -236,7 +237,7 @@ impl<S: BuildHasher + Drop> DraftColumns<S> {
             .place_of_word(self.writes.as_slice(), word)
     }
 
-    /// Adds a term that is the declared read at an index, which the word names.
+    /// Adds a term for the declared read at an index, which the word spells.
     pub fn add_read_at(
         &mut self,
         minus: bool,

@@ -1,4 +1,4 @@
-//! What an earlier call added to the columns, where the next one needs the same.
+//! Parts that an earlier call added to the columns, and that the next call needs too.
 
 ghost use Rattle.std.specs.Prelude.{◌≡◌, ◌≤◌, ◌+◌, ◌^◌, true, length, Err, IfOk, IfSome, OnOk};
 ghost use Rattle.std.specs.List.{between};
@@ -11,7 +11,7 @@ use crate::fault::LogFault;
 use crate::row::StmtRow;
 use bohm_types::Key;
 
-/// The part of a column that begins at an offset and has so many entries, and the offset behind it.
+/// The part of a column that begins at an offset and has `count` entries, and the offset after it.
 #[inline(always)]
 fn part_at<T>(column: &[T], at: u32, count: usize) -> Option<(&[T], u32)>
     ensures part { IfSome result (λ p. p.0.now ≡ between at p.1 column.now) }
@@ -30,7 +30,7 @@ fn part_at<T>(column: &[T], at: u32, count: usize) -> Option<(&[T], u32)>
     Some((&column[start..end], end as u32))
 }
 
-/// The offsets between which these names stand, if they do so from this one on.
+/// The offsets between which the column has these names, if it has them from offset `at` on.
 pub(crate) fn names_at(column: &[Key], at: u32, names: &[Key]) -> Option<(u32, u32)>
     ensures { IfSome result (λ r. Lands column.now names.now r.0 r.1) }
 {
@@ -46,7 +46,7 @@ pub(crate) fn names_at(column: &[Key], at: u32, names: &[Key]) -> Option<(u32, u
 fn is_row(one: &StmtRow, other: &StmtRow) -> bool
     ensures { result ≡ true → one.now ≡ other.now }
 {
-    // Offsets without a jump between them are compared all at once.
+    // The offsets are compared all at once, without jumps between the comparisons.
     (one.name == other.name)
         & (one.start == other.start)
         & (one.first == other.first)
@@ -68,7 +68,7 @@ fn are_rows(part: &[StmtRow], rows: &[StmtRow]) -> bool
     true
 }
 
-/// The offsets between which these statements stand, if they do so from this one on.
+/// The offsets between which the column has these statements, if it has them from offset `at` on.
 pub(crate) fn rows_at(column: &[StmtRow], at: u32, rows: &[StmtRow]) -> Option<(u32, u32)>
     ensures { IfSome result (λ r. Lands column.now rows.now r.0 r.1) }
 {
@@ -80,7 +80,7 @@ pub(crate) fn rows_at(column: &[StmtRow], at: u32, rows: &[StmtRow]) -> Option<(
     }
 }
 
-/// Adds entries, unless a range was found where they stand.
+/// Appends entries, unless a range was found that already has them.
 pub(crate) fn add_once<T: Copy>(
     column: &mut Vec<T>,
     entries: &[T],

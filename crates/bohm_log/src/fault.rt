@@ -1,4 +1,4 @@
-//! Why a log takes no more.
+//! Why a set of names, a draft or a log isn't extended.
 
 use std::alloc::{AllocError, AllocFailed};
 use thiserror::Error;
@@ -47,10 +47,10 @@ pub enum CloseFault {
     Log(LogFault),
 }
 
-/// Why a draft ended no sum, or no statement after its sums. It is unchanged.
+/// Why a sum, or a statement after its sums, was not ended. The draft is unchanged.
 #[derive(Clone, Copy, Debug, PartialEq, Eq, Error)]
 pub enum SumFault {
-    /// The sum that is read has no terms, so it has no text.
+    /// The sum being read has no terms, so it has no text.
     #[error("a sum without terms")]
     Empty,
     /// A list was not extended.

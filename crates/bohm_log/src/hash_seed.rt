@@ -5,31 +5,31 @@ ghost use Rattle.std.specs.Prelude.{◌≡◌};
 use std::hash::{BuildHasher, FoldHasher, Hasher};
 use std::random::RandomSource;
 
-/// The seed from which a map hashes its keys: a drawn one or the fixed one. Keys that collide under
-/// one seed needn't under another. No answer depends on it.
+/// The seed with which a map hashes its keys: a drawn one or the fixed one. Keys that collide under
+/// one seed needn't collide under another. No result depends on the seed.
 #[derive(Clone, Copy)]
 pub struct HashSeed {
     start: FoldHasher,
 }
 
-/// A seed that a source of randomness gave. Calls that take it stay fast where strangers choose the
-/// keys: who doesn't know the seed can't choose keys that collide.
+/// A seed from a source of randomness. Functions that take it stay fast if untrusted parties choose
+/// the keys: whoever doesn't know the seed can't choose keys that collide.
 #[derive(Clone, Copy)]
 pub struct DrawnSeed {
     seed: HashSeed,
 }
 
-/// The seed that is always the same, for keys that no stranger chooses: n keys that were chosen to
-/// collide under it take time that grows with n².
+/// The seed that is always the same, for keys that no untrusted party chooses: n keys that were
+/// chosen to collide under it take time that grows with n².
 #[derive(Clone, Copy, Debug, Default)]
 pub struct FixedSeed;
 
 impl DrawnSeed {
-    /// A seed of 16 bytes from a source of randomness. Bytes that a failing source doesn't give are
-    /// zeros.
+    /// Draws a seed of 16 bytes from a source of randomness. Bytes that a failing source doesn't
+    /// supply are zeros.
     pub fn draw<R: RandomSource>(source: &R) -> DrawnSeed {
         let mut bytes = [0u8; 16];
-        // No answer depends on the seed, so no run ends for want of one.
+        // No result depends on the seed, so no run ends because a source fails.
         let _ = source.fill_bytes(&mut bytes);
         let mut start = FoldHasher::default();
         start.write(&bytes);

@@ -39,7 +39,8 @@ impl<'a> IndexedTxn<'a> {
         IndexedTxn { seen: self.seen }
     }
 
-    /// The index among the declared reads of the declared write at an index.
+    /// The index, among the declared reads, of the declared write at an index, if it is a declared
+    /// read.
     pub fn read_of_write(&self, write: u32) -> Option<usize>
         requires { write < length self.now.writes }
         ensures place { result ≡ place self.now.reads (name_at self.now.writes write) }

@@ -30,7 +30,7 @@ impl<'a> Model for Keys<'a> {
     ghost invariant = { λ k. AllNamed (all_names k.names) k.ids.now };
 }
 
-/// The name whose number stands at a place.
+/// The name whose number is at an index.
 #[tactic(auto, using(crate::proofs::Viewing::read_at))]
 pub(crate) fn name_by<'a>(names: NameTable<'a>, ids: &'a [u32], place: usize) -> &'a Key
     requires place { place < length ids.now }
@@ -55,7 +55,7 @@ impl<'a> Keys<'a> {
         self.ids.len()
     }
 
-    /// A key, counted from 0.
+    /// The key at an index, counted from 0.
     #[tactic(auto, using(crate::proofs::Viewing::mapped_length))]
     pub fn key(&self, place: usize) -> &'a Key
         requires { place < length self.now }
@@ -64,8 +64,9 @@ impl<'a> Keys<'a> {
         name_by(self.names, self.ids, place)
     }
 
-    /// The number of a key, counted from 0, among the names of the log's keys. It is a hint: no
-    /// clause says which key has the number, so its user compares the key that it finds.
+    /// The number of the key at an index, counted from 0, among the names of the log's keys. It is
+    /// a hint: no contract says which key has the number, so the caller compares the key that it
+    /// finds.
     #[tactic(auto, using(crate::proofs::Viewing::mapped_length))]
     pub fn number(&self, place: usize) -> u32
         requires { place < length self.now }
@@ -73,7 +74,8 @@ impl<'a> Keys<'a> {
         number_at(self.ids, place)
     }
 
-    /// The first place of a key, if it is one of them. The time grows with their number.
+    /// The index of a key's first occurrence, if there is one. The time grows with the number of
+    /// keys.
     pub fn place_of(&self, key: &Key) -> Option<usize>
         ensures place { result ≡ place self.now key.now }
         ensures inside { IfSome result (λ i. i < length self.now) }

@@ -1,4 +1,4 @@
-//! Names of a log behind those that it shares.
+//! The names of a log: those that it shares, and then its own.
 
 ghost use Rattle.std.specs.Prelude.{◌≡◌, ◌≤◌, ◌^◌, ◌+◌, [], Some, None, IfOk, IfErr, IfSome, OnOk};
 ghost use Rattle.std.specs.Prelude.{OnErr, length, position, slice_get, take};
@@ -18,11 +18,11 @@ use std::alloc::Global;
 use std::hash::BuildHasher;
 use std::marker::Model;
 
-/// Distinct names, numbered from 0: names that many logs share, and behind them names of its own, in
-/// the order in which they came.
+/// Distinct names, numbered from 0: names that many logs share, and after them its own names, in
+/// the order in which they were added.
 pub struct LayeredNames<S: BuildHasher> {
     shared: SharedNames<S>,
-    /// How many of the shared names it has: all, unless it was cut back to fewer.
+    /// How many of the shared names it has: all, unless it was truncated to fewer.
     shown: usize,
     own: Names<S>,
 }
@@ -53,7 +53,7 @@ impl<S: BuildHasher> Model for LayeredNames<S> {
         × IsInterned (take n.shown n.shared ++ n.own) };
 }
 
-/// The number of a name, if it is among so many of the shared ones.
+/// The number of a name, if it is among the first `shown` shared names.
 fn find_among<S: BuildHasher>(shared: &SharedNames<S>, shown: usize, name: &Key) -> Option<u32>
     ensures { result ≡ position (bytes_eq name.now) (take shown shared.now) }
 {
@@ -86,8 +86,8 @@ impl<S: BuildHasher> LayeredNames<S> {
         LayeredNames::from(Names::new(alloc, hasher))
     }
 
-    /// These names, all of them shared if they are at most 2^30, or else none. The time and memory grow
-    /// with their number.
+    /// These names. All of them are shared if there are at most 2^30, and otherwise none is. The
+    /// time and the memory grow with the number of names.
     pub fn shared_from(
         alloc: Global,
         hasher: S,
@@ -109,7 +109,7 @@ impl<S: BuildHasher> LayeredNames<S> {
         &self.shared
     }
 
-    /// The shared names, and none behind them. It allocates nothing.
+    /// The shared names, and no others. It allocates nothing.
     pub fn sharing(alloc: Global, hasher: S, shared: SharedNames<S>) -> LayeredNames<S>
         ensures { result ≡ shared }
     {
@@ -129,7 +129,7 @@ impl<S: BuildHasher> LayeredNames<S> {
         self.shown + self.own.len()
     }
 
-    /// How many of them it doesn't share.
+    /// How many of the names it doesn't share.
     pub(crate) fn own_len(&self) -> usize
         ensures { result ≤ length self.now }
     {
@@ -149,7 +149,7 @@ impl<S: BuildHasher> LayeredNames<S> {
         }
     }
 
-    /// The number of a shared name, where it is noted for its hash. Nothing is searched for.
+    /// The number of a shared name, if it is noted for the name's hash. No search is made.
     #[inline(always)]
     pub(crate) fn noted(&self, name: &Key) -> Option<u32>
         ensures { IfSome result (λ i. slice_get self.now i ≡ Some name.now) }
@@ -175,9 +175,9 @@ impl<S: BuildHasher> LayeredNames<S> {
         }
     }
 
-    /// The number of a name, which is added if it is new. It is `Full` where 2^32 names are there
-    /// and the name is none of them. An `Err` leaves the names as they were. The time doesn't grow
-    /// with their number, but where the table grows.
+    /// The number of a name, which is added if it is new. It fails with `Full` if there are 2^32
+    /// names and the name isn't among them. An `Err` leaves the names unchanged. The time doesn't
+    /// grow with their number, except when the table grows.
     pub fn id(&mut self, name: Key) -> Result<u32, LogFault>
     where
         S: Drop,
@@ -201,7 +201,7 @@ impl<S: BuildHasher> LayeredNames<S> {
         Ok(self.shown as u32 + number)
     }
 
-    /// Keeps the names with the first numbers, and removes the others.
+    /// Keeps the first `count` names, and removes the others.
     pub(crate) fn truncate(&mut self, count: usize)
         ensures { self.new ≡ take count self.old }
     {
@@ -213,8 +213,8 @@ impl<S: BuildHasher> LayeredNames<S> {
         }
     }
 
-    /// Removes the names that it doesn't share. The others keep their numbers. Capacity for a few is
-    /// kept.
+    /// Removes the names that it doesn't share. The shared names keep their numbers. Capacity for a
+    /// few names is kept.
     pub(crate) fn clear(&mut self)
         ensures kept { Begins self.new self.old }
         ensures few { length self.new ≤ 2 ^ 30 }

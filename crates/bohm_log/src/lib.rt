@@ -1,5 +1,5 @@
-//! A log whose transactions share a few columns. Names have numbers, terms and statements a fixed
-//! size; views show each transaction as a `Txn` of the definitions.
+//! A log whose transactions share a few columns. Names have numbers; terms and statements have a
+//! fixed size. Views show each transaction as a `Txn` of the definitions.
 #![tactic(auto)]
 
 mod call_columns;

@@ -24,7 +24,7 @@ use std::alloc::Global;
 use std::hash::{BuildHasher, BuildHasherDefault, FoldHasher};
 use std::marker::Model;
 
-/// The longest text, in bytes, for which room is made at once.
+/// The longest text, in bytes, for which capacity is reserved at once.
 const MOST_ROOM: usize = 1 << 20;
 
 /// Transactions in order, which contracts see as a list of them.
@@ -52,7 +52,7 @@ impl<S: BuildHasher> Model for Log<S> {
         × IsMeasured (shared_of l.columns) (map (txn_at (shared_of l.columns)) l.heads.items) };
 }
 
-/// Adds a head, if there is one.
+/// Appends the head, or returns its error.
 #[inline(always)]
 fn push_head(heads: &mut Vec<Head>, head: Result<Head, LogFault>) -> Result<(), LogFault>
     ensures ok { OnOk result (IsOkAnd head (λ h. heads.new.items ≡ heads.old.items ++ h ∷ [])) }
@@ -64,7 +64,7 @@ fn push_head(heads: &mut Vec<Head>, head: Result<Head, LogFault>) -> Result<(), 
 }
 
 impl<S: BuildHasher> Log<S> {
-    /// No transactions. It allocates nothing.
+    /// A log without transactions. It allocates nothing.
     pub fn new(alloc: Global, hasher: S) -> Log<S>
         ensures { result ≡ [] }
     {
@@ -74,7 +74,7 @@ impl<S: BuildHasher> Log<S> {
         }
     }
 
-    /// No transactions, in a log that shares these names. It allocates nothing.
+    /// A log without transactions, which shares these names. It allocates nothing.
     pub fn sharing(alloc: Global, hasher: S, shared: SharedNames<S>) -> Log<S>
         ensures { result ≡ [] }
     {
@@ -84,7 +84,8 @@ impl<S: BuildHasher> Log<S> {
         }
     }
 
-    /// No transactions, and room for those that a text of this many bytes usually has.
+    /// A log without transactions, with capacity for those that a text of this many bytes usually
+    /// has.
     pub fn with_room(alloc: Global, hasher: S, bytes: usize) -> Log<S>
         ensures { result ≡ [] }
     {
@@ -93,8 +94,9 @@ impl<S: BuildHasher> Log<S> {
         log
     }
 
-    /// Makes room for the transactions that a text of this many bytes usually has, so that columns
-    /// needn't be moved as they grow. Where there is no memory for it, they grow.
+    /// Reserves capacity for the transactions that a text of this many bytes usually has, so that
+    /// columns needn't be moved as they grow. If an allocation fails, the columns grow as they are
+    /// filled.
     pub fn make_room(&mut self, bytes: usize)
         ensures { self.new ≡ self.old }
     {
@@ -103,11 +105,13 @@ impl<S: BuildHasher> Log<S> {
         self.columns.make_room(bytes);
     }
 
-    /// Adds the transaction that was read. `Open` comes exactly where sums of a statement were read
-    /// and the statement was not. `Full` comes only where the log's transactions and this one, with
-    /// their declared keys, terms and statements, are 2^26 or more. An `Err` leaves the log as it was.
+    /// Appends the transaction that was read. It fails with `Open` exactly if sums of a statement
+    /// were read but the statement wasn't. It fails with `Full` only if the log's transactions and
+    /// this one, with their declared keys, terms and statements, are 2^26 or more. An `Err` leaves
+    /// the log unchanged.
     ///
-    /// The time grows with what the transaction holds, and not with the log, but where a column grows.
+    /// The time grows with the size of the transaction, and not with the log, except when a column
+    /// grows.
     pub fn close(&mut self, draft: &Draft<S>) -> Result<(), CloseFault>
     where
         S: Drop,
@@ -132,10 +136,10 @@ impl<S: BuildHasher> Log<S> {
         }
     }
 
-    /// Adds the instance of a procedure for the keys of these handles, none of which is hashed
-    /// where its number is its key's. `Full` comes only where the log's transactions and this one,
-    /// with their declared keys, terms and statements, are 2^26 or more. An `Err` leaves the log as it
-    /// was. The time grows with what the instance holds.
+    /// Appends the instance of a procedure for the keys of these handles. A key isn't hashed if its
+    /// handle's number is the key's number. It fails with `Full` only if the log's transactions and
+    /// this one, with their declared keys, terms and statements, are 2^26 or more. An `Err` leaves
+    /// the log unchanged. The time grows with the size of the instance.
     #[tactic(auto, using(crate::proofs::Viewing::mapped_length))]
     pub fn push_call(
         &mut self,
@@ -174,8 +178,8 @@ impl<S: BuildHasher> Log<S> {
         }
     }
 
-    /// The handle of a key with the number that it is likely to have: the one that was noted last
-    /// for its hash. Nothing is searched for.
+    /// The handle of a key with its likely number: the one that was noted last for its hash. No
+    /// search is made.
     #[inline(always)]
     pub fn noted_handle(&self, key: &Key) -> KeyHandle
         ensures { result.key ≡ key.now }
@@ -183,9 +187,9 @@ impl<S: BuildHasher> Log<S> {
         self.columns.noted_handle(key)
     }
 
-    /// The handle of a key, which gets a number if it has none and fewer than 2^30 keys have one. The
-    /// transactions stay as they are. The time doesn't grow with the log, but where its table of keys
-    /// grows.
+    /// The handle of a key, which is numbered if it has no number and fewer than 2^30 keys have
+    /// one. The transactions are unchanged. The time doesn't grow with the log, except when its
+    /// table of keys grows.
     pub fn handle(&mut self, key: &Key) -> Result<KeyHandle, LogFault>
     where
         S: Drop,
@@ -196,10 +200,11 @@ impl<S: BuildHasher> Log<S> {
         self.columns.handle(key)
     }
 
-    /// Removes all transactions. Their room is kept where it is for at most four times as many, or for
-    /// some thousand. Shared names keep their numbers. Other keys keep theirs where these are at most
-    /// 16,384, or at most four for each key that a transaction declared and each handle that was made,
-    /// of which 65,536 count. Else they have none.
+    /// Removes all transactions. Their capacity is kept if it is for at most four times as many, or
+    /// for at most a few thousand. Shared names keep their numbers. The other keys keep their
+    /// numbers if there are at most 16,384 of them, or at most four for each key that a transaction
+    /// declared and each handle that was made, of which at most 65,536 count, and at most 2^30
+    /// together with the shared ones. Otherwise they lose their numbers.
     pub fn clear(&mut self)
     where
         S: Drop,
@@ -216,7 +221,7 @@ impl<S: BuildHasher> Log<S> {
         self.heads.len()
     }
 
-    /// All of it.
+    /// The whole log.
     pub fn part(&self) -> LogPart<'_>
         ensures same { result ≡ self.now }
         ensures sound { AreTxns self.now }

@@ -1,21 +1,22 @@
-//! Where names were found last among many.
+//! Where names were last found among many names.
 
 ghost use Rattle.std.specs.Prelude.{◌≡◌, IfSome, Some, slice_get};
 
 use bohm_types::Key;
 use std::alloc::Global;
 
-/// How many numbers there are at first, and at most.
+/// The size of the table of numbers at first, and at most.
 const FEWEST: usize = 256;
 
 const MOST: usize = 65536;
 
-/// How many numbers there are at least for a name, up to the most, so that few names share one.
+/// The table has at least this many numbers for each name, up to `MOST`, so that few names share
+/// one.
 const FOR_A_NAME: usize = 4;
 
-/// For each of some thousand hashes the number of the last name that had it. A number is compared
-/// with the name before it is used: a wrong one costs the search that would be needed without it,
-/// so none is ever cleared.
+/// For each of up to 65,536 hashes, the number of the last name that had it. A number is compared
+/// with the name before it is used: a wrong number costs the search that would be needed without
+/// it, so no number is ever cleared.
 #[derive(Drop)]
 pub struct NameHints {
     numbers: Vec<u32>,
@@ -26,14 +27,14 @@ pub struct NameHints {
 /// No name's number.
 pub(crate) const NO_NUMBER: u32 = u32::MAX;
 
-/// The place of a name's number among so many, fewer than 2^32: it goes by the upper bits of the hash,
-/// which differ most.
+/// The index of a name's number in a table of `count` numbers, fewer than 2^32. It depends on the
+/// upper bits of the hash, which vary the most.
 #[inline(always)]
 pub(crate) fn slot_of(name: &Key, count: usize) -> usize {
     ((name.mixed() >> 32).wrapping_mul(count as u64) >> 32) as usize
 }
 
-/// The number, if it is this name's among these.
+/// The number, if it is the index of this name in `names`.
 #[inline(always)]
 pub(crate) fn at_number(names: &[Key], number: u32, name: &Key) -> Option<u32>
     ensures { IfSome result (λ i. slice_get names.now i ≡ Some name.now) }
@@ -43,7 +44,7 @@ pub(crate) fn at_number(names: &[Key], number: u32, name: &Key) -> Option<u32>
 }
 
 impl NameHints {
-    /// No numbers. It allocates nothing.
+    /// An empty table. It allocates nothing.
     pub fn new(alloc: Global) -> NameHints {
         NameHints {
             numbers: Vec::new(alloc),
@@ -51,7 +52,7 @@ impl NameHints {
         }
     }
 
-    /// The number that was noted last for a name's hash, or else 0.
+    /// The number that was noted last for a name's hash, or 0 if none was.
     #[inline(always)]
     pub fn noted(&self, name: &Key) -> u32 {
         match self.numbers.get(slot_of(name, self.numbers.len())) {
@@ -60,8 +61,8 @@ impl NameHints {
         }
     }
 
-    /// Notes the number of a name. Room is made for at least four numbers a name, up to 65,536. Where
-    /// there is no memory for them, there stay as many as there are.
+    /// Notes the number of a name. The table grows to at least four numbers per name, up to 65,536.
+    /// If the allocation fails, it keeps its size.
     pub fn note(&mut self, name: &Key, number: u32) {
         let count = self.numbers.len();
         self.notes = self.notes.saturating_add(1);

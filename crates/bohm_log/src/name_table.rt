@@ -5,8 +5,8 @@ ghost use Rattle.bohm_log.specs.Layers.{all_names};
 
 use bohm_types::Key;
 
-/// All names of a log, each at its number: those that it shares with other logs, and its own behind
-/// them.
+/// All names of a log, each at its number: first those that it shares with other logs, then its
+/// own.
 #[derive(Clone, Copy)]
 pub struct NameTable<'a> {
     pub(crate) shared: &'a [Key],
@@ -34,7 +34,7 @@ impl<'a> NameTable<'a> {
         }
     }
 
-    /// The number, if it is this name's.
+    /// The number, if it is that of this name.
     #[inline(always)]
     pub(crate) fn at_number(self, number: u32, name: &Key) -> Option<u32>
         ensures { IfSome result (λ i. slice_get (all_names self.entry) i ≡ Some name.now) }
@@ -65,7 +65,7 @@ impl<'a> NameTable<'a> {
         }
     }
 
-    /// Those that the log shares with others, from number 0 on.
+    /// The names that the log shares with others, from number 0 on.
     #[inline(always)]
     pub fn shared(self) -> &'a [Key]
         ensures { result.now ≡ self.entry.shared.now }
@@ -73,7 +73,7 @@ impl<'a> NameTable<'a> {
         self.shared
     }
 
-    /// Those that it doesn't share, which have the numbers behind.
+    /// The names that the log doesn't share. Their numbers follow those of the shared ones.
     #[inline(always)]
     pub fn own(self) -> &'a [Key]
         ensures { result.now ≡ self.entry.own.now }

@@ -15,11 +15,12 @@ use std::alloc::Global;
 use std::hash::{BuildHasher, BuildHasherDefault, FoldHasher};
 use std::marker::Model;
 
-/// How many names a cleared set keeps room for.
+/// A cleared set keeps capacity for up to this many names.
 const KEPT_ROOM: usize = 256;
 
-/// Distinct names, numbered from 0 in the order in which they came. The hasher by default is a fast
-/// one with a fixed seed: where strangers choose the names, give one with a seed of its own.
+/// Distinct names, numbered from 0 in the order in which they were added. The default hasher is
+/// fast and has a fixed seed: if untrusted parties choose the names, pass a hasher with its own
+/// seed.
 #[derive(Drop)]
 pub struct Names<S: BuildHasher = BuildHasherDefault<FoldHasher>> {
     set: IndexSet<Key, S>,
@@ -63,9 +64,9 @@ impl<S: BuildHasher> Names<S> {
         self.set.as_slice()
     }
 
-    /// The number of a name, which is added if it is new. It is `Full` where 2^32 names are there
-    /// and the name is none of them. An `Err` leaves the names as they were. The time doesn't grow
-    /// with their number, but where the table grows.
+    /// The number of a name, which is added if it is new. It fails with `Full` if there are 2^32
+    /// names and the name isn't among them. An `Err` leaves the names unchanged. The time doesn't
+    /// grow with their number, except when the table grows.
     #[tactic(auto, using(crate::proofs::Seeking::at_its_number))]
     pub fn id(&mut self, name: Key) -> Result<u32, LogFault>
     where
@@ -105,7 +106,7 @@ impl<S: BuildHasher> Names<S> {
         &self.set.as_slice()[id as usize]
     }
 
-    /// Keeps the names with the first numbers, and removes the others.
+    /// Keeps the first `count` names, and removes the others.
     pub(crate) fn truncate(&mut self, count: usize)
         ensures { self.new ≡ take count self.old }
     {

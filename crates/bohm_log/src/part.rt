@@ -69,7 +69,7 @@ impl<'a> LogPart<'a> {
         }
     }
 
-    /// A transaction, counted from 0.
+    /// The transaction at an index, counted from 0.
     pub fn txn(&self, index: usize) -> TxnView<'a>
         requires { index < length self.now }
         ensures { slice_get self.now index ≡ Some result }

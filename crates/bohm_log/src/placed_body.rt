@@ -1,4 +1,4 @@
-//! A procedure's terms and statements, prepared for calls whose keys stand at certain places.
+//! A procedure's terms and statements, prepared for calls whose keys are at certain indices.
 
 ghost use Rattle.std.specs.Prelude.{◌≡◌, ◌≤◌, ◌+◌, ◌^◌, ◌∷◌, [], Err, length, IfOk};
 ghost use Rattle.std.specs.List.{range_with_len};
@@ -13,18 +13,19 @@ use crate::row::{StmtRow, TermRow};
 use bohm_types::Value;
 use std::alloc::Global;
 
-/// The terms and statements that a call adds whose keys stand at certain places of its sets, and each
-/// of whose values is one term.
+/// The terms and statements that a call adds, if its keys are at certain indices of its sets and
+/// each of its values is one term.
 #[derive(Drop)]
 pub struct PlacedBody {
-    /// All but the values' own.
+    /// All terms but those of the values.
     pub terms: Vec<TermRow>,
-    /// First those that bind the values.
+    /// The statements: first those that bind the values.
     pub rows: Vec<StmtRow>,
 }
 
 impl PlacedBody {
-    /// Those of a body whose values' names have these places, over keys at places in the sets.
+    /// The terms and statements of a body, given the indices of its values' names and the indices
+    /// of the keys in the sets.
     fn new(
         alloc: Global,
         terms: &[TermRow],
@@ -51,8 +52,9 @@ impl PlacedBody {
     }
 }
 
-/// A body prepared for calls whose keys rise in the procedure's order, and for calls that read and
-/// write two keys, the second of which is the lower one. It declares so many keys.
+/// A body prepared for calls whose keys ascend in the procedure's order, and for calls that read
+/// and write two keys, the second of which is the lower one. `reads` and `writes` are the numbers
+/// of keys that it declares.
 pub(crate) fn placed_bodies(
     alloc: Global,
     terms: &[TermRow],

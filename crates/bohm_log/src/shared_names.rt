@@ -18,7 +18,7 @@ use std::sync::Arc;
 /// At most this many names are shared.
 pub(crate) const MOST_SHARED: usize = 1 << 30;
 
-/// Names, and for each hash the numbers of up to two that have it.
+/// Names, and for each hash the numbers of up to two names that have it.
 #[derive(Drop)]
 struct HashedNames<S: BuildHasher> {
     names: Names<S>,
@@ -26,8 +26,8 @@ struct HashedNames<S: BuildHasher> {
     numbers: Vec<[u32; 2]>,
 }
 
-/// Names that never change, each at the number that it has in all logs that share them. Threads look
-/// them up side by side.
+/// Names that never change, each at the number that it has in all logs that share them. Threads
+/// look them up concurrently.
 pub struct SharedNames<S: BuildHasher = BuildHasherDefault<FoldHasher>> {
     hashed: Option<Arc<HashedNames<S>>>,
 }
@@ -51,7 +51,7 @@ impl<S: BuildHasher> Model for SharedNames<S> {
     ghost invariant = { λ s. length (option_map_or (λ a. a.value.names) s.hashed []) ≤ 2 ^ 30 };
 }
 
-/// Notes the number of a name, unless two others have its place.
+/// Notes the number of a name, unless its slot already has two others.
 fn note(numbers: &mut Vec<[u32; 2]>, name: &Key, number: u32) {
     let slot = slot_of(name, numbers.len());
     let Some(noted) = numbers.get_mut(slot) else {
@@ -64,7 +64,8 @@ fn note(numbers: &mut Vec<[u32; 2]>, name: &Key, number: u32) {
     };
 }
 
-/// For each hash the numbers of up to two names that have it. There are two hashes for each name.
+/// For each hash, the numbers of up to two names that have it. There are twice as many hashes as
+/// names.
 fn hashed(alloc: Global, names: &[Key]) -> Result<Vec<[u32; 2]>, NoMemory>
     requires { length names.now ≤ 2 ^ 30 }
 {
@@ -99,7 +100,7 @@ impl<S: BuildHasher> SharedNames<S> {
         })
     }
 
-    /// The same names once more. Nothing is copied.
+    /// Another reference to the same names. No name is copied.
     pub fn try_clone(&self) -> Result<SharedNames<S>, NoMemory>
         ensures { IfOk result (λ s. s ≡ self.now) }
     {
@@ -111,7 +112,7 @@ impl<S: BuildHasher> SharedNames<S> {
         }
     }
 
-    /// All of them, each at its number.
+    /// All names, each at its number.
     #[inline(always)]
     pub(crate) fn as_slice(&self) -> &[Key]
         ensures names { result.now ≡ self.now }
@@ -124,7 +125,7 @@ impl<S: BuildHasher> SharedNames<S> {
         }
     }
 
-    /// How many there are.
+    /// How many names there are.
     pub fn len(&self) -> usize
         ensures { result ≡ length self.now }
     {
@@ -140,7 +141,7 @@ impl<S: BuildHasher> SharedNames<S> {
         Some(KeyHandle { key, number })
     }
 
-    /// The number of a name, if it is one of them. The time doesn't grow with their number.
+    /// The number of a name, if it is one of these. The time doesn't grow with the number of names.
     pub fn find(&self, name: &Key) -> Option<u32>
         ensures { result ≡ position (bytes_eq name.now) self.now }
     {
@@ -150,7 +151,7 @@ impl<S: BuildHasher> SharedNames<S> {
         }
     }
 
-    /// The number of a name, where it is noted for its hash. Nothing is searched for.
+    /// The number of a name, if it is noted for the name's hash. No search is made.
     #[inline(always)]
     pub(crate) fn noted(&self, name: &Key) -> Option<u32>
         ensures { IfSome result (λ i. slice_get self.now i ≡ Some name.now) }

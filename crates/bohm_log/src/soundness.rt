@@ -26,7 +26,7 @@ pub fn are_named(handles: &[KeyHandle])
     }
 }
 
-/// Values are numbers of 64 bits.
+/// Values are 64-bit numbers.
 pub fn are_values(values: &[Value])
     ensures { AllByRecursion IsNumber values.now }
 {
@@ -42,7 +42,7 @@ fn is_entry(entry: &(Key, Value))
     let _ = entry.1.get();
 }
 
-/// Entries have both.
+/// The keys of entries are names, and their values are 64-bit numbers.
 pub fn are_entries(entries: &[(Key, Value)])
     ensures { AllByRecursion IsEntry entries.now }
 {

@@ -177,7 +177,7 @@ impl<'a> StmtView<'a> {
     }
 }
 
-/// A statement of the slices.
+/// The statement at an index of the slices.
 #[tactic(auto, using(crate::proofs::Viewing::mapped_at, crate::proofs::Viewing::row_in))]
 pub fn stmt_by<'a>(seen: &'a TxnSlices<'a>, index: usize) -> StmtView<'a>
     requires inside { index < length seen.now.rows.now }

@@ -85,7 +85,7 @@ impl SumView<'_> {
         (self.end - self.start) as usize
     }
 
-    /// A term, counted from 0.
+    /// The term at an index, counted from 0.
     pub fn term(&self, index: usize) -> TermParts
         requires { index < length self.now }
         ensures { slice_get self.now index ≡ Some (term_shown result) }

@@ -39,7 +39,7 @@ pub struct Head {
     pub rows_end: u32,
 }
 
-/// The transaction at a head.
+/// The transaction whose parts a head locates.
 pub fn txn_by<'a>(table: Table<'a>, head: &Head) -> TxnView<'a>
     requires within { HeadIn (shared_seen table) head.now }
     requires named { AllNamed (all_names table.names) table.ids.now }

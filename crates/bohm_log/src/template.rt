@@ -26,7 +26,7 @@ use std::alloc::Global;
 use std::hash::BuildHasher;
 use std::marker::Model;
 
-/// A declared name, and which key parameter it is, if it is one.
+/// A declared name, and the index of the key parameter that it is, if it is one.
 #[derive(Clone, Copy, Debug)]
 pub struct DeclaredName {
     pub name: Key,
@@ -38,20 +38,20 @@ pub struct DeclaredName {
 pub struct BodyColumns {
     pub reads: Vec<DeclaredName>,
     pub writes: Vec<DeclaredName>,
-    /// Set only where the writes are the reads, in the same order.
+    /// True only if the writes are the reads, in the same order.
     pub same_sets: bool,
     pub others: Vec<Key>,
     pub large: Vec<u64>,
     pub terms: Vec<TermRow>,
     pub rows: Vec<StmtRow>,
-    /// What a call adds whose keys rise in the procedure's order.
+    /// What a call adds if its keys ascend in the procedure's order.
     pub rising: PlacedBody,
-    /// What a call adds that reads and writes two keys, the second of which is the lower one.
+    /// What a call adds if it reads and writes two keys, the second of which is the lower one.
     pub falling: PlacedBody,
 }
 
-/// A procedure, which contracts see as that of the definitions. Its terms and statements are those
-/// of its own instance, and its values' names are among the other names.
+/// A procedure, which contracts see as a `Procedure` of the definitions. Its terms and statements
+/// are those of its own instance, and its values' names are among the other names.
 pub struct Template {
     pub(crate) edition: Edition,
     pub(crate) keys: Vec<Key>,
@@ -93,7 +93,7 @@ impl Model for Template {
         (procedure_of t.edition t.keys.items t.values.items (parts_in t.body)) };
 }
 
-/// The places of names among others, to which they are added where they are new.
+/// The indices of names among the other names, to which they are added if they are new.
 fn place_names<S: BuildHasher + Drop>(
     others: &mut Names<S>,
     places: &mut Vec<u32>,
@@ -112,7 +112,7 @@ fn place_names<S: BuildHasher + Drop>(
     Ok(())
 }
 
-/// Names, and which of the parameters each one is.
+/// The names, each with the index of the parameter that it is, if it is one.
 fn declared_names(
     alloc: Global,
     names: &[Key],
@@ -131,7 +131,16 @@ fn declared_names(
     Ok(declared)
 }
 
-/// The declared names, and the body prepared for their places.
+/// The names that a body declares, and the body prepared for two orders of their keys.
+#[derive(Drop)]
+struct PreparedBody {
+    reads: Vec<DeclaredName>,
+    writes: Vec<DeclaredName>,
+    rising: PlacedBody,
+    falling: PlacedBody,
+}
+
+/// Prepares a body that declares these names. The keys are the parameters among them.
 fn prepared(
     alloc: Global,
     keys: &[Key],
@@ -140,22 +149,27 @@ fn prepared(
     terms: &[TermRow],
     rows: &[StmtRow],
     locals: &[u32],
-) -> Result<(Vec<DeclaredName>, Vec<DeclaredName>, PlacedBody, PlacedBody), LogFault>
+) -> Result<PreparedBody, LogFault>
     requires lets { length locals.now ≤ length rows.now }
     requires few_reads { length reads.now ≤ most_keys }
     requires few_writes { length writes.now ≤ most_keys }
-    ensures reads { IfOk result (λ r. r.0.items ≡ map (declared_name keys.now) reads.now) }
-    ensures writes { IfOk result (λ r. r.1.items ≡ map (declared_name keys.now) writes.now) }
+    ensures reads { IfOk result (λ r. r.reads.items ≡ map (declared_name keys.now) reads.now) }
+    ensures writes { IfOk result (λ r. r.writes.items ≡ map (declared_name keys.now) writes.now) }
     ensures rising { IfOk result (λ r. IsPlaced terms.now rows.now locals.now
-        (range_with_len 0 (length reads.now)) (range_with_len 0 (length writes.now)) r.2) }
+        (range_with_len 0 (length reads.now)) (range_with_len 0 (length writes.now)) r.rising) }
     ensures falling { IfOk result
-        (λ r. IsPlaced terms.now rows.now locals.now (1 ∷ 0 ∷ []) (1 ∷ 0 ∷ []) r.3) }
+        (λ r. IsPlaced terms.now rows.now locals.now (1 ∷ 0 ∷ []) (1 ∷ 0 ∷ []) r.falling) }
     ensures full { result ≡ Err Full → 2 ^ 32 ≤ length terms.now + length locals.now }
 {
     let (rising, falling) = placed_bodies(alloc, terms, rows, locals, reads.len(), writes.len())?;
     let reads = declared_names(alloc, reads, keys)?;
     let writes = declared_names(alloc, writes, keys)?;
-    Ok((reads, writes, rising, falling))
+    Ok(PreparedBody {
+        reads,
+        writes,
+        rising,
+        falling,
+    })
 }
 
 impl Template {
@@ -174,16 +188,16 @@ impl Template {
         self.values.len()
     }
 
-    /// The edition whose meaning it has.
+    /// Its edition, which determines its meaning.
     pub fn edition(&self) -> Edition
         ensures { result ≡ self.now.edition }
     {
         self.edition
     }
 
-    /// The procedure whose own instance was read: first a statement for each value, which have no
-    /// more terms than there are values. `Full` comes only where its terms, its statements and the
-    /// values are 2^32 or more.
+    /// The procedure whose own instance was read: it begins with a statement for each value, and
+    /// these statements have no more terms than there are values. It fails with `Full` only if the
+    /// terms, the statements and the values are 2^32 or more.
     pub fn new<S: BuildHasher + Drop>(
         alloc: Global,
         draft: Draft<S>,
@@ -204,7 +218,12 @@ impl Template {
         let mut places = Vec::new(alloc);
         place_names(&mut sheet.others, &mut places, values)?;
         let names = Vec::from_slice(alloc, sheet.others.as_slice())?;
-        let (reads, writes, rising, falling) = prepared(
+        let PreparedBody {
+            reads,
+            writes,
+            rising,
+            falling,
+        } = prepared(
             alloc,
             keys.as_slice(),
             sheet.reads.as_slice(),

@@ -56,8 +56,9 @@ impl<'a> TxnView<'a> {
         }
     }
 
-    /// Whether the numbers of its declared reads are those of its declared writes, in the same order:
-    /// then it writes the keys that it reads. The time grows with how many they are.
+    /// Whether the numbers of its declared reads are those of its declared writes, in the same
+    /// order: then it declares the same keys to be read and written. The time grows with the number
+    /// of keys.
     #[tactic(auto, using(crate::proofs::Viewing::same_numbers))]
     pub fn writes_its_reads(&self) -> bool
         ensures { result ≡ true → self.now.reads ≡ self.now.writes }
@@ -81,7 +82,7 @@ impl TxnView<'_> {
         self.seen.rows.len()
     }
 
-    /// A statement of its body, counted from 0.
+    /// The statement of its body at an index, counted from 0.
     pub fn stmt(&self, index: usize) -> StmtView<'_>
         requires { index < length self.now.body }
         ensures { slice_get self.now.body index ≡ Some result }

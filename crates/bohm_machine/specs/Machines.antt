@@ -1,4 +1,4 @@
--- What a machine holds, and how it goes on.
+-- The state of a machine, and how it continues.
 use Rattle.std.specs.Prelude.{◌≡◌, ℕ, ◌+◌, ◌-◌, ◌≤◌, List, length}
 use Rattle.bohm_types.specs.Txn.{Txn}
 use Rattle.bohm_txn.specs.declared.outcome.Reply.{Reply}
@@ -17,11 +17,11 @@ floor_of m = m.floor
 abbrev pub past_of : Timeline → ℕ → Look
 past_of m ts = past m ts
 
--- what each key holds behind the last transaction
+-- what each key holds after the last transaction
 abbrev pub now_of : Timeline → Look
 now_of m = past_of m (top_of m)
 
--- the machine went on by these transactions, one after another, and these are their replies
+-- the machine ran these transactions, one after another, and these are their replies
 pub record GoesOn (was now : Timeline) (txns : List Txn) (answered : List Reply) : Type 0 where
   pub replies : answered ≡ replies (now_of was) txns
   pub top : top_of now ≡ top_of was + length txns
@@ -30,7 +30,7 @@ pub record GoesOn (was now : Timeline) (txns : List Txn) (answered : List Reply)
   pub later : (ts : ℕ) → top_of was ≤ ts → ts ≤ top_of now → past_of now ts ≡ state (now_of was) txns (ts - top_of was)
   pub count : total now.chains ≤ total was.chains + declared_writes txns
 
--- behind a timestamp at which it had this look, the machine has run this log: from the floor to the top its past is the serial run of the log
+-- after a timestamp at which it had this look, the machine has run this log: from the floor to the top its past is the serial run of the log
 pub record HasRun (look : Look) (start : ℕ) (log : List Txn) (m : Timeline) : Type 0 where
   pub top : top_of m ≡ start + length log
   pub floor : start ≤ floor_of m

@@ -13,7 +13,7 @@ use Rattle.bohm_machine.specs.declared.fault.SegmentFault.TheVariants.{Store, Ti
 use Rattle.bohm_store.specs.Versions.{Timeline}
 use Rattle.bohm_machine.specs.Machines.{HasRun, top_of}
 
--- it has no store, and its positions are timestamps
+-- the segment has no store, and its positions after the top are timestamps
 pub record IsTaken (m : Timeline) (segment : Document) : Type 0 where
   pub store : segment.store ≡ []
   pub timestamps : top_of m + length segment.log < 2 ^ 32
@@ -22,14 +22,14 @@ abbrev pub IsRefused : Timeline → Document → SegmentFault → Type 0
 IsRefused m segment Store = 0 < length segment.store
 IsRefused m segment Timestamps = 2 ^ 32 ≤ top_of m + length segment.log
 
--- so many of the transactions are whole batches: those of these sizes, of which all but the last are `batch`
+-- the first n transactions are whole batches: batches of these sizes, of which all but the last have size `batch`
 pub record AreWholeBatches (log : List Txn) (batch n : ℕ) : Type 0 where
   pub sizes : List ℕ
   pub even : IsEven batch sizes
   pub total : sum sizes ≡ length log
   pub end : IsEndOfBatch sizes n
 
--- a machine that had run a log has run these transactions behind it, and the replies to all are those of the serial run
+-- a machine that had run a log has run these transactions after it, and the replies to all of them are those of the serial run
 pub record RunsOn (was now : Timeline) (txns : List Txn) (answered : List Reply) : Type 0 where
   pub run : (look : Look) (start : ℕ) (log : List Txn) → HasRun look start log was → HasRun look start (log ++ txns) now
   pub replies : (look : Look) (start : ℕ) (log : List Txn) → HasRun look start log was → replies look log ++ answered ≡ replies look (log ++ txns)

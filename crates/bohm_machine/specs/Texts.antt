@@ -1,4 +1,4 @@
--- The texts that a machine's segments answer.
+-- The texts of the answers to a machine's segments.
 use Rattle.std.specs.Prelude.{◌≡◌, ℕ, ◌+◌, List, [], ◌∷◌, ◌++◌, length}
 use Rattle.bohm_types.specs.Txn.{Txn}
 use Rattle.bohm_txn.specs.declared.outcome.Reply.{Reply}
@@ -11,12 +11,12 @@ pub record Run : Type 0 where
   pub txns : List Txn
   pub replies : List Reply
 
--- from one state of a machine to another by these runs
+-- these runs lead from one state of a machine to another
 abbrev pub GoesThrough : Timeline → List Run → Timeline → Type 0
 GoesThrough was [] now = now ≡ was
 GoesThrough was (r ∷ rs) now = (mid : Timeline) × GoesOn was mid r.txns r.replies × GoesThrough mid rs now
 
--- the log that they are the segments of
+-- the log of which the runs are the segments
 abbrev pub log_of : List Run → List Txn
 log_of [] = []
 log_of (r ∷ rs) = r.txns ++ log_of rs

@@ -1,4 +1,4 @@
-//! Runs procedures' calls on a machine.
+//! Runs calls of procedures on a machine.
 
 ghost use Rattle.std.specs.Prelude.{◌≡◌, ◌<◌, length, take, true, is_ok, IfOk, IfErr, OnOk, OnErr};
 ghost use Rattle.bohm_machine.specs.Machines.{GoesOn};
@@ -13,13 +13,13 @@ use std::alloc::Global;
 
 impl Machine {
     /// Runs the calls after the top, as `apply` runs the log of their instances: the replies are
-    /// those of the serial run, and the first is the one of the transaction with the timestamp
-    /// `top() + 1`. The floor stays. No text is made or read.
+    /// those of the serial run, and the first one is that of the transaction with the timestamp
+    /// `top() + 1`. The floor is unchanged. No text is written or parsed.
     ///
-    /// Where an allocation fails it stands at the end of a batch and returns the replies up to
-    /// there.
+    /// If an allocation fails, the machine is at the end of a batch, and the replies up to there
+    /// are returned.
     ///
-    /// Its time grows as that of `apply`.
+    /// The time grows as that of `apply`.
     pub fn run_calls(&mut self, alloc: Global, calls: &Calls) -> Result<Applied, SegmentFault>
         ensures taken { OnOk result (IsTaken self.old calls.now) }
         ensures refused { IfErr result (IsRefused self.old calls.now) }

@@ -14,9 +14,9 @@ use std::alloc::Global;
 impl Machine {
     /// The SHA-256 digest of the text of `store_at(ts)`, for replicas to compare. `Trimmed` below
     /// the floor and `Future` above the top, which are decided before any allocation. Two machines
-    /// that hold the same at two timestamps have the same digests there.
+    /// that have the same store at two timestamps have the same digest there.
     ///
-    /// Its time is that of `store_at`, and grows with the length of the text, which it makes whole.
+    /// The time is that of `store_at`, and grows with the length of the text, which is built whole.
     pub fn digest(&self, alloc: Global, ts: u32) -> Result<[u8; 32], StoreFault>
         ensures trimmed { (result ≡ Err store_is.Trimmed) ↔ (ts < floor_of self.now) }
         ensures future { (result ≡ Err store_is.Future) ↔ (top_of self.now < ts) }

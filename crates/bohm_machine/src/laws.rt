@@ -13,7 +13,7 @@ ghost use Rattle.bohm_store.specs.Versions.{Timeline};
 ghost use Rattle.bohm_machine.specs.Machines.{GoesOn, HasRun, now_of, past_of, top_of};
 ghost use Rattle.bohm_machine.specs.Texts.{Run, GoesThrough, log_of, texts_of};
 
-/// The answers of a log's segments, joined, and then the text of the store at the top are the
+/// The joined answers of a log's segments, followed by the text of the store at the top, are the
 /// answer of the whole log.
 pub fn answers_joined()
     ensures { (store : List (List ℕ × ℤ)) (opened now : Timeline) (runs : List Run)
@@ -24,9 +24,9 @@ pub fn answers_joined()
         (entries (store_after (store_of store) (log_of runs))) }
 {}
 
-/// A machine that holds at its top what another one holds there, and so one that is restored from
-/// its store at the top, goes on as that one does: by the same transactions it returns the same
-/// replies, and comes to the same past after that timestamp.
+/// Two machines that have the same top and the same store there continue alike: on the same
+/// transactions they return the same replies, and have the same past from that timestamp on. So a
+/// machine that is restored from the store at another one's top continues as the other one does.
 pub fn restored_goes_on()
     ensures replies { (one other after1 after2 : Timeline) (txns : List Txn) (a b : List Reply)
         → top_of one ≡ top_of other → now_of one ≡ now_of other → GoesOn one after1 txns a

@@ -60,9 +60,9 @@ impl Model for Machine {
 }
 
 impl Machine {
-    /// The machine of a store, whose entries rise by their keys, as it stands after the transaction
-    /// with the timestamp `top`: a new one is that of the empty store at 0. Keys are hashed from
-    /// the seed. Its time and memory grow with the number of the entries.
+    /// Creates the machine of a store as it is after the transaction with the timestamp `top`; a
+    /// new machine has the empty store at 0. The entries are in ascending order of their keys. Keys
+    /// are hashed with the seed. The time and the memory grow with the number of entries.
     pub fn restore(
         alloc: Global,
         seed: DrawnSeed,
@@ -85,9 +85,10 @@ impl Machine {
         })
     }
 
-    /// No calls of procedures of this edition, in a list that shares the names of the keys that the store
-    /// had when the machine was made: such a key has one number in the machine and in all these lists.
-    /// Any list runs on any machine; calls on these keys cost least where they are shared.
+    /// An empty list of calls of procedures of this edition. It shares the names of the keys that
+    /// the store had when the machine was made: such a key has the same number in the machine and
+    /// in all these lists. Any list runs on any machine; calls on these keys cost least if the
+    /// names are shared.
     pub fn calls(&self, alloc: Global, edition: Edition) -> Result<Calls, NoMemory>
         ensures { IfOk result (λ c. c ≡ empty_document edition) }
     {
@@ -95,18 +96,18 @@ impl Machine {
         Ok(Calls::sharing(alloc, self.seed, edition, names))
     }
 
-    /// The names of the keys that the store had when the machine was made, for lists of calls to share.
-    /// Nothing is copied.
+    /// The names of the keys that the store had when the machine was made, for lists of calls to
+    /// share. Nothing is copied.
     pub fn shared_names(&self) -> Result<SharedNames<HashSeed>, NoMemory> {
         self.history.shared_names()
     }
 
-    /// The seed from which it hashes keys.
+    /// The seed with which it hashes keys.
     pub fn seed(&self) -> DrawnSeed {
         self.seed
     }
 
-    /// The least timestamp of which the past is kept.
+    /// The lowest timestamp whose past is kept.
     pub fn floor(&self) -> u32
         ensures { result ≡ floor_of self.now }
     {
@@ -121,8 +122,8 @@ impl Machine {
         self.history.top()
     }
 
-    /// The number of kept versions, or the greatest number of 64 bits where there are more. Its
-    /// time grows with the number of keys.
+    /// The number of kept versions, or `u64::MAX` if there are more. The time grows with the number
+    /// of keys.
     pub fn version_count(&self) -> u64
         ensures count { result ≡ min (total self.now.chains) 18446744073709551615 }
         ensures distinct { IsDistinct bytes_eq (keys_of self.now.chains) }
@@ -130,9 +131,9 @@ impl Machine {
         self.history.version_count()
     }
 
-    /// What a key holds after the transaction with a timestamp. `Trimmed` below the floor, `Future`
-    /// above the top. Its time is that of one look-up, and grows with how many of the key's versions
-    /// begin above the timestamp. It allocates nothing.
+    /// The cell of a key after the transaction with a timestamp. It fails with `Trimmed` below the
+    /// floor, with `Future` above the top. The time is that of one look-up, and grows with the
+    /// number of the key's versions that begin above the timestamp. It allocates nothing.
     pub fn value_at(&self, key: &Key, ts: u32) -> Result<Cell, PastFault>
         ensures trimmed { (result ≡ Err past_is.Trimmed) ↔ (ts < floor_of self.now) }
         ensures future { (result ≡ Err past_is.Future) ↔ (top_of self.now < ts) }
@@ -142,11 +143,11 @@ impl Machine {
         self.history.value_at(key, ts)
     }
 
-    /// What each key holds after the transaction with a timestamp: the keys that have a value,
-    /// rising, with it. `Trimmed` below the floor and `Future` above the top, which are decided
-    /// before any allocation. At the top it is a snapshot, which `restore` takes. Its time grows
-    /// with the number n of all keys as n log n, and with how many versions ended above the
-    /// timestamp.
+    /// The store after the transaction with a timestamp: the keys that have a value, in ascending
+    /// order, with their values. It fails with `Trimmed` below the floor and with `Future` above
+    /// the top, which are decided before any allocation. At the top it is a snapshot that `restore`
+    /// accepts. The time grows with the number n of all keys as n log n, and with the number of
+    /// versions that ended above the timestamp.
     pub fn store_at(&self, alloc: Global, ts: u32) -> Result<Vec<(Key, Value)>, StoreFault>
         ensures trimmed { (result ≡ Err store_is.Trimmed) ↔ (ts < floor_of self.now) }
         ensures future { (result ≡ Err store_is.Future) ↔ (top_of self.now < ts) }
@@ -158,8 +159,8 @@ impl Machine {
         self.history.store_at(alloc, ts)
     }
 
-    /// Where the floor is above the present one it becomes the floor, and the past below it is
-    /// dropped. Its time grows with how many versions are dropped. It allocates nothing.
+    /// If this floor is above the current one, it becomes the floor, and the past below it is
+    /// dropped. The time grows with the number of versions that are dropped. It allocates nothing.
     pub fn trim(&mut self, floor: u32)
         requires { floor ≤ top_of self.old }
         ensures floor { floor_of self.new ≡ max (floor_of self.old) floor }
@@ -177,7 +178,7 @@ impl Machine {
         self.history.trim(floor);
     }
 
-    /// Whether a segment may run: it has no store of its own, and its timestamps don't pass
+    /// Checks that a segment may run: it has no starting store, and its timestamps don't exceed
     /// 4294967295.
     fn admit(&self, segment: &Checked) -> Result<(), SegmentFault>
         ensures ok { OnOk result (IsTaken self.now segment.now) }
@@ -196,13 +197,14 @@ impl Machine {
 
     /// Runs the transactions of a segment after the top, on the caller's thread, in batches of
     /// 4096. A segment is a checked log without a store. The replies are those of the serial run,
-    /// and the first is the one of the transaction with the timestamp `top() + 1`. The floor stays.
+    /// and the first one is that of the transaction with the timestamp `top() + 1`. The floor is
+    /// unchanged.
     ///
-    /// Where an allocation fails it stands at the end of a batch and returns the replies up to
-    /// there: nothing is lost, and the rest can be applied again.
+    /// If an allocation fails, the machine is at the end of a batch, and the replies up to there
+    /// are returned: nothing is lost, and the rest can be applied again.
     ///
-    /// Its time grows with the number of the transactions' terms, and where an allocation fails with
-    /// the number of the machine's keys too.
+    /// The time grows with the number of the transactions' terms; if an allocation fails, also with
+    /// the number of the machine's keys.
     pub fn apply(&mut self, alloc: Global, segment: &Checked) -> Result<Applied, SegmentFault>
         ensures taken { OnOk result (IsTaken self.old segment.now) }
         ensures refused { IfErr result (IsRefused self.old segment.now) }
@@ -228,7 +230,8 @@ impl Machine {
     }
 
     /// Runs the transactions of a segment as `apply` does, with as many workers, partitions and
-    /// transactions of a batch as the settings say. `keep` and `at` are ignored: the floor stays.
+    /// transactions in a batch as the settings say. `keep` and `at` are ignored: the floor is
+    /// unchanged.
     pub fn apply_on_workers<R: Threads + Wait + Sync>(
         &mut self,
         rt: &R,
@@ -273,7 +276,7 @@ impl Machine {
     }
 }
 
-/// Nothing was run.
+/// The result if nothing was run.
 fn unapplied(alloc: Global, refusal: NoMemory) -> Applied
     ensures replies { result.replies ≡ [] }
     ensures end { result.end ≡ Err refusal }

@@ -83,12 +83,6 @@ placed_more ns ps n missing inside placed p m at = ⊎_elim
     (λ last. ap (slice_get (slice_set ps n (length ns))) (sym last.1) ∙ set_same ps n (length ns) inside ∙ ap (λ x. Some x) (sym last.0))
     (last_or_before ns n p m at)
 
-pub with_present : (ns : List ℕ) (n : ℕ) → list_any (λ m. m == n) ns ≡ true → with_number ns n ≡ ns
-with_present ns n h = rw h refl
-
-pub with_missing : (ns : List ℕ) (n : ℕ) → list_any (λ m. m == n) ns ≡ false → with_number ns n ≡ ns ++ n ∷ []
-with_missing ns n h = rw h refl
-
 pub length-with_number : (ns : List ℕ) (n : ℕ) → length (with_number ns n) ≤ length ns + 1
 length-with_number ns n =
     elim (list_any (λ m. m == n) ns) as (λ b. length (if b then ns else (ns ++ n ∷ [])) ≤ length ns + 1) [

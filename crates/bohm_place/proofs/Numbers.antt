@@ -37,10 +37,6 @@ one_number names m n distinct in_m in_n apart e = ⊎_elim
     below : (m n : ℕ) → m ≢ n → n ≤ m → n < m
     below m n apart ge = grind (arith, nat_tests)
 
-names_more : (names : List (List ℕ)) (numbers : List ℕ) (i d : ℕ) → i < length numbers
-    → names_at names (take (i + 1) numbers) ≡ names_at names (take i numbers) ++ name_at names (get_or numbers i d) ∷ []
-names_more names numbers i d inside = map_more (name_at names) numbers i d inside
-
 -- ---- one more write
 
 within_own : (first u index : ℕ) → first ≤ u → within first (record { begin = u; index = index }) ≡ record { begin = u; index = index }
@@ -123,9 +119,6 @@ module _ (mine : List ℕ → Bool) (first u : ℕ) (names : List (List ℕ)) (n
   pub found_now : AreDistinct (names_at names numbers) → found_at mine first names hand number ≡ found_at mine first names old number
   found_now distinct = found_by_now distinct (mine (name_at names number)) refl
 
-pub placed_first : (mine : List ℕ → Bool) (first u : ℕ) (names : List (List ℕ)) (old : List Placeholder) → AreNumbersPlaced mine first u names [] old old
-placed_first mine first u names old = record { long = refl; below = λ t lt h. h; each = λ n in_n has. refl }
-
 -- ---- one more transaction
 
 pub declared_at : (keys : Numbered) (txns : List Txn) (i : ℕ) (s : List ℕ × List ℕ) (x : Txn) → Numbers keys txns → slice_get keys.sets i ≡ Some s
@@ -140,15 +133,6 @@ pub as_many : (keys : Numbered) (txns : List Txn) → Numbers keys txns → leng
 as_many keys txns numbers = sym (length-map keys.sets (named_sets keys.names)) ∙ ap length numbers.same ∙ length-map txns declared_sets
 
 module _ (mine : List ℕ → Bool) (first : ℕ) (names : List (List ℕ)) where
-  -- before the batch no key has a placeholder of it
-  pub stands_first : (newest : List Placeholder) → length names ≤ length newest → All (λ v. v.begin < first) newest → StandsBehind mine first names [] newest
-  stands_first newest long below = record {
-    long = long;
-    below = All-weaker (λ (v : Placeholder). v.begin < first) (λ (v : Placeholder). v.begin < first + 0) (λ v lt. omega arith) newest below;
-    each = λ n in_n has. (let lt : (newest_at newest n).begin < first = below n none (omega arith) in
-        let e : nat_lt (newest_at newest n).begin first ≡ true = grind (arith, nat_tests) in rw e refl);
-  }
-
   pub stands_on : (txns : List Txn) (i : ℕ) (x : Txn) (numbers : List ℕ) (hand new : List Placeholder) → i < length txns → get_or txns i x ≡ x
       → names_at names numbers ≡ x.writes
       → StandsBehind mine first names (take i txns) hand → AreNumbersPlaced mine first (first + i) names numbers hand new

@@ -23,7 +23,7 @@ begins vs = map (λ v. v.begin) vs
 abbrev pub chain : Keyed → List ℕ → List ℕ
 chain p k = begins (placeholders p k)
 
--- the same if each part of the keys has its own chains
+-- the placeholders of a key, if each part of the keys has its own chains
 abbrev pub placeholders_in : (List ℕ → ℕ) → List Keyed → List ℕ → List Placeholder
 placeholders_in part shards k = unwrap_or (option_map (λ p. placeholders p k) (slice_get shards (part k))) []
 
@@ -34,21 +34,21 @@ chain_in part shards k = begins (placeholders_in part shards k)
 abbrev pub AreEmpty : List Keyed → Type 0
 AreEmpty parts = (i : ℕ) (p : Keyed) (k : List ℕ) → slice_get parts i ≡ Some p → placeholders p k ≡ []
 
--- each is above the one before, and the first above n
+-- each number is above the previous one, and the first is above n
 abbrev pub RisesFrom : ℕ → List ℕ → Type 0
 RisesFrom n [] = Unit {0}
 RisesFrom n (b ∷ bs) = (n < b) × RisesFrom b bs
 
--- the greatest of them, or 0
+-- the greatest of the numbers, or 0 if there are none
 abbrev pub greatest : List ℕ → ℕ
 greatest [] = 0
 greatest (b ∷ bs) = max b (greatest bs)
 
--- the greatest of them below a timestamp, or 0
+-- the greatest of the numbers below a timestamp, or 0 if there are none
 abbrev pub greatest_below : ℕ → List ℕ → ℕ
 greatest_below ts bs = greatest (filter (λ b. nat_lt b ts) bs)
 
--- the newest begin at or below a floor, and all above it
+-- the newest begin at or below a floor, and all begins above it
 abbrev pub kept : ℕ → List ℕ → List ℕ
 kept floor [] = []
 kept floor (b ∷ []) = b ∷ []
@@ -62,7 +62,7 @@ IsKept floor bs b = Contains bs b × ((floor < b) ⊎ ((b ≤ floor) × All (λ 
 abbrev pub AreKept : ℕ → List Keyed → List Keyed → Type 0
 AreKept floor parts left = (part : List ℕ → ℕ) (k : List ℕ) → chain_in part left k ≡ kept floor (chain_in part parts k)
 
--- the same for placeholders
+-- the newest placeholder at or below a floor, and all placeholders above it
 abbrev pub kept_items : ℕ → List Placeholder → List Placeholder
 kept_items floor [] = []
 kept_items floor (v ∷ []) = v ∷ []
@@ -96,7 +96,7 @@ items_at m k = items_of (get bytes_eq m k)
 abbrev pub table : List (List ℕ × Chain) → Keyed
 table es = map (λ e. (e.0, items e.1)) es
 
--- the chains ascend, and each of more than one begin is listed
+-- the chains ascend, and each key whose chain has more than one begin is listed
 pub record IsPlaces {S : Type 0} (chains : HashMap (List ℕ) Chain S) (long : List (List ℕ)) : Type 0 where
   pub rises : (k : List ℕ) → RisesFrom 0 (begins (items_at chains k))
   pub listed : (k : List ℕ) → 1 < length (items_at chains k) → IsAmong long k

@@ -3,7 +3,7 @@ use Rattle.std.specs.Prelude.{◌≡◌, ℕ, ◌+◌, ◌<◌, ◌≤◌, List,
 use Rattle.std.specs.Prelude.{Bool, ◌&&◌, nat_le, Option, Some, None, if◌then◌else◌, All}
 use Rattle.std.specs.List.{sum, list_all}
 use Rattle.bohm_types.specs.Txn.{Txn}
-use Rattle.bohm_place.specs.Noting.{MayHaveKeysOf}
+use Rattle.bohm_place.specs.Noting.{HasKeysOf}
 use Rattle.bohm_place.specs.Plans.{Planned, IsRightPlan}
 use Rattle.bohm_types.specs.Limits.{largest_batch, last_timestamp}
 
@@ -21,15 +21,15 @@ ahead sizes i = sum (take i sizes)
 abbrev pub first_at : Cutting → ℕ → ℕ
 first_at c i = c.first + ahead c.sizes i
 
--- its transactions
+-- the transactions of the batch at this index
 abbrev pub txns_at : Cutting → ℕ → List Txn
 txns_at c i = take (slice_index c.sizes i) (drop (ahead c.sizes i) c.log)
 
--- the plan is right for the batch at this index, and has its keys or none
+-- the plan is right for the batch at this index, and has its keys
 pub record IsPlanAt (c : Cutting) (i : ℕ) (p : Planned) : Type 0 where
   pub first : p.first ≡ first_at c i
   pub right : ∥ IsRightPlan (txns_at c i) p ∥₁
-  pub keys : MayHaveKeysOf (txns_at c i) p
+  pub keys : HasKeysOf (txns_at c i) p
 
 -- each batch has its plan, in order
 pub record ArePlans (c : Cutting) (plans : List Planned) : Type 0 where
@@ -41,11 +41,11 @@ pub record ArePlans (c : Cutting) (plans : List Planned) : Type 0 where
 abbrev pub is_size : ℕ → Bool
 is_size n = nat_le 1 n && nat_le n largest_batch
 
--- each size is a batch's, and their total is a log's possible length
+-- each size is a possible size of a batch, and their total is a possible length of a log
 abbrev pub are_sizes : List ℕ → Bool
 are_sizes sizes = list_all is_size sizes && nat_le (sum sizes) last_timestamp
 
--- these sizes, if a log can be cut so
+-- these sizes, if they are possible sizes of a log's batches
 abbrev pub cuts_of : List ℕ → Option (List ℕ)
 cuts_of sizes = if are_sizes sizes then Some sizes else None
 

@@ -1,5 +1,5 @@
 -- The keys of a batch in its plan, and the indices of keys in a base.
-use Rattle.std.specs.Prelude.{◌≡◌, ℕ, ◌<◌, ◌⊎◌, List, length, Bool, ◌||◌, Some, slice_get}
+use Rattle.std.specs.Prelude.{◌≡◌, ℕ, ◌<◌, ◌⊎◌, List, Bool, ◌||◌, Some, slice_get}
 use Rattle.std.specs.List.{list_any, IsDistinct}
 use Rattle.std.specs.Str.{bytes_eq}
 use Rattle.bohm_types.specs.Txn.{Txn}
@@ -12,7 +12,7 @@ use Rattle.bohm_place.specs.Plans.{Planned, keys_in, planned_in, HasSourcesOf, I
 abbrev pub declares_key : List ℕ → Txn → Bool
 declares_key k t = is_among t.reads k || is_among t.writes k
 
--- the keys are distinct, and are just those that a transaction declares
+-- the keys are distinct, and are exactly the keys that some transaction declares
 pub record AreKeysOf (txns : List Txn) (keys : List (List ℕ)) : Type 0 where
   pub apart : IsDistinct bytes_eq keys
   pub each : (k : List ℕ) → is_among keys k ≡ list_any (declares_key k) txns
@@ -28,14 +28,10 @@ abbrev pub AreNoted : List Txn → Planned → List (List ℕ) → Type 0
 AreNoted txns p base = (set : DeclaredSet) (i n : ℕ) (x : Txn) (a : Access) → slice_get txns i ≡ Some x → slice_get (planned_in set p i) n ≡ Some a
     → a.source ≡ Before → HasPlace base (keys_in set x) n a
 
--- the plan has the keys of the batch, and each such access the index of its key among these
+-- the plan has the keys of the batch, and each access whose source is `Before` has the index of its key among them
 pub record HasKeysOf (txns : List Txn) (p : Planned) : Type 0 where
   pub keys : AreKeysOf txns p.keys
   pub noted : AreNoted txns p p.keys
-
--- if the plan has keys, they are those of the batch
-abbrev pub MayHaveKeysOf : List Txn → Planned → Type 0
-MayHaveKeysOf txns p = 0 < length p.keys → HasKeysOf txns p
 
 -- the second plan is the first with the indices of the first `count` keys of the set in row i
 pub record IsSetNoted {K : Type 0} (p q : Planned) (set : DeclaredSet) (i : ℕ) (keys base : List K) (count : ℕ) : Type 0 where

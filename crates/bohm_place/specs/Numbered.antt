@@ -1,4 +1,4 @@
--- The newest placeholders by key number. Those of earlier batches are recognized by their begins.
+-- The newest placeholders by key number. Placeholders of earlier batches are recognized by their begins.
 use Rattle.std.specs.Prelude.{◌≡◌, ℕ, ◌+◌, ◌<◌, ◌≤◌, Bool, true, List, [], length, All, slice_index_or, if◌then◌else◌}
 use Rattle.std.specs.List.{IsDistinct}
 use Rattle.std.specs.Str.{bytes_eq}
@@ -12,7 +12,7 @@ use Rattle.bohm_place.specs.Shares.{within, placeholders_written, found_by, ahea
 abbrev pub newest_at : List Placeholder → ℕ → Placeholder
 newest_at newest n = slice_index_or newest n none
 
--- what a worker finds for the key with this number, in the batch that starts at `first`
+-- the placeholder that a worker finds for the key with this number, in the batch that starts at `first`
 abbrev pub found_at : (List ℕ → Bool) → ℕ → List (List ℕ) → List Placeholder → ℕ → Placeholder
 found_at mine first names newest n = if mine (name_at names n) then within first (newest_at newest n) else none
 
@@ -28,13 +28,13 @@ pub record AreNumbersPlaced (mine : List ℕ → Bool) (first u : ℕ) (names : 
   pub each : (n : ℕ) → n < length names → mine (name_at names n) ≡ true
       → within first (newest_at new n) ≡ last_or (within first (newest_at old n)) (placeholders_written u 0 (names_at names numbers) (name_at names n))
 
--- a worker's keys have their newest placeholders from the transactions ahead in the batch
+-- a worker's keys have their newest placeholders from the transactions `ahead`, the first ones of the batch
 pub record StandsBehind (mine : List ℕ → Bool) (first : ℕ) (names : List (List ℕ)) (ahead : List Txn) (newest : List Placeholder) : Type 0 where
   pub long : length names ≤ length newest
   pub below : All (λ v. v.begin < first + length ahead) newest
   pub each : (n : ℕ) → n < length names → mine (name_at names n) ≡ true → within first (newest_at newest n) ≡ ahead_of first ahead (name_at names n)
 
--- a worker's result: for its keys the newest placeholders from the transactions ahead, and the array after the batch
+-- a worker's result: the newest placeholders of its keys from the transactions before each access, and the array after the batch
 pub record IsFoundByNumber (mine : List ℕ → Bool) (first : ℕ) (txns : List Txn) (out newest : List Placeholder) : Type 0 where
   pub found : out ≡ found_by mine (ahead_of first) [] txns
   pub below : All (λ v. v.begin < first + length txns) newest

@@ -1,4 +1,4 @@
--- What a planning worker finds and places. `part_of` says which part of a partition each key belongs to.
+-- The placeholders that a planning worker finds and adds. `part_of` gives the part of a partition that each key belongs to.
 use Rattle.std.specs.Prelude.{◌≡◌, ℕ, ◌<◌, ◌&&◌, Bool, true, List, [], ◌∷◌, All}
 use Rattle.std.specs.Str.{bytes_eq}
 use Rattle.bohm_place.specs.declared.placeholder.Placeholder.{Placeholder}
@@ -15,7 +15,7 @@ mine part_of own = keys_of (part_of own.partition.now) own.worker.count own.work
 
 -- ---- by keys
 
--- what the worker finds for the key in these parts
+-- the placeholder that the worker finds for the key in these parts
 abbrev pub found_in : {P : Type 0} → (P → List ℕ → ℕ) → KeyPlanner P → List Keyed → List ℕ → Placeholder
 found_in part_of p parts = found_of (mine part_of p.keys) p.batch.first (placeholders_in (part_of p.keys.partition.now) parts)
 
@@ -23,17 +23,17 @@ found_in part_of p parts = found_of (mine part_of p.keys) p.batch.first (placeho
 abbrev pub IsBelow : {P : Type 0} → (P → List ℕ → ℕ) → KeyPlanner P → ℕ → List Keyed → List ℕ → Type 0
 IsBelow part_of p ts parts k = mine part_of p.keys k ≡ true → All (λ b. b < ts) (chain_in (part_of p.keys.partition.now) parts k)
 
--- the second list of parts has the chains of the first, and appended to each of the worker's the placeholders that f gives for its key
+-- the second list of parts has the chains of the first, with the placeholders that f gives for a key appended to its chain if the key is the worker's
 abbrev pub ArePlaced : {P : Type 0} → (P → List ℕ → ℕ) → KeyPlanner P → (List ℕ → List Placeholder) → List Keyed → List Keyed → Type 0
 ArePlaced part_of p = ArePlacedFor (part_of p.keys.partition.now) (mine part_of p.keys)
 
--- the same for one placeholder, of this key
+-- the second list of parts has the chains of the first, with this placeholder appended to this key's chain if the key is the worker's
 abbrev pub IsPlaced : {P : Type 0} → (P → List ℕ → ℕ) → KeyPlanner P → List ℕ → Placeholder → List Keyed → List Keyed → Type 0
 IsPlaced part_of p key next = ArePlacedFor (part_of p.keys.partition.now) (λ k. bytes_eq key k && mine part_of p.keys k) (λ _. next ∷ [])
 
 -- ---- by key numbers
 
--- what the worker finds for the key with this number in this array
+-- the placeholder that the worker finds for the key with this number in this array
 abbrev pub found_of_number : {P : Type 0} → (P → List ℕ → ℕ) → NumberPlanner P → List Placeholder → ℕ → Placeholder
 found_of_number part_of p = found_at (mine part_of p.keys) p.batch.first p.declared.names
 

@@ -72,7 +72,7 @@ pub record IsRightPlan (txns : List Txn) (p : Planned) : Type 0 where
 
 -- ---- indices in a base
 
--- no index in a base is noted: that of each access whose source is `Before` is 0
+-- no index in a base is noted: the index of each access whose source is `Before` is 0
 abbrev pub HasNoPlaces : Planned → Type 0
 HasNoPlaces p = (set : DeclaredSet) (i j : ℕ) (a : Access) → slice_get (planned_in set p i) j ≡ Some a → a.source ≡ Before → a.index ≡ 0
 
@@ -105,7 +105,7 @@ pub record IsPlannable (first : ℕ) (txns : List Txn) : Type 0 where
   pub room : first + length txns ≤ 2 ^ 32
   pub formed : All IsWellFormedTxn txns
 
--- the right plan of the batch that starts at this timestamp, without noted indices and keys
+-- the right plan of the batch that starts at this timestamp, without noted indices and without keys
 pub record IsPlanned (start : ℕ) (txns : List Txn) (plan : Planned) : Type 0 where
   pub first : plan.first ≡ start
   pub right : IsRightPlan txns plan
@@ -137,7 +137,7 @@ count_in Writes row = row.writes
 abbrev pub end_of : Row → ℕ
 end_of row = (row.start + row.reads) + row.writes
 
--- each row's accesses follow those of the rows before it, and all follow n
+-- each row's accesses follow those of the rows before it, and all start at n or later
 abbrev pub AreLaidFrom : ℕ → List Row → Type 0
 AreLaidFrom n [] = Unit {0}
 AreLaidFrom n (row ∷ rows) = (n ≤ row.start) × AreLaidFrom (end_of row) rows

@@ -40,11 +40,11 @@ abbrev pub placeholders_made : ℕ → List Txn → List ℕ → List Placeholde
 placeholders_made u [] k = []
 placeholders_made u (t ∷ ts) k = placeholders_written u 0 t.writes k ++ placeholders_made (u + 1) ts k
 
--- what a worker finds for a key, given the chains: the newest placeholder of the batch, none if the key isn't its own
+-- the placeholder that a worker finds for a key, given the chains: the key's newest one of the batch; none if the key isn't the worker's
 abbrev pub found_of : (List ℕ → Bool) → ℕ → (List ℕ → List Placeholder) → List ℕ → Placeholder
 found_of mine first chains k = if mine k then within first (last_or none (chains k)) else none
 
--- by transaction, what f gives for its declared keys and the transactions ahead, the reads first; none if the key isn't the worker's
+-- for each transaction, what f gives for each of its declared keys, the reads first, and the transactions before it; none if the key isn't the worker's
 abbrev pub found_by : (List ℕ → Bool) → (List Txn → List ℕ → Placeholder) → List Txn → List Txn → List Placeholder
 found_by mine f ahead [] = []
 found_by mine f ahead (t ∷ ts) = map (λ k. if mine k then f ahead k else none) (t.reads ++ t.writes) ++ found_by mine f (ahead ++ t ∷ []) ts
@@ -53,7 +53,7 @@ found_by mine f ahead (t ∷ ts) = map (λ k. if mine k then f ahead k else none
 abbrev pub newest_ahead : ℕ → (List ℕ → List Placeholder) → List Txn → List ℕ → Placeholder
 newest_ahead first base ahead k = within first (last_or none (base k ++ placeholders_made first ahead k))
 
--- the key's newest placeholder from the transactions ahead
+-- the key's newest placeholder from the transactions `ahead`, the first of which has the timestamp `first`
 abbrev pub ahead_of : ℕ → List Txn → List ℕ → Placeholder
 ahead_of first ahead k = last_or none (placeholders_made first ahead k)
 
@@ -63,18 +63,18 @@ rows_from start [] = []
 rows_from start (t ∷ ts) = record { start = start; reads = length t.reads; writes = length t.writes; sure = is_sure t } ∷ rows_from
     ((start + length t.reads) + length t.writes) ts
 
--- the greater numbers of the two
+-- the greater begin and the greater index of the two
 abbrev pub greater_of : Placeholder → Placeholder → Placeholder
 greater_of v w = record { begin = max v.begin w.begin; index = max v.index w.index }
 
 abbrev pub greater : List Placeholder → List Placeholder → List Placeholder
 greater vs ws = map (λ p. greater_of p.0 p.1) (zip vs ws)
 
--- the second list of parts has the worker's as the first has them
+-- the second list of parts has the same parts for the worker as the first
 abbrev pub HasPartsOf : ℕ → ℕ → List Keyed → List Keyed → Type 0
 HasPartsOf n w parts own = (p : ℕ) → p < length parts → ((p % n) == w) ≡ true → slice_get own p ≡ slice_get parts p
 
--- the second list of parts has the others as the first has them
+-- the second list of parts has the same parts for the other workers as the first
 abbrev pub KeepsOthers : ℕ → ℕ → List Keyed → List Keyed → Type 0
 KeepsOthers n w parts left = (p : ℕ) → p < length parts → ((p % n) == w) ≡ false → slice_get left p ≡ slice_get parts p
 
@@ -86,7 +86,7 @@ KeepsForeign part old new = (i : ℕ) (k : List ℕ) → part k ≢ i → placeh
 abbrev pub AreBelow : (List ℕ → ℕ) → (List ℕ → Bool) → ℕ → List Keyed → Type 0
 AreBelow part mine ts parts = (k : List ℕ) → mine k ≡ true → All (λ b. b < ts) (chain_in part parts k)
 
--- the second list of parts has the chains of the first, and appended to each of the worker's the placeholders that f gives for its key
+-- the second list of parts has the chains of the first, with the placeholders that f gives for a key appended to its chain if the key is the worker's
 abbrev pub ArePlacedFor : (List ℕ → ℕ) → (List ℕ → Bool) → (List ℕ → List Placeholder) → List Keyed → List Keyed → Type 0
 ArePlacedFor part mine f old new = (k : List ℕ) → placeholders_in part new k
     ≡ (if mine k then placeholders_in part old k ++ f k else placeholders_in part old k)
@@ -103,7 +103,7 @@ pub record IsFoundIn (part : List ℕ → ℕ) (n w first : ℕ) (txns : List Tx
   pub others : KeepsForeign part given left
   pub parts : length left ≡ length given
 
--- the same if it was given its own parts of all
+-- a worker's result if it was given its own parts of all parts
 pub record IsFoundInAll (part : List ℕ → ℕ) (n w first : ℕ) (txns : List Txn) (all : List Keyed) (out : List Placeholder) (left : List Keyed) : Type 0 where
   pub found : out ≡ found_by (keys_of part n w) (newest_ahead first (placeholders_in part all)) [] txns
   pub chains : (k : List ℕ) → keys_of part n w k ≡ true → placeholders_in part left k ≡ placeholders_in part all k ++ placeholders_made first txns k

@@ -17,7 +17,7 @@ pub record Writes (first : ℕ) (txns : List Txn) (k : List ℕ) (u : ℕ) : Typ
   pub there : HasTxn first txns u txn
   pub declared : IsAmong txn.writes k
 
--- its declared write of this index is of the key
+-- the declared write of u at this index is a write of the key
 pub record WritesAt (first : ℕ) (txns : List Txn) (k : List ℕ) (u index : ℕ) : Type 0 where
   pub txn : Txn
   pub there : HasTxn first txns u txn

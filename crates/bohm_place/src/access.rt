@@ -13,7 +13,7 @@ pub enum Source {
 #[derive(Clone, Copy, Debug, PartialEq, Eq)]
 pub struct Access {
     pub source: Source,
-    /// The index, counted from 0, of the source's declared write of the key. For `Before` it is 0
-    /// in a plan, and in a batch the index of the key in the base.
+    /// The index, counted from 0, of the source's declared write of the key. For `Before` it is the
+    /// index of the key in the base, and 0 in a plan without keys.
     pub index: u32,
 }

@@ -11,7 +11,7 @@ use bohm_types::NoMemory;
 use std::alloc::Global;
 use std::marker::Model;
 
-// Whether a number is among these, each of which has its index noted. Its time is constant.
+// Whether `number` is one of `numbers`, whose indices are noted in `places`. Its time is constant.
 fn stands(numbers: &[u32], places: &[u32], number: u32) -> bool
     requires known { number < length places.now }
     requires placed { ArePlaced numbers.now places.now }
@@ -21,7 +21,7 @@ fn stands(numbers: &[u32], places: &[u32], number: u32) -> bool
     place < numbers.len() && numbers[place] == number
 }
 
-// Appends a number, unless it is there.
+// Appends a number, unless it is in the list already.
 fn add(numbers: &mut Vec<u32>, places: &mut [u32], number: u32) -> Result<(), NoMemory>
     requires known { number < length places.old }
     requires few { length numbers.old.items < 2 ^ 32 }
@@ -37,7 +37,7 @@ fn add(numbers: &mut Vec<u32>, places: &mut [u32], number: u32) -> Result<(), No
     Ok(())
 }
 
-// Appends each of these numbers that isn't there yet.
+// Appends each of the numbers `more` that isn't in the list yet.
 fn add_all(numbers: &mut Vec<u32>, places: &mut [u32], more: &[u32]) -> Result<(), NoMemory>
     requires known { All (λ n. n < length places.old) more.now }
     requires few { length numbers.old.items + length more.now ≤ 2 ^ 32 }
@@ -73,13 +73,13 @@ fn add_sets(
     Ok(())
 }
 
-/// The keys that a batch declares, each once, as numbers, and for each number its index among
-/// these. Their order, that of their first declaration, is a hint: no clause gives it. Its memory
-/// is reused for the next batch.
+/// The numbers of the keys that a batch declares, each once, and the index of each number among
+/// them. They are in the order of their first declarations, which is a hint: no clause states it.
+/// The memory is reused for the next batch.
 #[derive(Drop)]
 pub struct BatchKeys {
     numbers: Vec<u32>,
-    // Entries for other numbers are left from earlier batches.
+    // Entries for other numbers are left over from earlier batches.
     places: Vec<u32>,
 }
 
@@ -102,9 +102,9 @@ impl BatchKeys {
         }
     }
 
-    /// Replaces its keys by those that these transactions declare. The time grows with the number
-    /// of declared keys, and with the log's names only when there are more than ever before: no key
-    /// is hashed or compared. After an error its contents are unspecified.
+    /// Replaces the keys with those that these transactions declare. The time grows with the number
+    /// of declared keys, and with the number of the log's names only if it is greater than in any
+    /// earlier call: no key is hashed or compared. After an error the contents are unspecified.
     pub fn gather(&mut self, keys: &DeclaredKeys<'_>) -> Result<(), NoMemory>
         requires txns { length keys.now.sets ≤ largest_batch }
         requires sets { All AreFew keys.now.sets }
@@ -125,7 +125,7 @@ impl BatchKeys {
         &self.numbers
     }
 
-    /// For each of these numbers its index among them. Other entries have no meaning.
+    /// The index of each of these numbers among them. Other entries have no meaning.
     pub fn places(&self) -> &[u32]
         ensures { result.now ≡ self.now.places }
     {

@@ -1,4 +1,4 @@
-//! A planning worker that goes by keys.
+//! A planning worker that looks up placeholders by key.
 
 ghost use Rattle.std.specs.Prelude.{◌≡◌, ℕ, List, ◌++◌, ◌<◌, ◌≤◌, [], length, map, OnOk, IfOk};
 ghost use Rattle.bohm_place.specs.Chains.{placeholders_in};
@@ -17,23 +17,23 @@ use bohm_log::Keys;
 use bohm_types::{Key, NoMemory};
 use std::alloc::Global;
 
-/// A worker, and a list of all parts in which only its own, which no other worker has meanwhile,
-/// have keys.
+/// A worker, and a list of all parts. Only the worker's own parts have keys there, and no other
+/// worker has these parts in the meantime.
 #[derive(Drop)]
 pub struct PartsJob {
     pub worker: Worker,
     pub parts: Vec<Places>,
 }
 
-/// A worker's result: for each access of its keys the placeholder of its source, `none` for the
-/// other accesses, and its parts.
+/// A worker's result: the placeholder of the source for each access of its keys, `none` for each
+/// other access, and its parts.
 #[derive(Drop)]
 pub struct FoundInParts {
     pub found: Vec<Placeholder>,
     pub parts: Vec<Places>,
 }
 
-/// A worker that goes by keys.
+/// A worker that looks up placeholders by key.
 #[derive(Drop)]
 pub struct KeyPlanner<'a, P> {
     keys: WorkerKeys<'a, P>,
@@ -41,7 +41,7 @@ pub struct KeyPlanner<'a, P> {
 }
 
 impl<'a, P: Partition> KeyPlanner<'a, P> {
-    // The placeholder that a read of the key takes.
+    // The placeholder of the source of a read of the key.
     fn find(&self, parts: &[Places], key: &Key) -> Placeholder
         requires { length parts.now ≡ P.count self.now.keys.partition.now }
         ensures { result ≡ found_in P.part_of self.now parts.now key.now }
@@ -53,8 +53,8 @@ impl<'a, P: Partition> KeyPlanner<'a, P> {
         parts[part as usize].newest(key).within(self.batch.first)
     }
 
-    // The placeholder that a write of the key takes its version from. The write's own placeholder
-    // is added.
+    // Returns the placeholder of the source of a write of the key, and adds the write's own
+    // placeholder.
     fn find_and_place(
         &self,
         alloc: Global,
@@ -152,7 +152,8 @@ impl<'a, P: Partition> KeyPlanner<'a, P> {
     }
 }
 
-/// Finds and adds, in log order, the accesses of the worker's keys in all transactions.
+/// Goes through all transactions in log order, finds the sources of the accesses of the worker's
+/// keys, and adds the placeholders of their writes.
 pub fn plan_in_parts<P: Partition>(
     alloc: Global,
     mut job: PartsJob,

@@ -1,4 +1,4 @@
-//! A planning worker that goes by key numbers.
+//! A planning worker that looks up placeholders by key number.
 
 ghost use Rattle.std.specs.Prelude.{◌≡◌, ◌+◌, ◌++◌, ◌<◌, ◌≤◌, [], length, map};
 ghost use Rattle.std.specs.Prelude.{All, OnOk, IfOk, slice_set, if◌then◌else◌};
@@ -27,15 +27,15 @@ pub struct NumberJob {
     pub newest: Newest,
 }
 
-/// A worker's result: for each access of its keys the placeholder of its source, `none` for the
-/// other accesses, and its array.
+/// A worker's result: the placeholder of the source for each access of its keys, `none` for each
+/// other access, and its array.
 #[derive(Drop)]
 pub struct FoundByNumber {
     pub found: Vec<Placeholder>,
     pub newest: Newest,
 }
 
-/// A worker that goes by the numbers of keys.
+/// A worker that looks up placeholders by key number.
 #[derive(Drop)]
 pub struct NumberPlanner<'a, P> {
     keys: WorkerKeys<'a, P>,
@@ -44,8 +44,8 @@ pub struct NumberPlanner<'a, P> {
 }
 
 impl<'a, P: Partition> NumberPlanner<'a, P> {
-    // Whether the worker has the key with a number. A single worker has every key, without a call
-    // of the partition.
+    // Whether the worker has the key with this number. A single worker has every key, and doesn't
+    // call the partition.
     fn has(&self, number: u32) -> bool
         requires { number < length self.now.declared.names }
         ensures { result ≡ mine P.part_of self.now.keys (name_at self.now.declared.names number) }
@@ -57,7 +57,7 @@ impl<'a, P: Partition> NumberPlanner<'a, P> {
         self.keys.worker.has(self.keys.partition.part(key))
     }
 
-    // The placeholder that a read of the key takes.
+    // The placeholder of the source of a read of the key.
     fn find(&self, newest: &[Placeholder], number: u32) -> Placeholder
         requires named { number < length self.now.declared.names }
         requires long { length self.now.declared.names ≤ length newest.now }
@@ -69,7 +69,7 @@ impl<'a, P: Partition> NumberPlanner<'a, P> {
         newest[number as usize].within(self.batch.first)
     }
 
-    // The placeholder that a write of the key takes its version from. The write's own placeholder
+    // Returns the placeholder of the source of a write of the key. The write's own placeholder
     // replaces it.
     fn find_and_place(
         &self,
@@ -159,7 +159,8 @@ impl<'a, P: Partition> NumberPlanner<'a, P> {
     }
 }
 
-/// Finds and adds, in log order, the accesses of the worker's keys in all transactions.
+/// Goes through all transactions in log order, finds the sources of the accesses of the worker's
+/// keys, and adds the placeholders of their writes.
 pub fn plan_numbers<P: Partition>(
     alloc: Global,
     job: NumberJob,

@@ -11,7 +11,8 @@ use bohm_types::{Key, NoMemory};
 use std::alloc::Global;
 use std::collections::VecDeque;
 
-/// The placeholders of one key, rising. It is never empty; the newest one needs no allocation.
+/// The placeholders of one key, rising. It is never empty; the newest placeholder needs no
+/// allocation.
 #[derive(Drop)]
 pub struct Chain {
     pub older: VecDeque<Placeholder>,
@@ -28,8 +29,8 @@ impl Chain {
         }
     }
 
-    /// Adds a placeholder, and returns the newest one before it. The key is listed if it wasn't;
-    /// after an error it may be listed too.
+    /// Appends a placeholder, and returns the previous newest one. The key is added to the list
+    /// `long` if it wasn't there; after an error it may have been added too.
     pub fn extend(
         &mut self,
         long: &mut Vec<Key>,
@@ -52,7 +53,7 @@ impl Chain {
         Ok(newest)
     }
 
-    /// The begin of the second oldest one.
+    /// The begin of the second oldest placeholder, if there is one.
     fn second(&self) -> Option<u32>
         ensures { result ≡ second (items self.now) }
     {
@@ -63,8 +64,8 @@ impl Chain {
         }
     }
 
-    /// Drops all that are older than the newest one at or below the floor, and returns whether more
-    /// than one is left. The time grows with the number dropped.
+    /// Drops all placeholders older than the newest one at or below the floor, and returns whether
+    /// more than one is left. The time grows with the number of placeholders dropped.
     pub fn shorten(&mut self, floor: u32) -> bool
         ensures items { items self.new ≡ kept_items floor (items self.old) }
         ensures left { IsTrue result ↔ (1 < length (items self.new)) }

@@ -23,7 +23,7 @@ impl<'a> CutLog<'a> {
     ghost use Rattle.bohm_place.specs.Cuttings.{ahead, first_at, txns_at};
     ghost use Rattle.bohm_place.specs.CutLogs.{cutting_of};
 
-    /// A log whose first transaction has this timestamp, with its batches.
+    /// A log whose first transaction has the timestamp `first`, with its batches.
     pub fn new(first: u32, txns: &'a LogPart<'a>, cuts: &'a Cuts) -> CutLog<'a>
         requires whole { sum cuts.now ≡ length txns.now }
         requires timestamps { first + length txns.now ≤ 2 ^ 32 }

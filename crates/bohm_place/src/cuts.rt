@@ -10,7 +10,7 @@ use bohm_types::{LARGEST_BATCH, NoMemory};
 use std::alloc::Global;
 use std::marker::Model;
 
-/// The sizes of the batches of a log, in order. Contracts see it as the list of these.
+/// The sizes of the batches of a log, in order. In contracts it is the list of these sizes.
 #[derive(Debug, Drop)]
 pub struct Cuts {
     sizes: Vec<u32>,
@@ -61,7 +61,8 @@ impl Cuts {
         Some(Cuts { sizes, total })
     }
 
-    /// Batches of this size for a log of this length; the last one is what is left.
+    /// Batches of size `batch` for a log of `len` transactions; the last batch has the remaining
+    /// transactions.
     pub fn even(alloc: Global, len: u32, batch: u32) -> Result<Cuts, NoMemory>
         requires some { 1 ≤ batch }
         requires few { batch ≤ largest_batch }
@@ -85,7 +86,7 @@ impl Cuts {
         self.total
     }
 
-    /// How many batches there are.
+    /// The number of batches.
     pub fn count(&self) -> u32
         ensures { result ≡ length self.now }
     {

@@ -1,4 +1,4 @@
-//! Divides the parts among workers, and collects them.
+//! Dividing the parts among workers, and collecting them.
 
 ghost use Rattle.std.specs.Prelude.{◌≡◌, ◌≢◌, ℕ, List, ◌++◌, ◌%◌, ◌<◌, ◌==◌, [], length, nat_lt};
 ghost use Rattle.std.specs.Prelude.{IfOk, OnOk, slice_get, slice_index_or, if◌then◌else◌};
@@ -36,7 +36,7 @@ fn swap_parts<T>(a: &mut [T], b: &mut [T], worker: Worker)
     }
 }
 
-// Takes out the parts of one worker, and leaves empty ones in their place, which get no keys.
+// Takes out the parts of one worker, and leaves empty parts instead, which get no keys.
 fn take_parts(alloc: Global, parts: &mut [Places], worker: Worker) -> Result<Vec<Places>, NoMemory>
     ensures count { IfOk result (λ own. length own.items ≡ length parts.old) }
     ensures taken { IfOk result
@@ -71,7 +71,8 @@ pub fn deal(alloc: Global, parts: &mut [Places], workers: usize) -> Result<Vec<P
     Ok(jobs)
 }
 
-/// Puts the parts back where `deal` took them from, and joins what the workers found.
+/// Puts the parts back where `deal` took them from, and joins the placeholders that the workers
+/// found.
 pub fn gather<P: Partition>(
     alloc: Global,
     parts: &mut [Places],

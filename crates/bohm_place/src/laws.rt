@@ -9,7 +9,7 @@ ghost use Rattle.bohm_place.specs.Chains.{RisesFrom, IsKept, kept};
 ghost use Rattle.bohm_place.specs.Shares.{AreWellFormed};
 ghost use Rattle.bohm_place.specs.Writers.{IsNewest, upto, newest_of};
 
-/// In a batch that starts at `first`, a key's cell before the transaction at index i is the one
+/// In a batch that starts at `first`, a key's cell before the transaction at index i is its cell
 /// after its newest writer.
 pub fn newest_state()
     ensures { (look : Look) (txns : List Txn) (first i : ℕ) (k : List ℕ) (s : Source)
@@ -17,8 +17,8 @@ pub fn newest_state()
         → state look txns i k ≡ state look txns (upto first s) k }
 {}
 
-/// In a log, a key's cell before the transaction at t is the one after its newest writer below t,
-/// or that of the starting store if there is none.
+/// In a log, a key's cell before the transaction at t is its cell after its newest writer below t,
+/// or its cell in the starting store if there is no such writer.
 pub fn newest_state_in_log()
     ensures { (look : Look) (log : List Txn) (t : ℕ) (k : List ℕ) (s : Source)
         → AreWellFormed log → 1 ≤ t → t ≤ length log + 1 → IsNewest 1 log k t s

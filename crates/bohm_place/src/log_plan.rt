@@ -12,12 +12,12 @@ use crate::single_threaded::plan_alone;
 use bohm_types::NoMemory;
 use std::alloc::Global;
 
-/// Plans the batches of a log on the caller's thread: the plans, with their keys, in the order of
-/// the batches. They depend only on the log, its first timestamp and its batches, and not on what a
-/// history holds.
+/// Plans the batches of a log on the caller's thread, and returns the plans, with their keys, in
+/// the order of the batches. They depend only on the log, its first timestamp and its batches, and
+/// not on the contents of a history.
 ///
-/// The time grows with the number of keys that the transactions declare; the memory with that, and
-/// with the number of the log's keys.
+/// The time grows with the number of keys that the transactions declare, of their terms and of the
+/// log's keys; the memory grows with the number of declared keys and of the log's keys.
 pub fn plan_batches(alloc: Global, log: CutLog<'_>) -> Result<Vec<Plan>, NoMemory>
     requires position { 0 < (cutting_of log).first }
     ensures plans { IfOk result (λ v. ArePlans (cutting_of log.entry) v.items) }

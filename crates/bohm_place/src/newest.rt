@@ -35,7 +35,7 @@ impl Newest {
         }
     }
 
-    /// This many empty arrays, one for each planning worker.
+    /// `count` empty arrays, one for each planning worker.
     pub fn several(alloc: Global, count: u32) -> Result<Vec<Newest>, NoMemory>
         ensures count { IfOk result (λ v. length v.items ≡ count) }
         ensures unplanned { IfOk result
@@ -48,8 +48,8 @@ impl Newest {
         Ok(several)
     }
 
-    /// Makes room for this many keys, each new one without a placeholder. Its time grows with how
-    /// many are new.
+    /// Lengthens the array to at least `count` keys; a new key has no placeholder. Its time grows
+    /// with the number of new keys.
     pub(crate) fn cover(&mut self, count: usize) -> Result<(), NoMemory>
         ensures long { OnOk result (count ≤ length self.new) }
         ensures same { (n : ℕ) → newest_at self.new n ≡ newest_at self.old n }

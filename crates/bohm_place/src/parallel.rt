@@ -42,7 +42,7 @@ fn jobs(alloc: Global, mut arrays: Vec<Newest>) -> Result<Vec<NumberJob>, NoMemo
     Ok(jobs)
 }
 
-// Runs each worker's job; several run in threads of their own.
+// Runs each worker's job. Several jobs run in separate threads.
 fn plan_all<P: Partition, R: Threads + Sync>(
     rt: &R,
     alloc: Global,
@@ -71,7 +71,7 @@ fn plan_all<P: Partition, R: Threads + Sync>(
     Ok(each)
 }
 
-// Collects the arrays, and joins what the workers found.
+// Collects the arrays, and joins the placeholders that the workers found.
 fn gather<P: Partition>(
     alloc: Global,
     mut each: Vec<Result<FoundByNumber, NoMemory>>,
@@ -108,16 +108,17 @@ fn gather<P: Partition>(
     Ok((arrays, found))
 }
 
-/// Plans a batch by the numbers of its log's keys, as `plan_alone` does, by as many workers as
-/// there are arrays; several run in threads of their own. Worker i of n takes the keys whose part
-/// is i modulo n; each goes through all transactions. The plan is the same for every number of
-/// workers and every partition.
+/// Plans a batch by the numbers of its log's keys, as `plan_alone` does, with one worker for each
+/// array; several workers run in separate threads. Worker i of n takes the keys whose part is i
+/// modulo n, and each worker goes through all transactions. The plan is the same for every number
+/// of workers and every partition.
 ///
-/// The arrays are those that planning the batch before returned, or new ones; their number may
+/// The arrays are those that planning the previous batch returned, or new ones; their number may
 /// change from batch to batch. An error drops them. The time of a worker grows with the number of
-/// accesses, with a call of the partition for each if there are several workers, and with how many
-/// keys of the log are new to its array. Joining what they found takes time that grows with the
-/// number of accesses times that of the workers.
+/// accesses, with a call of the partition for each access if there are several workers, and with
+/// the number of the log's keys that are new to its array. Before that, one thread takes time that
+/// grows with the number of terms, and after it, to join the results, time that grows with the
+/// number of accesses times the number of workers.
 pub fn plan_by_number<P: Partition, R: Threads + Sync>(
     rt: &R,
     alloc: Global,

@@ -5,7 +5,7 @@ ghost use Rattle.std.proofs.Common.{rules};
 
 use bohm_types::Key;
 
-/// A partition of the keys. Both answers depend only on the value and the key.
+/// A partition of the keys. The results of both calls depend only on the value and the key.
 pub trait Partition: Sync {
     ghost count: { Self → ℕ };
 

@@ -21,7 +21,7 @@ impl Placeholder {
         Placeholder { begin: 0, index: 0 }
     }
 
-    /// The placeholder itself, if it is of the batch that starts at `first`.
+    /// The placeholder itself if it belongs to the batch that starts at `first`, and else `none`.
     pub fn within(self, first: u32) -> Placeholder
         ensures { result ≡ within first self }
     {
@@ -32,7 +32,7 @@ impl Placeholder {
         }
     }
 
-    /// Of two, at least one of which is `none`, the other.
+    /// If at least one of the two placeholders is `none`, the other one.
     pub fn or(self, other: Placeholder) -> Placeholder
         ensures { result ≡ greater_of self other }
     {
@@ -43,7 +43,7 @@ impl Placeholder {
     }
 }
 
-/// Adds to what some workers found what another one found, whose keys are none of theirs.
+/// Merges the result of another worker into that of some workers, which have none of its keys.
 pub fn join(found: &mut [Placeholder], more: &[Placeholder])
     requires { length found.old ≡ length more.now }
     ensures { found.new ≡ greater found.old more.now }

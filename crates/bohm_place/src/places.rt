@@ -52,7 +52,7 @@ fn shorten(chains: &mut HashMap<Key, Chain, HashSeed>, key: &Key, floor: u32) ->
     }
 }
 
-// Shortens the listed chains, and keeps listed those with more than one begin.
+// Shortens the listed chains. Those that still have more than one begin remain listed.
 fn shorten_all(chains: &mut HashMap<Key, Chain, HashSeed>, long: &mut Vec<Key>, floor: u32)
     requires { (k : List ℕ) → 1 < length (items_at chains.old k) → IsAmong long.old.items k }
     ensures chains { (k : List ℕ)
@@ -91,14 +91,14 @@ impl Model for Places {
 impl Places {
     ghost use Rattle.bohm_place.specs.Chains.{placeholders, chain, greatest_below, kept, RisesFrom};
 
-    /// No chains: each key has the empty one. Keys are hashed from the fixed seed.
+    /// No chains: each key has the empty chain. Keys are hashed with the fixed seed.
     pub fn new(alloc: Global) -> Places
         ensures { (k : List ℕ) → placeholders result k ≡ [] }
     {
         Places::with_seed(alloc, HashSeed::from(FixedSeed))
     }
 
-    /// The same, with keys hashed from this seed.
+    /// No chains, with keys hashed with this seed.
     pub(crate) fn with_seed(alloc: Global, seed: HashSeed) -> Places
         ensures { (k : List ℕ) → placeholders result k ≡ [] }
     {

@@ -1,4 +1,4 @@
-//! Adds the batch's keys to a plan, and their indices to its accesses.
+//! Adding the batch's keys to a plan, and their indices to its accesses.
 
 ghost use Rattle.std.specs.Prelude.{◌≡◌, ◌+◌, ◌-◌, ◌≤◌, ◌^◌, All, Contains, IfOk, length, map};
 ghost use Rattle.bohm_txn.specs.Faulty.{IsWellFormedTxn};
@@ -7,7 +7,7 @@ ghost use Rattle.bohm_log.specs.Layers.{all_names};
 ghost use Rattle.bohm_log.specs.Numbering.{Numbers};
 ghost use Rattle.bohm_log.specs.Parts.{names_at};
 ghost use Rattle.bohm_place.specs.Gathering.{AreGathered, ArePlaced};
-ghost use Rattle.bohm_place.specs.Noting.{AreNoted, HasKeysOf, IsSetNoted, MayHaveKeysOf};
+ghost use Rattle.bohm_place.specs.Noting.{AreNoted, HasKeysOf, IsSetNoted};
 ghost use Rattle.bohm_place.specs.Plans.{planned_in, HasSourcesOf, IsRightPlan};
 ghost use Rattle.bohm_types.specs.Limits.{largest_batch, most_keys};
 
@@ -19,8 +19,8 @@ use bohm_log::{DeclaredKeys, LogPart, NameTable};
 use bohm_types::NoMemory;
 use std::alloc::Global;
 
-/// Notes the indices of the keys with these numbers, of one declared set of the transaction with
-/// the timestamp t. Each is one of the gathered keys.
+/// Notes the indices of the keys with these numbers. They are the keys of one declared set of the
+/// transaction with the timestamp `t`, and each of them is a gathered key.
 fn note_numbers(plan: &mut Plan, gathered: &BatchKeys, set: DeclaredSet, t: u32, numbers: &[u32])
     requires first { plan.old.first ≤ t }
     requires paired { length numbers.now ≡ length (planned_in set plan.old (t - plan.old.first)) }
@@ -41,8 +41,8 @@ fn note_numbers(plan: &mut Plan, gathered: &BatchKeys, set: DeclaredSet, t: u32,
     }
 }
 
-/// Notes at each access whose source is `Before` the index of its key among the gathered ones. The
-/// time grows with the number of accesses: no key is searched for.
+/// Notes, at each access whose source is `Before`, the index of its key among the gathered keys.
+/// The time grows with the number of accesses: no key is searched for.
 fn note_gathered(
     plan: &mut Plan,
     txns: &LogPart<'_>,
@@ -89,8 +89,8 @@ fn numbered_keys(
 }
 
 impl Plan {
-    /// Gathers the keys that the batch declares, each once, and notes at each access whose source
-    /// is `Before` the index of its key among them, so that a base of these keys is read by index.
+    /// Gathers the keys that the batch declares, each once, and notes, at each access whose source
+    /// is `Before`, the index of its key among them, so that a base of these keys is read by index.
     /// An error drops the plan. The time grows with the number of accesses: no key is hashed or
     /// compared.
     pub fn gather_keys(
@@ -113,24 +113,5 @@ impl Plan {
         note_gathered(&mut plan, txns, &declared, gathered);
         let keys = numbered_keys(alloc, declared.names(), gathered.numbers())?;
         Ok(plan.with_keys(keys))
-    }
-
-    /// The plan with the keys of its batch, which are gathered unless it has them. An error drops
-    /// the plan. The time is that of `gather_keys`, or constant if it has them.
-    pub fn ensure_keys(self, alloc: Global, txns: &LogPart<'_>) -> Result<Plan, NoMemory>
-        requires few { length txns.now ≤ largest_batch }
-        requires room { self.first + length txns.now ≤ 2 ^ 32 }
-        requires formed { All IsWellFormedTxn txns.now }
-        requires right { ∥ IsRightPlan txns.now self ∥₁ }
-        requires keys { MayHaveKeysOf txns.now self }
-        ensures sources { IfOk result (HasSourcesOf self) }
-        ensures right { IfOk result (λ p. ∥ IsRightPlan txns.now p ∥₁) }
-        ensures keys { IfOk result (HasKeysOf txns.now) }
-    {
-        if self.keys().is_empty() {
-            self.gather_keys(alloc, txns, &mut BatchKeys::new(alloc))
-        } else {
-            Ok(self)
-        }
     }
 }

@@ -15,13 +15,13 @@ use std::marker::Model;
 #[derive(Clone, Copy, Debug)]
 pub struct NumberedKey {
     pub key: Key,
-    /// A hint: no clause says which key has the number, so whoever goes by it compares the key that
-    /// it finds.
+    /// A hint: no contract says which key has the number, so a caller that looks a key up by it
+    /// also compares the keys.
     pub number: u32,
 }
 
-/// The source of each access of a batch, and which transactions are sure. It may have the keys that
-/// the batch declares, each once.
+/// The source of each access of a batch, and which transactions are sure. It may also have the keys
+/// that the batch declares, each once.
 #[derive(Drop)]
 pub struct Plan {
     first: u32,
@@ -66,7 +66,7 @@ impl Plan {
     ghost use Rattle.bohm_place.specs.Plans.{source_in, sure_at, AreRows, IsNoted};
     ghost use Rattle.bohm_place.specs.declared.access.Source.TheVariants.{Before};
 
-    /// The plan, without keys, of a batch that starts at a timestamp.
+    /// The plan, without keys, of a batch that starts at the timestamp `first`.
     pub(crate) fn new(
         alloc: Global,
         first: u32,
@@ -112,7 +112,8 @@ impl Plan {
         self.rows.len() as u32
     }
 
-    /// The source of the read of this index, counted from 0, of the transaction with a timestamp.
+    /// The source of the read at `index`, counted from 0, of the transaction with the timestamp
+    /// `t`.
     pub fn read(&self, t: u32, index: u32) -> Source
         requires first { self.now.first ≤ t }
         requires index { index < length (reads_of self.now (t - self.now.first)) }
@@ -122,8 +123,8 @@ impl Plan {
         self.access(DeclaredSet::Reads, t, index).source
     }
 
-    /// The source of the declared write of this index, counted from 0, of the transaction with a
-    /// timestamp: the version of its key before the transaction.
+    /// The source of the declared write at `index`, counted from 0, of the transaction with the
+    /// timestamp `t`: the version of its key before the transaction.
     pub fn write(&self, t: u32, index: u32) -> Source
         requires first { self.now.first ≤ t }
         requires index { index < length (writes_of self.now (t - self.now.first)) }
@@ -133,7 +134,7 @@ impl Plan {
         self.access(DeclaredSet::Writes, t, index).source
     }
 
-    /// Whether the transaction with a timestamp is sure. Its time is constant.
+    /// Whether the transaction with the timestamp `t` is sure. Its time is constant.
     pub fn sure(&self, t: u32) -> bool
         requires first { self.now.first ≤ t }
         requires txn { t - self.now.first < length self.now.rows }
@@ -142,15 +143,15 @@ impl Plan {
         self.rows[(t - self.first) as usize].sure
     }
 
-    /// The keys that were gathered.
+    /// The gathered keys.
     pub fn keys(&self) -> &[NumberedKey]
         ensures { map (λ k. k.key) result.now ≡ self.now.keys }
     {
         &self.keys
     }
 
-    /// The access of the key of this index, counted from 0, in a declared set of the transaction
-    /// with a timestamp. Its time is constant.
+    /// The access of the key at `index`, counted from 0, in a declared set of the transaction with
+    /// the timestamp `t`. Its time is constant.
     pub fn access(&self, set: DeclaredSet, t: u32, index: u32) -> Access
         requires first { self.now.first ≤ t }
         requires index { index < length (planned_in set self.now (t - self.now.first)) }
@@ -160,8 +161,8 @@ impl Plan {
         Access::from(self.placeholders[row.place(set, index)])
     }
 
-    /// Notes at an access whose source is `Before` the index of its key in the base of the batch.
-    /// All other accesses stay as they are. Its time is constant.
+    /// Notes, at an access whose source is `Before`, the index of its key in the base of the batch.
+    /// All other accesses are unchanged. Its time is constant.
     pub fn note(&mut self, set: DeclaredSet, t: u32, index: u32, place: u32)
         requires first { self.old.first ≤ t }
         requires index { index < length (planned_in set self.old (t - self.old.first)) }

@@ -1,4 +1,4 @@
-//! Plans a batch by key, with whole chains.
+//! Planning a batch by key, with whole chains.
 
 ghost use Rattle.std.specs.Prelude.{◌≡◌, ◌≢◌, ℕ, List, ◌+◌, ◌++◌, ◌<◌};
 ghost use Rattle.std.specs.Prelude.{length, All, IfOk, slice_index_or};
@@ -39,7 +39,7 @@ pub(crate) fn accesses(rows: &[Row]) -> usize {
     }
 }
 
-// Runs each worker's job; several run in threads of their own.
+// Runs each worker's job. Several jobs run in separate threads.
 fn plan_all<P: Partition, R: Threads + Sync>(
     rt: &R,
     alloc: Global,
@@ -73,11 +73,12 @@ fn plan_all<P: Partition, R: Threads + Sync>(
 /// Plans a batch: finds for each access of its transactions, in log order, the newest earlier
 /// writer of the key in the batch, and adds each declared write to its key's chain. An access
 /// without such a writer has the index 0, so the plan is the same for every number of workers and
-/// every partition. Worker i of `cc` takes the parts whose number is i modulo `cc`; each goes
-/// through all transactions, and several run in threads of their own.
+/// every partition. Worker i of `cc` takes the parts whose number is i modulo `cc`; each worker
+/// goes through all transactions, and several workers run in separate threads.
 ///
 /// An error drops the shards. The time of a worker grows with the number of accesses, and with one
-/// look-up for each access of its keys.
+/// look-up for each access of its keys. Before that, one thread takes time that grows with the
+/// number of terms.
 pub fn plan<P: Partition, R: Threads + Sync>(
     rt: &R,
     alloc: Global,

@@ -1,4 +1,4 @@
-//! Where a transaction's accesses lie in a plan.
+//! Where a transaction's accesses are in a plan.
 
 ghost use Rattle.std.specs.Prelude.{◌≡◌, ◌<◌, ◌≤◌, ◌+◌, ◌^◌, length, IfOk};
 ghost use Rattle.bohm_place.specs.Plans.{start_in};
@@ -10,8 +10,8 @@ use bohm_txn::sure;
 use bohm_types::NoMemory;
 use std::alloc::Global;
 
-/// The accesses of one transaction in a list of all: its reads from `start` on, followed by its
-/// writes; and whether the transaction is sure.
+/// The accesses of one transaction in a list of all accesses: its reads from index `start` on,
+/// followed by its writes; and whether the transaction is sure.
 #[derive(Clone, Copy, Debug)]
 pub struct Row {
     pub start: usize,
@@ -21,7 +21,7 @@ pub struct Row {
 }
 
 impl Row {
-    /// The position in the list of the access of this index, counted from 0, of a declared set.
+    /// The index in that list of the access at `index`, counted from 0, of a declared set.
     pub fn place(self, set: DeclaredSet, index: u32) -> usize
         requires { start_in set self + index < 2 ^ 64 }
         ensures { result ≡ start_in set self + index }

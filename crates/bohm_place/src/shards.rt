@@ -1,4 +1,4 @@
-//! `Shards`: the chains of all parts of the keys, the `Places` of each part for itself.
+//! `Shards`: the chains of all parts of the keys, with separate `Places` for each part.
 
 ghost use Rattle.std.specs.Prelude.{◌≡◌, ℕ, List, [], ◌<◌, length, slice_get, Some, All, IfOk};
 ghost use Rattle.bohm_place.specs.Chains.{AreEmpty, AreKept};
@@ -9,7 +9,7 @@ use bohm_types::NoMemory;
 use std::alloc::Global;
 use std::marker::Model;
 
-/// This many parts without chains.
+/// `count` parts without chains.
 pub fn empty_parts(alloc: Global, count: usize, seed: HashSeed) -> Result<Vec<Places>, NoMemory>
     ensures count { IfOk result (λ v. length v.items ≡ count) }
     ensures empty { IfOk result (λ v. AreEmpty v.items) }
@@ -47,7 +47,7 @@ impl Model for Shards {
 impl Shards {
     ghost use Rattle.bohm_place.specs.Chains.{chain_in, kept};
 
-    /// No chains, in this many parts. Keys are hashed from the fixed seed.
+    /// `parts` parts without chains. Keys are hashed with the fixed seed.
     pub fn new(alloc: Global, parts: u32) -> Result<Shards, NoMemory>
         ensures parts { IfOk result (λ s. length s ≡ parts) }
         ensures empty { IfOk result
@@ -57,7 +57,7 @@ impl Shards {
         Ok(Shards { parts })
     }
 
-    /// The same, with keys hashed from a drawn seed.
+    /// `parts` parts without chains. Keys are hashed with a drawn seed.
     pub fn with_seed(alloc: Global, parts: u32, seed: DrawnSeed) -> Result<Shards, NoMemory>
         ensures parts { IfOk result (λ s. length s ≡ parts) }
         ensures empty { IfOk result
@@ -67,7 +67,7 @@ impl Shards {
         Ok(Shards { parts })
     }
 
-    /// The chains of a part.
+    /// The chains of the part with the number `i`.
     pub fn places(&self, i: u32) -> &Places
         requires { i < length self.now }
         ensures { slice_get self.now i ≡ Some result.now }

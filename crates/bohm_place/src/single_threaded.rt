@@ -19,9 +19,9 @@ use std::alloc::Global;
 /// its transactions, in log order, the newest earlier writer of the key in the batch. The plan is
 /// the one that `plan` makes.
 ///
-/// The array is the one that planning the batch before returned, or a new one. An error drops it.
-/// The time grows with the number of accesses, and with how many keys of the log are new to the
-/// array.
+/// The array is the one that planning the previous batch returned, or a new one. An error drops it.
+/// The time grows with the number of accesses and of terms, and with the number of the log's keys
+/// that are new to the array.
 pub fn plan_alone(
     alloc: Global,
     newest: Newest,

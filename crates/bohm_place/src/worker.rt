@@ -11,7 +11,7 @@ pub struct Worker {
 }
 
 impl Worker {
-    /// Whether it has a part.
+    /// Whether the worker has the part.
     pub fn has(self, part: u32) -> bool
         ensures { result ≡ ((part % self.count) == self.number) }
     {

@@ -9,7 +9,7 @@ use Rattle.bohm_text.specs.ProcedureReading.{let_zero}
 use Rattle.bohm_text.specs.ProcedureText.{IsProcedure, print_procedure}
 use Rattle.bohm_types.specs.Limits.{most_txns}
 
--- each parameter stands for itself, and each value is 0: sets and body as they were written
+-- each parameter represents itself, and each value is 0: the sets and the body are as they were written
 abbrev pub own : Procedure → Txn
 own p = record { edition = p.edition; reads = p.reads; writes = p.writes; body = map let_zero p.values ++ p.body }
 

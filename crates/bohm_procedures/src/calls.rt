@@ -16,12 +16,12 @@ use bohm_types::{Edition, Key, MOST_TXNS, NoMemory, Value};
 use std::alloc::Global;
 use std::marker::Model;
 
-/// Instances of procedures one after another, which contracts see as the document of them over the
-/// empty store.
+/// Instances of procedures, one after another. Contracts see them as a document over the empty
+/// store.
 #[derive(Drop)]
 pub struct Calls {
     segment: Checked,
-    /// What a call fills, in vectors that are used again for the next one.
+    /// Buffers that a call fills, which are reused for the next call.
     handles: Vec<KeyHandle>,
     places: CallPlaces,
 }
@@ -34,7 +34,7 @@ impl Model for Calls {
     ghost view = { λ c. c.segment };
 }
 
-/// The handles of keys, with the numbers that they are likely to have.
+/// Stores the handles of keys, with the keys' likely numbers.
 fn fill_handles(
     handles: &mut Vec<KeyHandle>,
     segment: &Checked,
@@ -50,15 +50,16 @@ fn fill_handles(
 }
 
 impl Calls {
-    /// No calls, whose keys are hashed from the seed. It allocates nothing.
+    /// An empty list of calls, whose keys are hashed with the seed. It allocates nothing.
     pub fn new(alloc: Global, seed: DrawnSeed, edition: Edition) -> Calls
         ensures { result ≡ empty_document edition }
     {
         Calls::sharing(alloc, seed, edition, SharedNames::none())
     }
 
-    /// No calls, in a list that shares these names with a machine and with its other lists: a key among
-    /// them has the same number in all, and takes no memory in this one. It allocates nothing.
+    /// An empty list of calls, which shares these names with a machine and with its other lists: a
+    /// key among these names has the same number in all of them, and takes no memory in this list.
+    /// It allocates nothing.
     pub fn sharing(
         alloc: Global,
         seed: DrawnSeed,
@@ -80,8 +81,8 @@ impl Calls {
         self.len() < MOST_TXNS
     }
 
-    /// Whether a call can be added: the numbers of arguments are those of the procedure's
-    /// parameters, its edition is that of the calls, and there are fewer than 1,000,000 of them.
+    /// Whether a call can be added: there are as many arguments of each kind as the procedure has
+    /// parameters, its edition is that of the calls, and there are fewer than 1,000,000 calls.
     pub fn takes(&self, procedure: &Procedure, keys: &[Key], values: &[Value]) -> bool
         ensures { (result ≡ true) ↔ Takes self.now procedure.now keys.now values.now }
     {
@@ -91,12 +92,12 @@ impl Calls {
             && self.has_room()
     }
 
-    /// Adds the instance of a procedure. `NoMemory` where an allocation fails or 32 bits of a
-    /// column are full, which takes at least 2^26 calls, declared keys, terms and statements
-    /// together. Then the calls are as they were.
+    /// Appends the instance of a procedure. It fails with `NoMemory` if an allocation fails or the
+    /// 32-bit numbers of a column are used up, which takes at least 2^26 calls, declared keys,
+    /// terms and statements together. An error leaves the calls unchanged.
     ///
-    /// Its time grows with what the instance holds, and with the square of the number of declared
-    /// keys, of which there are at most 32. No text is made and none is read.
+    /// Its time grows with the size of the instance, and with the square of the number of declared
+    /// keys, of which there are at most 32. No text is printed or parsed.
     pub fn push(
         &mut self,
         procedure: &Procedure,
@@ -117,11 +118,12 @@ impl Calls {
     }
 
     /// The handle of a key, by which `push_named` finds the key's number. A key that no call named
-    /// gets a number, while fewer than 2^30 keys have one. `NoMemory` where an allocation fails. The
-    /// calls stay as they are. The time doesn't grow with the list, but where its table of keys grows.
+    /// is numbered, as long as fewer than 2^30 keys have a number. It fails with `NoMemory` if an
+    /// allocation fails. The calls are unchanged. The time doesn't grow with the list, except when
+    /// its table of keys grows.
     ///
-    /// A handle stays good when calls are added and removed, and for other lists of calls: where
-    /// the number isn't the key's, the key is looked up again. Each numbered key takes memory in the
+    /// A handle stays valid when calls are added and removed, and for other lists of calls: if its
+    /// number isn't the key's, the key is looked up again. Each numbered key takes memory in the
     /// list's table, until `clear` removes the table or the list is dropped.
     pub fn handle(&mut self, key: &Key) -> Result<KeyHandle, NoMemory>
         ensures key { IfOk result (λ h. h.key ≡ key.now) }
@@ -130,8 +132,8 @@ impl Calls {
         self.segment.handle(key).map_err(|_| NoMemory)
     }
 
-    /// The handle of a key with the number that it is likely to have: the one that was noted last for
-    /// its hash. Nothing is numbered or searched for.
+    /// The handle of a key with its likely number: the one that was noted last for its hash. No key
+    /// is numbered, and no search is made.
     #[inline(always)]
     pub fn noted_handle(&self, key: &Key) -> KeyHandle
         ensures { result.key ≡ key.now }
@@ -139,7 +141,7 @@ impl Calls {
         self.segment.noted_handle(key)
     }
 
-    /// Whether a call by handles can be added: `takes`, of their keys.
+    /// Whether a call by handles can be added: `takes`, for the handles' keys.
     #[tactic(auto, using(crate::proofs::Calling::named_length))]
     pub fn takes_named(&self, procedure: &Procedure, keys: &[KeyHandle], values: &[Value]) -> bool
         ensures { (result ≡ true)
@@ -151,8 +153,9 @@ impl Calls {
             && self.has_room()
     }
 
-    /// Adds the instance of a procedure for the keys of these handles: `push`, which hashes none of
-    /// the keys whose handles this list made, as long as it keeps their numbers.
+    /// Appends the instance of a procedure for the keys of these handles. It is like `push`, but
+    /// hashes none of the keys whose handles this list made, as long as the list keeps their
+    /// numbers.
     pub fn push_named(
         &mut self,
         procedure: &Procedure,
@@ -171,10 +174,10 @@ impl Calls {
             .map_err(|_| NoMemory)
     }
 
-    /// Removes all calls. Their room is kept where it is for at most four times as many, or for some
-    /// thousand. The table of keys is kept where it has at most 16,384 keys, or at most four for each
-    /// key that a call declared and each handle that was made, of which 65,536 count. Else it is
-    /// removed.
+    /// Removes all calls. Their capacity is kept if it is for at most four times as many, or for at
+    /// most a few thousand. The table of keys is kept if it has at most 16,384 keys, or at most
+    /// four for each key that a call declared and each handle that was made, of which at most
+    /// 65,536 count, and at most 2^30 together with the shared ones. Otherwise it is removed.
     pub fn clear(&mut self)
         ensures { self.new ≡ empty_document self.old.edition }
     {
@@ -188,7 +191,7 @@ impl Calls {
         self.segment.log().len()
     }
 
-    /// Whether there are none.
+    /// Whether there are no calls.
     pub fn is_empty(&self) -> bool
         ensures { (result ≡ true) ↔ (length self.now.log ≡ 0) }
     {

@@ -1,4 +1,4 @@
-//! Laws of procedures. No call uses them.
+//! Laws of procedures. No code calls them.
 
 ghost use Rattle.std.specs.Prelude.{◌≡◌, ℕ, ℤ, pos, List, length, map, true};
 ghost use Rattle.bohm_types.specs.Keys.{rising};
@@ -15,14 +15,15 @@ pub fn instance_is_well_formed()
         → length vs ≡ length p.values → IsWellFormedTxn (instance p ks vs) }
 {}
 
-/// Every instance of names and values is a transaction, which has a text.
+/// Every instance for names and values is a transaction, which has a text.
 pub fn instance_is_sound()
     ensures { (p : Procedure) (ks : List (List ℕ)) (vs : List ℤ) → IsProcedure p
         → AllByRecursion IsName ks → AllByRecursion IsNumber vs
         → IsTxn p.edition (instance p ks vs) }
 {}
 
-/// Where the sets rise, the own instance is the instance for the procedure's own names and zeros.
+/// If the sets are in ascending order, a procedure's own instance is the instance for its own names
+/// and zeros.
 pub fn own_is_instance()
     ensures { (p : Procedure) → rising p.reads ≡ true → rising p.writes ≡ true
         → instance p p.keys (map (λ x. pos 0) p.values) ≡ own p }

@@ -19,8 +19,8 @@ use bohm_types::{Edition, Key, NoMemory};
 use std::alloc::Global;
 use std::marker::Model;
 
-/// An accepted procedure. Its text was read, and its own instance is well formed, so each of its
-/// instances is.
+/// An accepted procedure. Its text was read, and its own instance is well formed, so all its
+/// instances are.
 #[derive(Drop)]
 pub struct Procedure {
     template: Template,
@@ -41,12 +41,14 @@ impl Model for Procedure {
 }
 
 impl Procedure {
-    /// The procedure of this text, if its own instance is well formed. The faults: the first bad
-    /// line, else `Short`, else the check's first fault of the own instance. `NoMemory` also where
-    /// 32 bits of a column are full, which takes more than 4 GiB of text.
+    /// Reads the procedure of this text, if its own instance is well formed. The error is the first
+    /// bad line, else `Short`, else the check's first fault in the own instance. It is `NoMemory`
+    /// if an allocation fails or the 32-bit numbers of a column are used up, which takes more than
+    /// 4 GiB of text.
     ///
-    /// Its time grows with the length of the text, and with the number of parameters times that of
-    /// the parameters and declared names. It keeps the text. Its names are hashed from the seed.
+    /// Its time grows with the length of the text, and with the number of parameters times the
+    /// number of parameters and declared names. It keeps the text. Its names are hashed with the
+    /// seed.
     pub fn read(alloc: Global, seed: DrawnSeed, text: &[u8]) -> Result<Procedure, ProcedureFault>
         ensures found { IfOk result (λ p. print_procedure p ≡ text.now) }
         ensures sound { IfOk result IsProcedure }
@@ -119,7 +121,8 @@ impl Procedure {
     }
 }
 
-/// Adds the transaction of a draft between statements, so that it isn't `Open`.
+/// Appends the transaction of a draft. The draft is between statements, so it can't fail with
+/// `Open`.
 fn close_whole(log: &mut Log<HashSeed>, draft: &Draft<HashSeed>) -> Result<(), LogFault>
     requires { IsBetween draft.now }
     ensures { OnOk result (log.new ≡ log.old ++ draft.now.txn ∷ []) }
@@ -131,7 +134,7 @@ fn close_whole(log: &mut Log<HashSeed>, draft: &Draft<HashSeed>) -> Result<(), L
     }
 }
 
-/// The procedure whose own instance was read, if that is well formed.
+/// The procedure whose own instance was read, if that instance is well formed.
 fn accept(
     alloc: Global,
     seed: HashSeed,

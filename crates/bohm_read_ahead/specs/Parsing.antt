@@ -10,7 +10,7 @@ use Rattle.bohm_read_ahead.specs.declared.checked_window.CheckedWindow.{CheckedW
 use Rattle.bohm_read_ahead.specs.declared.parsing.Parsing.{Parsing}
 use Rattle.bohm_read_ahead.specs.declared.parsing.Parsing.TheVariants.{There, Here}
 
--- this was parsed of the window of a text of this edition, and where its transactions were checked it is their first fault
+-- the result of parsing the window of a text of this edition; if its transactions were checked, its fault is their first one
 pub record IsChecked (e : Edition) (w : Window) (c : CheckedWindow) : Type 0 where
   pub parsed : IsParsed e w c.parsed
   pub checked : IfOk c.parsed.result (λ chunk. IfSome c.fault (IsLogCheckedTo chunk.log))
@@ -19,7 +19,7 @@ abbrev pub window_of : Parsing → Window
 window_of (There taker) = (awaited taker).window.value
 window_of (Here checked) = checked.parsed.window
 
--- what is or will be parsed of it is right for a text of this edition
+-- the result of parsing it, present or future, is right for a text of this edition
 abbrev pub IsParsing : Edition → Parsing → Type 0
 IsParsing e (There taker) = IsWindow (awaited taker).window.value.text.items × ((awaited taker).edition ≡ e)
 IsParsing e (Here checked) = IsWindow checked.parsed.window.text.items × IsChecked e checked.parsed.window checked

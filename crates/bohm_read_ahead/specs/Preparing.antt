@@ -41,7 +41,7 @@ IsPrepared count txns TooMany = most_txns < count + length txns
 IsPrepared count txns Ready = AreReady count txns
 IsPrepared count txns (Planned cuts plans) = ArePlanned count txns cuts plans.items
 
--- a chunk behind so many transactions was checked and planned, and with its own there are so many
+-- a chunk after `before` transactions was checked and planned, and with its own there are `after` transactions
 pub record IsCheckedBehind (before after : ℕ) (c : CheckedChunk) : Type 0 where
   pub behind : c.count ≡ before
   pub prepared : IsPrepared before c.log c.prepared

@@ -10,11 +10,11 @@ use Rattle.bohm_read_ahead.specs.declared.reading_state.ReadingState.{ReadingSta
 use Rattle.bohm_read_ahead.specs.Parsing.{AreParsing, windows_of}
 use Rattle.bohm_read_ahead.specs.Preparing.{IsCheckedBehind}
 
--- behind a document and what was read already these chunks were taken, and the windows are being parsed
+-- a document and the bytes `first` after it were read: after the document these chunks were taken, and the windows ahead are being parsed
 abbrev pub IsTaken : Option (List ℕ) → Option (List ℕ) → Document → List ℕ → List Chunk → ReadingState → Type 0
 IsTaken unread unread' d first chunks r = IsReadOn unread unread' d first chunks (windows_of r.ahead.items) r.source
 
--- reading can go on from here
+-- reading can continue from here
 pub record IsGoing (r : ReadingState) : Type 0 where
   pub ready : IsReady r.source
   pub parsing : AreParsing r.edition r.ahead.items
@@ -47,7 +47,7 @@ pub record ReadsChunk (unread unread' : Option (List ℕ)) (was now : ReadingSta
   pub reads : (u : Option (List ℕ)) (d : Document) (first : List ℕ) (chunks : List Chunk) → d.edition ≡ was.edition
       → IsTaken u unread d first chunks was → IsTaken u unread' d first (chunks ++ chunk ∷ []) now
 
--- whatever was read of a text of this edition, the text is refused so
+-- whatever was read of a text of this edition, the text is refused with this fault
 abbrev pub RefusesChunk : Option (List ℕ) → Option (List ℕ) → ReadingState → ReadingFault → Type 0
 RefusesChunk unread unread' was fault = (u : Option (List ℕ)) (d : Document) (first : List ℕ) (chunks : List Chunk) → d.edition ≡ was.edition
     → IsTaken u unread d first chunks was → RefusesOn u unread' d first (length (print_doc d ++ first)) fault

@@ -13,19 +13,19 @@ use bohm_txn::{CheckFault, check_more};
 use bohm_types::{MOST_TXNS, NoMemory};
 use std::alloc::Global;
 
-/// From how many statements on a body takes several workers less time than one: those plan, claim and
-/// install besides, which takes as long as some thirty statements.
+/// The number of statements from which on several workers run a body faster than one worker.
+/// Several workers also plan, claim and install, which takes as long as some thirty statements.
 const SHARED_BODY: usize = 32;
 
-/// Of how many bodies at most the lengths are looked at.
+/// The maximum number of bodies whose lengths are sampled.
 const SAMPLED: usize = 64;
 
-/// What is known of transactions that stand behind so many others without a fault.
+/// What is known about transactions that follow a given number of others without a fault.
 #[derive(Drop)]
 pub enum Prepared {
     /// They have this first fault.
     Faulty(CheckFault),
-    /// With them there are more than a log may have.
+    /// With them there are more transactions than a log may have.
     TooMany,
     /// They have no fault, and run in log order.
     Ready,
@@ -33,26 +33,26 @@ pub enum Prepared {
     Planned { cuts: Cuts, plans: Vec<Plan> },
 }
 
-/// A chunk, how many transactions stand before it, and what is known of it.
+/// A chunk, the number of transactions before it, and what is known about it.
 #[derive(Drop)]
 pub struct CheckedChunk {
     pub log: Log<HashSeed>,
-    /// Exact up to the most that a log may have.
+    /// The number of transactions before it, exact up to the most that a log may have.
     pub count: usize,
     pub prepared: Prepared,
-    /// Where its keys are expected to stand in the history.
+    /// The expected indexes of its keys in the history.
     pub hints: IndexHints,
 }
 
-/// How many transactions there are with these more: exact up to the most that a log may have, and
-/// one above that where there are more.
+/// The number of transactions with `more` further ones: exact up to the most that a log may have,
+/// and one above that if there are more.
 pub fn counted(count: usize, more: usize) -> usize
     ensures { result ≡ count_with count more }
 {
     count.saturating_add(more).min(MOST_TXNS + 1)
 }
 
-/// Whether bodies are long on average. A sample of them tells.
+/// Whether bodies are long on average, judged by a sample of them.
 fn are_long(part: &LogPart<'_>) -> bool {
     let step = part.len() / SAMPLED + 1;
     let (mut bodies, mut statements) = (0usize, 0usize);
@@ -66,14 +66,14 @@ fn are_long(part: &LogPart<'_>) -> bool {
     statements >= bodies.saturating_mul(SHARED_BODY)
 }
 
-/// Whether there are several workers that execute these transactions: where bodies are long, or
-/// smaller batches were asked for.
+/// Whether several workers execute these transactions: there are several, and bodies are long or
+/// smaller batches were requested.
 fn are_shared(part: &LogPart<'_>, settings: Settings) -> bool {
     settings.exec().count() > 1 && (settings.batch() < LARGEST_BATCH || are_long(part))
 }
 
-/// Finds what is known of transactions with this first fault that stand behind so many others, and
-/// plans them where several workers are to execute them.
+/// Determines what is known about transactions with this first fault that follow `count` others,
+/// and plans them if several workers are to execute them.
 fn prepare(
     alloc: Global,
     part: &LogPart<'_>,
@@ -99,10 +99,12 @@ fn prepare(
 }
 
 impl CheckedChunk {
-    /// A chunk with this first fault that stands behind so many transactions, planned in batches of the
-    /// size that the settings give where several workers are to execute it. The hints are those of
-    /// its keys. The time and memory are constant, and where it is planned they grow with the number of
-    /// the log's keys, those that it kept included, and of its transactions.
+    /// A chunk with this first fault that follows `count` transactions. If several workers are to
+    /// execute it, it is planned in batches of the size that the settings give. The hints are those
+    /// of its keys.
+    ///
+    /// The time and the memory are constant; if the chunk is planned, they grow with the number of
+    /// the log's keys, including those that it kept, and of its transactions.
     pub(crate) fn new(
         alloc: Global,
         chunk: Chunk,

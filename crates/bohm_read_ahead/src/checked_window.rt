@@ -4,12 +4,12 @@ use bohm_hints::IndexHints;
 use bohm_reading::Parsed;
 use bohm_txn::CheckFault;
 
-/// What was parsed of a window, and what was found out about its transactions.
+/// The result of parsing a window, and of checking its transactions.
 #[derive(Drop)]
 pub struct CheckedWindow {
     pub parsed: Parsed,
-    /// Their first fault, counted from the window's first transaction, where they were checked.
+    /// Their first fault, counted from the window's first transaction, if they were checked.
     pub fault: Option<Option<CheckFault>>,
-    /// Where its keys are expected to stand in the history.
+    /// The expected indexes of its keys in the history.
     pub hints: IndexHints,
 }

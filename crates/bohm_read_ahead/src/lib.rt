@@ -1,5 +1,5 @@
-//! A log made ready to run: its windows are read in order, parsed and checked ahead of the run by threads of
-//! their own, and planned where several workers are to execute them.
+//! Prepares a log to be run: its windows are read in order, parsed and checked ahead of the run by
+//! separate threads, and planned if several workers are to execute them.
 #![tactic(auto)]
 
 mod checked_chunk;

@@ -1,5 +1,5 @@
-//! The reading side of a run: it reads a log in windows, has them parsed and checked ahead, and plans
-//! their chunks.
+//! The reading side of a run: it reads a log in windows, has them parsed and checked ahead, and
+//! plans their chunks.
 
 ghost use Rattle.std.specs.Prelude.{◌≡◌, ◌<◌, length, IfOk, IfErr, IfSome, OnOk};
 ghost use Rattle.bohm_txn.specs.Chunked.{IsLogCheckedTo};
@@ -24,11 +24,11 @@ use std::io::Read;
 use std::sync::Wait;
 use std::thread::Threads;
 
-/// The log and the index hints of a chunk that is done, to be used again for another one.
+/// The log and the index hints of a finished chunk, to be reused for another chunk.
 #[derive(Drop)]
 struct Spare {
     log: Log<HashSeed>,
-    /// Where its keys stood in the history.
+    /// The indexes that its keys had in the history.
     hints: IndexHints,
 }
 
@@ -37,7 +37,7 @@ struct Spare {
 pub struct LogReader {
     pub state: ReadingState,
     seed: DrawnSeed,
-    /// How many bytes a window has at least, but for the first and the last one.
+    /// The minimum number of bytes of a window, except for the first and the last one.
     size: usize,
     settings: Settings,
     /// The names of the starting store's keys, which all logs share with the history.
@@ -46,7 +46,7 @@ pub struct LogReader {
     parsers: Parsers,
 }
 
-/// The first fault of a chunk, which is checked where it wasn't yet.
+/// The first fault of a chunk, which is checked if that wasn't done yet.
 fn first_fault(chunk: &Chunk, checked: Option<Option<CheckFault>>) -> Option<CheckFault>
     requires { IfSome checked (IsLogCheckedTo chunk.now.log) }
     ensures { IsLogCheckedTo chunk.now.log result }
@@ -57,7 +57,7 @@ fn first_fault(chunk: &Chunk, checked: Option<Option<CheckFault>>) -> Option<Che
     }
 }
 
-/// The log and the index hints of a chunk that is done, or where there is none new ones, of a log that
+/// The log and the index hints of a finished chunk. If there is none, they are new, and the log
 /// shares these names.
 fn take_spare(
     alloc: Global,
@@ -75,13 +75,13 @@ fn take_spare(
 }
 
 impl LogReader {
-    /// A reader that goes on from this state, in windows of at least so many bytes, but for the last one,
-    /// and the threads that parse for it: as many as the settings say, or as many of them as can be
-    /// started, and none where the text has ended. Names are hashed from the seed, and all logs share the
-    /// given ones.
+    /// A reader that continues from this state, in windows of at least `size` bytes except for the
+    /// last one, and the threads that parse for it: as many as the settings say, or as many of them
+    /// as can be started, and none if the text has ended. Names are hashed with the seed, and all
+    /// logs share `names`.
     ///
-    /// `NoMemory` where an allocation failed: then no thread runs. The threads of a reader run until
-    /// `end`. The memory grows with their number.
+    /// It fails with `NoMemory` if an allocation fails; then no thread runs. The threads of a
+    /// reader run until `end`. The memory grows with their number.
     pub fn start<T: Threads + Wait + Copy + Send + 'static>(
         rt: &T,
         alloc: Global,
@@ -111,10 +111,12 @@ impl LogReader {
         })
     }
 
-    /// Reads windows until as many are ahead as the threads need, or none is left. Where there are no
-    /// threads, it parses them. An error says why the whole text is refused; reading can't continue.
+    /// Reads windows until as many are ahead as the threads need, or none is left. If there are no
+    /// threads, it parses the windows itself. An error says why the whole text is refused; reading
+    /// can't continue.
     ///
-    /// The time grows with the length of the windows, and the memory with that of those that are ahead.
+    /// The time grows with the length of the windows, and the memory with that of the windows
+    /// ahead.
     pub fn read_ahead<R: Read, T: Wait>(
         &mut self,
         rt: &T,
@@ -149,12 +151,12 @@ impl LogReader {
         Ok(())
     }
 
-    /// Counts a chunk with this first fault, which stands behind those that were taken, and plans it in
-    /// batches of the size that the settings give where several workers are to execute it. The hints are
-    /// those of its keys. `NoMemory` where the plans failed to allocate.
+    /// Counts a chunk with this first fault, which follows the chunks that were taken. If several
+    /// workers are to execute it, it is planned in batches of the size that the settings give. The
+    /// hints are those of its keys. It fails with `NoMemory` if the plans fail to allocate.
     ///
-    /// The time and memory are constant, and where it is planned they grow with the number of its keys
-    /// and transactions.
+    /// The time and the memory are constant; if the chunk is planned, they grow with the number of
+    /// its keys and transactions.
     pub fn prepare(
         &mut self,
         alloc: Global,
@@ -172,12 +174,13 @@ impl LogReader {
         CheckedChunk::new(alloc, chunk, fault, count, hints, self.settings)
     }
 
-    /// The next window's chunk, checked and planned. Before it is awaited, and after it was taken,
-    /// windows are read ahead. While no thread has parsed it, this one parses another window or blocks.
-    /// An error says why the whole text is refused; reading can't continue.
+    /// Returns the chunk of the next window, checked and planned. Windows are read ahead both
+    /// before the chunk is waited for and after it was taken. While no thread has parsed it, the
+    /// caller's thread parses one other window if there is one, and then blocks. An error says why
+    /// the whole text is refused; reading can't continue.
     ///
-    /// The time and memory grow with those of `read_ahead` and `prepare`, and the time with the length
-    /// of the chunk where its check wasn't done ahead.
+    /// The time and the memory grow with those of `read_ahead` and `prepare`, and the time with the
+    /// length of the chunk if it wasn't checked ahead.
     pub fn next_chunk<R: Read, T: Wait>(
         &mut self,
         rt: &T,
@@ -207,8 +210,8 @@ impl LogReader {
         Ok(self.prepare(alloc, chunk, fault, hints)?)
     }
 
-    /// Keeps the log and the index hints of a chunk that is done for a later window. `NoMemory` where
-    /// there is no room for them. The time is constant.
+    /// Keeps the log and the index hints of a finished chunk for a later window. It fails with
+    /// `NoMemory` if there is no room for them. The time is constant.
     pub fn keep(&mut self, done: CheckedChunk) -> Result<(), NoMemory>
         ensures { self.new.state ≡ self.old.state }
     {
@@ -217,7 +220,7 @@ impl LogReader {
         Ok(())
     }
 
-    /// Has the parsing threads end, and waits for them. Windows that were ahead are dropped.
+    /// Ends the parsing threads and joins them. Windows that were ahead are dropped.
     pub fn end<T: Threads>(self, rt: &T) {
         let LogReader { parsers, .. } = self;
         parsers.end(rt);

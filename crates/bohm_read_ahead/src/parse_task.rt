@@ -19,17 +19,18 @@ pub(crate) struct ParseTask {
     pub(crate) seed: DrawnSeed,
     pub(crate) edition: Edition,
     pub(crate) window: Window,
-    /// The log into which it is parsed, in place of what that has.
+    /// The log into which it is parsed, whose contents are replaced.
     pub(crate) log: Log<HashSeed>,
-    /// Where the keys of that log stood in the history.
+    /// The indexes that the keys of that log had in the history.
     pub(crate) hints: IndexHints,
-    /// Whether it is checked too.
+    /// Whether its transactions are checked too.
     pub(crate) checks: bool,
     ghost begins: { take 4 window.text.items ≡ codes "txn" ++ 10 ∷ [] },
 }
 
 impl ParseTask {
-    /// The time grows with the length of the window, and the memory too where the log is new.
+    /// Parses the window. The time grows with the length of the window, and so does the memory if
+    /// the log is new.
     pub(crate) fn run(self) -> CheckedWindow
         ensures { IsChecked self.edition self.window result }
     {

@@ -15,7 +15,7 @@ use std::sync::Wait;
 use std::thread;
 use std::thread::{JoinHandle, Threads};
 
-/// A task, and where its result goes.
+/// A task, and the giver of its result.
 #[derive(Drop)]
 pub(crate) struct ParseJob {
     pub(crate) task: ParseTask,
@@ -32,9 +32,9 @@ impl ParseJob {
     }
 }
 
-/// How many windows are ahead of a run: each thread parses one, and one more is ready. Where several
-/// parse and the caller's thread executes, each has another one to go on with while that thread parses
-/// one itself.
+/// The maximum number of windows ahead of a run: each thread parses one, and one more is ready. If
+/// several threads parse and the caller's thread executes, each has another window to continue with
+/// while the caller's thread parses one itself.
 pub(crate) fn most_ahead(settings: Settings) -> usize
     ensures { 0 < result }
 {
@@ -67,7 +67,7 @@ impl Drop for Parsers {
     }
 }
 
-/// Carries jobs out until no more can come.
+/// Carries out jobs until no more can arrive.
 fn work<R: Wait>(rt: &R, jobs: &Receiver<ParseJob, Global>) {
     for _ in rt.forever() {
         let Ok(job) = jobs.recv(rt) else {
@@ -78,7 +78,7 @@ fn work<R: Wait>(rt: &R, jobs: &Receiver<ParseJob, Global>) {
 }
 
 impl Parsers {
-    /// Starts this many threads, or as many as can be started, for so many windows ahead.
+    /// Starts `count` threads, or as many as can be started, with a queue for `ahead` windows.
     pub(crate) fn start<R: Threads + Wait + Copy + Send + 'static>(
         rt: &R,
         alloc: Global,
@@ -105,7 +105,7 @@ impl Parsers {
         })
     }
 
-    /// Has a thread carry the job out, or does so at once where there is none.
+    /// Sends the job to a thread, or carries it out at once if there is none.
     pub(crate) fn send<R: Wait>(&self, rt: &R, job: ParseJob) {
         if self.threads.is_empty() {
             job.carry_out();
@@ -114,7 +114,7 @@ impl Parsers {
         }
     }
 
-    /// Where there are several threads, carries out a job that none of them has taken yet.
+    /// If there are several threads, carries out a job that none of them has taken yet.
     pub(crate) fn help<R: Wait>(&self, rt: &R) {
         if self.threads.len() > 1
             && let Ok(job) = self.queue.try_recv(rt)
@@ -123,7 +123,7 @@ impl Parsers {
         }
     }
 
-    /// Has the threads end, and waits for them.
+    /// Ends the threads and joins them.
     pub(crate) fn end<R: Threads>(self, rt: &R) {
         let Parsers {
             jobs,

@@ -12,7 +12,7 @@ use bohm_types::Edition;
 use std::snapshot::Snapshot;
 use std::sync::Wait;
 
-/// A window that a thread parses, or that was parsed on this one.
+/// A window that another thread parses, or that was parsed on the caller's thread.
 #[derive(Drop)]
 pub enum Parsing {
     There(Taker<CheckedWindow, ParseOf>),
@@ -20,7 +20,8 @@ pub enum Parsing {
 }
 
 impl Parsing {
-    /// Has a window parsed by a thread. Where there is none it is parsed at once.
+    /// Has a window parsed by a thread. If there is none, or the handoff can't be allocated, the
+    /// window is parsed at once.
     pub(crate) fn start<R: Wait>(rt: &R, parsers: &Parsers, task: ParseTask) -> Parsing
         ensures window { window_of result ≡ task.window }
         ensures parsing { IsParsing task.edition result }
@@ -36,8 +37,8 @@ impl Parsing {
         Parsing::There(taker)
     }
 
-    /// The window and the result, once it is parsed. While it isn't, another one is parsed on this
-    /// thread where several threads parse.
+    /// Returns the window and the result, and blocks until it is parsed. If it isn't parsed yet and
+    /// several threads parse, another window is parsed on the caller's thread first.
     pub(crate) fn finish<R: Wait>(
         self,
         rt: &R,

@@ -1,4 +1,4 @@
-//! What a thread promises that parses a window.
+//! The promise of a thread that parses a window.
 
 ghost use Rattle.bohm_read_ahead.specs.Parsing.{IsChecked};
 
@@ -8,7 +8,7 @@ use bohm_types::Edition;
 use std::snapshot::Snapshot;
 use std::thread::Promise;
 
-/// What is parsed and checked, of a text of this edition.
+/// The result of parsing and checking a window of a text of this edition.
 #[derive(Drop)]
 pub struct ParseOf {
     pub edition: Edition,

@@ -1,4 +1,4 @@
-//! How far a log was read.
+//! How far a log has been read.
 
 ghost use Rattle.std.specs.Prelude.{◌≡◌, [], true, false};
 ghost use Rattle.bohm_read_ahead.specs.Reading.{HasMore};
@@ -9,20 +9,21 @@ use bohm_types::Edition;
 use std::alloc::Global;
 use std::collections::VecDeque;
 
-/// Where the reading of a log stands.
+/// The state of reading a log.
 #[derive(Drop)]
 pub struct ReadingState {
     pub edition: Edition,
     pub source: Source,
     /// The windows that are being parsed, in the order of the text.
     pub ahead: VecDeque<Parsing>,
-    /// How many transactions the chunks have that were taken, exact up to the most that a log may have.
+    /// The number of transactions in the chunks that were taken, exact up to the most that a log
+    /// may have.
     pub count: usize,
 }
 
 impl ReadingState {
-    /// Behind the first window of a text of this edition, which goes on from the source: no window is
-    /// ahead, and no chunk was taken. It allocates nothing.
+    /// The state after the first window of a text of this edition, which continues from the source:
+    /// no window is ahead, and no chunk was taken. It allocates nothing.
     pub fn new(alloc: Global, edition: Edition, source: Source) -> ReadingState
         ensures edition { result.edition ≡ edition }
         ensures source { result.source ≡ source }
@@ -37,7 +38,7 @@ impl ReadingState {
         }
     }
 
-    /// Whether there are windows behind those whose chunks were taken. The time is constant.
+    /// Whether there are windows after those whose chunks were taken. The time is constant.
     pub fn is_going(&self) -> bool
         ensures more { result ≡ true → HasMore self.now }
         ensures none { result ≡ false

@@ -43,9 +43,6 @@ window_front text rest tail same some =
     let four : take 4 text ≡ codes "txn" ++ 10 ∷ [] = sym (take-append-le 4 text rest some) ∙ ap (take 4) same in
     record { behind = drop 4 text; begins = sym (take-append-drop 4 text) ∙ ap (λ (r : List ℕ). r ++ drop 4 text) four }
 
-window_long : (text : List ℕ) → IsWindow text → 4 ≤ length text
-window_long text w = omega (arith, ap length w.begins)
-
 piece_begins : (u v : Option (List ℕ)) (begun : List ℕ) (before : ℕ) (p : Piece) → IsWindow begun → IsPiece u v begun before p → IsWindow p.text.items
 piece_begins u v begun before p w h = by_end p.ended refl
   where

@@ -1,6 +1,6 @@
 -- The first window, and all that stands behind it.
-use Rattle.std.proofs.Common.{◌≡◌, inl, inr, ℕ, ◌+◌, ◌<◌, ◌≤◌, true, false, List, [], ◌++◌}
-use Rattle.std.proofs.Common.{length, refl, ap, sym, subst, ◌∙◌, arith, append_assoc, length-append}
+use Rattle.std.proofs.Common.{◌≡◌, inl, inr, ℕ, ◌+◌, ◌≤◌, true, false, List, [], ◌++◌}
+use Rattle.std.proofs.Common.{length, ap, sym, subst, ◌∙◌, arith, append_assoc, length-append}
 use Rattle.std.specs.Prelude.{Option}
 use Rattle.std.specs.Io.KnownBytes.{Consumes, IsAtEnd}
 use Rattle.bohm_types.specs.Document.{Document}
@@ -17,7 +17,7 @@ use Rattle.bohm_reading.specs.declared.source.Piece.{Piece}
 use Rattle.bohm_reading.specs.declared.reading.Source.{Source}
 use Rattle.bohm_reading.specs.Pieces.{IsPiece}
 use Rattle.bohm_reading.specs.InOrder.{RefusesText}
-use Rattle.bohm_reading.specs.Reading.{IsSourceFault, Drains, ReadsOn, RefusesAll, RefusesOn}
+use Rattle.bohm_reading.specs.Reading.{Drains, ReadsOn, RefusesAll, RefusesOn}
 use Rattle.bohm_reading.specs.Reading.{FirstRefused, ReadsTextOf, ReadsBeginning, RefusesReading}
 use Rattle.bohm_reading.proofs.ReadingLaws.{Consumes-more}
 
@@ -28,15 +28,6 @@ refused_as u v text read at_end short NoMemory is = tt
 refused_as u v text read at_end short TooLong is = absurd is
 refused_as u v text read at_end short (Line n) is = record { text = text; read = read; at_end = at_end; short = short; is = is }
 refused_as u v text read at_end short Short is = record { text = text; read = read; at_end = at_end; short = short; is = is }
-
--- nothing was begun with
-pub source_first : (u v : Option (List ℕ)) (fault : ReadingFault) → IsSourceFault fault
-    → (fault ≡ TooLong → (more : List ℕ) × (67108864 < 0 + length more) × Consumes u v more) → RefusesReading u v fault
-source_first u v Read is long = tt
-source_first u v NoMemory is long = tt
-source_first u v TooLong is long = let h = long refl in record { more = h.0; long = h.1; read = h.2 }
-source_first u v (Line n) is long = absurd is
-source_first u v Short is long = absurd is
 
 module _ (u v : Option (List ℕ)) (begun : List ℕ) (none : begun ≡ []) (p : Piece) (is : IsPiece u v begun 0 p) where
   whole : p.text.items ++ p.rest.items ≡ is.more

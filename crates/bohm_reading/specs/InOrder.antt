@@ -1,4 +1,4 @@
--- Windows that follow one another, and what was parsed of them.
+-- Windows that follow one another, and the results of parsing them.
 use Rattle.std.specs.Prelude.{◌≡◌, ◌⊎◌, ℕ, ◌+◌, List, [], ◌∷◌, ◌++◌, Bool, true, false}
 use Rattle.std.specs.List.{flat_map}
 use Rattle.bohm_types.specs.declared.edition.Edition.{Edition}
@@ -13,7 +13,7 @@ use Rattle.bohm_reading.specs.declared.fault.ReadingFault.TheVariants.{Read, Too
 use Rattle.bohm_reading.specs.declared.window.Parsed.{Parsed}
 use Rattle.bohm_reading.specs.declared.window.Window.{Window}
 
--- it has the window, and what was parsed of it
+-- it has the window, and the result of parsing it
 pub record IsParsed (e : Edition) (w : Window) (p : Parsed) : Type 0 where
   pub window : p.window ≡ w
   pub read : ReadsWindow e p.window.text.items p.result
@@ -22,7 +22,7 @@ pub record IsParsed (e : Edition) (w : Window) (p : Parsed) : Type 0 where
 abbrev pub bytes_of : List Window → List ℕ
 bytes_of ws = flat_map (λ w. w.text.items) ws
 
--- each begins with the line `txn`, and stands before the next one or at the end; so much stands behind them
+-- each window begins with the line `txn`; another window follows it, or the text ends after it; `tail` follows all the windows
 abbrev pub AreInOrder : List Window → List ℕ → Type 0
 AreInOrder [] tail = Unit {0}
 AreInOrder (w ∷ ws) tail = IsWindow w.text.items × (w.last ≡ false → IsWhole w.text.items × IsWindow (bytes_of ws ++ tail))
@@ -46,7 +46,7 @@ pub record IsOpenEnd (e : Edition) (window : List ℕ) : Type 0 where
   pub lines : ℕ
   pub opened : IsOpenWindow e window lines
 
--- why a window is refused, with so many lines before it
+-- why a window is refused, with `before` lines before it
 abbrev pub RefusesWindow : Edition → List ℕ → Bool → ℕ → ReadingFault → Type 0
 RefusesWindow e window last before (Line n) = IsBadAt e window before n ⊎ ((last ≡ false) × IsOpenAt e window before n)
 RefusesWindow e window last before Short = (last ≡ true) × IsOpenEnd e window
@@ -54,7 +54,7 @@ RefusesWindow e window last before Read = ⊥
 RefusesWindow e window last before TooLong = ⊥
 RefusesWindow e window last before NoMemory = Unit {0}
 
--- why a text is no document's
+-- why a text isn't a document's
 abbrev pub RefusesText : List ℕ → ReadingFault → Type 0
 RefusesText text (Line n) = IsFirstBadLine (whole_lines text) n
 RefusesText text Short = IsShort text

@@ -6,17 +6,17 @@ ghost use Rattle.bohm_reading.specs.Cuts.{IsCut};
 
 use memchr::memmem;
 
-/// How many bytes at the beginning aren't searched: a window has at least the line `txn`.
+/// How many bytes at the beginning aren't searched, since a window has at least the line `txn`.
 pub(crate) const OPENING: usize = 3;
 
-/// Before which line `txn` a text is cut.
+/// The line `txn` before which a text is cut.
 #[derive(Clone, Copy)]
 pub(crate) enum CutLine {
     First,
     Last,
 }
 
-/// Where the first or the last line `txn` stands behind a newline.
+/// The offset of the first or the last newline that the line `txn` follows.
 fn find_line(text: &[u8], line: CutLine) -> Option<usize>
     ensures { IfSome result (OccursAt text.now (10 ∷ codes "txn" ++ 10 ∷ [])) }
 {
@@ -26,7 +26,8 @@ fn find_line(text: &[u8], line: CutLine) -> Option<usize>
     }
 }
 
-/// Where the first or the last line `txn` begins that follows this many bytes and a newline.
+/// The offset of the first or the last line `txn` that follows the first `from` bytes and a
+/// newline.
 pub(crate) fn cut_at(text: &[u8], from: usize, line: CutLine) -> Option<usize>
     requires { 3 ≤ from }
     ensures { IfSome result (IsCut text.now) }

@@ -1,4 +1,4 @@
-//! Reads the rest of a refused text.
+//! Reading the rest of a refused text.
 
 ghost use Rattle.std.specs.Prelude.{◌≤◌};
 ghost use Rattle.bohm_reading.specs.Reading.{Drains};
@@ -7,8 +7,8 @@ use crate::fault::ReadingFault;
 use crate::source::{LONGEST_TEXT, READ_SIZE};
 use std::io::Read;
 
-/// Reads the rest of a text that is refused with this fault. A failed read, or a text that is too
-/// long, takes precedence over it.
+/// Reads the rest of a text that is refused with this fault, and returns the fault. A failed read,
+/// or a text that is too long, takes precedence over it.
 pub(crate) fn drain<R: Read>(reader: &mut R, total: usize, fault: ReadingFault) -> ReadingFault
     requires { total ≤ LONGEST_TEXT }
     ensures { Drains (R.remaining reader.old) (R.remaining reader.new) total fault result }

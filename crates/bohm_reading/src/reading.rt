@@ -1,4 +1,4 @@
-//! A document from a reader: the first window, then window after window.
+//! Reading a document from a reader: the first window, and then one window after another.
 
 ghost use Rattle.std.specs.Prelude.{◌≡◌, ◌+◌, ◌≤◌, false, length, IfOk, IfErr, OnOk, Ok, Err};
 ghost use Rattle.bohm_text.specs.Windowing.{ReadsFirst, ReadsWindow};
@@ -26,7 +26,7 @@ pub struct Source {
     pub rest: Vec<u8>,
     /// How many bytes were read so far.
     pub total: usize,
-    /// How many lines the windows have whose chunks were taken.
+    /// The number of lines in the windows whose chunks were taken.
     pub lines: u64,
     /// Whether the reader is at its end. Then there is no next window.
     pub ended: bool,
@@ -49,10 +49,10 @@ fn first_refusal(text: &[u8], last: bool, fault: WindowFault) -> ReadingFault
     }
 }
 
-/// Reads the first window of a text: all of it where it is shorter than this many bytes, and else the
-/// head and the store, so that windows of transactions come as soon as they can. If it is refused, the
-/// rest of the text is read nevertheless, since a failed read and a text that is too long take
-/// precedence.
+/// Reads the first window of a text: the whole text if it is shorter than `size` bytes, and
+/// otherwise the head and the store, so that windows of transactions begin as early as possible. If
+/// the window is refused, the rest of the text is still read, since a failed read and a text that
+/// is too long take precedence.
 ///
 /// The time and memory grow with the length of the window.
 pub fn read_first<R: Read>(
@@ -99,10 +99,10 @@ pub fn read_first<R: Read>(
     Err(drain(reader, total, fault))
 }
 
-/// Reads the next window of a text. It is cut before its last line `txn` once it has this many bytes;
-/// it is longer if a transaction is. After an `Err` reading can't continue.
+/// Reads the next window of a text. Once it has `size` bytes, it is cut before its last line `txn`;
+/// it is longer if a transaction is longer. After an `Err` reading can't continue.
 ///
-/// The time grows with the length of the window, and the memory too where no buffer is spare.
+/// The time grows with the length of the window, and so does the memory if no buffer is spare.
 pub fn next_window<R: Read>(
     alloc: Global,
     reader: &mut R,
@@ -137,7 +137,7 @@ pub fn next_window<R: Read>(
     Ok(Window { text, last: ended })
 }
 
-/// Why a window after this many lines is refused.
+/// Why a window with `lines` lines before it is refused.
 fn refusal(edition: Edition, lines: u64, window: &Window, fault: WindowFault) -> ReadingFault
     requires { ReadsWindow edition window.now.text.items (Err fault) }
     ensures { lines + length window.now.text.items ≤ 67108864
@@ -153,10 +153,10 @@ fn refusal(edition: Edition, lines: u64, window: &Window, fault: WindowFault) ->
     }
 }
 
-/// Takes what was parsed of a window of a text of this edition: the first that was read and not taken
-/// so far. If it is refused, the rest of the text is read nevertheless, since a failed read and a text
-/// that is too long take precedence; after that reading can't continue. The window's buffer becomes
-/// spare.
+/// Takes the result of parsing a window of a text of this edition. The window must be the first of
+/// the windows that were read but not yet taken. If it is refused, the rest of the text is still
+/// read, since a failed read and a text that is too long take precedence; after that reading can't
+/// continue. Only a window that is taken leaves its buffer as a spare.
 ///
 /// The time is constant, or grows with the rest of a refused text.
 pub fn take_parsed<R: Read>(

@@ -12,16 +12,16 @@ use bohm_types::NoMemory;
 use std::alloc::Global;
 use std::io::Read;
 
-/// The most bytes that a text may have.
+/// The maximum number of bytes that a text may have.
 pub const LONGEST_TEXT: usize = 67_108_864;
 
-/// How many bytes one read asks for.
+/// The maximum number of bytes that one read requests.
 pub(crate) const READ_SIZE: usize = 65_536;
 
-/// The length of a newline and `txn`: a cut may begin in one read and end in the next.
+/// The length of a newline and `txn`. A cut may begin in one read and end in the next.
 const HALF_CUT: usize = 4;
 
-/// A window, and what was read after it.
+/// A window, and the bytes read after it.
 #[derive(Drop)]
 pub(crate) struct Piece {
     pub text: Vec<u8>,
@@ -32,7 +32,7 @@ pub(crate) struct Piece {
     pub ended: bool,
 }
 
-/// Makes a buffer at least so long.
+/// Lengthens the buffer to at least `count` bytes.
 fn make_room(buffer: &mut Vec<u8>, count: usize) -> Result<(), NoMemory>
     ensures room { OnOk result (count ≤ length buffer.new.items) }
     ensures same { (n : ℕ) → n ≤ length buffer.old.items
@@ -44,8 +44,8 @@ fn make_room(buffer: &mut Vec<u8>, count: usize) -> Result<(), NoMemory>
     Ok(())
 }
 
-/// A buffer that begins with these bytes: a spare one, or a new one with this capacity. What stands
-/// behind them is room.
+/// A buffer that begins with the bytes `begun`: a spare buffer, or a new one with this capacity.
+/// The bytes after them may be overwritten.
 fn begun_with(
     alloc: Global,
     spare: &mut Vec<Vec<u8>>,
@@ -64,8 +64,8 @@ fn begun_with(
     Ok(buffer)
 }
 
-/// Reads at most so many bytes behind the first ones of a buffer, which is made longer where it has
-/// no room for them.
+/// Reads at most `most` bytes into the buffer after its first `filled` bytes, and returns their
+/// number. The buffer is lengthened if it has no room for `most` bytes there.
 fn read_behind<R: Read>(
     reader: &mut R,
     buffer: &mut Vec<u8>,
@@ -87,8 +87,8 @@ fn read_behind<R: Read>(
     Ok(count)
 }
 
-/// The first bytes of a buffer up to an offset as the text, and the others in what held the rest
-/// before.
+/// Divides the first `filled` bytes of a buffer: those before the offset `at` remain as the text,
+/// and the others replace the contents of `rest`.
 fn divided(
     mut text: Vec<u8>,
     mut rest: Vec<u8>,
@@ -116,9 +116,9 @@ fn divided(
     })
 }
 
-/// The next window, which begins with what was read before. Once it has this many bytes it is cut
-/// before its first or last line `txn`, unless that is where it begins: then it goes on. Only bytes
-/// that are new since the last search are searched.
+/// Reads the next window, which begins with the bytes `begun` that were read before. Once it has
+/// `size` bytes, it is cut before its first or last line `txn`, unless the window begins with that
+/// line: then reading continues. Only bytes that are new since the last search are searched.
 pub(crate) fn next_piece<R: Read>(
     alloc: Global,
     reader: &mut R,
@@ -140,9 +140,9 @@ pub(crate) fn next_piece<R: Read>(
     let mut text = begun_with(alloc, spare, &begun, capacity)?;
     let mut filled = begun.len();
     let mut total = total;
-    // Up to where there is no cut.
+    // No cut begins before this offset.
     let mut seen = 0usize;
-    // At most a window's size, so that small windows stay small.
+    // A read requests at most a window's size, so that small windows stay small.
     let most = size.clamp(1, READ_SIZE);
     'reads: while total <= LONGEST_TEXT {
         if filled >= size {

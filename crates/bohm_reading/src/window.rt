@@ -1,4 +1,4 @@
-//! A window of a text, and what was parsed of it.
+//! A window of a text, and the result of parsing it.
 
 use bohm_text::{Chunk, WindowFault};
 

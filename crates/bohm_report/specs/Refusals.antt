@@ -11,7 +11,7 @@ use Rattle.bohm_txn.specs.Faulty.{IsFirstFault}
 use Rattle.bohm_report.specs.declared.refusal.Refusal.{Refusal}
 use Rattle.bohm_report.specs.declared.refusal.Refusal.TheVariants.{Text, Check, NoMemory}
 
--- a refusal of a text that is no document's: the one that reading it answers
+-- a refusal of a text that isn't a document's: the fault that parsing it returns
 abbrev pub RefusesText : List ℕ → Refusal → Type 0
 RefusesText text (Text (texts.Line n)) = IsFirstBadLine (whole_lines text) n
 RefusesText text (Text texts.Short) = IsShort text
@@ -19,7 +19,7 @@ RefusesText text (Text texts.NoMemory) = ⊥
 RefusesText text (Check fault) = ⊥
 RefusesText text NoMemory = Unit {0}
 
--- a refusal of a document: the one that the check answers
+-- a refusal of a document: the fault that the check returns
 abbrev pub RefusesDocument : Document → Refusal → Type 0
 RefusesDocument d (Text fault) = ⊥
 RefusesDocument d (Check fault) = IsFirstFault d fault

@@ -1,4 +1,4 @@
--- Which fault a run has over a text that the check refuses.
+-- The fault of a run on a text that the check refuses.
 use Rattle.bohm_answer.specs.Refusing.{refusal_of}
 use Rattle.bohm_answer.specs.declared.fault.RunFault.{RunFault}
 use Rattle.bohm_answer.specs.declared.fault.RunFault.TheVariants as run

@@ -62,11 +62,11 @@ fn check_document(
     }
 }
 
-/// The document of a text, checked, or the fault for which a run refuses it. Messages for people
-/// are added to the report, as long as allocations succeed: on the first bad line if the text isn't
-/// a document's, else on up to 20 faults of the document.
+/// The checked document of a text, or the fault for which a run refuses it. Messages for people are
+/// added to the report, as long as allocations succeed: about the first bad line if the text isn't
+/// a document's, else about up to 20 faults of the document.
 ///
-/// Names are hashed from the seed. The time grows with the length of the text, and with the number
+/// Names are hashed with the seed. The time grows with the length of the text, and with the number
 /// k of its keys as k log k.
 pub fn check_text(
     alloc: Global,

@@ -14,7 +14,7 @@ use std::alloc::Global;
 use std::io::Read;
 use std::random::RandomSource;
 
-/// The fault of a run over a text that is refused.
+/// The fault of a run on a text that is refused.
 fn fault_of(refusal: Refusal) -> RunFault
     ensures { result ≡ fault_of refusal }
 {
@@ -26,7 +26,7 @@ fn fault_of(refusal: Refusal) -> RunFault
 }
 
 /// Reads a log to the reader's end. It refuses what a run refuses, with the same fault. Messages
-/// for people on why a text isn't a valid log are added to the report, as long as allocations
+/// for people about why a text isn't a valid log are added to the report, as long as allocations
 /// succeed.
 ///
 /// The time grows with the length of the text, and with the number k of its keys as k log k.

@@ -7,7 +7,7 @@ use bohm_types::NoMemory;
 /// Why a text isn't a log that can be run.
 #[derive(Clone, Copy, Debug, PartialEq, Eq)]
 pub enum Refusal {
-    /// It isn't a document's text. An allocation failure is never reported so.
+    /// It isn't a document's text. An allocation failure is never reported this way.
     Text(TextFault),
     /// Its document has faults; this is the first.
     Check(CheckFault),

@@ -15,7 +15,7 @@ use Rattle.bohm_answer.specs.declared.fault.RunFault.TheVariants.{Read, TooLong,
 pub use Rattle.bohm_answer.specs.Answer.{answer_of}
 pub use Rattle.bohm_answer.specs.Refusing.{IsBeforeWriting}
 
--- the timestamp whose store is printed: the one that is asked for, or the log's length
+-- the timestamp whose store is printed: the requested one, or the log's length
 abbrev pub time_of : Given → Document → ℕ
 time_of given d = unwrap_or given.at (length d.log)
 

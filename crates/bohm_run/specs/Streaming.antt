@@ -39,7 +39,7 @@ pub record StreamsTo (unread unread' : Option (List ℕ)) (d : Document) (first 
   pub all : ran ++ pending ≡ d.log ++ logs_of behind
   pub runs : RunsChunk ran was now
 
--- the same, whichever document was read before
+-- as StreamsOn, whichever document was read before
 abbrev pub RunsBehind : Edition → List Txn → Option (List ℕ) → Option (List ℕ) → Source → RunState → RunState → Type 0
 RunsBehind e log unread unread' s was now = (d : Document) → IsBegun e log unread s d → StreamsOn unread unread' d s.rest.items was now
 

@@ -25,11 +25,12 @@ use std::random::RandomSource;
 use std::sync::Wait;
 use std::thread::Threads;
 
-/// How many bytes a window of a text has at least, but for the first and the last one: few where one
-/// worker executes, so that a window and its columns stay in a processor's cache.
+/// The minimum number of bytes of a window of a text, except for the first and the last one, if one
+/// worker executes. It is small, so that a window and its columns stay in a processor's cache.
 const WINDOW_SIZE: usize = 131_072;
 
-/// The same where several workers execute, which start anew for each batch.
+/// The minimum number of bytes of a window if several workers execute, which are started anew for
+/// each batch.
 const SHARED_WINDOW_SIZE: usize = 262_144;
 
 fn window_size(settings: Settings) -> usize {
@@ -40,8 +41,8 @@ fn window_size(settings: Settings) -> usize {
     }
 }
 
-/// The log that the reader holds, read to the reader's end, or why it is none. Its text is let go.
-/// Names are hashed from the seed.
+/// Reads a log to the reader's end and checks it. An error says why the text is refused. The text
+/// of the log is freed. Names are hashed with the seed.
 pub fn read_log<R: Read>(
     alloc: Global,
     seed: DrawnSeed,
@@ -58,7 +59,7 @@ pub fn read_log<R: Read>(
     Ok(check(doc)?)
 }
 
-/// The timestamp whose store is printed, if it is readable behind so many transactions: a timestamp
+/// The timestamp whose store is printed, if it is readable after `count` transactions: a timestamp
 /// above their number is refused, and then one below the final floor.
 fn readable_time(count: usize, settings: Settings) -> Result<u32, RunFault>
     requires { count ≤ MOST_TXNS }
@@ -76,7 +77,7 @@ fn readable_time(count: usize, settings: Settings) -> Result<u32, RunFault>
     Ok(ts)
 }
 
-/// The entries of the store of a timestamp that is readable.
+/// The entries of the store at a readable timestamp.
 fn store_then(alloc: Global, history: &History, ts: u32) -> Result<Vec<(Key, Value)>, NoMemory>
     requires kept { history.now.floor ≤ ts }
     requires there { ts ≤ history.now.top }
@@ -89,7 +90,7 @@ fn store_then(alloc: Global, history: &History, ts: u32) -> Result<Vec<(Key, Val
     }
 }
 
-/// The text of the answer of a log that ran, with the store of a timestamp.
+/// The text of the answer of a log that was run, with the store at a timestamp.
 fn answer(alloc: Global, state: RunState, ts: u32) -> Result<Vec<u8>, NoMemory>
     requires kept { state.progress.history.floor ≤ ts }
     requires there { ts ≤ state.progress.history.top }
@@ -108,26 +109,27 @@ fn answer(alloc: Global, state: RunState, ts: u32) -> Result<Vec<u8>, NoMemory>
 }
 
 /// Reads a log to the reader's end, runs it as the settings say, and writes the text of its answer
-/// and nothing else: all replies, and the store at the timestamp that is asked for. The whole
-/// answer is made before the first byte is written. Every failure of a reader or a writer counts,
-/// an interrupted call too.
+/// and nothing else: all replies, and the store at the requested timestamp. The whole answer is
+/// made before the first byte is written. Every failure of a reader or a writer counts, even an
+/// interrupted call.
 ///
 /// The log is read in windows, and runs as it is read: while the transactions of a window are
-/// executed, `cc` threads parse windows behind it, and check them if there are several. The caller's
-/// thread runs the transactions in log order, without plans and batches, and reads the next windows
-/// in between. Several workers execute a window whose bodies have 32 statements on average, as a
-/// sample tells, or each one where the batches are smaller than the largest; then the next window is
-/// planned meanwhile, on one thread, so the partitions of the keys aren't used. A log of one window of
-/// short bodies is read and run on the caller's thread. While the window that is next isn't parsed,
-/// the caller's thread parses another one where several threads do, and then blocks. Where no thread
-/// can be started, it parses all windows.
+/// executed, `cc` threads parse the windows after it, and check them if there are several threads.
+/// The caller's thread runs the transactions in log order, without plans and batches, and reads the
+/// next windows in between. Several workers execute a window whose bodies have at least 32
+/// statements on average, judged by a sample, or every window if the batches are smaller than the
+/// largest. Then the next window is planned meanwhile, on one thread, so the partitions of the keys
+/// aren't used. A log of one window of short bodies is read and run on the caller's thread. While
+/// the next window isn't parsed, the caller's thread parses another one if several threads parse,
+/// and then blocks. If no thread can be started, it parses all windows.
 ///
-/// The time grows with the text and its answer, with the terms of the transactions and the keys that
-/// they declare, and with the number of the store's keys k as k log k. Parsing is spread over `cc`
-/// threads, and the evaluation of long bodies over `exec` threads; all else is done by one thread, or
-/// by two where several workers execute. The memory grows with the keys of the log, with the text of
-/// the answer, and with 2 `cc` + 3 windows. A window has 128 KiB, 256 for several executing workers,
-/// or is as long as the head and the store, or as a transaction, where these are longer.
+/// The time grows with the text and its answer, with the terms of the transactions and the keys
+/// that they declare, and with the number of the store's keys k as k log k. Parsing is spread over
+/// `cc` threads, and the evaluation of long bodies over `exec` threads; all else is done by one
+/// thread, or by two if several workers execute. The memory grows with the keys of the log, with
+/// the text of the answer, and with 2 `cc` + 3 windows. A window has 128 KiB, 256 KiB for several
+/// executing workers, or is as long as the head and the store, or as a transaction, if these are
+/// longer.
 pub fn run_text<T: Threads + Wait + Sync + RandomSource + Copy + Send + 'static, R: Read, W: Write>(
     rt: &T,
     alloc: Global,
@@ -142,14 +144,14 @@ pub fn run_text<T: Threads + Wait + Sync + RandomSource + Copy + Send + 'static,
         (Refuses settings (R.remaining reader.old) (R.remaining reader.new) (W.contents writer.old)
         (W.contents writer.new)) }
 
-    // Before all faults but those of the writing the writer isn't touched.
+    // Before all faults except those of writing, the writer isn't touched.
     ensures untouched { IfErr result (λ e. IsBeforeWriting e → writer.new ≡ writer.old) }
 {
     run_text_in_windows(rt, alloc, reader, writer, settings, window_size(settings))
 }
 
-/// Runs a text as `run_text` does, in windows of so many bytes at least, but for the first and the last
-/// one. The answer and the refusals are the same for every size.
+/// Runs a text as `run_text` does, in windows of at least `size` bytes, except for the first and
+/// the last one. The answer and the refusals are the same for every size.
 pub fn run_text_in_windows<
     T: Threads + Wait + Sync + RandomSource + Copy + Send + 'static,
     R: Read,
@@ -169,7 +171,7 @@ pub fn run_text_in_windows<
         (Refuses settings (R.remaining reader.old) (R.remaining reader.new) (W.contents writer.old)
         (W.contents writer.new)) }
 
-    // Before all faults but those of the writing the writer isn't touched.
+    // Before all faults except those of writing, the writer isn't touched.
     ensures untouched { IfErr result (λ e. IsBeforeWriting e → writer.new ≡ writer.old) }
 {
     let state = run_log(rt, alloc, reader, settings, size)?;

@@ -24,7 +24,7 @@ use std::alloc::Global;
 use std::mem;
 use std::thread::Threads;
 
-/// How far a log was checked and run.
+/// How far a log has been checked and run.
 #[derive(Drop)]
 pub(crate) struct RunState {
     /// The history, and the replies of the chunk that ran last.
@@ -33,16 +33,16 @@ pub(crate) struct RunState {
     pub(crate) text: Vec<u8>,
     pub(crate) executor: Executor,
     pub(crate) serial: SerialExecutor,
-    /// How many transactions came, exact up to the most that a log may have.
+    /// The number of transactions so far, exact up to the most that a log may have.
     pub(crate) count: usize,
     /// The fault of the starting store.
     pub(crate) in_store: Option<CheckFault>,
-    /// The first fault so far. Behind one nothing runs.
+    /// The first fault so far. After a fault nothing runs.
     pub(crate) fault: Option<CheckFault>,
 }
 
-/// The history of a store, or of the empty one where the store has a fault. It may share the names of
-/// the store's keys with logs.
+/// The history of a store, or of the empty store if the store has a fault. If `shares` is set, logs
+/// can share the names of the store's keys.
 fn open_history(
     alloc: Global,
     seed: DrawnSeed,
@@ -63,7 +63,8 @@ fn open_history(
 }
 
 impl RunState {
-    /// Before the first transaction, over this starting store, the names of whose keys logs may share.
+    /// The state before the first transaction, over this starting store. If `shares` is set, logs
+    /// can share the names of its keys.
     pub(crate) fn start(
         alloc: Global,
         seed: DrawnSeed,
@@ -93,8 +94,8 @@ impl RunState {
     }
 }
 
-/// Runs transactions in log order, and appends the text of their replies. The list of replies is room to
-/// write in: what it held is removed. The hints are those of the transactions' log.
+/// Runs transactions in log order, and appends the text of their replies. The list of replies is a
+/// buffer whose contents are replaced. The hints are those of the transactions' log.
 fn run_to_text(
     serial: &mut SerialExecutor,
     history: &mut History,
@@ -116,8 +117,8 @@ fn run_to_text(
     Ok(())
 }
 
-/// Runs the transactions behind the history by the plans of their batches, and appends the text of
-/// their replies.
+/// Runs the transactions after the history's top by the plans of their batches, and appends the
+/// text of their replies.
 fn run_clean<T: Threads + Sync>(
     rt: &T,
     alloc: Global,
@@ -149,8 +150,8 @@ fn run_clean<T: Threads + Sync>(
     Ok(())
 }
 
-/// Runs the next chunk, where the log has no fault so far and not too many transactions. Its plans are
-/// used up.
+/// Runs the next chunk, if the log has no fault so far and not too many transactions. The plans of
+/// the chunk are consumed.
 pub(crate) fn run_chunk<T: Threads + Sync>(
     rt: &T,
     alloc: Global,

@@ -1,5 +1,5 @@
-//! Whole runs from bytes to bytes: `run_text` reads a log in windows, which `bohm_read_ahead` parses ahead, and
-//! runs each as `bohm_apply` does.
+//! Whole runs from bytes to bytes: `run_text` reads a log in windows, which `bohm_read_ahead`
+//! parses ahead, and runs each as `bohm_apply` does.
 #![tactic(auto)]
 
 mod answering;

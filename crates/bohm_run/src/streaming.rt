@@ -1,4 +1,4 @@
-//! A log that is run as it is read: while the chunk of a window runs, windows behind it are parsed.
+//! A log that is run as it is read: while the chunk of a window runs, windows after it are parsed.
 
 ghost use Rattle.std.specs.Prelude.{◌≡◌, [], None, IfOk, IfErr, OnOk};
 ghost use denote.Param.Send.{IsSync};
@@ -25,7 +25,7 @@ use std::random::RandomSource;
 use std::sync::Wait;
 use std::thread::{Threads, join_mut};
 
-/// Runs the chunk that is next beside the reading of the one behind it.
+/// Runs the next chunk, and at the same time reads the one after it.
 fn run_beside_reading<R: Read, T: Threads + Wait + Sync>(
     rt: &T,
     alloc: Global,
@@ -61,9 +61,9 @@ fn run_beside_reading<R: Read, T: Threads + Wait + Sync>(
     )
 }
 
-/// Runs the chunk that is next, and reads the one behind it: one after the other where one worker
-/// executes, so that the history stays with one thread, and else side by side, since planning takes
-/// its time. A chunk without transactions takes none.
+/// Runs the next chunk, and reads the one after it: at the same time if the chunk is planned for
+/// several workers, because planning takes time, and otherwise in sequence, so that the history
+/// stays with one thread.
 fn run_and_read<R: Read, T: Threads + Wait + Sync>(
     rt: &T,
     alloc: Global,
@@ -95,7 +95,7 @@ fn run_and_read<R: Read, T: Threads + Wait + Sync>(
     log_reader.next_chunk(rt, alloc, reader)
 }
 
-/// Runs a log's first chunk on a history that was opened, and reads and runs all that stands behind it,
+/// Runs a log's first chunk on a history that was opened, and reads and runs the rest of the log,
 /// to the reader's end.
 fn run_to_end<R: Read, T: Threads + Wait + Sync>(
     rt: &T,
@@ -127,8 +127,8 @@ fn run_to_end<R: Read, T: Threads + Wait + Sync>(
     Ok(())
 }
 
-/// Reads a log to the reader's end, in windows of so many bytes, checks it, and runs it as it is
-/// read. A refused text is read to its end all the same, and nothing runs behind a fault.
+/// Reads a log to the reader's end, in windows of `size` bytes, checks it, and runs it as it is
+/// read. A refused text is still read to its end, and nothing runs after a fault.
 pub(crate) fn run_log<R: Read, T: Threads + Wait + Sync + RandomSource + Copy + Send + 'static>(
     rt: &T,
     alloc: Global,
@@ -154,7 +154,7 @@ pub(crate) fn run_log<R: Read, T: Threads + Wait + Sync + RandomSource + Copy + 
     let mut state = RunState::start(alloc, seed, store, settings, !source.ended)?;
     let names = state.progress.history.shared_names()?;
     let reading = ReadingState::new(alloc, edition, source);
-    // Nothing fails from here on without its threads being waited for.
+    // From here on, no failure returns before the threads are joined.
     let mut log_reader = LogReader::start(rt, alloc, reading, seed, names, size, settings)?;
     let ran = run_to_end(rt, alloc, &mut log_reader, reader, &mut state, chunk);
     log_reader.end(rt);

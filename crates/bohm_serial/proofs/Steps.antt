@@ -1,5 +1,5 @@
 -- A transaction's step over a finite store.
-use Rattle.std.proofs.Common.{◌≡◌, ℕ, ◌+◌, Bool, true, false, List, [], ◌∷◌, ◌++◌, map, length, drop, Some, refl, sym, ap, ◌∙◌, inl, inr, arith, append_assoc}
+use Rattle.std.proofs.Common.{◌≡◌, ℕ, ◌+◌, Bool, true, false, List, [], ◌∷◌, ◌++◌, map, drop, Some, refl, sym, ap, ◌∙◌, inl, inr, append_assoc}
 use Rattle.std.specs.Prelude.{◌⊎◌, ◌||◌, cond}
 use Rattle.std.specs.List.{zip, list_any, slice_get}
 use Rattle.std.specs.Str.{bytes_eq}
@@ -44,13 +44,6 @@ put_all-cells s t well = same_store _ _ (λ k.
 -- the store after a transaction has the cells of the next state
 pub cell_in-step : (s : Store) (t : Txn) → cell_in (put_all s (writes_of (body (cell_in s) t))) ≡ after (cell_in s) t
 cell_in-step s t = λ i k. cell_in-put_all s (writes_of (body (cell_in s) t)) k i
-
--- where one list has ended no pair is left
-pub put_all-zip_end : (s : Store) (ks : List (List ℕ)) (cs : List Cell) → (length ks ≡ 0) ⊎ (length cs ≡ 0) → put_all s (zip ks cs) ≡ s
-put_all-zip_end s [] cs e = refl
-put_all-zip_end s (k ∷ ks) [] e = refl
-put_all-zip_end s (k ∷ ks) (c ∷ cs) (inl e) = absurd (omega arith)
-put_all-zip_end s (k ∷ ks) (c ∷ cs) (inr e) = absurd (omega arith)
 
 -- one more transaction of the log
 pub replies_more : (s s' : Store) (ts : List Txn) (i : ℕ) (t : Txn) (r : Reply) (done whole : List Reply) → slice_get ts i ≡ Some t

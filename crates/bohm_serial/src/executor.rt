@@ -22,7 +22,7 @@ pub struct Answer {
     pub store: Items<(Key, Value)>,
 }
 
-/// Replaces the list by what these keys hold, in their order.
+/// Replaces the list with the cells of these keys, in their order.
 fn look_up(store: &Store, keys: &Keys<'_>, cells: &mut Vec<Cell>) -> Result<(), NoMemory>
     ensures { OnOk result (cells.new.items ≡ map (cell_in store.now) keys.now) }
 {
@@ -33,7 +33,7 @@ fn look_up(store: &Store, keys: &Keys<'_>, cells: &mut Vec<Cell>) -> Result<(), 
     Ok(())
 }
 
-/// Gives each key its cell.
+/// Stores the cell of each key.
 fn put_cells(store: &mut Store, keys: &Keys<'_>, cells: &[Cell]) -> Result<(), NoMemory>
     requires { length keys.now ≡ length cells.now }
     ensures { OnOk result (store.new ≡ put_all store.old (zip keys.now cells.now)) }
@@ -62,7 +62,7 @@ impl Desk {
     }
 }
 
-/// Runs one transaction over the store, and adds its reply.
+/// Runs one transaction over the store, and appends its reply.
 fn execute(
     store: &mut Store,
     replies: &mut Replies,
@@ -105,7 +105,7 @@ fn execute_all(alloc: Global, store: &mut Store, log: &LogPart<'_>) -> Result<Re
 
 /// Runs the log's transactions one after another over its starting store.
 ///
-/// The time grows with the terms of the log and with the number of the store's keys k as k log k.
+/// The time grows with the terms of the log, and with the number k of the store's keys as k log k.
 pub fn run(alloc: Global, checked: &Checked) -> Result<Answer, NoMemory>
     ensures replies { IfOk result
         (λ answer. answer.replies

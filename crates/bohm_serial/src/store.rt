@@ -43,7 +43,7 @@ impl Store {
         Ok(Store { values })
     }
 
-    /// What the key holds.
+    /// The cell of the key.
     pub fn get(&self, key: &Key) -> Cell
         ensures { result ≡ cell_in self.now key.now }
     {
@@ -54,7 +54,7 @@ impl Store {
         }
     }
 
-    /// Gives the key this cell. An error leaves the store as it was.
+    /// Stores the key's cell. An error leaves the store unchanged.
     pub fn put(&mut self, key: &Key, cell: Cell) -> Result<(), NoMemory>
         ensures ok { OnOk result (self.new ≡ put self.old key.now cell) }
         ensures err { OnErr result (self.new ≡ self.old) }

@@ -8,7 +8,7 @@ Runs the log of transactions on standard input one after another, and prints
 the replies and the store, as bohm does without options. It has no planning, no
 batches and no threads: it is the baseline for measuring bohm.";
 
-/// What help says below them.
+/// What help says below the options.
 const AFTER_HELP: &str = "\
 Exit status:
   0  the answer was printed, or this help

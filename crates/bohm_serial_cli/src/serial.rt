@@ -39,7 +39,7 @@ fn answer(alloc: Global, checked: Checked) -> Result<Vec<u8>, NoMemory>
 
 /// Reads a log to the reader's end, runs it, and writes only the text of its answer, as a run with
 /// the default settings does. The whole answer is made before the first byte is written. Every
-/// failure of a reader or a writer counts, also an interrupted call.
+/// failure of a reader or a writer is an error, even an interrupted call.
 ///
 /// The time grows with the text and with the number of the store's keys k as k log k. The memory
 /// grows with the text.
@@ -57,7 +57,7 @@ pub fn serial_text<T: RandomSource, R: Read, W: Write>(
         (Refuses defaults (R.remaining reader.old) (R.remaining reader.new)
         (W.contents writer.old) (W.contents writer.new)) }
 
-    // Before all faults but a failed write the writer is untouched.
+    // If the fault isn't a failed write, the writer is untouched.
     ensures untouched { IfErr result (λ e. IsBeforeWriting e → writer.new ≡ writer.old) }
 {
     let checked = read_log(alloc, DrawnSeed::draw(rt), reader)?;

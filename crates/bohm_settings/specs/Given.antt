@@ -13,7 +13,7 @@ pub record Given : Type 0 where
 abbrev pub IsBetween : ℕ → ℕ → ℕ → Type 0
 IsBetween least most n = (least ≤ n) × (n ≤ most)
 
--- each number lies in its range
+-- each number is in its range
 pub record AreInRange (given : Given) : Type 0 where
   pub cc : IsBetween 1 16 given.cc
   pub exec : IsBetween 1 16 given.exec

@@ -9,16 +9,16 @@ use crate::retention::Kept;
 use crate::worker_counts::{Executors, Planners};
 use std::marker::Model;
 
-/// The most planning workers, and the most executing workers.
+/// The maximum number of planning workers, and of executing workers.
 pub const MOST_WORKERS: u32 = 16;
 
-/// The most partitions of the keys.
+/// The maximum number of partitions of the keys.
 pub const MOST_PARTS: u32 = 64;
 
-/// The most transactions of a batch.
+/// The maximum number of transactions in a batch.
 pub const LARGEST_BATCH: u32 = bohm_types::LARGEST_BATCH;
 
-/// The most timestamps below the last batch's end that stay readable.
+/// The maximum number of timestamps below the last batch's end that stay readable.
 pub const MOST_KEPT: u32 = 4096;
 
 /// The numbers of planning and executing workers, of partitions of the keys and of transactions in
@@ -69,7 +69,7 @@ impl Model for Settings {
 }
 
 impl Settings {
-    /// These settings, if each number lies in its range.
+    /// These settings, if each number is in its range.
     pub fn new(
         cc: u32,
         exec: u32,
@@ -100,7 +100,7 @@ impl Settings {
         })
     }
 
-    /// Planning workers.
+    /// The number of planning workers.
     pub fn cc(&self) -> Planners
         ensures value { result ≡ self.now.cc }
         ensures in_range { IsBetween 1 16 result }
@@ -108,7 +108,7 @@ impl Settings {
         self.cc
     }
 
-    /// Executing workers.
+    /// The number of executing workers.
     pub fn exec(&self) -> Executors
         ensures value { result ≡ self.now.exec }
         ensures in_range { IsBetween 1 16 result }
@@ -116,7 +116,7 @@ impl Settings {
         self.exec
     }
 
-    /// Partitions of the keys.
+    /// The number of partitions of the keys.
     pub fn parts(&self) -> u32
         ensures value { result ≡ self.now.parts }
         ensures in_range { IsBetween 1 64 result }
@@ -124,7 +124,7 @@ impl Settings {
         self.parts
     }
 
-    /// Transactions of a batch.
+    /// The number of transactions in a batch.
     pub fn batch(&self) -> u32
         ensures value { result ≡ self.now.batch }
         ensures in_range { IsBetween 1 largest_batch result }

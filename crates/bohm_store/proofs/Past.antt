@@ -1,5 +1,5 @@
 -- The cell at a time, of versions one after another.
-use Rattle.std.proofs.Common.{◌≡◌, ℕ, zero, suc, ◌-◌, ◌<◌, ◌≤◌, Bool, true, false, List, [], ◌∷◌, ◌++◌, length, drop, get_or, refl, ◌∙◌}
+use Rattle.std.proofs.Common.{◌≡◌, ℕ, ◌-◌, ◌<◌, ◌≤◌, Bool, true, false, List, [], ◌∷◌, ◌++◌, refl, ◌∙◌}
 use Rattle.std.proofs.Common.{arith, if◌then◌else◌, nat_le}
 use Rattle.std.proofs.lemmas.Bool.Decides.{nat_tests}
 use Rattle.std.proofs.lemmas.List.Elements.{All-head, All-tail}
@@ -28,22 +28,6 @@ cell_at-up_to top ts (v ∷ vs) c h le =
     let at_top : nat_le v.begin top ≡ true = grind (arith, nat_tests) in
     let at_ts : nat_le v.begin ts ≡ true = grind (arith, nat_tests) in
     rw (at_top, at_ts) (cell_at-up_to top ts vs v.cell (All-tail (λ v. v.begin ≤ top) v vs h) le)
-
--- the last one at or below the time is the one that counts
-found_from : (ts i : ℕ) (vs : List Version) (d : Version) (c : Cell) → i < length vs → (get_or vs i d).begin ≤ ts
-    → Above ts (drop (suc i) vs) → cell_at ts vs c ≡ (get_or vs i d).cell
-found_from ts i [] d c inside low above = absurd (omega arith)
-found_from ts zero (v ∷ vs) d c inside low above =
-    let here : nat_le v.begin ts ≡ true = grind (arith, nat_tests) in
-    rw here (cell_at-above ts vs v.cell above)
-found_from ts (suc i) (v ∷ vs) d c inside low above = found_from ts i vs d (if nat_le v.begin ts then v.cell else c) (omega arith) low above
-
-pub cell_at-found : (ts n : ℕ) (vs : List Version) (d : Version) (c : Cell) → 0 < n → n ≤ length vs → (get_or vs (n - 1) d).begin ≤ ts
-    → Above ts (drop n vs) → cell_at ts vs c ≡ (get_or vs (n - 1) d).cell
-cell_at-found ts zero vs d c pos inside low above = absurd (omega arith)
-cell_at-found ts (suc i) vs d c pos inside low above =
-    let e : suc i - 1 ≡ i = omega arith in
-    rw e (found_from ts i vs d c (omega arith) (rw e at low) above)
 
 -- what the floor lets go is not seen from the floor on
 kept_by : (floor ts : ℕ) (v w : Version) (ws : List Version) (c : Cell) (b : Bool) → nat_le w.begin floor ≡ b → floor ≤ ts

@@ -7,22 +7,11 @@ use Rattle.std.proofs.Math.Seq.{get_or-append_seam}
 use Rattle.bohm_store.specs.declared.older.Older.{Older}
 use Rattle.bohm_store.specs.Places.{IsPlaced, unknown}
 
-pub placed_none : (gone : ℕ) (latest : List ℕ) → IsPlaced gone latest []
-placed_none gone latest = record { others = λ i j d lt inside le. absurd (omega arith); counted = λ i d inside known. absurd (omega arith) }
-
 -- the first one goes
 pub placed_rest : (gone : ℕ) (latest : List ℕ) (o : Older) (os : List Older) → IsPlaced gone latest (o ∷ os) → IsPlaced (min (gone + 1) unknown) latest os
 placed_rest gone latest o os h = record {
   others = λ i j d lt inside le. h.others (suc i) (suc j) d (omega arith) (omega arith) (omega arith);
   counted = λ i d inside known. (let was = h.counted (suc i) d (omega arith) known in omega arith);
-}
-
--- more keys
-pub placed_longer : (gone : ℕ) (latest longer : List ℕ) (os : List Older) → ((n : ℕ) → get_or longer n 0 ≡ get_or latest n 0)
-    → IsPlaced gone latest os → IsPlaced gone longer os
-placed_longer gone latest longer os same h = record {
-  others = h.others;
-  counted = λ i d inside. rw (same (get_or os i d).number) (h.counted i d inside);
 }
 
 -- one more

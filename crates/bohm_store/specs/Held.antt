@@ -17,6 +17,6 @@ held_cell Never = cells.Absent
 held_cell (Absent begin) = cells.Absent
 held_cell (Present begin z) = cells.Present z
 
--- those of the key with this number
+-- the newest version of the key with this number, if it has one
 abbrev pub held_at : List Held → ℕ → List Version
 held_at now n = held_versions (slice_index_or now n Never)

@@ -39,7 +39,7 @@ pub record IsSettled (was now : Timeline) (txns : List Txn) : Type 0 where
   pub earlier : (ts : ℕ) → ts ≤ was.top → past now ts ≡ past was ts
   pub later : (ts : ℕ) → was.top ≤ ts → ts ≤ now.top → past now ts ≡ state (past was was.top) txns (ts - was.top)
 
--- the same, trimmed to a floor if it is above the present one: from the new floor on the past is the same
+-- as IsSettled, trimmed at a floor if it is above the current one: from the new floor on the past is the same
 pub record IsSettledKept (was now : Timeline) (txns : List Txn) (low : ℕ) : Type 0 where
   pub floor : now.floor ≡ max was.floor low
   pub top : now.top ≡ was.top + length txns

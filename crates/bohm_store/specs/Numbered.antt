@@ -19,7 +19,7 @@ pub record Numbered : Type 0 where
 abbrev pub version_of : Older → Version
 version_of o = record { begin = o.begin; cell = o.cell }
 
--- those of the key with this number
+-- the versions of the key with this number
 abbrev pub older_of : List Older → ℕ → List Version
 older_of [] n = []
 older_of (o ∷ os) n = (if (o.number == n) then version_of o ∷ [] else []) ++ older_of os n
@@ -52,7 +52,7 @@ first_after ts (o ∷ os) n now = if ((o.number == n) && nat_lt ts o.end) then v
 abbrev pub IsEndedBy : ℕ → List Older → Type 0
 IsEndedBy ts os = (d : Older) → 0 < length os → (get_or os (length os - 1) d).end ≤ ts
 
--- up to the first one that ended above a timestamp
+-- the versions before the first one that ended above a timestamp
 abbrev pub ended_by : ℕ → List Older → List Older
 ended_by ts [] = []
 ended_by ts (o ∷ os) = if nat_le o.end ts then o ∷ ended_by ts os else []
@@ -81,7 +81,7 @@ named f n (k ∷ ks) = (k, f n) ∷ named f (n + 1) ks
 abbrev pub timeline : List (List ℕ) → Numbered → Timeline
 timeline names h = record { floor = h.floor; top = h.top; chains = named (versions_at h) 0 names }
 
--- the number of them that are held
+-- the number of keys that have a version
 abbrev pub filled : List Held → ℕ
 filled [] = 0
 filled (v ∷ vs) = length (held_versions v) + filled vs

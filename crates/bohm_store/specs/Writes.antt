@@ -32,11 +32,11 @@ IsTxnWriting b t keys = (x : Txn) × (txn_at b t ≡ Some x) × (x.writes ≡ ke
 
 -- ---- by the numbers of keys
 
--- the same with its key
+-- a write with its key instead of the number
 abbrev pub named_write : List (List ℕ) → NumberedWrite → KeyedVersion
 named_write names w = record { begin = w.version.begin; key = name_at names w.number; cell = w.version.cell }
 
--- the versions that they give the key with a number
+-- the versions that the writes give the key with this number
 abbrev pub versions_by : List NumberedWrite → ℕ → List Version
 versions_by [] n = []
 versions_by (w ∷ ws) n = (if (w.number == n) then w.version ∷ [] else []) ++ versions_by ws n
@@ -61,7 +61,7 @@ writes_by u [] cells = []
 writes_by u (n ∷ ns) [] = []
 writes_by u (n ∷ ns) (c ∷ cs) = record { number = n; version = record { begin = u; cell = c } } ∷ writes_by u ns cs
 
--- all of them
+-- all writes of the sequence
 abbrev pub listed_in : Writes → List NumberedWrite
 listed_in (Listed ws) = ws.now
 listed_in (Begun u ns cs) = writes_by u ns.now cs.now
@@ -71,7 +71,7 @@ pub record AreTxnWrites (names : List (List ℕ)) (u : ℕ) (look : Look) (t : T
   pub below : AreBelow (length names) ws
   pub listed : map (named_write names) ws ≡ txn_writes u (after look t) t.writes
 
--- under these names they are the writes of so many transactions behind a history, in log order
+-- under these names they are the writes of this many transactions after the top of a history, in log order
 pub record AreWritesBehind (names : List (List ℕ)) (t : Timeline) (count : ℕ) (txns : List Txn) (ws : List NumberedWrite) : Type 0 where
   pub many : length txns ≡ count
   pub some : 0 < count

@@ -1,4 +1,4 @@
-//! What keys hold at the top, and held before.
+//! The cells of keys at the top and before.
 
 ghost use Rattle.std.specs.Prelude.{◌≡◌, ◌<◌, ◌≤◌, ◌++◌, ◌∷◌, [], length, map, IfOk};
 ghost use Rattle.bohm_types.specs.declared.cell.Cell.TheVariants.{Absent};
@@ -15,8 +15,8 @@ use bohm_txn::Scratch;
 use bohm_types::{Cell, Key, NoMemory};
 use std::alloc::Global;
 
-/// What a key held after the transaction with a timestamp. Its time is that of one look-up, and
-/// grows with how many of the key's versions ended above the timestamp.
+/// The cell of a key after the transaction with a timestamp. The time is that of one look-up, and
+/// grows with the number of the key's versions that ended above the timestamp.
 pub fn cell_of(
     names: &LayeredNames<HashSeed>,
     numbered: &NumberedHistory,
@@ -33,8 +33,8 @@ pub fn cell_of(
     }
 }
 
-// What a key holds at the top. It is hashed only if the number that it had when it was last seen is
-// another key's.
+// The cell of a key at the top. The key is hashed only if the number that it had when it was last
+// seen isn't its number.
 fn cell_by(
     names: &LayeredNames<HashSeed>,
     numbered: &NumberedHistory,
@@ -57,8 +57,8 @@ fn cell_by(
     }
 }
 
-/// Each of these keys, with what it holds at the top. A key is hashed only if the number that it
-/// had when it was last seen is another key's.
+/// Each of these keys, with its cell at the top. A key is hashed only if the number that it had
+/// when it was last seen isn't its number.
 pub fn base_of(
     names: &LayeredNames<HashSeed>,
     numbered: &NumberedHistory,
@@ -79,7 +79,7 @@ pub fn base_of(
     Ok(base)
 }
 
-/// Hands a scratch what a transaction's declared reads hold at the top.
+/// Pushes into a scratch the cells at the top of a transaction's declared reads.
 pub fn push_reads(
     names: &LayeredNames<HashSeed>,
     numbered: &NumberedHistory,
@@ -98,7 +98,7 @@ pub fn push_reads(
     }
 }
 
-/// Hands a scratch what the keys with these numbers hold at the top.
+/// Pushes into a scratch the cells at the top of the keys with these numbers.
 pub fn push_cells(numbered: &NumberedHistory, numbers: &[u32], scratch: &mut Scratch)
     requires few { length numbers.now ≤ most_keys }
     requires none { scratch.old.cells ≡ [] }
@@ -112,7 +112,7 @@ pub fn push_cells(numbered: &NumberedHistory, numbers: &[u32], scratch: &mut Scr
     }
 }
 
-// Hands a scratch a cell, of the next declared read and of the next declared write.
+// Pushes a cell into a scratch, for the next declared read and for the next declared write.
 fn push_read_and_cell(scratch: &mut Scratch, cell: &Cell)
     requires few_reads { length scratch.old.seen < most_keys }
     requires few_writes { length scratch.old.cells < most_keys }
@@ -123,7 +123,8 @@ fn push_read_and_cell(scratch: &mut Scratch, cell: &Cell)
     scratch.push_cell(*cell);
 }
 
-/// Hands a scratch what the keys with these numbers hold at the top, as reads and as cells.
+/// Pushes into a scratch the cells at the top of the keys with these numbers, as reads and as
+/// cells.
 pub fn push_reads_and_cells(numbered: &NumberedHistory, numbers: &[u32], scratch: &mut Scratch)
     requires few { length numbers.now ≤ most_keys }
     requires none { scratch.old.seen ≡ [] }

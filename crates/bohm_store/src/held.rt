@@ -9,7 +9,8 @@ ghost use Rattle.bohm_store.specs.declared.held.Held.TheVariants.{Never};
 use crate::version::Version;
 use bohm_types::{Cell, Value};
 
-/// What a key holds, and since which timestamp. It takes 16 bytes.
+/// The newest version of a key, if it has one: its cell, and the timestamp at which it begins. It
+/// takes 16 bytes.
 #[derive(Clone, Copy, Debug)]
 pub enum Held {
     /// The key has no version.
@@ -45,7 +46,7 @@ impl Held {
         }
     }
 
-    /// How many versions that is.
+    /// The number of versions: 0 or 1.
     pub fn count(self) -> usize
         ensures count { result ≡ length (held_versions self) }
         ensures one { result ≤ 1 }
@@ -56,7 +57,7 @@ impl Held {
         }
     }
 
-    /// The cell at or above the begin of its version.
+    /// The cell at timestamps at or above the begin of its version.
     pub fn cell(self) -> Cell
         ensures { result ≡ held_cell self }
     {
@@ -66,7 +67,7 @@ impl Held {
         }
     }
 
-    /// The same where its version begins at or below a timestamp.
+    /// Itself if its version begins at or below a timestamp, otherwise `Never`.
     pub fn up_to(self, ts: u32) -> Held
         ensures { held_versions result ≡ versions_to ts (held_versions self) }
     {
@@ -76,7 +77,7 @@ impl Held {
         }
     }
 
-    /// The cell at a timestamp, where no older version is known.
+    /// The cell at a timestamp, if there is no older version.
     pub fn cell_at(self, ts: u32) -> Cell
         ensures { result ≡ cell_at ts (held_versions self) cells.Absent }
     {
@@ -89,7 +90,7 @@ impl Held {
 
 const _: () = prove!(std::mem::size_of::<Held>() == 16);
 
-/// Lets go what keys hold since a timestamp above this one. Its time grows with the number of keys.
+/// Removes the versions that begin above a timestamp. The time grows with the number of keys.
 pub fn forget_after(newest: &mut [Held], ts: u32)
     ensures { (n : ℕ) → held_at newest.new n ≡ versions_to ts (held_at newest.old n) }
 {
@@ -98,7 +99,7 @@ pub fn forget_after(newest: &mut [Held], ts: u32)
     }
 }
 
-/// What the key with a number holds.
+/// The newest version of the key with this number, or `Never` if the number is out of bounds.
 pub fn held_of(newest: &[Held], number: u32) -> Held
     ensures { result ≡ slice_index_or newest.now number Never }
 {

@@ -25,8 +25,8 @@ use std::marker::Model;
 /// The versions of each key from a floor up to a top, which are timestamps.
 #[derive(Drop)]
 pub struct History {
-    // A key keeps its number for the history's life. After those with versions there may be keys
-    // that an error left without one.
+    // A key keeps its number for the history's lifetime. Keys that an error left without a version
+    // may follow the keys that have one.
     names: LayeredNames<HashSeed>,
     numbered: NumberedHistory,
 }
@@ -43,7 +43,7 @@ impl Model for History {
     ghost invariant = { λ h. length h.numbered.newest ≤ length h.names };
 }
 
-// The keys of entries that rise, each at its place.
+// The keys of these entries, which are in ascending order, each at its index.
 fn names_in(
     alloc: Global,
     entries: &[(Key, Value)],
@@ -63,8 +63,9 @@ fn names_in(
 }
 
 impl History {
-    /// The history of a starting store, whose entries rise by their keys: one version for each. Its
-    /// time grows with their number. Keys are hashed from the fixed seed.
+    /// Creates the history of a starting store, with one version for each entry. The entries are in
+    /// ascending order of their keys. The time grows with their number. Keys are hashed with the
+    /// fixed seed.
     pub fn open(alloc: Global, entries: &[(Key, Value)]) -> Result<History, NoMemory>
         requires { rising (names_of entries.now) ≡ true }
         ensures floor { IfOk result (λ h. h.floor ≡ 0) }
@@ -78,7 +79,7 @@ impl History {
         History::restore(alloc, entries, 0)
     }
 
-    /// The same, with keys hashed from a drawn seed.
+    /// Creates the history of a starting store as `open` does, with keys hashed with a drawn seed.
     pub fn open_with_seed(
         alloc: Global,
         entries: &[(Key, Value)],
@@ -97,9 +98,9 @@ impl History {
         History::stand(alloc, entries, 0, LayeredNames::from(names))
     }
 
-    /// The history of a store as it stands after the transaction with a timestamp, which becomes
-    /// the floor and the top. The entries rise by their keys, and each has one version. The time
-    /// grows with their number. Keys are hashed from the fixed seed.
+    /// Creates the history of a store as it is after the transaction with a timestamp, which
+    /// becomes the floor and the top. The entries are in ascending order of their keys, and each
+    /// has one version. The time grows with their number. Keys are hashed with the fixed seed.
     pub fn restore(alloc: Global, entries: &[(Key, Value)], ts: u32) -> Result<History, NoMemory>
         requires { rising (names_of entries.now) ≡ true }
         ensures floor { IfOk result (λ h. h.floor ≡ ts) }
@@ -114,8 +115,8 @@ impl History {
         History::stand(alloc, entries, ts, LayeredNames::from(names))
     }
 
-    /// The same, with keys hashed from a drawn seed. Logs can share the names of the store's keys with
-    /// it.
+    /// Creates the history of a store as `restore` does, with keys hashed with a drawn seed. Logs
+    /// can share the names of the store's keys with the history.
     pub fn restore_sharing(
         alloc: Global,
         entries: &[(Key, Value)],
@@ -137,13 +138,14 @@ impl History {
         History::stand(alloc, entries, ts, names)
     }
 
-    /// The names that logs can share: those of the starting store's keys if it was opened so, or else
-    /// none. A log that shares them has the history's numbers for them, so that no key is looked up.
+    /// The names that logs can share: those of the starting store's keys if the history was opened
+    /// by `restore_sharing`, otherwise none. A log that shares them has the history's numbers for
+    /// these keys, so that none of them is looked up.
     pub fn shared_names(&self) -> Result<SharedNames<HashSeed>, NoMemory> {
         self.names.shared().try_clone()
     }
 
-    // What `restore` answers, with these names.
+    // The history that `restore` returns, with these names.
     fn stand(
         alloc: Global,
         entries: &[(Key, Value)],
@@ -164,7 +166,7 @@ impl History {
         Ok(History { names, numbered })
     }
 
-    /// The history of the empty store. Keys are hashed from the fixed seed. It allocates nothing.
+    /// The history of the empty store. Keys are hashed with the fixed seed. It allocates nothing.
     pub fn empty(alloc: Global) -> History
         ensures floor { result.floor ≡ 0 }
         ensures top { result.top ≡ 0 }
@@ -176,7 +178,7 @@ impl History {
         }
     }
 
-    /// The least timestamp of which the past is kept.
+    /// The lowest timestamp whose past is kept.
     pub fn floor(&self) -> u32
         ensures { result ≡ self.now.floor }
     {
@@ -191,8 +193,8 @@ impl History {
         self.numbered.top()
     }
 
-    /// The number of kept versions, or the greatest number of 64 bits where there are more. Its
-    /// time grows with the number of keys.
+    /// The number of kept versions, or `u64::MAX` if there are more. The time grows with the number
+    /// of keys.
     pub fn version_count(&self) -> u64
         ensures count { result ≡ min (total self.now.chains) 18446744073709551615 }
         ensures distinct { IsDistinct bytes_eq (keys_of self.now.chains) }

@@ -18,36 +18,37 @@ ghost use Rattle.bohm_store.specs.Versions.{declared_writes};
 ghost use Rattle.bohm_store.specs.Versions.{kept_versions, past, produced_versions, total};
 ghost use Rattle.bohm_store.specs.Versions.{versions};
 
-/// Of versions that rise, the cell at a timestamp is that of the one with the greatest begin at or
-/// below it.
+/// Of ascending versions, the cell at a timestamp is that of the version with the greatest begin at
+/// or below it.
 pub fn cell_of_the_newest()
     ensures { (ts : ℕ) (vs : List Version) → Rises vs → IsCellAt ts vs (cell_at ts vs Absent) }
 {}
 
-/// Of versions that rise, there are kept those that begin above the floor, and the newest one at or
-/// below it.
+/// Of ascending versions, those that begin above the floor are kept, and the newest one at or below
+/// it.
 pub fn kept_members()
     ensures { (floor : ℕ) (vs : List Version) (v : Version) → Rises vs
         → Contains (kept_versions floor vs) v ↔ IsKept floor vs v }
 {}
 
-/// The versions that transactions after n produce say of each timestamp what their serial run
-/// leaves.
+/// At each timestamp, the versions that transactions after n produce have the cells that their
+/// serial run leaves.
 pub fn produced_is_serial()
     ensures { (n ts : ℕ) (look : Look) (txns : List Txn) (k : List ℕ) → All IsWellFormedTxn txns
         → n ≤ ts → ts ≤ n + length txns
         → cell_at ts (produced_versions (n + 1) look txns k) (look k) ≡ state look txns (ts - n) k }
 {}
 
-/// Two histories in which each key has the same versions have as many versions.
+/// Two histories in which each key has the same versions have the same number of versions.
 pub fn same_versions_same_count()
     ensures { (t r : Timeline) → IsDistinct bytes_eq (keys_of t.chains)
         → IsDistinct bytes_eq (keys_of r.chains) → ((k : List ℕ) → versions t k ≡ versions r k)
         → total t.chains ≡ total r.chains }
 {}
 
-/// A history in which each key has as many versions at most as transactions leave it behind the top
-/// of another has as many at most as that one, and one for each write that they declare.
+/// If transactions after the top of a history leave each key at least as many versions as it has in
+/// another history, then the other has at most as many versions as the first, plus one for each
+/// write that the transactions declare.
 pub fn grown_count()
     ensures { (was now : Timeline) (txns : List Txn) → IsDistinct bytes_eq (keys_of now.chains)
         → ((k : List ℕ) → length (versions now k) ≤ length (grown_versions was txns k))

@@ -15,7 +15,7 @@ use bohm_log::NameTable;
 use bohm_types::{Cell, Key, NoMemory, Value};
 use std::alloc::Global;
 
-// Puts an older version in place of what its key holds, where there is room for the key.
+// Replaces the newest version of a key with an older one, if the number of the key is in bounds.
 fn put_back(newest: &mut [Held], one: Older)
     ensures { (n : ℕ) → n < length newest.old → held_at newest.new n
         ≡ (if (one.number == n) then version_of one ∷ [] else held_at newest.old n) }
@@ -27,8 +27,8 @@ fn put_back(newest: &mut [Held], one: Older)
     }
 }
 
-/// Puts in place of what keys hold what they held at a timestamp. Its time grows with how many
-/// versions ended above the timestamp.
+/// Replaces the newest versions of keys with the newest ones at a timestamp. The time grows with
+/// the number of versions that ended above the timestamp.
 pub fn rewind(newest: &mut [Held], older: &OlderVersions, ts: u32)
     requires { (top : ℕ) × EndsRise top older.now.items }
     ensures { (n : ℕ) → n < length newest.old
@@ -45,7 +45,7 @@ pub fn rewind(newest: &mut [Held], older: &OlderVersions, ts: u32)
     }
 }
 
-// Lists a key with its value, where it has one.
+// Appends a key with its value at a timestamp, if it has one.
 fn list_one(out: &mut Vec<(Key, Value)>, key: &Key, held: Held, ts: u32) -> Result<(), NoMemory>
     ensures { OnOk result (out.new.items ≡ out.old.items
         ++ cell_entry key.now (cell_at ts (held_versions held) cells.Absent) []) }
@@ -56,7 +56,7 @@ fn list_one(out: &mut Vec<(Key, Value)>, key: &Key, held: Held, ts: u32) -> Resu
     Ok(())
 }
 
-/// The keys that have a value at a timestamp, with it, in the order of their numbers.
+/// The keys that have a value at a timestamp, with their values, in the order of their numbers.
 pub fn present(
     alloc: Global,
     newest: &[Held],
@@ -74,7 +74,8 @@ pub fn present(
     Ok(out)
 }
 
-/// The same where older versions are known too.
+/// The keys that have a value at a timestamp, as `present` lists them, with older versions known
+/// too.
 pub fn present_at(
     alloc: Global,
     newest: &[Held],
@@ -95,7 +96,7 @@ pub fn present_at(
     Ok(list)
 }
 
-/// How many keys have a version.
+/// The number of keys that have a version.
 pub fn count_held(newest: &[Held]) -> usize
     ensures { result ≡ filled newest.now }
 {

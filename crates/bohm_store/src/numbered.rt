@@ -28,7 +28,8 @@ use std::alloc::Global;
 use std::marker::Model;
 
 /// The versions of each key, by its number, from a floor up to a top, which are timestamps. The
-/// newest one lies at the number, and the others stand in a queue, in the order of their ends.
+/// newest version of a key is at the index of its number, and the others are in a queue, in the
+/// order of their ends.
 pub struct NumberedHistory {
     newest: Vec<Held>,
     older: OlderVersions,
@@ -71,7 +72,7 @@ impl Model for NumberedHistory {
 }
 
 impl NumberedHistory {
-    /// The history of the empty store, for no key. It allocates nothing.
+    /// The history of the empty store, without keys. It allocates nothing.
     pub fn empty(alloc: Global) -> NumberedHistory
         ensures floor { result.floor ≡ 0 }
         ensures top { result.top ≡ 0 }
@@ -86,8 +87,8 @@ impl NumberedHistory {
         }
     }
 
-    /// The history of a store as it stands at a timestamp, whose entries rise by their keys: the
-    /// number of a key is its place among them.
+    /// The history of a store as it is at a timestamp. The entries are in ascending order of their
+    /// keys, and the number of a key is its index among them.
     pub fn open(
         alloc: Global,
         entries: &[(Key, Value)],
@@ -119,7 +120,7 @@ impl NumberedHistory {
         })
     }
 
-    /// The least timestamp of which the past is kept.
+    /// The lowest timestamp whose past is kept.
     pub fn floor(&self) -> u32
         ensures { result ≡ self.now.floor }
     {
@@ -134,7 +135,7 @@ impl NumberedHistory {
         self.top
     }
 
-    /// For how many keys there is room. Keys with greater numbers have no version.
+    /// The number of keys that there is room for. Keys with numbers at or above it have no version.
     pub fn len(&self) -> usize
         ensures len { result ≡ length self.now.newest }
         ensures behind { (n : ℕ) → length self.now.newest ≤ n → versions_at self.now n ≡ [] }
@@ -142,8 +143,8 @@ impl NumberedHistory {
         self.newest.len()
     }
 
-    /// Makes room for the keys with numbers below a count: new ones have no version. Its time grows
-    /// with how many are new.
+    /// Makes room for the keys with numbers below `count`; new keys have no version. The time grows
+    /// with the number of new keys.
     pub fn cover(&mut self, count: usize) -> Result<(), NoMemory>
         ensures floor { self.new.floor ≡ self.old.floor }
         ensures top { self.new.top ≡ self.old.top }
@@ -157,15 +158,15 @@ impl NumberedHistory {
         Ok(())
     }
 
-    /// What the key with a number holds at the top.
+    /// The cell that the key with this number has at the top.
     pub fn cell(&self, number: u32) -> Cell
         ensures { result ≡ cell_at self.now.top (versions_at self.now number) cells.Absent }
     {
         held_of(&self.newest, number).cell()
     }
 
-    /// What the key with a number held after the transaction with a timestamp. Its time grows with
-    /// how many of the key's versions ended above the timestamp.
+    /// The cell that the key with this number had after the transaction with a timestamp. The time
+    /// grows with the number of the key's versions that ended above the timestamp.
     pub fn cell_at(&self, number: u32, ts: u32) -> Cell
         ensures cell { result ≡ cell_at ts (versions_at self.now number) cells.Absent }
         ensures newest { IsCellAt ts (versions_at self.now number) result }
@@ -173,9 +174,9 @@ impl NumberedHistory {
         cell_before(&self.older, held_of(&self.newest, number), number, ts)
     }
 
-    /// Where the floor is above the present one it becomes the floor, and of each key there stay
-    /// the versions that begin above it and the newest one at or below it. Its time grows with how
-    /// many versions are dropped.
+    /// If this floor is above the current one, it becomes the floor, and each key keeps the
+    /// versions that begin above it and the newest one at or below it. The time grows with the
+    /// number of versions that are dropped.
     pub fn trim(&mut self, floor: u32)
         requires { floor ≤ self.old.top }
         ensures floor { self.new.floor ≡ max self.old.floor floor }
@@ -194,9 +195,9 @@ impl NumberedHistory {
         self.floor = floor;
     }
 
-    /// Takes back what came after a timestamp, which becomes the top: of each key there stay the
-    /// versions that begin at or below it. Its time grows with how many versions go and with the
-    /// number of keys. It allocates nothing.
+    /// Undoes the transactions after a timestamp, which becomes the top. Each key keeps the
+    /// versions that begin at or below the timestamp. The time grows with the number of versions
+    /// that are removed and with the number of keys. It allocates nothing.
     pub fn rewind(&mut self, ts: u32)
         requires { self.old.floor ≤ ts }
         ensures floor { self.new.floor ≡ self.old.floor }
@@ -212,8 +213,8 @@ impl NumberedHistory {
         self.top = ts;
     }
 
-    // Adds the versions of so many transactions that follow the top, by the list of their writes, and
-    // keeps their end alone.
+    // Adds the versions of `count` transactions that follow the top, by the list of their writes,
+    // and keeps only the past at their end.
     fn replace_newest(&mut self, names: NameTable<'_>, count: u32, writes: Writes<'_, '_>)
         requires names { IsDistinct bytes_eq (all_names names) }
         requires long { length (all_names names) ≤ length self.old.newest }
@@ -234,8 +235,8 @@ impl NumberedHistory {
         self.floor = self.top;
     }
 
-    /// Adds the versions of so many transactions that follow the top, by the list of their writes. An
-    /// error changes nothing.
+    /// Adds the versions of `count` transactions that follow the top, by the list of their writes.
+    /// An error changes nothing.
     pub fn add_writes(
         &mut self,
         names: NameTable<'_>,
@@ -265,8 +266,8 @@ impl NumberedHistory {
         }
     }
 
-    /// The same, and then trims at a floor. Where nothing below the new top is kept, it allocates
-    /// nothing. An error changes nothing.
+    /// Adds the versions as `add_writes` does, and then trims at a floor. If nothing below the new
+    /// top is kept, it allocates nothing. An error changes nothing.
     pub fn add_above(
         &mut self,
         names: NameTable<'_>,
@@ -302,9 +303,9 @@ impl NumberedHistory {
         }
     }
 
-    /// What each key held after the transaction with a timestamp: the keys that had a value, rising,
-    /// with it. Its time grows with the number n of names as n log n, and with how many versions
-    /// ended above the timestamp.
+    /// The store after the transaction with a timestamp: the keys that had a value, in ascending
+    /// order, with their values. The time grows with the number n of names as n log n, and with the
+    /// number of versions that ended above the timestamp.
     pub fn store_at(
         &self,
         alloc: Global,
@@ -326,8 +327,8 @@ impl NumberedHistory {
         }
     }
 
-    /// How many versions the keys with these names have, or the greatest number of 64 bits where
-    /// there are more. Its time grows with the number of keys.
+    /// The number of versions of the keys with these names, or `u64::MAX` if there are more. The
+    /// time grows with the number of keys.
     pub fn count(&self, names: NameTable<'_>) -> u64
         requires { length self.now.newest ≤ length (all_names names) }
         ensures { result

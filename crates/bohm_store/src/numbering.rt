@@ -9,7 +9,7 @@ use bohm_hints::IndexHints;
 use bohm_log::{HashSeed, Keys, LayeredNames, NameTable};
 use bohm_types::{Key, NoMemory};
 
-/// Whether this number is that of a key.
+/// Whether this is the number of a key.
 #[inline(always)]
 pub fn is_numbered(names: NameTable<'_>, number: u32, key: &Key) -> bool
     ensures { result ≡ true → slice_get (all_names names.entry) number ≡ Some key.now }
@@ -22,8 +22,8 @@ pub fn is_numbered(names: NameTable<'_>, number: u32, key: &Key) -> bool
     }
 }
 
-/// The number of a key, which gets one if it has none. It is hashed only if the number that it had
-/// when it was last seen is another key's. An error leaves no key without its number.
+/// The number of a key, which gets one if it has none. The key is hashed only if the number that it
+/// had when it was last seen isn't its number. On an error every key keeps its number.
 pub fn number_of(
     names: &mut LayeredNames<HashSeed>,
     hints: &mut IndexHints,
@@ -46,8 +46,8 @@ pub fn number_of(
     }
 }
 
-/// Appends the numbers that keys had when they were last seen, up to the first that is another key's
-/// now. None is hashed.
+/// Appends the numbers that keys had when they were last seen, up to the first one that isn't the
+/// number of its key. No key is hashed.
 fn push_hinted(
     names: NameTable<'_>,
     hints: &IndexHints,
@@ -69,8 +69,8 @@ fn push_hinted(
     Ok(())
 }
 
-/// The numbers of keys, in place of what stood in the list. A key without a number gets one. An error
-/// leaves no key without its number.
+/// Replaces the contents of the list with the numbers of these keys. A key without a number gets
+/// one. On an error every key keeps its number.
 pub fn number_all(
     names: &mut LayeredNames<HashSeed>,
     hints: &mut IndexHints,

@@ -22,14 +22,14 @@ use std::alloc::Global;
 use std::collections::VecDeque;
 use std::marker::Model;
 
-/// A version in whose place another one of the key with the number came, and where that one begins.
-/// It takes 32 bytes.
+/// A version of the key with this number that a later one superseded. Its end is the begin of the
+/// later one. It takes 32 bytes.
 #[derive(Clone, Copy, Debug)]
 pub struct Older {
     pub number: u32,
     pub end: u32,
     pub begin: u32,
-    // Directly before it in the queue there are at least so many of other keys.
+    // At least this many versions directly before it in the queue are of other keys.
     others: u32,
     pub cell: Cell,
 }
@@ -48,15 +48,15 @@ impl Older {
     }
 }
 
-/// Versions that are no longer the newest of their keys, in the order of their ends, and where the
-/// latest one of each key stands among them.
+/// Versions that aren't the newest of their keys, in the order of their ends, and where the latest
+/// one of each key is among them.
 #[derive(Drop)]
 pub struct OlderVersions {
     queue: VecDeque<Older>,
-    // How many have left the queue, up to the greatest number.
+    // The number of versions that have left the queue at its front, at most `u64::MAX`.
     gone: u64,
-    // By the number of a key how many had come in all with the key's latest one, or 0 where the key
-    // never had one. The greatest number says nothing.
+    // By the number of a key: the sum of `gone` and the queue's length just after a version of the
+    // key was last pushed, or 0 if none ever was. `u64::MAX` carries no information.
     latest: Vec<u64>,
 }
 
@@ -77,7 +77,7 @@ impl Model for OlderVersions {
 }
 
 impl OlderVersions {
-    /// None. It takes no memory.
+    /// An empty queue. It allocates nothing.
     pub fn new(alloc: Global) -> OlderVersions
         ensures items { result.items ≡ [] }
     {
@@ -88,14 +88,15 @@ impl OlderVersions {
         }
     }
 
-    /// How many there are.
+    /// The number of versions.
     pub fn len(&self) -> usize
         ensures { result ≡ length self.now.items }
     {
         self.queue.len()
     }
 
-    /// The one behind so many. Directly before it there are as many of other keys as it says.
+    /// The version at an index. The versions directly before it, as many as its `others`, are of
+    /// other keys.
     pub fn at(&self, place: usize) -> Older
         requires { place < length self.now.items }
         ensures item { result ≡ get_or self.now.items place result }
@@ -105,7 +106,7 @@ impl OlderVersions {
         self.queue[place]
     }
 
-    // Behind so many there is none of the key with the number.
+    // An index from which on there is no version of the key with this number.
     fn latest(&self, number: u32) -> usize
         ensures inside { result ≤ length self.now.items }
         ensures none { (i : ℕ) (d : Older) → result ≤ i → i < length self.now.items
@@ -122,7 +123,7 @@ impl OlderVersions {
         len.min(count.saturating_sub(self.gone) as usize)
     }
 
-    /// Lets all go.
+    /// Removes all versions.
     pub fn clear(&mut self)
         ensures items { self.new.items ≡ [] }
     {
@@ -130,8 +131,8 @@ impl OlderVersions {
         self.queue.clear();
     }
 
-    // Makes room for so many more. A queue that has none is given room for a quarter more of what it
-    // holds, and not as much again: it may be most of what a machine keeps.
+    // Makes room for `more` versions. A queue without that room grows by at least a quarter of its
+    // length instead of doubling, because it may be most of a machine's memory.
     fn reserve_queue(&mut self, more: usize) -> Result<(), NoMemory>
         ensures items { self.new.items ≡ self.old.items }
         ensures room { OnOk result (more ≤ self.new.room) }
@@ -150,7 +151,7 @@ impl OlderVersions {
         Ok(())
     }
 
-    // Makes room for so many more, and a place for the keys with numbers below a count.
+    // Makes room for `more` versions, and for the counts of the keys with numbers below `keys`.
     fn reserve(&mut self, keys: usize, more: usize) -> Result<(), NoMemory>
         ensures items { self.new.items ≡ self.old.items }
         ensures room { OnOk result (more ≤ self.new.room) }
@@ -163,7 +164,8 @@ impl OlderVersions {
         Ok(())
     }
 
-    // Takes in a version that ended here. There is room for it, and a place for its key.
+    // Appends a version of the key with this number that ended at `end`. There is room for it, and
+    // for the count of its key.
     fn push(&mut self, number: u32, end: u32, version: Version)
         requires room { 0 < self.old.room }
         requires place { number < self.old.places }
@@ -184,7 +186,7 @@ impl OlderVersions {
         });
     }
 
-    // Whether all ended at or below a timestamp: they do where the last one did.
+    // Whether all versions ended at or below a timestamp: they did if the last one did.
     fn are_due(&self, floor: u32) -> bool
         ensures due { result ≡ true → IsEndedBy floor self.now.items }
         ensures others { result ≡ false → ¬ IsEndedBy floor self.now.items }
@@ -195,7 +197,7 @@ impl OlderVersions {
         }
     }
 
-    // Takes the last one out, if it ended above a timestamp.
+    // Removes and returns the last version, if it ended above a timestamp.
     fn take_ended_after(&mut self, ts: u32) -> Option<Older>
         ensures { MatchOption result
             ((self.new.items ≡ self.old.items) × IsEndedBy ts self.old.items)
@@ -208,7 +210,7 @@ impl OlderVersions {
         self.queue.pop_back()
     }
 
-    // Takes the first one out, if it ended at or below the floor.
+    // Removes and returns the first version, if it ended at or below the floor.
     fn take_due(&mut self, floor: u32) -> Option<Older>
         ensures { MatchOption result
             ((self.new.items ≡ self.old.items) × IsNotDue floor self.old.items)
@@ -224,8 +226,9 @@ impl OlderVersions {
     }
 }
 
-/// What the key with a number held at a timestamp, where it holds this now. Its time grows with how
-/// many versions of the key ended above the timestamp.
+/// The cell that the key with this number had at a timestamp, given its newest version. The time
+/// grows with the number of the key's versions that ended above the timestamp, and, until the key
+/// is next written after versions were taken back, with the number of other keys' versions.
 pub fn cell_before(older: &OlderVersions, newest: Held, number: u32, ts: u32) -> Cell
     requires { (top : ℕ) × EndsRise top older.now.items }
     ensures { result ≡ cell_at ts
@@ -248,8 +251,8 @@ pub fn cell_before(older: &OlderVersions, newest: Held, number: u32, ts: u32) ->
     cell
 }
 
-/// Lets those go that ended at or below the floor. Its time grows with how many go; it is constant
-/// where all do.
+/// Removes the versions that ended at or below the floor. The time grows with their number; it is
+/// constant if all are removed.
 pub fn trim(older: &mut OlderVersions, floor: u32)
     ensures versions { (n top : ℕ) (held : List Version) → EndsRise top older.old.items
         → IsLinked older.old.items n held
@@ -268,7 +271,7 @@ pub fn trim(older: &mut OlderVersions, floor: u32)
     while let Some(_) = older.take_due(floor) {}
 }
 
-/// Lets those go that ended above a timestamp. Its time grows with how many go.
+/// Removes the versions that ended above a timestamp. The time grows with their number.
 pub fn cut_off(older: &mut OlderVersions, ts: u32)
     ensures { (top : ℕ) → EndsRise top older.old.items
         → older.new.items ≡ ended_by ts older.old.items }
@@ -276,8 +279,7 @@ pub fn cut_off(older: &mut OlderVersions, ts: u32)
     while let Some(_) = older.take_ended_after(ts) {}
 }
 
-/// Puts a version in place of what the key holds, which is kept as an older one. There is room for
-/// it.
+/// Replaces the newest version of a key, which is kept as an older version. There is room for it.
 pub fn displace(newest: &mut [Held], older: &mut OlderVersions, write: NumberedWrite)
     requires number { write.number < length newest.old }
     requires places { length newest.old ≤ older.old.places }
@@ -303,7 +305,8 @@ pub fn displace(newest: &mut [Held], older: &mut OlderVersions, write: NumberedW
     newest[number as usize] = Held::new(begin, write.version.cell);
 }
 
-// Puts these versions in place, one after another. There is room for what they displace.
+// Replaces the newest versions of keys with these, one after another. There is room for the
+// versions that they displace.
 fn displace_all(newest: &mut [Held], older: &mut OlderVersions, writes: Writes<'_, '_>)
     requires numbers { AreBelow (length newest.old) (listed_in writes) }
     requires places { length newest.old ≤ older.old.places }

@@ -1,4 +1,4 @@
-//! Replaces what keys hold by new versions.
+//! Replaces the newest versions of keys with new ones.
 
 ghost use Rattle.std.specs.Prelude.{◌≡◌, ◌==◌, ◌<◌, ◌++◌, ◌∷◌, [], ℕ, length, if◌then◌else◌};
 ghost use Rattle.bohm_store.specs.Chains.{newest_only};
@@ -9,7 +9,7 @@ use crate::held::Held;
 use crate::numbered_write::NumberedWrite;
 use crate::writes::Writes;
 
-// Puts a version in place of what its key holds.
+// Replaces the newest version of a key.
 fn replace(newest: &mut [Held], write: NumberedWrite)
     requires { write.number < length newest.old }
     ensures { (n : ℕ) → held_at newest.new n
@@ -20,8 +20,8 @@ fn replace(newest: &mut [Held], write: NumberedWrite)
     newest[write.number as usize] = held;
 }
 
-/// Puts these versions in place of what their keys hold, one after another: of each key the last
-/// one stays. It allocates nothing.
+/// Replaces the newest versions of keys with these versions, one after another: each key keeps only
+/// the last one. It allocates nothing.
 pub fn replace_all(newest: &mut [Held], writes: Writes<'_, '_>)
     requires { AreBelow (length newest.old) (listed_in writes) }
     ensures { (n : ℕ) → held_at newest.new n

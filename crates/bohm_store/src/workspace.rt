@@ -1,16 +1,16 @@
-//! Memory to run transactions one after another in.
+//! Memory that is reused from one transaction to the next.
 
 use std::alloc::Global;
 
-/// What is listed of a transaction, in a list that is used again for the next one.
+/// A list about one transaction, whose memory is reused for the next one.
 #[derive(Drop)]
 pub struct Workspace {
-    /// The numbers of its declared writes.
+    /// The numbers of the keys that the transaction declares to write.
     pub(crate) numbers: Vec<u32>,
 }
 
 impl Workspace {
-    /// It allocates nothing.
+    /// An empty workspace. It allocates nothing.
     pub fn new(alloc: Global) -> Workspace {
         Workspace {
             numbers: Vec::new(alloc),

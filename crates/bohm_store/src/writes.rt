@@ -7,17 +7,17 @@ use crate::numbered_write::NumberedWrite;
 use crate::version::Version;
 use bohm_types::Cell;
 
-/// Versions that keys get, by the numbers of the keys, one after another.
+/// A sequence of versions to add, each with the number of its key.
 #[derive(Clone, Copy)]
 pub enum Writes<'a, 'b> {
-    /// Those of a list.
+    /// The versions of a list.
     Listed(&'a [NumberedWrite]),
-    /// One that begins at a timestamp for each number, with the cell at the same place.
+    /// For each number a version that begins at this timestamp, with the cell at the same index.
     Begun(u32, &'a [u32], &'b [Cell]),
 }
 
-/// The one at a place of a list. It is a function, since the prover knows how long a slice can be where
-/// it is a parameter.
+/// The version at an index of a list. It is a separate function because the prover knows the
+/// maximum length of a slice only if the slice is a parameter.
 #[inline(always)]
 fn listed_at(writes: &[NumberedWrite], i: usize) -> NumberedWrite
     requires { i < length writes.now }
@@ -26,7 +26,7 @@ fn listed_at(writes: &[NumberedWrite], i: usize) -> NumberedWrite
     writes[i]
 }
 
-/// The version that begins at a timestamp, with the number and the cell at a place.
+/// The version that begins at a timestamp, with the number and the cell at an index.
 #[inline(always)]
 #[tactic(auto, using(crate::proofs::Advanced::writes_many, crate::proofs::Advanced::write_at))]
 fn begun_at(begin: u32, numbers: &[u32], cells: &[Cell], i: usize) -> NumberedWrite
@@ -44,7 +44,7 @@ fn begun_at(begin: u32, numbers: &[u32], cells: &[Cell], i: usize) -> NumberedWr
 }
 
 impl Writes<'_, '_> {
-    /// How many there are.
+    /// The number of versions.
     #[tactic(auto, using(crate::proofs::Advanced::writes_many))]
     pub fn len(&self) -> usize
         ensures { result ≡ length (listed_in self.now) }
@@ -55,7 +55,7 @@ impl Writes<'_, '_> {
         }
     }
 
-    /// The one at a place.
+    /// The version at an index, with the number of its key.
     #[inline(always)]
     pub fn at(&self, i: usize) -> NumberedWrite
         requires { i < length (listed_in self.now) }

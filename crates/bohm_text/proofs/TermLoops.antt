@@ -1,6 +1,6 @@
 -- Terms that are added to a draft, one after the other.
 use Rattle.std.proofs.Common.{◌≡◌, ℕ, Bool, true, List, [], ◌∷◌, Some, None, Ok, Err, inl, inr, refl, ap, sym, subst, ◌∙◌, append_assoc}
-use Rattle.std.specs.Prelude.{Option, Result, ◌⊎◌, MatchOption}
+use Rattle.std.specs.Prelude.{Option, Result, ◌⊎◌}
 use Rattle.std.specs.Option.{option_map}
 use Rattle.std.specs.Result.{IsErrAnd}
 use Rattle.std.proofs.lemmas.List.{append-nil}
@@ -14,7 +14,7 @@ use Rattle.bohm_text.specs.declared.fault.ReadFault.TheVariants.{Bad, NoMemory}
 use Rattle.bohm_text.specs.declared.stops.Stop.{Stop}
 use Rattle.bohm_text.specs.declared.stops.Stop.TheVariants as stops
 use Rattle.bohm_text.specs.Print.{Words}
-use Rattle.bohm_text.specs.Reading.{◌>>=◌, Fails, first_of, sign_of, further_of, stop_of, Ending, End, When}
+use Rattle.bohm_text.specs.Reading.{◌>>=◌, Fails, first_of, sign_of, further_of, Ending, End, When}
 use Rattle.bohm_text.specs.Reading.{Compared, ending, Terms, longer, terms_of, sum_from, at_end, last_sum}
 use Rattle.bohm_text.specs.Signs.{behind_sign, end_of, sign_ahead}
 use Rattle.bohm_text.proofs.Again.{further_again}
@@ -57,11 +57,6 @@ unfolding terms_of
 terms_of-stop [] h = refl
 terms_of-stop (sign ∷ []) h = refl
 terms_of-stop (sign ∷ word ∷ words) h = rw h refl
-
-pub stopped_at : (r : Option Stop) (words w1 : Words) (word : List ℕ) → words ≡ word ∷ w1 → r ≡ stop_of word
-    → MatchOption r (end_of words ≡ None) (λ stop. end_of words ≡ Some ([], ending stop w1))
-stopped_at None words w1 word e is = rw (e, sym is) refl
-stopped_at (Some stop) words w1 word e is = rw (e, sym is) refl
 
 -- the sign that is ahead
 pub sign_taken : (words w1 : Words) (minus : Bool) → Some minus ≡ sign_ahead words → w1 ≡ behind_sign (Some minus) words

@@ -18,6 +18,7 @@ use Rattle.bohm_types.specs.Term.{Atom, Lit, Read, Local}
 use Rattle.bohm_txn.proofs.ForCallers.{same_key}
 use Rattle.bohm_text.specs.Print.{atom_word, first_word}
 use Rattle.bohm_text.specs.Reading.{◌>>=◌, digits_of, whole_of, lit_of, atom_of, first_of, sign_of, further_of, local_of}
+use Rattle.bohm_text.proofs.Digits.{digit_is}
 
 -- ---- steps that succeed
 
@@ -52,9 +53,6 @@ local_takes (c ∷ cs) x e =
     let p = if_some (c == 36) (key_of cs) x e in
     let k = key_takes cs x p.1 in
     (λ i. eqb-true c 36 p.0 i ∷ k.0 i, rw (← k.0) k.1)
-
-digit_is : (c : ℕ) → is_ascii_digit c ≡ true → (48 ≤ c) × (c ≤ 57)
-digit_is c e = grind (arith, nat_tests)
 
 value_is : (c : ℕ) → 48 ≤ c → c ≤ 57 → digit_value c ≡ c - 48
 value_is c low high = grind (arith, nat_tests)

@@ -1,4 +1,4 @@
--- Which word comes first, if others stand behind it.
+-- Which word comes first, if other words follow it.
 use Rattle.std.specs.Prelude.{ℕ, List, [], ◌∷◌, Bool, false}
 use Rattle.std.specs.Str.{bytes_eq}
 use Rattle.bohm_text.specs.Print.{Words}

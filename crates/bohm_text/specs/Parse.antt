@@ -16,15 +16,15 @@ use Rattle.bohm_text.specs.Step.{Nothing, Between, document_in, step, steps}
 abbrev pub newline_in : List ℕ → Option ℕ
 newline_in bytes = position_from (λ byte. byte == 10) 0 bytes
 
--- line n is the first with which the complete lines begin no document's text
+-- line n is the first line such that the complete lines up to it begin no document's text
 abbrev pub IsFirstFault : List (List ℕ) → ℕ → Type 0
 IsFirstFault = IsFirstRefused step Nothing
 
--- the complete lines begin some document's text, and the text is no document's
+-- the complete lines begin some document's text, but the text isn't a document's
 abbrev pub IsUnfinished : List ℕ → Type 0
 IsUnfinished = IsLeftOpen step Nothing Between
 
--- the text's lines, all of them complete, are those of the reader's document
+-- the text's lines are all complete, and are the lines of the reader's document
 abbrev pub IsReadAs : List ℕ → Reader → Type 0
 IsReadAs text reader = (steps Nothing (whole_lines text) ≡ Some (Between (document_in reader))) × (text_of (whole_lines text) ≡ text)
 
@@ -42,7 +42,7 @@ ReadsBehind e text (Err (Line n)) = IsFirstFault (whole_lines (headed e text)) (
 ReadsBehind e text (Err (Open n)) = IsUnfinished (headed e text) × (n ≡ length (whole_lines text))
 ReadsBehind e text (Err NoMemory) = Unit {0}
 
--- a window's fault as that of a whole text
+-- a window's fault as the fault of a whole text
 abbrev pub text_fault_of : WindowFault → TextFault
 text_fault_of (Line n) = texts.Line n
 text_fault_of (Open n) = texts.Short

@@ -33,7 +33,7 @@ atom_word (Local x) = local_word x
 abbrev pub first_word : Bool × Atom → List ℕ
 first_word t = (if t.0 then codes "-" else []) ++ atom_word t.1
 
--- a further term, its sign a word of its own
+-- a further term, its sign a separate word
 abbrev pub further_words : Bool × Atom → Words
 further_words t = (if t.0 then codes "-" else codes "+") ∷ atom_word t.1 ∷ []
 
@@ -113,7 +113,7 @@ abbrev pub reply_words : ℕ → Reply → Words
 reply_words t (Commit shows) = decimal t ∷ codes "commit" ∷ map signed_decimal shows
 reply_words t (Abort reason stmt) = decimal t ∷ codes "abort" ∷ reason_word reason ∷ decimal stmt ∷ []
 
--- the replies of transaction t and those after it
+-- the replies of transaction t and of the transactions after it
 abbrev pub reply_lines : ℕ → List Reply → List Words
 reply_lines t [] = []
 reply_lines t (r ∷ rs) = reply_words t r ∷ reply_lines (t + 1) rs

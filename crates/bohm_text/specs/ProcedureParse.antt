@@ -10,11 +10,11 @@ use Rattle.bohm_text.specs.Stepping.{IsFirstRefused, IsLeftOpen}
 use Rattle.bohm_text.specs.ProcedureText.{Nothing, Done, stage_after, stages}
 use Rattle.bohm_text.specs.ProcedureReading.{stage_of, IsReady}
 
--- line n is the first with which the complete lines begin no procedure's text
+-- line n is the first line such that the complete lines up to it begin no procedure's text
 abbrev pub IsFirstFault : List (List ℕ) → ℕ → Type 0
 IsFirstFault = IsFirstRefused stage_after Nothing
 
--- the complete lines begin some procedure's text, and the text is no procedure's
+-- the complete lines begin some procedure's text, but the text isn't a procedure's
 abbrev pub IsUnfinished : List ℕ → Type 0
 IsUnfinished = IsLeftOpen stage_after Nothing Done
 

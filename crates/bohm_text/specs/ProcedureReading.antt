@@ -16,7 +16,7 @@ use Rattle.bohm_text.specs.ProcedureText.{Stage, Keys, Values, Reading, Body, Do
 abbrev pub let_zero : List ℕ → Stmt
 let_zero x = Bind x ((false, Lit 0) ∷ [])
 
--- the draft is that of the own instance: its body begins with a statement for each value
+-- the draft is that of the procedure's own instance: its body begins with a statement for each value
 abbrev pub stage_at : ParamPlace → Edition → Words → Words → Drafted → Stage
 stage_at places.Keys e ks vs d = Keys e ks
 stage_at places.Values e ks vs d = Values e ks vs

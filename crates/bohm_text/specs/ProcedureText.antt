@@ -26,7 +26,7 @@ key_words k = codes "key" ∷ k ∷ []
 abbrev pub value_words : List ℕ → Words
 value_words x = codes "value" ∷ x ∷ []
 
--- from the reads on: as in a log's transaction
+-- the lines from the reads on, as in a log's transaction
 abbrev pub tail_lines : Words → Words → List Stmt → List Words
 tail_lines reads writes body = (codes "reads" ∷ reads) ∷ (codes "writes" ∷ writes) ∷ (map stmt_words body ++ (codes "end" ∷ []) ∷ [])
 
@@ -38,7 +38,7 @@ print_procedure p = lines_text (procedure_lines p)
 
 -- ---- the values of the type
 
--- names are distinct, and none is among those before
+-- the names are distinct, and none is among the names before them
 abbrev pub all_new : Words → Words → Bool
 all_new before [] = true
 all_new before (k ∷ ks) = not (is_among before k) && all_new (before ++ k ∷ []) ks
@@ -63,7 +63,7 @@ pub record IsProcedure (p : Procedure) : Type 0 where
 
 -- ---- lines
 
--- what the lines so far begin
+-- the part of a procedure that the lines so far spell
 pub data Stage : Type 0 where
   Nothing : Stage
   Keys : Edition → Words → Stage
@@ -116,6 +116,6 @@ stage_after (Body e ks vs reads writes body) line =
     else (stmt_of (split 32 line) >>= λ s. Some (Body e ks vs reads writes (body ++ s ∷ [])))
 stage_after (Done p) line = None
 
--- the effect of lines, after what comes before them
+-- the effect of lines, from the stage before them
 abbrev pub stages : Stage → List (List ℕ) → Option Stage
 stages = after_lines stage_after

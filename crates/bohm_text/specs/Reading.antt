@@ -1,4 +1,4 @@
--- Reading the words of a line from left to right: `None` if nothing is spelled so.
+-- Reading the words of a line from left to right: `None` if they spell nothing valid.
 use Rattle.std.specs.Prelude.{◌≡◌, ℕ, zero, suc, ℤ, pos, negsuc, ◌+◌, ◌-◌, ◌*◌, ◌^◌, List, [], ◌∷◌, Bool, true, false, ◌&&◌}
 use Rattle.std.specs.Prelude.{◌==◌, nat_lt, nat_le, Option, Some, None, Result, Ok, Err, if◌then◌else◌, codes, length}
 use Rattle.std.specs.Option.{option_map}
@@ -21,7 +21,7 @@ abbrev pub ◌>>=◌ : {A B : Type 0} → Option A → (A → Option B) → Opti
 (Some x) >>= f = f x
 None >>= f = None
 
--- a function failed because reading fails, or because of an allocation
+-- a function failed because the words spell nothing valid, or because an allocation failed
 abbrev pub Fails : {X : Type 0} → ReadFault → Option X → Type 0
 Fails Bad read = read ≡ None
 Fails NoMemory read = Unit {0}
@@ -32,7 +32,7 @@ Gives (Err e) read = Fails e read
 
 -- ---- numbers
 
--- digits that continue a number, at most the limit
+-- digits that continue a number, which stays within the limit
 unfoldable pub digits_of : ℕ → ℕ → List ℕ → Option ℕ
 digits_of limit n [] = Some n
 digits_of limit n (c ∷ cs) = if is_ascii_digit c && nat_le (n * 10 + (c - 48)) limit then digits_of limit (n * 10 + (c - 48)) cs else None
@@ -81,7 +81,7 @@ cmp_of word =
 
 -- ---- sums
 
--- what follows a sum, with the words after that
+-- what ends a sum, with the words after it
 pub data Ending : Type 0 where
   End : Ending
   When : Words → Ending
@@ -121,7 +121,7 @@ unfoldable pub sum_from : Words → Option Terms
 sum_from [] = None
 sum_from (word ∷ words) = first_of word >>= λ term. longer term (terms_of words)
 
--- the sum, if it ends the line
+-- the sum, if it is the last of the line
 abbrev pub at_end : Terms → Option (List (Bool × Atom))
 at_end (sum, End) = Some sum
 at_end (sum, When words) = None
@@ -140,7 +140,7 @@ abbrev pub local_of : List ℕ → Option (List ℕ)
 local_of [] = None
 local_of (c ∷ cs) = if c == 36 then key_of cs else None
 
--- what follows the word
+-- reads the words after the first word, which must be this word
 abbrev pub after : {X : Type 0} → List ℕ → (Words → Option X) → Words → Option X
 after word read [] = None
 after word read (w ∷ words) = if bytes_eq w word then read words else None
@@ -148,7 +148,7 @@ after word read (w ∷ words) = if bytes_eq w word then read words else None
 unfoldable pub last_sum : Words → Option (List (Bool × Atom))
 last_sum words = sum_from words >>= at_end
 
--- the right side after the left
+-- the right side, after the left was read
 abbrev pub right_side : Terms → Option Cond
 right_side (sum, End) = None
 right_side (sum, When words) = None
@@ -157,7 +157,7 @@ right_side (sum, Compared cmp words) = last_sum words >>= λ right. Some (record
 unfoldable pub cond_of : Words → Option Cond
 cond_of words = sum_from words >>= right_side
 
--- the write after its sum
+-- the write, after its sum was read
 abbrev pub guarded : List ℕ → Terms → Option Stmt
 guarded key (sum, End) = Some (Put key sum None)
 guarded key (sum, When words) = cond_of words >>= λ cond. Some (Put key sum (Some cond))

@@ -16,7 +16,7 @@ use Rattle.bohm_text.specs.Cut.{split}
 use Rattle.bohm_text.specs.Reading.{◌>>=◌, Fails, keys_of, after, stmt_of, entry_of}
 use Rattle.bohm_text.specs.Stepping.{after_lines}
 
--- what the lines so far begin: nothing yet; a document; or one whose next transaction is open, with its reads, its writes and some statements
+-- what the lines so far spell: nothing yet; a document; or a document whose next transaction is open, with its reads, its writes and some statements
 pub data Progress : Type 0 where
   Nothing : Progress
   Between : Document → Progress
@@ -74,7 +74,7 @@ step (Opened d) line = after (codes "reads") keys_of (split 32 line) >>= λ read
 step (Reading d reads) line = after (codes "writes") keys_of (split 32 line) >>= λ writes. Some (Body d reads writes [])
 step (Body d reads writes body) line = after_body d reads writes body line
 
--- the effect of lines, after what comes before them
+-- the effect of lines, from the progress before them
 abbrev pub steps : Progress → List (List ℕ) → Option Progress
 steps = after_lines step
 

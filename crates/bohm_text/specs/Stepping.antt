@@ -4,19 +4,19 @@ use Rattle.bohm_text.specs.Print.{text_of}
 use Rattle.bohm_text.specs.Cut.{whole_lines}
 use Rattle.bohm_text.specs.Reading.{◌>>=◌}
 
--- the effect of lines, by the effect of each, after what comes before them
+-- the effect of lines, from a state: that of each line, one after another
 abbrev pub after_lines : {S : Type 0} → (S → List ℕ → Option S) → S → List (List ℕ) → Option S
 after_lines step state [] = Some state
 after_lines step state (line ∷ lines) = step state line >>= λ next. after_lines step next lines
 
--- line n is the first with which the lines are refused
+-- line n is the first line at which the lines are refused
 pub record IsFirstRefused {S : Type 0} (step : S → List ℕ → Option S) (start : S) (lines : List (List ℕ)) (n : ℕ) : Type 0 where
   pub counted : 0 < n
   pub within : n ≤ length lines
   pub before : IsSome (after_lines step start (take (n - 1) lines))
   pub at : after_lines step start (take n lines) ≡ None
 
--- the complete lines are read, and the text is none of those that make a whole value
+-- the complete lines are read, but the text isn't that of a whole value
 pub record IsLeftOpen {S X : Type 0} (step : S → List ℕ → Option S) (start : S) (whole : X → S) (text : List ℕ) : Type 0 where
   pub state : S
   pub read : after_lines step start (whole_lines text) ≡ Some state

@@ -15,12 +15,12 @@ use Rattle.bohm_text.specs.declared.stops.Stop.{Stop}
 use Rattle.bohm_text.specs.Print.{Words}
 use Rattle.bohm_text.specs.Reading.{Fails, Terms, Ending, ending}
 
--- why a line is refused whose statement the draft refuses: no line has a sum without terms
+-- the fault of a line whose statement the draft refuses: no line has a sum without terms
 abbrev pub read_fault_of : SumFault → ReadFault
 read_fault_of Empty = Bad
 read_fault_of (Log fault) = NoMemory
 
--- why a line is refused that closes a transaction: no line ends within a statement
+-- the fault of a line that closes a transaction: no line ends within a statement
 abbrev pub closing_fault_of : CloseFault → ReadFault
 closing_fault_of closing.Open = Bad
 closing_fault_of (closing.Log fault) = NoMemory
@@ -44,7 +44,7 @@ with_reads d keys = record d { txn = record d.txn { reads = d.txn.reads ++ keys 
 abbrev pub with_writes : Drafted → Words → Drafted
 with_writes d keys = record d { txn = record d.txn { writes = d.txn.writes ++ keys } }
 
--- what was read was added to the draft, unless an allocation failed
+-- the value that was read was added to the draft, unless an allocation failed
 abbrev pub Takes : {X : Type 0} → Result (Unit {0}) ReadFault → Option X → (X → Drafted) → Drafted → Type 0
 Takes (Ok done) read add now = option_map add read ≡ Some now
 Takes (Err e) read add now = Fails e read

@@ -8,7 +8,7 @@ abbrev pub name_in : Target → List ℕ
 name_in (Declared place word) = word.now
 name_in (Named key) = key
 
--- a declared one is at its index
+-- a declared key is at its index
 abbrev pub StandsIn : Target → List (List ℕ) → Type 0
 StandsIn (Declared place word) writes = (slice_get writes place ≡ Some word.now) × (is_name word.now ≡ true)
 StandsIn (Named key) writes = Unit {0}

@@ -7,7 +7,7 @@ use Rattle.std.specs.Char.{is_ascii_lowercase, is_ascii_digit}
 abbrev pub is_word_byte : ℕ → Bool
 is_word_byte b = is_ascii_lowercase b || is_ascii_digit b || (b == 95) || (b == 36) || (b == 43) || (b == 45) || (b == 60) || (b == 61) || (b == 62)
 
--- or a space or a newline
+-- a byte of a word, a space or a newline
 abbrev pub IsTextByte : ℕ → Type 0
 IsTextByte b = (is_word_byte b || (b == 32) || (b == 10)) ≡ true
 
@@ -16,7 +16,7 @@ pub record IsApart (a b : ℕ) : Type 0 where
   pub after_space : a ≡ 32 → is_word_byte b ≡ true
   pub before_space : b ≡ 32 → is_word_byte a ≡ true
 
--- all adjacent bytes, after this one
+-- this holds of all adjacent bytes, where byte a precedes the others
 abbrev pub AreApart : ℕ → List ℕ → Type 0
 AreApart a [] = Unit {0}
 AreApart a (b ∷ bs) = IsApart a b × AreApart b bs

@@ -12,7 +12,7 @@ use Rattle.bohm_text.specs.Cut.{whole_lines}
 use Rattle.bohm_text.specs.Faults.{IsFirstBadLine, IsShort}
 use Rattle.bohm_text.specs.Windows.{segment, headed}
 
--- it is empty or ends with a newline
+-- the text is empty or ends with a newline
 abbrev pub IsWhole : List ℕ → Type 0
 IsWhole text = text_of (whole_lines text) ≡ text
 
@@ -22,12 +22,12 @@ pub record IsChunkOf (e : Edition) (window : List ℕ) (chunk : Chunk) : Type 0 
   pub print : print_doc (segment e chunk.log) ≡ headed e window
   pub lines : chunk.lines ≡ length (whole_lines window)
 
--- line n of it, counted from 1, is the first with which it begins no transactions
+-- line n of the window, counted from 1, is the first line such that the lines up to it begin no transactions
 pub record IsBadWindow (e : Edition) (window : List ℕ) (n : ℕ) : Type 0 where
   pub line : IsFirstBadLine (whole_lines (headed e window)) (n + 1)
   pub within : n ≤ length window
 
--- its lines begin transactions, but it isn't a text of complete ones
+-- the window's lines begin transactions, but the window isn't a text of complete transactions
 pub record IsOpenWindow (e : Edition) (window : List ℕ) (n : ℕ) : Type 0 where
   pub short : IsShort (headed e window)
   pub lines : n ≡ length (whole_lines window)

@@ -63,8 +63,8 @@ fn put_reply(out: &mut Vec<u8>, number: u64, reply: ReplyView<'_>) -> Result<(),
     Ok(())
 }
 
-/// Appends a line for each reply, numbered from a first number on. The time grows with the length
-/// of the lines. After an error the text has a prefix of them.
+/// Appends a line for each reply, numbered from `first`. The time grows with the length of the
+/// lines. After an error `out` contains a prefix of the lines.
 pub fn put_replies(out: &mut Vec<u8>, first: u64, replies: &Replies) -> Result<(), NoMemory>
     requires { first + length replies.now ≤ 2 ^ 64 }
     ensures { IfOk result
@@ -78,7 +78,7 @@ pub fn put_replies(out: &mut Vec<u8>, first: u64, replies: &Replies) -> Result<(
 }
 
 /// Appends the line `--`, then a line for each key. The time grows with the length of the lines.
-/// After an error the text has a prefix of them.
+/// After an error `out` contains a prefix of the lines.
 pub fn put_store(out: &mut Vec<u8>, entries: &[(Key, Value)]) -> Result<(), NoMemory>
     ensures { IfOk result (λ _. out.new.items ≡ out.old.items ++ print_store entries.now) }
 {
@@ -86,16 +86,16 @@ pub fn put_store(out: &mut Vec<u8>, entries: &[(Key, Value)]) -> Result<(), NoMe
     put_entries(out, entries)
 }
 
-/// The longest line of a reply without shows, with a number of ten digits.
+/// The length of the longest line of a reply without shows, with a number of ten digits.
 const REPLY_BYTES: usize = 27;
 
-/// The longest value, and the space before it.
+/// The length of the longest value, with the space before it.
 const VALUE_BYTES: usize = 21;
 
-/// The longest line of a key and a value.
+/// The length of the longest line of a key and a value.
 const ENTRY_BYTES: usize = 54;
 
-/// The most bytes that the replies take, if their numbers are timestamps.
+/// The maximum number of bytes that the replies take, if their numbers are timestamps.
 fn most_bytes(replies: &Replies) -> usize
     ensures { length replies.now < 2 ^ 64 }
 {
@@ -103,8 +103,8 @@ fn most_bytes(replies: &Replies) -> usize
     lines.saturating_add(replies.most_shows().saturating_mul(VALUE_BYTES))
 }
 
-/// An empty text with capacity for this many bytes, so that it isn't copied as it grows; without
-/// capacity if that allocation fails, since the text may be shorter.
+/// An empty text with capacity for `bytes` bytes, so that it isn't copied as it grows. If that
+/// allocation fails, the text has no capacity, since it may turn out shorter.
 fn with_room(alloc: Global, bytes: usize) -> Vec<u8>
     ensures { result.items ≡ [] }
 {
@@ -114,7 +114,8 @@ fn with_room(alloc: Global, bytes: usize) -> Vec<u8>
     }
 }
 
-/// A line for each reply, numbered from 1. Its time and memory grow with the length of the text.
+/// Prints a line for each reply, numbered from 1. Its time and memory grow with the length of the
+/// text.
 pub fn print_replies(alloc: Global, replies: &Replies) -> Result<Vec<u8>, NoMemory>
     ensures { IfOk result (λ text. text.items ≡ print_replies replies.now) }
 {
@@ -123,7 +124,7 @@ pub fn print_replies(alloc: Global, replies: &Replies) -> Result<Vec<u8>, NoMemo
     Ok(out)
 }
 
-/// A line for each reply, numbered from a first number on: the replies of a log's later segment.
+/// Prints a line for each reply, numbered from `first`, for the replies of a log's later segment.
 /// Its time and memory grow with the length of the text.
 pub fn print_numbered(alloc: Global, first: u64, replies: &Replies) -> Result<Vec<u8>, NoMemory>
     requires { first + length replies.now ≤ 2 ^ 64 }
@@ -134,8 +135,8 @@ pub fn print_numbered(alloc: Global, first: u64, replies: &Replies) -> Result<Ve
     Ok(out)
 }
 
-/// The line `--`, and then a line for each key. Its time and memory grow with the length of the
-/// text.
+/// Prints the line `--`, and then a line for each key. Its time and memory grow with the length of
+/// the text.
 pub fn print_store(alloc: Global, entries: &[(Key, Value)]) -> Result<Vec<u8>, NoMemory>
     ensures { IfOk result (λ text. text.items ≡ print_store entries.now) }
 {
@@ -144,8 +145,8 @@ pub fn print_store(alloc: Global, entries: &[(Key, Value)]) -> Result<Vec<u8>, N
     Ok(out)
 }
 
-/// A line for each reply, numbered from 1, and then the text of the store. Its time and memory grow
-/// with the length of the text.
+/// Prints a line for each reply, numbered from 1, and then the text of the store. Its time and
+/// memory grow with the length of the text.
 pub fn print_answer(
     alloc: Global,
     replies: &Replies,

@@ -6,7 +6,7 @@ use std::alloc::{AllocError, AllocFailed};
 /// Why a line could not be read.
 #[derive(Clone, Copy, Debug, PartialEq, Eq)]
 pub enum ReadFault {
-    /// It isn't spelled as any line that may stand there.
+    /// It isn't spelled like any line that is allowed there.
     Bad,
     NoMemory,
 }
@@ -44,9 +44,9 @@ impl From<bohm_types::NoMemory> for ReadFault {
     }
 }
 
-/// Indices have 32 bits, and each key, term and statement has bytes of its own. So a log, or a
-/// transaction, that was read from at most 4 GiB is never `Full`: only longer texts are refused for
-/// memory on that ground.
+/// Indices have 32 bits, and each key, term and statement takes its own bytes of the text. So a
+/// log, or a transaction, that was read from at most 4 GiB is never `Full`: only longer texts fail
+/// with `NoMemory` for that reason.
 impl From<LogFault> for ReadFault {
     ghost use Rattle.std.specs.Prelude.{◌≡◌};
     ghost use Rattle.bohm_text.specs.declared.fault.ReadFault.TheVariants.{NoMemory};
@@ -58,7 +58,7 @@ impl From<LogFault> for ReadFault {
     }
 }
 
-/// A statement whose sum has no terms is no valid line.
+/// A statement whose sum has no terms isn't a valid line.
 impl From<SumFault> for ReadFault {
     ghost use Rattle.std.specs.Prelude.{◌≡◌};
     ghost use Rattle.bohm_text.specs.Taking.{read_fault_of};
@@ -88,28 +88,30 @@ impl From<CloseFault> for ReadFault {
     }
 }
 
-/// Why a text isn't a document's. A complete line is one that a newline ends.
+/// Why a text isn't a document's. A complete line is one that ends with a newline.
 #[derive(Clone, Copy, Debug, PartialEq, Eq)]
 pub enum TextFault {
-    /// The complete lines before this one are a prefix of a document's text, and with this one they
-    /// are not. Lines count from 1.
+    /// The complete lines before this one are a prefix of a document's text, but with this one they
+    /// aren't. Lines are counted from 1.
     Line(u64),
     /// The complete lines are a prefix of a document's text, but the text isn't a document's.
     Short,
-    /// An allocation failed, or 32 bits of a column are full, which takes more than 4 GiB of text.
+    /// An allocation failed, or a column has run out of 32-bit indices, which takes more than 4 GiB
+    /// of text.
     NoMemory,
 }
 
-/// Why a window's text isn't that of whole transactions. Its lines count from 1.
+/// Why a window's text isn't the text of whole transactions. Its lines are counted from 1.
 #[derive(Clone, Copy, Debug, PartialEq, Eq)]
 pub enum WindowFault {
-    /// The complete lines before this one are a prefix of transactions, and with this one they are
-    /// not.
+    /// The complete lines before this one are a prefix of transactions, but with this one they
+    /// aren't.
     Line(u64),
-    /// The text ends inside a transaction. Its complete lines, this many, are a prefix of
-    /// transactions.
+    /// The text ends inside a transaction, inside a line, or inside the head and the store of a
+    /// first window. Its complete lines, of this number, are a prefix of what a window has.
     Open(u64),
-    /// An allocation failed, or 32 bits of a column are full, which takes more than 4 GiB of text.
+    /// An allocation failed, or a column has run out of 32-bit indices, which takes more than 4 GiB
+    /// of text.
     NoMemory,
 }
 

@@ -1,5 +1,5 @@
-//! Words that are expected, compared in place: they aren't sought byte by byte. Texts of at most four
-//! bytes are compared as one number.
+//! Comparison with expected words, in place and without a search byte by byte. Texts of at most
+//! four bytes are compared as one number.
 
 ghost use Rattle.std.specs.Prelude.{◌≡◌, ◌≢◌, ◌++◌, ◌∷◌, ◌||◌, IfSome, IfNone, MatchOption};
 ghost use Rattle.std.specs.Prelude.{List, ℕ, codes, false};
@@ -7,7 +7,7 @@ ghost use Rattle.std.specs.Str.{bytes_eq};
 ghost use Rattle.bohm_text.specs.Ahead.{is_ahead};
 ghost use Rattle.bohm_text.specs.Cut.{split};
 
-/// What follows a text at the beginning of a line.
+/// The rest of the line after `front`, if the line begins with it.
 #[inline(always)]
 fn behind<'a>(front: &[u8], line: &'a [u8]) -> Option<&'a [u8]>
     ensures some { IfSome result (λ rest. line.now ≡ front.now ++ rest.now) }
@@ -16,7 +16,7 @@ fn behind<'a>(front: &[u8], line: &'a [u8]) -> Option<&'a [u8]>
     line.strip_prefix(front)
 }
 
-/// What follows `reads` and a space at the beginning of a line.
+/// The rest of the line after `reads` and a space, if the line begins with them.
 #[inline(always)]
 pub fn behind_reads<'a>(line: &'a [u8]) -> Option<&'a [u8]>
     ensures { IfSome result (λ rest. split 32 line.now ≡ codes "reads" ∷ split 32 rest.now) }
@@ -24,7 +24,7 @@ pub fn behind_reads<'a>(line: &'a [u8]) -> Option<&'a [u8]>
     behind(b"s ", behind(b"read", line)?)
 }
 
-/// What follows `writes` and a space at the beginning of a line.
+/// The rest of the line after `writes` and a space, if the line begins with them.
 #[inline(always)]
 pub fn behind_writes<'a>(line: &'a [u8]) -> Option<&'a [u8]>
     ensures { IfSome result (λ rest. split 32 line.now ≡ codes "writes" ∷ split 32 rest.now) }
@@ -32,7 +32,7 @@ pub fn behind_writes<'a>(line: &'a [u8]) -> Option<&'a [u8]>
     behind(b"es ", behind(b"writ", line)?)
 }
 
-/// What follows `set` and a space at the beginning of a line.
+/// The rest of the line after `set` and a space, if the line begins with them.
 #[inline(always)]
 pub fn behind_set<'a>(line: &'a [u8]) -> Option<&'a [u8]>
     ensures { MatchOption result (is_ahead (codes "set") (split 32 line.now) ≡ false)
@@ -41,7 +41,7 @@ pub fn behind_set<'a>(line: &'a [u8]) -> Option<&'a [u8]>
     behind(b"set ", line)
 }
 
-/// What follows `need` and a space at the beginning of a line.
+/// The rest of the line after `need` and a space, if the line begins with them.
 #[inline(always)]
 pub fn behind_need<'a>(line: &'a [u8]) -> Option<&'a [u8]>
     ensures { MatchOption result (is_ahead (codes "need") (split 32 line.now) ≡ false)
@@ -50,7 +50,7 @@ pub fn behind_need<'a>(line: &'a [u8]) -> Option<&'a [u8]>
     behind(b" ", behind(b"need", line)?)
 }
 
-/// What follows an equals sign and a space at the beginning of some words.
+/// The rest of the words after an equals sign and a space, if the words begin with them.
 #[inline(always)]
 pub fn behind_equals<'a>(words: &'a [u8]) -> Option<&'a [u8]>
     ensures { IfSome result (λ rest. split 32 words.now ≡ codes "=" ∷ split 32 rest.now) }
@@ -58,7 +58,7 @@ pub fn behind_equals<'a>(words: &'a [u8]) -> Option<&'a [u8]>
     behind(b"= ", words)
 }
 
-/// Whether some words begin with `has` and a space.
+/// Whether the words begin with `has` and a space.
 #[inline(always)]
 fn begins_has(words: &[u8]) -> bool
     ensures { result ≡ is_ahead (codes "has") (split 32 words.now) }
@@ -66,7 +66,7 @@ fn begins_has(words: &[u8]) -> bool
     behind(b"has ", words).is_some()
 }
 
-/// Whether some words begin with `no` and a space.
+/// Whether the words begin with `no` and a space.
 #[inline(always)]
 fn begins_no(words: &[u8]) -> bool
     ensures { result ≡ is_ahead (codes "no") (split 32 words.now) }
@@ -74,7 +74,8 @@ fn begins_no(words: &[u8]) -> bool
     behind(b"no ", words).is_some()
 }
 
-/// Whether some words begin as a test of a key's presence does, with more words behind it.
+/// Whether the words begin with `has` or `no`, as a test of a key's presence does, and more words
+/// follow.
 #[inline(always)]
 pub fn begins_test(words: &[u8]) -> bool
     ensures { let all = split 32 words.now in
@@ -83,7 +84,7 @@ pub fn begins_test(words: &[u8]) -> bool
     begins_has(words) || begins_no(words)
 }
 
-/// Whether a word is this one.
+/// Whether the word is `text`.
 #[inline(always)]
 pub fn is_word(word: &[u8], text: &[u8]) -> bool
     ensures { result ≡ bytes_eq word.now text.now }

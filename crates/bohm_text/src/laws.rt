@@ -18,8 +18,8 @@ pub fn one_text()
         → print_doc d ≡ print_doc e → d ≡ e }
 {}
 
-/// A document's text ends with a newline. A space stands only between two words of a line: no two
-/// are adjacent, and none begins or ends a line. The only bytes are newlines, spaces, lower-case
+/// A document's text ends with a newline. Spaces occur only between two words of a line: no two are
+/// adjacent, and none begins or ends a line. The only bytes are newlines, spaces, lower-case
 /// letters, digits and `_ $ + - < = >`.
 pub fn tidy_text()
     ensures { (d : Document) → IsDocument d → IsTidy (print_doc d) }
@@ -31,7 +31,7 @@ pub fn one_procedure_text()
         → print_procedure p ≡ print_procedure q → p ≡ q }
 {}
 
-/// A text whose lines make a procedure is the procedure's text.
+/// A text whose lines form a procedure is the procedure's text.
 pub fn procedure_is_read()
     ensures { (text : List ℕ) (p : Procedure)
         → stages Nothing (whole_lines text) ≡ Some (Done p)

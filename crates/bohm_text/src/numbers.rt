@@ -5,7 +5,7 @@ ghost use Rattle.bohm_text.specs.Reading.{digits_of, whole_of, lit_of, number_of
 
 use bohm_types::GREATEST_LITERAL;
 
-/// At most 18 digits: their number is below each limit, so none is tested.
+/// Reads at most 18 digits. Their number is below every limit, so no limit is tested.
 #[inline(always)]
 fn read_few(digits: &[u8]) -> Option<u64>
     requires { length digits.now ≤ 18 }
@@ -22,7 +22,7 @@ fn read_few(digits: &[u8]) -> Option<u64>
     Some(number)
 }
 
-/// Digits of any count. Out of line, since few numbers have more than 18.
+/// Reads any count of digits. It isn't inlined, since few numbers have more than 18.
 #[inline(never)]
 fn read_digits(limit: u64, digits: &[u8]) -> Option<u64>
     requires { limit ≤ 2 ^ 63 }
@@ -34,7 +34,8 @@ fn read_digits(limit: u64, digits: &[u8]) -> Option<u64>
         if !byte.is_ascii_digit() {
             return None;
         }
-        // A greater one is above the limit with any digit behind it; others are so far below 2^64.
+        // A greater number exceeds the limit with any digit appended. Any other is so far below
+        // 2^64 that appending a digit doesn't overflow.
         if number > limit / 10 {
             return None;
         }

@@ -15,7 +15,7 @@ use bohm_log::{Doc, DrawnSeed, FixedSeed, HashSeed, Log};
 use bohm_types::Edition;
 use std::alloc::Global;
 
-/// The first whole line, and what follows its newline.
+/// The first whole line, and the rest of the text after its newline.
 #[inline(always)]
 pub fn split_line(text: &[u8]) -> Option<(&[u8], &[u8])>
     ensures none { IfNone result (whole_lines text.now ≡ []) }
@@ -102,14 +102,15 @@ fn read_doc(alloc: Global, seed: HashSeed, text: &[u8]) -> Result<Doc, TextFault
     }
 }
 
-/// The document whose print the text is. Its time and memory grow with the length of the text, and
-/// a line that is refused takes memory in proportion to its length at most. Names are hashed from
-/// the fixed seed: where strangers choose them, use `parse_with_seed`.
+/// Reads the document whose printed text this is. Its time and memory grow with the length of the
+/// text, and a refused line takes memory at most proportional to its length. Names are hashed with
+/// the fixed seed: if untrusted parties choose the names, use `parse_with_seed`.
 ///
 /// # Errors
 ///
-/// `Line` and `Short` say where the text stops being a prefix of a document's text. `NoMemory` says
-/// that an allocation failed; for a text of more than 4 GiB also that 32 bits of a column are full.
+/// `Line` and `Short` report where the text stops being a prefix of a document's text. `NoMemory`
+/// reports that an allocation failed or, for a text of more than 4 GiB, that a column has run out
+/// of 32-bit indices.
 pub fn parse(alloc: Global, text: &[u8]) -> Result<Doc, TextFault>
     ensures found { IfOk result (λ doc. print_doc doc ≡ text.now) }
     ensures sound { IfOk result IsDocument }
@@ -120,7 +121,7 @@ pub fn parse(alloc: Global, text: &[u8]) -> Result<Doc, TextFault>
     read_doc(alloc, HashSeed::from(FixedSeed), text)
 }
 
-/// The same, with names hashed from a drawn seed.
+/// Reads a document like `parse`, with names hashed with a drawn seed.
 pub fn parse_with_seed(alloc: Global, seed: DrawnSeed, text: &[u8]) -> Result<Doc, TextFault>
     ensures found { IfOk result (λ doc. print_doc doc ≡ text.now) }
     ensures sound { IfOk result IsDocument }

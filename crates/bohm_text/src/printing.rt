@@ -47,7 +47,7 @@ fn put_further(out: &mut Vec<u8>, term: TermParts) -> Result<(), NoMemory>
     put_atom(out, term.atom)
 }
 
-/// A sum, with a space before it.
+/// Appends a sum, with a space before it.
 fn put_sum(out: &mut Vec<u8>, sum: &SumView<'_>) -> Result<(), NoMemory>
     ensures { IfOk result (λ _. out.new.items ≡ out.old.items ++ spaced (sum_words sum.now)) }
 {
@@ -74,7 +74,7 @@ fn cmp_text(cmp: Cmp) -> &'static [u8]
     }
 }
 
-/// A condition, with a space before it.
+/// Appends a condition, with a space before it.
 fn put_cond(out: &mut Vec<u8>, cond: &CondView<'_>) -> Result<(), NoMemory>
     ensures { IfOk result
         (λ _. out.new.items ≡ out.old.items ++ spaced (cond_words (cond_shown cond.now))) }
@@ -96,7 +96,7 @@ fn put_guard(out: &mut Vec<u8>, guard: &Option<CondView<'_>>) -> Result<(), NoMe
     Ok(())
 }
 
-/// A word and a key.
+/// Appends a word and a key.
 fn put_key(out: &mut Vec<u8>, word: &[u8], key: Key) -> Result<(), NoMemory>
     ensures { IfOk result (λ _. out.new.items ≡ out.old.items ++ word.now ++ key) }
 {
@@ -137,7 +137,7 @@ fn put_stmt(out: &mut Vec<u8>, stmt: &StmtView<'_>) -> Result<(), NoMemory>
     Ok(())
 }
 
-/// A line of keys after a word.
+/// Appends a line that has a word and then the keys.
 fn put_set(out: &mut Vec<u8>, word: &[u8], keys: &Keys<'_>) -> Result<(), NoMemory>
     ensures { IfOk result
         (λ _. out.new.items ≡ out.old.items ++ line_text (word.now ∷ keys.now) ++ 10 ∷ []) }
@@ -151,7 +151,7 @@ fn put_set(out: &mut Vec<u8>, word: &[u8], keys: &Keys<'_>) -> Result<(), NoMemo
     Ok(())
 }
 
-/// A line for each statement of a transaction's body.
+/// Appends a line for each statement of a transaction's body.
 pub fn put_body(out: &mut Vec<u8>, txn: &TxnView<'_>) -> Result<(), NoMemory>
     ensures { IfOk result
         (λ _. out.new.items ≡ out.old.items ++ lines_text (map stmt_words txn.now.body)) }
@@ -192,7 +192,7 @@ pub fn put_value(out: &mut Vec<u8>, value: Value) -> Result<(), NoMemory>
     Ok(())
 }
 
-/// A line for each key of a store.
+/// Appends a line for each key of a store.
 pub fn put_entries(out: &mut Vec<u8>, entries: &[(Key, Value)]) -> Result<(), NoMemory>
     ensures { IfOk result
         (λ _. out.new.items ≡ out.old.items ++ lines_text (map store_words entries.now)) }
@@ -206,7 +206,7 @@ pub fn put_entries(out: &mut Vec<u8>, entries: &[(Key, Value)]) -> Result<(), No
     Ok(())
 }
 
-/// The one text of the document. Its time and memory grow with the length of the text.
+/// Prints the document's unique text. Its time and memory grow with the length of the text.
 pub fn print_doc(alloc: Global, doc: &Doc) -> Result<Vec<u8>, NoMemory>
     ensures { IfOk result (λ text. text.items ≡ print_doc doc.now) }
 {

@@ -43,14 +43,14 @@ pub enum ParamPlace {
     Done,
 }
 
-/// What the lines so far hold.
+/// The contents of the lines read so far.
 #[derive(Drop)]
 pub struct ProcedureReader {
     pub place: ParamPlace,
     pub edition: Edition,
     pub keys: Vec<Key>,
     pub values: Vec<Key>,
-    /// The own instance.
+    /// The procedure's own instance.
     pub draft: Draft<HashSeed>,
 }
 
@@ -283,7 +283,8 @@ pub fn read_procedure(
     }
 }
 
-/// Reads a procedure's text to its end, with the faults of a text.
+/// Reads a procedure's text to its end. `Line` and `Short` report where it stops being a prefix of
+/// a procedure's text.
 pub fn parse_procedure(
     alloc: Global,
     seed: HashSeed,

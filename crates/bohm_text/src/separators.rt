@@ -13,7 +13,7 @@ const LINE_BLOCK: usize = 32;
 /// How many bytes of a word are compared at once.
 const WORD_BLOCK: usize = 8;
 
-/// The first newline, if it is among the first bytes.
+/// The index of the first newline, if it is among the first `LINE_BLOCK` bytes.
 #[inline(always)]
 fn newline_near(bytes: &[u8]) -> Option<usize>
     requires { LINE_BLOCK ≤ length bytes.now }
@@ -28,7 +28,7 @@ fn newline_near(bytes: &[u8]) -> Option<usize>
     }
 }
 
-/// The first newline.
+/// The index of the first newline.
 #[inline(always)]
 #[tactic(auto, using(crate::proofs::Searches::first_newline))]
 pub fn newline_at(bytes: &[u8]) -> Option<usize>
@@ -43,7 +43,7 @@ pub fn newline_at(bytes: &[u8]) -> Option<usize>
     memchr(b'\n', bytes)
 }
 
-/// The first space, if it is among the first 8 bytes, and these are there.
+/// The index of the first space, if there are at least 8 bytes and it is among the first 8.
 #[inline(always)]
 pub fn space_near(bytes: &[u8]) -> Option<usize>
     ensures first { IfSome result
@@ -63,7 +63,7 @@ pub fn space_near(bytes: &[u8]) -> Option<usize>
     }
 }
 
-/// The first space.
+/// The index of the first space.
 #[inline(always)]
 pub fn space_at(bytes: &[u8]) -> Option<usize>
     ensures first { result ≡ position_from (λ byte. byte == 32) 0 bytes.now }

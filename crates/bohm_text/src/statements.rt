@@ -57,7 +57,7 @@ fn read_bind(draft: &mut Draft<HashSeed>, words: &mut Words) -> Result<(), ReadF
     Ok(())
 }
 
-/// Adds what a key is set to, and its guard.
+/// Adds the statement that sets the key to a sum, with its guard, if any.
 fn read_assigned(
     draft: &mut Draft<HashSeed>,
     target: &Target<'_>,
@@ -147,7 +147,7 @@ fn test_in<'a>(words: &Words<'a>) -> Option<(&'a [u8], &'a [u8])>
     }
 }
 
-/// Two words after `need` test a key's presence; more are a condition.
+/// Two words after `need` test a key's presence; more words are a condition.
 fn read_need(draft: &mut Draft<HashSeed>, words: &mut Words) -> Result<(), ReadFault>
     requires { IsBetween draft.old }
     ensures { TakesStmt result (need_of words.old) draft.old draft.new }
@@ -194,8 +194,8 @@ fn read_fail(draft: &mut Draft<HashSeed>, words: &mut Words) -> Result<(), ReadF
     Ok(())
 }
 
-/// Adds the statement that the words spell, if its verb is neither `set` nor `need`. It isn't inlined:
-/// few statements have other verbs.
+/// Adds the statement that the words spell, if its verb is neither `set` nor `need`. It isn't
+/// inlined, since few statements have other verbs.
 #[inline(never)]
 #[tactic(auto, unfolding(crate::specs::Verbs::other_of))]
 fn read_other(draft: &mut Draft<HashSeed>, words: &mut Words) -> Result<(), ReadFault>
@@ -218,8 +218,8 @@ fn read_other(draft: &mut Draft<HashSeed>, words: &mut Words) -> Result<(), Read
     }
 }
 
-/// Adds the statement that the line spells. After an `Err` the draft may hold a part of it. Most
-/// statements set or need: these two verbs are compared in place.
+/// Adds the statement that the line spells. After an `Err` the draft may hold part of it. `set` and
+/// `need`, the verbs of most statements, are compared in place.
 #[tactic(auto, using(crate::proofs::Verbs::other_verb), unfolding(crate::specs::Reading::stmt_of))]
 pub fn read_stmt(draft: &mut Draft<HashSeed>, line: &[u8]) -> Result<(), ReadFault>
     requires { IsBetween draft.old }
@@ -234,7 +234,7 @@ pub fn read_stmt(draft: &mut Draft<HashSeed>, line: &[u8]) -> Result<(), ReadFau
     read_other(draft, &mut Words::of(line))
 }
 
-/// A key of the store and its value.
+/// Reads a key of the store and its value.
 #[tactic(auto, unfolding(crate::specs::Reading::entry_of))]
 pub fn read_entry(words: &mut Words) -> Result<(Key, Value), ReadFault>
     ensures { Gives result (entry_of words.old) }

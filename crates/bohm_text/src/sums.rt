@@ -18,7 +18,7 @@ use crate::words::Words;
 use bohm_log::{AtomParts, Draft, HashSeed, Literal};
 use bohm_types::PackedWord;
 
-/// Adds the term of an atom, unless it is a literal that has no text.
+/// Adds the term of an atom. Fails if it is a literal that has no text.
 fn add_term(draft: &mut Draft<HashSeed>, minus: bool, atom: AtomParts) -> Result<(), ReadFault>
     ensures { Takes result (term_of minus (atom_shown atom)) (with_one draft.old) draft.new }
 {
@@ -47,7 +47,7 @@ fn take_named(draft: &mut Draft<HashSeed>, minus: bool, word: &[u8]) -> Result<(
     add_term(draft, minus, atom)
 }
 
-/// Whether a word begins with a digit, so that it spells a literal or nothing.
+/// Whether a word begins with a digit, so that it either spells a literal or is invalid.
 #[inline(always)]
 #[tactic(auto, unfolding(crate::specs::Reading::atom_of))]
 fn is_number(word: &[u8]) -> bool
@@ -76,8 +76,8 @@ fn take_literal(draft: &mut Draft<HashSeed>, minus: bool, word: &[u8]) -> Result
     Ok(())
 }
 
-/// `take_term` for a word that isn't a declared read where the cache last found one. It isn't inlined,
-/// so that the loop over terms needs fewer registers.
+/// `take_term` for a word that isn't a declared read where the cache last found one. It isn't
+/// inlined, so that the loop over terms needs fewer registers.
 #[inline(never)]
 fn take_other(draft: &mut Draft<HashSeed>, minus: bool, word: &[u8]) -> Result<(), ReadFault>
     ensures { Takes result (further_of minus word.now) (with_one draft.old) draft.new }

@@ -12,9 +12,9 @@ use bohm_types::{Cmp, Key, PackedWord};
 /// The key that a statement writes.
 #[derive(Drop)]
 pub enum Target<'a> {
-    /// The declared key at this index, which this word names. No `Key` is made of it.
+    /// The declared key at this index, which this word names. No `Key` is built from the word.
     Declared(u32, &'a [u8]),
-    /// Another key, or one that isn't where the cache last found it.
+    /// Another key, or a declared key that isn't where the cache last found it.
     Named(Key),
 }
 

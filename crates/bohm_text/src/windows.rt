@@ -18,12 +18,13 @@ pub struct Chunk {
     pub log: Log<HashSeed>,
     /// How many lines the window has.
     pub lines: u64,
-    /// Whether all keys that it doesn't share were numbered anew. Else each key that the log had
-    /// before keeps its number.
+    /// Whether all keys that the log doesn't share were renumbered. Otherwise each key that the log
+    /// had before keeps its number.
     pub renumbered: bool,
 }
 
-/// What a text's first window has: the edition, the starting store, and the transactions so far.
+/// The contents of a text's first window: the edition, the starting store, and the transactions so
+/// far.
 #[derive(Drop)]
 pub struct FirstWindow {
     pub edition: Edition,
@@ -33,13 +34,14 @@ pub struct FirstWindow {
     pub chunk: Chunk,
 }
 
-/// Reads the first window of a text, which is a document of its own. Its time and memory grow with
-/// the length of the window. Names are hashed from the seed.
+/// Reads the first window of a text, which is itself a document. Its time and memory grow with the
+/// length of the window. Names are hashed with the seed.
 ///
 /// # Errors
 ///
-/// `Line` and `Open` say where the window stops being a prefix of a document. `NoMemory` says that
-/// an allocation failed; for a window of more than 4 GiB also that 32 bits of a column are full.
+/// `Line` and `Open` report where the window stops being a prefix of a document. `NoMemory` reports
+/// that an allocation failed or, for a window of more than 4 GiB, that a column has run out of
+/// 32-bit indices.
 pub fn parse_first_window(
     alloc: Global,
     seed: DrawnSeed,
@@ -66,18 +68,19 @@ pub fn parse_first_window(
     })
 }
 
-/// Reads a window that follows others of a text of this edition, and begins with the line `txn`.
-/// The result doesn't depend on the windows before it, so windows are read in any order. The time
-/// and memory grow with the length of the window.
+/// Reads a later window of a text of this edition, which begins with the line `txn`. The result
+/// doesn't depend on the windows before it, so windows can be read in any order. The time and
+/// memory grow with the length of the window.
 ///
-/// The transactions go into this log, whose own are removed. Its keys keep their numbers, unless they
-/// are many more than it declared (`Log::clear`). Other names are hashed from the seed.
+/// The log's previous transactions are removed, and the window's transactions go into it. Its keys
+/// keep their numbers, unless they are many more than it declared (`Log::clear`). Other names are
+/// hashed with the seed.
 ///
 /// # Errors
 ///
-/// `Line` and `Open` say where the window stops being a prefix of transactions. `NoMemory` says
-/// that an allocation failed; for a window of more than 4 GiB also that 32 bits of a column are
-/// full.
+/// `Line` and `Open` report where the window stops being a prefix of transactions. `NoMemory`
+/// reports that an allocation failed or, for a window of more than 4 GiB, that a column has run out
+/// of 32-bit indices.
 pub fn parse_window(
     alloc: Global,
     seed: DrawnSeed,

@@ -10,7 +10,7 @@ use crate::separators::{space_at, space_near};
 use bohm_types::PackedWord;
 use std::marker::Model;
 
-/// What is left of a line: its words, with a space between two of them.
+/// The rest of a line: its words, with one space between adjacent words.
 #[derive(Drop)]
 pub struct Words<'a> {
     rest: Option<&'a [u8]>,
@@ -53,8 +53,8 @@ impl<'a> Words<'a> {
         Words { rest: self.rest }
     }
 
-    /// The sign of a further term, if the next word is a sign and another word follows it. Then it
-    /// is consumed.
+    /// The sign of a further term, if the next word is a sign and another word follows it. In that
+    /// case the sign is consumed.
     #[inline(always)]
     pub fn next_sign(&mut self) -> Option<bool>
         ensures sign { result ≡ sign_ahead self.old }
@@ -98,8 +98,9 @@ impl<'a> Words<'a> {
         }
     }
 
-    /// The next word, packed. Where it is short and 8 bytes of the line are left, they are read at once;
-    /// where fewer are left, they are packed first, and the last word is known by their number.
+    /// The next word, packed. If it is short and at least 8 bytes of the line are left, the 8 bytes
+    /// are read at once. If fewer are left, they are packed first, and the packed number shows
+    /// whether they are the last word.
     #[inline(always)]
     pub fn next_packed(&mut self) -> Option<PackedWord<'a>>
         ensures { MatchOption result ((self.old ≡ []) × (self.new ≡ []))

@@ -1,6 +1,5 @@
 -- A text that was printed from what a loose one says is its exact text.
-use Rattle.std.proofs.Common.{◌≡◌, ℕ, Bool, List, [], refl, ap, sym, ◌∙◌, inl, inr}
-use Rattle.std.specs.Prelude.{None}
+use Rattle.std.proofs.Common.{◌≡◌, ℕ, Bool, List, [], refl, ap, sym, ◌∙◌, inl}
 use Rattle.std.specs.List.{IsDistinct}
 use Rattle.std.specs.Str.{bytes_eq}
 use Rattle.bohm_types.specs.Document.{Document}
@@ -9,7 +8,7 @@ use Rattle.bohm_types.specs.Sound.{IsDocument}
 use Rattle.bohm_text.specs.Print.{print_doc}
 use Rattle.bohm_tidy.specs.Plain.{Written, written}
 use Rattle.bohm_tidy.specs.Settled.{settled}
-use Rattle.bohm_tidy.specs.Tidied.{IsExactDoc, IsTidied, IsTidiedByLines}
+use Rattle.bohm_tidy.specs.Tidied.{IsTidied, IsTidiedByLines}
 
 pub exactly : (text exact : List ℕ) (d : Document) → IsDocument d → print_doc d ≡ text → IsDistinct bytes_eq (names_of d.store)
     → exact ≡ print_doc (settled [] [] d) → IsTidied text exact
@@ -18,9 +17,6 @@ exactly text exact d sound prints distinct printed = record {
   reading = record { sound = sound; distinct = distinct; read = inl (record { prints = prints; no_reads = refl; no_writes = refl }) };
   is = printed;
 }
-
-pub by_lines : (text exact : List ℕ) → IsExactDoc text None → IsTidiedByLines text exact → IsTidied text exact
-by_lines text exact none t = record { loose = t.loose; reading = record { sound = t.sound; distinct = t.distinct; read = inr (none, t.read) }; is = t.is }
 
 -- a document that was read from the exact lines of a text, and printed
 pub read_by_lines : (text exact plain : List ℕ) (rs ws : List Bool) (w : Written) (d : Document) → w ≡ written text → w.text ≡ plain → w.no_reads ≡ rs

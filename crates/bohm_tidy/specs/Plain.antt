@@ -1,4 +1,4 @@
--- How lines that were written at ease become those of an exact text.
+-- How loosely written lines become lines of an exact text.
 use Rattle.std.specs.Prelude.{ℕ, List, [], ◌∷◌, ◌++◌, Bool, true, false, if◌then◌else◌, codes, take, drop}
 use Rattle.std.specs.Str.{bytes_eq}
 use Rattle.bohm_text.specs.Cut.{split}
@@ -7,7 +7,7 @@ use Rattle.bohm_tidy.specs.declared.plain.Place.TheVariants.{Between, Opened, Re
 use Rattle.bohm_tidy.specs.declared.plain.Plain.{Plain}
 use Rattle.bohm_tidy.specs.Line.{exact_line}
 
--- exact lines so far, which of their transactions lacked a line of reads and of writes, and which line comes next
+-- the exact lines so far, which of their transactions lacked a line of reads or of writes, and which line comes next
 pub record Written : Type 0 where
   pub place : Place
   pub text : List ℕ
@@ -20,7 +20,7 @@ written_of p = record { place = p.place; text = p.text.items; no_reads = p.no_re
 abbrev pub nothing : Written
 nothing = record { place = Between; text = []; no_reads = []; no_writes = [] }
 
--- signs are words by themselves in a transaction
+-- signs are separate words in a transaction
 abbrev pub signs_at : Place → Bool
 signs_at Between = false
 signs_at Opened = true
@@ -41,7 +41,7 @@ place_after Opened line = Reading
 place_after Reading line = Body
 place_after Body line = if bytes_eq line (codes "end") then Between else Body
 
--- a line of reads, or an empty one before a line that is none
+-- before a line of reads, or with an empty one added before any other line
 abbrev pub has_reads : Bool → Written → Written
 has_reads true w = record w { no_reads = w.no_reads ++ false ∷ [] }
 has_reads false w = record w { place = Reading; text = w.text ++ codes "reads\n"; no_reads = w.no_reads ++ true ∷ [] }
@@ -68,7 +68,7 @@ filled line w = let v = reads_at w.place line w in writes_at v.place line v
 abbrev pub with_line : List ℕ → Written → Written
 with_line line w = record w { place = place_after w.place line; text = w.text ++ line ++ 10 ∷ [] }
 
--- an exact line, if it has words
+-- with an exact line added, if it has words
 unfoldable pub added : List ℕ → Written → Written
 added [] w = w
 added (b ∷ bs) w = with_line (b ∷ bs) (filled (b ∷ bs) w)

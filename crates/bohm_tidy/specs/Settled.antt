@@ -1,4 +1,4 @@
--- A document whose keys are put in order.
+-- A document with sorted keys.
 use Rattle.std.specs.Prelude.{ℕ, List, [], ◌∷◌, ◌++◌, Bool, false, Option, Some, None, if◌then◌else◌}
 use Rattle.std.specs.FinMap.{entries}
 use Rattle.std.specs.List.{flat_map}
@@ -20,7 +20,7 @@ set_by Less k x xs others = k ∷ x ∷ xs
 set_by Equal k x xs others = x ∷ xs
 set_by Greater k x xs others = x ∷ others
 
--- a key put into a list whose keys rise, unless it is there
+-- a key inserted into a list of ascending keys, unless it is there
 unfoldable pub insert_key : List ℕ → List (List ℕ) → List (List ℕ)
 insert_key k [] = k ∷ []
 insert_key k (x ∷ xs) = set_by (slice_cmp nat_cmp k x) k x xs (insert_key k xs)
@@ -50,14 +50,14 @@ body_writes body = flat_map (λ s. the_key (target s)) body
 
 -- ---- documents
 
--- a transaction with its sets in order, where one is missing with what its body reads or writes
+-- a transaction with sorted sets; a missing set has what the body reads or writes
 abbrev pub settled_txn : Bool → Bool → Txn → Txn
 settled_txn no_reads no_writes t = record t {
   reads = key_set (if no_reads then body_reads t.body else t.reads);
   writes = key_set (if no_writes then body_writes t.body else t.writes);
 }
 
--- the first flag, and none where they are used up
+-- the first flag, or false if no flags are left
 abbrev pub first_flag : List Bool → Bool
 first_flag [] = false
 first_flag (b ∷ bs) = b
@@ -71,6 +71,6 @@ settled_log no_reads no_writes [] = []
 settled_log no_reads no_writes (t ∷ ts) = settled_txn (first_flag no_reads) (first_flag no_writes) t ∷ settled_log (other_flags no_reads)
     (other_flags no_writes) ts
 
--- the store by its keys; a transaction's flags say whether its reads, and its writes, are missing
+-- the store sorted by key, and the sets sorted; a transaction's flags say whether its reads, and its writes, are missing
 abbrev pub settled : List Bool → List Bool → Document → Document
 settled no_reads no_writes d = record d { store = entries (store_of d.store); log = settled_log no_reads no_writes d.log }

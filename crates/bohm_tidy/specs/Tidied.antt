@@ -1,4 +1,4 @@
--- What a text says that was written at ease, and the exact text of that.
+-- How a loosely written text is read, and its exact text.
 use Rattle.std.specs.Prelude.{◌≡◌, ◌≢◌, ◌⊎◌, ℕ, List, [], Bool, true, Option, Some, None}
 use Rattle.std.specs.List.{AllByRecursion, IsDistinct}
 use Rattle.std.specs.Str.{bytes_eq}
@@ -10,24 +10,24 @@ use Rattle.bohm_text.specs.Print.{print_doc}
 use Rattle.bohm_tidy.specs.Plain.{written}
 use Rattle.bohm_tidy.specs.Settled.{settled}
 
--- a document whose keys stand in any order, and for each of its transactions whether its reads, and its writes, are missing
+-- a document with its keys in any order, and for each of its transactions whether its reads, and its writes, are missing
 pub record Loose : Type 0 where
   pub document : Document
   pub no_reads : List Bool
   pub no_writes : List Bool
 
--- a document whose text it is, or there is none
+-- a document with this text, or there is none
 abbrev pub IsExactDoc : List ℕ → Option Document → Type 0
 IsExactDoc text (Some d) = IsDocument d × (print_doc d ≡ text)
 IsExactDoc text None = (d : Document) → IsDocument d → print_doc d ≢ text
 
--- an exact text is read as it stands
+-- an exact text is read unchanged
 pub record IsExact (text : List ℕ) (l : Loose) : Type 0 where
   pub prints : print_doc l.document ≡ text
   pub no_reads : l.no_reads ≡ []
   pub no_writes : l.no_writes ≡ []
 
--- another text is read by the exact lines that its lines make
+-- any other text is read as the exact lines made from its lines
 pub record IsByLines (text : List ℕ) (l : Loose) : Type 0 where
   pub prints : print_doc l.document ≡ (written text).text
   pub no_reads : l.no_reads ≡ (written text).no_reads
@@ -42,13 +42,13 @@ pub record IsReading (text : List ℕ) (l : Loose) : Type 0 where
 abbrev pub settled_text : Loose → List ℕ
 settled_text l = print_doc (settled l.no_reads l.no_writes l.document)
 
--- the exact text of what the loose text says
+-- the exact text of what a loose text is read as
 pub record IsTidied (text exact : List ℕ) : Type 0 where
   pub loose : Loose
   pub reading : IsReading text loose
   pub is : exact ≡ settled_text loose
 
--- the same, whether or not the text is exact already
+-- the exact text of what a loose text is read as by its lines, whether or not it is exact already
 pub record IsTidiedByLines (text exact : List ℕ) : Type 0 where
   pub loose : Loose
   pub sound : IsDocument loose.document
@@ -62,12 +62,12 @@ pub record HasRisingSets (t : Txn) : Type 0 where
   pub reads : rising t.reads ≡ true
   pub writes : rising t.writes ≡ true
 
--- the keys of the store and of all sets rise
+-- the keys of the store and of all sets ascend
 pub record HasRisingKeys (d : Document) : Type 0 where
   pub store : rising (names_of d.store) ≡ true
   pub log : AllByRecursion HasRisingSets d.log
 
--- an exact text whose keys rise
+-- an exact text whose keys ascend
 pub record IsTidyText (text : List ℕ) : Type 0 where
   pub document : Document
   pub sound : IsDocument document

@@ -71,7 +71,7 @@ fn add_target(keys: &mut Vec<Key>, target: Option<Key>) -> Result<(), NoMemory>
     Ok(())
 }
 
-/// Appends the keys that the transaction's body reads or tests, once for each time.
+/// Appends the keys that the transaction's body reads or tests, once for each read or test.
 pub fn add_body_reads(keys: &mut Vec<Key>, txn: &TxnView<'_>) -> Result<(), NoMemory>
     ensures { IfOk result (λ _. keys.new.items ≡ keys.old.items ++ body_reads txn.now.body) }
 {
@@ -81,7 +81,7 @@ pub fn add_body_reads(keys: &mut Vec<Key>, txn: &TxnView<'_>) -> Result<(), NoMe
     Ok(())
 }
 
-/// Appends the keys that the transaction's body writes, once for each time.
+/// Appends the keys that the transaction's body writes, once for each write.
 pub fn add_body_writes(keys: &mut Vec<Key>, txn: &TxnView<'_>) -> Result<(), NoMemory>
     ensures { IfOk result (λ _. keys.new.items ≡ keys.old.items ++ body_writes txn.now.body) }
 {

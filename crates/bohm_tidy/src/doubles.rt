@@ -21,7 +21,7 @@ pub fn first_double(alloc: Global, store: &[(Key, Value)]) -> Result<Places, NoM
     Ok(least_double(keys.as_slice()))
 }
 
-/// The pair that is found earlier in the store.
+/// The pair whose repeated entry is earlier in the store.
 fn earlier(one: Option<Places>, other: Places) -> Places {
     match one {
         Some(places) if places.again <= other.again => places,
@@ -29,7 +29,7 @@ fn earlier(one: Option<Places>, other: Places) -> Places {
     }
 }
 
-/// Among keys with their indices, sorted: the least index of an entry whose key occurs before it,
+/// Among sorted keys with their indices: the least index of an entry whose key occurs before it,
 /// and that key's first index.
 fn least_double(keys: &[(Key, usize)]) -> Places {
     let mut found = None;

@@ -17,7 +17,7 @@ pub fn add_keys(list: &mut Vec<Key>, keys: &Keys<'_>) -> Result<(), NoMemory>
     Ok(())
 }
 
-/// Sorts the keys, and keeps each once.
+/// Sorts the keys, and removes duplicates.
 fn settle(keys: &mut Vec<Key>)
     ensures { keys.new.items ≡ key_set keys.old.items }
 {
@@ -25,7 +25,7 @@ fn settle(keys: &mut Vec<Key>)
     keys.dedup();
 }
 
-/// A line with the keys of a set after a word.
+/// Appends a line with the keys of a set after a word.
 pub fn put_set(out: &mut Vec<u8>, word: &[u8], keys: &mut Vec<Key>) -> Result<(), NoMemory>
     ensures { IfOk result
         (λ _. out.new.items ≡ out.old.items ++ line_text (word.now ∷ key_set keys.old.items) ++ 10 ∷ []) }
@@ -34,7 +34,7 @@ pub fn put_set(out: &mut Vec<u8>, word: &[u8], keys: &mut Vec<Key>) -> Result<()
     put_keys(out, word, keys.as_slice())
 }
 
-/// A line with keys after a word.
+/// Appends a line with keys after a word.
 fn put_keys(out: &mut Vec<u8>, word: &[u8], keys: &[Key]) -> Result<(), NoMemory>
     ensures { IfOk result
         (λ _. out.new.items ≡ out.old.items ++ line_text (word.now ∷ keys.now) ++ 10 ∷ []) }

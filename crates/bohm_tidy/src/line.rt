@@ -23,7 +23,7 @@ pub enum Gap {
     Atom,
 }
 
-/// Whether it is a byte of a sign or of a comparison.
+/// Whether a byte is part of a sign or of a comparison.
 fn is_sign(byte: u8) -> bool
     ensures { result ≡ is_sign byte }
 {
@@ -40,7 +40,7 @@ fn is_cut(byte: u8, next: u8) -> bool
     is_sign(byte) || is_sign(next)
 }
 
-/// The byte; a space for a tab.
+/// The byte, or a space for a tab.
 fn shown(byte: u8) -> u8
     ensures { result ≡ shown byte }
 {
@@ -61,8 +61,8 @@ fn put_byte(out: &mut Vec<u8>, signs: bool, before: u8, byte: u8) -> Result<(), 
     Ok(())
 }
 
-/// Appends the bytes with a space between any two words. `signs` says whether a sign is a word of
-/// its own.
+/// Appends the bytes with a space between any two words. `signs` says whether a sign is a separate
+/// word.
 #[tactic(auto, unfolding(crate::specs::Line::apart))]
 fn set_apart(out: &mut Vec<u8>, signs: bool, bytes: &[u8]) -> Result<(), NoMemory>
     ensures { IfOk result (λ _. out.new.items ≡ out.old.items ++ apart signs 32 bytes.now) }
@@ -75,7 +75,7 @@ fn set_apart(out: &mut Vec<u8>, signs: bool, bytes: &[u8]) -> Result<(), NoMemor
     Ok(())
 }
 
-/// The gap after a sign, or after an atom.
+/// The gap after a word that is a sign, or an atom.
 #[tactic(auto, unfolding(crate::specs::Line::gap_behind))]
 fn gap_behind(word: &[u8]) -> Gap
     ensures { result ≡ gap_behind word.now }
@@ -137,7 +137,7 @@ fn without_return(line: &[u8]) -> &[u8]
     }
 }
 
-/// What stands before a comment.
+/// The line up to a comment.
 fn before_comment(line: &[u8]) -> &[u8]
     ensures { result.now ≡ before_comment line.now }
 {
@@ -149,7 +149,7 @@ fn before_comment(line: &[u8]) -> &[u8]
 
 /// Appends the line as it is in an exact text, without its newline: its words with a space between
 /// two of them, without its comment. A line without words appends nothing. `signs` says whether the
-/// signs of sums and comparisons are words of their own. `room` is working memory.
+/// signs of sums and comparisons are separate words. `room` is a working buffer.
 pub fn put_line(
     out: &mut Vec<u8>,
     room: &mut Vec<u8>,

@@ -18,14 +18,14 @@ pub enum Place {
     Between,
     /// The reads of the transaction that was opened.
     Opened,
-    /// Its writes.
+    /// The writes of that transaction.
     Reading,
-    /// A statement or its closing.
+    /// A statement, or the transaction's closing.
     Body,
 }
 
 /// The lines of an exact text made from those of a loose one. If a transaction lacks the line of
-/// its reads or of its writes, an empty one is added, and noted.
+/// its reads or of its writes, an empty line is added, and recorded.
 #[derive(Drop)]
 pub struct Plain {
     pub place: Place,
@@ -38,7 +38,7 @@ pub struct Plain {
     room: Vec<u8>,
 }
 
-/// Whether signs are words of their own.
+/// Whether signs are separate words.
 fn signs_at(place: Place) -> bool
     ensures { result ≡ signs_at place }
 {
@@ -48,7 +48,7 @@ fn signs_at(place: Place) -> bool
     }
 }
 
-/// Whether the line's first word is this.
+/// Whether this is the line's first word.
 fn begins(line: &[u8], word: &[u8]) -> bool
     ensures { result ≡ begins line.now word.now }
 {
@@ -191,8 +191,8 @@ pub fn plain_text(alloc: Global, text: &[u8]) -> Result<Plain, NoMemory>
     Ok(plain)
 }
 
-/// The lines of an exact text that the first lines of a loose one are read as, and all of them where
-/// it has fewer. The time grows with those lines.
+/// The exact lines that the first `lines` lines of a loose text are read as, or all of them if it
+/// has fewer. The time grows with the length of those lines.
 pub fn read_as(alloc: Global, text: &[u8], lines: u64) -> Result<Vec<u8>, NoMemory> {
     let mut plain = Plain::new(alloc);
     let mut rest = without_mark(text);
@@ -211,8 +211,8 @@ pub fn read_as(alloc: Global, text: &[u8], lines: u64) -> Result<Vec<u8>, NoMemo
     Ok(plain.text)
 }
 
-/// The line of the loose text, counted from 1, that the byte at this place of the plain text was
-/// made of, or the last one where that has no such place.
+/// The line of the loose text, counted from 1, from which the byte at this index of the plain text
+/// was made, or the last line if the plain text has no such byte.
 pub fn line_at(alloc: Global, text: &[u8], place: usize) -> Result<u64, NoMemory> {
     let mut plain = Plain::new(alloc);
     let mut rest = without_mark(text);

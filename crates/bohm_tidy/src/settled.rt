@@ -16,7 +16,8 @@ use bohm_text::{put_body, put_entries};
 use bohm_types::{Edition, Key, NoMemory, Value};
 use std::alloc::Global;
 
-/// The line of its reads; of what its body reads, if they are missing.
+/// The line of the transaction's reads, or of the keys that its body reads if the reads are
+/// missing.
 fn put_reads(
     out: &mut Vec<u8>,
     keys: &mut Vec<Key>,
@@ -35,7 +36,8 @@ fn put_reads(
     put_set(out, b"reads", keys)
 }
 
-/// The line of its writes; of what its body writes, if they are missing.
+/// The line of the transaction's writes, or of the keys that its body writes if the writes are
+/// missing.
 fn put_writes(
     out: &mut Vec<u8>,
     keys: &mut Vec<Key>,
@@ -54,7 +56,7 @@ fn put_writes(
     put_set(out, b"writes", keys)
 }
 
-/// A transaction with sorted sets. `keys` is working memory.
+/// A transaction with sorted sets. `keys` is a working buffer.
 fn put_txn(
     out: &mut Vec<u8>,
     keys: &mut Vec<Key>,
@@ -73,7 +75,7 @@ fn put_txn(
     Ok(())
 }
 
-/// The first flag and the others. Once there are no more flags, nothing is missing.
+/// The first flag and the others. With no flags left, nothing is missing.
 fn split_flag(flags: &[bool]) -> (bool, &[bool])
     ensures first { result.0 ≡ first_flag flags.now }
     ensures others { result.1.now ≡ other_flags flags.now }

@@ -91,7 +91,7 @@ fn tidy_exactly(alloc: Global, doc: &Doc) -> Result<Vec<u8>, TidyFault>
 }
 
 /// The exact text of a loosely written log: with comments, free spacing, keys in any order, and
-/// missing sets. Names are hashed from the seed. The time grows with the length of the text, and
+/// missing sets. Names are hashed with the seed. The time grows with the length of the text, and
 /// with the number n of the keys of a set or of the store as n log n; the memory grows with the
 /// text.
 ///

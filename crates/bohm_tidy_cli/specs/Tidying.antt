@@ -4,14 +4,14 @@ use Rattle.std.specs.Io.KnownBytes.{Appends}
 use Rattle.bohm_answer.specs.Bytes.{ReadsAll, Sends}
 use Rattle.bohm_tidy.specs.Tidied.{IsTidied}
 
--- all that the reader had is a text whose exact text this is, and that isn't too long
+-- the reader's whole input is a text with this exact text, which isn't too long
 pub record ReadsLoose (unread unread' : Option (List ℕ)) (exact : List ℕ) : Type 0 where
   pub text : List ℕ
   pub read : ReadsAll unread unread' text
   pub tidied : IsTidied text exact
   pub short : length exact ≤ 67108864
 
--- the exact text was written and nothing else
+-- only the exact text was written
 pub record Tidies (unread unread' written written' : Option (List ℕ)) : Type 0 where
   pub exact : List ℕ
   pub loose : ReadsLoose unread unread' exact

@@ -8,17 +8,17 @@ Writes the exact text of the log of transactions on standard input, which may be
 loosely written:
 
   - comments, from # to the end of a line, and empty lines
-  - spaces and tabs before, between and after words; lines that end as on
-    Windows; a byte order mark; no newline after the last line
+  - spaces and tabs before, between and after words; Windows line endings; a
+    byte order mark; no newline after the last line
   - sums, comparisons and = without spaces: set a=b+c-5 when d<=0
   - the keys of the store, of reads and of writes in any order, and a key of
     reads or of writes more than once
-  - no reads or no writes: a line is added with what the body reads or writes
+  - reads or writes left out: a line is added with what the body reads or writes
 
-bohm, check and explain take the exact text. Nothing is run, and undeclared keys
-and the like are left for check to report.";
+bohm, check and explain accept the exact text. Nothing is run; check reports
+undeclared keys and the like.";
 
-/// What help says below them.
+/// What help says below the options.
 const AFTER_HELP: &str = "\
 Example:
 
@@ -45,19 +45,19 @@ becomes
   set bob = bob + 30
   end
 
-What is refused: a line that can't be read; a text that ends too soon; a key that
-the store names twice; more than 67108864 bytes, of the text or of the exact one.
-Below the refusal stands what is wrong, as check says it: the line of the text
-that was handed in, a caret, what was expected, and a line that mends it.
+tidy refuses a line that can't be parsed, a text that ends too soon, a key that the
+store names twice, and more than 67108864 bytes, of the text or of the exact text.
+Below the refusal is what is wrong, as check reports it: the line of the text as it
+was given, a caret, what was expected, and a corrected line.
 
-Start it so:
+To run it:
   tidy < loose.log > exact.log
   tidy < loose.log | bohm
 
 Exit status:
   0  the exact text was printed, or this help
   1  the text was refused: standard error says why, and nothing was printed
-  2  the words were refused: standard error says why";
+  2  the arguments were refused: standard error says why";
 
 /// The program.
 pub const TIDY: Program<'static> = Program {

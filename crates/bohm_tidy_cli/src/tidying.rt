@@ -1,4 +1,4 @@
-//! Tidies a log from bytes to bytes.
+//! Tidies a log, from bytes to bytes.
 
 ghost use Rattle.std.specs.Prelude.{◌≡◌, ◌≤◌, ℕ, length, IfOk, IfErr, OnOk, Err};
 ghost use Rattle.bohm_answer.specs.Refusing.{IsBeforeWriting};
@@ -16,7 +16,7 @@ use std::alloc::Global;
 use std::io::{Read, Write};
 use std::random::RandomSource;
 
-/// The refusal of a text that is no log's.
+/// The refusal of a text that isn't a log's.
 fn refusal_of(fault: TidyFault) -> RunFault
     ensures { IsBeforeWriting result }
 {
@@ -32,7 +32,7 @@ fn refusal_of(fault: TidyFault) -> RunFault
     }
 }
 
-/// The message about a text that is no log's.
+/// The message about a text that isn't a log's.
 fn put_refusal(
     alloc: Global,
     report: &mut Vec<u8>,
@@ -61,8 +61,8 @@ fn put_refusal(
     }
 }
 
-/// The exact text, if it isn't too long for a text. A message on why the text is no log's is added
-/// to the report, as far as allocations succeed.
+/// The exact text, if it isn't too long. A message about why the text isn't a log's is added to the
+/// report, as long as allocations succeed.
 fn exact_text<T: RandomSource>(
     rt: &T,
     alloc: Global,
@@ -84,10 +84,10 @@ fn exact_text<T: RandomSource>(
     }
 }
 
-/// Reads a text to the reader's end, and writes the exact text of the log that it loosely is, and
-/// nothing else. The whole text is made before the first byte is written. Every failure of a reader
-/// or a writer counts, an interrupted call too. A message for people on why a text is refused is
-/// added to the report, as far as allocations succeed.
+/// Reads a loosely written log to the reader's end, and writes only its exact text. The whole text
+/// is made before the first byte is written. Every failure of a reader or a writer is an error,
+/// even an interrupted call. A message for people about why a text is refused is added to the
+/// report, as long as allocations succeed.
 pub fn tidy_text<T: RandomSource, R: Read, W: Write>(
     rt: &T,
     alloc: Global,
@@ -103,7 +103,7 @@ pub fn tidy_text<T: RandomSource, R: Read, W: Write>(
         → StopsTidying (R.remaining reader.old) (R.remaining reader.new) (W.contents writer.old)
         (W.contents writer.new) sent }
 
-    // Before all faults but a failed write the writer is untouched.
+    // If the fault isn't a failed write, the writer is untouched.
     ensures untouched { IfErr result (λ e. IsBeforeWriting e → writer.new ≡ writer.old) }
 {
     let text = read_all(alloc, reader)?;

@@ -1,55 +1,23 @@
-//! Logs that are drawn by a seeded generator.
+//! Logs drawn by a seeded generator.
 
-ghost use Rattle.std.specs.Prelude.{◌<◌, length};
-
-use crate::runs::checked;
+use bohm_layer_trials::{Draws, checked, one_of};
 use bohm_run::Settings;
 use bohm_txn::Checked;
 use bohm_types::NoMemory;
 use std::alloc::Global;
 use std::process::Abort;
 
-/// Numbers that a seed determines.
-#[derive(Clone, Copy)]
-pub struct Draws {
-    state: u64,
+/// Settings with up to four workers on each side.
+pub fn drawn_settings(draws: &mut Draws) -> Option<Settings> {
+    let cc = one_of(draws, &[1, 2, 3, 4]);
+    let exec = one_of(draws, &[1, 2, 3, 4]);
+    let parts = one_of(draws, &[1, 2, 7, 64]);
+    let batch = one_of(draws, &[1, 3, 7, 4096]);
+    let keep = one_of(draws, &[0, 1, 3, 4096]);
+    Settings::new(cc, exec, parts, batch, keep, None)
 }
 
-impl Draws {
-    pub fn new(seed: u32) -> Draws {
-        Draws {
-            state: u64::from(seed),
-        }
-    }
-
-    /// A number below this one, of the upper half of a linear congruential generator's state.
-    fn below(&mut self, count: usize) -> usize
-        requires { 0 < count }
-        ensures { result < count }
-    {
-        let product = self.state.wrapping_mul(6_364_136_223_846_793_005);
-        self.state = product.wrapping_add(1_442_695_040_888_963_407);
-        (self.state / 4_294_967_296 % count as u64) as usize
-    }
-
-    /// Settings of up to four workers on each side.
-    pub fn settings(&mut self) -> Option<Settings> {
-        let cc = one_of(self, &[1, 2, 3, 4]);
-        let exec = one_of(self, &[1, 2, 3, 4]);
-        let parts = one_of(self, &[1, 2, 7, 64]);
-        let batch = one_of(self, &[1, 3, 7, 4096]);
-        let keep = one_of(self, &[0, 1, 3, 4096]);
-        Settings::new(cc, exec, parts, batch, keep, None)
-    }
-}
-
-fn one_of<T: Copy>(draws: &mut Draws, choices: &[T]) -> T
-    requires { 0 < length choices.now }
-{
-    choices[draws.below(choices.len())]
-}
-
-/// Keys for a log: a key is the likelier the more often it occurs here.
+/// Keys for a log; a key is drawn the more often, the more often it occurs here.
 const KEYS: [[u8; 6]; 4] = [*b"aaabbc", *b"aabbcd", *b"aabcde", *b"abcdef"];
 
 /// Numbers of a starting store.
@@ -64,7 +32,7 @@ const VALUES: [&[u8]; 8] = [
     b"-9223372036854775808",
 ];
 
-/// Numbers in sums: none is 0, which has no sign before it.
+/// Numbers in sums. None is 0, which can't follow a minus.
 const LITERALS: [&[u8]; 6] = [
     b"1",
     b"2",
@@ -76,8 +44,8 @@ const LITERALS: [&[u8]; 6] = [
 
 const COMPARISONS: [&[u8]; 5] = [b"<", b"<=", b"=", b">=", b">"];
 
-/// Statements: `?` stands for a key that is read, `^` for one that is written, `#` for a number and
-/// `~` for a comparison.
+/// Statements: `?` represents a key that is read, `^` a key that is written, `#` a number and `~` a
+/// comparison.
 const STATEMENTS: [&[u8]; 22] = [
     b"set ^ = #",
     b"set ^ = ?",
@@ -103,7 +71,7 @@ const STATEMENTS: [&[u8]; 22] = [
     b"fail",
 ];
 
-/// Statements after one that binds `$x`.
+/// Statements that may follow one that binds `$x`.
 const BOUND: [&[u8]; 5] = [
     b"set ^ = $x",
     b"set ^ = $x + ?",
@@ -121,7 +89,7 @@ struct Named {
     written: Vec<u8>,
 }
 
-/// Appends what a symbol of a statement stands for.
+/// Appends what a symbol of a statement represents.
 fn put_symbol(
     text: &mut Vec<u8>,
     named: &mut Named,
@@ -161,7 +129,7 @@ fn put_stmt(
     Ok(())
 }
 
-/// Up to five statements.
+/// Appends up to five statements.
 fn put_body(
     text: &mut Vec<u8>,
     named: &mut Named,
@@ -184,7 +152,7 @@ fn put_body(
     Ok(())
 }
 
-/// A line of these words and the keys.
+/// Appends a line with this word and these keys.
 fn put_keys(text: &mut Vec<u8>, word: &[u8], keys: &[u8]) -> Result<(), NoMemory> {
     text.extend_from_slice(word)?;
     for key in b"abcdef" {
@@ -197,7 +165,7 @@ fn put_keys(text: &mut Vec<u8>, word: &[u8], keys: &[u8]) -> Result<(), NoMemory
     Ok(())
 }
 
-/// A transaction, which now and then declares a key more than it names.
+/// Appends a transaction, which sometimes declares to write one more drawn key.
 fn put_txn(rt: &impl Abort, alloc: Global, text: &mut Vec<u8>, draws: &mut Draws, keys: &[u8; 6]) {
     let mut body = Vec::new(alloc);
     let mut named = Named {
@@ -212,7 +180,7 @@ fn put_txn(rt: &impl Abort, alloc: Global, text: &mut Vec<u8>, draws: &mut Draws
     put_parts(text, &named, body.as_slice()).expect(rt, "memory");
 }
 
-/// A transaction of these keys and this body.
+/// Appends a transaction with these keys and this body.
 fn put_parts(text: &mut Vec<u8>, named: &Named, body: &[u8]) -> Result<(), NoMemory> {
     text.extend_from_slice(b"txn\n")?;
     put_keys(text, b"reads", named.read.as_slice())?;
@@ -258,5 +226,6 @@ pub fn drawn_text(rt: &impl Abort, alloc: Global, seed: u32, count: u32) -> Vec<
 
 /// A log of this many transactions that the seed determines.
 pub fn drawn(rt: &impl Abort, alloc: Global, seed: u32, count: u32) -> Checked {
-    checked(rt, alloc, drawn_text(rt, alloc, seed, count).as_slice())
+    let text = drawn_text(rt, alloc, seed, count);
+    checked(alloc, text.as_slice()).expect(rt, "a log")
 }

@@ -3,7 +3,7 @@
 use std::alloc::Global;
 use std::io::{self, ErrorKind, Read, Write};
 
-/// How many calls succeed before one fails, and with what.
+/// How many calls succeed before one fails, and the kind of its error.
 #[derive(Clone, Copy)]
 pub struct Failure {
     pub calls: Option<u32>,
@@ -25,7 +25,7 @@ impl Failure {
         }
     }
 
-    /// The next call's result. The failure comes once.
+    /// The next call's result. It fails only once.
     fn next(&mut self) -> io::Result<()> {
         match self.calls {
             None => Ok(()),
@@ -41,7 +41,7 @@ impl Failure {
     }
 }
 
-/// Returns at most `most` of its bytes a call.
+/// A reader that returns at most `most` of its bytes a call.
 #[derive(Drop)]
 pub struct FakeReader<'a> {
     pub bytes: &'a [u8],
@@ -57,7 +57,7 @@ impl Read for FakeReader<'_> {
     }
 }
 
-/// Stores what it accepts, at most `most` bytes a call.
+/// A writer that stores what it accepts, at most `most` bytes a call.
 #[derive(Drop)]
 pub struct FakeWriter {
     pub taken: Vec<u8>,

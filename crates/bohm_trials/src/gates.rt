@@ -1,7 +1,8 @@
-//! Runs whose threads are held or counted at gates, with answers that were made by hand.
+//! Runs whose threads are held or counted at gates, with answers computed by hand.
 
-use crate::runs::{checked, counters, cuts, run_told, settings};
+use crate::runs::{cuts, run_told, settings};
 use bohm_exec::{Gate, Point};
+use bohm_layer_trials::{CountingGate, checked, counters};
 use bohm_txn::Checked;
 use std::process::Abort;
 use std::random::RandomSource;
@@ -105,9 +106,9 @@ set b = b + 1
 end
 ";
 
-/// Runs it on two workers, of which one is held.
+/// Runs `APART` on two workers, one of which is held.
 fn two_held_so<R: Abort + AllocGlobal + Threads + Wait + Sync + RandomSource>(rt: &R, hold: Hold) {
-    let log = checked(rt, rt.alloc(), APART);
+    let log = checked(rt.alloc(), APART).expect(rt, "a log");
     let answer = b"1 commit\n2 commit\n--\na 2\nb 2\n";
     held_so(rt, &log, &[2], "exec 2", &[hold], answer);
 }
@@ -118,7 +119,7 @@ fn two_at_once(rt: HostRuntime) {
     two_held_so(&rt, Hold::new(Point::Claimed(2), &[Point::Finished(1)]));
 }
 
-/// The second transaction reads what the first writes; the others touch keys of their own.
+/// The second transaction reads what the first writes; the others use their own keys.
 const INDEPENDENT: &[u8] = b"\
 log 1
 a 1
@@ -146,7 +147,7 @@ end
 
 #[test]
 fn held_worker(rt: HostRuntime) {
-    let log = checked(&rt, rt.alloc(), INDEPENDENT);
+    let log = checked(rt.alloc(), INDEPENDENT).expect(&rt, "a log");
     let hold = Hold::new(Point::Claimed(1), &[Point::Finished(3), Point::Finished(4)]);
     let answer = b"1 commit\n2 commit\n3 commit\n4 commit\n--\na 2\nb 2\nc 3\nd 4\n";
     held_so(&rt, &log, &[4], "exec 2", &[hold], answer);
@@ -154,49 +155,21 @@ fn held_worker(rt: HostRuntime) {
 
 #[test]
 fn plan_beside(rt: HostRuntime) {
-    let log = counters(&rt, rt.alloc(), 3);
+    let log = counters(rt.alloc(), 3).expect(&rt, "a log");
     let executing = Hold::new(Point::Claimed(1), &[Point::Planned(2)]);
     let planning = Hold::new(Point::Planned(2), &[Point::Claimed(1)]);
     let answer = b"1 commit 0\n2 commit 1\n3 commit 2\n--\na 3\n";
     held_so(&rt, &log, &[1, 2], "", &[executing, planning], answer);
 }
 
-/// Counts the claims and the finished positions.
-#[derive(Drop)]
-struct Counts {
-    claimed: AtomicU64,
-    finished: AtomicU64,
-}
-
-impl Gate for Counts {
-    fn at(&self, point: Point) {
-        match point {
-            Point::Planned(_) => {}
-            Point::Claimed(_) => {
-                self.claimed.fetch_add(1, Ordering::SeqCst);
-            }
-            Point::Finished(_) => {
-                self.finished.fetch_add(1, Ordering::SeqCst);
-            }
-        }
-    }
-}
-
 #[test]
 fn five_thousand_counters(rt: HostRuntime) {
     let alloc = rt.alloc();
-    let log = counters(&rt, alloc, 5000);
-    let counts = Counts {
-        claimed: AtomicU64::new(0),
-        finished: AtomicU64::new(0),
-    };
+    let log = counters(alloc, 5000).expect(&rt, "a log");
+    let counts = CountingGate::new();
     let cuts = cuts(&rt, alloc, &[4096, 904]);
     let text = run_told(&rt, alloc, &log, &cuts, settings(&rt, ""), &counts);
-    let counted = (
-        counts.claimed.load(Ordering::SeqCst),
-        counts.finished.load(Ordering::SeqCst),
-    );
-    assert_eq!(rt; counted, (5000, 5000));
+    assert_eq!(rt; counts.counts(), (5000, 5000));
     let ends_so = text
         .as_slice()
         .ends_with(b"\n5000 commit 4999\n--\na 5000\n");

@@ -1,7 +1,8 @@
-//! What runs leave, and logs after logs, with answers that were made by hand.
+//! The results of runs, and of logs applied one after another, with answers computed by hand.
 
-use crate::runs::{checked, counters, cuts, ran, settings, told_with_versions};
+use crate::runs::{cuts, ran, settings, told_with_versions};
 use bohm_exec::OpenGate;
+use bohm_layer_trials::{checked, counters};
 use bohm_run::{Applied, ByteSum, Cuts, Executors, Kept, Planners, apply};
 use bohm_store::History;
 use bohm_txn::Checked;
@@ -21,7 +22,7 @@ fn numbers(rt: &impl Abort, alloc: Global, words: &str) -> Vec<u32> {
     numbers
 }
 
-/// What a log in these batches leaves with these settings.
+/// The result of a log in these batches, with these settings.
 fn left<R: Abort + Threads + Wait + Sync + RandomSource>(
     rt: &R,
     alloc: Global,
@@ -35,7 +36,7 @@ fn left<R: Abort + Threads + Wait + Sync + RandomSource>(
     told_with_versions(rt, alloc, &found.replies, &found.history)
 }
 
-/// Asserts what each row leaves: it has the sizes of the batches, settings, and the result.
+/// Asserts the result of each row, which has the sizes of the batches, settings, and the result.
 fn leaves_so<R: Abort + AllocGlobal + Threads + Wait + Sync + RandomSource>(
     rt: &R,
     log: &Checked,
@@ -148,8 +149,10 @@ a 5
 
 #[test]
 fn versions_that_are_kept(rt: HostRuntime) {
-    leaves_so(&rt, &counters(&rt, rt.alloc(), 3), COUNTED);
-    leaves_so(&rt, &checked(&rt, rt.alloc(), REMOVAL), REMOVED);
+    let counted = counters(rt.alloc(), 3).expect(&rt, "a log");
+    leaves_so(&rt, &counted, COUNTED);
+    let removal = checked(rt.alloc(), REMOVAL).expect(&rt, "a log");
+    leaves_so(&rt, &removal, REMOVED);
 }
 
 /// Applies this many counters in batches of two, on two workers of each kind.
@@ -160,7 +163,7 @@ fn count_on<R: Abort + Threads + Wait + Sync + RandomSource>(
     count: u32,
     keep: Kept,
 ) -> Applied {
-    let log = counters(rt, alloc, count);
+    let log = counters(alloc, count).expect(rt, "a log");
     let txns = log.log();
     let cuts = Cuts::even(alloc, count, 2).expect(rt, "memory");
     let partition = ByteSum::new(2).expect(rt, "parts");
@@ -183,14 +186,14 @@ fn counts(rt: &impl Abort, log: &str) -> (u32, Kept) {
     (count, Kept::new(keep))
 }
 
-/// What a row's logs leave, applied one after another; each is how many counters to apply, and how
-/// many timestamps to keep.
+/// The result of a row's logs, applied one after another; each log is how many counters to apply,
+/// and how many timestamps to keep.
 fn left_in_turn<R: Abort + Threads + Wait + Sync + RandomSource>(
     rt: &R,
     alloc: Global,
     logs: &str,
 ) -> String {
-    let store = counters(rt, alloc, 0);
+    let store = counters(alloc, 0).expect(rt, "a log");
     let mut history = History::open(alloc, store.store()).expect(rt, "memory");
     let mut text = String::new(alloc);
     for log in logs.split(", ") {
@@ -201,7 +204,7 @@ fn left_in_turn<R: Abort + Threads + Wait + Sync + RandomSource>(
     text
 }
 
-/// Logs one after another, the replies of the last one, and the stores that are readable.
+/// Logs applied one after another, the replies of the last one, and the stores that are readable.
 const APPLIED: &str = "\
 3 keep 1@2 to 3, 2 versions
 1 commit 0

@@ -9,10 +9,10 @@ use std::random::RandomSource;
 use std::sync::Wait;
 use std::thread::Threads;
 
-/// It has 56 bytes.
+/// A log of 56 bytes.
 const LOG: &[u8] = b"log 1\na 5\ntxn\nreads a\nwrites a\nset a = a + 1\nshow a\nend\n";
 
-/// It has 18 bytes.
+/// The log's answer, of 18 bytes.
 const ANSWER: &[u8] = b"1 commit 5\n--\na 6\n";
 
 /// The defaults, and small batches on two workers.
@@ -93,7 +93,7 @@ fn readers_and_writers_take_parts(rt: HostRuntime) {
     }
 }
 
-/// The writer takes the answer's first bytes and then fails.
+/// Asserts that the writer accepts the answer's first `sent` bytes and then fails.
 fn sends<R: Abort + AllocGlobal + Threads + Wait + Sync + RandomSource + Copy + Send + 'static>(
     rt: &R,
     mut writer: FakeWriter,
@@ -109,8 +109,8 @@ fn sends<R: Abort + AllocGlobal + Threads + Wait + Sync + RandomSource + Copy + 
     assert_eq!(rt; told, (Some(wanted), taken), "after {sent} bytes");
 }
 
-/// A writer of one byte a call fails at each of them, and its flush; others take nothing, or fail
-/// after three bytes.
+/// A writer of one byte a call fails at each call, another one at its flush; others accept nothing,
+/// or fail after three bytes.
 #[test]
 fn writers_fail(rt: HostRuntime) {
     for words in TWICE {

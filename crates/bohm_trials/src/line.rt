@@ -5,9 +5,9 @@ ghost use Rattle.bohm_txn.specs.Faulty.{IsWellFormedTxn};
 ghost use Rattle.bohm_place.specs.Plans.{IsRightPlan};
 ghost use Rattle.bohm_place.specs.Cuttings.{first_at, txns_at};
 
-use crate::runs::counters;
+use bohm_layer_trials::counters;
 use bohm_log::LogPart;
-use bohm_place::{Plan, Shards, plan};
+use bohm_place::{BatchKeys, Plan, Shards, plan};
 use bohm_run::{ByteSum, Line, PlanNote, PlanReceiver, PlanSender, plan_line};
 use bohm_types::NoMemory;
 use std::alloc::Global;
@@ -17,7 +17,7 @@ use std::sync::Wait;
 use std::test::Fail;
 use std::thread::Threads;
 
-// Plans the next batch, and sends the plan.
+// Plans the next batch, and sends the plan with its keys.
 fn send_plan<L: Line, R: Abort + Threads + Wait + Sync>(
     rt: &R,
     alloc: Global,
@@ -39,6 +39,7 @@ fn send_plan<L: Line, R: Abort + Threads + Wait + Sync>(
     let parts = ByteSum::new(1).expect(rt, "a part");
     let shards = Shards::new(alloc, 1)?;
     let (_, plan) = plan(rt, alloc, shards, first, txns, 1, &parts)?;
+    let plan = plan.gather_keys(alloc, txns, &mut BatchKeys::new(alloc))?;
     let note = PlanNote {
         number: sender.sent() + 1,
         plan: Some(plan),
@@ -96,7 +97,7 @@ fn take_refusal<L: Line, R: Abort + Threads + Wait + Sync>(
 #[test]
 fn a_refusal_passes(rt: HostRuntime) -> Result<(), Fail> {
     let alloc: Global = rt.alloc();
-    let log = counters(&rt, alloc, 3);
+    let log = counters(alloc, 3).expect(&rt, "a log");
     let three = log.log().len() == 3;
     assert!(rt; three);
     take_refusal::<Brand, _>(&rt, alloc, &log.log())

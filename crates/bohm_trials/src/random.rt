@@ -1,10 +1,11 @@
-//! Drawn logs, each with drawn settings, against a serial run.
+//! Drawn logs, each with drawn settings, compared with a serial run.
 
 ghost use Rattle.std.specs.Prelude.{◌<◌};
 
-use crate::draws::{Draws, drawn};
+use crate::draws::{drawn, drawn_settings};
 use crate::runs::{ran, told};
 use bohm_exec::OpenGate;
+use bohm_layer_trials::Draws;
 use bohm_run::{Answer, Cuts, Settings};
 use bohm_text::{print_replies, print_store};
 use bohm_txn::Checked;
@@ -25,21 +26,21 @@ fn serially(rt: &impl Abort, alloc: Global, seed: u32, len: u32, floor: u32) -> 
     text
 }
 
-/// The replies to this many first transactions.
+/// The replies to the first `len` transactions.
 fn serial_replies(rt: &impl Abort, alloc: Global, seed: u32, len: u32) -> Vec<u8> {
     let log = drawn(rt, alloc, seed, len);
     let answer = bohm_serial::run(alloc, &log).expect(rt, "memory");
     print_replies(alloc, &answer.replies).expect(rt, "memory")
 }
 
-/// The store that they leave.
+/// The store after the first `len` transactions.
 fn serial_store(rt: &impl Abort, alloc: Global, seed: u32, len: u32) -> Vec<u8> {
     let log = drawn(rt, alloc, seed, len);
     let answer = bohm_serial::run(alloc, &log).expect(rt, "memory");
     print_store(alloc, answer.store.as_slice()).expect(rt, "memory")
 }
 
-/// Asserts that a run left what the plain program leaves.
+/// Asserts that a run's result is the plain program's.
 fn assert_left(
     rt: &impl Abort,
     alloc: Global,
@@ -76,7 +77,7 @@ fn run_seed<R: Abort + Threads + Wait + Sync + RandomSource>(rt: &R, alloc: Glob
     let log = drawn(rt, alloc, seed, seed % 12 + 1);
     let mut draws = Draws::new(seed + 1000);
     for _ in 0..3 {
-        let settings = draws.settings().expect(rt, "settings");
+        let settings = drawn_settings(&mut draws).expect(rt, "settings");
         run_drawn(rt, alloc, seed, &log, settings);
     }
 }

@@ -1,10 +1,10 @@
-//! Logs and settings from their text, runs, and their results as text.
+//! Settings from their text, runs, and their results as text.
 
 use bohm_exec::Gate;
 use bohm_run::{Answer, ByteSum, Cuts, Settings, run};
 use bohm_store::History;
-use bohm_text::{parse, print_answer, print_replies, print_store};
-use bohm_txn::{Checked, Replies, check};
+use bohm_text::{print_answer, print_replies, print_store};
+use bohm_txn::{Checked, Replies};
 use bohm_types::{Key, Value};
 use std::alloc::Global;
 use std::process::Abort;
@@ -12,36 +12,13 @@ use std::random::RandomSource;
 use std::sync::Wait;
 use std::thread::Threads;
 
-pub fn checked(rt: &impl Abort, alloc: Global, text: &[u8]) -> Checked {
-    let doc = parse(alloc, text).expect(rt, "a text");
-    check(doc).expect(rt, "a document")
-}
-
-/// The opening, followed by the transaction this many times.
-pub fn repeated(rt: &impl Abort, alloc: Global, opening: &[u8], txn: &[u8], count: u32) -> Vec<u8> {
-    let mut text = Vec::from_slice(alloc, opening).expect(rt, "memory");
-    for _ in 0..count {
-        text.extend_from_slice(txn).expect(rt, "memory");
-    }
-    text
-}
-
-/// Shows `a` and counts it up.
-const COUNTER: &[u8] = b"txn\nreads a\nwrites a\nshow a\nset a = a + 1\nend\n";
-
-/// Increments `a` from 0, this many times.
-pub fn counters(rt: &impl Abort, alloc: Global, count: u32) -> Checked {
-    let text = repeated(rt, alloc, b"log 1\na 0\n", COUNTER, count);
-    checked(rt, alloc, text.as_slice())
-}
-
 /// The number after a name among these words.
 fn named(words: &str, name: &str) -> Option<u32> {
     let (_, rest) = words.split_once(name)?;
     rest.split(' ').next()?.parse::<u32>().ok()
 }
 
-/// The settings that the words name, as `exec 2 batch 1`; the others are the defaults.
+/// The settings that the words name, for example `exec 2 batch 1`; the others are the defaults.
 pub fn settings(rt: &impl Abort, words: &str) -> Settings {
     let settings = Settings::new(
         named(words, "cc ").unwrap_or(1),

@@ -1,7 +1,8 @@
 //! A whole batch in one chain, whose claims are held for random times.
 
-use crate::runs::{counters, cuts, run_told, serially, settings};
+use crate::runs::{cuts, run_told, serially, settings};
 use bohm_exec::{Gate, Point};
+use bohm_layer_trials::counters;
 use bohm_txn::Checked;
 use std::alloc::Global;
 use std::hint::spin_loop;
@@ -67,7 +68,7 @@ fn assert_round<R: Abort + Threads + Wait + Sync + RandomSource>(
 #[test]
 fn a_chain_with_held_claims_is_the_serial_one(rt: HostRuntime) {
     let alloc: Global = rt.alloc();
-    let log = counters(&rt, alloc, 4096);
+    let log = counters(alloc, 4096).expect(&rt, "a log");
     let want = serially(&rt, alloc, &log);
     for round in 0..50 {
         assert_round(&rt, alloc, &log, round, want.as_slice());

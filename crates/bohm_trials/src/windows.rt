@@ -1,5 +1,5 @@
-//! Texts in small windows, against the same text read at once. Several readers read them; the plain
-//! program runs the whole text.
+//! Texts read in small windows by one to three readers, compared with the plain program's run of
+//! the whole text.
 
 use crate::draws::{drawn_text, put_txns};
 use crate::fakes::FakeWriter;
@@ -16,7 +16,7 @@ use std::thread::Threads;
 /// One, two and three readers.
 const READERS: [&str; 3] = ["cc 1", "cc 2 batch 3", "cc 3 exec 2"];
 
-/// Bytes of a window.
+/// The sizes of windows, in bytes.
 const SIZES: [usize; 3] = [100, 300, 4096];
 
 /// What is inserted between drawn transactions: nothing, a transaction that fails the check, one
@@ -36,7 +36,8 @@ fn plainly(rt: &impl Abort, alloc: Global, text: &[u8]) -> Result<Vec<u8>, RunFa
     Ok(serially(rt, alloc, &checked))
 }
 
-/// The same text in windows of each size, for each number of readers.
+/// Asserts that the text, in windows of each size and for each number of readers, has the plain
+/// program's answer or is refused with the same fault.
 fn agree<R: Abort + AllocGlobal + Threads + Wait + Sync + RandomSource + Copy + Send + 'static>(
     rt: &R,
     text: &[u8],
@@ -68,7 +69,7 @@ fn agree<R: Abort + AllocGlobal + Threads + Wait + Sync + RandomSource + Copy + 
     }
 }
 
-/// Drawn transactions with two of the pieces among them.
+/// Asserts the same answers for drawn transactions with these two pieces among them.
 fn agree_with<
     R: Abort + AllocGlobal + Threads + Wait + Sync + RandomSource + Copy + Send + 'static,
 >(rt: &R, first: &[u8], second: &[u8]) {

@@ -164,12 +164,6 @@ more_some count d ys r f counted few so_far is e =
     subst (λ (m : ℕ). IsCheckedTo (more d ys) (Some (counted_up m f))) (sym (exact (length d.log) count counted few))
     (checked_more d ys (Some f) so_far (subst (IsLogCheckedTo ys) e is))
 
--- nothing is promised of too many
-pub too_many : (d : Document) (ys : List Txn) (count : ℕ) (found : Option CheckFault) → IsCountOf (length d.log) count → 1000000 < count + length ys
-    → IsCheckedTo (more d ys) found
-too_many d ys count found (inl e) many few = absurd (omega (arith, e, many, few, length-append d.log ys))
-too_many d ys count found (inr both) many few = absurd (omega (arith, both.0, few, length-append d.log ys))
-
 place_within : {A B : Type 0} (find : ℕ → A → Option B) (i : ℕ) (xs : List A) (p : ℕ × B) → first_from find i xs ≡ Some p → p.0 ≤ i + length xs
 place_within find i [] p e = absurd cc
 place_within {A} {B} find i (x ∷ xs) p e =

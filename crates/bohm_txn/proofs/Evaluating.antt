@@ -12,7 +12,7 @@ use Rattle.bohm_types.specs.declared.cell.Cell.TheVariants.{Absent}
 use Rattle.bohm_types.specs.declared.edition.Edition.{Edition}
 use Rattle.bohm_types.specs.declared.edition.Edition.TheVariants.{One, Two}
 use Rattle.bohm_types.specs.Stmt.{Stmt}
-use Rattle.bohm_types.specs.Keys.{place, IsAmong, rising, some_passes}
+use Rattle.bohm_types.specs.Keys.{place, rising, some_passes}
 use Rattle.bohm_log.specs.declared.row.Action.{Action}
 use Rattle.bohm_log.specs.declared.row.Action.TheVariants as actions
 use Rattle.bohm_log.specs.declared.row.AtomKind.{AtomKind}
@@ -62,16 +62,6 @@ module _ (p : Parts) (cells : List Cell) (locals : Locals) where
   unread_number kinds.Local i up few inside is = absurd cc
 
 -- ---- what is written
-
-pub written_there : (keys others : List (List ℕ)) (d : Bool) (i : ℕ) → length keys ≤ 16 → KeyIn keys others d i → IsAmong keys (key_at keys others d i)
-    → i < length keys
-written_there keys others true i few inside among = inside
-written_there keys others false i few inside among = absurd (let apart = inside.apart few in cc)
-
-pub written_name : (keys others : List (List ℕ)) (d : Bool) (i : ℕ) → length keys ≤ 16 → KeyIn keys others d i → IsAmong keys (key_at keys others d i)
-    → key_at keys others d i ≡ name_at keys i
-written_name keys others true i few inside among = refl
-written_name keys others false i few inside among = absurd (let apart = inside.apart few in cc)
 
 own_place : (keys : List (List ℕ)) (i : ℕ) → rising keys ≡ true → i < length keys → place keys (name_at keys i) ≡ Some i
 own_place keys i up inside = only_place keys (name_at keys i) (Some i) (rising_apart keys up) (slice_get-get_or keys i [] inside)

@@ -11,7 +11,6 @@ mod Places
 mod Placing
 mod Plain
 mod Checking
-mod Noting
 mod Evaluating
 mod Tracking
 mod SureLaws

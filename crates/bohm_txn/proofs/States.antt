@@ -3,11 +3,8 @@ use Rattle.std.proofs.Common.{◌≡◌, ℕ, zero, suc, ◌+◌, ◌<◌, ◌�
 use Rattle.std.specs.List.{slice_get}
 use Rattle.std.proofs.lemmas.Option.{same_Some}
 use Rattle.bohm_types.specs.Txn.{Txn}
-use Rattle.bohm_types.specs.Keys.{IsAmong}
 use Rattle.bohm_txn.specs.Meaning.{Look, body}
 use Rattle.bohm_txn.specs.Serial.{after, state, replies, reply_of}
-use Rattle.bohm_txn.specs.Declares.{IsUsable}
-use Rattle.bohm_txn.proofs.Bodies.{same_reads, same_after}
 
 pub there : {A : Type 0} (xs : List A) (i : ℕ) → i < length xs → (x : A) × (slice_get xs i ≡ Some x)
 there [] i h = absurd (omega arith)
@@ -19,13 +16,6 @@ pub next : (look : Look) (ts : List Txn) (i : ℕ) (t : Txn) → slice_get ts i 
 next look [] i t e = absurd cc
 next look (x ∷ xs) zero t e = ap (λ y. after look y) (same_Some x t e)
 next look (x ∷ xs) (suc i) t e = next (after look x) xs i t e
-
--- R(i + 1) is Reply(S(i), the next one)
-pub reply_at : (look : Look) (ts : List Txn) (i : ℕ) (t : Txn) → slice_get ts i ≡ Some t
-    → slice_get (replies look ts) i ≡ Some (reply_of (body (state look ts i) t))
-reply_at look [] i t e = absurd cc
-reply_at look (x ∷ xs) zero t e = ap (λ y. Some (reply_of (body look y))) (same_Some x t e)
-reply_at look (x ∷ xs) (suc i) t e = reply_at (after look x) xs i t e
 
 pub length-replies : (look : Look) (ts : List Txn) → length (replies look ts) ≡ length ts
 length-replies look [] = refl
@@ -46,13 +36,3 @@ state-front look (x ∷ xs) ys (suc i) h = state-front (after look x) xs ys i (o
 pub replies-append : (look : Look) (xs ys : List Txn) → replies look (xs ++ ys) ≡ replies look xs ++ replies (state look xs (length xs)) ys
 replies-append look [] ys = refl
 replies-append look (x ∷ xs) ys = ap (λ rs. reply_of (body look x) ∷ rs) (replies-append (after look x) xs ys)
-
--- stores that agree on keys of P, which has all declared reads, go on doing so
-pub same_states : (P : List ℕ → Type 0) (look other : Look) (ts : List Txn) (i : ℕ) → ((u : ℕ) (t : Txn) → slice_get ts u ≡ Some t → IsUsable t)
-    → ((u : ℕ) (t : Txn) (k : List ℕ) → slice_get ts u ≡ Some t → IsAmong t.reads k → P k) → ((k : List ℕ) → P k → look k ≡ other k) → (k : List ℕ) → P k
-    → state look ts i k ≡ state other ts i k
-same_states P look other ts zero usable reads same k p = same k p
-same_states P look other [] (suc i) usable reads same k p = same k p
-same_states P look other (t ∷ ts) (suc i) usable reads same k p =
-    let e = same_reads look other t (usable 0 t refl) (λ q among. same q (reads 0 t q refl among)) in
-    same_states P (after look t) (after other t) ts i (λ u. usable (suc u)) (λ u. reads (suc u)) (λ q h. same_after look other t q e (same q h)) k p

@@ -1,4 +1,4 @@
--- The check of a document whose transactions come in chunks.
+-- The check of a document whose transactions arrive in chunks.
 use Rattle.std.specs.Prelude.{◌≡◌, ◌⊎◌, ℤ, ℕ, ◌<◌, ◌≤◌, List, length, Option, Some, None, if◌then◌else◌}
 use Rattle.std.specs.Option.{option_map}
 use Rattle.bohm_types.specs.Document.{Document}
@@ -13,7 +13,7 @@ use Rattle.bohm_types.specs.Limits.{most_txns}
 abbrev pub store_fault : List (List ℕ × ℤ) → Option CheckFault
 store_fault store = if rising (names_of store) then None else Some (record { txn = 0; stmt = 0; kind = Order })
 
--- the count of this many transactions, exact up to the most that a log may have
+-- a count of n transactions, which is exact up to the most that a log may have
 abbrev pub IsCountOf : ℕ → ℕ → Type 0
 IsCountOf n count = (count ≡ n) ⊎ ((most_txns < n) × (most_txns < count))
 

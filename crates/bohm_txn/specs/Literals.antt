@@ -19,7 +19,7 @@ abbrev pub and_then : Option Literals → (Literals → Option Literals) → Opt
 and_then None f = None
 and_then (Some l) f = f l
 
--- the literals, after those so far, if there is nothing else
+-- the literals so far and those of the terms, if the terms are only literals
 abbrev pub literals_from : Literals → List (Bool × Atom) → Option Literals
 literals_from l [] = Some l
 literals_from l (t ∷ ts) = and_then (with_atom l t.0 t.1) (λ next. literals_from next ts)

@@ -61,7 +61,7 @@ has_short_sums r = nat_le (r.first - r.start) 16 && (nat_le (r.second - r.first)
 abbrev pub is_plain_row : StmtRow → Bool
 is_plain_row r = is_placed r.action r.declared && has_short_sums r
 
--- it tests whether a key is there
+-- it tests whether a key is present
 abbrev pub tests_key : Action → Bool
 tests_key Bind = false
 tests_key (Need cmp) = false
@@ -100,6 +100,6 @@ binds_by Fail name i = false
 abbrev pub binds_at : ℕ → StmtRow → Bool
 binds_at i r = binds_by r.action r.name i
 
--- of each of the first 64 names, whether one of these statements binds it
+-- for each of the first 64 names, whether one of these statements binds it
 abbrev pub AreNoted : List Bool → List StmtRow → Type 0
 AreNoted noted rows = (i : ℕ) → i < 64 → get_or noted i false ≡ list_any (binds_at i) rows

@@ -22,7 +22,7 @@ abbrev pub set_from : List Cell → Option ℕ → Cell → List Cell
 set_from cells None c = cells
 set_from cells (Some i) c = slice_set cells i c
 
--- the cells with the key's replaced
+-- the cells, with the key's cell replaced
 abbrev pub replaced : List (List ℕ) → List Cell → List ℕ → Cell → List Cell
 replaced keys cells k c = set_from cells (place keys k) c
 

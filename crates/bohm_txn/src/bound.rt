@@ -7,16 +7,17 @@ ghost use Rattle.bohm_txn.specs.Rows.{AreNoted, binds_at, has_note};
 
 use bohm_log::{Action, StmtRow};
 
-/// How many names have a note whether they are bound. For others the statements are searched.
+/// How many names have a note of whether they are bound. For other names the statements are
+/// searched.
 const NOTED: usize = 64;
 
-/// Whether each of the first names is bound.
+/// For each of the first `NOTED` names, whether it is bound.
 #[derive(Clone, Copy)]
 pub struct Bound {
     noted: [bool; NOTED],
 }
 
-/// The names are compared first, since most rows have another one.
+/// The names are compared first, since most rows have a different name.
 fn binds(row: &StmtRow, place: u32) -> bool
     ensures { result ≡ binds_at place row.now }
 {
@@ -30,7 +31,7 @@ fn are_binding(rows: &[StmtRow], place: u32) -> bool
 }
 
 impl Bound {
-    /// No statement binds a name yet.
+    /// The notes before the first statement: no name is bound.
     pub fn new() -> Bound
         ensures { AreNoted result.noted [] }
     {

@@ -18,7 +18,8 @@ use bohm_types::{Edition, Key, Value};
 use std::alloc::Global;
 use std::marker::Model;
 
-/// A well-formed document: `check` makes one, and calls of procedures that it accepted.
+/// A well-formed document: it is made by `check`, or from calls of procedures that the check
+/// accepted.
 #[derive(Drop)]
 pub struct Checked {
     doc: Doc,
@@ -36,7 +37,8 @@ impl Model for Checked {
 }
 
 impl Checked {
-    /// No store and no transactions, in a log that shares these names. It allocates nothing.
+    /// An empty store, and a log without transactions that shares these names. It allocates
+    /// nothing.
     pub fn sharing(
         alloc: Global,
         seed: HashSeed,
@@ -50,10 +52,10 @@ impl Checked {
         }
     }
 
-    /// Adds the instance of a procedure for the keys of these handles, none of which is hashed
-    /// where its number is its key's. `Full` comes only where the document's transactions and this
-    /// one, with their declared keys, terms and statements, are 2^26 or more. An `Err` leaves the
-    /// document as it was. The time grows with what the instance holds.
+    /// Appends the instance of a procedure for the keys of these handles. A key isn't hashed if its
+    /// handle's number is the key's number. It fails with `Full` only if the document's
+    /// transactions and this one, with their declared keys, terms and statements, are 2^26 or more.
+    /// An `Err` leaves the document unchanged. The time grows with the size of the instance.
     pub fn push_call(
         &mut self,
         template: &Template,
@@ -76,8 +78,8 @@ impl Checked {
         self.doc.push_call(template, places, keys, values)
     }
 
-    /// The handle of a key with the number that it is likely to have: the one that was noted last
-    /// for its hash. Nothing is searched for.
+    /// The handle of a key with its likely number: the one that was noted last for its hash. No
+    /// search is made.
     #[inline(always)]
     pub fn noted_handle(&self, key: &Key) -> KeyHandle
         ensures { result.key ≡ key.now }
@@ -85,8 +87,8 @@ impl Checked {
         self.doc.noted_handle(key)
     }
 
-    /// The handle of a key, which gets a number if it has none and fewer than 2^30 keys have one. The
-    /// document stays as it is.
+    /// The handle of a key, which is numbered if it has no number and fewer than 2^30 keys have
+    /// one. The document is unchanged.
     pub fn handle(&mut self, key: &Key) -> Result<KeyHandle, LogFault>
         ensures key { IfOk result (λ h. h.key ≡ key.now) }
         ensures same { self.new ≡ self.old }
@@ -95,7 +97,7 @@ impl Checked {
         self.doc.handle(key)
     }
 
-    /// Removes the store and all transactions. Room is kept for others.
+    /// Removes the store's entries and all transactions. Capacity is kept for others.
     pub fn clear(&mut self)
         ensures { self.new ≡ empty_document self.old.edition }
     {
@@ -115,7 +117,7 @@ impl Checked {
         self.doc.edition()
     }
 
-    /// The entries of the starting store, by rising keys.
+    /// The entries of the starting store, in ascending order of their keys.
     #[tactic(auto, using(crate::proofs::UseLaws::rising_store))]
     pub fn store(&self) -> &[(Key, Value)]
         ensures same { result.now ≡ self.now.store }
@@ -135,8 +137,9 @@ impl Checked {
     }
 }
 
-/// The document, if it has no faulty place; or else its first faulty place, by transaction and then
-/// by statement, with the least kind of fault there. A refused document is dropped.
+/// Returns the document if it has no fault. Otherwise returns its first faulty place, by
+/// transaction and then by statement, with the least kind of fault there. A refused document is
+/// dropped.
 ///
 /// It allocates nothing. Its time grows with the number of the document's store entries, keys,
 /// terms and statements.

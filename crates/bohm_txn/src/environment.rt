@@ -47,8 +47,8 @@ fn local_among(locals: &[(Key, Value)], name: &Key) -> Value
     }
 }
 
-/// Sixteen numbers that are no greater than this one, and no less than its negative, have a total of
-/// 64 bits.
+/// The total of sixteen numbers that are no greater than this one, and no less than its negative,
+/// fits in 64 bits.
 const SHORT: i64 = 1 << 58;
 
 fn compares(cmp: Cmp, ordering: Ordering) -> bool
@@ -74,7 +74,7 @@ fn number_in(cell: Cell) -> Option<i128>
     }
 }
 
-/// The number in a cell, or the least one of 64 bits where there is none.
+/// The number in a cell, or the least 64-bit number if there is none.
 #[inline(always)]
 fn number_or_least(cell: Cell) -> i64
     ensures { neg_ℤ (pos (2 ^ 58)) ≤ℤ result → number_in cell ≡ Some result }
@@ -158,8 +158,8 @@ impl Environment<'_> {
         Some(total)
     }
 
-    /// The number of a term's atom, or the least one of 64 bits where its key is missing or the term is
-    /// of a rare kind. The others take a test each.
+    /// The number of a term's atom, or the least 64-bit number if its key is missing or the term is
+    /// of a rare kind. There is one test for each of the other kinds.
     #[inline(always)]
     fn atom_or_least(&self, term: TermRow) -> i64
         requires { TermIn self.now.txn.now term }
@@ -178,8 +178,8 @@ impl Environment<'_> {
         }
     }
 
-    /// The exact total, if no key is missing and each number is short: nearly all are. It takes a fifth
-    /// fewer instructions than a total of 128 bits.
+    /// The exact total, if no key is missing and each number is short, as nearly all are. It takes
+    /// a fifth fewer instructions than a 128-bit total.
     #[inline(always)]
     fn short_total(&self, terms: &[TermRow]) -> Option<i64>
         requires within { All (TermIn self.now.txn.now) terms.now }
@@ -215,7 +215,7 @@ impl Environment<'_> {
         }
     }
 
-    /// Whether a comparison holds between two sums, which follow one another.
+    /// Whether a comparison holds between two sums, whose terms are consecutive.
     #[inline(always)]
     pub fn holds(&self, cmp: Cmp, from: u32, middle: u32, to: u32) -> Result<bool, Reason>
         requires left { from ≤ middle }
@@ -232,7 +232,7 @@ impl Environment<'_> {
         Ok(compares(cmp, left.get().cmp(&right.get())))
     }
 
-    /// The cell of a key that is tested; the index is among the reads if it is declared.
+    /// The cell of a key that is tested. If the key is declared, the index is one of the reads.
     fn cell(&self, declared: bool, place: u32) -> Cell
         requires { KeyIn self.now.txn.now.reads self.now.txn.now.others declared place }
         ensures { result
@@ -258,8 +258,9 @@ impl Environment<'_> {
     }
 }
 
-/// The value of the sum of the terms between two offsets, whatever its numbers. The transaction comes
-/// by value, so that callers, which seldom come here, can keep its slices in registers.
+/// The value of the sum of the terms between two offsets, whatever its numbers are. The transaction
+/// is passed by value, so that callers, which seldom need this function, can keep its slices in
+/// registers.
 #[inline(never)]
 fn long_sum(
     txn: IndexedTxn<'_>,

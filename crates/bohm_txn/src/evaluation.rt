@@ -17,8 +17,8 @@ use bohm_types::Cell;
 /// it is sure, its declared writes have the cells `earlier`. Afterwards the scratch has the cells
 /// of the declared writes after the transaction, and the shown values. It allocates nothing.
 ///
-/// The time grows with the terms of the body. A term has its key's index; a local is searched for
-/// among those that are bound.
+/// The time grows with the terms of the body. A term holds its key's index; a local is searched for
+/// among the bound ones.
 pub fn eval(txn: &TxnView<'_>, reads: &[Cell], earlier: &[Cell], scratch: &mut Scratch) -> Outcome
     requires well { IsWellFormedTxn txn.now }
     requires reads { length txn.now.reads ≡ length reads.now }

@@ -1,9 +1,9 @@
 //! The faults that the check finds.
 
-/// The kinds of faults. Of several at one place the first in this order is reported.
+/// The kinds of faults. If there are several at one place, the first in this order is reported.
 #[derive(Clone, Copy, Debug, PartialEq, Eq)]
 pub enum CheckKind {
-    /// The store's keys, or a transaction's reads or writes, don't strictly rise.
+    /// The store's keys, or a transaction's reads or writes, aren't in strictly ascending order.
     Order,
     /// A statement reads or tests a key that is not among the reads.
     Unread,
@@ -17,8 +17,8 @@ pub enum CheckKind {
     Limit,
 }
 
-/// A document's first fault. Transaction 0 is the document as a whole, statement 0 a transaction's
-/// sets and counts.
+/// A document's first fault. Transaction 0 represents the document as a whole, and statement 0 a
+/// transaction's sets and counts.
 #[derive(Clone, Copy, Debug, PartialEq, Eq)]
 pub struct CheckFault {
     pub txn: u32,

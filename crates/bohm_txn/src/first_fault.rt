@@ -39,7 +39,8 @@ pub fn is_store_rising(store: &[(Key, Value)]) -> bool
     store.is_sorted_by(|entry, next| entry.0 < next.0)
 }
 
-/// Whether it shows too many values. Few statements can't, so they aren't counted.
+/// Whether the transaction shows too many values. In a body with few enough statements the shows
+/// needn't be counted.
 fn shows_many(txn: &TxnView<'_>) -> bool
     ensures { result ≡ not (nat_le (shows_in txn.now.body) most_shows) }
 {
@@ -56,7 +57,7 @@ pub fn is_large(txn: &TxnView<'_>) -> bool
         || shows_many(txn)
 }
 
-/// The least kind of fault of a statement that follows these others.
+/// The least kind of fault of a statement that follows the statements in `before`.
 fn stmt_fault(
     txn: &IndexedTxn<'_>,
     before: &[StmtRow],

@@ -1,4 +1,4 @@
-//! Statements that a glance shows to have no fault: most of a log's are such.
+//! Statements that a quick test shows to have no fault: most statements of a log are such.
 
 ghost use Rattle.std.specs.Prelude.{◌≡◌, ◌≤◌, All, List, None, true, false, length, map};
 ghost use Rattle.std.specs.List.{list_all};
@@ -67,8 +67,8 @@ fn is_plain_row(row: &StmtRow) -> bool
     is_placed(row) && has_short_sums(row)
 }
 
-/// Whether the statement's row and terms, and the notes of which names the statements before it bind,
-/// show that it has no fault, unless it binds a name that one of them binds.
+/// Whether the statement's row and terms, and the notes of which names the statements before it
+/// bind, show that it has no fault, unless it binds a name that an earlier statement binds.
 pub fn is_plain(txn: &IndexedTxn<'_>, noted: &Bound, row: &StmtRow) -> bool
     requires reads { length txn.now.reads ≤ most_keys }
     requires writes { length txn.now.writes ≤ most_keys }

@@ -1,5 +1,5 @@
-//! The check of a document whose transactions come in chunks: first of the store, then of each
-//! chunk, then of the whole.
+//! The check of a document whose transactions arrive in chunks: first the check of the store, then
+//! that of each chunk, then that of the whole.
 
 ghost use Rattle.std.specs.Prelude.{◌≡◌, ◌+◌, ◌++◌, ◌≤◌, None, length, All, IfSome};
 ghost use Rattle.bohm_types.specs.Document.{Document};
@@ -35,8 +35,8 @@ pub fn check_store(store: &[(Key, Value)]) -> Option<CheckFault>
     }
 }
 
-/// The first fault of a chunk's transactions, counted from 1, wherever they stand in a log. Above the
-/// most transactions of a log the result is unspecified.
+/// The first fault of a chunk's transactions, counted from 1, wherever the chunk is in a log. If it
+/// has more transactions than a log may have, the result is unspecified.
 ///
 /// The time grows with the number of the chunk's keys, terms and statements.
 pub fn check_chunk(chunk: &LogPart<'_>) -> Option<CheckFault>
@@ -49,8 +49,8 @@ pub fn check_chunk(chunk: &LogPart<'_>) -> Option<CheckFault>
 }
 
 /// The first fault of a document without one, extended by a chunk, given the number of transactions
-/// before the chunk and the chunk's own first fault. Above the most transactions of a log the result
-/// is unspecified. The time is constant.
+/// before the chunk and the chunk's own first fault. If there are more transactions than a log may
+/// have, the result is unspecified. The time is constant.
 pub fn check_more(
     count: usize,
     chunk: &LogPart<'_>,

@@ -1,4 +1,5 @@
-//! Laws over the definitions alone, for the proofs of the crates above. No call uses them.
+//! Laws over the definitions alone, for the proofs of the crates that depend on this one. No code
+//! calls them.
 
 ghost use Rattle.std.specs.Prelude.{◌≡◌, true, All, ℕ, suc, List, length, map, Some, Ok};
 ghost use Rattle.bohm_types.specs.Document.{Document};
@@ -24,7 +25,7 @@ pub fn txn_is_usable()
     ensures { (t : Txn) → IsWellFormedTxn t → IsUsable t }
 {}
 
-/// The keys that a well-formed transaction declares rise.
+/// The keys that a well-formed transaction declares are in ascending order.
 pub fn sets_are_rising()
     ensures reads { (t : Txn) → IsWellFormedTxn t → rising t.reads ≡ true }
     ensures writes { (t : Txn) → IsWellFormedTxn t → rising t.writes ≡ true }
@@ -57,7 +58,7 @@ pub fn shows_are_counted()
         → length run.shows ≡ shows_in t.body }
 {}
 
-/// If the body has the same result, a key that holds the same before holds the same afterwards.
+/// If the body has the same result, a key with the same cell before has the same cell afterwards.
 pub fn same_cell_after()
     ensures { (t : Txn) (look other : Look) (k : List ℕ) → body look t ≡ body other t
         → look k ≡ other k → after look t k ≡ after other t k }
@@ -73,7 +74,8 @@ pub fn sure_body_is_same()
     ensures { (t : Txn) (look other : Look) → IsSure t → body look t ≡ body other t }
 {}
 
-/// After a sure transaction its declared writes hold the same, whatever they held before.
+/// After a sure transaction its declared writes have the same cells, whatever cells they had
+/// before.
 pub fn sure_cells_are_same()
     ensures { (t : Txn) (look other : Look) → IsSure t
         → map (after look t) t.writes ≡ map (after other t) t.writes }
@@ -85,12 +87,12 @@ pub fn store_has_last_state()
         → cell_in (store_after s ts) ≡ state (cell_in s) ts (length ts) }
 {}
 
-/// Two stores in which each key holds the same are equal.
+/// Two stores in which each key has the same cell are equal.
 pub fn same_cells_same_store()
     ensures { (s r : Store) → ((k : List ℕ) → cell_in s k ≡ cell_in r k) → s ≡ r }
 {}
 
-/// Each state is what a transaction makes of the state before it.
+/// Each state is the result of a transaction over the state before it.
 pub fn next_state()
     ensures { (look : Look) (ts : List Txn) (i : ℕ) (t : Txn) → slice_get ts i ≡ Some t
         → state look ts (suc i) ≡ after (state look ts i) t }

@@ -77,7 +77,7 @@ fn row_at(rows: &[ReplyRow], index: usize) -> ReplyRow
     rows[index]
 }
 
-/// Adds the values and their row, or nothing.
+/// Appends the values and their row. An error appends nothing.
 #[inline]
 fn add(rows: &mut Vec<ReplyRow>, values: &mut Vec<Value>, shows: &[Value]) -> Result<(), NoMemory>
     ensures ok { OnOk result
@@ -129,13 +129,13 @@ impl Replies {
         self.rows.is_empty()
     }
 
-    /// How many values the replies show, those that were let go by `truncate` among them. It is a
-    /// hint of how much room a text of them takes: no clause says more.
+    /// How many values the replies show, including those that `truncate` removed. It is a hint of
+    /// the size of the replies' text: no contract says more.
     pub fn most_shows(&self) -> usize {
         self.values.len()
     }
 
-    /// A reply, counted from 0.
+    /// The reply at an index, counted from 0.
     pub fn get(&self, index: usize) -> ReplyView<'_>
         requires { index < length self.now }
         ensures { slice_get self.now index ≡ Some (reply_shown result) }
@@ -143,7 +143,7 @@ impl Replies {
         lent(self.values.as_slice(), row_at(self.rows.as_slice(), index))
     }
 
-    /// Adds an abort at the end. An error leaves the list as it was.
+    /// Appends an abort. An error leaves the list unchanged.
     pub fn push_abort(&mut self, reason: Reason, stmt: u32) -> Result<(), NoMemory>
         ensures ok { OnOk result (self.new ≡ self.old ++ replies_are.Abort reason stmt ∷ []) }
         ensures err { OnErr result (self.new ≡ self.old) }
@@ -152,7 +152,7 @@ impl Replies {
         Ok(())
     }
 
-    /// Adds a commit that shows these values at the end. An error leaves the list as it was.
+    /// Appends a commit that shows these values. An error leaves the list unchanged.
     #[tactic(auto, using(crate::proofs::ReplyRows::commit_inside))]
     pub fn push_commit(&mut self, shows: &[Value]) -> Result<(), NoMemory>
         ensures ok { OnOk result (self.new ≡ self.old ++ replies_are.Commit shows.now ∷ []) }
@@ -161,8 +161,8 @@ impl Replies {
         add(&mut self.rows, &mut self.values, shows)
     }
 
-    /// Adds the reply of a transaction with this outcome at the end: a commit shows these values. An
-    /// error leaves the list as it was.
+    /// Appends the reply of a transaction with this outcome: a commit shows these values. An error
+    /// leaves the list unchanged.
     pub fn push(&mut self, outcome: Outcome, shows: &[Value]) -> Result<(), NoMemory>
         ensures ok { OnOk result (self.new ≡ self.old ++ reply_with outcome shows.now ∷ []) }
         ensures err { OnErr result (self.new ≡ self.old) }
@@ -181,7 +181,7 @@ impl Replies {
         self.values.clear();
     }
 
-    /// Keeps the first replies, this many.
+    /// Keeps the first `len` replies.
     pub fn truncate(&mut self, len: usize)
         ensures { self.new ≡ take len self.old }
     {

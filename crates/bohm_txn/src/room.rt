@@ -55,7 +55,7 @@ impl<T> Room<T> {
         self.values.clear();
     }
 
-    /// Replaces its values by these.
+    /// Replaces its values with these.
     pub fn copy_from(&mut self, values: &[T])
     where
         T: Copy + Drop,

@@ -85,7 +85,7 @@ pub fn is_unwritten(txn: &IndexedTxn<'_>, row: &StmtRow) -> bool
     writes_key(row) && !row.declared
 }
 
-/// Whether one of these statements binds the name at an index. Equal names have one index.
+/// Whether one of these statements binds the name at an index. Equal names have the same index.
 #[tactic(auto, using(crate::proofs::Placing::bound_at))]
 fn is_bound(txn: &IndexedTxn<'_>, before: &[StmtRow], noted: &Bound, place: u32) -> bool
     requires inside { place < length txn.now.others }
@@ -98,7 +98,7 @@ fn is_bound(txn: &IndexedTxn<'_>, before: &[StmtRow], noted: &Bound, place: u32)
     noted.binds(before, place)
 }
 
-/// Whether a term, if it reads a local, reads one that these statements bind.
+/// Whether a term, if it reads a local, reads a local that these statements bind.
 fn is_defined(txn: &IndexedTxn<'_>, before: &[StmtRow], noted: &Bound, term: &TermRow) -> bool
     requires term { TermIn txn.now term.now }
     requires before { All (RowIn txn.now) before.now }
@@ -129,7 +129,7 @@ fn are_defined(txn: &IndexedTxn<'_>, before: &[StmtRow], noted: &Bound, terms: &
     true
 }
 
-/// Whether the statement binds a name that one of these binds.
+/// Whether the statement binds a name that one of the statements before it binds.
 pub fn rebinds(txn: &IndexedTxn<'_>, before: &[StmtRow], noted: &Bound, row: &StmtRow) -> bool
     requires row { RowIn txn.now row.now }
     requires before { All (RowIn txn.now) before.now }

@@ -37,14 +37,14 @@ impl Scratch {
         })
     }
 
-    /// Lets go of what it has, for a transaction that is evaluated in place.
+    /// Removes all cells and shown values, before a transaction is evaluated in place.
     pub fn clear(&mut self)
         ensures { self.new ≡ record { seen = []; cells = []; shows = [] } }
     {
         self.work.clear();
     }
 
-    /// Adds what the next declared read holds.
+    /// Appends the cell of the next declared read.
     pub fn push_read(&mut self, cell: Cell)
         requires { length self.old.seen < most_keys }
         ensures { self.new ≡ record {
@@ -56,7 +56,7 @@ impl Scratch {
         self.work.seen.push(cell);
     }
 
-    /// Adds what the next declared write holds.
+    /// Appends the cell of the next declared write.
     pub fn push_cell(&mut self, cell: Cell)
         requires { length self.old.cells < most_keys }
         ensures { self.new ≡ record {
@@ -75,7 +75,7 @@ impl Scratch {
         self.work.cells.as_slice()
     }
 
-    /// The values that it shows, in the order of its statements.
+    /// The values that this transaction shows, in the order of its statements.
     pub fn shows(&self) -> &[Value]
         ensures { result.now ≡ self.now.shows }
     {

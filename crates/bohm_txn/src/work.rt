@@ -171,7 +171,7 @@ impl Work {
         Ok(())
     }
 
-    // Takes these cells.
+    // Starts with these cells of the declared reads and writes.
     fn begin(&mut self, reads: &[Cell], earlier: &[Cell])
         requires room { IsRoomy self.old }
         requires reads { length reads.now ≤ most_keys }
@@ -207,8 +207,8 @@ impl Work {
         self.run_in_place(edition, txn)
     }
 
-    /// Runs the body over the cells that it has. The error says why, and at which statement, it
-    /// fails. Inline, so that callers can keep the transaction's slices in registers.
+    /// Runs the body over the cells that are already stored. The error says why, and at which
+    /// statement, it fails. Inline, so that callers can keep the transaction's slices in registers.
     #[inline(always)]
     pub fn run_in_place(
         &mut self,
@@ -235,7 +235,7 @@ impl Work {
         Ok(())
     }
 
-    /// Lets go of all effects and cells.
+    /// Removes all cells and shown values.
     pub fn clear(&mut self)
         requires room { IsRoomy self.old }
         ensures seen { self.new.seen.0 ≡ [] }
@@ -248,7 +248,8 @@ impl Work {
         self.shows.clear();
     }
 
-    /// Undoes all effects: these are the cells before.
+    /// Undoes the writes and removes the shown values: `before` has the cells of the declared
+    /// writes before the body.
     pub fn take_back(&mut self, before: &[Cell])
         requires room { IsRoomy self.old }
         requires few { length before.now ≤ most_keys }

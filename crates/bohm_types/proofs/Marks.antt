@@ -1,12 +1,13 @@
--- The bytes of a number, compared at once: where no mark is set, none is the one sought.
-use Rattle.std.proofs.Common.{◌≡◌, ℕ, zero, suc, ◌+◌, ◌*◌, ◌/◌, ◌%◌, ◌^◌, ◌≤◌, Bool, true, false, cond, List, [], ◌∷◌, length, map, replicate, None, w8}
-use Rattle.std.proofs.Common.{refl, ap, sym, subst, ◌∙◌, arith}
+-- The bytes of a number, compared at once: no mark is set exactly where none of them is the one sought.
+use Rattle.std.proofs.Common.{◌≡◌, ℕ, zero, suc, ◌+◌, ◌*◌, ◌/◌, ◌%◌, ◌^◌, ◌<◌, ◌≤◌, Bool, true, false, cond, List, [], ◌∷◌, length, map, replicate, Some, None, w8}
+use Rattle.std.proofs.Common.{refl, sym, subst, ◌∙◌, arith}
 use Rattle.std.specs.Prelude.{◌==◌}
 use Rattle.std.specs.List.{AllByRecursion, position_from}
-use Rattle.std.specs.Int.{w64, from_be_bytes, to_be_bytes}
+use Rattle.std.specs.Int.{w64, byte_at, from_be_bytes, to_be_bytes}
 use Rattle.std.specs.Simd.Lanes.{mask_l, top, zip2}
 use Rattle.std.proofs.lemmas.Nat.{be_bytes_8}
-use Rattle.std.proofs.lemmas.Simd.{mask_l-mod, tops_compared, zip2_splat}
+use Rattle.std.proofs.lemmas.Simd.{bitmask_splat}
+use Rattle.std.proofs.lemmas.Bool.Decides.{nat_tests}
 use Rattle.bohm_types.specs.Words.{padded}
 use Rattle.bohm_types.specs.Spreading.{AreBytes, padded-length}
 use Rattle.bohm_types.proofs.Words.{padded_any}
@@ -15,6 +16,13 @@ use Rattle.bohm_types.proofs.Words.{padded_any}
 abbrev bytes_in : ℕ → List ℕ
 bytes_in w = w % 256 ∷ w / 256 % 256 ∷ w / 256 / 256 % 256 ∷ w / 256 / 256 / 256 % 256 ∷ w / 256 / 256 / 256 / 256 % 256
     ∷ w / 256 / 256 / 256 / 256 / 256 % 256 ∷ w / 256 / 256 / 256 / 256 / 256 / 256 % 256 ∷ w / 256 / 256 / 256 / 256 / 256 / 256 / 256 % 256 ∷ []
+
+bytes_at : (w : ℕ) → bytes_in w ≡ byte_at 0 w ∷ byte_at 1 w ∷ byte_at 2 w ∷ byte_at 3 w ∷ byte_at 4 w ∷ byte_at 5 w ∷ byte_at 6 w ∷ byte_at 7 w ∷ []
+bytes_at w = c (omega arith) (c (omega arith) (c (omega arith) (c (omega arith) (c (omega arith) (c (omega arith) (c (omega arith) (c (omega arith) refl)))))))
+  where
+    -- equal bytes before equal lists
+    c : {x y : ℕ} {xs ys : List ℕ} → x ≡ y → xs ≡ ys → x ∷ xs ≡ y ∷ ys
+    c p q = λ i. p i ∷ q i
 
 module _ (test : ℕ → Bool) where
   abbrev AreOthers : List ℕ → Type 0
@@ -26,6 +34,10 @@ module _ (test : ℕ → Bool) where
       let P : Bool → Type 0 = λ (t : Bool). cond t 1 0 + 2 * mask_l (map test xs) ≡ 0 → (t ≡ false) × AreOthers xs in
       elim (test x) as P [ true ↦ λ h. absurd (omega (arith, h)) | false ↦ λ h. (refl, unmarked xs (omega (arith, h))) ] e
 
+  none_marked : (xs : List ℕ) → AreOthers xs → mask_l (map test xs) ≡ 0
+  none_marked [] others = refl
+  none_marked (x ∷ xs) others = rw (others.0) (omega (arith, none_marked xs others.1))
+
   in_front : (n : ℕ) (xs : List ℕ) → length xs ≤ n → AreOthers (padded n xs) → AreOthers xs
   in_front n [] h others = tt
   in_front zero (x ∷ xs) h others = absurd (omega (arith, h))
@@ -35,45 +47,52 @@ module _ (test : ℕ → Bool) where
   none_among n [] others = refl
   none_among n (x ∷ xs) others = rw (others.0) (none_among (n + 1) xs others.1)
 
-  same : {x y : ℕ} → test y ≡ false → x ≡ y → test x ≡ false
-  same other e = ap test e ∙ other
+  others_among : (n : ℕ) (xs : List ℕ) → position_from test n xs ≡ None → AreOthers xs
+  others_among n [] none = tt
+  others_among n (x ∷ xs) none =
+      let P : Bool → Type 0 = λ (t : Bool). cond t (Some n) (position_from test (n + 1) xs) ≡ None → (t ≡ false) × AreOthers xs in
+      elim (test x) as P [ true ↦ λ h. absurd cc | false ↦ λ h. (refl, others_among (n + 1) xs h) ] none
 
-  turned : (w : ℕ) → AreOthers (bytes_in w) → AreOthers (to_be_bytes w64 w)
-  turned w others = (
-    same others.1.1.1.1.1.1.1.0 (omega arith),
-    (
-      same others.1.1.1.1.1.1.0 (omega arith),
-      (
-        same others.1.1.1.1.1.0 (omega arith),
-        (
-          same others.1.1.1.1.0 (omega arith),
-          (
-            same others.1.1.1.0 (omega arith),
-            (
-              same others.1.1.0 (omega arith),
-              (
-                same others.1.0 (omega arith),
-                (same others.0 (omega arith), tt),
-              ),
-            ),
-          ),
-        ),
-      ),
-    ),
-  )
+  padded_others : (n : ℕ) (xs : List ℕ) → test 0 ≡ false → AreOthers xs → AreOthers (padded n xs)
+  padded_others zero xs zeros others = tt
+  padded_others (suc n) [] zeros others = (zeros, padded_others n [] zeros others)
+  padded_others (suc n) (x ∷ xs) zeros others = (others.0, padded_others n xs zeros others.1)
+
+  -- eight bytes in the other order
+  reversed : (a b c d e f g h : ℕ) → AreOthers (a ∷ b ∷ c ∷ d ∷ e ∷ f ∷ g ∷ h ∷ []) → AreOthers (h ∷ g ∷ f ∷ e ∷ d ∷ c ∷ b ∷ a ∷ [])
+  reversed a b c d e f g h o =
+      (o.1.1.1.1.1.1.1.0, (o.1.1.1.1.1.1.0, (o.1.1.1.1.1.0, (o.1.1.1.1.0, (o.1.1.1.0, (o.1.1.0, (o.1.0, (o.0, tt))))))))
+
+  to_be : (w : ℕ) → AreOthers (bytes_in w) → AreOthers (to_be_bytes w64 w)
+  to_be w o = reversed _ _ _ _ _ _ _ _ (subst AreOthers (bytes_at w) o)
+
+  from_be : (w : ℕ) → AreOthers (to_be_bytes w64 w) → AreOthers (bytes_in w)
+  from_be w o = subst AreOthers (sym (bytes_at w)) (reversed _ _ _ _ _ _ _ _ o)
 
 -- the mask of the bytes that are compared with one
 abbrev pub marks : ℕ → ℕ → ℕ
 marks byte w = mask_l (map (top 7) (zip2 (λ a b. cond (a == b) 255 0) (bytes_in w) (replicate 8 byte))) % 2 ^ 64
 
-pub lacks_marked : (word : List ℕ) (packed byte : ℕ) → AreBytes word → length word ≤ 8 → packed ≡ from_be_bytes w64 (padded 8 word)
-    → marks byte (packed + 0) ≡ 0 → position_from (λ b. b == byte) 0 word ≡ None
-lacks_marked word packed byte bytes few e none =
-    let test : ℕ → Bool = λ b. b == byte in
-    let block : List ℕ = bytes_in (packed + 0) in
-    let bits : map (top 7) (zip2 (λ a b. cond (a == b) 255 0) block (replicate 8 byte)) ≡ map test block =
-    tops_compared w8 (λ a b. a == b) block (replicate 8 byte) ∙ zip2_splat (λ a b. a == b) block 8 byte refl in
-    let unset : mask_l (map test block) ≡ 0 = sym (mask_l-mod (map test block) 64 (omega arith)) ∙ ap (λ ms. mask_l ms % 2 ^ 64) (sym bits) ∙ none in
-    let back : to_be_bytes w64 (packed + 0) ≡ padded 8 word =
-    be_bytes_8 (padded 8 word) (packed + 0) (padded-length 8 word) (padded_any 8 word bytes) (omega (arith, e)) in
-    none_among test 0 word (in_front test 8 word few (subst (AreOthers test) back (turned test (packed + 0) (unmarked test block unset))))
+-- a byte of a word, sought in its number
+module _ (word : List ℕ) (packed byte : ℕ) (bytes : AreBytes word) (few : length word ≤ 8) (e : packed ≡ from_be_bytes w64 (padded 8 word)) where
+  abbrev test : ℕ → Bool
+  test b = b == byte
+
+  abbrev block : List ℕ
+  block = bytes_in (packed + 0)
+
+  marked : marks byte (packed + 0) ≡ mask_l (map test block)
+  marked = bitmask_splat w8 (λ a b. a == b) block 8 byte refl (omega arith)
+
+  unpacked : to_be_bytes w64 (packed + 0) ≡ padded 8 word
+  unpacked = be_bytes_8 (padded 8 word) (packed + 0) (padded-length 8 word) (padded_any 8 word bytes) (omega (arith, e))
+
+  pub lacks_marked : marks byte (packed + 0) ≡ 0 → position_from test 0 word ≡ None
+  lacks_marked none = none_among test 0 word
+      (in_front test 8 word few (subst (AreOthers test) unpacked (to_be test (packed + 0) (unmarked test block (sym marked ∙ none)))))
+
+  pub marked_where_found : 0 < byte → position_from test 0 word ≡ None → marks byte (packed + 0) ≡ 0
+  marked_where_found some none =
+      let zeros : test 0 ≡ false = grind (arith, nat_tests, some) in
+      marked ∙ none_marked test block (from_be test (packed + 0)
+      (subst (AreOthers test) (sym unpacked) (padded_others test 8 word zeros (others_among test 0 word none))))

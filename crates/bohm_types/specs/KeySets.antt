@@ -5,7 +5,7 @@ use Rattle.std.specs.Cmp.Lexicographic.{slice_cmp}
 use Rattle.std.specs.declared.cmp.Ordering.{Ordering}
 use Rattle.std.specs.declared.cmp.Ordering.TheVariants.{Less, Equal, Greater}
 
--- puts the key before the first one, drops it as equal, or puts it further on, by how it compares with the first
+-- inserts the key before the first one, drops it if they are equal, or inserts it further on, depending on how it compares with the first
 abbrev pub inserted_by : Ordering → List ℕ → List ℕ → List (List ℕ) → List (List ℕ) → List (List ℕ)
 inserted_by Less k x xs further = k ∷ x ∷ xs
 inserted_by Equal k x xs further = x ∷ xs

@@ -23,7 +23,7 @@ abbrev pub argument_or : List ℕ → List (List ℕ) → Option ℕ → List �
 argument_or name ks None = name
 argument_or name ks (Some i) = slice_index_or ks i name
 
--- the key that a name stands for: a parameter's argument, or else itself
+-- the key that a name represents: the argument if the name is a parameter, or else the name itself
 abbrev pub stands_for : List (List ℕ) → List (List ℕ) → List ℕ → List ℕ
 stands_for ps ks name = argument_or name ks (place ps name)
 
@@ -31,7 +31,7 @@ abbrev pub is_minus : ℤ → Bool
 is_minus (pos n) = false
 is_minus (negsuc n) = true
 
--- a literal with its sign. The magnitude of the least value is no literal, so it takes two
+-- a literal with its sign. The magnitude of the least value isn't a literal, so that value takes two
 abbrev pub sum_by : Bool → ℕ → List (Bool × Atom)
 sum_by minus size = if nat_lt size (2 ^ 63) then (minus, Lit size) ∷ [] else (minus, Lit (2 ^ 63 - 1)) ∷ (minus, Lit 1) ∷ []
 
@@ -45,7 +45,7 @@ lets [] vs = []
 lets (x ∷ xs) [] = []
 lets (x ∷ xs) (v ∷ vs) = Bind x (sum_of v) ∷ lets xs vs
 
--- the transaction that a call stands for
+-- the transaction that a call represents
 abbrev pub instance : Procedure → List (List ℕ) → List ℤ → Txn
 instance p ks vs = record {
   edition = p.edition;

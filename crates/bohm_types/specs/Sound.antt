@@ -1,4 +1,4 @@
--- Sound values: those that the program's types can hold. A clause's variables range over more, as any list of bytes for a name and any list of terms for a sum.
+-- Sound values: those that the program's types can hold. A contract's variables range over more: any list of bytes for a name, any list of terms for a sum.
 use Rattle.std.specs.Prelude.{◌≡◌, ℕ, ℤ, pos, negsuc, ◌^◌, ◌<◌, List, Bool, true, length, Option, Some, None}
 use Rattle.std.specs.List.{AllByRecursion}
 use Rattle.bohm_types.specs.Name.{is_name}

@@ -56,7 +56,7 @@ impl<T> Items<T> {
         Ok(())
     }
 
-    /// Removes all values, and keeps their room.
+    /// Removes all values, and keeps the capacity.
     pub fn clear(&mut self)
     where
         T: Drop,

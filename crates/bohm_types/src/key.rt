@@ -43,7 +43,7 @@ impl Model for Key {
     ghost inverse_ok = { worded_ok };
 }
 
-/// For each byte itself, if a name may have it, and else another one, `_`.
+/// Maps each byte that a name may contain to itself, and each other byte to a different one, `_`.
 const NAME_BYTES: [u8; 256] = *b"\
     ________________________________________________0123456789______\
     _________________________________abcdefghijklmnopqrstuvwxyz_____\
@@ -103,7 +103,7 @@ impl KeyText {
 }
 
 impl Key {
-    /// The key of this name, if it is one.
+    /// The key with these bytes, if they are a name.
     #[inline(always)]
     pub fn new(name: &[u8]) -> Option<Key>
         ensures { result ≡ key_of name.now }
@@ -125,7 +125,7 @@ impl Key {
         })
     }
 
-    /// Whether it is the name that a word spells. No `Key` is made of the word.
+    /// Whether the key is the name that a word spells. No `Key` is built from the word.
     #[inline(always)]
     pub fn is_word(&self, word: &PackedWord<'_>) -> bool
         ensures same { result ≡ bytes_eq self.now word.now }
@@ -137,8 +137,8 @@ impl Key {
         self.is_short(word.bytes(), word.first())
     }
 
-    /// `is_word` for a word of more than 7 bytes. Few are so long: its code isn't inlined, and it
-    /// takes the bytes, so that the packed word stays in registers.
+    /// `is_word` for a word of more than 7 bytes. Few words are this long: the code isn't inlined,
+    /// and it takes the bytes, so that the packed word stays in registers.
     #[inline(never)]
     fn is_long(&self, word: &[u8]) -> bool
         ensures same { result ≡ bytes_eq self.now word.now }
@@ -148,8 +148,8 @@ impl Key {
         self.words == words && word.len() == size_of(&self.words)
     }
 
-    /// `is_word` for a word of at most 7 bytes, packed into one word. A longer name has no 0 at the end
-    /// of its first word, so the other words aren't compared.
+    /// `is_word` for a word of at most 7 bytes, packed into one word. A longer name has no 0 at the
+    /// end of its first word, so the other words aren't compared.
     #[inline(always)]
     fn is_short(&self, word: &[u8], packed: u64) -> bool
         requires short { length word.now ≤ 7 }
@@ -160,7 +160,7 @@ impl Key {
         self.words[0] == packed && word.len() == 8 - zeros_behind(packed)
     }
 
-    /// Its bytes. They are those of a name.
+    /// The bytes of the key, which are a name.
     #[tactic(auto, unfolding(crate::specs::KeyInside::name_of))]
     pub fn text(&self) -> KeyText
         ensures same { result ≡ self.now }
@@ -172,7 +172,7 @@ impl Key {
         }
     }
 
-    /// A law: its bytes are those of a name. It takes no time.
+    /// A law: the bytes of the key are a name. The call costs nothing.
     #[inline(always)]
     pub fn has_name(&self)
         ensures { is_name self.now ≡ true }
@@ -180,7 +180,7 @@ impl Key {
         let _ = &self.words;
     }
 
-    /// A number below 256, equal for equal keys.
+    /// A hash below 256: equal keys have the same one.
     #[inline(always)]
     pub(crate) fn short_hash(&self) -> usize
         ensures { result < 256 }
@@ -188,14 +188,15 @@ impl Key {
         short_hash_at(&self.words)
     }
 
-    /// A number that equal keys share, and that others seldom have. Its upper bits differ most. An
-    /// author of keys can choose some that share it: it is for hints alone.
+    /// A hash: equal keys have the same one, and different keys seldom do. Its upper bits vary the
+    /// most. Whoever chooses the keys can make them collide, so it is for hints alone.
     #[inline(always)]
     pub fn mixed(&self) -> u64 {
         mixed(&self.words)
     }
 
-    /// Its first place among these, if it is one of them. The time grows with their number.
+    /// The index of the key's first occurrence in `keys`, if there is one. The time grows with the
+    /// number of keys.
     pub fn place_among(&self, keys: &[Key]) -> Option<usize>
         ensures place { result ≡ place keys.now self.now }
         ensures inside { IfSome result (λ i. i < length keys.now) }
@@ -228,7 +229,7 @@ impl PartialOrd for Key {
     }
 }
 
-/// Bytewise, a shorter key before its extensions.
+/// Bytewise order: a key is below the keys that extend it.
 impl Ord for Key {
     ghost cmp = { slice_cmp nat_cmp };
 
@@ -243,7 +244,7 @@ impl Ord for Key {
     }
 }
 
-/// As one write of its name.
+/// Hashes the name in one write.
 impl Hash for Key {
     ghost use Rattle.std.specs.Prelude.{[], ◌∷◌};
     ghost use Rattle.std.specs.Hash.{same_Alike};

@@ -9,9 +9,9 @@ use crate::packed_word::PackedWord;
 /// The least first word of a name.
 const LEAST_FIRST: u64 = (b'a' as u64) << 56;
 
-/// For each short hash, of 8 bits, the index at which a name with that hash was last found. The name
-/// at the index is compared before the index is used: a wrong one costs only the search that would
-/// be needed without it, so entries are never cleared.
+/// For each short hash, of 8 bits, the index at which a name with that hash was last found. The
+/// name at the index is compared before the index is used: a wrong index costs only the search that
+/// would be needed without it, so entries are never cleared.
 #[derive(Clone, Copy)]
 pub struct NameCache {
     places: [u8; 256],
@@ -22,7 +22,7 @@ impl NameCache {
         NameCache { places: [0; 256] }
     }
 
-    /// The index of a name among these, if it is where a name with its short hash was last found.
+    /// The index of a name in `names`, if it is where a name with its short hash was last found.
     pub fn place(&self, names: &[Key], name: &Key) -> Option<u32>
         ensures { IfSome result (λ i. slice_get names.now i ≡ Some name.now) }
     {
@@ -36,8 +36,8 @@ impl NameCache {
     }
 
     /// The index of the name that a word spells, if it is where a name with its short hash was last
-    /// found. The word is compared in place: no `Key` is made of it. A word that begins below `a`
-    /// is no name.
+    /// found. The word is compared in place: no `Key` is built from it. A word whose first byte is
+    /// below `a` isn't a name.
     #[inline(always)]
     pub fn place_of_word(&self, names: &[Key], word: &PackedWord<'_>) -> Option<u32>
         ensures place { IfSome result (λ i. slice_get names.now i ≡ Some word.now) }

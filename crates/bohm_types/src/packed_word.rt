@@ -1,4 +1,4 @@
-//! A word of a text, packed so that names are compared with it in place.
+//! A word of a text, packed so that it can be compared with names in place.
 
 ghost use Rattle.std.specs.Prelude.{◌≡◌, ◌<◌, ◌≤◌, ◌==◌, None, true, length, take};
 ghost use Rattle.std.specs.List.{position_from};
@@ -29,8 +29,8 @@ impl<'a> Model for PackedWord<'a> {
     ghost invariant = { λ w. w.first ≡ from_be_bytes w64 (padded 8 w.bytes.now) };
 }
 
-/// `short_hash` of a word of more than 7 bytes. Few are so long: its code isn't inlined, and it takes
-/// the bytes, so that the packed word stays in registers.
+/// `short_hash` of a word of more than 7 bytes. Few words are this long: the code isn't inlined,
+/// and it takes the bytes, so that the packed word stays in registers.
 #[inline(never)]
 fn long_hash(word: &[u8]) -> usize
     ensures { result < 256 }
@@ -38,12 +38,13 @@ fn long_hash(word: &[u8]) -> usize
     short_hash_at(&PackedWord::new(word).words())
 }
 
-/// Whether a byte is none of a packed word's.
+/// Whether a packed word doesn't contain a byte. The padding has zeros, so a 0 may be found there.
 #[inline(always)]
 fn lacks(word: &[u8], packed: u64, byte: u8) -> bool
     requires short { length word.now ≤ 8 }
     requires packed { packed ≡ from_be_bytes w64 (padded 8 word.now) }
-    ensures { result ≡ true → position_from (λ other. other == byte) 0 word.now ≡ None }
+    ensures lacking { result ≡ true → position_from (λ other. other == byte) 0 word.now ≡ None }
+    ensures exact { 0 < byte → position_from (λ other. other == byte) 0 word.now ≡ None → result ≡ true }
 {
     let block = u64x1::splat(packed).to_le_bytes();
     block.simd_eq(u8x8::splat(byte)).to_bitmask() == 0
@@ -61,7 +62,8 @@ impl<'a> PackedWord<'a> {
         }
     }
 
-    /// The word of a text's first bytes, fewer than 8. As 8 are there, they are read at once.
+    /// The word of a text's first `size` bytes, which are fewer than 8. The text has at least 8
+    /// bytes, so they are read at once.
     #[inline(always)]
     pub fn front(text: &'a [u8], size: usize) -> PackedWord<'a>
         requires short { size < 8 }
@@ -90,16 +92,18 @@ impl<'a> PackedWord<'a> {
         self.first
     }
 
-    /// Whether a byte is none of a word's, of at most 8. They are compared at once.
+    /// Whether a word of at most 8 bytes doesn't contain a byte. Its bytes are compared at once,
+    /// padded with zeros, so a 0 may be found in the padding.
     #[inline(always)]
     pub fn lacks(&self, byte: u8) -> bool
         requires { length self.now ≤ 8 }
-        ensures { result ≡ true → position_from (λ other. other == byte) 0 self.now ≡ None }
+        ensures lacking { result ≡ true → position_from (λ other. other == byte) 0 self.now ≡ None }
+        ensures exact { 0 < byte → position_from (λ other. other == byte) 0 self.now ≡ None → result ≡ true }
     {
         lacks(self.bytes, self.first, byte)
     }
 
-    /// Its words, as a key has them. Most have one.
+    /// The bytes as the four words of a key. Most of them fit in the first word.
     #[inline(always)]
     #[tactic(auto, using(crate::proofs::Words::one_word))]
     pub(crate) fn words(&self) -> [u64; 4]
@@ -111,7 +115,7 @@ impl<'a> PackedWord<'a> {
         [self.first, 0, 0, 0]
     }
 
-    /// The short hash of the key that it spells, if it spells one.
+    /// The short hash of the key that the word spells, if it spells one.
     #[inline(always)]
     pub(crate) fn short_hash(&self) -> usize
         ensures { result < 256 }

@@ -24,7 +24,8 @@ pub(crate) fn first_word(bytes: &[u8]) -> u64
     }
 }
 
-/// `first_word` of a text's first bytes, where 8 are there and are read at once.
+/// `first_word` of a text's first `size` bytes. The text has at least 8 bytes, which are read at
+/// once.
 #[inline(always)]
 pub(crate) fn front_word(text: &[u8], size: usize) -> u64
     requires short { size < 8 }
@@ -45,7 +46,7 @@ fn behind(bytes: &[u8]) -> &[u8]
     if bytes.len() <= 8 { &[] } else { &bytes[8..] }
 }
 
-/// `first_word` of a name's word if it has several. Few have, so it isn't inlined.
+/// `first_word` for a name of several words. Few names have several, so it isn't inlined.
 #[inline(never)]
 fn further_word(bytes: &[u8]) -> u64
     ensures { result ≡ from_be_bytes w64 (padded 8 bytes.now) }
@@ -109,7 +110,7 @@ pub(crate) fn size_of(words: &[u64; 4]) -> usize
     8 - zeros_behind(words[0])
 }
 
-/// A number below 256 for these words.
+/// A hash below 256 of these words.
 #[inline(always)]
 pub(crate) fn short_hash_at(words: &[u64; 4]) -> usize
     ensures { result < 256 }
@@ -117,7 +118,7 @@ pub(crate) fn short_hash_at(words: &[u64; 4]) -> usize
     (mixed(words) >> 56) as usize
 }
 
-/// A number below 256 for a name of one word.
+/// A hash below 256 of a name of one word.
 #[inline(always)]
 pub(crate) fn short_hash_of(word: u64) -> usize
     ensures { result < 256 }
@@ -125,7 +126,7 @@ pub(crate) fn short_hash_of(word: u64) -> usize
     (mixed_word(word) >> 56) as usize
 }
 
-/// A number for these words, of which the upper bits depend on all of theirs.
+/// A hash of these words. Its upper bits depend on all bits of the words.
 #[inline(always)]
 pub(crate) fn mixed(words: &[u64; 4]) -> u64 {
     mixed_word(words[0] ^ words[1] ^ words[2] ^ words[3])

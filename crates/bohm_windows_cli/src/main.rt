@@ -1,12 +1,12 @@
-//! The program in three other ways, which tests run. After a number of bytes it runs a log in windows of
-//! that size. After the word `machine` it runs a log without a store as a segment of a new machine, on
-//! workers. After the word `calls` it runs a script of procedures and calls on a machine. Options of the
-//! program follow.
+//! The program in three other ways, for tests. If the first argument is a number of bytes, it runs
+//! a log in windows of that size; if it is `machine`, a log without a store as a segment of a new
+//! machine, on workers; if it is `calls`, a script of procedures and calls on a machine. Options of
+//! the program follow.
 #![tactic(auto)]
 
 mod script;
 
-use bohm_command::{NoAnswer, WordFault, exit_code, tell, without_request, words_given};
+use bohm_command::{ArgumentFault, NoAnswer, arguments_given, exit_code, tell, without_request};
 use bohm_log::DrawnSeed;
 use bohm_machine::{Machine, SegmentFault};
 use bohm_run::{Applied, RunFault, Settings, read_log, run_text_in_windows, write_all};
@@ -23,7 +23,7 @@ use std::thread::Threads;
 /// How the log is run.
 #[derive(Clone, Copy)]
 enum Way {
-    /// In windows of so many bytes.
+    /// In windows of this many bytes.
     Windows(usize),
     /// As a segment of a machine.
     Machine,
@@ -37,48 +37,50 @@ struct Request {
     settings: Settings,
 }
 
-/// The number that stands after this option.
-fn number_of(words: &[String], name: &str) -> Option<u32> {
-    let at = words.iter().position(|word| word.as_str() == name)?;
-    words.get(at.saturating_add(1))?.parse::<u32>().ok()
+/// The number after this option, if the option is given.
+fn number_of(arguments: &[String], name: &str) -> Option<u32> {
+    let at = arguments
+        .iter()
+        .position(|argument| argument.as_str() == name)?;
+    arguments.get(at.saturating_add(1))?.parse::<u32>().ok()
 }
 
-fn read_way(word: &str) -> Option<Way> {
-    if word == "machine" {
+fn read_way(argument: &str) -> Option<Way> {
+    if argument == "machine" {
         return Some(Way::Machine);
     }
-    if word == "calls" {
+    if argument == "calls" {
         return Some(Way::Calls);
     }
-    let size = word.parse::<u32>().ok()?;
+    let size = argument.parse::<u32>().ok()?;
     Some(Way::Windows(size as usize))
 }
 
 /// The request of these arguments, with the defaults of absent options.
-fn read_request(words: &[String]) -> Option<Request> {
-    let way = read_way(words.first()?.as_str())?;
+fn read_request(arguments: &[String]) -> Option<Request> {
+    let way = read_way(arguments.first()?.as_str())?;
     let settings = Settings::new(
-        number_of(words, "--cc").unwrap_or(1),
-        number_of(words, "--exec").unwrap_or(1),
-        number_of(words, "--parts").unwrap_or(1),
-        number_of(words, "--batch").unwrap_or(4096),
-        number_of(words, "--keep").unwrap_or(0),
-        number_of(words, "--at"),
+        number_of(arguments, "--cc").unwrap_or(1),
+        number_of(arguments, "--exec").unwrap_or(1),
+        number_of(arguments, "--parts").unwrap_or(1),
+        number_of(arguments, "--batch").unwrap_or(4096),
+        number_of(arguments, "--keep").unwrap_or(0),
+        number_of(arguments, "--at"),
     )?;
     Some(Request { way, settings })
 }
 
-fn request_given(rt: &HostRuntime) -> Result<Request, WordFault> {
-    let words = words_given(rt, "bohm_windows_cli")?;
-    match read_request(words.as_slice()) {
+fn request_given(rt: &HostRuntime) -> Result<Request, ArgumentFault> {
+    let arguments = arguments_given(rt, "bohm_windows_cli")?;
+    match read_request(arguments.as_slice()) {
         Some(request) => Ok(request),
-        None => Err(WordFault::Bad(format!(in rt.alloc();
+        None => Err(ArgumentFault::Bad(format!(in rt.alloc();
             "windows of how many bytes, machine, or calls?\n"
         )?)),
     }
 }
 
-/// The replies, and the store that the machine holds.
+/// The text of the replies, and of the store that the machine holds.
 fn answer(alloc: Global, machine: &Machine, applied: Applied) -> Result<Vec<u8>, RunFault> {
     let Applied { replies, end } = applied;
     end?;
@@ -112,7 +114,7 @@ fn run_on_machine<T: Threads + Wait + Sync + RandomSource, R: Read, W: Write>(
     Ok(())
 }
 
-/// Runs the script that the reader holds, and writes what the machine answers.
+/// Runs the script that the reader holds, and writes the machine's answer.
 fn run_calls<T: RandomSource, R: Read, W: Write>(
     rt: &T,
     alloc: Global,

@@ -8,7 +8,7 @@ use bohm_txn::check;
 use bohm_types::{Edition, Key, Value};
 use std::alloc::Global;
 
-/// A machine, and what a script has made for it so far.
+/// A machine, and what the script has made so far.
 #[derive(Drop)]
 struct Session {
     alloc: Global,
@@ -16,7 +16,7 @@ struct Session {
     machine: Machine,
     procedures: Vec<Procedure>,
     calls: Calls,
-    /// The lines of the procedure that comes next.
+    /// The lines of the next procedure.
     text: Vec<u8>,
     /// The replies.
     out: Vec<u8>,
@@ -27,7 +27,7 @@ fn put_line(text: &mut Vec<u8>, line: &str) -> Option<()> {
     text.push(b'\n').ok()
 }
 
-/// What stands behind this word, at all lines that begin with it.
+/// The rest of each line that begins with this word.
 fn lines_after(alloc: Global, script: &str, word: &str) -> Option<Vec<u8>> {
     let mut text = Vec::new(alloc);
     for line in script.lines() {
@@ -71,7 +71,7 @@ fn handles_of(alloc: Global, calls: &mut Calls, keys: &[Key]) -> Option<Vec<KeyH
     Some(handles)
 }
 
-/// Adds a call: every other one by handles of its keys.
+/// Adds a call; every other call names its keys by handles.
 fn add_call(
     alloc: Global,
     calls: &mut Calls,
@@ -100,7 +100,7 @@ impl Session {
         let machine = Machine::restore(alloc, seed, store.store(), 0).ok()?;
         let calls = match store.edition() {
             Edition::One => machine.calls(alloc, Edition::One).ok()?,
-            // These have names of their own.
+            // This list has its own names.
             Edition::Two => Calls::new(alloc, seed, Edition::Two),
         };
         Some(Session {
@@ -114,15 +114,15 @@ impl Session {
         })
     }
 
-    /// Reads the procedure whose lines came.
+    /// Parses the procedure whose lines were collected.
     fn prepare(&mut self) -> Option<()> {
         let procedure = Procedure::read(self.alloc, self.seed, self.text.as_slice()).ok()?;
         self.text.clear();
         self.procedures.push(procedure).ok()
     }
 
-    /// Adds the call that stands on a line: the procedure's number, how many keys there are and
-    /// these, how many values there are and these.
+    /// Adds the call on a line: the procedure's number, the number of keys and the keys, the number
+    /// of values and the values.
     fn push(&mut self, line: &str) -> Option<()> {
         let words = words_of(self.alloc, line)?;
         let number = words.first()?.parse::<u32>().ok()?;
@@ -154,7 +154,7 @@ impl Session {
         }
     }
 
-    /// The replies, and what the machine holds at the end.
+    /// The replies, and the store that the machine holds at the end.
     fn end(self) -> Option<Vec<u8>> {
         let Session {
             alloc,
@@ -168,7 +168,8 @@ impl Session {
     }
 }
 
-/// What a machine answers to the calls of a script, if it is one and no allocation fails.
+/// The machine's answer to the calls of a script; `None` if it isn't a valid script or an
+/// allocation fails.
 pub(crate) fn run_script(alloc: Global, seed: DrawnSeed, script: &str) -> Option<Vec<u8>> {
     let mut session = Session::start(alloc, seed, script)?;
     for line in script.lines() {

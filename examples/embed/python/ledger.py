@@ -1,11 +1,11 @@
-"""A ledger in a Python program: `ledger.py LIBRARY LOG SIZE`, as ledger.c."""
+"""A ledger in a Python program, like ledger.c: `ledger.py LIBRARY LOG SIZE`."""
 import sys
 
 import bohm
 
 
 def check_balances(ledger, ts):
-    """Each balance of a past timestamp is the one in that timestamp's store."""
+    """Checks that each balance at a past timestamp is the one in that timestamp's store."""
     for key, value in ledger.store_at(ts).items():
         assert ledger.value_at(key, ts) == value
 

@@ -1,4 +1,4 @@
-"""Transfers between accounts by procedures, as procedures.c: `procedures.py LIBRARY`."""
+"""Transfers between accounts by procedures, like procedures.c: `procedures.py LIBRARY`."""
 import sys
 
 import bohm

@@ -7,8 +7,8 @@
         reply = transfer(from_="alice", to="bob", amount=30)
         print(reply.committed, machine.value_at("bob"))
 
-`answer` runs a whole log. Texts are `str` or bytes of any kind. What a call refuses it raises: each kind has an exception,
-and all are `BohmError`s."""
+`answer` runs a whole log. Texts are `str` or any bytes-like object. A call that fails raises an exception of its status's
+class, a subclass of `BohmError`."""
 from .errors import (
     BohmError, ClosedError, FutureError, HasLogError, HasStoreError, KeptError, NoKeyError, OutOfMemoryError,
     RefusedError, Status, StoppedError, TimestampsError, TrimmedError, UnfitError, WaitingError,

@@ -1,4 +1,4 @@
-"""What a call can end with, and the exception of each end."""
+"""The statuses that a call can return, and the exception of each."""
 import enum
 from typing import TYPE_CHECKING, ClassVar, Dict, List, Sequence, Type
 
@@ -7,7 +7,7 @@ if TYPE_CHECKING:
 
 
 class Status(enum.IntEnum):
-    """How a call ends: the header's enum."""
+    """The status of a call: the enum of bohm.h."""
 
     DONE = 0
     REFUSED = 1
@@ -26,7 +26,7 @@ class Status(enum.IntEnum):
 
 
 class BohmError(Exception):
-    """A call that ended otherwise than `Status.DONE`."""
+    """A call failed: its status isn't `Status.DONE`."""
 
     status: ClassVar[Status]
     why: ClassVar[str]
@@ -68,10 +68,10 @@ class FutureError(BohmError, LookupError):
 
 
 class HasStoreError(BohmError, ValueError):
-    """The segment has a store of its own."""
+    """The segment has a store."""
 
     status = Status.HAS_STORE
-    why = "the segment has a store of its own"
+    why = "the segment has a store"
 
 
 class TimestampsError(BohmError, OverflowError):
@@ -89,24 +89,24 @@ class HasLogError(BohmError, ValueError):
 
 
 class NoKeyError(BohmError, ValueError):
-    """A key's text is no key's."""
+    """The text isn't a key."""
 
     status = Status.NO_KEY
     why = "a key is 1 to 32 lower-case letters, digits and underscores, the first of them a letter"
 
 
 class WaitingError(BohmError):
-    """Replies of an earlier segment wait: call `Machine.replies` first."""
+    """Replies of an earlier segment are waiting: call `Machine.replies` first."""
 
     status = Status.WAITING
-    why = "replies of an earlier segment wait"
+    why = "replies of an earlier segment were not taken yet"
 
 
 class StoppedError(BohmError, MemoryError):
-    """An allocation failed on the way. `replies` are those of the transactions that ran: whole batches of 4096."""
+    """An allocation failed part way. `replies` are those of the transactions that ran: whole batches of 4096."""
 
     status = Status.STOPPED
-    why = "an allocation failed on the way"
+    why = "an allocation failed after part of the segment had run"
 
     def __init__(self, replies: Sequence["Reply"] = ()) -> None:
         self.replies: List["Reply"] = list(replies)
@@ -114,17 +114,17 @@ class StoppedError(BohmError, MemoryError):
 
 
 class KeptError(BohmError, MemoryError):
-    """Transactions ran, but their replies could not be allocated: `Machine.replies` hands them out later."""
+    """Transactions ran, but their replies could not be allocated: `Machine.replies` returns them later."""
 
     status = Status.KEPT
-    why = "the replies could not be allocated, and wait"
+    why = "the replies could not be allocated: take them later"
 
 
 class UnfitError(BohmError, ValueError):
-    """An edition, a number of arguments or the number of calls doesn't fit."""
+    """An edition, a number of arguments or the number of calls is not acceptable."""
 
     status = Status.UNFIT
-    why = "an edition, a number of arguments or the number of calls doesn't fit"
+    why = "an edition, a number of arguments or the number of calls is not acceptable"
 
 
 class ClosedError(BohmError, ValueError):
@@ -144,6 +144,6 @@ BY_STATUS: Dict[Status, Type[BohmError]] = {
 
 
 def raise_for(status: int) -> None:
-    """Raises the exception of a status, if it isn't `Status.DONE`."""
+    """Raises the exception of a status, unless it is `Status.DONE`."""
     if status:
         raise BY_STATUS[Status(status)]()

@@ -1,4 +1,4 @@
-"""The shared object, with the calls that bohm.h declares."""
+"""The shared object, with the functions that bohm.h declares."""
 import ctypes
 import functools
 import os
@@ -7,7 +7,7 @@ from typing import Any, Optional, Tuple, Union
 
 Text = Union[str, bytes, bytearray, memoryview]
 
-# The shared object's name, which changes with what programs may rely on.
+# The shared object's name, which changes with the interface that programs rely on.
 SHARED = "libbohm.so.0"
 
 
@@ -16,7 +16,7 @@ class RawCounts(ctypes.Structure):
 
 
 class RawHandle(ctypes.Structure):
-    """A machine, a procedure or a list of calls: null where it is closed."""
+    """A machine, a procedure or a list of calls: null if it is closed."""
 
     _fields_ = [("at", c_void_p)]
 
@@ -30,17 +30,17 @@ class RawKey(ctypes.Structure):
 
 
 def octets(text: Text) -> bytes:
-    """The bytes of a text, of bytes or of what has bytes."""
+    """The bytes of a `str` or of a bytes-like object."""
     return text.encode() if isinstance(text, str) else bytes(memoryview(text))
 
 
 def drawn_seed() -> bytes:
-    """The seed of key hashes: random bytes, so that who chooses keys can't choose ones that collide."""
+    """The seed for hashing keys: random bytes, so that whoever chooses keys can't choose ones that collide."""
     return os.urandom(16)
 
 
 class Library:
-    """A shared object that is loaded: the one that is named, or else the one beside this file or the system's."""
+    """A loaded shared object: the one at `path`, or else the one beside this file, or else the system's."""
 
     def __init__(self, path: "Optional[str | os.PathLike[str]]" = None) -> None:
         beside = os.path.join(os.path.dirname(os.path.abspath(__file__)), SHARED)
@@ -89,13 +89,13 @@ class Library:
         return self.told("bohm_sources")
 
     def handed(self, call: Any, *words: Any) -> Tuple[int, bytes]:
-        """The status of a call, and the bytes that it hands out."""
+        """The status of a call, and the bytes that it returns."""
         out = RawArray()
         status = call(*words, byref(out))
         return status, self.taken(out, 1)
 
     def taken(self, out: RawArray, size: int) -> bytes:
-        """The bytes of an array that was handed out, whose elements have this size. It is freed."""
+        """The bytes of an array that a call returned, with elements of this size. The array is freed."""
         try:
             return ctypes.string_at(out.at, out.len * size) if out.at else b""
         finally:
@@ -104,5 +104,5 @@ class Library:
 
 @functools.lru_cache(maxsize=None)
 def load(path: "Optional[str | os.PathLike[str]]" = None) -> Library:
-    """The library of a shared object, which is loaded once."""
+    """The library at a path, which is loaded once."""
     return Library(path)

@@ -1,4 +1,4 @@
-"""Machines: stores with their past, which segments and calls take on."""
+"""Machines: stores with their past, to which segments and calls are applied."""
 import ctypes
 import threading
 from ctypes import byref, c_int64, c_uint8, c_uint32
@@ -11,7 +11,8 @@ from .replies import ROW, Answer, Reply, answer_of, replies_of, store_of
 
 
 class Counts(NamedTuple):
-    """The least and the greatest timestamp that can be read, how many versions are kept, and how many replies wait."""
+    """The least and the greatest timestamp that can be read, how many versions are kept, and how many replies are
+    waiting."""
 
     floor: int
     top: int
@@ -21,12 +22,12 @@ class Counts(NamedTuple):
 
 def timestamp(ts: int) -> int:
     if not 0 <= ts < 1 << 32:
-        raise ValueError(f"{ts} is no timestamp")
+        raise ValueError(f"{ts} is not a timestamp")
     return ts
 
 
 def answer(log: Text, *, library: Optional[Library] = None) -> Answer:
-    """Runs a whole log."""
+    """Runs a whole log, and returns its answer."""
     library = library or load()
     text = octets(log)
     status, given = library.handed(library.calls.bohm_answer, drawn_seed(), text, len(text))
@@ -43,10 +44,10 @@ class Machine:
             transfer = machine.prepare(text)
             reply = transfer(from_="alice", to="bob", amount=30)
 
-    Texts are `str` or bytes of any kind. A machine takes one call at a time, from any thread, and others wait."""
+    Texts are `str` or any bytes-like object. A machine runs one call at a time, from any thread; others block."""
 
     def __init__(self, snapshot: Text = b"log 1\n", top: int = 0, *, library: Optional[Library] = None) -> None:
-        """Opens the store of a snapshot, as it stands after the transaction with the timestamp `top`."""
+        """Opens a snapshot: the store after the transaction with the timestamp `top`."""
         self.library = library or load()
         self.lock = threading.RLock()
         self.lists: Dict[int, RawHandle] = {}
@@ -64,7 +65,7 @@ class Machine:
         return byref(self.raw)
 
     def told(self, status: int, behind: int) -> List[Reply]:
-        """The replies of what was run behind a timestamp."""
+        """The replies of the transactions that just ran, which follow the timestamp `behind`."""
         if status != Status.STOPPED:
             raise_for(status)
         rows, values = RawArray(), RawArray()
@@ -86,13 +87,13 @@ class Machine:
             return self.told(status, behind)
 
     def prepare(self, text: Text) -> Procedure:
-        """The procedure of a text, to be called on this machine."""
+        """Reads and checks a procedure, to be called on this machine."""
         with self.lock:
             self.opened()
             return Procedure(self, text)
 
     def list_of(self, edition: int) -> Any:
-        """An open list of calls for procedures of an edition."""
+        """The open list of calls for procedures of an edition."""
         if edition not in self.lists:
             raw = RawHandle(None)
             raise_for(self.library.calls.bohm_open_calls_for(self.opened(), byref(raw), edition))
@@ -100,8 +101,8 @@ class Machine:
         return byref(self.lists[edition])
 
     def key(self, name: Text) -> Key:
-        """Looks a key up, which stands for its name in calls on this machine: a program that calls the same keys over and
-        over looks each up once."""
+        """Looks up a key. The result replaces its name in calls on this machine, so that a program that uses the same
+        keys again and again looks up each one once."""
         key = Key(self, octets(name))
         with self.lock:
             self.opened()
@@ -109,7 +110,7 @@ class Machine:
         return key
 
     def handle_of(self, key: Key, edition: int) -> int:
-        """The key's handle in the list of an edition's calls, which is made where there is none."""
+        """The key's handle in the list of an edition's calls; it is made if there is none."""
         handle = key.handles.get(edition)
         if handle is None:
             made = c_uint32(0)
@@ -131,14 +132,14 @@ class Machine:
         raise_for(status)
 
     def run(self, calls: Iterable[Call]) -> List[Reply]:
-        """Runs calls of this machine's procedures, as `apply` runs the segment of their instances. All are of one
-        edition."""
+        """Runs calls of this machine's procedures, as `apply` runs the segment of their instances. All procedures must
+        have the same edition."""
         wanted = list(calls)
         if any(call.procedure.machine is not self for call in wanted):
-            raise ValueError("a procedure is another machine's")
+            raise ValueError("the procedure belongs to another machine")
         edition = wanted[0].procedure.edition if wanted else 1
         if any(call.procedure.edition != edition for call in wanted):
-            raise UnfitError("the procedures have two editions")
+            raise UnfitError("the procedures have different editions")
         with self.lock:
             machine, behind = self.opened(), self.top
             pushed = self.list_of(edition)
@@ -156,7 +157,7 @@ class Machine:
             return self.told(Status.DONE, counts.top - counts.waiting)
 
     def value_at(self, key: Text, ts: Optional[int] = None) -> Optional[int]:
-        """What a key holds after the transaction with a timestamp, or at the top: `None` if it holds nothing."""
+        """A key's value after the transaction with timestamp `ts`, or at the top: `None` if it has none."""
         name, present, value = octets(key), c_uint8(0), c_int64(0)
         with self.lock:
             raw = self.opened()
@@ -166,7 +167,7 @@ class Machine:
         return value.value if present.value else None
 
     def snapshot(self, ts: Optional[int] = None) -> bytes:
-        """The snapshot of a timestamp, or of the top, on which another machine can be opened."""
+        """The snapshot at a timestamp, or at the top, on which another machine can be opened."""
         with self.lock:
             raw = self.opened()
             at = self.top if ts is None else timestamp(ts)
@@ -175,12 +176,12 @@ class Machine:
         return given
 
     def store_at(self, ts: Optional[int] = None) -> Dict[str, int]:
-        """What each key holds after the transaction with a timestamp, or at the top, by rising keys."""
+        """Each key's value after the transaction with timestamp `ts`, or at the top, in key order."""
         return store_of(self.snapshot(ts).decode().splitlines()[1:])
 
     def digest(self, ts: Optional[int] = None) -> bytes:
-        """The 32 bytes of the digest of what keys hold at a timestamp, or at the top: machines that hold the same have
-        the same digest."""
+        """The 32-byte digest of the store at a timestamp, or at the top: machines with equal stores have equal
+        digests."""
         digest = (ctypes.c_char * 32)()
         with self.lock:
             raw = self.opened()
@@ -189,14 +190,14 @@ class Machine:
         return digest.raw
 
     def trim(self, floor: Optional[int] = None) -> None:
-        """Lets the past below a timestamp go, or all of it."""
+        """Drops the past below a timestamp, or all of it."""
         with self.lock:
             raw = self.opened()
             status = self.library.calls.bohm_trim(raw, self.top if floor is None else timestamp(floor))
         raise_for(status)
 
     def counts(self) -> Counts:
-        """Counts what there is. Its time grows with the number of keys."""
+        """Counts versions and waiting replies. Its time grows with the number of keys."""
         raw = RawCounts()
         with self.lock:
             self.library.calls.bohm_counts(self.opened(), byref(raw))
@@ -220,7 +221,7 @@ class Machine:
         return self.timestamps()[1]
 
     def close(self) -> None:
-        """Frees the machine. A second time it does nothing."""
+        """Frees the machine. Does nothing if it is closed."""
         with self.lock:
             for calls in self.lists.values():
                 self.library.calls.bohm_close_calls(byref(calls))

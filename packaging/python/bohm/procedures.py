@@ -1,4 +1,4 @@
-"""Procedures: transactions with parameters, which are called as Python's functions are."""
+"""Procedures: transactions with parameters, called like Python functions."""
 import keyword
 from ctypes import byref
 from typing import TYPE_CHECKING, Any, Dict, List, NamedTuple, Tuple, Union
@@ -12,14 +12,14 @@ if TYPE_CHECKING:
 
 
 class Key:
-    """A key that a machine has looked up, which stands for its name in calls on that machine. `Machine.key` makes it."""
+    """A key that a machine has looked up, used instead of its name in calls on that machine. `Machine.key` makes it."""
 
     __slots__ = ("machine", "name", "handles")
 
     def __init__(self, machine: "Machine", name: bytes) -> None:
         self.machine = machine
         self.name = name
-        # Its handles in the machine's lists of calls, of which each edition has one.
+        # Its handles in the machine's lists of calls, by edition: the machine has one list for each.
         self.handles: Dict[int, int] = {}
 
     def __repr__(self) -> str:
@@ -35,27 +35,27 @@ class Call(NamedTuple):
 
 
 def word_of(name: str) -> str:
-    """The word by which Python names a parameter: with an underscore behind a word of its own."""
+    """A parameter's name in Python: with an underscore after a keyword."""
     return name + "_" if keyword.iskeyword(name) else name
 
 
 def value_of(name: str, value: Any) -> int:
     if not isinstance(value, int):
-        raise TypeError(f"{name} is a number, and not {type(value).__name__}")
+        raise TypeError(f"{name} must be an int, not {type(value).__name__}")
     if not -(1 << 63) <= value < 1 << 63:
-        raise OverflowError(f"{name}: {value} has more than 64 bits")
+        raise OverflowError(f"{name}: {value} does not fit in 64 bits")
     return value
 
 
 class Procedure:
-    """A transaction with parameters, which was read and checked once. `Machine.prepare` makes it.
+    """A transaction with parameters, read and checked once. `Machine.prepare` makes it.
 
         transfer = machine.prepare(text)
         reply = transfer(from_="alice", to="bob", amount=30)
 
-    Arguments stand in the order of the parameters, keys before values, or are named. A parameter whose name is a word of
-    Python is named with an underscore behind it. Keys are named by texts, or by what `Machine.key` gave. `call` gives a
-    call that `Machine.run` runs among others."""
+    Arguments are given in the order of the parameters, keys before values, or by name. A parameter whose name is a Python
+    keyword takes an underscore after it. Keys are texts, or results of `Machine.key`. `call` returns a call that
+    `Machine.run` runs together with others."""
 
     def __init__(self, machine: "Machine", text: Text) -> None:
         self.machine = machine
@@ -77,7 +77,7 @@ class Procedure:
 
     @staticmethod
     def named(lines: List[List[str]], kind: str) -> Tuple[str, ...]:
-        """The parameters of a kind: the lines between the head and `reads`."""
+        """The parameters of a kind, from the lines between the head and `reads`."""
         head = next(number for number, words in enumerate(lines) if words[0] == "reads")
         return tuple(words[1] for words in lines[1:head] if words[0] == kind)
 
@@ -85,31 +85,31 @@ class Procedure:
         """An argument for each parameter, in their order."""
         wanted = len(self.parameters)
         if len(given) > wanted:
-            raise TypeError(f"it takes {wanted} arguments, and {len(given)} are given")
+            raise TypeError(f"{wanted} arguments expected, {len(given)} given")
         missing = object()
         filled = [*given, *[missing] * (wanted - len(given))]
         for word, value in named.items():
             place = self.places.get(word)
             if place is None:
-                raise TypeError(f"it has no parameter '{word}'")
+                raise TypeError(f"unexpected argument '{word}'")
             if filled[place] is not missing:
-                raise TypeError(f"'{word}' is given twice")
+                raise TypeError(f"'{word}' was given twice")
             filled[place] = value
         absent = [word_of(name) for name, value in zip(self.parameters, filled) if value is missing]
         if absent:
-            raise TypeError(f"without an argument: {', '.join(absent)}")
+            raise TypeError(f"missing arguments: {', '.join(absent)}")
         return filled
 
     def key_of(self, key: Union[Text, Key]) -> Union[bytes, Key]:
-        """A key's bytes, or itself where the machine has looked it up."""
+        """A key's bytes, or the key itself if the machine has looked it up."""
         if not isinstance(key, Key):
             return octets(key)
         if key.machine is not self.machine:
-            raise ValueError("a key is another machine's")
+            raise ValueError("the key belongs to another machine")
         return key
 
     def call(self, *given: Any, **named: Any) -> Call:
-        """A call with these arguments: keys are texts or of `Machine.key`, values are numbers of 64 bits."""
+        """A call with these arguments: keys are texts or results of `Machine.key`, values are 64-bit integers."""
         filled = self.arguments(given, named)
         count = len(self.keys)
         keys = tuple(map(self.key_of, filled[:count]))
@@ -117,7 +117,7 @@ class Procedure:
         return Call(self, keys, values)
 
     def __call__(self, *given: Any, **named: Any) -> Reply:
-        """Runs the call alone, and gives its reply."""
+        """Runs one call, and returns its reply."""
         return self.machine.run([self.call(*given, **named)])[0]
 
     def opened(self) -> Any:
@@ -126,7 +126,7 @@ class Procedure:
         return byref(self.raw)
 
     def close(self) -> None:
-        """Frees the procedure. A second time it does nothing."""
+        """Frees the procedure. Does nothing if it is closed."""
         with self.machine.lock:
             if self.raw.at:
                 self.machine.library.calls.bohm_close_procedure(byref(self.raw))

@@ -1,4 +1,4 @@
-"""Replies, and answers of whole logs."""
+"""Replies, and the answers of whole logs."""
 import enum
 import struct
 from typing import Dict, List, NamedTuple, Optional, Tuple
@@ -14,10 +14,10 @@ class Reason(enum.Enum):
 
 
 class Reply(NamedTuple):
-    """The reply to the transaction with a timestamp. `str` gives its line in the text of an answer.
+    """The reply to the transaction with a timestamp. `str` returns its line in the text of an answer.
 
-    A commit has the shown values. An abort has its reason and the statement that aborted, counted from 1, and in a
-    call from the first `let` of the procedure's values."""
+    A commit has the shown values. An abort has its reason and the number of the statement that aborted, counted from 1;
+    in a call the count begins with the `let`s of the procedure's values."""
 
     timestamp: int
     shows: Tuple[int, ...] = ()
@@ -35,7 +35,7 @@ class Reply(NamedTuple):
 
 
 class Answer(NamedTuple):
-    """The replies of a log, and the store that it leaves. `str` gives the text."""
+    """The replies of a log, and the final store. `str` returns the answer's text."""
 
     replies: List[Reply]
     store: Dict[str, int]
@@ -45,13 +45,13 @@ class Answer(NamedTuple):
         return "".join(f"{line}\n" for line in lines)
 
 
-# How the library lays out a reply: outcome, statement, the place of its first value among all, and their number.
+# The layout of the library's reply: outcome, statement, the index of its first value among all values, and their count.
 ROW = struct.Struct("=IIQQ")
 REASONS = (None, Reason.NEED, Reason.FAIL, Reason.ABSENT, Reason.RANGE)
 
 
 def replies_of(behind: int, rows: bytes, values: bytes) -> List[Reply]:
-    """The replies of rows and the values that they show, behind a timestamp."""
+    """The replies made from rows and shown values; they follow the timestamp `behind`."""
     shown = struct.unpack(f"={len(values) // 8}q", values)
     return [
         Reply(timestamp, shown[first:first + count], REASONS[outcome], statement)
@@ -67,7 +67,7 @@ def reply_of(line: str) -> Reply:
 
 
 def store_of(lines: List[str]) -> Dict[str, int]:
-    """The store of lines of a key and its value."""
+    """The store from lines that have a key and its value."""
     return {key: int(value) for key, value in (line.split(" ") for line in lines)}
 
 

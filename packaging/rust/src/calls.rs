@@ -1,4 +1,4 @@
-//! Procedures, and lists of their calls.
+//! Procedures, and lists of calls of them.
 
 use crate::error::{done, told, Error};
 use crate::raw::{self, Handle, Key};
@@ -7,7 +7,7 @@ use crate::text::Text;
 use std::ptr;
 use std::sync::atomic::{AtomicU64, Ordering};
 
-/// The edition of a procedure, and of the log that calls stand for.
+/// The edition of a procedure, and of the log that its calls represent.
 #[derive(Clone, Copy, Debug, PartialEq, Eq, Hash)]
 pub enum Edition {
     One = 1,
@@ -24,7 +24,7 @@ pub struct Procedure {
 unsafe impl Send for Procedure {}
 
 impl Procedure {
-    /// The procedure of a text. A refusal's statements count the `let`s of the values.
+    /// Reads and checks a procedure. Statement numbers in a refusal count the `let`s of the values.
     pub fn prepare(text: impl AsRef<[u8]>) -> Result<Procedure, Error> {
         let text = text.as_ref();
         let (mut raw, mut out) = (Handle::closed(), Text::none());
@@ -42,18 +42,18 @@ impl Drop for Procedure {
     }
 }
 
-/// Procedures have at most so many keys.
+/// The most keys that a procedure can have.
 const MOST_KEYS: usize = 32;
 
-/// A key that a list of calls has looked up, by [`Calls::key`]. The list's calls name the key by it, until the list is
-/// dropped.
+/// A key that a list of calls has looked up, by [`Calls::key`]. Calls in that list can name the key by it, until the list
+/// is dropped.
 #[derive(Clone, Copy, Debug, PartialEq, Eq, Hash)]
 pub struct KeyHandle {
     list: u64,
     number: u32,
 }
 
-/// Calls of procedures, which [`Machine::run`](crate::Machine::run) runs as a segment.
+/// A list of calls of procedures, which [`Machine::run`](crate::Machine::run) runs as a segment.
 #[derive(Debug)]
 pub struct Calls {
     pub(crate) raw: Handle,
@@ -61,14 +61,14 @@ pub struct Calls {
     len: usize,
 }
 
-/// How many lists were made. Each has a number of its own, so that no other list takes its handles.
+/// The number of lists made so far. Each list has its own number, so that no other list accepts its handles.
 static LISTS: AtomicU64 = AtomicU64::new(0);
 
 // SAFETY: `bohm.h` says that a list may go to another thread.
 unsafe impl Send for Calls {}
 
 impl Calls {
-    /// No calls, of procedures of an edition. [`Machine::calls`](crate::Machine::calls) makes a list whose calls cost less.
+    /// An empty list for procedures of an edition. [`Machine::calls`](crate::Machine::calls) makes a list whose calls cost less.
     pub fn new(edition: Edition) -> Result<Calls, Error> {
         let mut raw = Handle::closed();
         // SAFETY: the handle is closed.
@@ -76,13 +76,13 @@ impl Calls {
         Ok(Calls::opened(raw))
     }
 
-    /// An open list of no calls.
+    /// An empty list, from an open handle.
     pub(crate) fn opened(raw: Handle) -> Calls {
         Calls { raw, number: LISTS.fetch_add(1, Ordering::Relaxed), len: 0 }
     }
 
-    /// The handle of a key, by which [`push_named`](Calls::push_named) names it in this list. A key that is called over
-    /// and over is so looked up once. Each call makes a new one, which stays when the list is cleared.
+    /// Makes a handle of a key, by which [`push_named`](Calls::push_named) names the key in this list, so that a key
+    /// that is used again and again is looked up once. Each call makes a new handle, which survives `clear`.
     pub fn key(&mut self, name: impl AsRef<[u8]>) -> Result<KeyHandle, Error> {
         let (name, mut number) = (name.as_ref(), 0);
         // SAFETY: the list is open until it is dropped, and the name has that length.
@@ -90,7 +90,7 @@ impl Calls {
         Ok(KeyHandle { list: self.number, number })
     }
 
-    /// Adds a call with these arguments, in the order of the parameters. After an error the list is as it was.
+    /// Appends a call with these arguments, in the order of the parameters. After an error the list is unchanged.
     pub fn push<K: AsRef<[u8]>>(&mut self, procedure: &Procedure, keys: &[K], values: &[i64]) -> Result<(), Error> {
         if keys.len() > MOST_KEYS {
             return Err(Error::Unfit);
@@ -108,7 +108,7 @@ impl Calls {
         Ok(())
     }
 
-    /// Adds a call as [`push`](Calls::push) does, whose keys are named by handles of this list.
+    /// Appends a call as [`push`](Calls::push) does, with its keys named by handles of this list.
     pub fn push_named(&mut self, procedure: &Procedure, keys: &[KeyHandle], values: &[i64]) -> Result<(), Error> {
         if keys.len() > MOST_KEYS {
             return Err(Error::Unfit);
@@ -138,7 +138,7 @@ impl Calls {
         self.len == 0
     }
 
-    /// Takes all calls out. Their room is kept for others, and handles stay.
+    /// Removes all calls. Their memory is kept for later calls, and handles stay valid.
     pub fn clear(&mut self) {
         // SAFETY: the list is open until it is dropped.
         unsafe { raw::bohm_clear_calls(&mut self.raw) };

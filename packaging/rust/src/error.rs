@@ -1,11 +1,11 @@
-//! What a call refuses.
+//! The errors of calls.
 
 use crate::raw;
 use crate::replies::Replies;
 use crate::text::Text;
 use std::fmt;
 
-/// Why a call did not do what it is for. Only after `Stopped` and `Kept` has something changed.
+/// Why a call failed. Only after `Stopped` and `Kept` has anything changed.
 #[derive(Debug)]
 #[non_exhaustive]
 pub enum Error {
@@ -17,26 +17,26 @@ pub enum Error {
     Trimmed,
     /// The timestamp is above the top.
     Future,
-    /// The segment has a store of its own.
+    /// The segment has a store.
     HasStore,
     /// The segment's timestamps would pass 4294967295.
     Timestamps,
     /// The snapshot has transactions.
     HasLog,
-    /// The bytes are no key's.
+    /// The bytes are not a key.
     NoKey,
-    /// Replies of an earlier segment wait: [`Machine::replies`](crate::Machine::replies) hands them out.
+    /// Replies of an earlier segment are waiting: [`Machine::replies`](crate::Machine::replies) returns them.
     Waiting,
-    /// An allocation failed on the way, and whole batches of 4096 transactions ran, which have these replies.
+    /// An allocation failed part way: whole batches of 4096 transactions ran, with these replies.
     Stopped(Replies),
-    /// Transactions ran, and their replies could not be allocated: [`Machine::replies`](crate::Machine::replies) hands
-    /// them out later.
+    /// Transactions ran, but their replies could not be allocated: [`Machine::replies`](crate::Machine::replies) returns
+    /// them later.
     Kept,
-    /// An edition, a number of arguments or the number of calls doesn't fit.
+    /// An edition, a number of arguments or the number of calls is not acceptable.
     Unfit,
-    /// A key's handle is another list's.
+    /// A key's handle belongs to another list.
     OtherList,
-    /// A status that this crate doesn't know: the library is another one than its header.
+    /// A status that this crate doesn't know: the library isn't the one that its header describes.
     Unknown(u32),
 }
 
@@ -47,15 +47,15 @@ impl fmt::Display for Error {
             Error::NoMemory => to.write_str("an allocation failed"),
             Error::Trimmed => to.write_str("the timestamp is below the floor"),
             Error::Future => to.write_str("the timestamp is above the top"),
-            Error::HasStore => to.write_str("the segment has a store of its own"),
+            Error::HasStore => to.write_str("the segment has a store"),
             Error::Timestamps => to.write_str("the segment's timestamps would pass 4294967295"),
             Error::HasLog => to.write_str("the snapshot has transactions"),
-            Error::NoKey => to.write_str("the bytes are no key's"),
-            Error::Waiting => to.write_str("replies of an earlier segment wait"),
-            Error::Stopped(_) => to.write_str("an allocation failed on the way"),
-            Error::Kept => to.write_str("the replies could not be allocated, and wait"),
-            Error::Unfit => to.write_str("an edition, a number of arguments or the number of calls doesn't fit"),
-            Error::OtherList => to.write_str("a key's handle is another list's"),
+            Error::NoKey => to.write_str("the bytes are not a key"),
+            Error::Waiting => to.write_str("replies of an earlier segment were not taken yet"),
+            Error::Stopped(_) => to.write_str("an allocation failed after part of the segment had run"),
+            Error::Kept => to.write_str("the replies could not be allocated: take them later"),
+            Error::Unfit => to.write_str("an edition, a number of arguments or the number of calls is not acceptable"),
+            Error::OtherList => to.write_str("the key's handle belongs to another list"),
             Error::Unknown(status) => write!(to, "status {status}"),
         }
     }
@@ -63,7 +63,7 @@ impl fmt::Display for Error {
 
 impl std::error::Error for Error {}
 
-/// What a status says, where the line of a refusal was handed out.
+/// The result of a status; `out` has the line of a refusal.
 pub(crate) fn told(status: u32, out: &Text) -> Result<(), Error> {
     Err(match status {
         raw::DONE => return Ok(()),
@@ -81,7 +81,7 @@ pub(crate) fn told(status: u32, out: &Text) -> Result<(), Error> {
     })
 }
 
-/// What a status says of a call that hands out no bytes.
+/// The result of a status, for a call that returns no bytes.
 pub(crate) fn done(status: u32) -> Result<(), Error> {
     told(status, &Text::none())
 }

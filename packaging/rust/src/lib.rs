@@ -1,4 +1,4 @@
-//! The calls of `bohm.h`, as Rust wants them: what is opened is closed when it is dropped, and what a call refuses is an
+//! The functions of `bohm.h`, for Rust: whatever is opened is closed when it is dropped, and a call that fails returns an
 //! [`Error`].
 //!
 //! ```no_run

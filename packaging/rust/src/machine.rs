@@ -1,4 +1,4 @@
-//! Machines, and answers of whole logs.
+//! Machines, and the answers of whole logs.
 
 use crate::calls::{Calls, Edition};
 use crate::error::{done, told, Error};
@@ -7,7 +7,8 @@ use crate::replies::Replies;
 use crate::seed;
 use crate::text::{Owned, Text};
 
-/// The least and the greatest timestamp that can be read, how many versions are kept, and how many replies wait.
+/// The least and the greatest timestamp that can be read, how many versions are kept, and how many replies are
+/// waiting.
 #[repr(C)]
 #[derive(Clone, Copy, Debug, Default, PartialEq, Eq)]
 pub struct Counts {
@@ -17,7 +18,7 @@ pub struct Counts {
     pub waiting: u64,
 }
 
-/// The text of a whole log's answer.
+/// Runs a whole log, and returns the text of its answer.
 pub fn answer(log: impl AsRef<[u8]>) -> Result<Text, Error> {
     let log = log.as_ref();
     let mut out = Text::none();
@@ -27,8 +28,8 @@ pub fn answer(log: impl AsRef<[u8]>) -> Result<Text, Error> {
     Ok(out)
 }
 
-/// A store with its past, from a floor up to a top, which are timestamps. It may move to another thread, and is in one
-/// call at a time.
+/// A store with its past, from one timestamp, the floor, up to another, the top. It may move to another thread, and runs
+/// one call at a time.
 #[derive(Debug)]
 pub struct Machine {
     raw: Handle,
@@ -38,7 +39,7 @@ pub struct Machine {
 unsafe impl Send for Machine {}
 
 impl Machine {
-    /// Opens the store of a snapshot, as it stands after the transaction with the timestamp `top`.
+    /// Opens a snapshot: the store after the transaction with the timestamp `top`.
     pub fn open(snapshot: impl AsRef<[u8]>, top: u32) -> Result<Machine, Error> {
         let snapshot = snapshot.as_ref();
         let (mut raw, mut out) = (Handle::closed(), Text::none());
@@ -49,7 +50,7 @@ impl Machine {
         Ok(Machine { raw })
     }
 
-    /// The replies of what was run behind a timestamp.
+    /// The replies of the transactions that just ran, which follow the timestamp `behind`.
     fn handed(&mut self, status: u32, behind: u32) -> Result<Replies, Error> {
         let mut replies = Replies { behind, rows: Owned::none(), values: Owned::none() };
         // SAFETY: the machine is open until it is dropped.
@@ -73,8 +74,8 @@ impl Machine {
         self.handed(status, behind)
     }
 
-    /// No calls, of procedures of an edition, in a list that shares the names of the keys that the store had when the
-    /// machine was opened: calls on these keys take least time and memory so. The list runs on any machine.
+    /// An empty list of calls for procedures of an edition. It shares the names of the keys that the store had when the
+    /// machine was opened: calls on these keys take the least time and memory. The list runs on any machine.
     pub fn calls(&self, edition: Edition) -> Result<Calls, Error> {
         let mut raw = Handle::closed();
         // SAFETY: the machine is open until it is dropped, and the handle is closed.
@@ -99,7 +100,7 @@ impl Machine {
         self.handed(raw::DONE, counts.top - counts.waiting as u32)
     }
 
-    /// What a key holds after the transaction with a timestamp, if it holds something.
+    /// A key's value after the transaction with timestamp `ts`; `None` if it has none.
     pub fn value_at(&self, key: impl AsRef<[u8]>, ts: u32) -> Result<Option<i64>, Error> {
         let key = key.as_ref();
         let (mut present, mut value) = (0, 0);
@@ -108,7 +109,7 @@ impl Machine {
         Ok((present == 1).then_some(value))
     }
 
-    /// The snapshot of a timestamp, on which another machine can be opened.
+    /// The snapshot at a timestamp, on which another machine can be opened.
     pub fn store_at(&self, ts: u32) -> Result<Text, Error> {
         let mut out = Text::none();
         // SAFETY: as above.
@@ -116,7 +117,7 @@ impl Machine {
         Ok(out)
     }
 
-    /// The digest of what keys hold at a timestamp: machines that hold the same have the same digest.
+    /// The digest of the store at a timestamp: machines with equal stores have equal digests.
     pub fn digest(&self, ts: u32) -> Result<[u8; 32], Error> {
         let mut digest = [0; 32];
         // SAFETY: as above.
@@ -124,7 +125,7 @@ impl Machine {
         Ok(digest)
     }
 
-    /// Lets the past below a timestamp go.
+    /// Drops the past below a timestamp.
     pub fn trim(&mut self, floor: u32) -> Result<(), Error> {
         // SAFETY: as above.
         done(unsafe { raw::bohm_trim(&mut self.raw, floor) })
@@ -142,12 +143,12 @@ impl Machine {
         self.timestamps().0
     }
 
-    /// The greatest timestamp that can be read, which is that of the last transaction.
+    /// The greatest timestamp that can be read, that of the last transaction.
     pub fn top(&self) -> u32 {
         self.timestamps().1
     }
 
-    /// Counts what there is. Its time grows with the number of keys.
+    /// Counts versions and waiting replies. Its time grows with the number of keys.
     pub fn counts(&self) -> Counts {
         let mut counts = Counts::default();
         // SAFETY: as above.

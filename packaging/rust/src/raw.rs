@@ -1,4 +1,4 @@
-//! What `bohm.h` declares.
+//! The declarations of `bohm.h`.
 
 use std::os::raw::c_void;
 
@@ -14,7 +14,7 @@ impl<T> Array<T> {
     }
 }
 
-/// A machine, a procedure or a list of calls: null where it is closed.
+/// A machine, a procedure or a list of calls: null if it is closed.
 #[repr(C)]
 #[derive(Debug)]
 pub struct Handle {

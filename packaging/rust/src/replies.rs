@@ -24,15 +24,15 @@ impl fmt::Display for Reason {
     }
 }
 
-/// How a transaction ended: it committed and shows these values, or it aborted at a statement, counted from 1, and in a
-/// call from the first `let` of the procedure's values.
+/// How a transaction ended: it committed and shows these values, or it aborted at a statement, counted from 1; in a call
+/// the count begins with the `let`s of the procedure's values.
 #[derive(Clone, Copy, Debug, PartialEq, Eq)]
 pub enum Outcome<'a> {
     Commit { shows: &'a [i64] },
     Abort { reason: Reason, statement: u32 },
 }
 
-/// The reply to the transaction with a timestamp. Its display is its line in the text of an answer.
+/// The reply to the transaction with a timestamp. It displays as its line in the text of an answer.
 #[derive(Clone, Copy, Debug, PartialEq, Eq)]
 pub struct Reply<'a> {
     pub timestamp: u32,
@@ -57,7 +57,7 @@ impl fmt::Display for Reply<'_> {
     }
 }
 
-/// The replies of a segment. Their display is a line for each.
+/// The replies of a segment. They display as a line for each.
 #[derive(Debug)]
 pub struct Replies {
     pub(crate) behind: u32,
@@ -74,7 +74,7 @@ impl Replies {
         self.rows.is_empty()
     }
 
-    /// The reply of the transaction with this place in the segment, counted from 0.
+    /// The reply of the transaction with this index in the segment, counted from 0.
     pub fn get(&self, place: usize) -> Option<Reply<'_>> {
         let row = self.rows.get(place)?;
         let first = row.first as usize;

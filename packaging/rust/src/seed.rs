@@ -1,9 +1,9 @@
-//! Seeds of key hashes.
+//! Seeds for hashing keys.
 
 use std::collections::hash_map::RandomState;
 use std::hash::BuildHasher;
 
-/// 16 random bytes, so that who chooses keys can't choose ones that collide.
+/// 16 random bytes, so that whoever chooses keys can't choose ones that collide.
 pub fn draw() -> [u8; 16] {
     let source = RandomState::new();
     let mut seed = [0; 16];

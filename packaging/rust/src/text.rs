@@ -1,15 +1,15 @@
-//! Bytes that the library hands out, and what it tells of itself.
+//! Bytes that the library returns, and its version and checksum.
 
 use crate::raw::{self, Array};
 use std::ffi::CStr;
 use std::{fmt, ops, slice};
 
-/// Elements that the library handed out: they are freed when this is dropped.
+/// Elements that the library returned: they are freed when this is dropped.
 pub(crate) struct Owned<T>(Array<T>);
 
-// SAFETY: nobody else has the memory, and it isn't tied to a thread.
+// SAFETY: nothing else owns the memory, and it isn't tied to a thread.
 unsafe impl<T: Send> Send for Owned<T> {}
-// SAFETY: behind a `&` it is only read.
+// SAFETY: through a `&` it is only read.
 unsafe impl<T: Sync> Sync for Owned<T> {}
 
 impl<T> Owned<T> {
@@ -17,7 +17,7 @@ impl<T> Owned<T> {
         Owned(Array::none())
     }
 
-    /// Where a call hands out elements. There are none before it.
+    /// Where a call returns elements. There are none before the call.
     pub fn out(&mut self) -> *mut Array<T> {
         debug_assert!(self.0.at.is_null());
         &mut self.0
@@ -31,14 +31,14 @@ impl<T> ops::Deref for Owned<T> {
         if self.0.at.is_null() {
             return &[];
         }
-        // SAFETY: a call handed out so many elements there.
+        // SAFETY: a call returned `len` elements there.
         unsafe { slice::from_raw_parts(self.0.at, self.0.len) }
     }
 }
 
 impl<T> Drop for Owned<T> {
     fn drop(&mut self) {
-        // SAFETY: it was handed out, or is null.
+        // SAFETY: a call returned the pointer, or it is null.
         unsafe { raw::bohm_free(self.0.at.cast()) }
     }
 }
@@ -49,7 +49,7 @@ impl<T: fmt::Debug> fmt::Debug for Owned<T> {
     }
 }
 
-/// A text that the library handed out. It is ASCII.
+/// A text that the library returned. It is ASCII.
 pub struct Text(pub(crate) Owned<u8>);
 
 impl Text {
@@ -88,7 +88,7 @@ impl fmt::Debug for Text {
     }
 }
 
-/// A text that ends with a zero.
+/// The text of bytes that end with a zero.
 fn text_of(bytes: &'static [u8]) -> &'static str {
     CStr::from_bytes_until_nul(bytes).ok().and_then(|text| text.to_str().ok()).unwrap_or_default()
 }

@@ -1,4 +1,4 @@
-//! The answer, once all was run.
+//! The answer, when everything has run.
 
 use crate::fault::Fault;
 use crate::log::Log;
@@ -10,14 +10,14 @@ use crate::times::Times;
 use std::thread;
 
 pub struct Answer {
-    /// The replies' texts, by the numbers of their windows.
+    /// The replies' texts, with the numbers of their windows.
     pub replies: Vec<(usize, Vec<u8>)>,
     /// The names that aren't in the starting store.
     pub others: Names,
     pub cells: Vec<Cell>,
 }
 
-/// The fewest entries of the store that are worth a thread.
+/// The least number of store entries that is worth a thread.
 const ENTRIES: usize = 1 << 14;
 
 impl Answer {
@@ -30,13 +30,13 @@ impl Answer {
         let replies = self.replies.iter().map(|(_, out)| out.as_slice());
         let parts = replies.chain([BETWEEN]).chain(store.iter().map(Vec::as_slice));
         let written = times.take("write", || text::write(parts));
-        // The process ends, which gives all back at once.
+        // The process ends, which frees everything at once.
         std::mem::forget((self, names, store));
         written
     }
 }
 
-/// The text of the store that is left, in parts that a thread each prints.
+/// The text of the final store, in parts that are each printed by a thread.
 fn print_store(names: &[Name], stored: usize, cells: &[Cell], threads: usize) -> Vec<Vec<u8>> {
     let keys = in_order(names, stored);
     let size = keys.len().div_ceil(threads).max(ENTRIES);

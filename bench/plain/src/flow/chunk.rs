@@ -1,4 +1,4 @@
-//! A window that was parsed and checked.
+//! A parsed and checked window.
 
 use crate::check::check_txns;
 use crate::draft::Draft;
@@ -10,17 +10,17 @@ use crate::text::Window;
 use std::time::{Duration, Instant};
 
 pub struct Chunk {
-    /// The thread whose numbers the keys have that aren't in the store.
+    /// The thread that numbered the keys that aren't in the store.
     pub thread: usize,
     pub txns: Columns,
-    /// The names that the thread met here first, by their numbers.
+    /// The names that the thread first met here, by their numbers.
     pub fresh: Vec<Name>,
     pub lines: usize,
-    /// The first fault, its line and its transaction counted from the window's beginning.
+    /// The first fault, with line and transaction counted from the beginning of the window.
     pub fault: Option<Fault>,
 }
 
-/// How long a thread did what.
+/// How long a thread spent on each part.
 #[derive(Default)]
 pub struct Busy {
     pub parse: Duration,
@@ -36,7 +36,7 @@ impl Busy {
     }
 }
 
-/// What a thread reads with.
+/// A thread's state for reading.
 pub struct Reader<'a> {
     thread: usize,
     stored: usize,
@@ -58,7 +58,7 @@ impl<'a> Reader<'a> {
         let fault = match parsed {
             Ok(()) => {
                 let parsed = Instant::now();
-                // A store that isn't in order is refused for that, whatever is found here.
+                // A store that isn't in order is refused for that, whatever this check finds.
                 let checked = check_txns(&txns, self.stored, |number| self.names.name(number));
                 self.busy.check += parsed.elapsed();
                 self.busy.parse += parsed - start;

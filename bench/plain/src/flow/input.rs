@@ -1,10 +1,10 @@
-//! The text behind the store, cut into windows of whole transactions.
+//! The text after the store, cut into windows of whole transactions.
 
 use crate::fault::Fault;
 use crate::text::{Buffer, Text};
 use std::time::Duration;
 
-/// A window that was handed out.
+/// A window that was given to a thread.
 pub struct Piece {
     /// Its number, from 0.
     pub number: usize,
@@ -21,17 +21,17 @@ pub struct Input {
 }
 
 impl Input {
-    /// What stands in the text from its window's beginning.
+    /// The rest of the text, from the beginning of its window.
     pub fn new(text: Text) -> Input {
         Input { text, next: 0, has_ended: false, fault: None }
     }
 
-    /// Whether all windows were handed out.
+    /// Whether all windows were taken.
     pub fn has_ended(&self) -> bool {
         self.has_ended
     }
 
-    /// The next window, unless there is none.
+    /// The next window, if there is one.
     pub fn next(&mut self, buffer: &mut Buffer) -> Option<Piece> {
         while !self.has_ended {
             let is_full = self.text.fill().unwrap_or_else(|fault| self.refuse(fault));
@@ -52,13 +52,13 @@ impl Input {
         None
     }
 
-    /// No window is full any more.
+    /// Notes the fault: no more windows follow.
     fn refuse(&mut self, fault: Fault) -> bool {
         self.fault = Some(fault);
         false
     }
 
-    /// Reads the rest, which nobody looks at.
+    /// Reads the rest of the text and ignores it.
     pub fn drain(&mut self) {
         while !self.has_ended {
             match self.text.read_on(self.text.window().len()) {
@@ -72,13 +72,13 @@ impl Input {
         }
     }
 
-    /// How long reading took, if the text came to its end.
+    /// How long reading took, if the text was read to its end.
     pub fn end(self) -> Result<Duration, Fault> {
         self.fault.map_or(Ok(self.text.reading), Err)
     }
 }
 
-/// Where the last transaction begins that isn't the first. A line that is `txn` begins one, or is bad.
+/// Where the last transaction begins, unless it is the first. A line `txn` begins one, or is bad.
 fn last_txn(bytes: &[u8]) -> Option<usize> {
     bytes.windows(5).rposition(|five| five == b"\ntxn\n").map(|at| at + 1)
 }

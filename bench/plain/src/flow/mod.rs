@@ -1,6 +1,6 @@
-//! The log in windows, the fastest way on several threads: whoever is free reads the next window, parses and
-//! checks it; whoever finds the next one in order runs what is ready; any thread prints what was run. Names of
-//! the store are read first and shared. A window's bytes and its columns are used again.
+//! The log in windows, the fastest way on several threads: a free thread reads the next window, parses and
+//! checks it; a thread that finds the next window in order ready runs all that are; any thread prints what has
+//! run. Names of the store are read first and shared. A window's bytes and columns are reused.
 
 mod answer;
 mod chunk;
@@ -18,7 +18,7 @@ use work::Shared;
 
 pub struct Settings {
     pub threads: usize,
-    /// How many bytes a window has, if no transaction is longer.
+    /// The size of a window in bytes, if no transaction is longer.
     pub window: usize,
 }
 

@@ -1,4 +1,4 @@
-//! What happens in the order of the log: the run, and which fault comes first.
+//! The work in log order: running, and finding the first fault.
 
 use super::chunk::Chunk;
 use crate::check::{MOST_TXNS, check_store};
@@ -12,13 +12,13 @@ use std::time::{Duration, Instant};
 /// Chunks that wait for those before them.
 #[derive(Default)]
 pub struct Queue {
-    /// The number of the first one that wasn't taken.
+    /// The number of the next chunk to be taken.
     next: usize,
     chunks: VecDeque<Option<Chunk>>,
 }
 
 impl Queue {
-    /// Puts a chunk in its place; answers how many places there are.
+    /// Stores a chunk by its number; returns how many slots there are.
     pub fn put(&mut self, number: usize, chunk: Chunk) -> usize {
         let place = number - self.next;
         if self.chunks.len() <= place {
@@ -28,7 +28,7 @@ impl Queue {
         self.chunks.len()
     }
 
-    /// The next chunk and its number, if it was read.
+    /// The next chunk and its number, if it has been read.
     pub fn take(&mut self) -> Option<(usize, Chunk)> {
         let chunk = self.chunks.front_mut()?.take()?;
         self.chunks.pop_front();
@@ -40,7 +40,7 @@ impl Queue {
 /// A chunk that was run.
 pub struct Done {
     pub number: usize,
-    /// How many transactions are before it.
+    /// How many transactions precede it.
     pub before: usize,
     pub txns: Columns,
     pub replies: Vec<Reply>,
@@ -49,9 +49,9 @@ pub struct Done {
 
 pub struct Runner<'a> {
     start: &'a Log,
-    /// The names that aren't in the store, numbered behind those that are.
+    /// The names that aren't in the store, numbered after those that are.
     others: Names,
-    /// Of each thread what numbers its own ones stand for.
+    /// For each thread, the numbers that its own key numbers are mapped to.
     numbers: Vec<Vec<u32>>,
     cells: Vec<Cell>,
     txns: usize,
@@ -110,7 +110,7 @@ impl<'a> Runner<'a> {
         self.lines += chunk.lines;
     }
 
-    /// Whether what came so far is a log. A bad line is told before all faults of the check.
+    /// Whether the text so far is a log. A bad line takes precedence over all faults of the check.
     pub fn verdict(&self) -> Result<(), Fault> {
         self.bad_line.map_or(Ok(()), Err)?;
         self.store?;
@@ -120,7 +120,7 @@ impl<'a> Runner<'a> {
         self.check.map_or(Ok(()), Err)
     }
 
-    /// The names that aren't in the store, and the cells of all.
+    /// The names that aren't in the store, and the cells of all keys.
     pub fn end(self) -> (Names, Vec<Cell>) {
         (self.others, self.cells)
     }

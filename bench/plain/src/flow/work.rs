@@ -1,4 +1,4 @@
-//! What the threads share, and what each of them does.
+//! The threads' shared state, and the work of each of them.
 
 use super::chunk::{Busy, Reader};
 use super::input::{Input, Piece};
@@ -12,23 +12,23 @@ use std::sync::{Mutex, MutexGuard};
 use std::thread;
 use std::time::Instant;
 
-/// How many windows each thread may be ahead of the run.
+/// How many windows ahead of the run, for each thread, may be read.
 const AHEAD: usize = 4;
 
 pub struct Shared<'a> {
     start: &'a Log,
     threads: usize,
     input: Mutex<Input>,
-    /// What was read and not run.
+    /// The chunks that have been read but not run.
     queue: Mutex<Queue>,
     runner: Mutex<Runner<'a>>,
-    /// What was run and not printed.
+    /// The chunks that have been run but not printed.
     done: Mutex<Vec<Done>>,
-    /// What was printed, by the windows' numbers.
+    /// The printed replies, with their windows' numbers.
     printed: Mutex<Vec<(usize, Vec<u8>)>>,
-    /// Columns to be used again.
+    /// Columns for reuse.
     spare: Mutex<Vec<Columns>>,
-    /// Whether a bad line was found that no other one comes before.
+    /// Whether a bad line was found with no other before it.
     is_refused: AtomicBool,
 }
 
@@ -57,7 +57,7 @@ impl<'a> Shared<'a> {
         }
     }
 
-    /// All windows, by as many threads as there may be; by one if all is one window.
+    /// Processes all windows on the given number of threads; on one if there is only one window.
     pub fn work_all(&self) -> Busy {
         let mut buffer = Buffer::default();
         let first = self.next(&mut buffer);
@@ -74,9 +74,9 @@ impl<'a> Shared<'a> {
         })
     }
 
-    /// The input, the run, and the replies' texts by the numbers of their windows.
+    /// The input, the run, and the replies' texts with the numbers of their windows.
     pub fn end(self) -> (Input, Runner<'a>, Vec<(usize, Vec<u8>)>) {
-        // Columns are given back when the process ends, all at once.
+        // Columns are freed when the process ends, all at once.
         std::mem::forget(self.spare);
         (into_inner(self.input), into_inner(self.runner), into_inner(self.printed))
     }
@@ -84,13 +84,13 @@ impl<'a> Shared<'a> {
     fn next(&self, buffer: &mut Buffer) -> Option<Piece> {
         let mut input = lock(&self.input);
         if self.is_refused.load(Relaxed) {
-            // The text may be too long, which is told first.
+            // The text may be too long, which is reported first.
             input.drain();
         }
         input.next(buffer)
     }
 
-    /// Reads windows until there are no more, beginning with the one that was taken.
+    /// Processes windows until there are no more, beginning with the one already taken.
     fn work(&self, thread: usize, first: Option<Piece>, mut buffer: Buffer) -> Busy {
         let mut reader = Reader::new(thread, self.start);
         let mut piece = first.or_else(|| self.next(&mut buffer));
@@ -98,7 +98,7 @@ impl<'a> Shared<'a> {
             let columns = lock(&self.spare).pop().unwrap_or_else(Columns::new);
             let chunk = reader.read(buffer.window(), is_last, columns);
             let waiting = lock(&self.queue).put(number, chunk);
-            // Who is far ahead waits for the run, so that memory stays bounded.
+            // A thread that is far ahead waits for the run, so that memory stays bounded.
             let is_far = waiting > AHEAD * self.threads;
             let runner = if is_far { Some(lock(&self.runner)) } else { self.runner.try_lock().ok() };
             if let Some(mut runner) = runner {

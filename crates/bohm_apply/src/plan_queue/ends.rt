@@ -16,13 +16,13 @@ use std::alloc::Global;
 use std::marker::Model;
 use std::sync::Wait;
 
-/// The most notes in the queue.
+/// The maximum number of notes in the queue.
 const CAPACITY: usize = 2;
 
-/// Where a sending end pushes.
+/// The end of the channel to which a sending end pushes.
 type Pushes<L> = RuledSender<PlanNote, End, InOrder<L>>;
 
-/// Where a taking end pops.
+/// The end of the channel from which a taking end pops.
 type Pops<L> = RuledReceiver<PlanNote, End, InOrder<L>>;
 
 /// The sending end. Contracts see it as its queue and the notes that were sent.
@@ -86,7 +86,7 @@ pub fn plan_line<L: Line>(alloc: Global) -> Result<(PlanSender<L>, PlanReceiver<
 }
 
 impl<L: Line> PlanSender<L> {
-    /// How many notes were sent.
+    /// The number of notes that were sent.
     pub fn sent(&self) -> u32
         ensures { result ≡ length self.now.notes }
     {
@@ -108,14 +108,14 @@ impl<L: Line> PlanSender<L> {
 }
 
 impl<L: Line> PlanReceiver<L> {
-    /// How many notes were taken.
+    /// The number of notes that were taken.
     pub fn taken(&self) -> u32
         ensures { result ≡ length self.now.notes }
     {
         self.taken
     }
 
-    /// Takes the next note. It blocks until there is one, forever if none comes.
+    /// Takes the next note. It blocks until one arrives, forever if none does.
     pub fn take<R: Wait>(&mut self, rt: &R) -> PlanNote
         requires batch { length self.old.notes < length L.cutting.sizes }
         requires open { All (λ taken. IsSome taken.plan) self.old.notes }
@@ -130,7 +130,7 @@ impl<L: Line> PlanReceiver<L> {
     }
 }
 
-// Sends until the queue takes the note.
+// Retries until the queue accepts the note.
 fn send_note<L: Line, R: Wait>(
     rt: &R,
     to: &Pushes<L>,
@@ -153,7 +153,7 @@ fn send_note<L: Line, R: Wait>(
     unreachable!()
 }
 
-// Takes until a note comes.
+// Retries until a note arrives.
 fn take_note<L: Line, R: Wait>(rt: &R, from: &Pops<L>, pass: &mut Pass<PlanNote, End>) -> PlanNote
     requires seat { IsSeatAt (receives_on from.now) pass.old }
     requires role { (pass_view pass.old).takes ≡ true }

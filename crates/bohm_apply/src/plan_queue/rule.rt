@@ -7,7 +7,7 @@ use crossbeam_channel::protocol::{Lesson, Outcome, Protocol};
 use std::collections::LinkedList;
 use std::marker::PhantomData;
 
-/// What an end may do, and what it has sent and taken. No value of it is made.
+/// What an end may do, and the notes that it has sent and taken. No value of this type is created.
 pub struct End {
     pub sends: bool,
     pub takes: bool,

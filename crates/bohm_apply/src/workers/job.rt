@@ -19,7 +19,7 @@ pub(crate) struct Worker {
     pub(crate) count: u32,
 }
 
-/// What a worker starts with.
+/// The initial state of a worker.
 #[derive(Drop)]
 pub(crate) struct Job {
     pub(crate) worker: Worker,
@@ -27,7 +27,7 @@ pub(crate) struct Job {
     pub(crate) scratch: Scratch,
 }
 
-/// What a worker hands back, also where an allocation failed.
+/// The result of a worker, even if an allocation failed.
 #[derive(Drop)]
 pub(crate) struct Swept {
     pub(crate) pass: Pass,
@@ -43,7 +43,7 @@ fn positions(alloc: Global, aside: &Aside) -> Result<Vec<u32>, NoMemory>
     Ok(positions)
 }
 
-/// Sweeps the share of a worker, and then once more what was deferred.
+/// Sweeps the share of a worker, and then once more the positions that were deferred.
 pub(crate) fn sweep_share<G: Gate>(
     alloc: Global,
     board: &Board,
@@ -75,7 +75,7 @@ pub(crate) fn sweep_share<G: Gate>(
     sweep(alloc, board, pass, &again, gate, scratch)
 }
 
-/// Carries a job out.
+/// Carries out a job.
 pub(crate) fn work<G: Gate>(alloc: Global, board: &Board, job: Job, gate: &G) -> Swept
     requires { IsReady board.now job }
     ensures { IsSwept board.now job.worker result }

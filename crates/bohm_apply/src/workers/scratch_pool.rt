@@ -7,13 +7,13 @@ use bohm_txn::Scratch;
 use bohm_types::NoMemory;
 use std::alloc::Global;
 
-/// The scratches of a number of workers, which are made once and go through all batches of a run. A
-/// batch of fewer transactions takes no more than it has.
+/// The scratches of a run's workers, which are created once and reused for all batches of the run.
+/// A batch with fewer transactions than workers uses only one scratch for each transaction.
 pub struct ScratchPool {
     count: u32,
-    // As many as a batch has needed so far.
+    // As many as the largest batch so far has needed.
     scratches: Vec<Scratch>,
-    // For what the workers leave.
+    // For the positions that the workers leave.
     pub(crate) last: Scratch,
     ghost some: { 0 < count },
 }
@@ -34,7 +34,7 @@ impl Drop for ScratchPool {
 impl ScratchPool {
     ghost use Rattle.bohm_apply.specs.Sweeps.{workers_of};
 
-    /// For this many workers.
+    /// A pool for this many workers.
     pub fn new(alloc: Global, executors: Executors) -> Result<ScratchPool, NoMemory>
         ensures { IfOk result (λ pool. workers_of pool ≡ executors) }
     {
@@ -53,7 +53,7 @@ impl ScratchPool {
         self.count
     }
 
-    /// Makes the scratches that this many workers lack.
+    /// Creates the scratches that are missing for this many workers.
     pub(crate) fn fill(&mut self, alloc: Global, workers: u32) -> Result<(), NoMemory>
         ensures count { workers_of self.new ≡ workers_of self.old }
         ensures full { OnOk result (workers ≤ vec_len self.new.scratches) }
@@ -64,7 +64,7 @@ impl ScratchPool {
         Ok(())
     }
 
-    /// Takes the scratch of one worker out.
+    /// Takes the scratch of one worker out of the pool.
     pub(crate) fn take(&mut self) -> Scratch
         requires { 0 < vec_len self.old.scratches }
         ensures count { workers_of self.new ≡ workers_of self.old }
@@ -76,7 +76,7 @@ impl ScratchPool {
         }
     }
 
-    /// Takes it back.
+    /// Puts a scratch back into the pool.
     pub(crate) fn give_back(&mut self, scratch: Scratch) -> Result<(), NoMemory>
         ensures count { workers_of self.new ≡ workers_of self.old }
     {

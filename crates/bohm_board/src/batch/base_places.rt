@@ -1,4 +1,4 @@
-//! Notes in a batch's plan the indices of its keys in the base.
+//! Noting, in a batch's plan, the indices of its keys in the base.
 
 ghost use Rattle.std.specs.Prelude.{◌≡◌, ℕ, List, ◌-◌, ◌<◌, ◌≤◌, ◌^◌, IfOk};
 ghost use Rattle.std.specs.Prelude.{OnErr, length, slice_get, Some, true, false};
@@ -28,7 +28,7 @@ fn search(entries: &[(Key, Cell)], key: &Key) -> Result<usize, usize>
     )
 }
 
-/// Notes the indices of the keys of one declared set of the transaction with the timestamp t.
+/// Notes the indices of the keys of one declared set of the transaction with the timestamp `t`.
 fn note_set(plan: &mut Plan, entries: &[(Key, Cell)], set: DeclaredSet, t: u32, txn: &TxnView<'_>)
     requires first { plan.old.first ≤ t }
     requires paired { length (keys_in set txn.now)
@@ -55,7 +55,7 @@ fn note_set(plan: &mut Plan, entries: &[(Key, Cell)], set: DeclaredSet, t: u32, 
     }
 }
 
-/// Notes at each access whose source is `Before` the index of its key in the base. The time grows
+/// Notes, at each access whose source is `Before`, the index of its key in the base. The time grows
 /// with the number of these accesses times the logarithm of the base's length.
 pub fn note_places(plan: &mut Plan, txns: &LogPart<'_>, entries: &[(Key, Cell)])
     requires batched { IsBatched txns.now plan.old }

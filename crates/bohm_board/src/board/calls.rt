@@ -60,7 +60,7 @@ impl<'a> Board<'a> {
         &self.batch
     }
 
-    /// Two passes that know what the one knew.
+    /// Splits a pass into two passes, each of which knows what it knew.
     pub fn split(&self, pass: Pass) -> (Pass, Pass)
         requires own { IsPassOf self.now pass }
         requires free { HoldsNothing (view pass) }
@@ -82,7 +82,7 @@ impl<'a> Board<'a> {
         (left, right)
     }
 
-    /// One pass that knows what the two knew.
+    /// Joins two passes into one pass, which knows what the two knew.
     pub fn join(&self, left: Pass, right: Pass) -> Pass
         requires own { IsPassOf self.now left × IsPassOf self.now right }
         requires free { HoldsNothing (view left) × HoldsNothing (view right) }
@@ -113,7 +113,7 @@ impl<'a> Board<'a> {
         }
     }
 
-    /// The status of the position with a timestamp. The pass's view records it.
+    /// The status of the position with the timestamp `t`. The pass's view records it.
     pub fn status(&self, pass: &mut Pass, t: u32) -> Status
         requires own { IsPassOf self.now pass.old }
         requires inside { IsIn (batch_of self.now) t }
@@ -127,8 +127,8 @@ impl<'a> Board<'a> {
         status_of_word(word)
     }
 
-    /// Claims the position with a timestamp, by a single exchange. An open one is the pass's from
-    /// then on.
+    /// Claims the position with the timestamp `t`, by a single exchange. If the position was Open,
+    /// the pass holds it from then on.
     pub fn claim(&self, pass: &mut Pass, t: u32) -> Claimed
         requires own { IsPassOf self.now pass.old }
         requires inside { IsIn (batch_of self.now) t }
@@ -169,7 +169,7 @@ impl<'a> Board<'a> {
         }
     }
 
-    /// Puts the right cell into a slot of the position that the pass holds.
+    /// Stores the right cell in a slot of the position that the pass holds.
     pub fn fill(&self, pass: &mut Pass, slot: Slot, cell: Cell)
         requires own { IsPassOf self.now pass.old }
         requires inside { IsSlot (batch_of self.now) slot }
@@ -190,7 +190,7 @@ impl<'a> Board<'a> {
         }
     }
 
-    /// Gives the position that the pass holds its outcome.
+    /// Stores the outcome of the position that the pass holds.
     pub fn finish(&self, pass: &mut Pass, t: u32, outcome: Outcome)
         requires own { IsPassOf self.now pass.old }
         requires inside { IsIn (batch_of self.now) t }
@@ -206,7 +206,7 @@ impl<'a> Board<'a> {
         pass.held = None;
     }
 
-    /// Closes the board. Its words show a state of the core, so one that meets the board law.
+    /// Closes the board. Its words show a state of the core, which therefore meets the board law.
     /// Positions that the pass saw Done have an outcome. The time grows with the number of words.
     pub fn close(self, pass: Pass) -> Closed<'a>
         requires own { IsPassOf self pass }

@@ -56,7 +56,7 @@ impl Play<(), View> for FillPresence {
     ghost then = { MeetsFill };
 }
 
-/// Both passes know what the one knew.
+/// Both new passes know what the split pass knew.
 pub(crate) struct Share;
 
 impl Split<View> for Share {
@@ -65,7 +65,7 @@ impl Split<View> for Share {
     ghost right = { λ v. v };
 }
 
-/// One pass knows what the two knew.
+/// The joined pass knows what the two passes knew.
 pub(crate) struct Unite;
 
 impl Join<View> for Unite {

@@ -106,7 +106,7 @@ impl<'a> Board<'a> {
         self.table.shared.load::<LookPresence>(seat, at)
     }
 
-    /// Loads a value word, of a slot that is known as `Present`.
+    /// Loads the value word of a slot that is known to be `Present`.
     pub(crate) fn see_value(&self, seat: &mut Seat<(), View>, slot: usize) -> u64
         requires own { IsSeatOf self.now seat.old }
         requires inside { slot < length (rights_of (batch_of self.now)).slots }

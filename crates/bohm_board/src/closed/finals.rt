@@ -1,4 +1,4 @@
-//! Reads and completes a closed board. No call allocates.
+//! Reading and completing a closed board. No call allocates.
 
 ghost use Rattle.std.specs.Prelude.{◌≡◌, ◌≢◌, ◌<◌, ◌↔◌, ℕ, IsSome, IfSome};
 ghost use Rattle.bohm_board.specs.declared.slot.Slot.{Slot};
@@ -21,7 +21,7 @@ impl<'a> Closed<'a> {
         &self.batch
     }
 
-    /// The outcome of the position with a timestamp, if it has one.
+    /// The outcome of the position with the timestamp `t`, if it has one.
     pub fn outcome(&self, t: u32) -> Option<Outcome>
         requires { IsIn (batch_of_closed self.now) t }
         ensures some { IsSome result ↔ IsFinished self.now t }
@@ -36,7 +36,7 @@ impl<'a> Closed<'a> {
         }
     }
 
-    /// The cell of a slot, if it is there.
+    /// The cell of a slot, if the slot has one.
     pub fn cell(&self, slot: Slot) -> Option<Cell>
         requires { IsSlot (batch_of_closed self.now) slot }
         ensures some { IsSome result ↔ HasCell self.now slot }
@@ -51,7 +51,7 @@ impl<'a> Closed<'a> {
         }
     }
 
-    /// How many positions have no outcome. The time grows with the number of positions.
+    /// The number of positions without an outcome. The time grows with the number of positions.
     pub fn unfinished(&self) -> u32
         ensures { result ≡ unfinished_in self.now }
     {
@@ -62,7 +62,7 @@ impl<'a> Closed<'a> {
             .count() as u32
     }
 
-    /// Puts the right cell into a slot whose position has no outcome.
+    /// Stores the right cell in a slot whose position has no outcome.
     pub fn set_cell(&mut self, slot: Slot, cell: Cell)
         requires inside { IsSlot (batch_of_closed self.old) slot }
         requires unfinished { IsUnfinished self.old slot.txn }
@@ -80,7 +80,7 @@ impl<'a> Closed<'a> {
         self.columns.presences[number] = presence;
     }
 
-    /// Gives a position without an outcome the right one.
+    /// Stores the right outcome of a position that has none.
     pub fn set_outcome(&mut self, t: u32, outcome: Outcome)
         requires inside { IsIn (batch_of_closed self.old) t }
         requires unfinished { IsUnfinished self.old t }

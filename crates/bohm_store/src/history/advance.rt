@@ -21,13 +21,13 @@ use bohm_txn::{Outcome, Scratch, eval_in_place};
 use bohm_types::{Cell, NoMemory};
 
 impl History {
-    /// Runs the transaction that follows the top on what its keys hold there, adds a version for each
-    /// of its declared writes, those of an abort included, and trims at so many timestamps below it.
-    /// The scratch has its results.
+    /// Runs the transaction that follows the top on the cells that its keys have at the top. It
+    /// adds a version for each declared write, even if the transaction aborts, and trims at `keep`
+    /// timestamps below the transaction. The scratch then has its results.
     ///
-    /// An error changes nothing that is seen. The time grows with the terms of the transaction, and
-    /// with how many earlier versions are dropped. A key is hashed only if its number isn't the one
-    /// that it had when it was last seen.
+    /// An error leaves the visible state unchanged. The time grows with the terms of the
+    /// transaction, and with the number of earlier versions that are dropped. A key is hashed only
+    /// if its number differs from the one that it had when it was last seen.
     pub fn run_next(
         &mut self,
         txn: &TxnView<'_>,
@@ -54,7 +54,8 @@ impl History {
         Ok(outcome)
     }
 
-    // The numbers of keys, in place of what stood in the list. A key without a number gets one.
+    // Replaces the contents of the list with the numbers of these keys. A key without a number gets
+    // one.
     fn number_writes(
         &mut self,
         hints: &mut IndexHints,
@@ -69,8 +70,8 @@ impl History {
         number_all(&mut self.names, hints, keys, numbers)
     }
 
-    // Hands a scratch what a transaction's declared reads hold at the top, and its declared writes,
-    // which have these numbers. Where these are the same keys, each is looked up once.
+    // Pushes into a scratch the cells at the top of a transaction's declared reads, and of its
+    // declared writes, which have these numbers. If both are the same keys, each is looked up once.
     fn push_held(
         &self,
         txn: &TxnView<'_>,
@@ -94,7 +95,7 @@ impl History {
         }
     }
 
-    // Runs a transaction on what its keys hold at the top, where its declared writes have these
+    // Runs a transaction on the cells that its keys have at the top. Its declared writes have these
     // numbers.
     fn evaluate(
         &self,

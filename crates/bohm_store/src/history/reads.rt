@@ -12,10 +12,10 @@ use bohm_types::{Cell, Key, Value};
 use std::alloc::Global;
 
 impl History {
-    /// What a key holds after the transaction with a timestamp: the cell of its version with the
-    /// greatest begin at or below it. `Trimmed` below the floor, `Future` above the top. Its time
-    /// is that of one look-up, and grows with how many of the key's versions begin above the
-    /// timestamp. It allocates nothing.
+    /// The cell of a key after the transaction with a timestamp: that of its version with the
+    /// greatest begin at or below the timestamp. It fails with `Trimmed` below the floor, with
+    /// `Future` above the top. The time is that of one look-up, and grows with the number of the
+    /// key's versions that begin above the timestamp. It allocates nothing.
     pub fn value_at(&self, key: &Key, ts: u32) -> Result<Cell, PastFault>
         ensures trimmed { (result ≡ Err PastFault.Trimmed) ↔ (ts < self.now.floor) }
         ensures future { (result ≡ Err PastFault.Future) ↔ (self.now.top < ts) }
@@ -33,10 +33,10 @@ impl History {
         Ok(cell_of(&self.names, &self.numbered, key, ts))
     }
 
-    /// What each key holds after the transaction with a timestamp: the keys that have a value,
-    /// rising, with it. `Trimmed` below the floor and `Future` above the top, which are decided
-    /// before any allocation. It goes over all keys: its time grows with their number n as n log n,
-    /// and with how many versions ended above the timestamp.
+    /// The store after the transaction with a timestamp: the keys that have a value, in ascending
+    /// order, with their values. It fails with `Trimmed` below the floor and with `Future` above
+    /// the top, which are decided before any allocation. It visits all keys: the time grows with
+    /// their number n as n log n, and with the number of versions that ended above the timestamp.
     pub fn store_at(&self, alloc: Global, ts: u32) -> Result<Vec<(Key, Value)>, StoreFault>
         ensures trimmed { (result ≡ Err StoreFault.Trimmed) ↔ (ts < self.now.floor) }
         ensures future { (result ≡ Err StoreFault.Future) ↔ (self.now.top < ts) }

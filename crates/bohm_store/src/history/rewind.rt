@@ -1,4 +1,4 @@
-//! Takes transactions back.
+//! Undoes transactions.
 
 ghost use Rattle.std.specs.Prelude.{◌≡◌, ◌≤◌, ℕ, List};
 ghost use Rattle.std.specs.List.{IsDistinct};
@@ -9,10 +9,10 @@ ghost use Rattle.bohm_store.specs.Versions.{past, versions, versions_to};
 use crate::history::History;
 
 impl History {
-    /// Takes back the transactions after a timestamp, which becomes the top: of each key there stay
-    /// the versions that begin at or below it, and the past up to there is the same. Keys keep
-    /// their numbers. Its time grows with the number of keys and with how many versions go. It
-    /// allocates nothing.
+    /// Undoes the transactions after a timestamp, which becomes the top. Each key keeps the
+    /// versions that begin at or below the timestamp, and the past up to it is unchanged. Keys keep
+    /// their numbers. The time grows with the number of keys and of the versions that are removed.
+    /// It allocates nothing.
     pub fn rewind(&mut self, ts: u32)
         requires { self.old.floor ≤ ts }
         ensures floor { self.new.floor ≡ self.old.floor }

@@ -20,8 +20,8 @@ impl History {
     /// Adds a version for each declared write of each transaction of the batch, aborted ones
     /// included, and moves the top to the batch's end. The batch is the next one of this history.
     ///
-    /// An error changes nothing that is seen: all allocation comes first, and a key may have got
-    /// its number. The time grows with the number of the batch's declared writes.
+    /// An error leaves the visible state unchanged: all allocations come first, though a key may
+    /// have been given its number. The time grows with the number of the batch's declared writes.
     pub fn settle(&mut self, alloc: Global, finished: &Finished<'_>) -> Result<(), NoMemory>
         requires { IsNext self.old (batch_of_finished finished.now) }
         ensures err { OnErr result (IsSame self.old self.new) }
@@ -34,13 +34,13 @@ impl History {
     }
 
     /// Settles the batch as `settle` does, with hints for the keys of its log, and trims at a
-    /// floor, which is at most the batch's end. A key is hashed only if its number isn't the one that
-    /// it had when it was last seen. Where the floor is the batch's end, no version is kept but the
-    /// newest one of each key that the batch writes, and none is moved.
+    /// floor, which is at most the batch's end. A key is hashed only if its number differs from the
+    /// one that it had when it was last seen. If the floor is the batch's end, only the newest
+    /// version of each key is kept, and no version is moved.
     ///
-    /// An error changes nothing that is seen. The time grows with the number of the batch's
-    /// declared writes and with how many earlier versions are dropped, on an error with the former
-    /// alone.
+    /// An error leaves the visible state unchanged. The time grows with the number of the batch's
+    /// declared writes and of the earlier versions that are dropped; on an error, with the number
+    /// of declared writes alone.
     pub fn settle_kept(
         &mut self,
         alloc: Global,
@@ -88,7 +88,7 @@ impl History {
         Ok(())
     }
 
-    // The same, and trims at a floor.
+    // Adds the versions of the next batch, by the list of its writes, and trims at a floor.
     fn settle_listed(
         &mut self,
         batch: &Batch<'_>,

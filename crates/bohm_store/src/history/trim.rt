@@ -7,10 +7,10 @@ ghost use Rattle.bohm_store.specs.Versions.{IsKept, kept_versions, past, total, 
 use crate::history::History;
 
 impl History {
-    /// Where the floor is above the present one it becomes the floor, and of each key there stay
-    /// the versions that begin above it and the newest one at or below it. Else nothing changes.
-    /// Its time grows with how many versions are dropped, whatever keys and versions stay. It
-    /// allocates nothing.
+    /// If this floor is above the current one, it becomes the floor, and each key keeps the
+    /// versions that begin above it and the newest one at or below it. Otherwise nothing changes.
+    /// The time grows with the number of versions that are dropped, regardless of the keys and
+    /// versions that stay. It allocates nothing.
     pub fn trim(&mut self, floor: u32)
         requires { floor ≤ self.old.top }
         ensures floor { self.new.floor ≡ max self.old.floor floor }

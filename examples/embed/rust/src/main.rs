@@ -1,4 +1,4 @@
-//! A ledger in a Rust program: as `ledger.c`.
+//! A ledger in a Rust program, like `ledger.c`.
 use bohm::Machine;
 use std::error::Error;
 use std::io::{stdout, Write};
@@ -11,7 +11,7 @@ fn split(log: &str) -> (&str, Vec<&str>) {
     (store, txns.split_inclusive("\nend\n").collect())
 }
 
-/// Each balance of a past timestamp is the one in that timestamp's snapshot.
+/// Checks that each balance at a past timestamp is the one in that timestamp's snapshot.
 fn check_balances(ledger: &Machine, ts: u32) -> Result<(), Box<dyn Error>> {
     for line in ledger.store_at(ts)?.as_str().lines().skip(1) {
         let (key, value) = line.split_once(' ').ok_or("a store's line")?;

@@ -15,7 +15,7 @@ fn arguments(rest: &str) -> Result<(usize, Vec<&str>, Vec<i64>), Box<dyn Error>>
     Ok((number, keys, values))
 }
 
-/// The handles of these keys, each of which is looked up the first time.
+/// The handles of these keys, each of which is looked up once.
 fn handles(calls: &mut Calls, known: &mut HashMap<String, KeyHandle>, keys: &[&str]) -> Result<Vec<KeyHandle>, bohm::Error> {
     let mut found = Vec::new();
     for &key in keys {
@@ -43,7 +43,7 @@ fn main() -> Result<(), Box<dyn Error>> {
                 if machine.is_none() {
                     let opened = machine.insert(Machine::open(&store, 0)?);
                     if edition == Edition::One {
-                        // A list of edition 2 has names of its own.
+                        // A list of edition 2 has its own names.
                         calls = opened.calls(edition)?;
                     }
                 }

@@ -3,5 +3,5 @@ use Rattle.std.specs.Prelude.{string_bytes}
 use Rattle.clap.specs.Walk.{texts}
 use Rattle.bohm_command.proofs.line.command_line.Given as goal
 
-abbrev pub invariant-loop-word : goal.invariant-loop-word
-invariant-loop-word l = texts l.line.items ≡ l.name ∷ map string_bytes (take l.word-index l.words)
+abbrev pub invariant-loop-argument : goal.invariant-loop-argument
+invariant-loop-argument l = texts l.line.items ≡ l.name ∷ map string_bytes (take l.argument-index l.arguments)

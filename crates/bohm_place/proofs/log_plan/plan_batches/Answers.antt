@@ -17,7 +17,7 @@ loop-place-preserved c =
     let here : IsPlanAt log c.loop-place.place q = record {
       first = omega (arith, made.sources.first, c.in_ok-next.ensures.planned.first, c.first.ensures, was.start);
       right = rw (sym txns.txns) made.right;
-      keys = λ some. rw (sym txns.txns) made.keys;
+      keys = rw (sym txns.txns) made.keys;
     } in
     let last : IsPlanAt log (length plans) q = rw was.count here in
     record {

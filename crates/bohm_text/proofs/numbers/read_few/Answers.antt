@@ -1,6 +1,6 @@
 use Rattle.std.proofs.Common.{rules, arith, ◌+◌, ◌-◌, ◌*◌, ◌^◌, ◌≡◌, ◌≤◌, ◌<◌, get_or, true}
 use Rattle.std.specs.Char.{is_ascii_digit}
-use Rattle.bohm_text.proofs.Digits.{digits_step, digits_other, digits_end, digit_small, few_more, few_fit, few_end}
+use Rattle.bohm_text.proofs.Digits.{digits_step, digits_other, digits_end, digit_is, few_more, few_fit, few_end}
 use Rattle.bohm_text.proofs.numbers.read_few.Goals as goal
 
 pub returns-then-not-is_ascii_digit-clause-value : goal.returns-then-not-is_ascii_digit-clause-value
@@ -18,7 +18,7 @@ pub overflow_add-number : goal.overflow_add-number
 overflow_add-number c =
     let fit : c.loop-byte.number * 10 + c.from.result < 10 ^ 18 =
     few_fit c.loop-byte.number c.from.result c.loop-byte.byte-index c.loop-byte.invariant.small
-    (omega (arith, c.from.ensures, digit_small (get_or c.args.digits.now c.loop-byte.byte-index 0) cc)) (omega (arith, c.loop-byte-test.true, c.requires)) in
+    (omega (arith, c.from.ensures, (digit_is (get_or c.args.digits.now c.loop-byte.byte-index 0) cc).1)) (omega (arith, c.loop-byte-test.true, c.requires)) in
     search rules
 
 pub loop-byte-preserved : goal.loop-byte-preserved
@@ -26,7 +26,7 @@ loop-byte-preserved c =
     let digit : is_ascii_digit (get_or c.args.digits.now c.loop-byte.byte-index 0) ≡ true = cc in
     let next : c.loop-byte.number * 10 + c.from.result ≡ c.loop-byte.number * 10 + (get_or c.args.digits.now c.loop-byte.byte-index 0 - 48) =
     omega (arith, c.from.ensures) in
-    let few : c.from.result ≤ 9 = omega (arith, c.from.ensures, digit_small (get_or c.args.digits.now c.loop-byte.byte-index 0) digit) in
+    let few : c.from.result ≤ 9 = omega (arith, c.from.ensures, (digit_is (get_or c.args.digits.now c.loop-byte.byte-index 0) digit).1) in
     let fit : c.loop-byte.number * 10 + c.from.result < 10 ^ 18 =
     few_fit c.loop-byte.number c.from.result c.loop-byte.byte-index c.loop-byte.invariant.small few (omega (arith, c.loop-byte-test.true, c.requires)) in
     record {

@@ -1,4 +1,4 @@
-//! Transfers between accounts by procedures, as `procedures.c`.
+//! Transfers between accounts by procedures, like `procedures.c`.
 use bohm::{Edition, Error, Machine, Procedure};
 
 const ACCOUNTS: &str = "log 1\nalice 100\nbob 20\ncarol 0\n";

@@ -26,9 +26,9 @@ invariant_of-result g c =
     let is =
     made c.into_parts-edition.result.0 p _ _ c.args.draft.txn keys c.args.values.now c.place_names.new.places.items parts
     c.into_parts-edition.ensures.same c.into_parts-edition.ensures.within c.in_ok-place_names.ensures.grows c.in_ok-place_names.ensures.places in
-    let few : length c.as_slice-3.result.now ≡ length c.in_ok-reads.reads.items =
+    let few : length c.as_slice-3.result.now ≡ length c.in_ok-reads.field-0.reads.items =
     omega (arith, ap length c.as_slice-3.ensures.value, ap length r, length-map p.reads (declared_name keys)) in
-    let many : length c.as_slice-4.result.now ≡ length c.in_ok-reads.writes.items =
+    let many : length c.as_slice-4.result.now ≡ length c.in_ok-reads.field-0.writes.items =
     omega (arith, ap length c.as_slice-4.ensures.value, ap length w, length-map p.writes (declared_name keys)) in
     let named : AreNames keys = rw c.as_slice-10.ensures.value at c.are_names.ensures in (
       template_made keys _ _ _ parts own r w

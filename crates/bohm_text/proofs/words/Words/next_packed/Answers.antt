@@ -20,5 +20,5 @@ pub returns-then-lacks : goal.returns-then-lacks
 returns-then-lacks c =
     let rest : List ℕ = c.in_ok-rest.rest.now in
     let none : position_from (λ other. other == 32) 0 rest ≡ None =
-    ap (position_from (λ other. other == 32) 0) (sym c.new-word.ensures) ∙ c.if-lacks.ensures refl in
+    ap (position_from (λ other. other == 32) 0) (sym c.new-word.ensures) ∙ c.if-lacks.ensures.lacking refl in
     sym c.self.view_is ∙ (ap split_rest c.in_ok-rest.was ∙ cut_none rest none) ∙ ap (λ w. w ∷ []) (sym c.new-word.ensures)

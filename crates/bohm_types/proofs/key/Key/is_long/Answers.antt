@@ -26,5 +26,6 @@ returns-then-eq-clause-name c = λ t.
 
 pub returns-else-eq-clause-same : goal.returns-else-eq-clause-same
 returns-else-eq-clause-same c =
-    other_words c.self.inside c.self.invariant c.args.word.now c.eq.result (c.eq.ensures ∙ ap (bytes_eq c.self.inside.words) (c.words-words.ensures ∙ ap words_of c.new.ensures)) c.if-eq.false
-    ∙ ap (λ k. bytes_eq k c.args.word.now) c.self.view_is
+    let words : c.eq.result ≡ bytes_eq c.self.inside.words (words_of c.args.word.now) =
+    c.eq.ensures ∙ ap (bytes_eq c.self.inside.words) (c.words-words.ensures ∙ ap words_of c.new.ensures) in
+    other_words c.self.inside c.self.invariant c.args.word.now c.eq.result words c.if-eq.false ∙ ap (λ k. bytes_eq k c.args.word.now) c.self.view_is

@@ -9,15 +9,15 @@ use Rattle.bohm_command.specs.Faults.{IsFoundAmong}
 use Rattle.bohm_command.proofs.ForCallers.{takes_line, same_faults, same_rows, number, number_or}
 use Rattle.bohm_cli.specs.Taken.{settings_in}
 use Rattle.bohm_cli.proofs.Readings.{settings_read, same_settings}
-use Rattle.bohm_cli.proofs.words.read_words.Goals.{After-as_slice, After-new-settings}
-use Rattle.bohm_cli.proofs.words.read_words.Goals as goal
+use Rattle.bohm_cli.proofs.arguments.read_arguments.Goals.{After-as_slice, After-new-settings}
+use Rattle.bohm_cli.proofs.arguments.read_arguments.Goals as goal
 
--- the line is the program's name and the words
-whole : (c : After-as_slice) → texts c.as_slice.result.now ≡ codes "bohm" ∷ map string_bytes c.args.words.now
+-- the line is the program's name and the arguments
+whole : (c : After-as_slice) → texts c.as_slice.result.now ≡ codes "bohm" ∷ map string_bytes c.args.arguments.now
 whole c = rw c.as_slice.ensures.value c.in_ok-line.ensures
 
--- the numbers make the settings that the words give
-made : (c : After-new-settings) → c.new-settings.result ≡ Some (settings_in (map string_bytes c.args.words.now))
+-- the numbers make the settings that the arguments give
+made : (c : After-new-settings) → c.new-settings.result ≡ Some (settings_in (map string_bytes c.args.arguments.now))
 made c =
     let line = whole (goal.at.unwrap-requires c).After-as_slice in
     let is = c.in_ok-command.ensures in
@@ -45,7 +45,7 @@ unwrap-requires c = rw (made c) refl
 pub returns-clause-ok : goal.returns-clause-ok
 returns-clause-ok c =
     let read = made (goal.at.returns-clause-ok c).After-new-settings in
-    let taken : Some c.unwrap.result ≡ Some (settings_in (map string_bytes c.args.words.now)) = search (rules, read) in
+    let taken : Some c.unwrap.result ≡ Some (settings_in (map string_bytes c.args.arguments.now)) = search (rules, read) in
     search (rules, taken)
 
 pub returns-clause-faultless : goal.returns-clause-faultless

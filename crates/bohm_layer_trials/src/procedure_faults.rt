@@ -8,12 +8,12 @@ use bohm_types::NoMemory;
 use std::alloc::Global;
 use std::random::RandomSource;
 
-/// Why there is no procedure of this text.
+/// The fault of this text, if it gives no procedure.
 fn fault(rt: &impl RandomSource, alloc: Global, text: &[u8]) -> Option<ProcedureFault> {
     Procedure::read(alloc, DrawnSeed::draw(rt), text).err()
 }
 
-/// Texts that aren't a procedure's: their first bad line, or that they break off.
+/// Texts that aren't a procedure's, with their first bad line, or `Short` if they are cut off.
 const BAD: [(&[u8], ProcedureFault); 26] = [
     (b"procedure 3\n", Line(1)),
     (b"log 1\n", Line(1)),
@@ -46,7 +46,7 @@ const BAD: [(&[u8], ProcedureFault); 26] = [
     (b"procedure 1\nreads\nwrites\nend\nend", Short),
 ];
 
-/// Texts whose own instance is refused: at which statement, which counts the `let`s, and why.
+/// Texts whose own instance is refused: at which statement, counting the `let`s, and why.
 const REFUSED: [(&[u8], u32, CheckKind); 8] = [
     (
         b"procedure 1\nreads b a\nwrites\nend\n",
@@ -91,7 +91,7 @@ const REFUSED: [(&[u8], u32, CheckKind); 8] = [
 ];
 
 #[test]
-fn bad_texts_are_told(rt: HostRuntime) {
+fn bad_texts_are_reported(rt: HostRuntime) {
     for (text, want) in &BAD {
         assert_eq!(rt; fault(&rt, rt.alloc(), text), Some(*want), "{text:?}");
     }
@@ -110,8 +110,8 @@ fn own_instances_are_checked(rt: HostRuntime) {
     }
 }
 
-/// A procedure of this many statements and one for its value.
-fn shows(alloc: Global, count: u32) -> Result<Vec<u8>, NoMemory> {
+/// A procedure with this many statements, besides one for its value.
+fn conditions(alloc: Global, count: u32) -> Result<Vec<u8>, NoMemory> {
     let mut text = Vec::from_slice(alloc, b"procedure 1\nvalue v\nreads\nwrites\n")?;
     for _ in 0..count {
         text.extend_from_slice(b"need 0 = 0\n")?;
@@ -123,7 +123,7 @@ fn shows(alloc: Global, count: u32) -> Result<Vec<u8>, NoMemory> {
 #[test]
 fn lets_count_among_the_statements(rt: HostRuntime) {
     for (count, want) in [(63, None), (64, refused(0, CheckKind::Limit))] {
-        let text = shows(rt.alloc(), count).expect(&rt, "memory");
+        let text = conditions(rt.alloc(), count).expect(&rt, "memory");
         let found = fault(&rt, rt.alloc(), text.as_slice());
         assert_eq!(rt; found, want, "{count} statements");
     }

@@ -1,41 +1,10 @@
-//! Bodies of procedures that are drawn by a seeded generator, and their text under any names.
+//! Bodies of procedures drawn by a seeded generator, and their text under any names.
 
-ghost use Rattle.std.specs.Prelude.{◌<◌, length};
-
+use crate::draws::{Draws, one_of};
 use bohm_types::NoMemory;
 use std::alloc::Global;
 
-/// Numbers that a seed determines.
-#[derive(Clone, Copy)]
-pub struct Draws {
-    state: u64,
-}
-
-impl Draws {
-    pub fn new(seed: u32) -> Draws {
-        Draws {
-            state: u64::from(seed),
-        }
-    }
-
-    /// A number below this one, of the upper half of a linear congruential generator's state.
-    pub fn below(&mut self, count: usize) -> usize
-        requires { 0 < count }
-        ensures { result < count }
-    {
-        let product = self.state.wrapping_mul(6_364_136_223_846_793_005);
-        self.state = product.wrapping_add(1_442_695_040_888_963_407);
-        (self.state / 4_294_967_296 % count as u64) as usize
-    }
-}
-
-pub fn one_of<T: Copy>(draws: &mut Draws, choices: &[T]) -> T
-    requires { 0 < length choices.now }
-{
-    choices[draws.below(choices.len())]
-}
-
-/// What the marks of a body stand for. Those from 0 to 4 are read and those from 5 to 9 written: two
+/// The keys that the marks of a body represent. Marks 0 to 4 are read and marks 5 to 9 written: two
 /// keys, and the arguments for three key parameters.
 pub type Names = [u8; 10];
 
@@ -49,10 +18,10 @@ const READ: &[u8] = b"\x00\x01\x02\x03\x04";
 
 const WRITTEN: &[u8] = b"\x05\x06\x07\x08\x09";
 
-/// The keys that may be declared, rising.
+/// The keys that may be declared, ascending.
 const KEYS: [u8; 8] = *b"abcdepqr";
 
-/// First statements, which name each parameter, since it has to be declared.
+/// First statements. Each names every key parameter, since every one must be declared.
 const FIRST: [&[u8]; 4] = [
     b"show \x02 + \x03 - \x04\n",
     b"drop \x07\ndrop \x08\ndrop \x09\n",
@@ -60,7 +29,7 @@ const FIRST: [&[u8]; 4] = [
     b"need has \x02\nset \x08 = \x04\n",
 ];
 
-/// Statements: `?` stands for a key that is read and `^` for one that is written. `$v` and `$w` are
+/// Statements: `?` represents a key that is read and `^` a key that is written. `$v` and `$w` are
 /// the values' names.
 const STATEMENTS: [&[u8]; 18] = [
     b"set ^ = ? + $v\n",
@@ -95,7 +64,7 @@ fn put_stmt(body: &mut Vec<u8>, draws: &mut Draws) -> Result<(), NoMemory> {
     Ok(())
 }
 
-/// Statements with marks for keys: one of the first ones, and up to seven others.
+/// Statements with marks for keys: one of the first statements, and up to seven others.
 pub fn draw_body(alloc: Global, draws: &mut Draws) -> Result<Vec<u8>, NoMemory> {
     let mut body = Vec::from_slice(alloc, one_of(draws, &FIRST))?;
     for _ in 0..draws.below(8) {
@@ -104,17 +73,17 @@ pub fn draw_body(alloc: Global, draws: &mut Draws) -> Result<Vec<u8>, NoMemory> 
     Ok(body)
 }
 
-/// What a byte of a body stands for.
+/// The byte of the text that a byte of a body represents.
 fn named(names: &Names, symbol: u8) -> u8 {
     *names.get(symbol as usize).unwrap_or(&symbol)
 }
 
-/// Whether the key is what one of these marks of the body stands for.
+/// Whether the body has one of these marks that represents the key.
 fn is_declared(body: &[u8], names: &Names, marks: &[u8], key: u8) -> bool {
     body.iter().any(|symbol| marks.contains(symbol) && named(names, *symbol) == key)
 }
 
-/// A line of this word and the distinct keys, rising, that these marks stand for.
+/// Appends a line with this word and the distinct keys, ascending, that these marks represent.
 fn put_set(
     text: &mut Vec<u8>,
     word: &[u8],
@@ -133,7 +102,7 @@ fn put_set(
     Ok(())
 }
 
-/// The sets' lines, these lines, the statements, and the closing.
+/// Appends the sets' lines, the lines `lets`, the statements, and the closing.
 pub fn put_parts(
     text: &mut Vec<u8>,
     body: &[u8],

@@ -7,19 +7,19 @@ ghost use Rattle.bohm_cli.specs.Options.{bohm};
 ghost use Rattle.bohm_cli.specs.Taken.{settings_in};
 
 use crate::options::{NAME, command};
-use bohm_command::{WordFault, command_line, parse_line};
+use bohm_command::{ArgumentFault, command_line, parse_line};
 use bohm_run::Settings;
 use std::alloc::Global;
 
 /// The settings that the arguments after the program's name give; absent options have their
 /// defaults. Arguments that clap doesn't accept are refused with its text.
-pub fn read_words(alloc: Global, words: &[String]) -> Result<Settings, WordFault>
-    ensures ok { IfOk result (λ settings. settings ≡ settings_in (map string_bytes words.now)) }
-    ensures faultless { IfOk result (λ _. faults_in bohm (map string_bytes words.now) ≡ []) }
-    ensures taken { AreTaken bohm (map string_bytes words.now) → IfErr result IsNoMemory }
-    ensures found { IfErr result (IsFoundAmong (faults_in bohm (map string_bytes words.now))) }
+pub fn read_arguments(alloc: Global, arguments: &[String]) -> Result<Settings, ArgumentFault>
+    ensures ok { IfOk result (λ settings. settings ≡ settings_in (map string_bytes arguments.now)) }
+    ensures faultless { IfOk result (λ _. faults_in bohm (map string_bytes arguments.now) ≡ []) }
+    ensures taken { AreTaken bohm (map string_bytes arguments.now) → IfErr result IsNoMemory }
+    ensures found { IfErr result (IsFoundAmong (faults_in bohm (map string_bytes arguments.now))) }
 {
-    let line = command_line(alloc, NAME, words)?;
+    let line = command_line(alloc, NAME, arguments)?;
     let matches = parse_line(alloc, command(alloc)?, line.as_slice())?;
     let defaults = Settings::default();
     let settings = Settings::new(

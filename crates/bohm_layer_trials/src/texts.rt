@@ -51,8 +51,8 @@ drop b
 end
 ";
 
-/// Texts of documents. The others have an empty log, sets in disorder and a long local, and repeated
-/// lines.
+/// Texts of documents. The first three have an empty log, an unordered set and a long local, and
+/// repeated lines.
 const DOCUMENTS: [&[u8]; 5] = [
     b"log 1\n",
     b"log 1\ntxn\nreads b a a\nwrites\nshow $aaaaaaaaaaaaaaaaaaaaaaaaaaaaaaaa\nend\n",
@@ -61,7 +61,7 @@ const DOCUMENTS: [&[u8]; 5] = [
     UNDECLARED,
 ];
 
-/// What is printed of the document of a text.
+/// The printed document of a text.
 fn printed(alloc: Global, text: &[u8]) -> Option<Vec<u8>> {
     let doc = parse(alloc, text).ok()?;
     print_doc(alloc, &doc).ok()
@@ -75,7 +75,8 @@ fn documents_are_printed_again(rt: HostRuntime) {
     }
 }
 
-/// Texts of no document, and why: numbers that have another text or none, and a text that breaks off.
+/// Texts of no document, and why: numbers in a wrong form or out of range, and a text that is cut
+/// off.
 const REFUSED: [(&[u8], TextFault); 4] = [
     (
         b"log 1\ntxn\nreads\nwrites a\nset a = 01\nend\n",
@@ -106,7 +107,7 @@ fn laws_are_called() {
 }
 
 #[test]
-fn want_of_memory_has_a_text(rt: HostRuntime) {
+fn no_memory_has_a_text(rt: HostRuntime) {
     let text = format!(in rt.alloc(); "{NoMemory}").expect(&rt, "memory");
     assert_eq!(rt; text.as_str(), "out of memory");
 }

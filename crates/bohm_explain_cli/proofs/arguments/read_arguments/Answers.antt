@@ -10,15 +10,15 @@ use Rattle.bohm_command.specs.Faults.{IsFoundAmong}
 use Rattle.bohm_command.proofs.ForCallers.{takes_line, same_faults, same_rows, number, number_or}
 use Rattle.bohm_explain_cli.specs.Taken.{request_in}
 use Rattle.bohm_explain_cli.proofs.Readings.{request_read, same_request}
-use Rattle.bohm_explain_cli.proofs.words.read_words.Goals.{After-as_slice, After-new-request}
-use Rattle.bohm_explain_cli.proofs.words.read_words.Goals as goal
+use Rattle.bohm_explain_cli.proofs.arguments.read_arguments.Goals.{After-as_slice, After-new-request}
+use Rattle.bohm_explain_cli.proofs.arguments.read_arguments.Goals as goal
 
--- the line is the program's name and the words
-whole : (c : After-as_slice) → texts c.as_slice.result.now ≡ codes "explain" ∷ map string_bytes c.args.words.now
+-- the line is the program's name and the arguments
+whole : (c : After-as_slice) → texts c.as_slice.result.now ≡ codes "explain" ∷ map string_bytes c.args.arguments.now
 whole c = rw c.as_slice.ensures.value c.in_ok-line.ensures
 
--- the numbers make the request that the words make
-made : (c : After-new-request) → c.new-request.result ≡ Some (request_in (map string_bytes c.args.words.now))
+-- the numbers make the request that the arguments make
+made : (c : After-new-request) → c.new-request.result ≡ Some (request_in (map string_bytes c.args.arguments.now))
 made c =
     let line = whole (goal.at.unwrap-requires c).After-as_slice in
     let is = c.in_ok-command.ensures in
@@ -45,7 +45,7 @@ unwrap-requires c = rw (made c) refl
 pub returns-clause-ok : goal.returns-clause-ok
 returns-clause-ok c =
     let read = made (goal.at.returns-clause-ok c).After-new-request in
-    let taken : Some c.unwrap.result ≡ Some (request_in (map string_bytes c.args.words.now)) = search (rules, read) in
+    let taken : Some c.unwrap.result ≡ Some (request_in (map string_bytes c.args.arguments.now)) = search (rules, read) in
     search (rules, taken)
 
 pub returns-clause-faultless : goal.returns-clause-faultless

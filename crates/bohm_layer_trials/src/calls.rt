@@ -1,12 +1,13 @@
-//! Calls, against the text of the transactions that they stand for.
+//! Calls, compared with the text of the transactions that they represent.
 
-use crate::draws::{Draws, draw_body, names, one_of, put_parts};
+use crate::draws::{Draws, one_of};
+use crate::procedure_draws::{draw_body, names, put_parts};
 use bohm_log::DrawnSeed;
 use bohm_procedures::{Calls, Procedure};
 use bohm_types::{Edition, Key, Value};
 use std::alloc::Global;
 
-/// Whether the list takes a call, and took it.
+/// Adds a call; whether the list accepts it and it was added.
 fn push(calls: &mut Calls, procedure: &Procedure, keys: &[Key], values: &[Value]) -> bool {
     calls.takes(procedure, keys, values) && calls.push(procedure, keys, values).is_ok()
 }
@@ -16,13 +17,13 @@ const TRANSFER: &[u8] =
     b"procedure 1\nkey from\nkey to\nvalue amount\nreads from to\nwrites from to\n\
 need $amount > 0\nneed from >= $amount\nset from = from - $amount\nset to = to + $amount\nshow to\nend\n";
 
-/// Its calls: with the keys in the other order, and with one key for both.
+/// Two calls of the transfer: with the keys in the other order, and with one key for both.
 const TRANSFERS: &[u8] = b"log 1\ntxn\nreads alice bob\nwrites alice bob\nlet $amount = 30\n\
 need $amount > 0\nneed bob >= $amount\nset bob = bob - $amount\nset alice = alice + $amount\nshow alice\nend\n\
 txn\nreads bob\nwrites bob\nlet $amount = -9223372036854775807 - 1\n\
 need $amount > 0\nneed bob >= $amount\nset bob = bob - $amount\nset bob = bob + $amount\nshow bob\nend\n";
 
-/// What is printed of a list of both transfers.
+/// The text printed for a list of both transfers.
 fn print_transfers(alloc: Global, seed: DrawnSeed, procedure: &Procedure) -> Option<Vec<u8>> {
     let (alice, bob) = (Key::new(b"alice")?, Key::new(b"bob")?);
     let mut calls = Calls::new(alloc, seed, Edition::One);
@@ -60,7 +61,7 @@ const NUMBERS: [(i64, &[u8]); 10] = [
     (i64::MIN, b"-9223372036854775807 - 1\n"),
 ];
 
-/// The procedure of a body, which has three key parameters and two values.
+/// The procedure with this body, three key parameters and two value parameters.
 fn procedure_of(
     alloc: Global,
     seed: DrawnSeed,
@@ -91,8 +92,8 @@ fn lets(alloc: Global, first: &[u8], second: &[u8]) -> Option<Vec<u8>> {
 /// Names of keys that are arguments.
 const LETTERS: &[u8] = b"aabcde";
 
-/// One more call, of drawn arguments: keys that may be equal, and values from the least on. The text
-/// gets the transaction that it stands for.
+/// Adds a call with drawn arguments: keys that may be equal, and values from the least on. Appends
+/// the transaction that the call represents to the text.
 fn call(
     alloc: Global,
     calls: &mut Calls,
@@ -116,7 +117,7 @@ fn call(
     Some(push(calls, procedure, &keys, &values))
 }
 
-/// Four calls of a drawn procedure, and whether the list took them.
+/// Adds four calls of a drawn procedure; whether the list accepted them.
 fn call_some(
     alloc: Global,
     calls: &mut Calls,
@@ -134,7 +135,7 @@ fn call_some(
     Some(took)
 }
 
-/// The editions, and how a log of each begins.
+/// The editions, and the first line of a log of each.
 const HEADS: [(Edition, &[u8]); 2] = [(Edition::One, b"log 1\n"), (Edition::Two, b"log 2\n")];
 
 #[test]
