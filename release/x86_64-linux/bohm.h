@@ -25,7 +25,7 @@
 
 /* The version, and the checksum of the sources that the library is built from. */
 #define BOHM_VERSION "0.1.0"
-#define BOHM_SOURCES "4209c5d0354438b7fd31c2477fa90594f2c9bdedd2b1a4ebd8d18a97c6aac3ba"
+#define BOHM_SOURCES "de567eb81de12994262389c80323ba318a02414837f763058f9cc9ce0e178aa5"
 
 /* The version and the checksum of the library that the program is linked with. */
 extern const char bohm_version[16], bohm_sources[65];

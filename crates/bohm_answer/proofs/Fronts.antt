@@ -1,4 +1,4 @@
--- Bytes written in parts, and a part of which the writer refused some.
+-- Bytes that are written in parts, of which the writer may take only a first part.
 use Rattle.std.proofs.Common.{List, ℕ, ◌+◌, ◌-◌, ◌++◌, length, take, drop, Result, Ok, Err, Some, None, OnOk, OnErr}
 use Rattle.std.proofs.Common.{sym, ap, ◌≡◌, ◌∙◌, append_assoc, arith, length-drop}
 use Rattle.std.specs.Prelude.{Option}
@@ -38,7 +38,7 @@ module _ {A E : Type 0} (a b c : Option (List ℕ)) (x y : List ℕ) (first : Ap
   then_err (Ok v) h = tt
   then_err (Err e) h = behind a b c x y first h
 
--- some of the bytes that are left
+-- writing more of the bytes that are left
 pub appends_more : (old mid new : Option (List ℕ)) (sent n : ℕ) (bytes : List ℕ) → Appends old mid (take sent bytes)
     → Appends mid new (take n (take (length bytes - sent) (drop sent bytes))) → Appends old new (take (sent + n) bytes)
 appends_more None mid new sent n bytes before now = tt

@@ -3,6 +3,7 @@ use Rattle.std.specs.Prelude.{ℕ, ◌≤◌, List, length, take, Option}
 use Rattle.std.specs.Io.KnownBytes.{Consumes, IsAtEnd, Appends}
 use Rattle.bohm_answer.specs.declared.fault.RunFault.{RunFault}
 use Rattle.bohm_answer.specs.declared.fault.RunFault.TheVariants.{Read, TooLong, Text, Check, Trimmed, Future, NoMemory, Write}
+use Rattle.bohm_types.specs.Limits.{longest_text}
 
 -- a fault of reading
 abbrev pub IsReadFault : RunFault → Type 0
@@ -35,4 +36,4 @@ IsWriteFault written written' bytes (Write sent) = Sends written written' bytes 
 pub record ReadsAll (unread unread' : Option (List ℕ)) (text : List ℕ) : Type 0 where
   pub read : Consumes unread unread' text
   pub at_end : IsAtEnd unread'
-  pub short : length text ≤ 67108864
+  pub short : length text ≤ longest_text

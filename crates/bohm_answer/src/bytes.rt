@@ -5,8 +5,7 @@ ghost use Rattle.std.specs.Io.KnownBytes.{Consumes, IsAtEnd};
 ghost use Rattle.bohm_answer.specs.Bytes.{IsReadFault};
 
 use crate::fault::RunFault;
-use bohm_reading::LONGEST_TEXT;
-use bohm_types::NoMemory;
+use bohm_types::{LONGEST_TEXT, NoMemory};
 use std::alloc::Global;
 use std::io::Read;
 

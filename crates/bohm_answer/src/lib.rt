@@ -7,7 +7,7 @@ mod fault;
 mod fault_line;
 mod sending;
 
-pub use bohm_reading::LONGEST_TEXT;
+pub use bohm_types::LONGEST_TEXT;
 pub use bytes::read_all;
 pub use fault::RunFault;
 pub use fault_line::{print_fault, write_fault};

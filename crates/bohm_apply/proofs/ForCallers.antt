@@ -1,8 +1,8 @@
--- What the crates above cite of this crate's proofs. Each lemma is proved in the file of its subject.
+-- The lemmas of this crate that other crates cite. Each lemma is proved in the file of its subject.
 
--- one run after another, and none
+-- a run of no transactions, and runs in succession
 pub use Rattle.bohm_apply.proofs.Going.{at_rest, went_on}
--- a floor so far below the top stays
+-- the floor stays while the top is at most `keep`
 pub use Rattle.bohm_apply.proofs.Going.{floor_stays}
--- a whole log from the start, and the store behind some of it
+-- the store at a timestamp, and the run of a whole log on a new history
 pub use Rattle.bohm_apply.proofs.Walks.{store_then, whole_run}

@@ -1,4 +1,4 @@
--- A history that went on by some transactions and then by others went on by both.
+-- Histories that are continued by transactions: successive runs, unchanged histories, rewinds, trims.
 use Rattle.std.proofs.Common.{◌≡◌, ℕ, zero, suc, [], ◌∷◌, ◌+◌, ◌-◌, ◌<◌, ◌≤◌, ◌++◌, List, length, length-append, take, max, refl, ap, sym, ◌∙◌, arith, ⊎_elim}
 use Rattle.std.specs.List.{IsDistinct}
 use Rattle.std.specs.Map.{keys_of}
@@ -16,7 +16,7 @@ use Rattle.bohm_store.specs.Nexts.{IsSame, IsSettledKept}
 use Rattle.bohm_store.proofs.ForCallers.{fewer_count, settled_early, to_few}
 use Rattle.bohm_apply.specs.Runs.{floor_after, IsApplied, IsStillPast, NoneEarlier, RanSome}
 
--- a floor of that kind lies between the old one and the top
+-- the floor after a run is between the old floor and the new top
 pub floor_low : (was now : Timeline) (keep n : ℕ) → was.floor ≤ was.top → now.floor ≡ floor_after was keep n → now.top ≡ was.top + n → now.floor ≤ now.top
 floor_low was now keep zero ordered floor top = omega (arith, ordered, floor, top)
 floor_low was now keep (suc n) ordered floor top = omega (arith, ordered, floor, top)
@@ -25,7 +25,7 @@ floor_high : (was : Timeline) (keep n : ℕ) → was.floor ≤ floor_after was k
 floor_high was keep zero = omega arith
 floor_high was keep (suc n) = omega arith
 
--- the floor behind both
+-- the floor after two successive runs is the floor after one run of all their transactions
 floors : (was mid now : Timeline) (keep m n : ℕ) → mid.floor ≡ floor_after was keep m → mid.top ≡ was.top + m → now.floor ≡ floor_after mid keep n
     → now.floor ≡ floor_after was keep (m + n)
 floors was mid now keep zero zero first top second = second ∙ first
@@ -74,7 +74,7 @@ floor_behind : (was : Timeline) (txns : List Txn) (keep floor : ℕ) → 0 < len
 floor_behind was [] keep floor some f = absurd (omega (arith, some))
 floor_behind was (x ∷ xs) keep floor some f = f
 
--- to settle transactions, trimmed so far below their end, goes on by them
+-- settling transactions, and trimming at `keep` below the new top, continues the history by them
 pub settled_on : (was now : Timeline) (txns : List Txn) (keep : ℕ) → 0 < length txns → IsSettledKept was now txns ((was.top + length txns) - keep)
     → IsApplied was now txns keep (replies (past was was.top) txns)
 settled_on was now txns keep some h = record {
@@ -86,7 +86,7 @@ settled_on was now txns keep some h = record {
   count = h.count;
 }
 
--- where its past stays, a history went on by what it went on by
+-- a history is still continued by the transactions if its readable past is unchanged and no version is added
 pub stayed_past : (was mid now : Timeline) (txns : List Txn) (keep : ℕ) (a : List Reply) → was.floor ≤ was.top → IsStillPast mid now
     → IsApplied was mid txns keep a → IsApplied was now txns keep a
 stayed_past was mid now txns keep a ordered still h =
@@ -103,7 +103,7 @@ stayed_past was mid now txns keep a ordered still h =
       count = omega (arith, still.count, h.count);
     }
 
--- so it does where nothing that is seen changes
+-- a history is still continued by the transactions if nothing of its contract view changes
 pub stayed : (was mid now : Timeline) (txns : List Txn) (keep : ℕ) (a : List Reply) → IsSame mid now → IsApplied was mid txns keep a
     → IsApplied was now txns keep a
 stayed was mid now txns keep a same h =
@@ -117,13 +117,13 @@ stayed was mid now txns keep a same h =
       count = omega (arith, same.count, h.count);
     }
 
--- ---- all that a batch adds stays, and then goes
+-- ---- a batch that runs while the floor stays, and is then rewound or trimmed
 
 pub floor_stays : (was : Timeline) (keep n : ℕ) → was.top + n ≤ keep → floor_after was keep n ≡ was.floor
 floor_stays was keep zero le = refl
 floor_stays was keep (suc n) le = (let z : (was.top + suc n) - keep ≡ 0 = omega (arith, le) in rw z (omega arith))
 
--- a history that ran some of the transactions, and let them go, has the past that it had, and no more versions
+-- a rewind to the old top, after some of the batch's transactions, restores the past and leaves no more versions
 pub taken_back : (was mid now : Timeline) (txns : List Txn) (keep : ℕ) → was.top + length txns ≤ keep → RanSome was mid txns keep
     → now.floor ≡ mid.floor → now.top ≡ was.top → ((ts : ℕ) → ts ≤ was.top → past now ts ≡ past mid ts) → IsDistinct bytes_eq (keys_of now.chains)
     → ((k : List ℕ) → versions now k ≡ versions_to was.top (versions mid k)) → IsStillPast was now
@@ -137,7 +137,7 @@ taken_back was mid now txns keep room (n, a, h, early) floor top back apart less
       count = fewer_count was now apart (λ k. let is = less k in rw is (early k));
     }
 
--- one that ran all of them, and is trimmed so far below its end, went on by them
+-- a history that ran the whole batch and is then trimmed to `keep` below its top is continued by the batch
 pub trimmed_on : (was mid now : Timeline) (txns : List Txn) (all keep : ℕ) (a : List Reply) → 0 < length txns → was.top + length txns ≤ all
     → IsApplied was mid txns all a → now.floor ≡ max mid.floor (mid.top - keep) → now.top ≡ mid.top
     → total now.chains ≤ total mid.chains → ((ts : ℕ) → now.floor ≤ ts → past now ts ≡ past mid ts) → IsApplied was now txns keep a
@@ -152,21 +152,21 @@ trimmed_on was mid now txns all keep a some room h floor top few same =
       count = omega (arith, few, h.count);
     }
 
--- ---- versions up to a top
+-- ---- no key has more versions up to the old top than before
 
 pub none_earlier : (was : Timeline) → NoneEarlier was was
 none_earlier was k = to_few was.top (versions was k)
 
--- nor are there more where nothing that is seen changes
+-- a change that keeps the versions of all keys adds none up to the old top
 pub none_same : (was mid now : Timeline) → IsSame mid now → NoneEarlier was mid → NoneEarlier was now
 none_same was mid now same few k = let is = same.versions k in rw is (few k)
 
--- nor behind transactions that follow
+-- settling transactions after the old top adds no version up to the old top
 pub none_settled : (was mid now : Timeline) (txns : List Txn) (low : ℕ) → was.top ≤ mid.top → IsSettledKept mid now txns low → NoneEarlier was mid
     → NoneEarlier was now
 none_settled was mid now txns low le h few k = omega (arith, few k, settled_early mid now txns low was.top h le k)
 
--- before the first transaction
+-- an unchanged history is continued by an empty list of transactions
 pub at_rest : (was : Timeline) (keep : ℕ) → IsApplied was was [] keep []
 at_rest was keep = record {
   replies = refl;

@@ -17,7 +17,7 @@ at_end [] a b (suc j) n e = absurd (some-ne-none b (sym e))
 at_end (x ∷ xs) a b zero n e = absurd (n e)
 at_end (x ∷ xs) a b (suc j) n e = ap suc (at_end xs a b j n e)
 
--- F holds of each end at its port
+-- F holds for each end and its port
 abbrev Each : (ℕ → End → Type 0) → List End → Type 0
 Each F views = (port : ℕ) (v : End) → get_elem? views port ≡ some v → F port v
 
@@ -65,7 +65,7 @@ is_nil : (xs ys : List PlanNote) → xs ++ ys ≡ [] → xs ≡ []
 is_nil [] ys e = refl
 is_nil (x ∷ xs) ys e = absurd (cc)
 
--- a prefix of a queue's notes is one
+-- a prefix of a line (`IsLine`) is a line
 line_begin : (c : Cutting) (i : ℕ) (xs ys : List PlanNote) → IsLine c i (xs ++ ys) → IsLine c i xs
 line_begin c i [] ys h = tt
 line_begin c i (x ∷ xs) ys h = (h.0, (λ none. is_nil xs ys (h.1 none)), line_begin c (i + 1) xs ys h.2)
@@ -119,7 +119,7 @@ forks c port v a b items views h at =
 some_not_none : (o : Option Planned) → IsSome o → IsNone o → ⊥
 some_not_none o s n = true≢false (sym s ∙ n)
 
--- notes without a refusal are continued by the next note
+-- a line whose notes all have plans is still a line when the note of the next batch is appended
 line_more : (c : Cutting) (i : ℕ) (xs : List PlanNote) (x : PlanNote) → IsLine c i xs → All (λ y. IsSome y.plan) xs → IsNoteAt c (i + length xs) x
     → IsLine c i (xs ++ x ∷ [])
 line_more c i [] x line going note = (subst (λ n. IsNoteAt c n x) (add-zero i) note, (λ _. refl), tt)
@@ -131,7 +131,7 @@ line_more c i (y ∷ ys) x line going note =
       line_more c (i + 1) ys x line.2 rest (subst (λ n. IsNoteAt c n x) same note),
     )
 
--- the last of a queue's notes is of the batch after those of the others
+-- the last note of a line is of the batch that follows the batches of the other notes
 line_last : (c : Cutting) (i : ℕ) (xs : List PlanNote) (x : PlanNote) → IsLine c i (xs ++ x ∷ []) → IsNoteAt c (i + length xs) x
 line_last c i [] x line = subst (λ n. IsNoteAt c n x) (sym (add-zero i)) line.0
 line_last c i (y ∷ ys) x line =
@@ -149,11 +149,11 @@ line_end c xs x line =
     let same : 0 + length xs ≡ length xs = omega arith in
     subst (λ n. IsNoteAt c n x) same (line_last c 0 xs x line)
 
--- what an end that sends becomes, where it sent one more
+-- an end that only sends still only sends after it has sent one more note
 pub sender_after : (v w : End) (x : PlanNote) → v ≡ end_of true false v.sent [] → w ≡ record v { sent = v.sent ++ x ∷ [] } → w ≡ end_of true false w.sent []
 sender_after v w x was is = rw is (ap (λ (u : End). record u { sent = v.sent ++ x ∷ [] }) was)
 
--- what an end that takes becomes, where it took one more
+-- an end that only takes still only takes after it has taken one more note
 pub receiver_after : (v w : End) (x : PlanNote) → v ≡ end_of false true [] v.taken → w ≡ record v { taken = v.taken ++ x ∷ [] }
     → w ≡ end_of false true [] w.taken
 receiver_after v w x was is = rw is (ap (λ (u : End). record u { taken = v.taken ++ x ∷ [] }) was)

@@ -12,12 +12,12 @@ use Rattle.bohm_store.specs.Versions.{Timeline, past}
 use Rattle.bohm_apply.specs.Runs.{IsApplied}
 use Rattle.bohm_apply.proofs.Going.{settled_on, went_on}
 
--- of a list the first ones, and then the next one
+-- the first i + 1 transactions are the first i, followed by the transaction at index i
 next_taken : (txns : List Txn) (i : ℕ) (t : Txn) → slice_get txns i ≡ Some t → take (i + 1) txns ≡ take i txns ++ t ∷ []
 next_taken txns i t here =
     take_more txns i t (slice_get_within txns i t here) ∙ ap (λ (x : Txn). take i txns ++ x ∷ []) (get_or_from_slice_get txns i t t here)
 
--- a history went on by the first transactions, and then by the next one
+-- settling the transaction at index i after the first i continues the history by the first i + 1
 pub one_more : (was mid now : Timeline) (txns : List Txn) (i keep : ℕ) (t : Txn) (a : List Reply) → was.floor ≤ was.top → slice_get txns i ≡ Some t
     → IsApplied was mid (take i txns) keep a → IsSettledKept mid now (t ∷ []) ((mid.top + 1) - keep)
     → IsApplied was now (take (i + 1) txns) keep (a ++ reply_of (body (past mid mid.top) t) ∷ [])

@@ -15,7 +15,7 @@ use Rattle.bohm_txn.specs.Stores.{cell_of}
 use Rattle.bohm_txn.proofs.ForCallers.{shows_counted, drop_at, next}
 use Rattle.bohm_exec.specs.Moments.{shown}
 
--- ---- the shows of one transaction
+-- ---- the values that one transaction shows
 
 some_shown : (o : Option ℤ) (z : ℤ) → cell_of o ≡ Present z → o ≡ Some z
 some_shown None z e = cc
@@ -25,13 +25,13 @@ none_shown : (o : Option ℤ) → cell_of o ≡ Absent → o ≡ None
 none_shown None e = refl
 none_shown (Some y) e = cc
 
--- one value more
+-- the first i shown values, followed by the value at index i, are the first i + 1
 pub show_more : (zs : List ℤ) (i : ℕ) (z : ℤ) → shown zs i ≡ Present z → take i zs ++ z ∷ [] ≡ take (i + 1) zs
 show_more zs i z e =
     let here : slice_get zs i ≡ Some z = some_shown (slice_get zs i) z e in
     sym (take_more zs i z (slice_get_within zs i z here) ∙ ap (λ y. take i zs ++ y ∷ []) (get_or_from_slice_get zs i z z here))
 
--- none is left
+-- if there is no value at index i, the first i + 1 shown values are just the first i
 pub show_ended : (zs : List ℤ) (i : ℕ) → shown zs i ≡ Absent → take i zs ≡ take (i + 1) zs
 show_ended zs i e = ⊎_elim
     (λ (found : (z : ℤ) × (i < length zs) × (slice_get zs i ≡ Some z) × (get_or zs i z ≡ z)). absurd
@@ -42,7 +42,7 @@ show_ended zs i e = ⊎_elim
     some_there : (z : ℤ) → Some z ≡ None → ⊥
     some_there z p = cc
 
--- there are no more than the body has statements for
+-- a body shows at most as many values as it has `show` statements
 pub shows_few : (look : Look) (t : Txn) → length (shows_of (body look t)) ≤ shows_in t.body
 shows_few look t = elim (body look t) as (λ (e : Ended). body look t ≡ e → length (shows_of e) ≤ shows_in t.body) [
   | Ok run ↦ λ is. (let same = shows_counted look t run is in omega arith)
@@ -51,7 +51,7 @@ shows_few look t = elim (body look t) as (λ (e : Ended). body look t ≡ e → 
 
 -- ---- the replies
 
--- one transaction more
+-- with the next reply appended, the replies so far and the remaining ones are still the whole list
 pub reply_step : (base : Look) (txns : List Txn) (i : ℕ) (x : Txn) (r : Reply) (out whole : List Reply) → slice_get txns i ≡ Some x
     → reply_of (body (state base txns i) x) ≡ r
     → out ++ replies (state base txns i) (drop i txns) ≡ whole → (out ++ r ∷ []) ++ replies (state base txns (i + 1)) (drop (i + 1) txns) ≡ whole
@@ -60,12 +60,12 @@ reply_step base txns i x r out whole here is h =
     let more = rw (drop_at txns i x here) at h in
     rw (after_it, append_assoc, sym is) more
 
--- the list goes on
+-- a list that begins with the old replies still does when one more reply is appended
 pub longer : (old mid new : List Reply) (r : Reply) → ((more : List Reply) × (mid ≡ old ++ more)) → new ≡ mid ++ r ∷ []
     → (more : List Reply) × (new ≡ old ++ more)
 longer old mid new r (more, before) now = (more ++ r ∷ [], now ∙ (ap (λ (rs : List Reply). rs ++ r ∷ []) before ∙ append_assoc old more (r ∷ [])))
 
--- ---- what is so whatever was answered
+-- ---- a fact that doesn't depend on the result also holds on an error
 
 pub on_err : {A E P : Type 0} (r : Result A E) → P → OnErr r P
 on_err (Ok x) p = tt

@@ -1,4 +1,4 @@
--- What workers have swept, joined pass by pass.
+-- Sweeps of workers: one share, and all shares once the workers' passes are joined.
 use Rattle.std.proofs.Common.{◌≡◌, ℕ, ◌+◌, ◌-◌, ◌%◌, ◌<◌, List, [], ◌∷◌, ◌++◌, length, get_or, All, refl, sym, ap, ◌∙◌, subst, ⊎_elim, inl, inr, arith}
 use Rattle.std.specs.Prelude.{Contains, ◌⊎◌}
 use Rattle.std.proofs.lemmas.List.Elements.{All-contains, All-contains_itself, Contains-append_left, Contains-push}
@@ -21,14 +21,14 @@ use Rattle.bohm_apply.specs.Sweeps.{IsShareSwept, AreAllSwept}
 
 -- ---- one share
 
--- a share is inside the batch
+-- the positions of a share are positions of the batch
 pub inside : (b : Batch) (w : Worker) (first len : ℕ) (xs : List ℕ) → first ≡ first_of b → len ≡ length (txns_of b) → xs ≡ share first len w.number w.count
     → All (IsIn b) xs
 inside b w first len xs from long is = subst (All (IsIn b)) (sym is) (λ k d low.
     let here = share_inside first len w.number w.count k d low in
     record { from = omega (arith, from, here.0); below = omega (arith, from, long, here.1) })
 
--- and so is what was set aside of it
+-- positions that are picked from positions of the batch, such as deferred ones, are in the batch too
 pub inside_again : (b : Batch) (xs ys : List ℕ) → IsPickedFrom xs ys → All (IsIn b) ys → All (IsIn b) xs
 inside_again b xs ys picked all = λ k d low. All-contains (IsIn b) ys (get_or xs k d) all
     (picked_contains xs ys (get_or xs k d) picked (All-contains_itself xs k d low))
@@ -41,7 +41,7 @@ swept_once b w v pairs first len xs from long is all = λ t within mine.
     let here : Contains xs t = subst (λ (ys : List ℕ). Contains ys t) (sym is) (subst (λ (n : ℕ). Contains (share first len n w.count) t) number covered) in
     All-contains (IsAccountedFor b v pairs) xs t all here
 
--- what was set aside is swept once more
+-- a share is swept if a second sweep accounts for each position that the first sweep deferred
 pub swept_again : (b : Batch) (w : Worker) (u v : View) (first again : Pairs) → Keeps u v → IsShareSwept b w u first
     → All (IsAccountedFor b v again) (positions_in first) → IsShareSwept b w v again
 swept_again b w u v first again keeps once all = λ t within mine. ⊎_elim
@@ -49,9 +49,9 @@ swept_again b w u v first again keeps once all = λ t within mine. ⊎_elim
     (λ (c : Contains (positions_in first) t). All-contains (IsAccountedFor b v again) (positions_in first) t all c)
     (once t within mine)
 
--- ---- many shares
+-- ---- the shares of several workers
 
--- each position of the first n workers'
+-- each position in the shares of the first n workers was seen Done or was deferred
 abbrev pub AreSwept : Batch → ℕ → ℕ → View → List Pairs → Type 0
 AreSwept b workers n v asides = (t : ℕ) → IsIn b t → position b t % workers < n → IsDone b v t ⊎ IsSetAside asides t
 
@@ -61,7 +61,7 @@ set_aside_before asides pairs t (p, c, m) = (p, Contains-append_left asides (pai
 set_aside_last : (asides : List Pairs) (pairs : Pairs) (t : ℕ) → Contains (positions_in pairs) t → IsSetAside (asides ++ pairs ∷ []) t
 set_aside_last asides pairs t m = (pairs, Contains-push asides pairs, m)
 
--- one worker more: its pass is joined
+-- joining the next worker's pass adds that worker's share to the swept ones
 pub swept_more : (b : Batch) (w : Worker) (u v : View) (asides : List Pairs) (pairs : Pairs) → AreSwept b w.count w.number u asides → IsShareSwept b w v pairs
     → AreSwept b w.count (w.number + 1) (after_join u v) (asides ++ pairs ∷ [])
 swept_more b w u v asides pairs before this = λ t within low. dite (ℕ_discrete (position b t % w.count) w.number)
@@ -74,12 +74,12 @@ swept_more b w u v asides pairs before this = λ t within low. dite (ℕ_discret
     (λ (s : IsSetAside asides t). inr (set_aside_before asides pairs t s))
     (before t within (omega (arith, low, other))))
 
--- all workers
+-- with the shares of all workers, each position of the batch was seen Done or was deferred
 pub swept_all : (b : Batch) (workers n : ℕ) (v : View) (asides : List Pairs) → 0 < workers → n ≡ workers → AreSwept b workers n v asides
     → AreAllSwept b v asides
 swept_all b workers n v asides some all swept = λ t within. swept t within (omega (arith, mod_below (position b t) workers some, all))
 
--- what has no outcome was set aside
+-- a position that has no outcome on the closed board was deferred
 pub left_aside : (closed : Closed) (b : Batch) (v : View) (asides : List Pairs) → batch_of_closed closed ≡ b → AreAllSwept b v asides
     → ((t : ℕ) → IsDone b v t → IsFinished closed t)
     → (t : ℕ) → IsIn (batch_of_closed closed) t → IsUnfinished closed t → IsSetAside asides t

@@ -22,7 +22,7 @@ use Rattle.bohm_apply.specs.Runs.{IsApplied, IsWalked, IsHistoryOf, floor_after}
 use Rattle.bohm_apply.proofs.Going.{went_on, at_rest}
 use Rattle.bohm_place.proofs.ForCallers.{ahead_next}
 
--- the transactions ahead of a batch and then its own are those ahead of the next one
+-- the transactions before a batch, followed by those of the batch, are those before the next batch
 front_more : (c : Cutting) (i start : ℕ) (txns : List Txn) → i < length c.sizes → start ≡ ahead c.sizes i → txns ≡ txns_at c i
     → ahead c.sizes (i + 1) ≡ start + length txns → take (start + length txns) c.log ≡ take start c.log ++ txns
 front_more c i start txns inside here is next =
@@ -30,7 +30,7 @@ front_more c i start txns inside here is next =
     let own : txns ≡ take (length txns) (drop start c.log) = is ∙ (λ j. take (size j) (drop (sym here j) c.log)) in
     take-add start (length txns) c.log ∙ ap (λ ts. take start c.log ++ ts) (sym own)
 
--- a walk goes on by a batch
+-- settling the next batch of a walk continues the history by that batch too
 pub walked_on : (was mid now : Timeline) (c : Cutting) (i start keep : ℕ) (a : List Reply) (txns : List Txn) → was.floor ≤ was.top → i < length c.sizes
     → start ≡ ahead c.sizes i → txns ≡ txns_at c i → ahead c.sizes (i + 1) ≡ start + length txns
     → IsApplied was mid (take start c.log) keep a → IsApplied mid now txns keep (replies (past mid mid.top) txns)
@@ -38,7 +38,7 @@ pub walked_on : (was mid now : Timeline) (c : Cutting) (i start keep : ℕ) (a :
 walked_on was mid now c i start keep a txns ordered inside here is next h g =
     rw (front_more c i start txns inside here is next) (went_on was mid now (take start c.log) txns keep a (replies (past mid mid.top) txns) ordered h g)
 
--- a history and its replies go on by a batch
+-- the next batch continues both the history and the replies
 pub goes_on_more : (was mid now : Progress) (c : Cutting) (i start keep : ℕ) (txns : List Txn) → was.history.floor ≤ was.history.top → i < length c.sizes
     → start ≡ ahead c.sizes i → txns ≡ txns_at c i → ahead c.sizes (i + 1) ≡ start + length txns
     → GoesOn was mid (take start c.log) keep → GoesOn mid now txns keep → GoesOn was now (take (start + length txns) c.log) keep
@@ -52,7 +52,7 @@ goes_on_more was mid now c i start keep txns ordered inside here is next h g =
           ∙ (append_assoc was.replies before more ∙ ap (λ (a : List Reply). was.replies ++ a) on.replies));
     }
 
--- before the first batch
+-- an empty list of transactions leaves the history and the replies as they are
 pub goes_nowhere : (p : Progress) (keep : ℕ) → GoesOn p p [] keep
 goes_nowhere p keep = record { applied = at_rest p.history keep; replies = sym (append-nil p.replies) }
 
@@ -60,7 +60,7 @@ plan_at : (ys : List Planned) (p : Planned) (rest : List Planned) → slice_get 
 plan_at [] p rest = refl
 plan_at (y ∷ ys) p rest = plan_at ys p rest
 
--- the plan behind others is that of the batch behind theirs
+-- the plan that follows n other plans is right for the batch at index n
 pub plan_there : (c : Cutting) (ys : List Planned) (p : Planned) (rest all : List Planned) → ys ++ p ∷ rest ≡ all → ArePlans c all
     → (length ys < length c.sizes) × IsPlanAt c (length ys) p
 plan_there c ys p rest all whole plans = (
@@ -68,7 +68,7 @@ plan_there c ys p rest all whole plans = (
   plans.each (length ys) p (ap (λ (l : List Planned). slice_get l (length ys)) (sym whole) ∙ plan_at ys p rest),
 )
 
--- behind all plans the whole log stands
+-- the transactions of all batches are the whole log
 pub all_ahead : (c : Cutting) (n start : ℕ) → n ≡ length c.sizes → start ≡ ahead c.sizes n → sum c.sizes ≡ length c.log → take start c.log ≡ c.log
 all_ahead c n start all here total =
     let whole : start ≡ length c.log = here ∙ (ap (ahead c.sizes) all ∙ (ap sum (take-length c.sizes) ∙ total)) in
@@ -77,7 +77,7 @@ all_ahead c n start all here total =
 ahead_within : (sizes : List ℕ) (i : ℕ) → ahead sizes i ≤ sum sizes
 ahead_within sizes i = omega (arith, sum_by-take-drop (λ x. x) sizes i)
 
--- so many transactions have run as stand ahead of the batch that is next
+-- there are as many replies as there are transactions before the next batch
 pub answered : (was now : Timeline) (c : Cutting) (start keep : ℕ) (a : List Reply) → start ≤ length c.log → IsApplied was now (take start c.log) keep a
     → length a ≡ start
 answered was now c start keep a low h = ap length h.replies ∙ length-replies (past was was.top) (take start c.log) ∙ length-take-le start c.log low
@@ -85,7 +85,7 @@ answered was now c start keep a low h = ap length h.replies ∙ length-replies (
 pub inside : (c : Cutting) (i start : ℕ) → sum c.sizes ≡ length c.log → start ≡ ahead c.sizes i → start ≤ length c.log
 inside c i start all here = omega (arith, ahead_within c.sizes i, all, here)
 
--- where a walk ends
+-- a walk that ends between batches has settled whole batches, and all of them if it succeeded
 pub walk_ends : (was now : Timeline) (c : Cutting) (i start keep : ℕ) (a : List Reply) (ended : Bool) → sum c.sizes ≡ length c.log → start ≡ ahead c.sizes i
     → (ended ≡ true → i ≡ length c.sizes) → IsApplied was now (take start c.log) keep a → IsWalked was now c keep a ended
 walk_ends was now c i start keep a ended all here whole h =
@@ -96,17 +96,17 @@ walk_ends was now c i start keep a ended all here whole h =
       whole = λ t. e ∙ here ∙ ap (ahead c.sizes) (whole t) ∙ ap sum (take-length c.sizes) ∙ all;
     }
 
--- before the first batch
+-- a walk that ends before the first batch has settled none
 pub walk_rests : (was : Timeline) (c : Cutting) (keep : ℕ) (a : List Reply) → a ≡ [] → sum c.sizes ≡ length c.log → IsWalked was was c keep a false
 walk_rests was c keep a none all = rw none (walk_ends was was c 0 0 keep [] false all refl (λ t. absurd cc) (at_rest was keep))
 
--- ---- a whole log from the start
+-- ---- a whole log on a new history
 
 floor_from_zero : (was : Timeline) (keep : ℕ) (log : List Txn) → was.floor ≡ 0 → was.top ≡ 0 → floor_after was keep (length log) ≡ length log - keep
 floor_from_zero was keep [] f t = omega (arith, f)
 floor_from_zero was keep (x ∷ xs) f t = rw (f, t) (omega arith)
 
--- a history that opened at a store and went on by the log
+-- the run of a whole log has the replies and the past of the serial run from the starting store
 pub whole_run : (start : Look) (was now : Timeline) (log : List Txn) (keep : ℕ) (a : List Reply) → was.floor ≡ 0 → was.top ≡ 0 → past was 0 ≡ start
     → IsApplied was now (take (length a) log) keep a → length a ≡ length log
     → (a ≡ replies start log) × IsHistoryOf start log keep now
@@ -122,14 +122,14 @@ whole_run start was now log keep a floor top opened h all =
       },
     )
 
--- each declared write of it added one version at most
+-- the run of a whole log adds at most one version for each declared write
 pub whole_count : (was now : Timeline) (log : List Txn) (keep : ℕ) (a : List Reply) → IsApplied was now (take (length a) log) keep a
     → length a ≡ length log → total now.chains ≤ total was.chains + declared_writes log
 whole_count was now log keep a h all =
     let whole : take (length a) log ≡ log = ap (λ n. take n log) all ∙ take-length log in
     rw whole at h.count
 
--- the entries of the store of a past timestamp
+-- entries with the cells of the timestamp ts are those of the store after the first ts transactions
 pub store_then : (s : Store) (log : List Txn) (ts : ℕ) (entered : List (List ℕ × ℤ)) → ts ≤ length log → cell_in (store_of entered) ≡ state (cell_in s) log ts
     → entered ≡ entries (store_of entered) → entered ≡ entries (store_after s (take ts log))
 store_then s log ts entered inside cells own =

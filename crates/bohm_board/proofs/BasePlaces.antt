@@ -1,4 +1,4 @@
--- The places of declared keys among the entries of a base.
+-- The indices of declared keys among the entries of a base.
 use Rattle.std.proofs.Common.{◌≡◌, ℕ, suc, ◌*◌, ◌<◌, ◌≤◌, true, false, List, [], ◌∷◌, ◌++◌, length}
 use Rattle.std.proofs.Common.{slice_get, get_or, Some, refl, sym, ◌∙◌, arith, All, length-append}
 use Rattle.std.specs.List.{list_any, AllByRecursion, IsDistinct}
@@ -28,7 +28,7 @@ use Rattle.bohm_board.specs.Bases.{keys_of, declared_keys, IsBase, IsBatched}
 abbrev pub Entries : Type 0
 Entries = List (List ℕ × Cell)
 
--- ---- a base has few entries
+-- ---- a base has at most 32 entries per transaction
 
 apart_each : (x : List ℕ) (ks : List (List ℕ)) → ¬ IsAmong ks x → AllByRecursion (λ y. bytes_eq x y ≡ false) ks
 apart_each x [] h = tt
@@ -76,7 +76,7 @@ few_entries ts entries base formed =
       length-map entries (λ (e : List ℕ × Cell). e.0),
     )
 
--- what is so of a batch stays so where places are noted
+-- `IsBatched` also holds for each right plan with the same sources, such as one with noted indices
 pub batched_on : (txns : List Txn) (p q : Planned) → IsBatched txns p → HasSourcesOf p q → ∥ IsRightPlan txns q ∥₁ → IsBatched txns q
 batched_on txns p q is same right = record {
   some = is.some;
@@ -86,9 +86,9 @@ batched_on txns p q is same right = record {
   right = right;
 }
 
--- ---- of a batch
+-- ---- indices in a batch's base
 
--- an access that takes the version before the batch has the place of its key
+-- an access whose source is `Before` has the index of its key in the base
 pub placed : (b : Batch) (set : DeclaredSet) (t j : ℕ) (a : Access) → IsIn b t → slice_get (accesses_in set b t) j ≡ Some a → a.source ≡ Before
     → (k : List ℕ) × (key_in set b t j ≡ Some k) × (slice_get (keys_of (entries_of b)) a.index ≡ Some k)
 placed b set t j a is at before =

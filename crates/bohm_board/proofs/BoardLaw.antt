@@ -1,4 +1,4 @@
--- What the board law says of a state, and what a change of its words leaves of it.
+-- Consequences of the board law, and its preservation as words and views change.
 use Rattle.std.proofs.Common.{◌≡◌, ◌≢◌, ℕ, List, [], ◌∷◌, ◌++◌, Bool, true, false, cond, Some, refl, ap, sym, ◌∙◌, subst, ⊎_elim, inl, inr, arith}
 use Rattle.std.specs.Prelude.{Option, Contains, ℤ, ◌⊎◌, ◌<◌, ◌==◌, ◌&&◌}
 use Rattle.std.proofs.lemmas.Bool.Decides.{eqb_tells}
@@ -17,7 +17,7 @@ use Rattle.bohm_board.specs.Events.{point_update, slot_update, is_slot}
 use Rattle.bohm_board.specs.Law.{IsSound, IsTrueOf, IsLawful, Stays}
 use Rattle.bohm_board.specs.Views.{Presence, Absent, Present, Holds, KnowsWanted, presence_of, new_view, spent_view}
 
--- ---- what is there
+-- ---- filled slots and their right cells
 
 filled_as : (b : Batch) (s : State) (x : Slot) (k : Presence) → IsSound b s → s.presences x ≡ Some k
     → IsRightCell b x (cell_in s x) × (presence_of (cell_in s x) ≡ k)
@@ -30,11 +30,11 @@ filled_as b s x Present sound e = subst (λ (o : Option Presence). IsRightCell b
 pub filled_right : (b : Batch) (s : State) (x : Slot) → IsSound b s → IsFull s x → IsRightCell b x (cell_in s x)
 filled_right b s x sound filled = (filled_as b s x filled.0 sound filled.1).0
 
--- there is one right cell
+-- a slot has at most one right cell
 pub one_cell : (b : Batch) (x : Slot) (c d : Cell) → IsRightCell b x c → IsRightCell b x d → c ≡ d
 one_cell b x c d e f = same_Some c d (sym e ∙ f)
 
--- the presence of a filled slot is the right cell's
+-- the presence of a filled slot is that of its right cell
 pub presence_right : (b : Batch) (s : State) (x : Slot) (k : Presence) (c : Cell) → IsSound b s → s.presences x ≡ Some k → IsRightCell b x c → presence_of c ≡ k
 presence_right b s x k c sound e right =
     let (is, same) = filled_as b s x k sound e in
@@ -48,7 +48,7 @@ holder (Done o) = 0
 pub one_holder : (p q : ℕ) → Claimed p ≡ Claimed q → p ≡ q
 one_holder p q e = ap holder e
 
--- where a pass knows what a position wants, it is filled
+-- if a view knows each slot that a position wants, each of these slots is filled
 pub wanted_filled : (b : Batch) (s : State) (t : ℕ) (v : View) → ((x : Slot) → Contains v.absent x → s.presences x ≡ Some Absent)
     → ((x : Slot) → Contains v.present x → s.presences x ≡ Some Present) → KnowsWanted b v t → HasWanted b s t
 wanted_filled b s t v absent present wanted = λ a u in_it e. ⊎_elim
@@ -56,7 +56,7 @@ wanted_filled b s t v absent present wanted = λ a u in_it e. ⊎_elim
     (λ (c : Contains v.present (slot_in u a)). (Present, present (slot_in u a) c))
     (Contains-append_cases v.absent v.present (slot_in u a) (wanted a u in_it e))
 
--- ---- words that don't go back
+-- ---- changes that revert no word
 
 pub record Grows (b : Batch) (s s' : State) : Type 0 where
   pub done : (t : ℕ) (o : Outcome) → s.positions t ≡ Done o → s'.positions t ≡ Done o
@@ -64,7 +64,7 @@ pub record Grows (b : Batch) (s s' : State) : Type 0 where
   pub filled : (x : Slot) (k : Presence) → s.presences x ≡ Some k → s'.presences x ≡ Some k
   pub stored : (x : Slot) (z : ℤ) → IsRightCell b x (cells.Present z) → s.values x ≡ z → s'.values x ≡ z
 
--- the words are the same
+-- a change of only the views reverts no word
 pub still : (b : Batch) (s : State) (views : ℕ → View) → Grows b s (record s { views = views })
 still b s views = record { done = λ t o h. h; busy = λ t h. h; filled = λ x k h. h; stored = λ x z r h. h }
 
@@ -84,7 +84,7 @@ true_on b s s' p v g held k = record {
   named = k.named;
 }
 
--- ---- one place of a function
+-- ---- a function with its value at one argument replaced
 
 pub put_cases : {A : Type 0} (P : A → Type 0) (f : ℕ → A) (t : ℕ) (a : A) (u : ℕ) → (u ≡ t → P a) → (u ≢ t → P (f u)) → P (point_update f t a u)
 put_cases P f t a u here other = ⊎_elim
@@ -109,14 +109,14 @@ slot_cases P f x a y here other = ⊎_elim
     (λ (h : (is_slot x y ≡ false) × (y ≢ x)). subst (λ (v : Bool). P (cond v a (f y))) (sym h.0) (other h.1))
     (slot_tells x y)
 
--- ---- one pass moves
+-- ---- the view of one pass changes
 
--- the law holds of the later state too, and no word went back
+-- the law holds in the later state too, and no word was reverted
 pub record Advances (b : Batch) (s s' : State) : Type 0 where
   pub lawful : IsLawful b s'
   pub grows : Grows b s s'
 
--- its view becomes v, and what the others hold stays theirs
+-- the law is preserved if p's new view v is true and holds p's claims, and the claims of other passes are unchanged
 pub moved : (b : Batch) (s s' : State) (p : ℕ) (v : View) → IsLawful b s → Grows b s s' → IsSound b s' → IsTrueOf b s' p v
     → ((q t : ℕ) → q ≢ p → s.positions t ≡ Claimed q → s'.positions t ≡ Claimed q)
     → ((q t : ℕ) → q ≢ p → s'.positions t ≡ Claimed q → s.positions t ≡ Claimed q)
@@ -153,12 +153,12 @@ moved b s s' p v kept g sound mine others back holds = record {
       named = k.named;
     }
 
--- the words stay, and so does what the pass holds
+-- the law is preserved if no word changes, and p's new view v is true and holds the same position
 pub relearnt : (b : Batch) (s : State) (p : ℕ) (v : View) → IsLawful b s → IsTrueOf b s p v → v.held ≡ (s.views p).held
     → Advances b s (record s { views = point_update s.views p v })
 relearnt b s p v kept mine same = moved b s s p v kept (still b s s.views) kept.sound mine (λ q t ne h. h) (λ q t ne h. h) (λ t h. same ∙ kept.held p t h)
 
--- a fact on what a list contains, and one more
+-- if P holds for x and for each element of xs, P holds for each element of xs with x appended
 pub more : {A : Type 0} (P : A → Type 0) (xs : List A) (x : A) → ((y : A) → Contains xs y → P y) → P x → (y : A) → Contains (xs ++ x ∷ []) y → P y
 more P xs x all here y c = ⊎_elim (all y) (λ (e : x ≡ y). subst P e here) (Contains-push_cases xs x y c)
 
@@ -169,7 +169,7 @@ both P xs ys left right y c = ⊎_elim (left y) (right y) (Contains-append_cases
 pub nothing_in : {A : Type 0} (x : A) → Contains [] x → ⊥
 nothing_in x c = let h : c.0 < 0 = c.1 in omega arith
 
--- a view that says nothing
+-- a new view of the batch, or of a consumed pass, is true in every state
 pub true_of_newcomer : (b : Batch) (s : State) (p : ℕ) (r : Rights) → (new_view r ≡ spent_view) ⊎ (r ≡ rights_of b) → IsTrueOf b s p (new_view r)
 true_of_newcomer b s p r named = record {
   done = λ t c. absurd (nothing_in t c);

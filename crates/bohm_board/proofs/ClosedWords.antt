@@ -1,4 +1,4 @@
--- What the words of a board say once no table has them, and as they are completed.
+-- The words of a closed board are sound, and stay sound as missing cells and outcomes are stored.
 use Rattle.std.proofs.Common.{◌≡◌, ◌≢◌, ℕ, ◌+◌, ◌<◌, ◌≤◌, List, length, get_or, set, sym, ap, ◌∙◌, subst, arith, refl, Option, None, Some}
 use Rattle.std.specs.Prelude.{ℤ}
 use Rattle.atomic_table.specs.Table.{Final, Seen}
@@ -33,7 +33,7 @@ open_word Open e = refl
 open_word (Claimed p) e = absurd (omega arith)
 open_word (Done r) e = let two = two_at_least r in absurd (omega arith)
 
--- what the words of a state say, where no table has them any more
+-- words that show a sound state are sound
 pub left_sound : (b : Batch) (w : Words) (s : State) → IsSound b s → AreShown b w s → AreSound b w
 left_sound b w s sound shown = record {
   outcomes = λ t is two.
@@ -66,7 +66,7 @@ pub record IsEnd (b : Batch) (w : Words) (id : ℕ) (v : View) : Type 0 where
   pub reached : IsReached b state
   pub saw : IsTrueOf b state id v
 
--- three vectors with the last words, each in its place
+-- a table's final words, copied into three vectors, show a reached state in which the pass's view is true
 pub settles : (b : Batch) (id : ℕ) (v : View) (ws : List ℕ) (xs : List (Unit {0})) (c : Words) (n m : ℕ) → v.right ≡ rights_of b
     → Final (Seen (IsRuled b) id v) ws xs → IsSized (rights_of b) c → n ≡ length (rights_of b).outcomes → m ≡ n + length (rights_of b).slots
     → ((j : ℕ) → j < length c.statuses → get_or c.statuses j 0 ≡ get_or ws (0 + j) 0)
@@ -94,9 +94,9 @@ pub two_word : (c : Cell) → filled_word c ≢ 1 → filled_word c ≡ 2
 two_word cells.Absent ne = absurd (ne refl)
 two_word (cells.Present z) ne = refl
 
--- ---- completing them
+-- ---- stores of missing cells and outcomes
 
--- a right cell is put
+-- words stay sound when a slot's right cell is stored
 pub cell_put : (b : Batch) (w : Words) (s : Slot) (c : Cell) (p n : ℕ) → IsSized (rights_of b) w → AreSound b w → IsSlot b s → IsRightCell b s c
     → p ≡ filled_word c → (filled_word c ≡ 2 → present_at n ≡ c)
     → AreSound b (record w { presences = set w.presences (number b s) p; values = set w.values (number b s) n })
@@ -124,7 +124,7 @@ cell_put b w s c p n sized sound is right word value =
     some_cell cells.Absent e = omega arith
     some_cell (cells.Present z) e = omega arith
 
--- the right outcome is put, where all slots have their cells
+-- words stay sound when a position's right outcome is stored, if each slot of the position has a cell
 pub outcome_put : (b : Batch) (w : Words) (t : ℕ) (o : Outcome) (x : ℕ) → IsSized (rights_of b) w → AreSound b w → IsIn b t → IsRightOutcome b t o
     → x ≡ word_of o → ((y : Slot) → IsSlot b y → y.txn ≡ t → get_or w.presences (number b y) 0 ≢ 0)
     → AreSound b (record w { statuses = set w.statuses (position b t) x })

@@ -1,4 +1,4 @@
--- What a search along rising entries finds is the key's entry.
+-- A search in entries with rising keys finds the key's entry, or that no entry has the key.
 use Rattle.std.proofs.Common.{◌≡◌, ℕ, zero, suc, ◌<◌, List, [], ◌∷◌, length, get_or, true, false, cond}
 use Rattle.std.proofs.Common.{Result, Ok, Err, Some, ⊎_elim, refl, sym, subst, ap, ◌∙◌, add-one, arith}
 use Rattle.std.specs.Option.{option_map}
@@ -35,7 +35,7 @@ against k e = key_cmp e.0 k
 equal_at : (a b : List ℕ) → key_cmp a b ≡ Equal → bytes_eq a b ≡ true
 equal_at a b e = same_at a b Equal e
 
--- ---- where no entry has the key
+-- ---- results of a search
 
 steps : (e : Entry) (es : List Entry) → rises_from e.0 (keys_of es) ≡ true → (j : ℕ) (d : Entry) → suc j < length (e ∷ es)
     → is_lt (key_cmp (get_or (e ∷ es) j d).0 (get_or (e ∷ es) (suc j) d).0) ≡ true
@@ -70,7 +70,7 @@ searched_some es k (Ok i) inside h =
     slice_get-map (λ (e : Entry). e.0) es i ∙ ap (option_map (λ (e : Entry). e.0)) (slice_get-get_or es i ([], Absent) inside) ∙ ap (λ y. Some y) same
 searched_some es k (Err i) inside h = tt
 
--- ---- what a key has by its entry
+-- ---- a key's newest cell, with an entry and without
 
 pub newest_missing : (es : List Entry) (k : List ℕ) (before : Cell) → is_among (keys_of es) k ≡ false → newest es k before ≡ before
 newest_missing [] k before h = refl

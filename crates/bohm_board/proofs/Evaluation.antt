@@ -1,5 +1,5 @@
--- The input of a position has at each declared key the cell by its access, and
--- where its wanted slots are filled the position ends over it as in the serial run.
+-- The input of a position has, for each declared key, the cell of the key's access.
+-- If its wanted slots are filled, the position has the same outcome and cells over its input as in the serial run.
 use Rattle.std.proofs.Common.{◌≡◌, ℕ, zero, suc, ◌+◌, List, [], ◌∷◌, ◌++◌, map, length, Bool, true, false}
 use Rattle.std.proofs.Common.{cond, Some, refl, ap, sym, ◌∙◌, subst, inl, inr, arith, ◌<◌, ◌≤◌, ⊎_elim}
 use Rattle.std.specs.Prelude.{Option, Contains, unwrap_or, if◌then◌else◌, true}
@@ -45,9 +45,9 @@ use Rattle.bohm_board.proofs.BoardLaw.{filled_right}
 pub contains_at : {A : Type 0} (xs : List A) (j : ℕ) (x : A) → slice_get xs j ≡ Some x → Contains xs x
 contains_at xs j x e = (j, slice_get_within xs j x e, get_or_from_slice_get xs j x x e)
 
--- ---- what a fold of entries finds
+-- ---- a key's newest cell in a list of entries
 
--- where each entry of the key has P, and so has what stands before, what is found has it
+-- if P holds for d and for the cell of each entry of k, P holds for k's newest cell
 newest_has : (P : Cell → Type 0) (es : List (List ℕ × Cell)) (k : List ℕ) (d : Cell)
     → ((j : ℕ) (e : List ℕ × Cell) → slice_get es j ≡ Some e → e.0 ≡ k → P e.1) → P d → P (newest es k d)
 newest_has P [] k d each here = here
@@ -58,7 +58,7 @@ newest_has P (e ∷ es) k d each here =
       | false ↦ λ _. here
     ] refl)
 
--- where the key has an entry, what is found is that of an entry of the key
+-- if k has an entry, and P holds for the cell of each entry of k, P holds for k's newest cell
 pub newest_among : (P : Cell → Type 0) (es : List (List ℕ × Cell)) (k : List ℕ) (d : Cell) (j : ℕ) (e : List ℕ × Cell) → slice_get es j ≡ Some e → e.0 ≡ k
     → ((m : ℕ) (f : List ℕ × Cell) → slice_get es m ≡ Some f → f.0 ≡ k → P f.1) → P (newest es k d)
 newest_among P [] k d j e at same each = absurd cc
@@ -71,7 +71,7 @@ newest_among P (x ∷ es) k d (suc j) e at same each = newest_among P es k (if b
 
 -- ---- the entries of a list of keys
 
--- the entry is that of this key by this access
+-- e is key j with its cell by access j
 pub record IsEntry (b : Batch) (s : State) (keys : List (List ℕ)) (accesses : List Access) (j : ℕ) (e : List ℕ × Cell) : Type 0 where
   pub access : Access
   pub key_at : slice_get keys j ≡ Some e.0
@@ -89,7 +89,7 @@ entry_of b s (k ∷ ks) (a ∷ more) (suc j) e at =
     let rest = entry_of b s ks more j e at in
     record { access = rest.access; key_at = rest.key_at; access_at = rest.access_at; cell = rest.cell }
 
--- each key with an access has an entry
+-- each key with an access has an entry, with its cell by the access
 pub entry_at : (b : Batch) (s : State) (keys : List (List ℕ)) (accesses : List Access) (j : ℕ) (k : List ℕ) (a : Access) → slice_get keys j ≡ Some k
     → slice_get accesses j ≡ Some a → slice_get (entries b s keys accesses) j ≡ Some (k, cell_at b s k a)
 entry_at b s [] accesses j k a at_key at_access = absurd cc
@@ -100,7 +100,7 @@ entry_at b s (x ∷ ks) (y ∷ more) zero k a at_key at_access =
     λ i. Some (key i, cell_at b s (key i) (access i))
 entry_at b s (x ∷ ks) (y ∷ more) (suc j) k a at_key at_access = entry_at b s ks more j k a at_key at_access
 
--- ---- one right access
+-- ---- right accesses of a key have the same source and slot
 
 same_place : (ks : List (List ℕ)) (i j : ℕ) (k : List ℕ) → AreDistinct ks → slice_get ks i ≡ Some k → slice_get ks j ≡ Some k → i ≡ j
 same_place [] i j k d e f = absurd cc
@@ -142,7 +142,7 @@ same_index first txns k u i j all n m =
     same_place n.txn.writes i j k (AreDistinct-rising n.txn.writes (rising_writes n.txn formed)) n.declared
     (subst (λ (x : Txn). slice_get x.writes j ≡ Some k) same m.declared)
 
--- ---- each entry of a key has the same cell
+-- ---- all entries of a key have the same cell
 
 module _ (b : Batch) (s : State) (t : ℕ) (x : Txn) (at : txn_at b t ≡ Some x) (plan : IsRightPlan (txns_of b) (plan_of b)) where
   abbrev Right : List ℕ → Access → Type 0
@@ -202,7 +202,7 @@ pub write_by_access : (b : Batch) (s : State) (t j : ℕ) (x : Txn) (k : List �
 write_by_access b s t j x k a at at_key at_access =
     cell_planned b k (input b s t x) (cell_at b s k a) (λ plan. write_found b s t x at plan j k a at_key at_access)
 
--- ---- Body(t, Input(t)) is Body(t, S(t - 1))
+-- ---- t has the same outcome and cells over its input as over the state before it
 
 source_right : (b : Batch) (s : State) (k : List ℕ) (index : ℕ) (o : Source) → IsSound b s
     → ((u : ℕ) → o ≡ Within u → IsFull s (record { txn = u; index = index })) → IsCellFrom b k index (cell_from b s k index o) o
@@ -217,7 +217,7 @@ wanted_right b s t k a sound filled in_it = source_right b s k a.index a.source 
 unsure_wants : (b : Batch) (t : ℕ) → is_sure_at b t ≡ false → wanted_at b t ≡ reads_at b t ++ writes_at b t
 unsure_wants b t e = ap (λ (sure : Bool). reads_at b t ++ (if sure then [] else writes_at b t)) e
 
--- every declared key of an unsure transaction has its cell of the state before it
+-- if t isn't sure, its input has each declared key's cell before t
 module _ (b : Batch) (s : State) (t : ℕ) (x : Txn) (at : txn_at b t ≡ Some x) (sound : IsSound b s) (filled : HasWanted b s t)
     (unsure : is_sure_at b t ≡ false) where
   abbrev before : Look
@@ -229,7 +229,7 @@ module _ (b : Batch) (s : State) (t : ℕ) (x : Txn) (at : txn_at b t ≡ Some x
   write_wanted : (a : Access) → Contains (writes_at b t) a → Contains (wanted_at b t) a
   write_wanted a c = subst (λ (w : List Access). Contains w a) (sym (unsure_wants b t unsure)) (Contains-append_right (reads_at b t) (writes_at b t) a c)
 
-  -- the input has the cell of a wanted access, and that is the one before t
+  -- the access of a declared read is wanted, so the input has the key's cell before t
   unsure_read : (k : List ℕ) → IsAmong x.reads k → input b s t x k ≡ before k
   unsure_read k among =
       let (j, at_key) = among_place x.reads k among in
@@ -270,7 +270,7 @@ over_own_input b s t x at sound filled =
       | false ↦ λ e. unsure_alike b s t x at sound filled (here ∙ e)
     ] refl
 
--- ---- so its outcome and its cells are right
+-- ---- the outcome and cells of a position over its input are right
 
 outcome_at : (b : Batch) (s : State) (t : ℕ) (x : Txn) → txn_at b t ≡ Some x → outcome_over b s t ≡ Some (outcome_of (body (input b s t x) x))
 outcome_at b s t x at = ap (λ (o : Option Txn). option_map (λ y. outcome_of (body (input b s t y) y)) o) at

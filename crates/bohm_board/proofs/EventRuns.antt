@@ -1,4 +1,4 @@
--- Lists of events.
+-- Runs of the core: the board law holds after each event, and a position is claimed and finished at most once.
 use Rattle.std.proofs.Common.{◌≡◌, ◌≢◌, ℕ, ◌≤◌, List, [], ◌∷◌, ◌++◌, Bool, true, false, cond, refl, ap, sym, ◌∙◌, subst, inr, arith}
 use Rattle.std.specs.Prelude.{count_by}
 use Rattle.std.proofs.lemmas.Bool.{eqb-true, false_from_ne_true}
@@ -35,7 +35,7 @@ keeps_on b s (e ∷ es) kept run = keeps_on b (next_state s e) es (advances b s 
 pub reached_lawful : (b : Batch) (s : State) → IsReached b s → IsLawful b s
 reached_lawful b s r = subst (IsLawful b) r.2 (keeps_on b (empty_state b) r.0 (starts b) r.1)
 
--- one more event
+-- a run may continue with one more allowed event
 run_more : (b : Batch) (s : State) (es : List Event) (e : Event) → IsRun b s es → IsAllowed b (final_state s es) e → IsRun b s (es ++ e ∷ [])
 run_more b s [] e run may = (may, tt {0})
 run_more b s (f ∷ es) e run may = (run.0, run_more b (next_state s f) es e run.1 may)
@@ -67,9 +67,9 @@ grows_on b s (e ∷ es) kept run = grows_more b s (next_state s e) (final_state 
 pub reached_stays : (b : Batch) (s : State) (es : List Event) → IsReached b s → IsRun b s es → Stays s (final_state s es)
 reached_stays b s es r run = let kept = reached_lawful b s r in stays b s (final_state s es) kept.sound (grows_on b s es kept run)
 
--- ---- an event that happens once
+-- ---- events that happen at most once
 
--- where a test never passes in states with Q, and what passes it leads there for good, at most one event passes
+-- if no event in a state with Q passes the test, a passing event leads to Q, and Q lasts, at most one event passes
 module _ (b : Batch) (test : Event → Bool) (Q : State → Type 0)
     (off : (s : State) (e : Event) → IsLawful b s → IsAllowed b s e → Q s → test e ≡ false)
     (sets : (s : State) (e : Event) → IsLawful b s → IsAllowed b s e → test e ≡ true → Q (next_state s e))

@@ -1,4 +1,4 @@
--- The cells that a position takes by its plan are those of the state before it.
+-- The cells that a position takes by its plan are its keys' cells in the state before it.
 use Rattle.std.proofs.Common.{◌≡◌, ℕ, suc, ◌+◌, ◌-◌, ◌<◌, ◌≤◌, List, [], ◌∷◌, map, length, Option}
 use Rattle.std.proofs.Common.{None, Some, refl, ap, sym, ◌∙◌, subst, arith, true, false, Bool}
 use Rattle.std.specs.Prelude.{Ok, Err, ◌||◌}
@@ -34,7 +34,7 @@ use Rattle.bohm_board.specs.Encoding.{stmt_of}
 use Rattle.bohm_board.proofs.SlotPlaces.{outcomes_long}
 use Rattle.bohm_board.proofs.SerialSlots.{slot_serial, own_write, outcome_serial, fault_within}
 
--- what position i leaves in its slots is right
+-- the own cells of position i in the serial run are the right cells of its slots
 pub own_right : (b : Batch) (i : ℕ) (x : Txn) → slice_get (txns_of b) i ≡ Some x
     → AreRight (rights_of b) (offset (txns_of b) i) (own_cells (state (base_of b) (txns_of b) i) x)
 unfolding rights_of
@@ -45,7 +45,7 @@ pub outcome_right : (b : Batch) (i : ℕ) (x : Txn) → slice_get (txns_of b) i 
 unfolding rights_of
 outcome_right b i x e = outcome_serial (base_of b) (txns_of b) i x e
 
--- the right cell of the slot of u for a key is the key's cell after u
+-- the right cell of u's slot for a key is the key's cell after u
 pub slot_right : (b : Batch) (k : List ℕ) (u index : ℕ) → WritesAt (first_of b) (txns_of b) k u index
     → right_cell (rights_of b) (number b (record { txn = u; index = index })) ≡ Some (state (base_of b) (txns_of b) ((u + 1) - first_of b) k)
 slot_right b k u index w =
@@ -57,7 +57,7 @@ slot_right b k u index w =
     (own_write (state (base_of b) (txns_of b) p) w.txn index k w.declared) in
     rw (here, past, next (base_of b) (txns_of b) p w.txn w.there.is_at) own
 
--- the cell of the right access is the key's cell before the position
+-- the cell from a key's newest earlier writer, or from the base, is the key's cell before the position
 pub cell_before : (b : Batch) (i : ℕ) (k : List ℕ) (index : ℕ) (c : Cell) (s : Source) → i ≤ length (txns_of b) → IsNewest (first_of b) (txns_of b) k
     (first_of b + i) s → IsIndexOf (first_of b) (txns_of b) k index s → IsCellFrom b k index c s → state (base_of b) (txns_of b) i k ≡ c
 cell_before b i k index c Before inside n w is = newest_state_by (base_of b) (txns_of b) (first_of b) i k Before b.batched.formed inside n ∙ sym is
@@ -72,7 +72,7 @@ access_before b i k a c inside r is = cell_before b i k a.index c a.source insid
 cell_set : IsSet Cell
 cell_set = Coded-set the_row.coded
 
--- what the right plan says of one key's cell
+-- a proof that a key's cell is c may use that the batch's plan is right
 pub cell_planned : (b : Batch) (k : List ℕ) (look : Look) (c : Cell) → (IsRightPlan (txns_of b) (plan_of b) → look k ≡ c) → look k ≡ c
 cell_planned b k look c f = ∥∥₁_elim b.batched.right (cell_set (look k) c) f
 
@@ -92,7 +92,7 @@ read_before b i x j k c at at_key is =
     cell_planned b k (state (base_of b) (txns_of b) i) c
     (λ plan. right_among b i x.reads (reads_of (plan_of b) i) j k c (omega (arith, within)) (plan.reads i x at) at_key is)
 
--- and so is that of a declared write's
+-- the cell of a declared write's access is the key's cell before the position
 pub write_before : (b : Batch) (i : ℕ) (x : Txn) (j : ℕ) (k : List ℕ) (c : Cell) → slice_get (txns_of b) i ≡ Some x → slice_get x.writes j ≡ Some k
     → ((a : Access) → slice_get (writes_of (plan_of b) i) j ≡ Some a → IsCellOf b k a c) → state (base_of b) (txns_of b) i k ≡ c
 write_before b i x j k c at at_key is =
@@ -110,7 +110,7 @@ same_list look (k ∷ ks) (c ∷ cs) long each =
     let rest : map look ks ≡ cs = same_list look ks cs (omega arith) (λ j. each (suc j)) in
     λ i. first i ∷ rest i
 
--- the cells of all declared reads, by their accesses, are those before the position
+-- the cells of all declared reads, by their accesses, are the keys' cells before the position
 pub reads_before : (b : Batch) (i : ℕ) (x : Txn) (cells : List Cell) → slice_get (txns_of b) i ≡ Some x → AreCellsOf b x.reads (reads_of (plan_of b) i) cells
     → map (state (base_of b) (txns_of b) i) x.reads ≡ cells
 reads_before b i x cells at are = same_list (state (base_of b) (txns_of b) i) x.reads cells are.paired
@@ -121,7 +121,7 @@ pub writes_before : (b : Batch) (i : ℕ) (x : Txn) (cells : List Cell) → slic
 writes_before b i x cells at are = same_list (state (base_of b) (txns_of b) i) x.writes cells are.paired
     (λ j k c at_key at_cell. write_before b i x j k c at at_key (λ a at_access. are.each j k a c at_key at_access at_cell))
 
--- ---- Body(t, Input(t)) is Body(t, S(t - 1))
+-- ---- indices of keys and of right cells
 
 pub among_place : (ks : List (List ℕ)) (k : List ℕ) → IsAmong ks k → (j : ℕ) × (slice_get ks j ≡ Some k)
 among_place [] k e = absurd cc
@@ -135,11 +135,11 @@ mapped : (o : Option RightSlot) (c : Cell) → option_map (λ x. x.cell) o ≡ S
 mapped None c e = absurd cc
 mapped (Some x) c e = (x, refl)
 
--- a number at which there is a right cell is that of a slot
+-- a number with a right cell is below the count of slots
 pub right_within : (r : Rights) (k : ℕ) (c : Cell) → right_cell r k ≡ Some c → k < length r.slots
 right_within r k c e = let (x, at) = mapped (slice_get r.slots k) c e in slice_get_within r.slots k x at
 
--- ---- right outcomes are short
+-- ---- statement numbers in right outcomes are below 1000
 
 few_of : (x : Txn) (e : Ended) → ((fault : Reason × ℕ) → e ≡ Err fault → fault.1 < 1000) → stmt_of (outcome_of e) < 1000
 few_of x (Ok run) f = omega arith

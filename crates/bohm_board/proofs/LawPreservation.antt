@@ -1,4 +1,4 @@
--- Each event keeps what holds between any two, and no word goes back.
+-- Each allowed event preserves the board law, and reverts no word.
 use Rattle.std.proofs.Common.{◌≡◌, ◌≢◌, ℕ, ◌<◌, Some, None, refl, ap, sym, ◌∙◌, subst, inl, inr}
 use Rattle.std.specs.Prelude.{Option, ℤ, Contains}
 use Rattle.std.proofs.lemmas.Option.{same_Some}
@@ -22,7 +22,7 @@ use Rattle.bohm_board.proofs.BoardLaw.{one_cell, presence_right, Grows, one_hold
 use Rattle.bohm_board.proofs.BoardLaw.{put_cases, slot_cases, moved, relearnt, more, both, nothing_in, true_of_newcomer}
 use Rattle.bohm_board.proofs.Evaluation.{outcome_is_right, cell_is_right}
 
--- ---- answers
+-- ---- a view stays true after a status or presence read
 
 busy_of : (o : Progress) → seen.Busy ≡ status_of_progress o → o ≢ Open
 busy_of Open e = absurd cc
@@ -106,7 +106,7 @@ held_saw v t seen.Open = refl
 held_saw v t seen.Busy = refl
 held_saw v t seen.Done = refl
 
--- ---- a position's state becomes o
+-- ---- claims and finishes: the progress of t becomes o
 
 module _ (b : Batch) (s : State) (t : ℕ) (o : Progress) (not_open : o ≢ Open) where
   abbrev pub turned : State
@@ -177,7 +177,7 @@ one_outcome o r e = ap of e
     of (Claimed p) = o
     of (Done w) = w
 
--- all slots of a position, by index, are all of them
+-- if a view has t's slot of each index as filled, it has each slot of t as filled
 all_slots : (b : Batch) (v : View) (t : ℕ) → HasFilledAll b v t → (x : Slot) → IsSlot b x → x.txn ≡ t → Contains v.filled x
 all_slots b v t all x is e = subst (λ (u : ℕ). Contains v.filled (record { txn = u; index = x.index })) (sym e)
     (all x.index (subst (λ (u : ℕ). x.index < width_at b u) e is.index))
@@ -211,7 +211,7 @@ finish_keeps b s p t o kept own may =
     (λ u. put_cases (λ w. w ≡ Claimed p → Holds b (after_finish (s.views p) t) u) s.positions t (Done o) u (λ e h. absurd cc)
     (λ ne h. absurd (ne (sym (same_Some t u (sym may.holds ∙ kept.held p u h))))))
 
--- ---- the words of a slot
+-- ---- stores of a slot's value and presence
 
 fill_right : (b : Batch) (s : State) (p : ℕ) (x : Slot) (c : Cell) → IsLawful b s → MayFill b s p x c → IsRightCell b x c
 fill_right b s p x c kept may = sym (cell_is_right b s x kept.sound may.slot
@@ -274,7 +274,7 @@ presence_grows b s x c sound right = record {
   stored = λ y z r h. h;
 }
 
--- the cell that the slot shows from now on is right
+-- the cell that a slot shows once its presence is stored is right
 shows_absent : (b : Batch) (x : Slot) (c : Cell) → IsRightCell b x c → presence_of c ≡ Absent → IsRightCell b x cells.Absent
 shows_absent b x cells.Absent right e = right
 shows_absent b x (cells.Present z) right e = absurd cc
@@ -320,7 +320,7 @@ presence_keeps b s p x c kept own may has =
     } in
     moved b s s' p (after_presence_store (s.views p) x) kept g sound mine (λ q t ne h. h) (λ q t ne h. h) (kept.held p)
 
--- ---- views of passes that hold nothing
+-- ---- copied and joined views are true
 
 true_copied : (b : Batch) (s : State) (p q : ℕ) (v : View) → v.held ≡ None → IsTrueOf b s p v → IsTrueOf b s q v
 true_copied b s p q v free k = record {
@@ -346,7 +346,7 @@ true_joined b s p q v w own k j = record {
   named = inr own;
 }
 
--- ---- all events
+-- ---- each event preserves the law
 
 pub advances : (b : Batch) (s : State) (e : Event) → IsLawful b s → IsAllowed b s e → Advances b s (next_state s e)
 advances b s (LookPresence p x answer) kept may = relearnt b s p (after_presence_look (s.views p) x answer) kept

@@ -1,4 +1,4 @@
--- What passes have seen stays seen.
+-- Everything that a pass observed remains observed in its later views.
 use Rattle.std.proofs.Common.{◌≡◌, ◌≢◌, ℕ, zero, suc, List, [], ◌∷◌, ◌++◌, Option, None, Some, refl, sym, ap, ◌∙◌, subst, ⊎_elim, append_assoc}
 use Rattle.std.specs.Prelude.{Contains}
 use Rattle.std.proofs.lemmas.List.Elements.{Contains-append_cases, Contains-append_left, Contains-append_right, Contains-push}
@@ -27,7 +27,7 @@ further_on {A} xs ys zs a b = (a.0 ++ b.0, b.1 ∙ (ap (λ (l : List A). l ++ b.
 pub continues_contains : {A : Type 0} (xs ys : List A) (x : A) → Continues xs ys → Contains xs x → Contains ys x
 continues_contains {A} xs ys x c h = subst (λ (l : List A). Contains l x) (sym c.1) (Contains-append_left xs c.0 x h)
 
--- ---- views
+-- ---- each change of a view keeps everything that was observed
 
 pub keeps_same : (v : View) → Keeps v v
 keeps_same v = record { right = refl; done = same_on v.done; busy = same_on v.busy; absent = same_on v.absent; present = same_on v.present }
@@ -41,7 +41,7 @@ keeps_then u v w a b = record {
   present = further_on u.present v.present w.present a.present b.present;
 }
 
--- along an equation of views
+-- the later view may be replaced by an equal view
 pub keeps_along : (u v w : View) → w ≡ v → Keeps u v → Keeps u w
 keeps_along u v w e k = subst (λ (z : View). Keeps u z) (sym e) k
 
@@ -75,7 +75,7 @@ keeps_looked v k (Some (Present z)) = record {
 pub keeps_joined : (v w : View) → Keeps v (after_join v w)
 keeps_joined v w = record { right = refl; done = (w.done, refl); busy = (w.busy, refl); absent = (w.absent, refl); present = (w.present, refl) }
 
--- ---- what a later view has
+-- ---- positions seen Done and known slots, in later views
 
 pub still_done : (b : Batch) (v w : View) (t : ℕ) → Keeps v w → IsDone b v t → IsDone b w t
 still_done b v w t k h = continues_contains v.done w.done _ k.done h
@@ -89,16 +89,16 @@ knows_on v w k keeps h = ⊎_elim
 pub still_known : (b : Batch) (v w : View) (s : Slot) → Keeps v w → IsKnown b v s → IsKnown b w s
 still_known b v w s keeps h = knows_on v w _ keeps h
 
--- a look that finds a cell knows the slot
+-- after a look that finds a cell, the slot is known
 pub knows_looked : (v : View) (k : Slot) (c : Cell) → Knows (after_look v k (Some c)) k
 knows_looked v k Absent = Contains-append_left (v.absent ++ k ∷ []) v.present k (Contains-append_right v.absent (k ∷ []) k (Contains-push [] k))
 knows_looked v k (Present z) = Contains-append_right v.absent (v.present ++ k ∷ []) k (Contains-append_right v.present (k ∷ []) k (Contains-push [] k))
 
--- what either of two passes saw Done is Done for the joined one
+-- a position that the second of two joined views has as Done is Done in the join
 pub joined_done : (b : Batch) (v w : View) (t : ℕ) → IsDone b w t → IsDone b (after_join v w) t
 joined_done b v w t h = Contains-append_right v.done w.done _ h
 
--- a look that finds a value knows the slot as `Present`
+-- after a look at a presence word other than 0 and 1, the slot is known as `Present`
 pub learnt_present : (v : View) (k : Slot) (n : ℕ) → n ≢ 0 → n ≢ 1 → Contains (after_presence_look v k (presence_at n)).present k
 learnt_present v k zero some_cell not_absent = absurd (some_cell refl)
 learnt_present v k (suc zero) some_cell not_absent = absurd (not_absent refl)

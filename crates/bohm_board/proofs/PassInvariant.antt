@@ -1,4 +1,4 @@
--- What a pass keeps of its view stays so.
+-- Each step preserves the invariant of a pass and its view.
 use Rattle.std.proofs.Common.{◌≡◌, ℕ, ◌+◌, ◌<◌, ◌^◌, [], ◌∷◌, ◌++◌, Option, None, Some, refl, sym, subst, ⊎_elim, arith}
 use Rattle.std.specs.Prelude.{Contains}
 use Rattle.std.proofs.lemmas.List.Elements.{Contains-append_left, Contains-push, Contains-push_cases}
@@ -47,6 +47,6 @@ kept_filled v k (Present z) first held h = record {
 pub kept_joined : (v w : View) (first : ℕ) (held : Option ℕ) → IsKept v first held → IsKept (after_join v w) first held
 kept_joined v w first held k = record { holds = k.holds; timestamp = k.timestamp; whole = k.whole }
 
--- along an equation of views
+-- the view may be replaced by an equal view
 pub kept_along : (v w : View) (first : ℕ) (held : Option ℕ) → w ≡ v → IsKept v first held → IsKept w first held
 kept_along v w first held e k = subst (λ (z : View). IsKept z first held) (sym e) k

@@ -1,4 +1,4 @@
--- Each step of a board keeps the rule, since it is the event of its name.
+-- Each step on a board preserves the rule of its table, since the step is the event of the same name.
 use Rattle.std.proofs.Common.{◌≡◌, ◌≢◌, ℕ, zero, suc, ◌+◌, ◌<◌, List, ◌∷◌, [], ◌++◌, length, get_or}
 use Rattle.std.proofs.Common.{sym, refl, ap, ◌∙◌, subst, ⊎_elim, arith, Option, None, Some, eqb}
 use Rattle.std.specs.Prelude.{Contains, ℤ, slice_get}
@@ -33,7 +33,7 @@ use Rattle.bohm_board.proofs.EventRuns.{reached_lawful, reached_more}
 use Rattle.bohm_board.proofs.StepEvents.{T, M, is_done, seen_word, mine, status_word, status_step, claim_step, finish_step, presence_is}
 use Rattle.bohm_board.proofs.StepEvents.{value_is, presence_step, value_step, store_step, fill_step, split_step, join_step}
 
--- ---- so each step keeps the rule
+-- ---- steps on status words
 
 goes : (b : Batch) (t after : T) (rule : IsRuled b t) (e : Event) → IsStep b rule.state e after → IsRuled b after
 goes b t after rule e is = record { state = next_state rule.state e; shows = is.shows; reached = reached_more b rule.state e rule.reached is.allowed }
@@ -99,7 +99,7 @@ finishes b slots id me i o x word inside own holds all knows right t rule homes 
     let ruled = goes b t _ rule (Finish id u o) e in
     (after_finish me.0 u, keeps, tt, subst (λ (z : ℕ). IsRuled b (stepped t i z id me.1 (after_finish me.0 u) keeps)) (sym word) ruled, (refl, refl))
 
--- ---- the words of a slot
+-- ---- steps on a slot's words
 
 same_number : (q r : Rights) (i k j : ℕ) → q ≡ r → i ≡ length r.outcomes + k → i ≡ length q.outcomes + j → j ≡ k
 same_number q r i k j own place other = let long : length q.outcomes ≡ length r.outcomes = ap (λ (z : Rights). length z.outcomes) own in omega arith
@@ -115,7 +115,7 @@ presence_at_view q r i k e p = p ∙ ap (λ (z : Rights). length z.outcomes + k)
 pub value_at_view : (q r : Rights) (i k : ℕ) → q ≡ r → i ≡ length r.outcomes + (length r.slots + k) → i ≡ length q.outcomes + (length q.slots + k)
 value_at_view q r i k e p = p ∙ ap (λ (z : Rights). length z.outcomes + (length z.slots + k)) (sym e)
 
--- the slot with the number k, by the rights of a view
+-- the slot that a view's rights have for the number k is in the batch, and its number is k
 named_by : (b : Batch) (q : Rights) (k : ℕ) → q ≡ rights_of b → k < length (rights_of b).slots
     → IsSlot b (slot_numbered q k) × (number b (slot_numbered q k) ≡ k)
 named_by b q k own inside = subst (λ (r : Rights). IsSlot b (slot_numbered r k) × (number b (slot_numbered r k) ≡ k)) (sym own) (number_named b k inside)
@@ -129,7 +129,7 @@ full_slot : (k : Option Presence) → presence_word k ≢ 0 → (w : Presence) �
 full_slot None ne = absurd (ne refl)
 full_slot (Some w) ne = (w, refl)
 
--- nothing that a view says, where the slot is empty
+-- if a slot is empty, nothing in a true view says that it is filled
 unseen : (b : Batch) (s : State) (p : ℕ) (v : View) (x : Slot) → IsSound b s → IsTrueOf b s p v → IsSlot b x → s.presences x ≡ None → IsUnseen v x
 unseen b s p v x sound k is none_there =
     let no : (w : Presence) → s.presences x ≡ Some w → ⊥ = λ w h. let clash : None ≡ Some w = sym none_there ∙ h in cc in record {
@@ -237,7 +237,7 @@ fills b slots id me i k d n word place inside own may has right t rule homes at 
       ),
     )
 
--- ---- passes
+-- ---- splits and joins
 
 pub splits : (b : Batch) (id : ℕ) (v : View) → v.right ≡ rights_of b → v.held ≡ None → Splits (IsRuled b) id v v v
 splits b id v own free t rule at = goes b t _ rule (Split id (length t.views)) (split_step b t rule.state id v (before b t rule id v at own) free)

@@ -1,4 +1,4 @@
--- Where the right words of a position lie.
+-- The indices of each transaction's outcome and cells in the outcomes and slots of the serial run.
 use Rattle.std.proofs.Common.{◌≡◌, ℕ, zero, suc, ◌+◌, ◌<◌, ◌≤◌, List, [], ◌∷◌, ◌++◌, map, length, Some, refl, ap, ◌∙◌, arith, add-zero, zero-add}
 use Rattle.std.specs.Prelude.{ℤ, Err, Ok, Result}
 use Rattle.std.specs.Option.{option_map}
@@ -86,19 +86,19 @@ slot_serial n look (x ∷ xs) (suc i) t j c e own =
     let same : (n + 1) + i ≡ n + suc i = omega arith in
     moved ∙ (slot_serial (n + 1) (after look x) xs i t j c e own ∙ ap (λ m. Some (slot_at m j c)) same)
 
--- the right cell of declared write j of t is its key's cell after t
+-- the own cell of t for its declared write j is the key's cell after t
 pub own_write : (look : Look) (t : Txn) (j : ℕ) (k : List ℕ) → slice_get t.writes j ≡ Some k → slice_get (own_cells look t) j ≡ Some (after look t k)
 own_write look t j k e =
     get_left (map (after look t) t.writes) (show_cells (shows_in t.body) (shows_of (body look t))) j (after look t k)
     (slice_get-map (after look t) t.writes j ∙ ap (λ o. option_map (after look t) o) e)
 
--- and after its declared writes come its `show`s
+-- in the own cells of t, the cells of its `show`s follow the cells of its declared writes
 pub own_show : (look : Look) (t : Txn) (j : ℕ) → slice_get (own_cells look t) (length t.writes + j) ≡ slice_get
     (show_cells (shows_in t.body) (shows_of (body look t))) j
 own_show look t j = get_right (map (after look t) t.writes) (show_cells (shows_in t.body) (shows_of (body look t))) (length t.writes + j) j
     (omega (arith, length-map t.writes (after look t)))
 
--- ---- offsets rise by the widths
+-- ---- offsets grow by the widths
 
 pub offset_next : (ts : List Txn) (u : ℕ) (x : Txn) → slice_get ts u ≡ Some x → offset ts (suc u) ≡ offset ts u + width x
 offset_next [] u x e = absurd cc

@@ -1,4 +1,4 @@
--- Slots by transaction and index, and by number.
+-- The numbers of slots, and the positions of timestamps.
 use Rattle.std.proofs.Common.{◌≡◌, ℕ, ◌+◌, ◌<◌, length, Some, ap, sym, ◌∙◌, subst, arith}
 use Rattle.std.specs.Prelude.{Option, unwrap_or}
 use Rattle.std.specs.Option.{option_map}
@@ -29,7 +29,7 @@ txn_there b t is = there (txns_of b) (position b t) (position_inside b t is)
 pub width_there : (b : Batch) (t : ℕ) (x : Txn) → txn_at b t ≡ Some x → width_at b t ≡ width x
 width_there b t x at = ap (λ (o : Option Txn). unwrap_or (option_map width o) 0) at
 
--- the transaction of a slot, which has more slots than the slot's index
+-- the transaction of a slot exists, and has more slots than the slot's index
 pub slot_there : (b : Batch) (s : Slot) → IsSlot b s → (x : Txn) × (txn_at b s.txn ≡ Some x) × (s.index < width x)
 slot_there b s is =
     let (x, at) = txn_there b s.txn is.txn in
@@ -40,7 +40,7 @@ number_inside b s is =
     let (x, at, below) = slot_there b s is in
     omega (arith, below, offset_inside (txns_of b) (position b s.txn) x at, slots_long b)
 
--- there is a right cell at a slot's number, and it is that slot's
+-- the right slots have, at a slot's number, an entry of this slot
 pub right_at : (b : Batch) (x : Slot) → IsSlot b x → (y : RightSlot) × (slice_get (rights_of b).slots (number b x) ≡ Some y) × (y.slot ≡ x)
 unfolding rights_of
 right_at b x is =
@@ -58,12 +58,12 @@ right_at b x is =
 pub right_there : (b : Batch) (x : Slot) → IsSlot b x → (c : Cell) × IsRightCell b x c
 right_there b x is = let (y, at, e) = right_at b x is in (y.cell, ap (option_map (λ (z : RightSlot). z.cell)) at)
 
--- the right cell, where its presence word is 1
+-- if the presence word of the right cell is 1, the right cell is `Absent`
 pub right_by_word : (b : Batch) (x : Slot) (c : Cell) → IsRightCell b x c → filled_word c ≡ 1 → IsRightCell b x Absent
 right_by_word b x Absent right e = right
 right_by_word b x (Present z) right e = absurd (omega arith)
 
--- so its number names it
+-- the slot found by a slot's number is this slot
 pub named_number : (b : Batch) (x : Slot) → IsSlot b x → slot_numbered (rights_of b) (number b x) ≡ x
 named_number b x is =
     let (y, at, e) = right_at b x is in
@@ -72,11 +72,11 @@ named_number b x is =
 pub named_slot : (b : Batch) (r : Rights) (x : Slot) (k : ℕ) → r ≡ rights_of b → IsSlot b x → k ≡ number b x → slot_numbered r k ≡ x
 named_slot b r x k own is e = (λ i. slot_numbered (own i) (e i)) ∙ named_number b x is
 
--- two slots with one number are one
+-- slots with the same number are equal
 pub one_number : (b : Batch) (x y : Slot) → IsSlot b x → IsSlot b y → number b x ≡ number b y → x ≡ y
 one_number b x y is also e = sym (named_number b x is) ∙ (ap (slot_numbered (rights_of b)) e ∙ named_number b y also)
 
--- each number below the number of slots is that of a slot
+-- each number below the count of slots is the number of a slot
 pub number_named : (b : Batch) (k : ℕ) → k < length (rights_of b).slots
     → IsSlot b (slot_numbered (rights_of b) k) × (number b (slot_numbered (rights_of b) k) ≡ k)
 number_named b k inside =
@@ -95,11 +95,11 @@ number_named b k inside =
     let same : number b x ≡ k = ap (λ (i : ℕ). offset (txns_of b) i + own.j) place ∙ sym own.place in
     subst (λ (z : Slot). IsSlot b z × (number b z ≡ k)) (sym here) (is, same)
 
--- the timestamp at a position
+-- t is the timestamp of its position
 pub stamped : (b : Batch) (r : Rights) (t i : ℕ) → r ≡ rights_of b → IsIn b t → i ≡ position b t → timestamp r i ≡ t
 stamped b r t i own is e = omega (arith, ap (λ (z : Rights). z.first) own, first_right b, is.from, e)
 
--- each position below the number of positions has a timestamp
+-- the timestamp of each position below the count of positions is in the batch, and has this position
 pub stamp_inside : (b : Batch) (r : Rights) (i : ℕ) → r ≡ rights_of b → i < length (rights_of b).outcomes
     → IsIn b (timestamp r i) × (position b (timestamp r i) ≡ i)
 stamp_inside b r i own inside =
@@ -107,6 +107,6 @@ stamp_inside b r i own inside =
     let long = outcomes_long b in
     (record { from = omega arith; below = omega arith }, omega arith)
 
--- two timestamps at one position are one
+-- timestamps with the same position are equal
 pub one_position : (b : Batch) (t u : ℕ) → IsIn b t → IsIn b u → position b t ≡ position b u → t ≡ u
 one_position b t u is also e = omega (arith, is.from, also.from, e)

@@ -1,4 +1,4 @@
--- Every slot is one of some position, and where slots start.
+-- The transaction and index of each slot number, and the number of each position's first slot.
 use Rattle.std.proofs.Common.{◌≡◌, ℕ, zero, suc, ◌+◌, ◌<◌, List, [], ◌∷◌, ◌++◌, length, Some, refl}
 use Rattle.std.proofs.Common.{ap, sym, ◌∙◌, arith, inl, inr, ◌-◌, get_or, add-one, below_more}
 use Rattle.std.specs.Prelude.{◌⊎◌}
@@ -34,7 +34,7 @@ own_slot t i (c ∷ cs) zero x e = ap (λ (r : RightSlot). r.slot) (sym (same_So
     ∙ ap (λ (j : ℕ). record { txn = t; index = j }) (omega arith)
 own_slot t i (c ∷ cs) (suc p) x e = own_slot t (suc i) cs p x e ∙ ap (λ (j : ℕ). record { txn = t; index = j }) (omega arith)
 
--- slot p is the j-th of the i-th transaction
+-- slot p is slot j of transaction i, whose timestamp is n + i
 pub record IsOwn (n : ℕ) (ts : List Txn) (p : ℕ) (x : RightSlot) : Type 0 where
   pub i : ℕ
   pub j : ℕ
@@ -87,7 +87,7 @@ pub slots_long : (b : Batch) → length (rights_of b).slots ≡ offset (txns_of 
 unfolding rights_of
 slots_long b = length-slots (first_of b) (base_of b) (txns_of b)
 
--- ---- where slots start
+-- ---- the starts and sizes of a layout
 
 pub next_offset : (ts : List Txn) (i : ℕ) (x : Txn) → slice_get ts i ≡ Some x → offset ts (i + 1) ≡ offset ts i + width x
 next_offset ts i x e = rw add-one (offset_next ts i x e)

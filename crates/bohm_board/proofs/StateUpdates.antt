@@ -1,4 +1,4 @@
--- How words in a line, and views, show a state as it changes.
+-- A change of one word or view of a table shows the same change of the state.
 use Rattle.std.proofs.Common.{◌≡◌, ◌≢◌, ℕ, ◌+◌, ◌-◌, ◌<◌, List, ◌++◌, length, get_or, set, sym, ap, ◌∙◌, subst, arith, get_or-set_other}
 use Rattle.std.proofs.Common.{get_or-set_same, zero, suc, [], ◌∷◌, ext_get_or, zero-add, add_assoc, ◌≤◌, refl, ⊎_elim, Option, length-set}
 use mathlib.Core.Option.{some, some-injective, some-ne-none}
@@ -20,7 +20,7 @@ use Rattle.bohm_board.proofs.BoardLaw.{put_cases, slot_cases}
 use Rattle.bohm_board.proofs.SlotNumbers.{number_inside, one_number, one_position, position_inside}
 use Rattle.bohm_board.proofs.SlotPlaces.{outcomes_long}
 
--- by cases on whether the word that is read is the one that was written
+-- a property of the word at j after a store at i, by cases on whether j is i
 pub put_at : (P : ℕ → Type 0) (xs : List ℕ) (i x j : ℕ) → i < length xs → (j ≡ i → P x) → (j ≢ i → P (get_or xs j 0)) → P (get_or (set xs i x) j 0)
 put_at P xs i x j inside here other = dite (ℕ_discrete j i)
     (λ e. subst P (sym (ap (λ (z : ℕ). get_or (set xs i x) z 0) e ∙ get_or-set_same xs i x 0 inside)) (here e))
@@ -60,7 +60,7 @@ found_at [] i x d e = absurd (some-ne-none x (sym e))
 found_at (y ∷ ys) zero x d e = (omega arith, some-injective y x e)
 found_at (y ∷ ys) (suc i) x d e = let found = found_at ys i x d e in let inside = found.0 in (omega arith, found.1)
 
--- three lists that are the words of a line, each in its place
+-- three lists with all words of a table, in the table's order, are its status, presence and value words
 pub same_words : (w : Words) (ws xs ps vs : List ℕ) → ws ≡ all_words w → length xs ≡ length w.statuses → length ps ≡ length w.presences
     → length vs ≡ length w.values
     → ((j : ℕ) → j < length xs → get_or xs j 0 ≡ get_or ws (0 + j) 0)
@@ -77,14 +77,14 @@ same_words w ws xs ps vs line a b c at_a at_b at_c =
     ∙ (ap (λ (z : ℕ). get_or (all_words w) z 0) (add_assoc (length xs) (length ps) j) ∙ value_in w (length xs) (length ps) j (sym a) (sym b)))) in
     λ i. record { statuses = sym ea i; presences = sym eb i; values = sym ec i }
 
--- ---- words and views show a state as it changes
+-- ---- the words and views of a changed state
 
--- ---- words
+-- ---- one word changes
 
 pub same_shown : (b : Batch) (w : Words) (s : State) (views : ℕ → View) → AreShown b w s → AreShown b w (record s { views = views })
 same_shown b w s views shown = record { sized = shown.sized; positions = shown.positions; presences = shown.presences; values = shown.values }
 
--- the status word of t is put
+-- the progress of t becomes o, and the status word of t is stored
 pub status_shown : (b : Batch) (w : Words) (s : State) (views : ℕ → View) (t : ℕ) (o : Progress) → IsIn b t → AreShown b w s
     → AreShown b (record w { statuses = set w.statuses (position b t) (progress_word o) })
     (record s { positions = point_update s.positions t o; views = views })
@@ -101,7 +101,7 @@ status_shown b w s views t o is shown =
       values = shown.values;
     }
 
--- the presence word of x is put
+-- the presence of x becomes k, and the presence word of x is stored
 pub presence_shown : (b : Batch) (w : Words) (s : State) (views : ℕ → View) (x : Slot) (k : Option Presence) → IsSlot b x → AreShown b w s
     → AreShown b (record w { presences = set w.presences (number b x) (presence_word k) }) (record s { presences = slot_update s.presences x k; views = views })
 presence_shown b w s views x k is shown =
@@ -117,7 +117,7 @@ presence_shown b w s views x k is shown =
       values = shown.values;
     }
 
--- the value word of x is put
+-- the value of x becomes that of the word n, and n is stored as the value word of x
 pub value_shown : (b : Batch) (w : Words) (s : State) (views : ℕ → View) (x : Slot) (n : ℕ) → IsSlot b x → AreShown b w s
     → AreShown b (record w { values = set w.values (number b x) n }) (record s { values = slot_update s.values x (value_at n); views = views })
 value_shown b w s views x n is shown =
@@ -132,7 +132,7 @@ value_shown b w s views x n is shown =
           (λ ne. ap value_at (get_or-set_other w.values (number b x) (number b y) n 0 (λ same. ne (one_number b y x other is same))) ∙ shown.values y other);
     }
 
--- ---- views
+-- ---- one view changes
 
 -- the view of p becomes w
 pub view_put : (d : View) (views : List View) (f : ℕ → View) (p : ℕ) (v w w' : View) → ((q : ℕ) → f q ≡ get_or views q d) → get_elem? views p ≡ some v
@@ -146,7 +146,7 @@ past_end [] i d l = refl
 past_end (x ∷ xs) zero d l = absurd (omega arith)
 past_end (x ∷ xs) (suc i) d l = past_end xs i d (omega arith)
 
--- a new view w is added
+-- a new view w is appended
 pub view_added : (d : View) (views : List View) (f : ℕ → View) (w : View) → ((q : ℕ) → f q ≡ get_or views q d) → (q : ℕ)
     → point_update f (length views) w q ≡ get_or (views ++ w ∷ []) q d
 view_added d views f w shown q = put_cases (λ z. z ≡ get_or (views ++ w ∷ []) q d) f (length views) w q

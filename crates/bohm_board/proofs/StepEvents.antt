@@ -1,4 +1,4 @@
--- Each step of a board is the event of its name.
+-- Each step on a board is the core's event of the same name.
 use Rattle.std.proofs.Common.{◌≡◌, ◌≢◌, ℕ, zero, suc, ◌+◌, ◌*◌, ◌/◌, ◌%◌, ◌<◌, ◌≤◌, ◌∷◌, [], ◌++◌, length}
 use Rattle.std.proofs.Common.{get_or, set, sym, refl, ap, ◌∙◌, subst, arith, Option, None, Some, eqb, length-set}
 use Rattle.std.specs.Prelude.{Contains}
@@ -42,7 +42,7 @@ T = Table (Unit {0}) View
 abbrev pub M : Type 0
 M = Me (Unit {0}) View
 
--- ---- what words say of a state
+-- ---- decoded words
 
 pub two_at_least : (o : Outcome) → 2 ≤ word_of o
 two_at_least Commit = omega arith
@@ -71,7 +71,7 @@ found_word zero = refl
 found_word (suc zero) = refl
 found_word (suc (suc n)) = refl
 
--- an outcome's word has the outcome
+-- the word of an outcome decodes to this outcome
 pub outcome_back : (o : Outcome) → stmt_of o < 1000 → outcome_at (word_of o) ≡ o
 outcome_back Commit few = refl
 outcome_back (Abort reasons.Need s) few =
@@ -91,7 +91,7 @@ outcome_back (Abort reasons.Range s) few =
     let m : (1000 * 4 + s) % 1000 ≡ s = omega arith in
     λ i. outcome_in (d i) (m i)
 
--- ---- each step is the event of its name
+-- ---- each step is the event of the same name
 
 module _ (b : Batch) (t : T) (s : State) (p : ℕ) (v : View) (here : IsBefore b t s p v) where
   pub mine : s.views p ≡ v
@@ -103,7 +103,7 @@ module _ (b : Batch) (t : T) (s : State) (p : ℕ) (v : View) (here : IsBefore b
   views_put : (f : View → View) (q : ℕ) → point_update s.views p (f (s.views p)) q ≡ get_or (set t.views p (f v)) q (new_view (rights_of b))
   views_put f = view_put (new_view (rights_of b)) t.views s.views p v (f (s.views p)) (f v) here.shows.views here.view (ap f mine)
 
-  -- a load
+  -- a load changes only the view of p
   read : (i n : ℕ) (f : View → View) → n ≡ get_or t.words i 0 → Shows b (table_after_step t i n p (f v)) (with_view s p (f (s.views p)))
   read i n f e = record {
     words = here.shows.words;
@@ -112,7 +112,7 @@ module _ (b : Batch) (t : T) (s : State) (p : ℕ) (v : View) (here : IsBefore b
     views = views_put f;
   }
 
-  -- ---- status words
+  -- ---- steps on status words
 
   pub status_word : (u i : ℕ) → IsIn b u → i ≡ position b u → get_or t.words i 0 ≡ progress_word (s.positions u)
   status_word u i is e =
@@ -189,7 +189,7 @@ module _ (b : Batch) (t : T) (s : State) (p : ℕ) (v : View) (here : IsBefore b
         shows = put_status u i (Done o) (λ w. after_finish w u) is e;
       }
 
-  -- ---- the words of a slot
+  -- ---- steps on a slot's words
 
   pub presence_is : (x : Slot) (i : ℕ) → IsSlot b x → i ≡ presence_place b x → get_or t.words i 0 ≡ presence_word (s.presences x)
   presence_is x i is e =

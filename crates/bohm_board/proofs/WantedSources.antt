@@ -1,4 +1,4 @@
--- There is an access for each declared key, and what a position wants is of an earlier one.
+-- Each declared key has an access, and each wanted source is an earlier position of the batch.
 use Rattle.std.proofs.Common.{◌≡◌, ℕ, ◌+◌, ◌<◌, List, [], ◌++◌, length, Bool, true, false, Option, Some}
 use Rattle.std.proofs.Common.{option_map, unwrap_or, ap, sym, ◌∙◌, subst, ⊎_elim, inl, inr, refl, arith}
 use Rattle.std.specs.Prelude.{Contains, ◌⊎◌, if◌then◌else◌}
@@ -34,7 +34,7 @@ reads_paired b = keys_paired b Reads
 pub writes_paired : (b : Batch) (t : ℕ) (x : Txn) → txn_at b t ≡ Some x → length x.writes ≡ length (writes_at b t)
 writes_paired b = keys_paired b Writes
 
--- the source is earlier in the batch, and the slot of its version is one of the batch
+-- the source u is before t, and the slot of its version is a slot of the batch
 pub record IsEarlier (b : Batch) (t : ℕ) (a : Access) (u : ℕ) : Type 0 where
   pub below : u < t
   pub slot : IsSlot b (slot_in u a)
@@ -75,7 +75,7 @@ pub in_either : (b : Bool) (xs ys : List Access) (a : Access) → Contains (xs +
 in_either true xs ys a h = ⊎_elim (λ c. inl c) (λ (c : Contains [] a). absurd (nothing_in a c)) (Contains-append_cases xs [] a h)
 in_either false xs ys a h = ⊎_elim (λ c. inl c) (λ (c : Contains ys a). inr (refl, c)) (Contains-append_cases xs ys a h)
 
--- the plan knows whether a transaction is sure
+-- the plan says correctly whether a transaction is sure
 pub sure_planned : (b : Batch) (t : ℕ) (sure : Bool) → IsIn b t → sure_at (plan_of b) (position b t) ≡ Some sure → sure ≡ is_sure_at b t
 sure_planned b t sure inside at =
     let (x, at_x) = txn_there b t inside in
@@ -83,7 +83,7 @@ sure_planned b t sure inside at =
     (λ plan. same_Some sure (is_sure x) (sym at ∙ plan.sure (position b t) x at_x)
     ∙ sym (ap (λ (o : Option Txn). unwrap_or (option_map is_sure o) false) at_x))
 
--- a wanted source is an earlier position, with a slot for the key
+-- a wanted source is an earlier position, and has the slot that the access names
 pub wanted_earlier : (b : Batch) (t : ℕ) (a : Access) (u : ℕ) → IsIn b t → Contains (wanted_at b t) a → a.source ≡ Within u → IsEarlier b t a u
 wanted_earlier b t a u inside in_it e =
     let (x, at) = txn_there b t inside in

@@ -34,6 +34,10 @@ claim_of_word zero = claimed.Mine
 claim_of_word (suc zero) = claimed.Busy
 claim_of_word (suc (suc n)) = claimed.Done
 
+-- above the number of every statement
+abbrev pub above_stmts : ℕ
+above_stmts = 1000
+
 abbrev pub thousands_of : Reason → ℕ
 thousands_of reasons.Need = 1
 thousands_of reasons.Fail = 2
@@ -43,7 +47,7 @@ thousands_of reasons.Range = 4
 -- the status word of an outcome
 abbrev pub word_of : Outcome → ℕ
 word_of Commit = 2
-word_of (Abort reason stmt) = 1000 * thousands_of reason + stmt
+word_of (Abort reason stmt) = above_stmts * thousands_of reason + stmt
 
 -- the statement at which the transaction aborted, or 0
 abbrev pub stmt_of : Outcome → ℕ
@@ -59,7 +63,7 @@ outcome_in (suc (suc (suc zero))) stmt = Abort reasons.Absent stmt
 outcome_in (suc (suc (suc (suc n)))) stmt = Abort reasons.Range stmt
 
 abbrev pub outcome_at : ℕ → Outcome
-outcome_at word = outcome_in (word / 1000) (word % 1000)
+outcome_at word = outcome_in (word / above_stmts) (word % above_stmts)
 
 -- the status word of a position
 abbrev pub progress_word : core.Progress → ℕ

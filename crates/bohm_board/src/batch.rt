@@ -74,6 +74,7 @@ impl<'a> Batch<'a> {
         ensures plan { HasSourcesOf plan (plan_of result) }
         ensures base { entries_of result ≡ base.items }
     {
+        // The plan has the timestamp too: only the contract needs it here.
         let _ = first;
         let mut plan = plan;
         note_places(&mut plan, &txns, &base);

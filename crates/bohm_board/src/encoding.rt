@@ -2,7 +2,8 @@
 
 ghost use Rattle.std.specs.Prelude.{◌≡◌, ◌<◌};
 ghost use Rattle.bohm_types.specs.declared.cell.Cell.TheVariants.{Present};
-ghost use Rattle.bohm_board.specs.Encoding.{status_of, thousands_of, word_of, outcome_at, stmt_of};
+ghost use Rattle.bohm_board.specs.Encoding.{above_stmts, outcome_at, status_of, stmt_of};
+ghost use Rattle.bohm_board.specs.Encoding.{thousands_of, word_of};
 ghost use Rattle.bohm_board.specs.Encoding.{filled_word, present_at};
 
 use crate::status::Status;
@@ -32,7 +33,7 @@ fn thousands(reason: Reason) -> u64
 
 /// The status word of an outcome.
 pub(crate) fn outcome_word(outcome: Outcome) -> u64
-    requires { stmt_of outcome < 1000 }
+    requires { stmt_of outcome < above_stmts }
     ensures { result ≡ word_of outcome }
 {
     match outcome {

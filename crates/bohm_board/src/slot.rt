@@ -3,6 +3,7 @@
 ghost use Rattle.std.specs.Prelude.{◌≡◌, ◌≤◌};
 ghost use Rattle.bohm_txn.specs.Faulty.{IsWellFormedTxn};
 ghost use Rattle.bohm_board.specs.Serial.{width};
+ghost use Rattle.bohm_board.specs.Layouts.{most_slots};
 
 use bohm_log::TxnView;
 use bohm_txn::shows;
@@ -20,7 +21,7 @@ pub struct Slot {
 pub(crate) fn width(txn: &TxnView<'_>) -> u32
     requires { IsWellFormedTxn txn.now }
     ensures width { result ≡ width txn.now }
-    ensures few { result ≤ 32 }
+    ensures few { result ≤ most_slots }
 {
     (txn.writes().len() + shows(txn)) as u32
 }

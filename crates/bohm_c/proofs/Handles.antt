@@ -55,7 +55,7 @@ tested {𝓤 = 𝓤} 𝓛 p x =
     (dealloc_token-Testable 𝓛 (record { memory = record { seal = tt } }) (bare (lone (kept.the_row).mir)) p)) (guard_i 𝓤 (Testable p) (sem 𝓛 (boxed p x)))
 
 module _ {M : Type 1} {𝓤 : Ura M} {𝓛 : Logic 𝓤} {K : Type 0} {Γ : List (Item 𝓤)} {G : Goal 𝓤 𝓛.H} where
-  -- what is behind a pointer: nothing, and it is null, or a box, and it may be compared with null
+  -- a pointer is null and has no box, or has a box and may be compared with null
   pub behind : K → (p : Ptr) (y : Option Kept)
       → (y ≡ None → p ≡ null_ptr → Seq K 𝓛 Γ G)
       → ((b o : ℕ) (x : Kept) → y ≡ Some x → p ≡ block_ptr b o → Testable (block_ptr b o) → Seq K 𝓛 (‵ (boxed (block_ptr b o) x) ∷ Γ) G)
@@ -90,7 +90,7 @@ module _ {M : Type 1} {𝓤 : Ura M} {𝓛 : Logic 𝓤} {K : Type 0} {Γ : List
       $ feq_i t (List Val) (v ∷ []) (v ∷ []) refl $ fjoin t $
       fpack t (Valss (RawPtr ∷ [])) (within (shape held.the_type) (null_ptr, tt) (v ∷ [])) (null_val ∷ [], tt) $ fjoin t $ s)
 
-  -- what is left of a handle that is let go
+  -- a handle that is dropped leaves only its value
   pub held_gone : K → (d : Held.Denot) (vs : List Val) → (vs ≡ one (ptr_val d.at) ∷ [] → Seq K 𝓛 Γ G) → Seq K 𝓛 (‵ (Held.own_val d vs) ∷ Γ) G
   held_gone t d vs k = fsplit t $ fpick t
       (λ vss. fsplit t $ feq_l t

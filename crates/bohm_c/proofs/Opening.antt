@@ -1,4 +1,4 @@
--- What is told of a snapshot that was read.
+-- The answer to opening a snapshot, once its text was read.
 use Rattle.std.proofs.Common.{ℕ, List, Result, Ok, Err, IfOk, IfErr, sym, subst}
 use Rattle.bohm_types.specs.Document.{Document}
 use Rattle.bohm_c.specs.Keeping.{IsOpened, IsOpening, IsRefusedOpening, IsUnopened}

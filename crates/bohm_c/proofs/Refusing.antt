@@ -1,4 +1,4 @@
--- A refusal says a fault that the text has.
+-- A refusal names a fault that the text has.
 use Rattle.std.proofs.Common.{◌≡◌, ◌≢◌, ℕ, List, refl}
 use Rattle.bohm_answer.specs.FaultLine.{fault_line}
 use Rattle.bohm_answer.specs.declared.fault.RunFault.{RunFault}

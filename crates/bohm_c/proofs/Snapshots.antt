@@ -1,4 +1,4 @@
--- Snapshots: that they are well formed, and what a machine holds that is opened on one.
+-- Snapshots are well formed, and a machine that was opened with one has its store.
 use Rattle.std.proofs.Common.{◌≡◌, ◌∙◌, ℕ, zero, suc, ◌-◌, Bool, true, false, List, [], ◌∷◌, refl, ap, arith}
 use Rattle.std.specs.Prelude.{ℤ, T}
 use Rattle.std.specs.Cmp.Derive.{both_true}
@@ -42,7 +42,7 @@ sorted_rise (e ∷ es) sorted = rises_behind e es sorted
 pub listed_rise : (store : List (List ℕ × ℤ)) → store ≡ entries (store_of store) → rising (names_of store) ≡ true
 listed_rise store listed = rw listed (sorted_rise (entries (store_of store)) (is_true _ (entries_sorted (store_of store))))
 
--- ---- a store without transactions is well formed
+-- ---- a document of a store alone is well formed
 
 pub snapshot_formed : (store : List (List ℕ × ℤ)) → store ≡ entries (store_of store) → WellFormed (snapshot_of store)
 snapshot_formed store listed zero zero Order faulty = let rises = listed_rise store listed in let none : false ≡ true = rw rises at faulty in cc
@@ -53,7 +53,7 @@ snapshot_formed store listed zero zero Limit faulty = cc
 snapshot_formed store listed zero (suc s) kind faulty = cc
 snapshot_formed store listed (suc t) s kind faulty = cc
 
--- ---- a machine that is opened on a snapshot of the top
+-- ---- a machine that was opened with a snapshot of the top
 
 pub opened_holds : (one_text : (d e : Document) → IsDocument d → IsDocument e → print_doc d ≡ print_doc e → d ≡ e)
     → (m : Timeline) (text : List ℕ) (session : Session) (snapshot : IsSnapshot m (top_of m) text) → IsDocument (snapshot_of snapshot.store)

@@ -63,7 +63,7 @@ module _ (R Z : RattleType) (L : Laws Z) (g : Ghosts Z.Denot) where
         fpack t (Valss (RawPtr ∷ Z ∷ [])) (within (shape (raw_box.the_type R Z g)) (block_ptr b o, (a, tt)) (v ∷ [])) (vptr b o ∷ [], (h ∷ [], tt)) $ fjoin t
         $ s)
 
--- a struct of two fields, by value
+-- a struct of two fields as a value
 module _ (P Q : RattleType) where
   abbrev pub Two : RattleType
   Two = Struct (record { name = []; args = []; types = []; fields = P ∷ Q ∷ [] })

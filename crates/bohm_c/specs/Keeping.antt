@@ -9,7 +9,7 @@ use Rattle.bohm_txn.specs.Faulty.{WellFormed}
 use Rattle.bohm_txn.specs.Stores.{cell_in, store_of}
 use Rattle.bohm_text.specs.Print.{print_doc, print_numbered}
 use Rattle.bohm_answer.specs.Answer.{answer_of}
-use Rattle.bohm_store.specs.Versions.{Timeline, total}
+use Rattle.bohm_store.specs.Versions.{Timeline, most_counted, total}
 use Rattle.bohm_machine.specs.Machines.{GoesOn, HasRun, floor_of, past_of, top_of}
 use Rattle.bohm_machine.specs.Segments.{AreWholeBatches, IsTaken, RunsOn, IsRefused as IsUntakenBy}
 use Rattle.bohm_machine.specs.declared.fault.SegmentFault.{SegmentFault}
@@ -151,7 +151,7 @@ pub record IsSnapshot (m : Timeline) (ts : ℕ) (text : List ℕ) : Type 0 where
 pub record HasCounts (session : Session) (counts : BohmCounts) : Type 0 where
   pub floor : counts.floor ≡ floor_of session.machine
   pub top : counts.top ≡ top_of session.machine
-  pub versions : counts.versions ≡ min (total session.machine.chains) 18446744073709551615
+  pub versions : counts.versions ≡ min (total session.machine.chains) most_counted
   pub waiting : counts.waiting ≡ length session.waiting
 
 -- the past from the new floor on is unchanged, and so are the waiting replies

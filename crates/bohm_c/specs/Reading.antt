@@ -12,6 +12,7 @@ use Rattle.bohm_text.specs.declared.fault.TextFault.TheVariants as texts
 use Rattle.bohm_answer.specs.FaultLine.{fault_line}
 use Rattle.bohm_answer.specs.declared.fault.RunFault.{RunFault}
 use Rattle.bohm_answer.specs.declared.fault.RunFault.TheVariants.{Read, TooLong, Text, Check, Trimmed, Future, NoMemory, Write}
+use Rattle.bohm_types.specs.Limits.{longest_text}
 
 -- the text is that of this well-formed document
 pub record IsRead (text : List ℕ) (document : Document) : Type 0 where
@@ -29,7 +30,7 @@ pub record IsFaulty (text : List ℕ) (fault : CheckFault) : Type 0 where
 -- the text has this fault
 abbrev pub HasFault : List ℕ → RunFault → Type 0
 HasFault text Read = ⊥
-HasFault text TooLong = 67108864 < length text
+HasFault text TooLong = longest_text < length text
 HasFault text (Text (texts.Line n)) = IsFirstBadLine (whole_lines text) n
 HasFault text (Text texts.Short) = IsShort text
 HasFault text (Text texts.NoMemory) = ⊥

@@ -33,6 +33,6 @@ next_suc d i t at =
     let lines = txn_length t in
     omega (arith, log_length d (take i d.log), log_length d (take (suc i) d.log), more, lines)
 
--- the next one behind this
+-- the opening line of the next transaction
 pub next_opening : (d : Document) (i : ℕ) (t : Txn) → slice_get d.log i ≡ Some t → opening_line d (i + 1) ≡ opening_line d i + length t.body + 4
 next_opening d i t at = subst (λ (n : ℕ). opening_line d n ≡ opening_line d i + length t.body + 4) (sym (add-one i)) (next_suc d i t at)

@@ -15,7 +15,7 @@ use Rattle.bohm_check.specs.Lines.{opening_line, sets_line, whole_line}
 use Rattle.bohm_check.specs.Faults.{IsFirst}
 use Rattle.bohm_check.specs.All.{told_of, told_if, kinds_told, each_from, stmt_told, body_told, txn_told, log_told, doc_told}
 
--- the list begins with the fault that is found, and is empty where none is
+-- the list begins with the fault that was found, and is empty if none was
 abbrev pub IsLed : {B : Type 0} → (B → CheckFault) → Option B → List Told → Type 0
 IsLed g None [] = Unit {0}
 IsLed g None (x ∷ xs) = ⊥
@@ -72,7 +72,7 @@ doc_led d =
     (kinds_led 0 0 (whole_faulty d) (whole_line d)))
     (each_led fault_of find_txn (λ i. txn_told (i + 1) (opening_line d i)) (λ i t. txn_led (i + 1) (opening_line d i) t) 0 d.log)
 
--- nothing is told of a transaction without faults
+-- a transaction without faults adds none to the list
 pub nothing_told : (number opening : ℕ) (t : Txn) → first_in_txn t ≡ None → txn_told number opening t ≡ []
 nothing_told number opening t none = go (first_in_txn t) (txn_told number opening t) none (txn_led number opening t)
   where

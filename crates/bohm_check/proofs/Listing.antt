@@ -1,4 +1,4 @@
--- Each fault in the list of a document's faults is one, with its line, and each fault is in it.
+-- The list of a document's faults has exactly its faults, each with its line.
 use Rattle.std.proofs.Common.{◌≡◌, ℕ, zero, suc, ◌+◌, ◌<◌, ◌≤◌, List, [], ◌∷◌, take, length, Bool, true}
 use Rattle.std.proofs.Common.{false, Some, Contains, refl, ap, sym, ◌∙◌, subst, zero-add, add-one, arith}
 use Rattle.std.specs.List.{All, slice_get}
@@ -15,7 +15,7 @@ use Rattle.bohm_check.specs.Faults.{IsTold, told_at}
 use Rattle.bohm_check.specs.All.{told_of, told_if, kinds_told, each_from, stmt_told, txn_told, doc_told}
 use Rattle.bohm_check.proofs.Lists.{single, none, it, passes, passed}
 
--- ---- each in the list is a fault
+-- ---- each entry of the list is a fault
 
 one_sound : (P : Told → Type 0) (b : Bool) (x : Told) → (b ≡ true → P x) → All P (told_if b x)
 one_sound P true x h = single P x (h refl)
@@ -132,7 +132,7 @@ doc_there d (suc i) s kind h =
     (each_there (λ i. txn_told (i + 1) (opening_line d i)) 0 d.log i found.0 _ found.1
     (subst (λ (n : ℕ). Contains (txn_told (n + 1) (opening_line d n) found.0) (told_at d (suc i) s kind)) (sym (zero-add i)) numbered))
 
--- ---- the first 20 of them
+-- ---- the first 20 entries
 
 pub all_told : (d : Document) (told : List Told) → told ≡ take 20 (doc_told d) → All (IsTold d) told
 all_told d told same = subst (All (IsTold d)) (sym same) (All-take (IsTold d) 20 (doc_told d) (doc_sound d))

@@ -1,4 +1,4 @@
--- Of lists: what holds of each element, which elements there are, and the first 20 of them.
+-- Lists: properties of all elements, membership, and the first 20 elements.
 use Rattle.std.proofs.Common.{◌≡◌, Option, None, ℕ, zero, suc, ◌+◌, ◌<◌, ◌≤◌, List, [], ◌∷◌, ◌++◌, length}
 use Rattle.std.proofs.Common.{get_or, take, drop, Bool, true, false, Some, Contains, refl, ap, sym, ◌∙◌, arith}
 use Rattle.std.specs.Prelude.{◌&&◌, IsSomeAnd, is_some}
@@ -20,7 +20,7 @@ none P = λ k d l. absurd (omega (arith, l))
 pub it : {X : Type 0} (x : X) (xs : List X) → Contains (x ∷ xs) x
 it x xs = (0, omega arith, refl)
 
--- ---- the first 20
+-- ---- the first 20 elements
 
 pub take_front : {X : Type 0} (n : ℕ) (xs ys : List X) → take n (xs ++ ys) ≡ take n (take n xs ++ ys)
 take_front zero xs ys = refl

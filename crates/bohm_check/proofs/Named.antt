@@ -1,4 +1,4 @@
--- Sets of names: what is in them, and that a statement keeps to two alike where they have the same names.
+-- Sets of names: their members, and that a statement is tested alike by two sets with the same names.
 use Rattle.std.proofs.Common.{◌≡◌, ℕ, ◌+◌, List, [], ◌∷◌, take, Bool, true, false, refl, ap, sym, ◌∙◌}
 use Rattle.std.specs.Prelude.{Option, Some, None, cond, not, ◌||◌, ◌&&◌}
 use Rattle.std.specs.List.{list_all, list_any, slice_get}
@@ -17,7 +17,7 @@ use Rattle.bohm_types.specs.Term.{Atom, Lit, Read, Local}
 use Rattle.bohm_txn.specs.Faulty.{reads_among, locals_bound, binds, is_bound, is_unread, is_unwritten, is_misnamed}
 use Rattle.bohm_check.specs.Names.{has, reads_in, locals_in, AreNamesOf, AreBoundBy}
 
--- a name was added
+-- a name is a member after it was inserted
 pub inserted : (old new : BTreeSet (List ℕ)) (name : List ℕ) → Updates (slice_cmp nat_cmp) old new name true
     → (k : List ℕ) → has new k ≡ (has old k || bytes_eq name k)
 inserted old new name updates k =
@@ -29,7 +29,7 @@ inserted old new name updates k =
     either false true = refl
     either false false = refl
 
--- none of a list's names, and then one more of them in turn
+-- a set with none of the keys, and with one key more
 pub none_yet : (keys : List (List ℕ)) (names : BTreeSet (List ℕ)) → IsEmpty names → AreNamesOf (take 0 keys) names
 none_yet keys names empty k = ap (list_any (is_at (slice_cmp nat_cmp k))) empty
 
@@ -40,7 +40,7 @@ pub one_more : (keys : List (List ℕ)) (i : ℕ) (key : List ℕ) (old new : BT
     → ((k : List ℕ) → has new k ≡ (has old k || bytes_eq key k)) → AreNamesOf (take (i + 1) keys) new
 one_more keys i key old new at before added k = added k ∙ ap (λ b. b || bytes_eq key k) (before k) ∙ sym (any_more (λ x. bytes_eq x k) keys i key at)
 
--- a statement more, which binds a name or none
+-- a set after one more statement, which binds a name or none
 module _ (body : List Stmt) (i : ℕ) (s : Stmt) (at : slice_get body i ≡ Some s) (old : BTreeSet (List ℕ)) (before : AreBoundBy (take i body) old) where
   pub one_bound : (name : List ℕ) (new : BTreeSet (List ℕ)) → bound s ≡ Some name → ((k : List ℕ) → has new k ≡ (has old k || bytes_eq name k))
       → AreBoundBy (take (i + 1) body) new
@@ -57,7 +57,7 @@ module _ (body : List Stmt) (i : ℕ) (s : Stmt) (at : slice_get body i ≡ Some
       or_false true = refl
       or_false false = refl
 
--- ---- tests that answer alike
+-- ---- tests that agree
 
 all_alike : {X : Type 0} (p q : X → Bool) → ((x : X) → p x ≡ q x) → (xs : List X) → list_all p xs ≡ list_all q xs
 all_alike p q same [] = refl
@@ -74,7 +74,7 @@ some_alike : (p q : List ℕ → Bool) → ((k : List ℕ) → p k ≡ q k) → 
 some_alike p q same None = refl
 some_alike p q same (Some k) = same k
 
--- ---- a statement
+-- ---- tests of a statement
 
 module _ (names : BTreeSet (List ℕ)) (s : Stmt) where
   pub unread_by : (keys : List (List ℕ)) → AreNamesOf keys names

@@ -1,4 +1,4 @@
--- A statement of a transaction by its row.
+-- The statements of a transaction, by their rows.
 use Rattle.std.proofs.Common.{◌≡◌, ℕ, zero, suc, ◌<◌, List, [], ◌∷◌, length, map, get_or, Some, refl, ap, sym, ◌∙◌, subst, arith}
 use Rattle.std.specs.Prelude.{Option, IsSomeAnd}
 use Rattle.std.specs.List.{slice_get}
@@ -21,13 +21,13 @@ module _ (t : Txn) (e : Edition) (p : Parts) (same : txn_of e p ≡ t) (rows : L
   body_mapped : t.body ≡ map (stmt_of p) rows
   body_mapped = ap (λ (t : Txn). t.body) (sym same) ∙ ap (map (stmt_of p)) (sym held)
 
-  -- a statement is that of its row
+  -- the statement at an index is that of the row there
   pub row_there : (d : StmtRow) → i < length rows → slice_get t.body i ≡ Some (stmt_of p (get_or rows i d))
   row_there d inside = rw body_mapped (mapped (stmt_of p) rows i d inside)
 
   pub rows_within : i < length t.body → i < length rows
   rows_within inside = subst (λ (n : ℕ). i < n) (ap length body_mapped ∙ mapped_length (stmt_of p) rows) inside
 
-  -- what holds of the row's statement holds of the statement there
+  -- a property of the row's statement is one of the statement at its index
   pub row_at : i < length t.body → (P : Stmt → Type 0) (d : StmtRow) → P (stmt_of p (get_or rows i d)) → IsSomeAnd (slice_get t.body i) P
   row_at inside P d h = subst (λ (o : Option Stmt). IsSomeAnd o P) (sym (row_there d (rows_within inside))) h

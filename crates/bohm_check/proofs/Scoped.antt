@@ -1,4 +1,4 @@
--- The names that a statement may use, behind a further one.
+-- The names that a statement may use, after one more statement.
 use Rattle.std.proofs.Common.{◌≡◌, ℕ, ◌+◌, List}
 use Rattle.std.specs.Prelude.{Some, None, ◌||◌}
 use Rattle.std.specs.List.{slice_get}

@@ -44,9 +44,13 @@ log_told d = each_from (λ i. txn_told (i + 1) (opening_line d i))
 abbrev pub doc_told : Document → List Told
 doc_told d = kinds_told 0 0 (whole_faulty d) (whole_line d) ++ log_told d 0 d.log
 
--- the first 20 are those of the faults before with these appended
+-- faults that are listed
+abbrev pub most_told : ℕ
+most_told = 20
+
+-- the listed ones are those of the faults before with these appended
 abbrev pub AreTold : List Told → List Told → List Told → Type 0
-AreTold before more now = take 20 now ≡ take 20 (before ++ more)
+AreTold before more now = take most_told now ≡ take most_told (before ++ more)
 
 -- there is a statement with this index, and it satisfies this
 abbrev pub stmt_at : Txn → ℕ → (Stmt → Type 0) → Type 0

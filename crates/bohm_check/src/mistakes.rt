@@ -1,7 +1,8 @@
 //! Common mistakes that have their own messages.
 
 use crate::grammar::{Halt, Place, State};
-use crate::spelling::{LONGEST_NAME, is_name_byte};
+use crate::spelling::is_name_byte;
+use bohm_types::LONGEST_NAME;
 
 /// A mistake with its own message.
 #[derive(Clone, Copy, Debug, PartialEq, Eq)]

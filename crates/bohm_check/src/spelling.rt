@@ -1,9 +1,6 @@
 //! How much of a word matches a kind of word.
 
-use bohm_types::GREATEST_LITERAL;
-
-/// The most bytes of a name.
-pub const LONGEST_NAME: usize = 32;
+use bohm_types::{GREATEST_LITERAL, LONGEST_NAME};
 
 /// A kind of word.
 #[derive(Clone, Copy)]

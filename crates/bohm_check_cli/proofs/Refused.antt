@@ -1,4 +1,4 @@
--- What a run says of a refused log, said of its check.
+-- A run's refusal of a log is one of its check.
 use Rattle.std.proofs.Common.{List, ℕ}
 use Rattle.std.specs.Prelude.{Option, None}
 use Rattle.bohm_settings.specs.Given.{Given}
@@ -7,7 +7,7 @@ use Rattle.bohm_answer.specs.declared.fault.RunFault.{RunFault}
 use Rattle.bohm_answer.specs.declared.fault.RunFault.TheVariants.{Read, TooLong, Text, Check, Trimmed, Future, NoMemory, Write}
 use Rattle.bohm_check_cli.specs.Checking.{RefusesLog}
 
--- a refusal before the writing
+-- refusals before anything is written
 pub before_writing : (unread unread' written written' : Option (List ℕ)) (fault : RunFault) → IsBeforeWriting fault
     → ((given : Given) → Refuses given unread unread' None None fault) → RefusesLog unread unread' written written' fault
 before_writing unread unread' written written' Read before refuses = refuses

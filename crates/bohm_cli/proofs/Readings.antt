@@ -1,4 +1,4 @@
--- Numbers that are read as the arguments give them make the settings that the arguments give.
+-- The settings that are made of the parsed numbers are those that the arguments give.
 use Rattle.std.proofs.Common.{◌≡◌, ◌∙◌, ap, List, Option, Some, None, codes}
 use Rattle.std.specs.Option.{SomeIff}
 use Rattle.clap.specs.Words.{Row, Text}
@@ -9,7 +9,7 @@ use Rattle.bohm_command.proofs.ForCallers.{IsNumber, IsNumberOr}
 use Rattle.bohm_cli.specs.Options.{bohm, given_in}
 use Rattle.bohm_cli.specs.Taken.{settings_in}
 
--- the settings of numbers that are read so
+-- the settings of the parsed numbers
 pub settings_read : (rows : List Row) (given : Given) → IsNumberOr defaults.cc rows (codes "cc") 1 MOST_WORKERS given.cc
     → IsNumberOr defaults.exec rows (codes "exec") 1 MOST_WORKERS given.exec
     → IsNumberOr defaults.parts rows (codes "parts") 1 MOST_PARTS given.parts → IsNumberOr defaults.batch rows (codes "batch") 1 LARGEST_BATCH given.batch
@@ -27,7 +27,7 @@ settings_read rows given cc exec parts batch keep at result = go result
     go None none = absurd (none in_range)
     go (Some settings) is = ap Some (is.1 ∙ same)
 
--- what clap read is what it reads in the arguments
+-- the settings by clap's rows are those by the arguments
 pub same_settings : (rows : List Row) (arguments : List Text) → rows ≡ rows_in bohm arguments → given_in rows ≡ settings_in arguments
 unfolding settings_in
 same_settings rows arguments same = ap given_in same

@@ -5,6 +5,7 @@ use Rattle.clap.specs.Words.{App, Row}
 use Rattle.bohm_command.specs.Options.{number_in, number_rule}
 use Rattle.bohm_settings.specs.Given.{Given, defaults}
 use Rattle.bohm_settings.specs.declared.settings.TheConstants.{MOST_WORKERS, MOST_PARTS, LARGEST_BATCH, MOST_KEPT}
+use Rattle.bohm_types.specs.Limits.{last_timestamp}
 
 -- the command
 abbrev pub bohm : App
@@ -16,7 +17,7 @@ bohm = record {
         ∷ number_rule (codes "parts") 1 MOST_PARTS
         ∷ number_rule (codes "batch") 1 LARGEST_BATCH
         ∷ number_rule (codes "keep") 0 MOST_KEPT
-        ∷ number_rule (codes "at") 0 4294967295
+        ∷ number_rule (codes "at") 0 last_timestamp
         ∷ [];
   };
   subs = [];

@@ -1,4 +1,4 @@
--- What `get_one` reads of a flag says whether it was matched.
+-- `get_one` of a flag says whether the flag was matched.
 use Rattle.std.proofs.Common.{◌≡◌, ◌≢◌, ◌∙◌, Bool, true, false, Option, Some, None, codes, refl, sym, ap}
 use Rattle.std.specs.Option.{option_map_or}
 use Rattle.std.specs.Str.{bytes_eq}
@@ -12,7 +12,7 @@ use Rattle.clap.specs.declared.parser.matches.ArgMatches.{ArgMatches}
 use Rattle.clap.proofs.WalkLemmas.{one_text-rows}
 use Rattle.bohm_command.specs.Options.{flag_in}
 
--- whether a text says so
+-- whether the text is `true`
 abbrev says_so : Text → Bool
 says_so text = bytes_eq text (codes "true")
 

@@ -1,4 +1,4 @@
--- What a parse that succeeds gives an option is the number that its arguments have, and lies in the option's range.
+-- An option that was parsed has the number of its arguments, within its range.
 use Rattle.std.proofs.Common.{◌≡◌, ◌∙◌, ◌<◌, ◌^◌, ap, cond, ℕ, Bool, true, false, List, [], ◌∷◌, length, map, filter, Option, Some}
 use Rattle.std.proofs.Common.{None, refl, sym, subst, inl, inr, arith, zero, suc, codes, is_some, true≢false, le-ltb, lt-ltb}
 use Rattle.std.specs.List.{All, list_any, slice_index_or}
@@ -32,15 +32,15 @@ use Rattle.clap.proofs.WalkLemmas.{one_text-rows}
 use Rattle.bohm_settings.specs.Given.{IsBetween}
 use Rattle.bohm_command.specs.Options.{number_in, number_rule}
 
--- the option's number, in its range
+-- the option's number is that of the rows, and is within the range
 abbrev pub IsNumber : List Row → Text → ℕ → ℕ → Option ℕ → Type 0
 IsNumber rows name least most number = (number ≡ number_in rows name) × IfSome number (IsBetween least most)
 
--- the same, or the default where the matches give none
+-- the same, with the default if the rows have no number
 abbrev pub IsNumberOr : ℕ → List Row → Text → ℕ → ℕ → ℕ → Type 0
 IsNumberOr default rows name least most number = (number ≡ unwrap_or (number_in rows name) default) × IsBetween least most number
 
--- the range that is cut out of all numbers of `u32`
+-- the range of a parser for `u32` that was narrowed
 pub narrowed : (p q : ValueParser) (low high : Option ℤ) (least most : ℕ) → p ≡ parser.Signed (pos 0) (pos 4294967295) → low ≡ Some (pos least)
     → high ≡ Some (pos most)
     → least < 2 ^ 32 → most < 2 ^ 32 → NarrowsTo p low high q → q ≡ parser.Signed (pos least) (pos most)
@@ -53,15 +53,15 @@ narrowed p q low high least most is lo hi a b h =
           rw top (rw (le-ltb least 0 (omega arith), top, le-ltb 9223372036854775807 least (omega arith)) at cut)
     ]
 
--- what `u32::from_str` gives
+-- the contract of `u32::from_str`
 abbrev pub GivesU32 : Text → Result ℕ ParseIntError → Type 0
 GivesU32 bs r = ParsesUnsigned 32 10 bs r × ExplainsUnsignedError 10 bs r × HasUnsignedDigitsIfOk bs r
 
--- the rules of this id
+-- the rules with this id
 abbrev pub rules_of : Text → List Rule → List Rule
 rules_of id = filter (λ r. bytes_eq r.id id)
 
--- an argument of an id that has one rule has that rule
+-- if only one rule has an id, an argument with that id has that rule
 one_rule : (id : Text) (rule : Rule) (xs : List Arg) → All (λ r. r ≡ rule) (rules_of id (map rule_of xs))
     → (j : ℕ) (d : Arg) → j < length xs → bytes_eq (slice_index_or xs j d).id.now id ≡ true → rule_of (slice_index_or xs j d) ≡ rule
 one_rule id rule [] all j d lt same = absurd (omega arith)
@@ -78,26 +78,26 @@ one_rule id rule (x ∷ xs) all j d lt same = go (bytes_eq x.id.now id) refl (λ
     go true is rest (suc i) l s every = rest (λ k e low. every (suc k) e (omega arith)) i (omega arith) s
     go false is rest (suc i) l s every = rest every i (omega arith) s
 
--- the ids of other entries
+-- the ids that clap adds
 abbrev pub other_ids : List Text
 other_ids = [] ∷ codes "help" ∷ codes "version" ∷ []
 
 not_other : (id : Text) → list_any (λ w. bytes_eq w id) other_ids ≡ false → (k : ℕ) → k < 3 → bytes_eq (slice_index_or other_ids k []) id ≡ true → ⊥
 not_other id own k lt same = true≢false (sym (list_any_at (λ w. bytes_eq w id) other_ids k [] lt same) ∙ own)
 
--- the first value, as it is read
+-- the text of the first value
 head : (P : Bor Text → Type 0) (how : Reading) (vs : List (Bor Text)) (t : Text) → All P vs → option_map (λ s. read_as how s.now) (slice_get vs 0) ≡ Some t
     → (v : Bor Text) × (t ≡ read_as how v.now) × P v
 head P how [] t all found = absurd (true≢false (sym (ap is_some found)))
 head P how (v ∷ vs) t all found = (v, sym (ap (λ o. unwrap_or o t) found), all 0 v (omega arith))
 
--- an option of a command with plain settings and simple rules alone: the one rule of its id is that it takes a number,
--- and its id is none of clap's own
+-- an option of a command with plain settings and simple rules: its id has one rule, which takes a number,
+-- and clap adds no argument with that id
 module _ (app : App) (old : Command) (m : ArgMatches) (p : IsParsedFrom old m) (is : app_of old ≡ app) (plain : app.top.is_plain ≡ true)
     (simple : all_simple app.top.rules ≡ true)
     (id : Text) (least most : ℕ) (fits : most < 2 ^ 32) (one : rules_of id app.top.rules ≡ number_rule id least most ∷ [])
     (own : list_any (λ w. bytes_eq w id) other_ids ≡ false) where
-  -- a built argument of the option's id has its parser
+  -- each built argument with the option's id has its parser
   its_parser : (j : ℕ) (x : Arg) → j < length (args_of p.built) → slice_index_or (args_of p.built) j x ≡ x → bytes_eq x.id.now id ≡ true
       → parser_of x ≡ parser.Signed (pos least) (pos most)
   its_parser j x lt at same = elim (cases_lt j (length (args_of old))) [
@@ -119,7 +119,7 @@ module _ (app : App) (old : Command) (m : ArgMatches) (p : IsParsedFrom old m) (
       auto (inl h) = not_other id own 1 (omega arith) (subst (λ (w : Text). bytes_eq w id ≡ true) h same)
       auto (inr h) = not_other id own 2 (omega arith) (subst (λ (w : Text). bytes_eq w id ≡ true) h same)
 
-  -- the text that is read of the option is a value in its range
+  -- the text of the option is a number within its range
   text : (t : Text) → one_text (found_of m) id ≡ Some t → (v : Text) × (t ≡ without_minus v) × IsSignedIn (pos least) (pos most) v
   text t found = go (matched_of (found_of m) id) refl found
     where
@@ -165,7 +165,7 @@ module _ (app : App) (old : Command) (m : ArgMatches) (p : IsParsedFrom old m) (
           absurd (true≢false (sym (ap is_some bad)))
       go (Some x) e read = of_entry x (rw e at read) (entry_by_id (EntryPasses p.built) (found_of m).entries.items id x parsed.values e)
 
-  -- what `get_one` gives of the option is the number that the rows have
+  -- `get_one` returns the number that the rows have
   pub number : (r : Option ℕ) → (one_text (found_of m) id ≡ None → r ≡ None) → ((t : Text) → one_text (found_of m) id ≡ Some t → ReadsOne GivesU32 t r)
       → IsNumber (rows_of (found_of m)) id least most r
   number r none value = go (one_text (found_of m) id) refl
@@ -182,7 +182,7 @@ module _ (app : App) (old : Command) (m : ArgMatches) (p : IsParsedFrom old m) (
           let parsed : GivesU32 t (Ok got.0) = subst (λ (x : Option ℕ). ReadsOne GivesU32 t x) got.1 (value t e) in
           subst (λ (x : Option ℕ). IsNumber (rows_of (found_of m)) id least most x) (sym got.1) (ap Some parsed.0.1 ∙ sym (as_rows (Some t) e), (got.2, got.3))
 
-  -- and so with a default
+  -- the same, with a default
   pub number_or : (default given n : ℕ) (r : Option ℕ) → given ≡ default → IsBetween least most given → n ≡ unwrap_or r given
       → (one_text (found_of m) id ≡ None → r ≡ None) → ((t : Text) → one_text (found_of m) id ≡ Some t → ReadsOne GivesU32 t r)
       → IsNumberOr default (rows_of (found_of m)) id least most n

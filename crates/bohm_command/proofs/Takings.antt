@@ -1,4 +1,4 @@
--- What clap says of a line that begins with a program's name is said of the arguments behind it.
+-- clap's result for a command line is the one for the arguments after the program's name.
 use Rattle.std.proofs.Common.{◌≡◌, true, List, ◌∷◌, sym, subst, inl, inr}
 use Rattle.clap.specs.Values.{kind_of}
 use Rattle.clap.specs.Words.{App, Kinds, HasKind, IsAmong, Text, matches_of, takes, fault_of}
@@ -9,7 +9,7 @@ use Rattle.bohm_command.specs.Faults.{IsOfKind, IsFoundAmong}
 use Rattle.bohm_command.specs.declared.fault.ArgumentFault.{ArgumentFault}
 use Rattle.bohm_command.specs.declared.fault.ArgumentFault.TheVariants.{Bad, Help, NoMemory}
 
--- a command that was made is the one that was meant, and the line is its name and the arguments
+-- the command is the one defined, and the line is the program's name and the arguments
 module _ (app command : App) (line arguments : List Text) (is : command ≡ app) (whole : line ≡ app.top.name ∷ arguments) where
   pub takes_line : AreTaken app arguments → takes command line ≡ true
   unfolding AreTaken
@@ -23,7 +23,7 @@ module _ (app command : App) (line arguments : List Text) (is : command ≡ app)
   unfolding rows_in
   same_rows = λ i. matches_of (is i) (whole i)
 
--- an error's fault is among those that its kind is among
+-- if an error's kind is one of these, so is its fault
 pub found_among : (kinds : Kinds) (error : Error) (fault : ArgumentFault) → IsOfKind (kind_of error) fault → HasKind kinds error → IsFoundAmong kinds fault
 found_among kinds error (Bad text) said (inl is) = absurd (said.0 is)
 found_among kinds error (Bad text) said (inr among) = (kind_of error, said.1, among)

@@ -1,4 +1,4 @@
--- What a sweep has set aside so far.
+-- The positions that a sweep has deferred so far.
 use Rattle.std.proofs.Common.{◌≡◌, ℕ, ◌+◌, ◌<◌, List, [], ◌∷◌, ◌++◌, get_or, refl, sym, ap, ◌∙◌, subst, ⊎_elim, inl, inr, append_assoc, arith}
 use Rattle.std.specs.Prelude.{All, Contains, ◌⊎◌}
 use mathlib.Core.List.{map-append}
@@ -30,24 +30,24 @@ accounted_pushed b v pairs p t a = ⊎_elim (λ (d : IsDone b v t). inl d)
 pub accounted_here : (b : Batch) (v : View) (pairs : Pairs) (p : ℕ × ℕ) → IsAccountedFor b v (pairs ++ p ∷ []) p.0
 accounted_here b v pairs p = inr (subst (λ (xs : List ℕ). Contains xs p.0) (sym (positions_push pairs p)) (Contains-push (positions_in pairs) p.0))
 
--- where the same ones were seen Done
+-- each position is in a list that equals the positions seen Done, or is in a pair
 pub accounted_as : (b : Batch) (v : View) (pairs : Pairs) (share done : List ℕ) → done ≡ v.done → All (IsAccountedFor b v pairs) share
     → All (λ t. Contains done t ⊎ Contains (positions_in pairs) t) share
 accounted_as b v pairs share done same all = subst (λ (xs : List ℕ). All (λ t. Contains xs t ⊎ Contains (positions_in pairs) t) share) (sym same) all
 
--- one more of the share
+-- a property of the first n positions of a share and of the next one holds for the first n + 1
 pub next : (P : ℕ → Type 0) (share : List ℕ) (n : ℕ) → ((i : ℕ) → i < n → P (get_or share i 0)) → P (get_or share n 0) → (i : ℕ) → i < n + 1
     → P (get_or share i 0)
 next P share n all here i l = dite (ℕ_discrete i n) (λ e. subst (λ (z : ℕ). P (get_or share z 0)) (sym e) here) (λ ne. all i (omega arith))
 
--- ---- what was seen Busy
+-- ---- the positions seen Busy
 
 pub busy_more : (old now new : List ℕ) (pairs : Pairs) (p : ℕ × ℕ) → now ≡ old ++ busy_in pairs → new ≡ now ++ p.1 ∷ [] → new ≡ old ++ busy_in (pairs ++ p ∷ [])
 busy_more old now new pairs p before e =
     e ∙ (ap (λ (xs : List ℕ). xs ++ p.1 ∷ []) before
     ∙ (append_assoc old (busy_in pairs) (p.1 ∷ []) ∙ ap (λ (xs : List ℕ). old ++ xs) (sym (busy_push pairs p))))
 
--- ---- the order
+-- ---- deferred positions are in the order of the sweep
 
 pub picked_skip : (xs ys : List ℕ) (y : ℕ) → IsPickedFrom xs ys → IsPickedFrom xs (ys ++ y ∷ [])
 picked_skip [] ys y p = tt {0}

@@ -1,4 +1,4 @@
--- The cells of all accesses, those of the base among them, and what is evaluated over them.
+-- The cells of all accesses, including cells of the base, and the cells of a transaction's slots.
 use Rattle.std.proofs.Common.{◌≡◌, ◌≢◌, ℕ, zero, suc, ◌+◌, ◌-◌, ◌<◌, List, [], ◌∷◌, ◌++◌, length, set, Some, refl, sym, ap, ◌∙◌, subst, arith}
 use Rattle.std.specs.Prelude.{ℤ, unwrap_or}
 use Rattle.std.specs.List.{slice_get}
@@ -23,7 +23,7 @@ abbrev pub CellsBelow : Batch → List (List ℕ) → List Access → List Cell 
 CellsBelow b keys accesses cells n = (j : ℕ) (k : List ℕ) (a : Access) (c : Cell) → j < n → slice_get keys j ≡ Some k → slice_get accesses j ≡ Some a
     → slice_get cells j ≡ Some c → IsCellOf b k a c
 
--- a cell of a version that stands before the batch
+-- the base's cell of a key is right for an access whose source is `Before`
 pub from_base : (b : Batch) (k : List ℕ) (index : ℕ) (s : Source) (c : Cell) → s ≡ Before → c ≡ base_of b k → IsCellFrom b k index c s
 from_base b k index s c is e = subst (λ (z : Source). IsCellFrom b k index c z) (sym is) e
 
@@ -41,7 +41,7 @@ cells_next b keys accesses old new n k a kept below at_key at here = λ j y x c 
     subst (λ (z : List ℕ × Access). IsCellOf b z.0 z.1 c) (λ i. (same_key i, same i)) (here c (ap (slice_get new) (sym e) ∙ cell)))
     (λ ne. below j y x c (omega arith) key_j at_j (sym (kept j ne) ∙ cell))
 
--- a cell of the base is put at its place
+-- writing the base's cell at index n, where the source is `Before`, makes the cells up to that index right
 pub base_put : (b : Batch) (keys : List (List ℕ)) (accesses : List Access) (cells : List Cell) (n : ℕ) (k : List ℕ) (a : Access) (c : Cell) → n < length cells
     → CellsBelow b keys accesses cells n → slice_get keys n ≡ Some k → slice_get accesses n ≡ Some a
     → a.source ≡ Before → c ≡ base_of b k → CellsBelow b keys accesses (set cells n c) (n + 1)
@@ -56,7 +56,7 @@ found_stays b accesses cells n a c found at is = λ j x u d at_j source cell. di
     absurd (not_both a.source u is (ap (λ (y : Access). y.source) same ∙ source)))
     (λ ne. found j x u d at_j source (sym (set_other cells n j c ne) ∙ cell))
 
--- a cell that is there already
+-- at index n, where the source is `Within`, the cell is right already
 pub within_there : (b : Batch) (keys : List (List ℕ)) (accesses : List Access) (cells : List Cell) (n : ℕ) (k : List ℕ) (a : Access) (u : ℕ)
     → AreFound b accesses cells → CellsBelow b keys accesses cells n → slice_get keys n ≡ Some k → slice_get accesses n ≡ Some a → a.source ≡ Within u
     → CellsBelow b keys accesses cells (n + 1)

@@ -1,4 +1,4 @@
--- Which positions stand in a share, and in what is set aside of it.
+-- The positions of a share, and the positions that its sweep defers.
 use Rattle.std.proofs.Common.{◌≡◌, ℕ, zero, suc, ◌+◌, ◌-◌, ◌%◌, ◌<◌, ◌≤◌, ◌∷◌, [], List, Bool, true}
 use Rattle.std.proofs.Common.{false, cond, eqb, All, refl, sym, ap, ◌∙◌, subst, ⊎_elim, arith}
 use Rattle.std.specs.Prelude.{Contains}
@@ -52,7 +52,7 @@ pub share_inside : (first len worker workers : ℕ) → All (λ t. (first ≤ t)
 share_inside first len worker workers = All-filter (λ (t : ℕ). eqb ((t - first) % workers) worker) (λ (t : ℕ). (first ≤ t) × (t < first + len))
     (range_with_len first len) (range_inside first len)
 
--- ---- what is set aside
+-- ---- deferred positions
 
 pub picked_contains : (xs ys : List ℕ) (t : ℕ) → IsPickedFrom xs ys → Contains xs t → Contains ys t
 picked_contains [] ys t p (k, low, is) = absurd (omega (arith, low))

@@ -1,4 +1,4 @@
--- The stack of an evaluation on demand, its start first, and the number that decreases.
+-- The stack of an evaluation on demand, from its start to its top, and the measure that decreases.
 use Rattle.std.proofs.Common.{◌≡◌, ◌≢◌, ℕ, zero, suc, ◌+◌, ◌-◌, ◌*◌, ◌<◌, ◌≤◌, Bool, true, false, cond, eqb, List, [], ◌∷◌, ◌++◌, length, get_or}
 use Rattle.std.proofs.Common.{sym, refl, ap, ◌∙◌, subst, ⊎_elim, Option, None, Some, arith, eq-eqb, ne_eqb, length-append, mul-le-mul_right, suc-mul}
 use Rattle.std.specs.Prelude.{Contains, MatchOption}
@@ -12,15 +12,15 @@ use Rattle.bohm_board.specs.declared.batch.Batch.{Batch}
 use Rattle.bohm_board.specs.Batches.{IsIn, Wants, Leads, itself, further, first_of, position, txns_of}
 use Rattle.bohm_board.proofs.ForCallers.{wanted_earlier}
 
--- how many positions the batch has
+-- the number of positions of the batch
 abbrev pub count_of : Batch → ℕ
 count_of b = length (txns_of b)
 
--- the first timestamp behind the batch
+-- the first timestamp after the batch
 abbrev pub end_of : Batch → ℕ
 end_of b = first_of b + length (txns_of b)
 
--- the start leads to each position of the stack, they fall, and those above the start weren't seen Done
+-- the start leads to each position of the stack, positions descend, and those above the start weren't seen Done
 pub record IsDescent (b : Batch) (start : ℕ) (done xs : List ℕ) : Type 0 where
   pub some : 0 < length xs
   pub inside : (i : ℕ) → i < length xs → IsIn b (get_or xs i 0)
@@ -40,7 +40,7 @@ at_end : (xs : List ℕ) (u : ℕ) → get_or (xs ++ u ∷ []) (length xs) 0 ≡
 at_end [] u = refl
 at_end (x ∷ xs) u = at_end xs u
 
--- by cases on whether the element is the last
+-- a property of each element of xs, and of u, holds for each element of xs followed by u
 at_push : (P : ℕ → ℕ → Type 0) (xs : List ℕ) (u i : ℕ) → i < length (xs ++ u ∷ []) → (i < length xs → P i (get_or xs i 0)) → P (length xs) u
     → P i (get_or (xs ++ u ∷ []) i 0)
 at_push P xs u i l left here =
@@ -171,7 +171,7 @@ undone_less xs v (suc n) l new = dite (ℕ_discrete n v)
 lower : (a b n top top' : ℕ) → a < b → top' ≤ n → a * (n + 1) + top' < b * (n + 1) + top
 lower a b n top top' l m = let more : suc a * (n + 1) ≤ b * (n + 1) = mul-le-mul_right (n + 1) l in omega (arith, suc-mul a (n + 1))
 
--- what falls: positions that weren't seen Done count most, and then the top's place
+-- the measure that decreases: first the numbers not seen Done, then the position of the stack's top
 abbrev pub left_to_do : Batch → List ℕ → List ℕ → ℕ
 left_to_do b done xs = undone done (end_of b) * (count_of b + 1) + position b (top_of xs)
 
@@ -221,7 +221,7 @@ push_falls b start done done' xs xs' u d e wants same =
     let shallower : position b (top_of xs') < position b (top_of xs) = rw top (omega (arith, is.from, top_in.from, less)) in
     let f : p + position b (top_of xs') < q + position b (top_of xs) = omega arith in f
 
--- the stack is never longer than the batch
+-- a stack whose top wants another position is shorter than the batch
 pub fits_below : (b : Batch) (start : ℕ) (done xs : List ℕ) (u : ℕ) → IsDescent b start done xs → Wants b (top_of xs) u → length xs < count_of b
 fits_below b start done xs u d wants =
     let some = d.some in

@@ -1,6 +1,6 @@
--- What the crates above cite of this crate's proofs. Each lemma is proved in the file of its subject.
+-- The lemmas of this crate that other crates cite. Each lemma is proved in the file of its subject.
 
--- which positions stand in a share, and in what is set aside of it
+-- the positions of a share, and the positions that its sweep defers
 pub use Rattle.bohm_exec.proofs.Coverage.{share_covers, share_inside, picked_contains}
--- a share gone through position by position
+-- a property of a share's positions, one position after another
 pub use Rattle.bohm_exec.proofs.Accounts.{next}

@@ -1,4 +1,4 @@
--- Cells at the places of their accesses, as far as a loop has come.
+-- Cells at the indices of their accesses, up to the current index of a loop.
 use Rattle.std.proofs.Common.{◌≡◌, ◌≢◌, ℕ, ◌+◌, ◌<◌, List, length, set, take, length-take, None, Some, refl, sym, ap, ◌∙◌, subst, arith}
 use Rattle.std.specs.Prelude.{Contains}
 use Rattle.std.specs.List.{slice_get}
@@ -31,7 +31,7 @@ in_front n xs j x at =
     let inside = simp length-take at within in
     slice_get-get_or xs j x (omega arith) ∙ ap Some (sym (get_or-take n xs j x (omega arith)) ∙ get_or_from_slice_get (take n xs) j x x at)
 
--- the version that a wanted access takes is earlier in the batch
+-- a version of the batch that a wanted access takes is made by an earlier transaction
 pub earlier_at : (b : Batch) (t : ℕ) (keys : DeclaredSet) (n : ℕ) (a : Access) (u : ℕ) → IsIn b t → WantsAllOf b t keys
     → slice_get (accesses_in keys b t) n ≡ Some a → a.source ≡ Within u → IsEarlier b t a u
 earlier_at b t keys n a u is wants at source = wanted_earlier b t a u is (wants a (contains_at (accesses_in keys b t) n a at)) source
@@ -46,16 +46,16 @@ within_of (Within u) j s e =
     let same : slot_of u j ≡ s = same_Some (slot_of u j) s (sym e) in
     (ap (λ (z : Slot). Within z.txn) same, ap (λ (z : Slot). slot_of z.txn j) (sym same) ∙ same)
 
--- the version stands before the batch
+-- the access takes no slot: its version is from before the batch
 pub taken_before : (accesses : List Access) (n : ℕ) (e : TakesSlot accesses n None) → e.access.source ≡ Before
 taken_before accesses n e = before_of e.access.source e.access.index e.taken
 
--- the version is of the batch
+-- the access takes a slot: its version is of the batch, in that slot
 pub taken_within : (accesses : List Access) (n : ℕ) (s : Slot) (e : TakesSlot accesses n (Some s))
     → (e.access.source ≡ Within s.txn) × (slot_in s.txn e.access ≡ s)
 taken_within accesses n s e = within_of e.access.source e.access.index s e.taken
 
--- ---- what is known and found of the accesses below a place
+-- ---- the accesses before an index: slots that are known, and cells that are right
 
 abbrev pub KnownBelow : Batch → View → List Access → ℕ → Type 0
 KnownBelow b v accesses n = (j : ℕ) (a : Access) (u : ℕ) → j < n → slice_get accesses j ≡ Some a → a.source ≡ Within u → IsKnown b v (slot_in u a)
@@ -85,7 +85,7 @@ not_both s u is_before is_within = cc
 same_within : (s : Source) (u w : ℕ) → s ≡ Within u → s ≡ Within w → u ≡ w
 same_within s u w e f = cc
 
--- of an access whose version stands before the batch nothing is wanted
+-- an access whose version is from before the batch requires no slot to be known
 pub known_base : (b : Batch) (v : View) (accesses : List Access) (n : ℕ) (a : Access) → Keeps v v → KnownBelow b v accesses n → slice_get accesses n ≡ Some a
     → a.source ≡ Before → KnownBelow b v accesses (n + 1)
 known_base b v accesses n a keeps below at is = known_next b v v accesses n a keeps below at (λ u other. absurd (not_both a.source u is other))
@@ -95,7 +95,7 @@ pub found_base : (b : Batch) (accesses : List Access) (cells : List Cell) (n : �
 found_base b accesses cells n a below at is = found_next b accesses cells cells n a (λ j ne. refl) below at
     (λ u c other _. absurd (not_both a.source u is other))
 
--- a version of the batch was seen
+-- an access whose version is of the batch requires its slot to have been seen filled
 pub known_within : (b : Batch) (v w : View) (accesses : List Access) (n : ℕ) (a : Access) (u : ℕ) → Keeps v w → KnownBelow b v accesses n
     → slice_get accesses n ≡ Some a → a.source ≡ Within u → IsKnown b w (slot_in u a) → KnownBelow b w accesses (n + 1)
 known_within b v w accesses n a u keeps below at is here =

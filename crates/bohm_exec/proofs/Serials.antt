@@ -29,7 +29,7 @@ serial_cell b t j c right = λ x k at key.
     own_right b (position b t) x at j (after (state_before b t) x k) (own_write (state_before b t) x j k key) in
     next_state b t x k at ∙ same_Some (after (state_before b t) x k) c (sym own ∙ right)
 
--- the cells of the `show`s are what is shown
+-- the cell of a `show` is the value that it shows, or absence
 pub show_at : (n : ℕ) (zs : List ℤ) (j : ℕ) → j < n → slice_get (show_cells n zs) j ≡ Some (shown zs j)
 show_at zero zs j l = absurd (omega arith)
 show_at (suc n) [] zero l = refl

@@ -1,4 +1,4 @@
--- A pass on its board, from steps to steps.
+-- Successive steps of a pass on its board, taken as one.
 use Rattle.std.proofs.Common.{◌∙◌, subst}
 use Rattle.std.specs.Borrow.{Bor}
 use Rattle.bohm_board.specs.declared.board.Board.{Board}

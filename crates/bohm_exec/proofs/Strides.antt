@@ -1,4 +1,4 @@
--- One number more in a filtered range.
+-- A range that is longer by one filters to one more number, or to the same numbers.
 use Rattle.std.proofs.Common.{◌≡◌, ℕ, zero, suc, ◌+◌, ◌-◌, ◌%◌, ◌∷◌, [], ◌++◌, List, Bool, cond, eqb, refl, ap, sym, ◌∙◌, arith, add-one, append-nil, ne_eqb}
 use Rattle.std.specs.List.{filter, range_with_len}
 use Rattle.std.proofs.lemmas.Bool.{eq-eqb}

@@ -1,4 +1,4 @@
--- What looks and fills change of a view, and what a batch's accesses say of it.
+-- Looks and fills in a view, and the accesses whose versions a position wants.
 use Rattle.std.proofs.Common.{◌≡◌, ℕ, ◌+◌, ◌<◌, ◌≤◌, List, [], ◌∷◌, ◌++◌, length, Bool, false, Option, None, Some, refl, sym, ap, ◌∙◌, subst, ⊎_elim, arith}
 use Rattle.std.specs.Prelude.{Contains, if◌then◌else◌}
 use Rattle.std.proofs.lemmas.List.Elements.{Contains-append_left, Contains-append_right, Contains-push, Contains-push_cases}
@@ -46,7 +46,7 @@ looks_on v w k (Some (Present z)) l = record {
   filled = l.filled;
 }
 
--- one more look
+-- after one more look, still nothing else has changed
 pub one_look : (v w u : View) (k : Slot) (answer : Option Cell) → LooksOnly v w → u ≡ after_look w k answer → LooksOnly v u
 one_look v w u k answer l e = subst (λ (z : View). LooksOnly v z) (sym e) (looks_on v w k answer l)
 
@@ -60,7 +60,7 @@ then_looks u v w a b = record {
   filled = b.filled ∙ a.filled;
 }
 
--- ---- what is wanted
+-- ---- the versions that a position wants
 
 pub few_in : (b : Batch) (set : DeclaredSet) (t : ℕ) → IsIn b t → length (accesses_in set b t) ≤ 16
 few_in b Reads t is =
@@ -80,7 +80,7 @@ writes_wanted b t unsure = λ a in_it.
     let P : Bool → Type 0 = λ s. Contains (reads_at b t ++ (if s then [] else writes_at b t)) a in
     subst P (sym unsure) (Contains-append_right (reads_at b t) (writes_at b t) a in_it)
 
--- the versions of the reads are known and, unless it is sure, those of the writes
+-- a position's wanted slots are known if those of its reads are and, unless it is sure, those of its writes
 pub knows_wanted : (b : Batch) (v : View) (t : ℕ) → KnowsAll b v (reads_at b t) → (is_sure_at b t ≡ false → KnowsAll b v (writes_at b t)) → KnowsWanted b v t
 knows_wanted b v t reads writes = λ a u in_it is. ⊎_elim
     (λ (c : Contains (reads_at b t) a). reads a u c is)
@@ -111,17 +111,17 @@ fills_on : (v w : View) (k : Slot) (c : Cell) → FillsOnly v w → FillsOnly v 
 fills_on v w k Absent f = (record { right = f.right; done = f.done; busy = f.busy; absent = f.absent; present = f.present; held = f.held }, refl)
 fills_on v w k (Present z) f = (record { right = f.right; done = f.done; busy = f.busy; absent = f.absent; present = f.present; held = f.held }, refl)
 
--- one more fill
+-- after one more fill, still nothing else has changed, and the slot is the last one filled
 pub one_fill : (v w u : View) (k : Slot) (c : Cell) → FillsOnly v w → u ≡ after_fill w k c → FillsOnly v u × (u.filled ≡ w.filled ++ k ∷ [])
 one_fill v w u k c f e = subst (λ (z : View). FillsOnly v z × (z.filled ≡ w.filled ++ k ∷ [])) (sym e) (fills_on v w k c f)
 
--- a position's known slots stay known while it is filled
+-- wanted slots that are known stay known while the position's own slots are filled
 pub wanted_stays : (b : Batch) (v w : View) (t : ℕ) → w.absent ≡ v.absent → w.present ≡ v.present → KnowsWanted b v t → KnowsWanted b w t
 wanted_stays b v w t absent present knows = λ a u in_it is.
     let P : List Slot → Type 0 = λ xs. Contains xs (slot_in u a) in
     subst P (λ i. sym absent i ++ sym present i) (knows a u in_it is)
 
--- the slots of t below the j-th, and the j-th
+-- with slot j of t added, all filled slots have an index below j + 1
 pub below_fill : (xs : List Slot) (t j : ℕ) → ((x : Slot) → Contains xs x → x.index < j) → (x : Slot) → Contains (xs ++ slot_of t j ∷ []) x → x.index < j + 1
 below_fill xs t j all x c = ⊎_elim (λ (h : Contains xs x). let l = all x h in omega arith)
     (λ (e : slot_of t j ≡ x). let same : j ≡ x.index = ap (λ (z : Slot). z.index) e in omega arith) (Contains-push_cases xs (slot_of t j) x c)

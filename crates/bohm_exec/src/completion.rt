@@ -81,6 +81,7 @@ pub fn complete<'a>(mut closed: Closed<'a>, asides: &[Aside], scratch: &mut Scra
         IsIn (batch_of_closed closed) t → IsUnfinished closed t → IsSetAside asides.now t }
     ensures batch { batch_of_finished result ≡ batch_of_closed closed.entry }
 {
+    // Only the contract needs them.
     let _ = asides;
     let mut evaluator = Evaluator::new(scratch);
     let (first, len) = (closed.batch().first(), closed.batch().len());

@@ -1,4 +1,4 @@
--- Depths in bands: which band a depth is in, how many bands there are, and how deep the deepest is.
+-- Depths in bands: the band of a depth, the number of bands, and the greatest depth.
 use Rattle.std.proofs.Common.{◌≡◌, ◌∙◌, ℕ, zero, suc, ◌+◌, ◌-◌, ◌*◌, ◌/◌, ◌%◌, ◌<◌, ◌≤◌, min, List, [], ◌∷◌}
 use Rattle.std.proofs.Common.{length, get_or, set, take, count_by, All, true, false, sym, ap, subst, ⊎_elim, arith}
 use Rattle.std.proofs.Math.Nat.{mod-lt}
@@ -41,7 +41,7 @@ module _ (deepest width k d : ℕ) (wide : 0 < width) (least : 1 ≤ d) (most : 
       and_right _ _ (lt-leb d (min deepest ((k + 1) * width)) high))
       order) (cases_order q k)
 
--- ---- one depth more is counted
+-- ---- the counts after one more depth
 
 module _ (deepest width : ℕ) (ds : List ℕ) (each : All (IsBetween 1 deepest) ds) (deep : deepest ≤ width * 200) where
   pub band_below : (i : ℕ) → i < length ds → (get_or ds i 0 - 1) / width < 200
@@ -76,7 +76,7 @@ module _ (deepest width : ℕ) (ds : List ℕ) (each : All (IsBetween 1 deepest)
       ∙ sym (count_by_more_no (is_in (band_at deepest width k)) ds i 0 inside (outside deepest width k d wide least most (λ same. apart (sym same))))))
       (cases_eq k q)
 
--- ---- so few bands
+-- ---- at most 200 bands
 
 pub few_bands : (deepest width : ℕ) → 0 < width → deepest ≤ width * 200 → div_ceil deepest width ≤ 200
 few_bands deepest width wide deep =
@@ -86,7 +86,7 @@ few_bands deepest width wide deep =
     (λ (above : 201 ≤ count). let more : 201 * width ≤ count * width = mul-le 201 width count width above (omega arith) in absurd (omega arith))
     (cases_lt count 201)
 
--- ---- the deepest
+-- ---- the greatest depth
 
 pub at_most_greatest : (ds : List ℕ) → All (λ d. d ≤ greatest ds) ds
 at_most_greatest [] i d inside = absurd (omega (arith, inside))

@@ -1,4 +1,4 @@
--- The arrows of one position more.
+-- The arrows to the positions up to p: those below p, those for p's reads and, unless p is sure, for its writes.
 use Rattle.std.proofs.Common.{◌≡◌, ℕ, ◌+◌, List, [], ◌++◌, Bool, true, false, cond, Some, slice_get}
 use Rattle.std.proofs.Common.{unwrap_or, option_map, sym, ap, ◌∙◌, append_assoc, append-nil, add-one}
 use Rattle.bohm_types.specs.Txn.{Txn}

@@ -1,4 +1,4 @@
--- The heaviest chains are chains, and none is heavier.
+-- The weights in `heaviest_to` and `heaviest_from` are weights of chains, and no chain is heavier.
 use Rattle.std.proofs.Common.{◌≡◌, ℕ, zero, suc, ◌+◌, ◌<◌, ◌≤◌, ◌⊎◌, ◌==◌, false, replicate, List, [], ◌∷◌, ◌++◌, length}
 use Rattle.std.proofs.Common.{slice_index, slice_index_or, sum_by, All, Contains, inl, inr, ⊎_elim, refl, sym, ap, subst, ◌∙◌, arith}
 use Rattle.std.proofs.lemmas.Bool.{cases_eq, cases_lt}
@@ -17,10 +17,10 @@ further x xs y (k, low, is) = (suc k, omega arith, is)
 front : {A : Type 0} (x : A) (xs : List A) → Contains (x ∷ xs) x
 front x xs = (zero, omega arith, refl)
 
--- ---- the greatest number at the other ends
+-- ---- the greatest number at the other ends of a position's arrows
 
 module _ (here there : Arrow → ℕ) (number : ℕ → ℕ) (p : ℕ) where
-  -- of the arrows that have one end at p, one has this number at its other end
+  -- n is 0, or the number at the end `there` of an arrow whose end `here` is p
   abbrev Reaches : List Arrow → ℕ → Type 0
   Reaches arrows n = (n ≡ 0) ⊎ ((a : Arrow) × Contains arrows a × (here a ≡ p) × (number (there a) ≡ n))
 
@@ -60,22 +60,22 @@ module _ (here there : Arrow → ℕ) (number : ℕ → ℕ) (p : ℕ) where
   )
   reached (b ∷ rest) a (suc k) low is at = let before = reached rest a k (omega arith) is at in omega (arith, before, no_less b rest)
 
--- ---- chains
+-- ---- chains that are extended, joined and split
 
 module _ (n : ℕ) (arrows : List Arrow) where
-  -- one position more at the end
+  -- a position that wants a version of a chain's last position extends the chain
   pub longer : (p : ℕ) (rest : List ℕ) (q : ℕ) → IsChainFrom n arrows p rest → IsWantedBy arrows (last_of p rest) q → q < n
       → IsChainFrom n arrows p (rest ++ q ∷ [])
   longer p [] q inside leads low = (inside, leads, low)
   longer p (r ∷ rest) q chain leads low = (chain.0, chain.1, longer r rest q chain.2 leads low)
 
-  -- a chain behind another
+  -- two chains make one if the second's first position wants a version of the first's last position
   pub linked : (p : ℕ) (rest : List ℕ) (q : ℕ) (after : List ℕ) → IsChainFrom n arrows p rest → IsWantedBy arrows (last_of p rest) q
       → IsChainFrom n arrows q after → IsChainFrom n arrows p (rest ++ q ∷ after)
   linked p [] q after inside leads more = (inside, leads, more)
   linked p (r ∷ rest) q after chain leads more = (chain.0, chain.1, linked r rest q after chain.2 leads more)
 
-  -- both parts of a chain are chains
+  -- the two parts of a split chain are chains
   pub parted : (p : ℕ) (rest : List ℕ) (q : ℕ) (after : List ℕ) → IsChainFrom n arrows p (rest ++ q ∷ after)
       → IsChainFrom n arrows p rest × IsChainFrom n arrows q after
   parted p [] q after chain = (chain.0, chain.2)
@@ -85,7 +85,7 @@ last_more : (p : ℕ) (rest : List ℕ) (q : ℕ) → last_of p (rest ++ q ∷ [
 last_more p [] q = refl
 last_more p (r ∷ rest) q = last_more r rest q
 
--- a chain that goes on where another ends
+-- two chains make one if the second begins with the first's last position
 met : (n : ℕ) (arrows : List Arrow) (p : ℕ) (rest after : List ℕ) → IsChainFrom n arrows p rest
     → IsChainFrom n arrows (last_of p rest) after → IsChainFrom n arrows p (rest ++ after)
 met n arrows p [] after chain more = more
@@ -95,7 +95,7 @@ has_last : (p : ℕ) (rest after : List ℕ) → Contains ((p ∷ rest) ++ after
 has_last p [] after = front p after
 has_last p (r ∷ rest) after = further p ((r ∷ rest) ++ after) (last_of r rest) (has_last r rest after)
 
--- ---- the greatest of a list
+-- ---- the greatest number of a list
 
 attained : (xs : List ℕ) → 0 < length xs → (k : ℕ) × (k < length xs) × (slice_index xs k ≡ greatest xs)
 attained [] some = absurd (omega arith)
@@ -109,7 +109,7 @@ at_most [] k = omega arith
 at_most (x ∷ xs) zero = omega arith
 at_most (x ∷ xs) (suc k) = let rest = at_most xs k in omega (arith, rest)
 
--- ---- the rule of each position
+-- ---- the heaviest chains over rising arrows
 
 module _ (weights : List ℕ) (n : ℕ) (paired : length weights ≡ n) (arrows : List Arrow) (rises : AreRising 0 arrows) (inside : All (IsInside n) arrows) where
   abbrev own : ℕ → ℕ
@@ -148,7 +148,7 @@ module _ (weights : List ℕ) (n : ℕ) (paired : length weights ≡ n) (arrows 
   own_to : (p : ℕ) → p < n → own p ≤ to p
   own_to p low = let rule = rule_to weights arrows p rises (omega (arith, paired, low)) in omega (arith, rule)
 
-  -- what stands before p weighs m at most
+  -- if m is at most `to p`, then m plus the weights after p is at most `to` of the chain's last position
   behind_to : (p : ℕ) (rest : List ℕ) (m : ℕ) → IsChainFrom n arrows p rest → m ≤ to p → m + sum_by own rest ≤ to (last_of p rest)
   behind_to p [] m chain low = omega (arith, low)
   behind_to p (q ∷ rest) m chain low =
@@ -256,7 +256,7 @@ module _ (weights : List ℕ) (n : ℕ) (paired : length weights ≡ n) (arrows 
             from_one_more p a has at (omega (arith, rule, same)) low later
       ]
 
-  -- ---- chains by an arrow
+  -- ---- chains through an arrow
 
   pub none_by : (p q : ℕ) (chain : List ℕ) → IsChain n arrows chain × LeadsOn p q chain → weight_of weights chain ≤ to p + from q
   none_by p q chain (is, leads_on) =
@@ -288,7 +288,7 @@ module _ (weights : List ℕ) (n : ℕ) (paired : length weights ≡ n) (arrows 
         none_above = none_by a.from a.to;
       }
 
-  -- ---- any chains
+  -- ---- the heaviest of all chains
 
   pub chain_of_all : 0 < n → IsGreatest (weight_of weights) (IsChain n arrows) (greatest (heaviest_to weights arrows))
   chain_of_all some =
@@ -313,9 +313,9 @@ module _ (weights : List ℕ) (n : ℕ) (paired : length weights ≡ n) (arrows 
           let most = at_most (heaviest_to weights arrows) (last_of q rest) in
           omega (arith, low, most)
 
-  -- ---- chains with a position in them
+  -- ---- chains through a position
 
-  -- what stands before the chain weighs m at most, with its first position
+  -- if m and x weigh at most `to x`, then m, a chain from x through p, and p again weigh at most `to p` plus `from p`
   by_position : (p k m x : ℕ) (rest : List ℕ) → k < length (x ∷ rest) → slice_index_or (x ∷ rest) k p ≡ p → IsChainFrom n arrows x rest
       → m + own x ≤ to x → m + weight_of weights (x ∷ rest) + own p ≤ to p + from p
   by_position p zero m x rest low at chain before =
@@ -344,7 +344,7 @@ module _ (weights : List ℕ) (n : ℕ) (paired : length weights ≡ n) (arrows 
         omega (arith, joined, l, r, sum_by-cons own t.first t.rest),
       )
 
--- ---- where each position weighs 1
+-- ---- chains whose positions weigh 1 each
 
 alike_at : (n p : ℕ) → p < n → slice_index (replicate n 1) p ≡ 1
 alike_at n p low = get_or-replicate {A = ℕ} n p 1 0 low

@@ -14,13 +14,13 @@ use Rattle.bohm_explain.specs.Figures.{batch_at, batch_count}
 use Rattle.bohm_explain.specs.Heats.{Chained}
 use Rattle.bohm_explain.specs.Tallies.{CanTake, IsGathered}
 
--- the batches before one, and it, are those up to it
+-- the log up to batch i, followed by that batch, is the log up to batch i + 1
 pub joined : (size : ℕ) (log : List Txn) (i : ℕ) → take (i * size) log ++ batch_at size log i ≡ take ((i + 1) * size) log
 joined size log i =
     let next : (i + 1) * size ≡ i * size + size = omega arith in
     sym (ap (λ n. take n log) next ∙ take-add (i * size) size log)
 
--- all of them are the log
+-- all batches together are the whole log
 pub whole : (size : ℕ) (log : List Txn) (i : ℕ) → 1 ≤ size → batch_count size log ≤ i → take (i * size) log ≡ log
 whole size log i size_ok past =
     let n = length log + (size - 1) in
@@ -29,7 +29,7 @@ whole size log i size_ok past =
     let most : n / size * size ≤ i * size = mul-le-mul_right size past in
     take_all (i * size) log (omega (arith, parts, rest, most))
 
--- each of them has a transaction
+-- no batch is empty
 pub not_empty : (size : ℕ) (log : List Txn) (i : ℕ) → 1 ≤ size → i < batch_count size log → 0 < length (batch_at size log i)
 not_empty size log i size_ok low =
     let n = length log + (size - 1) in
@@ -38,7 +38,7 @@ not_empty size log i size_ok low =
     let most : (i + 1) * size ≤ n / size * size = mul-le-mul_right size (omega (arith, low)) in
     omega (arith, parts, next, most, length-take size (drop (i * size) log), length-drop (i * size) log)
 
--- a gathering of a log has room for transactions, as long as a log has no more than its counters hold
+-- n more transactions can be noted if the log, with these, has fewer than 2^32, so that no counter overflows
 pub can_take : (log : List Txn) (batches : List Chained) (g : Gathering) (n : ℕ) → IsGathered log batches g → length log + n < 2 ^ 32 → CanTake n g
 can_take log batches g n all few Reads k =
     let most = count_by-le-length (λ t. is_among t.reads k) log in

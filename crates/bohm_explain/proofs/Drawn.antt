@@ -1,4 +1,4 @@
--- What is told of a batch's chains.
+-- The depths, heights and marks of a batch's transactions agree with its longest and heaviest chains.
 use Rattle.std.proofs.Common.{◌≡◌, ◌↔◌, ◌∙◌, ℕ, ◌+◌, ◌<◌, ◌==◌, List, length, true, false, slice_index, slice_index_or, All, Contains, sym, arith}
 use Rattle.std.proofs.lemmas.Bool.{eqb-true, eq-eqb}
 use Rattle.std.proofs.lemmas.List.{get_or-replicate, length-replicate, length-map}
@@ -43,7 +43,7 @@ module _ (txns : List Txn) where
   pub heaviest_is : 0 < n → IsGreatest (weight_of (weights txns)) (IsChainOf txns) (greatest (heaviest_to (weights txns) (arrows txns)))
   heaviest_is some = chain_of_all (weights txns) n (length-map txns weight) (arrows txns) (rising txns) inside some
 
-  -- ---- on a longest chain
+  -- ---- transactions on a longest chain
 
   module _ (p : ℕ) (low : p < n) where
     abbrev d : ℕ
@@ -59,7 +59,7 @@ module _ (txns : List Txn) where
     one : slice_index (alike txns) p ≡ 1
     one = get_or-replicate {A = ℕ} n p 1 0 low
 
-    -- the longest chain with p in it
+    -- a longest chain through p: its length plus 1 is p's depth plus p's height
     pub on_one : (chain : List ℕ) × IsChainOf txns chain × Contains chain p × (length chain + 1 ≡ both_ways)
     on_one =
         let (chain, is, has, weighs) = chain_past (alike txns) n as_many (arrows txns) (rising txns) inside p low in

@@ -1,4 +1,4 @@
--- What is known of the first elements of a list, one element further.
+-- Sums and tests over the first elements of a list, with one more element.
 use Rattle.std.proofs.Common.{◌≡◌, ℕ, ◌+◌, Bool, ◌||◌, List, take, Some, slice_get, sum_by, ap, ◌∙◌}
 use Rattle.std.specs.List.{list_any}
 use Rattle.std.proofs.lemmas.List.Folds.{list_any_more}

@@ -5,7 +5,7 @@ use Rattle.std.proofs.Math.Nat.{max-le}
 use Rattle.bohm_place.specs.Chains.{greatest}
 use Rattle.bohm_explain.specs.declared.arrow.Arrow.{Arrow}
 
--- for either end
+-- of the arrows whose end `here` is p, the greatest number at their end `there`, or 0
 abbrev pub picked : (Arrow → ℕ) → (Arrow → ℕ) → (ℕ → ℕ) → List Arrow → ℕ → ℕ
 picked here there number arrows p = greatest (map (λ a. number (there a)) (filter (λ a. here a == p) arrows))
 
@@ -17,7 +17,7 @@ module _ (here there : Arrow → ℕ) where
   pub passed : (number : ℕ → ℕ) (a : Arrow) (rest : List Arrow) (p : ℕ) → here a ≢ p → picked here there number (a ∷ rest) p ≡ picked here there number rest p
   passed number a rest p isnt = rw (ne_eqb (here a) p isnt) refl
 
-  -- two ways to number agree on one arrow more
+  -- two numberings with the same greatest number still have the same after one more arrow on which they agree
   pub agrees : (f g : ℕ → ℕ) (a : Arrow) (rest : List Arrow) (p : ℕ) → (here a ≡ p → f (there a) ≡ g (there a))
       → picked here there f rest p ≡ picked here there g rest p → picked here there f (a ∷ rest) p ≡ picked here there g (a ∷ rest) p
   agrees f g a rest p same before = ⊎_elim at_p elsewhere (cases_eq (here a) p)
@@ -28,7 +28,7 @@ module _ (here there : Arrow → ℕ) where
       elsewhere : here a ≢ p → picked here there f (a ∷ rest) p ≡ picked here there g (a ∷ rest) p
       elsewhere isnt = passed f a rest p isnt ∙ (before ∙ sym (passed g a rest p isnt))
 
-  -- where no number is above m, the greatest isn't
+  -- the greatest number stays at most m with one more arrow whose number is at most m
   no_more : (number : ℕ → ℕ) (m : ℕ) (a : Arrow) (rest : List Arrow) (p : ℕ) → number (there a) ≤ m → picked here there number rest p ≤ m
       → picked here there number (a ∷ rest) p ≤ m
   no_more number m a rest p low before = ⊎_elim at_p elsewhere (cases_eq (here a) p)

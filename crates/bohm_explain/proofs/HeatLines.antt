@@ -1,4 +1,4 @@
--- The lines where there is a heat.
+-- The lines of the hottest keys, for a list that isn't empty.
 use Rattle.std.proofs.Common.{◌≡◌, ◌<◌, List, [], ◌∷◌, ◌++◌, length, refl, arith}
 use Rattle.std.specs.List.{flat_map}
 use Rattle.bohm_explain.specs.declared.heat.Heat.{Heat}

@@ -1,4 +1,4 @@
--- Each arrow leads to a later position of the batch, so both its ends are positions of it.
+-- Each arrow leads to a later position of the batch, so both ends are in the batch.
 use Rattle.std.proofs.Common.{◌≡◌, ℕ, zero, suc, ◌<◌, ◌≤◌, List, [], ◌∷◌, All, Bool, true, false, cond, Option, Some, None, option_map, refl, arith}
 use Rattle.std.specs.List.{filter_map, cons_option}
 use Rattle.std.proofs.lemmas.List.Elements.{All-append}
@@ -8,7 +8,7 @@ use Rattle.bohm_explain.specs.declared.arrow.Arrow.{Arrow}
 use Rattle.bohm_explain.specs.Heaviest.{IsInside}
 use Rattle.bohm_explain.specs.Wanted.{writes_at, newest_before, arrow_of, arrows_below, arrows_at, is_sure_at, keys_at}
 
--- the arrow leads to a later one of so many positions
+-- the arrow leads to a later position, one of the first n
 abbrev pub IsForward : ℕ → Arrow → Type 0
 IsForward n a = (a.from < a.to) × (a.to < n)
 

@@ -1,4 +1,4 @@
--- The items of a list in JSON, one item more.
+-- The items of a list in JSON, with one more item.
 use Rattle.std.proofs.Common.{◌≡◌, ◌∙◌, ℕ, ◌+◌, ◌<◌, List, ◌++◌, length, drop, get_or, ap, sym, append_assoc}
 use Rattle.std.proofs.lemmas.List.{get_or_default}
 use Rattle.bohm_txn.proofs.ForCallers.{front}

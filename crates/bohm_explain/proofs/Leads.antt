@@ -1,4 +1,4 @@
--- The first key on the longest chain, one heat more.
+-- The longest chain of some heats, and the first key that has this chain, with one more heat.
 use Rattle.std.proofs.Common.{◌≡◌, ◌≢◌, ◌∙◌, ℕ, zero, suc, ◌+◌, ◌<◌, ◌≤◌, max, List, [], ◌∷◌, ◌++◌, take}
 use Rattle.std.proofs.Common.{length, get_or, Bool, true, false, cond, eqb, Some, None, refl, sym, ap, arith}
 use Rattle.std.specs.List.{find}
@@ -11,14 +11,14 @@ pub longest_push : (xs : List Heat) (h : Heat) → longest (xs ++ h ∷ []) ≡ 
 longest_push [] h = omega arith
 longest_push (x ∷ xs) h = let more = longest_push xs h in omega (arith, more)
 
--- none reaches above the longest
+-- no heat has a chain that is longer than the longest
 above : (xs : List Heat) (n : ℕ) → longest xs < n → find (λ h. eqb h.chain n) xs ≡ None
 above [] n lt = refl
 above (x ∷ xs) n lt =
     let apart : eqb x.chain n ≡ false = grind (arith, lt) in
     rw apart (above xs n (omega (arith, lt)))
 
--- some reaches it
+-- some heat has the longest chain, if that isn't 0
 reached : (xs : List Heat) (n : ℕ) → 0 < n → n ≡ longest xs → (y : Heat) × (find (λ h. eqb h.chain n) xs ≡ Some y)
 reached [] n some is = absurd (omega (arith, some, is))
 reached (x ∷ xs) n some is = by (eqb x.chain n) refl (reached xs n some)

@@ -1,4 +1,4 @@
--- What is drawn beside the bands, and what is left for them.
+-- The arrows found for a drawn chain, and the depths of the transactions that aren't drawn.
 use Rattle.std.proofs.Common.{◌≡◌, ℕ, zero, suc, ◌==◌, ◌<◌, ◌≤◌, Bool, true, false, Some, List, [], ◌∷◌, ◌++◌}
 use Rattle.std.proofs.Common.{length, slice_index, All, length-append, if◌then◌else◌, refl, subst, arith}
 use Rattle.std.specs.List.{find, list_any}
@@ -6,7 +6,7 @@ use Rattle.std.proofs.lemmas.List.Elements.{All-append}
 use Rattle.bohm_explain.specs.declared.arrow.Arrow.{Arrow}
 use Rattle.bohm_explain.specs.Picture.{others_below}
 
--- what holds of all arrows holds of one that is found
+-- a property of all arrows holds for the one that a search finds
 pub found : (test : Arrow → Bool) (P : Arrow → Type 0) (as' : List Arrow) (a : Arrow) → All P as' → find test as' ≡ Some a → P a
 found test P [] a all is = absurd (cc)
 found test P (b ∷ rest) a all is = by (found test P rest a (λ k d low. all (suc k) d (omega (arith, low)))) (test b) refl
@@ -19,7 +19,7 @@ module _ (drawn depths : List ℕ) where
   abbrev left : ℕ → List ℕ
   left p = others_below drawn depths p
 
-  -- no more are left than there are
+  -- the positions below p have at most p depths that aren't drawn
   pub few_others : (p : ℕ) → length (left p) ≤ p
   few_others zero = omega arith
   few_others (suc p) = by (few_others p) (list_any (λ q. q == p) drawn)
@@ -28,7 +28,7 @@ module _ (drawn depths : List ℕ) where
       by low true = omega (arith, low, length-append (left p) [])
       by low false = omega (arith, low, length-append (left p) (slice_index depths p ∷ []))
 
-  -- what holds of all depths holds of those that are left
+  -- a property of all depths holds for those that aren't drawn
   pub all_others : (P : ℕ → Type 0) → ((k : ℕ) → k < length depths → P (slice_index depths k)) → (p : ℕ) → p ≤ length depths → All P (left p)
   all_others P each zero low = λ k d none. absurd (omega (arith, none))
   all_others P each (suc p) low = by (all_others P each p (omega (arith, low))) (list_any (λ q. q == p) drawn)

@@ -1,4 +1,4 @@
--- The list of the heats.
+-- The entries of a log's tallies, listed as heats, are the heats of the log's keys.
 use Rattle.std.proofs.Common.{◌≡◌, ℕ, zero, suc, Bool, true, false, List, [], ◌∷◌, map, Some, unwrap_or, is_some, All, refl, sym, ap, ◌∙◌, arith}
 use Rattle.std.specs.List.{AllByRecursion, IsDistinct, slice_get}
 use Rattle.std.specs.Map.{keys_of, lookup}
@@ -21,7 +21,7 @@ Entries = List (List ℕ × Tally)
 abbrev pub entry_heat : List ℕ × Tally → Heat
 entry_heat e = record { key = e.0; writers = e.1.writers; readers = e.1.readers; chain = e.1.chain }
 
--- ---- the keys
+-- ---- the keys of the entries
 
 keys_same : (es : Entries) → heats.keys_of (map entry_heat es) ≡ keys_of es
 keys_same [] = refl
@@ -45,7 +45,7 @@ listed : (k : List ℕ) (es : Entries) → is_among (keys_of es) k ≡ is_some (
 listed k [] = refl
 listed k (e ∷ es) = listed_by k e es (bytes_eq k e.0) refl (listed k es)
 
--- ---- the heats
+-- ---- the heat of each entry
 
 each : (P : Heat → Type 0) (es : Entries) → ((i : ℕ) (k : List ℕ) (t : Tally) → slice_get es i ≡ Some (k, t) → P (entry_heat (k, t)))
     → All P (map entry_heat es)

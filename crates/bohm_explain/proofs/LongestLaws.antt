@@ -1,4 +1,4 @@
--- The longest chain of a log, a batch at a time.
+-- The longest chain of a log, found batch by batch.
 use Rattle.std.proofs.Common.{◌≡◌, ◌∙◌, ℕ, ◌+◌, ◌*◌, ◌<◌, ◌≤◌, ◌⊎◌, List, [], ◌∷◌, length, inl, inr, ⊎_elim, refl, sym, ap, subst, arith}
 use Rattle.std.proofs.lemmas.Bool.{cases_lt}
 use Rattle.std.proofs.lemmas.List.{length-map}
@@ -11,7 +11,7 @@ use Rattle.bohm_explain.specs.Printed.{IsLongestChain, IsPlacedChain}
 use Rattle.bohm_explain.proofs.Drawn.{depth_is}
 
 module _ (size : ℕ) (log : List Txn) where
-  -- of the first n batches
+  -- an empty list or a chain of the log, at least as long as any chain of the first n batches
   pub record IsLongestBelow (n : ℕ) (places : List ℕ) : Type 0 where
     pub placed : (places ≡ []) ⊎ IsPlacedChain size log places
     pub none_longer : (i : ℕ) → i < n → greatest (depths (batch_at size log i)) ≤ length places
@@ -38,13 +38,13 @@ module _ (size : ℕ) (log : List Txn) where
     pub one_more : (txns : List Txn) → txns ≡ batch_at size log i → IsLonger (i * size + 1) txns old new → IsLongestBelow (i + 1) new
     one_more txns is longer = ⊎_elim kept taken (subst (λ (b : List Txn). IsLonger (i * size + 1) b old new) is longer)
 
-  -- a chain has a transaction
+  -- a batch that has a chain has a transaction
   some : (txns : List Txn) (chain : List ℕ) → IsChainOf txns chain → 0 < length txns
   some txns [] is = absurd is
   some txns (p ∷ []) low = omega (arith, low)
   some txns (p ∷ q ∷ rest) is = let low = is.0 in omega (arith, low)
 
-  -- of all batches
+  -- a longest chain of all batches is a longest chain of the log
   pub of_all : (n : ℕ) (places : List ℕ) → n ≡ batch_count size log → IsLongestBelow n places → IsLongestChain size log places
   of_all n places last h = record {
     placed = h.placed;

@@ -1,4 +1,4 @@
--- A batch more in what is counted of a log's keys.
+-- The counts of a log's keys after one more batch.
 use Rattle.std.proofs.Common.{◌≡◌, ℕ, zero, suc, ◌+◌, Bool, true, false, cond, ◌||◌, List, [], ◌∷◌, ◌++◌, length, Option}
 use Rattle.std.proofs.Common.{Some, None, option_map, unwrap_or, slice_get, All, refl, sym, ap, subst, ◌∙◌, get_or}
 use Rattle.std.specs.List.{filter_map, cons_option, list_any}
@@ -22,7 +22,7 @@ use Rattle.bohm_explain.specs.Wanted.{arrow_of, arrows, arrows_at, arrows_below,
 use Rattle.bohm_explain.proofs.Inside.{all_cons}
 use Rattle.bohm_explain.proofs.Raising.{chain_push}
 
--- ---- transactions and a batch more
+-- ---- the counts after one more batch
 
 counted_more : (k : List ℕ) (log txns : List Txn) (batches : List Chained) (batch : Chained) (old mid new : Tally)
     → old ≡ record { writers = writers_of k log; readers = readers_of k log; chain = chain_of k batches }
@@ -43,7 +43,7 @@ tallied_more log txns batches batch old mid new all counts listed chains same = 
   listed = λ k. same k ∙ (listed k ∙ (ap (λ (b : Bool). b || list_any (declares k) txns) (all.listed k) ∙ sym (list_any-append (declares k) log txns)));
 }
 
--- ---- the key of an arrow is declared
+-- ---- a transaction declares the key of each arrow
 
 declares_in : (set : DeclaredSet) (t : Txn) (k : List ℕ) → is_among (keys_in set t) k ≡ true → declares k t ≡ true
 declares_in Reads t k h = rw h refl

@@ -1,4 +1,4 @@
--- Pieces put one behind another are the whole.
+-- Texts that are appended one after another make the whole text.
 use Rattle.std.proofs.Common.{◌≡◌, ℕ, List, ◌++◌}
 use Rattle.bohm_explain.proofs.Texts.{one_more}
 

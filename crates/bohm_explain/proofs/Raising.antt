@@ -1,4 +1,4 @@
--- The longest chains of keys, one arrow on.
+-- The longest chains of keys after one more arrow.
 use Rattle.std.proofs.Common.{◌≡◌, ℕ, Bool, true, false, List, [], ◌∷◌, ◌++◌, max, length, refl, ap, arith, if◌then◌else◌, ◌⊎◌, inl, inr}
 use Rattle.std.specs.List.{zip}
 use Rattle.std.specs.Str.{bytes_eq}
@@ -21,7 +21,7 @@ pub raised_arrow : (k : List ℕ) (a : Arrow) (n : ℕ) (rest : Chained) (old ne
     → raised new (chain_in k rest) ≡ raised old (chain_in k ((a, n) ∷ rest))
 raised_arrow k a n rest old new is = raised_by k a n rest old new (bytes_eq a.key k) refl is
 
--- where one list has ended no arrow is left
+-- without arrows, or without numbers, no key has a chain
 pub no_chain : (k : List ℕ) (arrows : List Arrow) (ns : List ℕ) → (length arrows ≡ 0) ⊎ (length ns ≡ 0) → chain_in k (zip arrows ns) ≡ 0
 no_chain k [] ns e = refl
 no_chain k (a ∷ more) [] e = refl
@@ -31,7 +31,7 @@ no_chain k (a ∷ more) (n ∷ ns) (inr e) = absurd (omega arith)
 pub raised_none : (t : Tally) → raised t 0 ≡ t
 raised_none t = let same : max t.chain 0 ≡ t.chain = omega arith in ap (λ (c : ℕ). record { writers = t.writers; readers = t.readers; chain = c }) same
 
--- ---- a batch more
+-- ---- the longest chain after one more batch
 
 pub chain_push : (k : List ℕ) (batches : List Chained) (batch : Chained) → chain_of k (batches ++ batch ∷ []) ≡ max (chain_of k batches) (chain_in k batch)
 chain_push k [] batch = let same : max (chain_in k batch) 0 ≡ max 0 (chain_in k batch) = omega arith in same

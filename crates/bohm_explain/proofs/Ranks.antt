@@ -1,4 +1,4 @@
--- The order of heats: each of a ranked list is hotter than those behind it, and there is one such list.
+-- The order of heats: in a ranked list each heat is hotter than those after it, and only one list is ranked.
 use Rattle.std.proofs.Common.{◌≡◌, ◌≢◌, ◌⊎◌, ◌∙◌, ℕ, zero, suc, ◌<◌, List, [], ◌∷◌, length, map, get_or, false, refl, sym, ap, subst, inl, inr, arith}
 use Rattle.std.specs.declared.cmp.Ordering.{Ordering}
 use Rattle.std.specs.declared.cmp.Ordering.TheVariants.{Less, Equal, Greater}
@@ -26,7 +26,7 @@ in_order = then_total (then_total (back_total (on_total accesses nat_cmp_total))
 pub weakly : IsStrictWeakOrder (λ x y. is_lt (rank_cmp x y))
 weakly = ranks_by in_order (λ h. h)
 
--- ---- after a sort
+-- ---- a sorted list is ranked
 
 last_ties : (a b : Ordering) → ordering_then a b ≡ Equal → b ≡ Equal
 last_ties Less b h = absurd cc
@@ -58,7 +58,7 @@ strictly xs sorted distinct i j d before inside =
 pub moved_apart : (xs ys : List Heat) → IsPermutation xs ys → IsDistinct bytes_eq (map (λ h. h.key) xs) → IsDistinct bytes_eq (map (λ h. h.key) ys)
 moved_apart xs ys moved distinct = IsDistinct-IsPermutation bytes_eq nat_list_eq_equiv.symm _ _ (IsPermutation-map (λ h. h.key) xs ys moved) distinct
 
--- ---- one list
+-- ---- only one list is ranked
 
 one_way : (h g : Heat) → IsHotter h g → IsHotter g h → ⊥
 one_way h g first second =

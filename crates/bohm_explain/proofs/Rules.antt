@@ -1,4 +1,4 @@
--- The rule of the heaviest chains: of each position its own weight, and the greatest at the other ends of its arrows.
+-- The rule of the heaviest chains: a position's own weight, plus the greatest one at the other ends of its arrows.
 use Rattle.std.proofs.Common.{◌≡◌, ℕ, zero, suc, ◌+◌, ◌-◌, ◌*◌, ◌^◌, ◌<◌, ◌≤◌, List, [], ◌∷◌, ◌++◌, length}
 use Rattle.std.proofs.Common.{slice_index, All, ⊎_elim, refl, sym, ap, ◌∙◌, arith, zero-add, length-append}
 use Rattle.std.proofs.lemmas.Bool.{cases_lt}
@@ -9,23 +9,23 @@ use Rattle.bohm_explain.specs.declared.arrow.Arrow.{Arrow}
 use Rattle.bohm_explain.specs.Heaviest.{AreRising, greatest_wanted, greatest_wanting, ending_below, heaviest_to, beginning_from, heaviest_from}
 use Rattle.bohm_explain.proofs.Greatest.{agrees, bounded}
 
--- ---- what counts for a position
+-- ---- the numbers that a position's greatest number depends on
 
--- below it, where its arrows come from
+-- numberings that agree below p have the same greatest number among the positions whose versions p wants
 wanted_same : (f g : ℕ → ℕ) (p n : ℕ) (arrows : List Arrow) → AreRising n arrows → ((q : ℕ) → q < p → f q ≡ g q)
     → greatest_wanted f arrows p ≡ greatest_wanted g arrows p
 wanted_same f g p n [] rises same = refl
 wanted_same f g p n (a ∷ rest) rises same =
     agrees (λ x. x.to) (λ x. x.from) f g a rest p (λ is. same a.from (let up = rises.1 in omega (arith, up, is))) (wanted_same f g p a.to rest rises.2 same)
 
--- above it, where they lead to
+-- numberings that agree above p have the same greatest number among the positions that want p's version
 wanting_same : (f g : ℕ → ℕ) (p n : ℕ) (arrows : List Arrow) → AreRising n arrows → ((q : ℕ) → p < q → f q ≡ g q)
     → greatest_wanting f arrows p ≡ greatest_wanting g arrows p
 wanting_same f g p n [] rises same = refl
 wanting_same f g p n (a ∷ rest) rises same =
     agrees (λ x. x.from) (λ x. x.to) f g a rest p (λ is. same a.to (let up = rises.1 in omega (arith, up, is))) (wanting_same f g p a.to rest rises.2 same)
 
--- ---- of the chains that end somewhere
+-- ---- chains that end at a position
 
 at_end : (xs : List ℕ) (y p : ℕ) → p ≡ length xs → slice_index (xs ++ y ∷ []) p ≡ y
 at_end xs y p is = rw is (get_or-append_seam xs y [] 0)
@@ -38,7 +38,7 @@ module _ (weights : List ℕ) (arrows : List Arrow) where
   pub paired_to : length (heaviest_to weights arrows) ≡ length weights
   paired_to = length_below (length weights)
 
-  -- a chain stays as it was when positions are added
+  -- the rule holds for the positions up to n if it holds for those below n
   chain_more : (n p : ℕ) → (p < n → slice_index (ending_below weights arrows n) p ≡ slice_index weights p + greatest_wanted
       (slice_index (ending_below weights arrows p)) arrows p) → p < suc n
       → slice_index (ending_below weights arrows (suc n)) p ≡ slice_index weights p + greatest_wanted (slice_index (ending_below weights arrows p)) arrows p
@@ -68,7 +68,7 @@ module _ (weights : List ℕ) (arrows : List Arrow) where
       λ q low. chain_at p q low ∙ sym (chain_at (length weights) q (omega (arith, low, inside))) in
       chain_at (length weights) p inside ∙ ap (λ (m : ℕ). slice_index weights p + m) (wanted_same _ _ p zero arrows rises stay)
 
--- ---- of the chains that begin somewhere
+-- ---- chains that begin at a position
 
 pub length_from : (p : ℕ) (weights : List ℕ) (arrows : List Arrow) → length (beginning_from p weights arrows) ≡ length weights
 length_from p [] arrows = refl
@@ -98,7 +98,7 @@ rule_from weights arrows p rises inside =
     all ∙ ap (λ (m : ℕ). slice_index weights p + m)
     (wanting_same _ _ p zero arrows rises (λ q lt. ap (slice_index (heaviest_from weights arrows)) (omega arith)))
 
--- ---- no chain weighs more than its positions together at their heaviest
+-- ---- no chain weighs more than the number of positions times the greatest weight
 
 light_front : (x : ℕ) (xs : List ℕ) (most : ℕ) → x ≤ most → ((q : ℕ) → slice_index xs q ≤ most) → (q : ℕ) → slice_index (x ∷ xs) q ≤ most
 light_front x xs most first rest zero = first

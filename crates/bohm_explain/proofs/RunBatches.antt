@@ -9,7 +9,7 @@ use Rattle.bohm_place.specs.Cuttings.{Cutting, IsEven, ahead, txns_at}
 use Rattle.bohm_place.proofs.ForCallers.{ahead_next}
 use Rattle.bohm_explain.specs.Figures.{batch_at, batch_count}
 
--- all batches before one are full
+-- all batches before batch i are full, so they have i * size transactions
 full_before : (size : ℕ) (sizes : List ℕ) (i : ℕ) → IsEven size sizes → i < length sizes → ahead sizes i ≡ i * size
 full_before size sizes zero even low = omega arith
 full_before size sizes (suc i) even low =
@@ -17,7 +17,7 @@ full_before size sizes (suc i) even low =
     let step : ahead sizes (suc i) ≡ ahead sizes i + slice_index sizes i = ap (ahead sizes) (sym next) ∙ ahead_next sizes i (omega (arith, low)) in
     omega (arith, step, full_before size sizes i even (omega (arith, low)), even.full i (omega (arith, low)))
 
--- the last one has what is left
+-- the last batch has the remaining transactions
 module _ (size : ℕ) (sizes : List ℕ) (m : ℕ) (even : IsEven size sizes) (last : length sizes ≡ suc m) where
   whole : sum sizes ≡ m * size + slice_index sizes m
   whole =

@@ -1,4 +1,4 @@
--- The source of an access in a right plan is the newest position below it that writes the key.
+-- The source of an access in a right plan is the newest earlier position that writes the key.
 use Rattle.std.proofs.Common.{◌≡◌, ℕ, zero, suc, ◌+◌, ◌-◌, ◌<◌, ◌≤◌, List, [], ◌∷◌, ◌++◌, length, append_assoc, Bool, true, false}
 use Rattle.std.proofs.Common.{cond, Option, Some, None, slice_get, unwrap_or, option_map, refl, sym, subst, ap, ◌∙◌, ⊎_elim, arith}
 use Rattle.std.proofs.lemmas.Bool.{cases_lt}
@@ -55,7 +55,7 @@ module _ (txns : List Txn) (first : ℕ) (k : List ℕ) where
           opened false (Within u) e (lower (Within u)
           (record { below = below; holds = newest.holds; none_between = λ v low high. newest.none_between v low (omega arith) }))
 
--- ---- of a right plan
+-- ---- the accesses of a right plan
 
 pub right_source : (txns : List Txn) (p : Planned) (set : DeclaredSet) (to j : ℕ) (x : Txn) (k : List ℕ) (a : Access) → IsRightPlan txns p
     → slice_get txns to ≡ Some x → slice_get (keys_in set x) j ≡ Some k → slice_get (planned_in set p to) j ≡ Some a
@@ -72,7 +72,7 @@ pub behind_first : (txns : List Txn) (first t u : ℕ) (k : List ℕ) (s : Sourc
 behind_first txns first t u k Before newest is = absurd cc
 behind_first txns first t u k (Within v) newest is = let same : v ≡ u = cc in omega (arith, same, newest.holds.there.timestamp)
 
--- ---- the arrows for some keys, one key on
+-- ---- the arrows for some keys, with one more key
 
 pub arrow_by : (txns : List Txn) (first p : ℕ) (k : List ℕ) (s : Source) → IsNewest first txns k (first + p) s
     → arrow_of txns p k ≡ option_map (λ f. record { from = f; to = p; key = k }) (place_of first s)

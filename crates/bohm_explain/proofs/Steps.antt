@@ -1,4 +1,4 @@
--- The heaviest chains arrow by arrow, as the code makes them.
+-- The heaviest chains, computed arrow by arrow as in the code.
 use Rattle.std.proofs.Common.{◌≡◌, ◌≢◌, ℕ, zero, suc, ◌+◌, ◌<◌, ◌≤◌, List, [], ◌∷◌, length, slice_index, slice_set}
 use Rattle.std.proofs.Common.{fold, max, All, ⊎_elim, refl, sym, ap, subst, ◌∙◌, arith, length-set, ext_get_or}
 use Rattle.std.proofs.lemmas.Bool.{cases_eq}
@@ -8,11 +8,11 @@ use Rattle.bohm_explain.specs.Heaviest.{IsInside, AreRising, greatest_wanted, gr
 use Rattle.bohm_explain.proofs.Greatest.{taken, passed}
 use Rattle.bohm_explain.proofs.Rules.{rule_to, paired_to, rule_from, length_from}
 
--- one arrow more: the chain to where it leads is at least that to where it comes from, and one more weight
+-- one more arrow: the chain to `a.to` weighs at least the chain to `a.from` plus the weight of `a.to`
 abbrev pub lengthened : List ℕ → List ℕ → Arrow → List ℕ
 lengthened weights heaviest a = slice_set heaviest a.to (max (slice_index heaviest a.to) (slice_index weights a.to + slice_index heaviest a.from))
 
--- the same of the chain from where it comes from
+-- one more arrow: the chain from `a.from` weighs at least the chain from `a.to` plus the weight of `a.from`
 abbrev pub led_on : List ℕ → List ℕ → Arrow → List ℕ
 led_on weights heaviest a = slice_set heaviest a.from (max (slice_index heaviest a.from) (slice_index weights a.from + slice_index heaviest a.to))
 
@@ -20,7 +20,7 @@ abbrev pub led_from : List ℕ → List Arrow → List ℕ
 led_from weights [] = weights
 led_from weights (a ∷ rest) = led_on weights (led_from weights rest) a
 
--- ---- chains to
+-- ---- chains that end at each position
 
 module _ (weights : List ℕ) (final : ℕ → ℕ) where
   none_to : (n : ℕ) (rest : List Arrow) (p : ℕ) → AreRising n rest → p < n → greatest_wanted final rest p ≡ zero
@@ -29,7 +29,7 @@ module _ (weights : List ℕ) (final : ℕ → ℕ) where
       let least = rises.0 in
       passed (λ x. x.to) (λ x. x.from) final a rest p (λ is. omega (arith, least, is, low)) ∙ none_to a.to rest p rises.2 (omega (arith, least, low))
 
-  -- what the arrows so far have made, and those that are left, give what is final
+  -- the weights made by the arrows so far, with those that the remaining arrows add, are the final weights
   record Underway (made : List ℕ) (rest : List Arrow) : Type 0 where
     paired : length made ≡ length weights
     least : (p : ℕ) → slice_index weights p ≤ slice_index made p
@@ -88,18 +88,18 @@ made_to weights arrows rises inside made long is =
     ext_get_or 0 made (heaviest_to weights arrows) (long ∙ sym (paired_to weights arrows))
     (λ p low. ap (λ (xs : List ℕ). slice_index xs p) is ∙ fold_to weights final zero weights arrows rises inside start p (omega (arith, low, long)))
 
--- ---- chains from
+-- ---- chains that begin at each position
 
 module _ (weights : List ℕ) (final : ℕ → ℕ) where
   length_led : (rest : List Arrow) → length (led_from weights rest) ≡ length weights
   length_led [] = refl
   length_led (a ∷ rest) = length-set (led_from weights rest) a.from _ ∙ length_led rest
 
-  -- the chains from each position as the last arrows make them
+  -- `led_from` has each position's weight plus the greatest final weight to which its arrows among these lead
   abbrev AreLed : List Arrow → Type 0
   AreLed rest = (p : ℕ) → p < length weights → slice_index (led_from weights rest) p ≡ slice_index weights p + greatest_wanting final rest p
 
-  -- the chains from the positions that the arrows before don't leave are final
+  -- these arrows alone determine the final weights of the positions from n on
   abbrev AreFinal : ℕ → List Arrow → Type 0
   AreFinal n rest = (p : ℕ) → n ≤ p → p < length weights → final p ≡ slice_index weights p + greatest_wanting final rest p
 
@@ -150,7 +150,7 @@ made_from weights arrows rises inside =
     (λ p low. let inside_p : p < length weights = omega (arith, low, long) in
     led_all weights final zero arrows rises inside (λ q le lt. rule q lt) p inside_p ∙ sym (rule p inside_p))
 
--- ---- one arrow more, from the last on
+-- ---- one more arrow, in order from the last to the first
 
 pub bounded_set : (hs : List ℕ) (i m n k : ℕ) → ((j : ℕ) → slice_index hs j ≤ n) → m ≤ n → slice_index (slice_set hs i m) k ≤ n
 bounded_set [] i m n k h le = h k

@@ -1,4 +1,4 @@
--- What is found out of a log, one batch more, and what is made of it.
+-- The figures and the counts of a log after one more batch, and lists of distinct keys.
 use Rattle.std.proofs.Common.{◌≡◌, ◌∙◌, ℕ, ◌+◌, ◌*◌, Bool, true, false, ◌||◌, List, [], ◌∷◌, ◌++◌, take, refl, ap, subst, add-one}
 use Rattle.std.specs.List.{AllByRecursion, IsDistinct}
 use Rattle.std.specs.Str.{bytes_eq}
@@ -30,7 +30,7 @@ module _ (size : ℕ) (log : List Txn) (i : ℕ) (txns : List Txn) (is : txns �
       subst (λ (l : List Txn). IsGathered l (chained_below size log (i + 1)) new) (joined size log i)
       (subst (λ (cs : List Chained). IsGathered (take (i * size) log ++ batch_at size log i) cs new) step cut)
 
--- ---- keys that stand in a list once
+-- ---- lists of distinct keys
 
 none_equal : (k : List ℕ) (ks : List (List ℕ)) → is_among ks k ≡ false → AllByRecursion (λ y. bytes_eq k y ≡ false) ks
 none_equal k [] h = tt

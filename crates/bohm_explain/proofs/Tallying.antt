@@ -1,4 +1,4 @@
--- What is counted of a key, one step on.
+-- The counts of a key after one more key of a set, and after one more transaction.
 use Rattle.std.proofs.Common.{◌≡◌, ℕ, ◌+◌, ◌<◌, ◌≤◌, Bool, true, false, cond, ◌||◌, List, length, take}
 use Rattle.std.proofs.Common.{Some, slice_get, refl, sym, ap, subst, ◌∙◌, arith, if◌then◌else◌, not}
 use Rattle.std.specs.List.{count_by, list_any}
@@ -21,7 +21,7 @@ use Rattle.bohm_explain.specs.Heats.{declares, readers_of, writers_of}
 use Rattle.bohm_explain.specs.Tallies.{HasRoom, counted_in, plus}
 use Rattle.bohm_explain.proofs.Further.{any_more, sum_more}
 
--- ---- the keys of one set, which rise
+-- ---- the keys of one set, which ascend
 
 pub not_yet : (keys : List (List ℕ)) (i : ℕ) (key : List ℕ) → rising keys ≡ true → slice_get keys i ≡ Some key → is_among (take i keys) key ≡ false
 not_yet keys i key rises at = subst (λ (k : List ℕ). is_among (take i keys) k ≡ false) (get_or_from_slice_get keys i key key at)
@@ -47,7 +47,7 @@ module _ (set : DeclaredSet) (old mid new : Tally) where
       λ e. subst (λ (x : List ℕ). is_among (take i keys) x ≡ false) (same_key key k e) (not_yet keys i key rises at) in
       rw (among_more keys i key k at) (by_step (is_among (take i keys) k) (bytes_eq key k) once m n)
 
--- ---- the sets of a well-formed transaction
+-- ---- the sets of a well-formed transaction ascend
 
 true_from : (a b : Bool) → ¬ ((not a || b) ≡ true) → a ≡ true
 true_from true b h = refl
@@ -60,7 +60,7 @@ rising_in Writes t well = rising_writes t well
 pub rising_item : (set : DeclaredSet) (txns : List Txn) (i : ℕ) (t : Txn) → AreWellFormed txns → slice_get txns i ≡ Some t → rising (keys_in set t) ≡ true
 rising_item set txns i t formed at = rising_in set t (subst IsWellFormedTxn (get_or_from_slice_get txns i t t at) (formed i t (slice_get_within txns i t at)))
 
--- ---- the room for one more
+-- ---- the counts have room for one more transaction
 
 few : (p : Txn → Bool) (txns : List Txn) (i : ℕ) → i < length txns → count_by p (take i txns) ≤ i
 few p txns i inside = let all = count_by-le-length p (take i txns) in let len = length-take-le i txns (omega arith) in omega (arith, all, len)
@@ -76,7 +76,7 @@ room_inside Writes txns i k old mid inside room is =
     let same : mid.writers ≡ old.writers + writers_of k (take i txns) = ap (λ (t : Tally). t.writers) is in
     omega (arith, up, same, room)
 
--- the reads leave the room of the writes
+-- counting a read leaves the number of writers unchanged
 writers_left : (b : Bool) (old new : Tally) → new ≡ (if b then plus Reads old else old) → new.writers ≡ old.writers
 writers_left true old new is = ap (λ (t : Tally). t.writers) is
 writers_left false old new is = ap (λ (t : Tally). t.writers) is
@@ -96,7 +96,7 @@ listed_key keys i key k old mid new at m n =
     n ∙ (ap (λ (b : Bool). b || bytes_eq key k) m
     ∙ (or_assoc old (is_among (take i keys) k) (bytes_eq key k) ∙ ap (λ (b : Bool). old || b) (sym (among_more keys i key k at))))
 
--- ---- a transaction more
+-- ---- the counts after one more transaction
 
 abbrev with_counts : ℕ → ℕ → ℕ → Tally
 with_counts w r c = record { writers = w; readers = r; chain = c }

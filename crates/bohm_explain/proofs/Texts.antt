@@ -1,4 +1,4 @@
--- Texts made piece by piece.
+-- A text that is written piece by piece.
 use Rattle.std.proofs.Common.{◌≡◌, ◌∙◌, ℕ, List, ◌++◌, ap, append_assoc}
 
 pub one_more : (start lines line out next : List ℕ) → out ≡ start ++ lines → next ≡ out ++ line → next ≡ start ++ (lines ++ line)

@@ -1,4 +1,4 @@
--- How long the listed chain is, and that each step of a drawn one has an arrow.
+-- The printed longest chain is as long as the greatest depth, and each step of a drawn chain has an arrow.
 use Rattle.std.proofs.Common.{◌≡◌, ◌∙◌, true≢false, ℕ, zero, suc, ◌+◌, ◌*◌, ◌==◌, ◌&&◌, ◌<◌, ◌≤◌, Bool, true, false, Option}
 use Rattle.std.proofs.Common.{Some, List, [], ◌∷◌, ◌++◌, length, map, max, Contains, ⊎_elim, refl, sym, ap, subst, arith}
 use Rattle.std.specs.List.{find}
@@ -16,7 +16,7 @@ use Rattle.bohm_explain.specs.Printed.{IsLongestChain}
 use Rattle.bohm_explain.proofs.Cutting.{not_empty}
 use Rattle.bohm_explain.proofs.Drawn.{depth_is}
 
--- ---- the first arrow
+-- ---- the first arrow from one position to another
 
 abbrev Found : (Arrow → Bool) → List Arrow → Type 0
 Found test as' = (b : Arrow) × (find test as' ≡ Some b) × (test b ≡ true)

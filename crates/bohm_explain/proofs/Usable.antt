@@ -1,4 +1,4 @@
--- What the transactions of a well-formed list keep.
+-- The transactions of a well-formed list are usable, with at most 16 keys in each set.
 use Rattle.std.proofs.Common.{◌≡◌, ℕ, ◌≤◌, List, length, Some, slice_get, subst}
 use Rattle.std.proofs.lemmas.Option.{get_or_from_slice_get, slice_get_within}
 use Rattle.bohm_types.specs.Txn.{Txn}

@@ -1,4 +1,4 @@
--- A heaviest chain, walked from its end along the arrows.
+-- A heaviest chain, found by a walk back along the arrows from its end.
 use Rattle.std.proofs.Common.{◌≡◌, ◌≢◌, ◌∙◌, ◌==◌, true≢false, Bool, true, false, ℕ, zero, suc, ◌+◌, ◌<◌, ◌≤◌, List, [], ◌∷◌, ◌++◌}
 use Rattle.std.proofs.Common.{length, slice_index, slice_index_or, sum_by, reverse, All, inl, inr, ⊎_elim, refl, sym, ap, subst, arith}
 use Rattle.std.proofs.lemmas.Bool.{cases_eq, eqb-true, eq-eqb}
@@ -11,7 +11,7 @@ use Rattle.bohm_explain.specs.Chains.{EndsAt, IsChain, IsChainFrom, IsWantedBy, 
 use Rattle.bohm_explain.proofs.Chaining.{reaches}
 use Rattle.bohm_explain.proofs.Rules.{rule_to}
 
--- an arrow leads upwards, to where the first of these leads or above
+-- each arrow leads upwards, to `least` or above
 rises_from : (least : ℕ) (as' : List Arrow) (k : ℕ) (d : Arrow) → AreRising least as' → k < length as'
     → (least ≤ (slice_index_or as' k d).to) × ((slice_index_or as' k d).from < (slice_index_or as' k d).to)
 rises_from least [] k d rises low = absurd (omega arith)
@@ -20,7 +20,7 @@ rises_from least (a ∷ rest) (suc k) d rises low =
     let behind = rises_from a.to rest k d rises.2 (omega arith) in let up = rises.0 in let more = behind.0 in
     (omega (arith, up, more), behind.1)
 
--- and one behind another leads no lower
+-- no arrow leads to a position below that of an earlier arrow
 rises_on : (least : ℕ) (as' : List Arrow) (i k : ℕ) (d e : Arrow) → AreRising least as' → i ≤ k → k < length as'
     → (slice_index_or as' i d).to ≤ (slice_index_or as' k e).to
 rises_on least [] i k d e rises le low = absurd (omega arith)
@@ -39,7 +39,7 @@ module _ (weights : List ℕ) (arrows : List Arrow) where
   abbrev to : ℕ → ℕ
   to p = slice_index (heaviest_to weights arrows) p
 
-  -- the chain from this position to the end, its last position first
+  -- the items, in reverse, are the part from `first` on of a heaviest chain to `end`
   pub record Walked (end first : ℕ) (items : List ℕ) : Type 0 where
     pub rest : List ℕ
     pub shape : reverse items ≡ first ∷ rest
@@ -47,7 +47,7 @@ module _ (weights : List ℕ) (arrows : List Arrow) where
     pub ends : last_of first rest ≡ end
     pub weighs : to first + sum_by own rest ≡ to end
 
-  -- none of the arrows from i on goes on with the chain
+  -- no heaviest chain to `first` has one of the arrows from index i on as its last arrow
   abbrev pub IsPassed : ℕ → ℕ → Type 0
   IsPassed i first = (k : ℕ) (d : Arrow) → i ≤ k → k < length arrows → (slice_index_or arrows k d).to ≡ first
       → to (slice_index_or arrows k d).from + own first ≢ to first
@@ -57,7 +57,7 @@ module _ (weights : List ℕ) (arrows : List Arrow) where
     leads : IsWantedBy arrows a.from a.to
     leads = (a, (i, there, sym at), refl, refl)
 
-    -- the arrow goes on with the chain
+    -- if a heaviest chain to `first` comes through the arrow, the walk continues at the arrow's start
     pub walk_on : a.to ≡ first → to a.from + own first ≡ to first → Walked end first items → Walked end a.from (items ++ a.from ∷ [])
     walk_on leads_to more w = record {
       rest = first ∷ w.rest;
@@ -71,7 +71,7 @@ module _ (weights : List ℕ) (arrows : List Arrow) where
       weighs = (let sum = w.weighs in omega (arith, sum, more, sum_by-cons own first w.rest));
     }
 
-    -- and the arrows behind it lead above its origin
+    -- no arrow from index i on leads to this arrow's start
     pub all_passed : IsPassed i a.from
     all_passed k d le low is = absurd (
         let on = rises_on 0 arrows i k a d all.rising le low in
@@ -80,7 +80,7 @@ module _ (weights : List ℕ) (arrows : List Arrow) where
         omega (arith, rw same at on, rw same at up, is)
         )
 
-    -- it doesn't
+    -- if neither arrow i nor a later one is the last arrow of a heaviest chain to `first`, none from index i on is
     pub one_passed : (a.to ≡ first → to a.from + own first ≢ to first) → IsPassed (i + 1) first → IsPassed i first
     one_passed isnt behind k d le low is more = ⊎_elim
         (λ same.
@@ -89,7 +89,7 @@ module _ (weights : List ℕ) (arrows : List Arrow) where
         (λ apart. behind k d (omega (arith, le, apart)) low is more)
         (cases_eq k i)
 
-  -- each position of a chain
+  -- each position of a chain is one of the n positions
   pub all_inside : (chain : List ℕ) → IsChain n arrows chain → All (λ p. p < n) chain
   all_inside [] chain k d low = absurd chain
   all_inside (p ∷ []) chain zero d low = chain
@@ -101,7 +101,7 @@ module _ (weights : List ℕ) (arrows : List Arrow) where
   begins_inside p [] chain = chain
   begins_inside p (q ∷ rest) chain = chain.0
 
-  -- a position with no further arrow is reached from none
+  -- if no heaviest chain to a position has a last arrow, the position alone is a heaviest chain
   alone : AreChainable weights arrows → (first : ℕ) → first < n → IsPassed 0 first → to first ≡ own first
   alone all first low passed =
       let rule = rule_to weights arrows first all.rising low in
@@ -114,7 +114,7 @@ module _ (weights : List ℕ) (arrows : List Arrow) where
             (ap (λ (b : Arrow). to b.from + own first) is ∙ omega (arith, rule, same)))
       ]
 
-  -- where the walk ends there is no further arrow
+  -- a walk that no arrow continues has found a heaviest chain
   pub walk_ends : AreChainable weights arrows → (end first : ℕ) (items : List ℕ) → Walked end first items → IsPassed 0 first
       → IsChain n arrows (reverse items) × EndsAt end (reverse items) × (weight_of weights (reverse items) ≡ to end)
   walk_ends all end first items w passed =
@@ -122,7 +122,7 @@ module _ (weights : List ℕ) (arrows : List Arrow) where
       subst (λ (xs : List ℕ). IsChain n arrows xs × EndsAt end xs × (weight_of weights xs ≡ to end)) (sym w.shape)
       (w.chain, w.ends, (let sum = w.weighs in omega (arith, sum, last, sum_by-cons own first w.rest)))
 
-  -- ---- one arrow more
+  -- ---- one more arrow is tried
 
   module _ (all : AreChainable weights arrows) (end first next : ℕ) (items items' : List ℕ) (i : ℕ) (a : Arrow)
       (there : i < length arrows) (at : a ≡ slice_index_or arrows i a)

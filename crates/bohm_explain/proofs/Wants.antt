@@ -1,4 +1,4 @@
--- The arrows of a batch are the versions that its positions want on the board.
+-- An arrow leads from a position of a batch to another exactly if the second wants the first's version on the board.
 use Rattle.std.proofs.Common.{◌≡◌, ℕ, zero, suc, ◌+◌, ◌-◌, ◌<◌, List, [], ◌∷◌, ◌++◌, length, Bool, true, false, cond, Option, Some}
 use Rattle.std.proofs.Common.{None, slice_get, unwrap_or, option_map, Contains, refl, sym, subst, ap, ◌∙◌, ⊎_elim, ◌⊎◌, inl, inr, arith}
 use Rattle.std.specs.List.{filter_map, cons_option}
@@ -20,7 +20,7 @@ use Rattle.bohm_explain.specs.Chains.{IsWantedBy}
 use Rattle.bohm_explain.specs.Wanted.{newest_before, place_of, arrow_of, arrows, arrows_at, arrows_below, arrows_in, is_sure_at, keys_at}
 use Rattle.bohm_explain.proofs.Sources.{right_source, paired, behind_first, arrow_by}
 
--- ---- lists
+-- ---- the elements of a filtered list
 
 there : {A : Type 0} (xs : List A) (i : ℕ) → i < length xs → (x : A) × (slice_get xs i ≡ Some x)
 there [] i low = absurd (omega (arith, low))
@@ -58,7 +58,7 @@ giving {X} {Y} h (x ∷ ws) y c = by (h x) refl c (giving h ws y)
     by (Some w) is (zero, low, here) more = (zero, x, refl, is ∙ ap (λ v. Some v) here)
     by (Some w) is (suc k, low, here) more = later (more (k, omega (arith, low), here))
 
--- ---- arrows by position
+-- ---- the arrows to each position
 
 at_below : (txns : List Txn) (r : Arrow) (p n : ℕ) → p < n → Contains (arrows_at txns p) r → Contains (arrows_below txns n) r
 at_below txns r p zero low c = absurd (omega (arith, low))
@@ -133,7 +133,7 @@ ends_there txns q r c =
     by true (k, low, is) = absurd (omega (arith, low))
     by false h = ends_at txns q (keys_at Writes txns q) r h
 
--- ---- of a batch
+-- ---- the arrows of a batch
 
 module _ (b : Batch) (right : IsRightPlan (txns_of b) (plan_of b)) (t u : ℕ) (in_t : IsIn b t) (in_u : IsIn b u) where
   inside : position b t < length (txns_of b)

@@ -4,6 +4,14 @@ use Rattle.bohm_place.specs.Chains.{greatest}
 use Rattle.bohm_explain.specs.declared.arrow.Arrow.{Arrow}
 use Rattle.bohm_types.specs.Limits.{largest_batch}
 
+-- terms of a transaction: 64 statements with three sums of 16 terms each
+abbrev pub greatest_weight : ℕ
+greatest_weight = 3072
+
+-- versions that a batch's transactions want: one for each declared key
+abbrev pub most_arrows : ℕ
+most_arrows = 131072
+
 -- both ends are among the first n positions
 abbrev pub IsInside : ℕ → Arrow → Type 0
 IsInside n a = (a.from < n) × (a.to < n)
@@ -17,9 +25,9 @@ AreRising n (a ∷ rest) = (n ≤ a.to) × (a.from < a.to) × AreRising a.to res
 pub record AreChainable (weights : List ℕ) (arrows : List Arrow) : Type 0 where
   pub inside : All (IsInside (length weights)) arrows
   pub rising : AreRising 0 arrows
-  pub light : All (λ w. w ≤ 3072) weights
+  pub light : All (λ w. w ≤ greatest_weight) weights
   pub few : length weights ≤ largest_batch
-  pub few_arrows : length arrows ≤ 131072
+  pub few_arrows : length arrows ≤ most_arrows
 
 -- the greatest number of the positions whose versions p wants, or 0
 abbrev pub greatest_wanted : (ℕ → ℕ) → List Arrow → ℕ → ℕ

@@ -142,7 +142,7 @@ pub fn put_by_depth(
     requires inside { All (IsInside (length depths.now)) arrows.now }
     requires chain { All (λ p. p < length depths.now) chain.now }
     ensures { IfOk result (λ _. out.new.items ≡ out.old.items
-        ++ by_depth batch first arrows.now depths.now (take 200 chain.now) (length chain.now)) }
+        ++ by_depth batch first arrows.now depths.now (take MOST_NODES chain.now) (length chain.now)) }
 {
     let drawn = &chain[..chain.len().min(MOST_NODES as usize)];
     let others = others(alloc, drawn, depths)?;

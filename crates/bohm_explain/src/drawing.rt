@@ -8,6 +8,7 @@ ghost use Rattle.bohm_explain.specs.Figures.{batch_count};
 ghost use Rattle.bohm_explain.specs.Printed.{IsHeaviestChain, IsPictureIn, IsPictureOf};
 ghost use Rattle.bohm_explain.specs.Wanted.{arrows as wanted_in};
 ghost use Rattle.bohm_types.specs.Limits.{largest_batch, most_txns};
+ghost use Rattle.bohm_explain.specs.Heaviest.{most_arrows};
 
 use crate::arrow::Arrow;
 use crate::batches::{batch_at, batch_count};
@@ -41,7 +42,7 @@ fn heaviest_of(alloc: Global, txns: &LogPart<'_>, arrows: &[Arrow]) -> Result<Ve
     requires few { length txns.now ≤ largest_batch }
     requires formed { AreWellFormed txns.now }
     requires arrows { arrows.now ≡ wanted_in txns.now }
-    requires few_arrows { length arrows.now ≤ 131072 }
+    requires few_arrows { length arrows.now ≤ most_arrows }
     ensures chain { IfOk result (λ v. IsHeaviestChain txns.now v.items) }
     ensures inside { IfOk result (λ v. All (λ p. p < length txns.now) v.items) }
 {

@@ -8,6 +8,7 @@ ghost use Rattle.bohm_explain.specs.Figures.{alone, depths as depths_in, figures
 ghost use Rattle.bohm_explain.specs.Figures.{plus, totals_of, AreAtMost};
 ghost use Rattle.bohm_explain.specs.Wanted.{arrows as wanted_in};
 ghost use Rattle.bohm_types.specs.Limits.{largest_batch, most_txns};
+ghost use Rattle.bohm_explain.specs.Heaviest.{greatest_weight, most_arrows};
 
 use crate::arrow::Arrow;
 use crate::chains::heaviest_to;
@@ -119,7 +120,7 @@ pub fn greatest(values: &[u32]) -> u32
 /// The sum of these weights.
 fn sum_of(weights: &[u32]) -> u32
     requires few { length weights.now ≤ largest_batch }
-    requires light { All (λ w. w ≤ 3072) weights.now }
+    requires light { All (λ w. w ≤ greatest_weight) weights.now }
     ensures { result ≡ sum weights.now }
 {
     let mut total = 0;
@@ -153,7 +154,7 @@ pub fn counted(
     requires few { length txns.now ≤ largest_batch }
     requires formed { AreWellFormed txns.now }
     requires arrows { arrows.now ≡ wanted_in txns.now }
-    requires few_arrows { length arrows.now ≤ 131072 }
+    requires few_arrows { length arrows.now ≤ most_arrows }
     requires depths { depths.now ≡ depths_in txns.now }
     ensures { IfOk result (λ f. f ≡ figures_of txns.now) }
 {

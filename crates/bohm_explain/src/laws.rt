@@ -82,8 +82,8 @@ pub fn longest_is_deepest()
 /// For any batch, a picture by depth has at most 200 bands, and at most 200 transactions of a
 /// chain.
 pub fn few_are_drawn()
-    ensures bands { (deepest : ℕ) → 1 ≤ deepest → div_ceil deepest (band_width deepest) ≤ 200 }
-    ensures chain { (chain : List ℕ) → length (take MOST_NODES chain) ≤ 200 }
+    ensures bands { (deepest : ℕ) → 1 ≤ deepest → div_ceil deepest (band_width deepest) ≤ MOST_NODES }
+    ensures chain { (chain : List ℕ) → length (take MOST_NODES chain) ≤ MOST_NODES }
 {}
 
 /// Each step of a chain that is drawn beside bands has its arrow.

@@ -2,7 +2,7 @@
 
 ghost use Rattle.std.specs.Prelude.{◌≡◌, ◌≤◌, IfSome};
 ghost use Rattle.std.specs.Option.{SomeIff};
-ghost use Rattle.bohm_explain.specs.Asked.{Asked, AreInRange, IsBetween, defaults};
+ghost use Rattle.bohm_explain.specs.Asked.{AreInRange, Asked, IsBetween, defaults, most_listed};
 ghost use Rattle.bohm_types.specs.Limits.{largest_batch, most_txns};
 
 use crate::layout::Layout;
@@ -84,7 +84,7 @@ impl Request {
     /// How many keys are listed, the hottest first.
     pub fn top(&self) -> u32
         ensures value { result ≡ self.now.top }
-        ensures in_range { result ≤ 1000 }
+        ensures in_range { result ≤ most_listed }
     {
         self.top
     }

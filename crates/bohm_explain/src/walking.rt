@@ -4,7 +4,7 @@ ghost use Rattle.std.specs.Prelude.{◌≡◌, ◌++◌, ◌∷◌, [], ◌<◌,
 ghost use Rattle.std.specs.Prelude.{false, length, slice_index, true, IfOk};
 ghost use Rattle.bohm_place.specs.Chains.{greatest};
 ghost use Rattle.bohm_explain.specs.Chains.{EndsAt, IsChain, weight_of};
-ghost use Rattle.bohm_explain.specs.Heaviest.{AreChainable, IsInside, heaviest_to};
+ghost use Rattle.bohm_explain.specs.Heaviest.{AreChainable, IsInside, greatest_weight, heaviest_to};
 ghost use Rattle.bohm_explain.specs.Walks.{goes_on};
 ghost use Rattle.bohm_types.specs.Limits.{largest_batch};
 
@@ -33,7 +33,7 @@ fn goes_on(weights: &[u32], heaviest: &[u32], first: u32, arrow: &Arrow) -> bool
     requires first { first < length weights.now }
     requires paired { length heaviest.now ≡ length weights.now }
     requires inside { IsInside (length weights.now) arrow.now }
-    requires light { All (λ w. w ≤ 3072) weights.now }
+    requires light { All (λ w. w ≤ greatest_weight) weights.now }
     requires light_to { All (λ c. c ≤ 2 ^ 24) heaviest.now }
     ensures { result ≡ goes_on weights.now heaviest.now first arrow.now }
 {
@@ -53,7 +53,7 @@ fn step(
     requires first { first < length weights.now }
     requires paired { length heaviest.now ≡ length weights.now }
     requires inside { IsInside (length weights.now) arrow.now }
-    requires light { All (λ w. w ≤ 3072) weights.now }
+    requires light { All (λ w. w ≤ greatest_weight) weights.now }
     requires light_to { All (λ c. c ≤ 2 ^ 24) heaviest.now }
     ensures on { IfOk result (λ next. goes_on weights.now heaviest.now first arrow.now ≡ true
         → (next ≡ arrow.now.from) × (out.new.items ≡ out.old.items ++ arrow.now.from ∷ [])) }

@@ -1,10 +1,11 @@
 //! Weights of transactions.
 
-ghost use Rattle.std.specs.Prelude.{◌≡◌, ◌≤◌, All, length, replicate, sum_by, IfOk};
+ghost use Rattle.std.specs.Prelude.{◌≡◌, ◌≤◌, ◌*◌, All, length, replicate, sum_by, IfOk};
 ghost use Rattle.bohm_place.specs.Shares.{AreWellFormed};
 ghost use Rattle.bohm_txn.specs.Declares.{AllShort, IsUsable};
 ghost use Rattle.bohm_explain.specs.Weighing.{terms_in, weight, weights, declared_by};
-ghost use Rattle.bohm_types.specs.Limits.{largest_batch};
+ghost use Rattle.bohm_types.specs.Limits.{largest_batch, most_keys, most_terms};
+ghost use Rattle.bohm_explain.specs.Heaviest.{greatest_weight};
 
 use bohm_log::{LogPart, StmtParts, StmtView, TxnView};
 use bohm_types::NoMemory;
@@ -14,7 +15,7 @@ use std::alloc::Global;
 fn terms_in(stmt: &StmtView<'_>) -> u32
     requires { AllShort stmt.now }
     ensures terms { result ≡ terms_in stmt.now }
-    ensures few { result ≤ 48 }
+    ensures few { result ≤ 3 * most_terms }
 {
     match stmt.parts() {
         StmtParts::Bind { sum, .. } | StmtParts::Show(sum) => sum.len() as u32,
@@ -31,7 +32,7 @@ fn terms_in(stmt: &StmtView<'_>) -> u32
 fn weight(txn: &TxnView<'_>) -> u32
     requires { IsUsable txn.now }
     ensures weight { result ≡ weight txn.now }
-    ensures light { result ≤ 3072 }
+    ensures light { result ≤ greatest_weight }
 {
     let mut terms = 0;
     for index in 0..txn.body_len() {
@@ -45,7 +46,7 @@ pub fn weights(alloc: Global, txns: &LogPart<'_>) -> Result<Vec<u32>, NoMemory>
     requires formed { AreWellFormed txns.now }
     ensures weights { IfOk result (λ v. v.items ≡ weights txns.now) }
     ensures paired { IfOk result (λ v. length v.items ≡ length txns.now) }
-    ensures light { IfOk result (λ v. All (λ w. w ≤ 3072) v.items) }
+    ensures light { IfOk result (λ v. All (λ w. w ≤ greatest_weight) v.items) }
 {
     let mut weights = Vec::with_capacity(alloc, txns.len())?;
     for index in 0..txns.len() {
@@ -58,7 +59,7 @@ pub fn weights(alloc: Global, txns: &LogPart<'_>) -> Result<Vec<u32>, NoMemory>
 pub fn alike(alloc: Global, count: usize) -> Result<Vec<u32>, NoMemory>
     ensures weights { IfOk result (λ v. v.items ≡ replicate count 1) }
     ensures paired { IfOk result (λ v. length v.items ≡ count) }
-    ensures light { IfOk result (λ v. All (λ w. w ≤ 3072) v.items) }
+    ensures light { IfOk result (λ v. All (λ w. w ≤ greatest_weight) v.items) }
 {
     let mut weights = Vec::with_capacity(alloc, count)?;
     for index in 0..count {
@@ -72,7 +73,7 @@ pub fn alike(alloc: Global, count: usize) -> Result<Vec<u32>, NoMemory>
 fn declared_by(txn: &TxnView<'_>) -> u32
     requires { IsUsable txn.now }
     ensures keys { result ≡ declared_by txn.now }
-    ensures few { result ≤ 32 }
+    ensures few { result ≤ 2 * most_keys }
 {
     (txn.reads().len() + txn.writes().len()) as u32
 }

@@ -1,4 +1,4 @@
--- Numbers that are read as the arguments give them make the request that the arguments make.
+-- The numbers that are read from the arguments, and the request that they make.
 use Rattle.std.proofs.Common.{◌≡◌, ◌∙◌, ap, List, Option, Some, None, codes}
 use Rattle.std.specs.Option.{SomeIff}
 use Rattle.clap.specs.Words.{Row, Text}
@@ -10,7 +10,7 @@ use Rattle.bohm_command.proofs.ForCallers.{IsNumber, IsNumberOr}
 use Rattle.bohm_explain_cli.specs.Options.{explain, asked_in}
 use Rattle.bohm_explain_cli.specs.Taken.{request_in}
 
--- the request of numbers that are read so
+-- numbers read from the options are in range, and make the request of these options
 pub request_read : (rows : List Row) (asked : Asked) → IsNumberOr defaults.batch rows (codes "batch") 1 LARGEST_BATCH asked.batch
     → IsNumberOr defaults.top rows (codes "top") 0 MOST_LISTED asked.top → IsNumber rows (codes "dot") 1 LAST_BATCH asked.picture
     → asked.layout ≡ record { summary = flag_in rows (codes "summary"); json = flag_in rows (codes "json") }
@@ -27,7 +27,7 @@ request_read rows asked batch top picture layout result = go result
     go None none = absurd (none in_range)
     go (Some request) is = ap Some (is.1 ∙ same)
 
--- what clap read is what it reads in the arguments
+-- the options that clap parsed make the arguments' request
 pub same_request : (rows : List Row) (arguments : List Text) → rows ≡ rows_in explain arguments → asked_in rows ≡ request_in arguments
 unfolding request_in
 same_request rows arguments same = ap asked_in same

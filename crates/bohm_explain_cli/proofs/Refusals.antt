@@ -1,4 +1,4 @@
--- What a run says of a refused log, said of its explanation.
+-- If a run with any settings refuses a log before writing, its explanation is refused with the same fault.
 use Rattle.std.proofs.Common.{List, ℕ}
 use Rattle.std.specs.Prelude.{Option, None}
 use Rattle.bohm_settings.specs.Given.{Given}
@@ -9,7 +9,7 @@ use Rattle.bohm_explain.specs.Asked.{Asked}
 use Rattle.bohm_explain_cli.specs.Explaining.{RefusesLog}
 use Rattle.bohm_explain_cli.specs.declared.fault.ExplainFault.TheVariants.{Run}
 
--- a refusal before the writing
+-- a run's refusal before writing is a refusal of the explanation
 pub before_writing : (asked : Asked) (unread unread' written written' : Option (List ℕ)) (fault : RunFault) → IsBeforeWriting fault
     → ((given : Given) → Refuses given unread unread' None None fault) → RefusesLog asked unread unread' written written' (Run fault)
 before_writing asked unread unread' written written' Read before refuses = refuses

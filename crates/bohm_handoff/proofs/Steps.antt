@@ -13,7 +13,7 @@ module _ {T P : Type 0} (fits : T → Type 0) where
   not_fresh : (key : P) (v : Side P) → side key false ≡ v → v.fresh ≡ true → ⊥
   not_fresh key v same fresh = absurd (cc (ap (λ (x : Side P). x.fresh) same, fresh))
 
-  -- no side is fresh after the first has begun
+  -- after the first side has begun, only that side may be fresh
   first_after : (s : State (Option T) (Side P)) → IsHandoff fits s → (key : P) (id : ℕ) (v : Side P)
       → get_elem? (set s.views 0 (side key false)) id ≡ some v → v.fresh ≡ true → id ≡ 0
   first_after s g key id v there fresh =

@@ -1,4 +1,4 @@
--- What the tests of lists say of what was set aside.
+-- A position that the test finds among the deferred ones is deferred.
 use Rattle.std.proofs.Common.{◌≡◌, ℕ, suc, List, [], ◌∷◌, Bool, true, Some, refl, ap, ◌∙◌, subst, ⊎_elim}
 use Rattle.std.specs.Prelude.{◌==◌, Contains}
 use Rattle.std.specs.Option.{option_map}

@@ -1,4 +1,4 @@
--- A document's transactions stay of its edition when one of them comes.
+-- Appending a transaction of a document's edition keeps all of its transactions in that edition.
 use Rattle.std.proofs.Common.{◌≡◌, true, List, [], ◌∷◌, ◌++◌, Ok, Err, refl, sym, ap, ◌∙◌, subst}
 use Rattle.std.specs.Prelude.{Result, OnOk, OnErr, IsTrue}
 use Rattle.std.specs.List.{list_all}

@@ -1,4 +1,4 @@
--- Declared names and the parameters that they are.
+-- Declared names with their parameters, the keys that they represent, and templates made of them.
 use Rattle.std.proofs.Common.{◌≡◌, ℕ, ◌≤◌, true, List, [], ◌∷◌, ◌++◌, Some, None, Bor, map, length, drop, replicate, refl, ap, sym, subst, ⊎_elim, ◌∙◌, arith}
 use Rattle.std.specs.Prelude.{ℤ, pos, Option, IfSome}
 use Rattle.std.proofs.lemmas.List.{length-map}
@@ -29,12 +29,12 @@ names_declared params names declared e = ap names_in e ∙ names_again params na
 pub are_declared : (params names : List (List ℕ)) (declared : List DeclaredName) → declared ≡ map (declared_name params) names → AreDeclared params declared
 are_declared params names declared e = e ∙ ap (map (declared_name params)) (sym (names_declared params names declared e))
 
--- the keys that declared names stand for
+-- declared names, with their parameters, represent the same keys as the names alone
 pub arguments_are : (params args : List (List ℕ)) (declared : List DeclaredName) → AreDeclared params declared
     → map (argument_of args) declared ≡ map (stands_for params args) (names_in declared)
 arguments_are params args declared h = ap (map (argument_of args)) h ∙ arguments_again params args (names_in declared)
 
--- the same columns, where the names stand for the arguments of their parameters
+-- a call's parts for the keys of declared names are its parts for the keys of the names alone
 pub called_with : (params args : List (List ℕ)) (body : BodyColumns) (xs locals : List ℕ) (vs : List ℤ) (q : Parts)
     → IsTemplate params body locals → xs ≡ locals
     → IsCalled (map (argument_of args) body.reads.items) (map (argument_of args) body.writes.items) (parts_in body) xs vs q
@@ -50,14 +50,14 @@ called_with params args body xs locals vs q t same called =
     (subst (λ (ks : List (List ℕ)). IsCalled (map (stands_for params args) (names_in body.reads.items)) ks (parts_in body) xs vs q) w
     (subst (λ (ks : List (List ℕ)). IsCalled ks (map (argument_of args) body.writes.items) (parts_in body) xs vs q) r called))
 
--- sets of a template are few
+-- a template declares at most 16 reads and 16 writes
 pub few_reads : (params : List (List ℕ)) (body : BodyColumns) (locals : List ℕ) → IsTemplate params body locals → length body.reads.items ≤ 16
 few_reads params body locals t = omega (arith, t.own.few_reads, length-map body.reads.items (λ (n : DeclaredName). n.name))
 
 pub few_writes : (params : List (List ℕ)) (body : BodyColumns) (locals : List ℕ) → IsTemplate params body locals → length body.writes.items ≤ 16
 few_writes params body locals t = omega (arith, t.own.few_writes, length-map body.writes.items (λ (n : DeclaredName). n.name))
 
--- the parts that a body's columns are, where its names are these ones declared
+-- columns that have the parts' names, each with its parameter, represent the parts
 pub parts_made : (params : List (List ℕ)) (reads writes : List DeclaredName) (others : List (List ℕ)) (p : Parts) → reads ≡ map (declared_name params) p.reads
     → writes ≡ map (declared_name params) p.writes → others ≡ p.others
     → record { reads = names_in reads; writes = names_in writes; others = others; large = p.large; terms = p.terms; rows = p.rows } ≡ p
@@ -66,7 +66,7 @@ parts_made params reads writes others p r w o =
     let ws : names_in writes ≡ p.writes = names_declared params p.writes writes w in
     λ j. record { reads = rs j; writes = ws j; others = o j; large = p.large; terms = p.terms; rows = p.rows }
 
--- a body that is chosen for places is prepared for them
+-- the prepared body chosen for keys at some indices has the terms and statements for these indices
 chosen_placed : (body : BodyColumns) (locals reads writes : List ℕ) (b : PlacedBody) → IsReady body locals → IsChosen body reads writes b
     → IsPlaced body.terms.items body.rows.items locals reads writes b
 chosen_placed body locals reads writes b ready = ⊎_elim
@@ -91,12 +91,12 @@ pub rows_chosen : (body : BodyColumns) (locals reads writes : List ℕ) (o : Opt
 rows_chosen body locals reads writes None ready h = tt
 rows_chosen body locals reads writes (Some b) ready h = (chosen_placed body locals reads writes b.now ready h).same_rows
 
--- the order of keys is that of the names that stand for them
+-- indices ordered for the keys of names are ordered for the names, since there are as many keys as names
 pub ordered_for : (args : List (List ℕ)) (names : List DeclaredName) (s : SetPlaces) → IsOrdered (length (map (argument_of args) names)) s
     → IsOrdered (length names) s
 ordered_for args names s = subst (λ n. IsOrdered n s) (length-map names (argument_of args))
 
--- what was prepared from slices of the columns
+-- a body prepared from slices of a template's columns is prepared from the columns
 placed_from : (body : BodyColumns) (terms : List TermRow) (rows : List StmtRow) (places locals reads writes : List ℕ) (b : PlacedBody)
     → terms ≡ body.terms.items → rows ≡ body.rows.items → places ≡ locals → IsPlaced terms rows places reads writes b
     → IsPlaced body.terms.items body.rows.items locals reads writes b
@@ -115,7 +115,7 @@ ready_made body terms rows places locals reads writes t r l few many rising fall
   falling = placed_from body terms rows places locals _ _ body.falling t r l falling;
 }
 
--- a template made of an own instance's parts
+-- the parts of a procedure's own instance, with prepared bodies, are a template
 pub template_made : (params : List (List ℕ)) (body : BodyColumns) (p : Parts) (locals : List ℕ) → parts_in body ≡ p → IsOwn p locals
     → body.reads.items ≡ map (declared_name params) p.reads → body.writes.items ≡ map (declared_name params) p.writes
     → (body.same_sets ≡ true → p.reads ≡ p.writes)

@@ -1,4 +1,4 @@
--- What a call makes of a procedure's columns is the instance.
+-- The parts that a call builds from a procedure's columns represent the instance.
 use Rattle.std.proofs.Common.{◌≡◌, ℕ, zero, suc, ◌+◌, ◌-◌, ◌<◌, ◌≤◌, Bool, true, false, List, [], ◌∷◌, ◌++◌, length}
 use Rattle.std.proofs.Common.{get_or, take, drop, map, Some, None, refl, ap, sym, ◌∙◌, subst, arith}
 use Rattle.std.proofs.Common.{append_assoc, length-append}
@@ -13,7 +13,6 @@ use Rattle.bohm_types.specs.declared.edition.Edition.{Edition}
 use Rattle.bohm_types.specs.Keys.{IsAmong, is_among}
 use Rattle.bohm_types.specs.Term.{Atom}
 use Rattle.bohm_types.specs.Term as atoms
-use Rattle.bohm_types.specs.Stmt.{Stmt}
 use Rattle.bohm_types.specs.Stmt as stmts
 use Rattle.bohm_log.specs.declared.row.AtomKind.{AtomKind}
 use Rattle.bohm_log.specs.declared.row.AtomKind.TheVariants.{Small, Large, Read, Unread, Local}
@@ -60,7 +59,7 @@ place_moved : (f : List ℕ → List ℕ) (names keys : List (List ℕ)) (to : L
 place_moved f names keys to h i l =
     slice_get_within keys (slice_index_or to i 0) (f (name_at names i)) (key_moved f names keys to h i l)
 
--- what is known of the columns of a call
+-- q has p's names, and p's literals and terms with more after them, over the keys that f gives for p's keys
 record IsMoved (f : List ℕ → List ℕ) (p q : Parts) (r w : List ℕ) : Type 0 where
   few_reads : length p.reads ≤ 16
   few_writes : length p.writes ≤ 16
@@ -115,7 +114,7 @@ sum_moved f p q r w h within i j rises end reads =
 
 -- ---- statements over other keys
 
--- the three sums, where they are read
+-- x is the sum a with its keys replaced by f, if a reads only keys that satisfy P
 record SumsMoved (f : List ℕ → List ℕ) (P : List ℕ → Type 0) (a x : List (Bool × Atom)) : Type 0 where
   same : SumReads P a → x ≡ sum_with f a
 

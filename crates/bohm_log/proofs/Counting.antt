@@ -1,4 +1,4 @@
--- How many terms and statements a draft has after a step, and what a failed one leaves.
+-- How many terms and statements a draft has after a step, and which names and literals a failed step leaves.
 use Rattle.std.proofs.Common.{◌≡◌, ℕ, ◌+◌, ◌-◌, ◌≤◌, Bool, List, [], ◌∷◌, ◌++◌, length, take, ap, sym, ◌∙◌, subst, arith, length-append}
 use Rattle.std.proofs.Math.Seq.{take-append-add}
 use Rattle.std.specs.List.{between}
@@ -50,7 +50,7 @@ counted_stmt p q d e s action name start first second third is all came compact 
   compact = compact;
 }
 
--- ---- the statement that is read
+-- ---- the open statement
 
 sum_length : (p : Parts) (i j : ℕ) → j ≤ length p.terms → length (sum_between p i j) ≡ j - i
 sum_length p i j h = length-map (between i j p.terms) (term_of p) ∙ length-between p.terms i j h
@@ -69,18 +69,18 @@ open_at x p s f n Right a b c = omega (
   sum_length p n (length p.terms) (omega arith),
 )
 
--- its terms are all from its start on
+-- the open statement's terms are all terms from its start on
 pub open_counted : (e : Edition) (p : Parts) (o : Pending) → IsDrafted p o → open_terms (drafted_of e p o) ≡ length p.terms - o.start
 open_counted e p o h = open_at (drafted_of e p o).txn p o.start o.first o.second o.step h.begins h.rises h.ends
 
--- ---- what a failed step leaves
+-- ---- after a failed step
 
 take_begins : {A : Type 0} (xs ys : List A) (n : ℕ) → Begins xs ys → length xs ≤ n → Begins xs (take n ys)
 take_begins xs ys n b long =
     let more : n ≡ length xs + (n - length xs) = omega (arith, long) in
     (take (n - length xs) b.0, ap (take n) b.1 ∙ ap (λ k. take k (xs ++ b.0)) more ∙ take-append-add xs b.0 (n - length xs))
 
--- all that was there before stays where the lists are cut back to what they may hold
+-- cutting names and literals to no less than their earlier lengths keeps the earlier ones
 pub cut_grows : (p m : Parts) (others : List (List ℕ)) (large : List ℕ) (n k : ℕ) → others ≡ take n m.others → large ≡ take k m.large → NamesGrow p m
     → length p.others ≤ n → length p.large ≤ k
     → NamesGrow p (record { reads = m.reads; writes = m.writes; others = others; large = large; terms = m.terms; rows = m.rows })

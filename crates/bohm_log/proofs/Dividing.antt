@@ -1,4 +1,4 @@
--- Parts of a log.
+-- A slice of a log's heads is a part of the log, and a part's numbers are those of its declared keys.
 use Rattle.std.proofs.Common.{◌≡◌, ℕ, ◌-◌, ◌<◌, List, [], ◌∷◌, map, take, drop, length, refl, ap, sym, ◌∙◌}
 use Rattle.std.specs.List.{All, between}
 use Rattle.std.proofs.lemmas.List.{take-map, drop-map}
@@ -29,7 +29,7 @@ named_between names ids i j h = All-between (λ n. n < length names) i j ids h
 pub terms_between : (p : Parts) (i j : ℕ) → All (TermIn p) p.terms → All (TermIn p) (between i j p.terms)
 terms_between p i j h = All-between (TermIn p) i j p.terms h
 
--- ---- numbers
+-- ---- the numbers of declared keys
 
 set_in : (c : Shared) (h : Head) → HeadIn c h → SetsIn c.ids h
 set_in c h i = record { reads = i.spans.reads; writes = i.spans.writes; end = i.spans.ids }

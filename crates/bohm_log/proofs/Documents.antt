@@ -28,7 +28,7 @@ txns_in edition (t ∷ ts) all h =
       txns_in edition ts here.1 h.1,
     )
 
--- a store of entries, and a log of transactions of one edition
+-- sound entries and sound transactions of one edition make a sound document
 pub is_document : (edition : Edition) (store : List (List ℕ × ℤ)) (log : List Txn) → AllByRecursion IsEntry store → IsTrue (list_all (in_edition edition) log)
     → AreTxns log → IsDocument (record { edition = edition; store = store; log = log })
 is_document edition store log entries all h = record { store = entries; log = txns_in edition log all h }

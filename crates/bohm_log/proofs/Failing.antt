@@ -1,4 +1,4 @@
--- What holds anyway holds after a failure.
+-- A statement that holds in any case holds after a failure.
 use Rattle.std.proofs.Common.{Ok, Err}
 use Rattle.std.specs.Prelude.{Result, OnErr}
 

@@ -1,4 +1,4 @@
--- What the crates above cite of this crate's proofs. Each lemma is proved in the file of its subject.
+-- The lemmas of this crate that other crates cite. Each lemma is proved in the file of its subject.
 
 -- instances of procedures
 pub use Rattle.bohm_log.proofs.InstanceSound.{instance_sound}

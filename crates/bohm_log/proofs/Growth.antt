@@ -1,4 +1,4 @@
--- What stays where parts grow.
+-- Indices denote the same names, terms and statements when parts grow.
 use Rattle.std.proofs.Common.{◌≡◌, ℕ, ◌-◌, ◌<◌, ◌≤◌, Bool, true, false, List, [], ◌∷◌, ◌++◌, length, get_or}
 use Rattle.std.proofs.Common.{drop, map, refl, ap, sym, ◌∙◌, subst, arith, length-append, append-nil}
 use Rattle.std.specs.List.{All, AllByRecursion, between}
@@ -24,7 +24,7 @@ length-begins xs ys b = omega (arith, ap length b.1, length-append xs b.0)
 pub get_or-begins : {A : Type 0} (xs ys : List A) (d : A) (i : ℕ) → Begins xs ys → i < length xs → get_or ys i d ≡ get_or xs i d
 get_or-begins xs ys d i b h = ap (λ zs. get_or zs i d) b.1 ∙ get_or_append_left xs b.0 d i h
 
--- the part of a list up to a place in its front is the part of that front
+-- a range within the first of two appended lists is the same range of that list
 pub between-front : {A : Type 0} (xs more : List A) (i j : ℕ) → j ≤ length xs → i ≤ j → between i j (xs ++ more) ≡ between i j xs
 between-front xs more i j within rises =
     let short : i ≤ length xs = omega arith in
@@ -126,6 +126,6 @@ stmt_grows p q g h r w =
     let c = sum_grows p q g h.terms r.second r.third w.third w.end in
     λ i. stmt_made r.action (name i) (a i) (b i) (c i)
 
--- the statements that were there stay
+-- the earlier rows represent the same statements in the extended parts
 pub body_grows : (p q : Parts) → Grows p q → IsWithin p → map (stmt_of q) p.rows ≡ map (stmt_of p) p.rows
 body_grows p q g h = map-all (stmt_of q) (stmt_of p) (RowIn p) (stmt_grows p q g h) p.rows h.rows

@@ -1,4 +1,4 @@
--- Every instance for names and values is a sound transaction, and so is the procedure of a sound one.
+-- The instance of a sound procedure is a sound transaction, and the procedure of a sound own instance is sound.
 use Rattle.std.proofs.Common.{◌≡◌, ℕ, zero, suc, ◌<◌, ◌-◌, ◌^◌, Bool, true, false, List, [], ◌∷◌}
 use Rattle.std.proofs.Common.{length, map, drop, Option, Some, None, refl, arith}
 use Rattle.std.specs.Prelude.{ℤ, pos, negsuc, nat_lt, if◌then◌else◌}
@@ -21,7 +21,7 @@ use Rattle.std.specs.Int.RustNames.{unsigned_abs}
 use Rattle.bohm_types.specs.Keys.{place}
 use Rattle.std.specs.Prelude.{slice_index_or}
 
--- the function makes names of names
+-- the function maps each valid name to a valid name
 KeepsNames : (List ℕ → List ℕ) → Type 0
 KeepsNames f = (k : List ℕ) → IsName k → IsName (f k)
 
@@ -59,7 +59,7 @@ stmt_sound f keeps (Remove k) h = keeps k h
 stmt_sound f keeps (Show sum) h = sum_sound f keeps sum h
 stmt_sound f keeps Fail h = tt
 
--- ---- sets
+-- ---- sets of keys
 
 inserted_sound : (k : List ℕ) (xs : List (List ℕ)) → IsName k → AllByRecursion IsName xs → AllByRecursion IsName (inserted k xs)
 inserted_sound k [] e h = (e, tt)
@@ -74,7 +74,7 @@ key_set_sound : (ks : List (List ℕ)) → AllByRecursion IsName ks → AllByRec
 key_set_sound [] h = tt
 key_set_sound (k ∷ ks) h = inserted_sound k (key_set ks) h.0 (key_set_sound ks h.1)
 
--- ---- lets
+-- ---- the `let` statements of values
 
 sized : (v : ℤ) → IsNumber v → nat_lt (unsigned_abs v) (2 ^ 63) ≡ true → IsSum ((is_minus v, Lit (unsigned_abs v)) ∷ [])
 sized (pos n) h e =

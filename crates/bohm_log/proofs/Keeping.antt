@@ -1,4 +1,4 @@
--- What a draft keeps to, after each step.
+-- The invariant of a draft, which each step keeps.
 use Rattle.std.proofs.Common.{◌≡◌, ℕ, ◌+◌, ◌^◌, ◌<◌, Bool, List, length, ap, sym, subst, ◌∙◌}
 use Rattle.bohm_types.specs.Sound.{IsTerm, IsStmt}
 use Rattle.bohm_types.specs.Term.{Atom}
@@ -17,7 +17,7 @@ use Rattle.bohm_log.proofs.Statements.{stmt_added, stmt_within}
 abbrev pub KeepsTo : Edition → Parts → Pending → Type 0
 KeepsTo e p o = IsDrafted p o × IsSoundDraft (drafted_of e p o) × IsCounted p (drafted_of e p o)
 
--- names that come are unseen
+-- adding names and literals keeps the invariant
 pub unseen_keeps : (e : Edition) (p q : Parts) (o : Pending) → NamesGrow p q → IsCompact q → KeepsTo e p o → KeepsTo e q o
 unseen_keeps e p q o g compact h =
     let same = names_unseen e p q o g h.0 in (
@@ -30,7 +30,7 @@ unseen_keeps e p q o g compact h =
       },
     )
 
--- keys are declared before all else
+-- declaring keys while the body is empty keeps the invariant
 pub declared_keeps : (e : Edition) (p q : Parts) (o : Pending) (reads writes : List (List ℕ)) → q ≡ with_keys p reads writes → IsBare (drafted_of e p o)
     → IsSoundDraft (record (drafted_of e p o) { txn = record (drafted_of e p o).txn { reads = reads; writes = writes } }) → KeepsTo e p o → KeepsTo e q o
 declared_keeps e p q o reads writes is bare sound h =
@@ -45,7 +45,7 @@ declared_keeps e p q o reads writes is bare sound h =
       },
     )
 
--- a term comes
+-- adding a term keeps the invariant
 pub term_keeps : (e : Edition) (p q : Parts) (o : Pending) (minus : Bool) (atom : Atom) → AddsTerm p q minus atom → IsCompact q → IsTerm (minus, atom)
     → length p.terms + 1 < 2 ^ 32 → KeepsTo e p o → KeepsTo e q o
 term_keeps e p q o minus atom g compact term few h =
@@ -55,7 +55,7 @@ term_keeps e p q o minus atom g compact term few h =
       counted_term p q (drafted_of e p o) (drafted_of e q o) minus atom is g compact h.2,
     )
 
--- a statement comes, of all sums that were read
+-- adding the statement of all sums that were read keeps the invariant
 pub stmt_keeps : (e : Edition) (p q : Parts) (action : Action) (name : List ℕ) (o : Pending) (a b t : ℕ) (d : Drafted) → AddsRow p q action name o.start a b t
     → a ≡ first_end o.first t o.step → b ≡ second_end o.second t o.step → t ≡ length p.terms → IsCompact q → drafted_of e p o ≡ d
     → IsStmt (made_of d action name) → stmt_terms (made_of d action name) ≡ open_terms d → KeepsTo e p o → KeepsTo e q (opened t)

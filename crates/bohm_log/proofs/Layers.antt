@@ -1,4 +1,4 @@
--- Names behind those that are shared.
+-- Finding, adding and removing names in two layers: the shared names, then the others.
 use Rattle.std.proofs.Common.{◌≡◌, ℕ, zero, suc, ◌+◌, ◌-◌, ◌<◌, ◌≤◌, ◌^◌, true, false, cond, List, [], ◌∷◌, ◌++◌, length, take}
 use Rattle.std.proofs.Common.{Some, None, refl, ap, sym, ◌∙◌, arith, append_assoc, append-nil, length-append, slice_get}
 use Rattle.std.specs.Prelude.{Bool, ◌||◌}
@@ -58,7 +58,7 @@ found_behind k xs ys names same e =
     ap (position (bytes_eq k)) (sym same) ∙ (position_from-zero (bytes_eq k) (xs ++ ys)
     ∙ (from_none (bytes_eq k) 0 xs ys none ∙ (ap (λ n. position_from (bytes_eq k) n ys) zero_more ∙ behind)))
 
--- a name that isn't in front comes behind
+-- a name that isn't in the first layer is added to the second
 pub with_behind : (k : List ℕ) (xs ys names : List (List ℕ)) → xs ++ ys ≡ names → None ≡ position (bytes_eq k) xs → xs ++ with_name ys k ≡ with_name names k
 with_behind k xs ys names same e =
     let absent : list_any (bytes_eq k) xs ≡ false = none_from (bytes_eq k) 0 xs (sym (position_from-zero (bytes_eq k) xs) ∙ sym e) in
@@ -75,7 +75,7 @@ got_behind (x ∷ xs) ys i =
     let same : suc (length xs) + i ≡ suc (length xs + i) = omega arith in
     ap (λ n. slice_get (x ∷ (xs ++ ys)) n) same ∙ got_behind xs ys i
 
--- ---- distinct names
+-- ---- names stay distinct when a name is added
 
 other_way : (a b : List ℕ) → bytes_eq a b ≡ false → bytes_eq b a ≡ false
 other_way a b e =
@@ -117,7 +117,7 @@ with_short names k =
 pub still_interned : (names : List (List ℕ)) (k : List ℕ) → IsInterned names → length names ≤ 2 ^ 32 - 1 → IsInterned (with_name names k)
 still_interned names k interned room = record { few = omega (arith, with_short names k, room); apart = still_apart names k interned.apart }
 
--- ---- some of the shared names
+-- ---- a name's index among the first n names
 
 from_least : (t : List ℕ → Bool) (j : ℕ) (xs : List (List ℕ)) (i : ℕ) → position_from t j xs ≡ Some i → j ≤ i
 from_least t j [] i e = absurd cc
@@ -167,7 +167,7 @@ module _ (k : List ℕ) (n : ℕ) (xs : List (List ℕ)) where
   pub found_past : (i : ℕ) → Some i ≡ position (bytes_eq k) xs → n ≤ i → None ≡ position (bytes_eq k) (take n xs)
   found_past i e past = sym (from_zero (take n xs) ∙ taken_past (bytes_eq k) 0 n xs i (sym (from_zero xs) ∙ sym e) (omega (arith, past)))
 
--- names are taken back
+-- cutting both layers to a count drops the second layer and cuts the first, or cuts only the second
 pub cut_shared : {A : Type 0} (shared own : List A) (shown count : ℕ) → shown ≤ length shared → count ≤ shown
     → take count shared ++ [] ≡ take count (take shown shared ++ own)
 cut_shared shared own shown count inside few =
@@ -189,7 +189,7 @@ pub none_apart : IsDistinct bytes_eq []
 unfolding IsDistinct
 none_apart = tt
 
--- ---- distinct names stay so
+-- ---- the first n of distinct names are distinct
 
 taken_all : (x : List ℕ) (n : ℕ) (xs : List (List ℕ)) → AllByRecursion (λ y. bytes_eq x y ≡ false) xs → AllByRecursion (λ y. bytes_eq x y ≡ false) (take n xs)
 taken_all x zero xs all = tt

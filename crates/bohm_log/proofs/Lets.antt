@@ -1,4 +1,4 @@
--- What a call adds for its values: what is there, and what is still to come.
+-- The literals, terms and statements that a call adds for its values: those so far and those still to add.
 use Rattle.std.proofs.Common.{◌≡◌, ℕ, zero, suc, ◌+◌, ◌<◌, ◌≤◌, true, false, List, [], ◌∷◌, ◌++◌, length, get_or, take, drop}
 use Rattle.std.proofs.Common.{refl, ap, sym, ◌∙◌, arith, add-one, drop-cons, append_assoc, append-nil, replicate}
 use Rattle.std.specs.List.{AllByRecursion}
@@ -26,7 +26,7 @@ same_many many other v =
       | false ↦ refl
     ]
 
--- ---- with one value more
+-- ---- adding the next value
 
 pub large_next : (old now next : List ℕ) (vs : List ℤ) (i : ℕ) (v : ℤ) → i < length vs → v ≡ get_or vs i v
     → now ++ let_large (drop i vs) ≡ old ++ let_large vs → next ≡ now ++ value_large v → next ++ let_large (drop (i + 1) vs) ≡ old ++ let_large vs
@@ -54,7 +54,7 @@ rows_next old now next first start end places vs i place v inside is in_places p
     ∙ (λ j. now ++ let_rows start (sym (split_at places i place in_places place_is) j) (sym (split_at vs i v inside is) j))
     ∙ h
 
--- ---- how many there are
+-- ---- how many terms and statements there are
 
 pub terms_many : (many other : ℕ) (vs : List ℤ) → length (let_terms many vs) ≡ length (let_terms other vs)
 terms_many many other [] = refl
@@ -71,7 +71,7 @@ rows_many start [] vs h = refl
 rows_many start (i ∷ is) [] h = absurd (omega (arith, h))
 rows_many start (i ∷ is) (v ∷ vs) h = omega (arith, h, rows_many (start + length (value_terms 0 v)) is vs (omega (arith, h)))
 
--- a column that statements were added to, the first few in place of others
+-- a call appends as many statements as the body has: those of the values replace the first ones
 pub rows_longer : (old now next : List StmtRow) (g : StmtRow → StmtRow) (rows : List StmtRow) (start : ℕ) (places : List ℕ) (vs : List ℤ)
     → length vs ≡ length places → length places ≤ length rows → now ≡ old ++ let_rows start places vs → next ≡ now ++ map g (drop (length places) rows)
     → length next ≡ length old + length rows
@@ -88,12 +88,12 @@ rows_longer old now next g rows start places vs same few a b = omega (
   length-drop (length places) rows,
 )
 
--- what is behind so many entries of a slice
+-- the entries of a slice after the first n are the rows after the first n
 pub behind : {A B : Type 0} (g : A → B) (old : List B) (s rows : List A) (n : ℕ) → s ≡ rows
     → old ++ map g (take (length s - n) (drop n s)) ≡ old ++ map g (drop n rows)
 behind g old s rows n e = ap (λ xs. old ++ map g xs) (between_to_end s n (length s) (omega arith) ∙ ap (drop n) e)
 
--- the statements of a call are as many as the body's
+-- a call has as many statements as the body
 pub rows_whole : (g : StmtRow → StmtRow) (rows : List StmtRow) (start : ℕ) (places : List ℕ) (vs : List ℤ) → length vs ≡ length places
     → length places ≤ length rows → length (let_rows start places vs ++ map g (drop (length places) rows)) ≡ length rows
 rows_whole g rows start places vs same few = omega (
@@ -124,12 +124,12 @@ start_next first start end vs i v inside is h m = omega (
   terms_many (0 + length (value_large v)) 0 (drop (i + 1) vs),
 )
 
--- a zero is one term
+-- n zeros have n terms
 pub zero_terms : (many n : ℕ) → length (let_terms many (replicate n (pos 0))) ≡ n
 zero_terms many zero = refl
 zero_terms many (suc n) = ap suc (zero_terms (many + 0) n)
 
--- values of one term each have the same statements
+-- values of one term each have the same statements as zeros
 pub short_rows : (start : ℕ) (places : List ℕ) (vs : List ℤ) → AllByRecursion (λ (v : ℤ). length (value_terms 0 v) ≡ 1) vs → length vs ≡ length places
     → let_rows start places (replicate (length places) (pos 0)) ≡ let_rows start places vs
 short_rows start [] [] short same = refl
@@ -140,7 +140,7 @@ short_rows start (i ∷ is) (v ∷ vs) short same =
     ∙ ap (λ (rs : List StmtRow). let_row i start (start + length (value_terms 0 v)) ∷ rs)
     (short_rows (start + length (value_terms 0 v)) is vs short.1 (omega (arith, same)))
 
--- ---- with all values
+-- ---- after the last value
 
 pub large_all : (old now : List ℕ) (vs : List ℤ) (i : ℕ) → length vs ≤ i → now ++ let_large (drop i vs) ≡ old ++ let_large vs → now ≡ old ++ let_large vs
 large_all old now vs i past h = sym (append-nil now) ∙ ap (λ (ws : List ℤ). now ++ let_large ws) (sym (drop_all i vs past)) ∙ h

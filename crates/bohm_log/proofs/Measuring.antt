@@ -1,4 +1,4 @@
--- How long a log's columns get.
+-- Bounds on the lengths of a log's columns.
 use Rattle.std.proofs.Common.{◌≡◌, ℕ, ◌+◌, ◌*◌, ◌≤◌, List, [], ◌∷◌, ◌++◌, length, map, take, drop, arith, refl, ap, sym, subst, ◌∙◌, Bool, true, false}
 use Rattle.std.proofs.Common.{Some, None, Ok, Err}
 use Rattle.std.specs.Prelude.{ℤ, ◌^◌, ◌-◌, nat_lt, max, if◌then◌else◌, Option, Result, IsOkAnd, IfOk, OnOk, OnErr}
@@ -39,7 +39,7 @@ size_cons size x xs =
     let split : sum_by size (x ∷ xs) ≡ 0 + size x + sum_by size xs = sum_by-append size (x ∷ []) xs in
     omega (arith, split)
 
--- ---- what a call makes of a body
+-- ---- the size of a call's instance
 
 pub called_terms : (to : List ℕ) (terms : List TermRow) (many : ℕ) (vs : List ℤ)
     → length (map (term_to to) terms ++ let_terms many vs) ≡ length terms + length (let_terms many vs)
@@ -95,7 +95,7 @@ few_large v =
       | false ↦ few_literals (2 ^ 63 - 1)
     ]
 
--- each value has a term, and at most one large literal
+-- each value has at least one term and at most one large literal
 values_few : (many : ℕ) (vs : List ℤ) → (length vs ≤ length (let_terms many vs)) × (length (let_large vs) ≤ length vs)
 values_few many [] = (omega arith, omega arith)
 values_few many (v ∷ vs) =
@@ -126,7 +126,7 @@ lets_terms (x ∷ xs) (v ∷ vs) same =
       omega (arith, rest.1),
     )
 
--- ---- other keys
+-- ---- replacing keys keeps the number of terms
 
 module _ (f : List ℕ → List ℕ) where
   sum_kept : (sum : List (Bool × Atom)) → length (sum_with f sum) ≡ length sum
@@ -151,14 +151,14 @@ module _ (f : List ℕ → List ℕ) where
   body_kept (s ∷ ss) =
       omega (arith, size_cons stmt_terms (stmt_with f s) (map (stmt_with f) ss), size_cons stmt_terms s ss, stmt_kept s, body_kept ss)
 
--- ---- what a transaction's parts take
+-- ---- the size of a transaction's parts
 
--- the parts are few beside the transaction
+-- the parts' entries, and the names that they may add, are bounded by the transaction's size
 pub record Fits (p : Parts) (t : Txn) : Type 0 where
   pub names : most_names (length p.reads) (length p.writes) ≤ 32 * txn_size t
   pub entries : entries_of p ≤ 16 * txn_size t
 
--- parts that a log may take are this transaction
+-- the valid parts represent this sound transaction, whose size bounds the number of their entries
 pub record Adds (e : Edition) (p : Parts) (t : Txn) : Type 0 where
   pub same : txn_of e p ≡ t
   pub within : IsWithin p
@@ -232,13 +232,13 @@ fits_called e keys body locals xs args vs places t h is same =
       );
     })
 
--- a call has a value for each of its procedure's
+-- a call with a value for each of the procedure's values has one for each of the procedure's locals
 pub values_many : (procedure : Procedure) (e : Edition) (keys : List (List ℕ)) (locals : List ℕ) (p : Parts) (vs : List ℤ)
     → procedure_of e keys locals p ≡ procedure → length vs ≡ length procedure.values → length vs ≡ length locals
 values_many procedure e keys locals p vs is same =
     omega (arith, same, ap (λ (x : Procedure). length x.values) is, length-map locals (name_at p.others))
 
--- a procedure made of an own instance that was read
+-- a procedure made of an own instance that was read has few names and literals compared with its terms
 pub filled_made : (p q : Parts) (d : Drafted) (keys values : List (List ℕ)) (procedure : Procedure) → IsCounted p d
     → length q.terms ≡ length p.terms → length q.rows ≡ length p.rows → length q.large ≡ length p.large
     → length q.others ≤ length p.others + length values → procedure ≡ procedure_with d.txn keys values
@@ -256,7 +256,7 @@ filled_made p q d keys values procedure h terms rows large others is short =
 
 -- ---- logs
 
--- what a log's columns keep to
+-- a log's invariant: heads are within the columns, transactions are sound, lengths are bounded
 abbrev pub Keeps : Shared → List Head → Type 0
 Keeps c hs = IsLogged c hs × AreTxns (map (txn_at c) hs) × IsMeasured c (map (txn_at c) hs)
 
@@ -269,7 +269,7 @@ pub met_ok : (r : Result Head LogFault) (P : Head → Type 0) (Q : Type 0) → I
 met_ok (Ok x) P Q is met = met
 met_ok (Err f) P Q is met = absurd is
 
--- a log with one transaction more
+-- appending a transaction's parts keeps the invariant and adds the transaction to the log
 module _ (c d : Shared) (hs new : List Head) (e : Edition) (p : Parts) (t : Txn) (one : Adds e p t) (h : Keeps c hs) where
   longer : (r : Result Head LogFault) → IsOkAnd r (λ x. new ≡ hs ++ x ∷ []) → IfOk r (λ x. Appends c d x e p)
       → Keeps d new × (map (txn_at d) new ≡ map (txn_at c) hs ++ t ∷ [])
@@ -293,7 +293,7 @@ module _ (c d : Shared) (hs new : List Head) (e : Edition) (p : Parts) (t : Txn)
       → map (txn_at d) new ≡ map (txn_at c) hs ++ t ∷ []
   view_longer r is a = (longer r is a).1
 
--- a log whose columns were cut back
+-- cutting the columns back to their earlier ends restores the log
 module _ (c d now : Shared) (hs new : List Head) (e : Edition) (p : Parts) (cut : now ≡ cut_to (ends_of c) d) (same : new ≡ hs) where
   came_wider : (r : Result Head LogFault) → IfOk r (λ x. Appends c d x e p) → OnErr r (Interns c d) → Widens c d
   came_wider (Ok x) a g = a.interns.widens
@@ -309,7 +309,7 @@ module _ (c d now : Shared) (hs new : List Head) (e : Edition) (p : Parts) (cut 
       let back : now ≡ c = cut ∙ cut_kept c d (came_wider r a g) in
       λ i. map (txn_at (back i)) (same i)
 
--- a key was named, and no transaction came
+-- adding a key's name without a transaction keeps the invariant
 pub named_log : (c d : Shared) (hs : List Head) → Interns c d → length d.names ≤ max (length c.names) (2 ^ 30) → entries_in d ≡ entries_in c → Keeps c hs
     → Keeps d hs
 named_log c d hs g few entries h =
@@ -319,6 +319,6 @@ named_log c d hs g few entries h =
       subst (IsMeasured d) (sym same) (record { names = omega (arith, few, h.2.names); entries = omega (arith, entries, h.2.entries) }),
     )
 
--- columns are full only where the log is large
+-- the columns are full only if the transactions, with the next one, have a size of at least 2^26
 pub large_log : (c : Shared) (ts : List Txn) (p : Parts) (t : Txn) → IsMeasured c ts → Fits p t → 2 ^ 32 ≤ held_with c p → 2 ^ 26 ≤ log_size ts + txn_size t
 large_log c ts p t h fits full = omega (arith, h.names, h.entries, fits.names, fits.entries, full)

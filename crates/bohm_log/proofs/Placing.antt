@@ -1,4 +1,4 @@
--- A key's place among rising keys, and where the keys that names stand for are.
+-- A key's index among ascending keys, and the indices of keys in their set.
 use Rattle.std.proofs.Common.{◌≡◌, ℕ, zero, suc, ◌+◌, ◌-◌, ◌<◌, ◌≤◌, true, false, Bool, List, [], ◌∷◌, ◌++◌, length}
 use Rattle.std.proofs.Common.{get_or, take, drop, map, Some, refl, ap, sym, ◌∙◌, subst, arith, add-one}
 use Rattle.std.proofs.Common.{drop-cons, append_assoc, length-append, below_more}
@@ -23,7 +23,7 @@ use Rattle.std.proofs.lemmas.Map.Text.{is_eq-slice_cmp}
 use Rattle.bohm_types.specs.Keys.{is_among}
 use Rattle.bohm_types.specs.KeySets.{inserted_by, inserted, key_set}
 
--- ---- into its place
+-- ---- inserting a key at its index
 
 split_at : (xs : List (List ℕ)) (i : ℕ) (x : List ℕ) → i < length xs → x ≡ get_or xs i x → drop i xs ≡ x ∷ drop (i + 1) xs
 split_at xs i x h is = rw add-one (drop-cons xs i x h ∙ ap (λ y. y ∷ drop (suc i) xs) (sym is))
@@ -57,7 +57,7 @@ inserted_after k xs i x h is greater e =
     e ∙ ap (λ ys. take i xs ++ ys) here ∙ sym (append_assoc (take i xs) (x ∷ []) (inserted k (drop (i + 1) xs)))
     ∙ ap (λ ys. ys ++ inserted k (drop (i + 1) xs)) (sym more)
 
--- ---- keys that are their own set
+-- ---- ascending keys are their own set
 
 pub own_last : (keys : List (List ℕ)) (i : ℕ) → length keys ≤ i + 1 → i < length keys → key_set (drop i keys) ≡ drop i keys
 own_last keys i h inside =
@@ -79,9 +79,9 @@ pub own_further_at : (keys : List (List ℕ)) (i : ℕ) (k x : List ℕ) → i +
 own_further_at keys i k x inside first second less own =
     own_further keys i k x inside (sym (get_or_from_slice_get keys i k k first)) (sym (get_or_from_slice_get keys (i + 1) x x second)) less own
 
--- ---- numbers of rising names
+-- ---- inserting a name's number among the numbers of ascending names
 
--- the name with the number at a place
+-- the name with the number at an index is the name at that index
 pub name_read : (names : List (List ℕ)) (sorted : List ℕ) (i n : ℕ) (x : List ℕ) → AllNamed names sorted → i < length sorted → n ≡ get_or sorted i n
     → x ≡ get_or names n x → x ≡ get_or (names_at names sorted) i x
 name_read names sorted i n x named inside number is =
@@ -93,7 +93,7 @@ inserted_name names sorted i id =
     map-append (name_at names) (take i sorted) (id ∷ drop i sorted)
     ∙ (λ j. sym (take-map (name_at names) i sorted) j ++ name_at names id ∷ sym (drop-map (name_at names) i sorted) j)
 
--- the names before a place are below another one
+-- the first i of the sorted names are below the name with number `id`
 abbrev pub BelowUpTo : List (List ℕ) → List ℕ → ℕ → ℕ → Type 0
 BelowUpTo names sorted id i = inserted (name_at names id) (names_at names sorted)
     ≡ take i (names_at names sorted) ++ inserted (name_at names id) (drop i (names_at names sorted))
@@ -123,7 +123,7 @@ number_after names sorted id i n k x inside is named within number there greater
     inserted_after (name_at names id) (names_at names sorted) i x (omega (arith, within, length-map sorted (name_at names)))
     (name_read names sorted i n x named within number there) (ap (λ (y : List ℕ). slice_cmp nat_cmp y x) (sym same) ∙ greater) e
 
--- ---- places in order
+-- ---- consecutive indices
 
 map_itself : (xs : List ℕ) → map (λ i. i) xs ≡ xs
 map_itself [] = refl
@@ -140,7 +140,7 @@ place_stays n i h = get_or-range_with_len 0 n i 0 h ∙ zero_more
     zero_more : 0 + i ≡ i
     zero_more = omega arith
 
--- keys that are their own set are at their own places
+-- the indices of keys in their own list are 0, 1, 2 and so on
 pub own_places : (keys : List (List ℕ)) → ArePlaces keys keys (range_with_len 0 (length keys))
 own_places keys = record {
   each = λ i h. ap (slice_get keys) (place_stays (length keys) i h) ∙ slice_get-get_or keys i [] h;
@@ -148,7 +148,7 @@ own_places keys = record {
 
 -- ---- two keys
 
--- how two keys compare that were read
+-- the two keys of a list compare as the keys read at indices 0 and 1
 compared : (x y a b : List ℕ) → slice_get (x ∷ y ∷ []) 0 ≡ Some a → slice_get (x ∷ y ∷ []) 1 ≡ Some b → slice_cmp nat_cmp x y ≡ slice_cmp nat_cmp a b
 compared x y a b first second =
     let one : x ≡ a = get_or_from_slice_get (x ∷ y ∷ []) 0 a a first in
@@ -170,7 +170,7 @@ two_falling (x ∷ y ∷ []) a b two first second greater =
     (two, ap (λ o. inserted_by o x y [] (inserted x [])) (compared x y a b first second ∙ greater))
 two_falling (x ∷ y ∷ z ∷ zs) a b two first second greater = absurd (omega (arith, two))
 
--- ---- where they are
+-- ---- a key is in the set of a list exactly if the key is in the list
 
 equal_keys : (k x : List ℕ) → slice_cmp nat_cmp k x ≡ Equal → bytes_eq k x ≡ true
 equal_keys k x e = sym (is_eq-slice_cmp k x) ∙ ap is_eq e
@@ -204,7 +204,7 @@ pub among_key_set : (ks : List (List ℕ)) (q : List ℕ) → is_among (key_set 
 among_key_set [] q = refl
 among_key_set (k ∷ ks) q = among_inserted k (key_set ks) q ∙ ap (λ b. bytes_eq k q || b) (among_key_set ks q)
 
--- ---- no more of them
+-- ---- a list's set has no more keys than the list
 
 inserted_few : (k : List ℕ) (xs : List (List ℕ)) → length (inserted k xs) ≤ suc (length xs)
 inserted_few k [] = omega arith
@@ -219,7 +219,7 @@ pub key_set_few : (ks : List (List ℕ)) → length (key_set ks) ≤ length ks
 key_set_few [] = omega arith
 key_set_few (k ∷ ks) = omega (arith, inserted_few k (key_set ks), key_set_few ks)
 
--- the key at a place is among them
+-- the key at an index is among the keys
 among_at : (keys : List (List ℕ)) (i : ℕ) (d : List ℕ) → i < length keys → is_among keys (get_or keys i d) ≡ true
 among_at [] i d h = absurd (omega (arith, h))
 among_at (x ∷ xs) zero d h = rw (key_itself x) refl
@@ -228,7 +228,7 @@ among_at (x ∷ xs) (suc i) d h = or_right (bytes_eq x (get_or xs i d)) (is_amon
 pub among_here : (keys : List (List ℕ)) (i : ℕ) (x : List ℕ) → i < length keys → x ≡ get_or keys i x → is_among (key_set keys) x ≡ true
 among_here keys i x h is = among_key_set keys x ∙ ap (λ y. is_among keys y) is ∙ among_at keys i x h
 
--- it is found
+-- each key of a list of at most 16 keys is in the list's set
 pub not_absent : (keys set : List (List ℕ)) (i : ℕ) (x : List ℕ) → set ≡ key_set keys → length keys ≤ 16 → i < length keys
     → x ≡ get_or keys i x → ¬ (IsApart set x)
 not_absent keys set i x e few h is apart =
@@ -237,7 +237,7 @@ not_absent keys set i x e few h is apart =
     let none : is_among set x ≡ false = apart short in
     absurd (let bad : true ≡ false = sym there ∙ none in cc)
 
--- ---- places so far
+-- ---- the indices of the first n keys
 
 abbrev pub PlacedUpTo : List (List ℕ) → List (List ℕ) → List ℕ → ℕ → Type 0
 PlacedUpTo keys set to n = (length to ≡ n) × ((i : ℕ) → i < n → slice_get set (slice_index_or to i 0) ≡ Some (slice_index_or keys i []))

@@ -1,4 +1,4 @@
--- Where a name stands in a list of names.
+-- The index of a name in a list of names.
 use Rattle.std.proofs.Common.{◌≡◌, ℕ, zero, suc, ◌+◌, true, false, cond, List, [], ◌∷◌, ◌++◌, Some, None, get_or, refl, ap, sym, ◌∙◌, slice_get}
 use Rattle.std.specs.Prelude.{Bool, ◌||◌}
 use Rattle.std.specs.List.{list_any, position, position_from}
@@ -38,7 +38,7 @@ some_from test i (x ∷ xs) n e =
       | false ↦ λ some. some_from test (i + 1) xs n some
     ] e
 
--- a name that has a number keeps it, and none comes
+-- adding a name that the search finds leaves the names unchanged
 pub numbered_already : (names : List (List ℕ)) (k : List ℕ) (i : ℕ) → Some i ≡ position (bytes_eq k) names → names ≡ with_name names k
 numbered_already names k i e =
     ap (λ b. cond b names (names ++ k ∷ [])) (sym (some_from (bytes_eq k) 0 names i (sym (position_from-zero (bytes_eq k) names) ∙ sym e)))
@@ -53,11 +53,11 @@ any_at [] k i e = absurd cc
 any_at (x ∷ xs) k zero e = rw (same_Some x k e) (rw ((bytes_eq-Decides k k).1 refl) refl)
 any_at (x ∷ xs) k (suc i) e = or_right (bytes_eq k x) (list_any (bytes_eq k) xs) (any_at xs k i e)
 
--- a name that was found is the one that is read there
+-- a name that was found at an index is the name that is read there
 pub is_read : (names : List (List ℕ)) (i : ℕ) (k : List ℕ) → slice_get names i ≡ Some k → k ≡ get_or names i k
 is_read names i k e = ap (λ o. unwrap_or o k) (sym e) ∙ unwrap_or-slice_get names i k
 
--- a name that stands among names has its number, and none comes
+-- adding a name that is at some index leaves the names unchanged
 pub named_already : (names : List (List ℕ)) (k : List ℕ) (i : ℕ) → slice_get names i ≡ Some k → names ≡ with_name names k
 named_already names k i e = ap (λ b. cond b names (names ++ k ∷ [])) (sym (any_at names k i e))
 

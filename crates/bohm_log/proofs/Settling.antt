@@ -1,4 +1,4 @@
--- The sets of a call, and where its keys stand in them.
+-- The sets of a call's keys, and the indices of the keys in these sets.
 use Rattle.std.proofs.Common.{arith, ◌≡◌, ℕ, List, ◌++◌, ◌-◌, length, take, drop, map, refl, ap, sym, subst, ◌∙◌}
 use Rattle.std.specs.Prelude.{ℤ, ◌≢◌}
 use Rattle.std.specs.List.{range_with_len}
@@ -17,11 +17,11 @@ use Rattle.bohm_log.specs.declared.call_places.SetPlaces.{SetPlaces}
 use Rattle.bohm_log.proofs.Placing.{own_places}
 use Rattle.bohm_log.proofs.Widening.{come_instead}
 
--- an order is one
+-- an order isn't both rising and falling
 not_both : {o : KeyOrder} → o ≡ Rising → o ≢ Falling
 not_both r f = let bad : Rising ≡ Falling = sym r ∙ f in cc
 
--- keys that rise
+-- ascending keys, which are their own set, are settled with consecutive indices
 pub settled_itself : (names : List (List ℕ)) (ids : List ℕ) (s : SetPlaces) → s.order ≡ Rising → key_set (names_at names ids) ≡ names_at names ids
     → s.places.items ≡ range_with_len 0 (length ids) → IsSettled names ids s
 settled_itself names ids s order set counted =
@@ -37,9 +37,9 @@ settled_itself names ids s order set counted =
       sorted = λ n. absurd (n order);
     }
 
--- ---- numbers that came
+-- ---- appended numbers
 
--- the numbers behind an offset, as a slice has them
+-- the slice from an offset to the end of the column has the numbers from this offset on
 pub ids_behind : (all ids : List ℕ) (from : ℕ) → all ≡ ids → take (length all - from) (drop from all) ≡ drop from ids
 ids_behind all ids from e = between_to_end all from (length all) (omega arith) ∙ ap (drop from) e
 
@@ -68,14 +68,14 @@ pub places_come : (c d : Shared) (keys names : List (List ℕ)) (from : ℕ) (id
 places_come c d keys names from ids s start a n i h =
     subst (λ (ks : List (List ℕ)). HasPlaces ks s) (settled_so c d keys names from ids start a n i) h.places
 
--- keys that rise are the set
+-- ascending keys are their set, so the appended numbers are those of the set
 pub itself_comes : (c d : Shared) (keys names : List (List ℕ)) (from : ℕ) (ids : List ℕ) (s : SetPlaces) → from ≡ length c.ids → NumbersCome c d keys
     → names ≡ d.names → ids ≡ drop from d.ids → IsSettled names ids s → s.order ≡ Rising → NumbersCome c d (key_set keys)
 itself_comes c d keys names from ids s start a n i h order =
     let so : names_at names ids ≡ keys = settled_so c d keys names from ids start a n i in
     subst (λ (ks : List (List ℕ)). NumbersCome c d ks) (sym so ∙ sym (h.itself order) ∙ ap key_set so) a
 
--- others are sorted
+-- if the keys don't ascend, the sorted numbers replace the appended ones and are those of the set
 pub sorted_comes : (c d e : Shared) (keys names : List (List ℕ)) (from : ℕ) (ids : List ℕ) (s : SetPlaces) → from ≡ length c.ids → NumbersCome c d keys
     → names ≡ d.names → ids ≡ drop from d.ids → IsSettled names ids s → s.order ≢ Rising
     → e ≡ record d { ids = take from d.ids ++ s.numbers.items } → NumbersCome c e (key_set keys)

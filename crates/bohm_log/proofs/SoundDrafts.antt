@@ -1,4 +1,4 @@
--- Steps of a draft keep what has a text.
+-- Each step keeps a draft sound, and appending a sound transaction keeps a log sound.
 use Rattle.std.proofs.Common.{◌≡◌, ℕ, ◌+◌, ◌<◌, Bool, List, [], ◌∷◌, ◌++◌, length, get_or, take, refl, ap, sym, ◌∙◌, subst}
 use Rattle.std.proofs.lemmas.List.{take_more}
 use Rattle.std.specs.List.{AllByRecursion}
@@ -16,7 +16,7 @@ each_append P (x ∷ xs) ys h g = (h.0, each_append P xs ys h.1 g)
 pub one_more : {A : Type 0} (P : A → Type 0) (xs : List A) (x : A) → AllByRecursion P xs → P x → AllByRecursion P (xs ++ x ∷ [])
 one_more P xs x h g = each_append P xs (x ∷ []) h (g, tt)
 
--- a loop that has seen the elements before i sees the one at i
+-- if the first i elements and the element at index i satisfy P, the first i + 1 elements do
 pub taken_more : {A : Type 0} (P : A → Type 0) (xs : List A) (i : ℕ) (x : A) → i < length xs → x ≡ get_or xs i x → AllByRecursion P (take i xs) → P x
     → AllByRecursion P (take (i + 1) xs)
 taken_more P xs i x inside is h one =
@@ -46,6 +46,6 @@ sound_stmt d s h stmt = record {
   latest = tt;
 }
 
--- one more transaction
+-- appending a sound transaction keeps all transactions sound
 pub sound_log : (log : List Txn) (t : Txn) → AreTxns log → IsTxn t.edition t → AreTxns (log ++ t ∷ [])
 sound_log log t h one = one_more (λ (x : Txn). IsTxn x.edition x) log t h one

@@ -1,4 +1,4 @@
--- What the places of terms and statements stand for.
+-- The names and literals that the indices of terms and statements denote.
 use Rattle.std.proofs.Common.{true, ◌≡◌, ℕ, Bool, false, List, [], ◌∷◌, ◌++◌, Some, refl, sym, ◌∙◌, subst, arith, append-nil, slice_get}
 use Rattle.std.proofs.lemmas.Option.{get_or_from_slice_get, slice_get_within}
 use Rattle.bohm_types.specs.Term as atoms
@@ -34,7 +34,7 @@ nameless_came p q action s a b t h made = record {
     stands actions.Show n = record { within = tt; same = refl }
     stands actions.Fail n = record { within = tt; same = refl }
 
--- ---- names and literals that come
+-- ---- adding names and literals
 
 pub large_grows : (p : Parts) (xs : List ℕ) → Begins p.large xs
     → NamesGrow p (record { reads = p.reads; writes = p.writes; others = p.others; large = xs; terms = p.terms; rows = p.rows })
@@ -59,7 +59,7 @@ others_grow p xs b = record {
   rows = refl;
 }
 
--- a local stands among the other names, since there is no key among which it is sought
+-- an index found for a statement's name denotes this name, where a local is sought only among the other names
 pub name_stands : (p : Parts) (action : Action) (declared : Bool) (i : ℕ) (k : List ℕ) → IsNamed action
     → KeyStands (keys_of action p.reads p.writes) p.others declared i k → NameStands p action declared i k
 name_stands p actions.Bind true i k n h = absurd (omega (arith, h.within))
@@ -76,7 +76,7 @@ name_stands p actions.Fail b i k n h = absurd n
 abbrev pub with_others : Parts → List (List ℕ) → Parts
 with_others p others = record { reads = p.reads; writes = p.writes; others = others; large = p.large; terms = p.terms; rows = p.rows }
 
--- names came, and no row
+-- names were added, and no row
 pub row_unseen : (p : Parts) (others : List (List ℕ)) (rows : List StmtRow) → Begins p.others others → rows ≡ p.rows
     → NamesGrow p (record { reads = p.reads; writes = p.writes; others = others; large = p.large; terms = p.terms; rows = rows })
 row_unseen p others rows b e = record {
@@ -92,7 +92,7 @@ row_unseen p others rows b e = record {
   rows = e;
 }
 
--- names and literals came, and no term
+-- names and literals were added, and no term
 pub term_unseen : (p q : Parts) (terms : List TermRow) → NamesGrow p q → terms ≡ q.terms
     → NamesGrow p (record { reads = q.reads; writes = q.writes; others = q.others; large = q.large; terms = terms; rows = q.rows })
 term_unseen p q terms g e = record {
@@ -108,7 +108,7 @@ term_unseen p q terms g e = record {
   rows = g.rows;
 }
 
--- a row and the names that it needs came
+-- a row and the names that the row needs were added
 pub named_came : (p : Parts) (others : List (List ℕ)) (rows : List StmtRow) (action : Action) (name : List ℕ) (declared : Bool) (place s a b t : ℕ)
     → Begins p.others others
     → NameStands (with_others p others) action declared place name
@@ -123,7 +123,7 @@ named_came p others rows action name declared place s a b t grow stands made = r
   made = λ i. record { reads = p.reads; writes = p.writes; others = others; large = p.large; terms = p.terms; rows = made i };
 }
 
--- ---- names at their places
+-- ---- names and their indices
 
 pub key_declared : (keys others : List (List ℕ)) (i : ℕ) (k : List ℕ) → slice_get keys i ≡ Some k → KeyStands keys others true i k
 key_declared keys others i k e = record { within = slice_get_within keys i k e; same = get_or_from_slice_get keys i k [] e }
@@ -137,7 +137,7 @@ other_in keys others i k e apart = record {
 pub key_other : (keys others : List (List ℕ)) (i : ℕ) (k : List ℕ) → slice_get others i ≡ Some k → IsApart keys k → KeyStands keys others false i k
 key_other keys others i k e apart = record { within = other_in keys others i k e apart; same = get_or_from_slice_get others i k [] e }
 
--- a row came that writes the declared key at a place
+-- a row that writes the declared key at an index was added
 pub written_came : (p : Parts) (rows : List StmtRow) (action : Action) (name : List ℕ) (place s a b t : ℕ) → IsWriting action
     → slice_get p.writes place ≡ Some name
     → rows ≡ p.rows ++ record { action = action; declared = true; name = place; start = s; first = a; second = b; third = t } ∷ []

@@ -1,4 +1,4 @@
--- The statements that sums make.
+-- The statements made from the sums that were read.
 use Rattle.std.proofs.Common.{◌≡◌, ℕ, ◌≤◌, Bool, List, [], ◌∷◌, Some, None, length, refl, ap, sym, subst, ◌∙◌, arith}
 use Rattle.std.specs.List.{AllByRecursion}
 use Rattle.bohm_types.specs.Sound.{IsName, IsSum, IsStmt}
@@ -18,7 +18,7 @@ use Rattle.bohm_log.specs.Drafting.{opened, put_of, need_of, AddsRow, IsDrafted,
 use Rattle.bohm_log.specs.Sizes.{stmt_terms, open_terms}
 use Rattle.bohm_log.proofs.Drafts.{sum_done, added, added_within}
 
--- ---- the sums that a statement takes
+-- ---- the sums of a statement
 
 taken : (x : Txn) (p : Parts) (action : Action) (name : List ℕ) (s f n t : ℕ) (step : Step) → t ≡ length p.terms
     → stmt_made action name (sum_between p s (first_end f t step)) (sum_between p (first_end f t step) (second_end n t step))
@@ -33,7 +33,7 @@ risen s f n t Whole a b c = (omega (arith, a, b, c), omega arith, omega arith)
 risen s f n t Left a b c = (a, omega (arith, b, c), omega arith)
 risen s f n t Right a b c = (a, b, c)
 
--- a row over all sums that were read, up to the last term
+-- a row whose sums end at the last term adds the statement made from all sums that were read
 module _ (p q : Parts) (action : Action) (name : List ℕ) (o : Pending) (a b t : ℕ) (g : AddsRow p q action name o.start a b t)
     (first : a ≡ first_end o.first t o.step) (second : b ≡ second_end o.second t o.step) (h : IsDrafted p o) (end : t ≡ length p.terms) where
   rises : (o.start ≤ a) × (a ≤ b) × (b ≤ t)
@@ -49,7 +49,7 @@ module _ (p q : Parts) (action : Action) (name : List ℕ) (o : Pending) (a b t 
   pub stmt_within : IsDrafted q (opened t)
   stmt_within = added_within p q action name o o.start a b t g h end rises.0 rises.1 rises.2
 
--- ---- the statements with sums
+-- ---- the statement of each action with sums
 
 pub bind_made : (d : Drafted) (name : List ℕ) → d.done ≡ [] → made_of d actions.Bind name ≡ stmts.Bind name d.latest
 bind_made d name none = rw none refl
@@ -77,7 +77,7 @@ put_when_made d k c two = go d.done two
     go (x ∷ y ∷ []) two = refl
     go (x ∷ y ∷ z ∷ xs) two = absurd (omega (arith, two))
 
--- ---- whether they are statements
+-- ---- statements made from sound sums are sound
 
 pub bind_sound : (d : Drafted) (name : List ℕ) → d.done ≡ [] → IsName name → IsSum d.latest → IsStmt (made_of d actions.Bind name)
 bind_sound d name none is sum = subst IsStmt (sym (bind_made d name none)) (is, sum)
@@ -106,7 +106,7 @@ put_when_sound d k c two is done sum = go d.done two done
     go (x ∷ y ∷ []) two h = (is, h.0, (h.1.0, sum))
     go (x ∷ y ∷ z ∷ xs) two h = absurd (omega (arith, two))
 
--- ---- their terms are all that were read
+-- ---- a statement has all terms that were read
 
 pub none_counted : (d : Drafted) → IsBetween d → 0 ≡ open_terms d
 none_counted d none = rw (none.done, none.latest) refl

@@ -1,4 +1,4 @@
--- An element of a mapped list.
+-- Elements of mapped lists, such as names read by number.
 use Rattle.std.proofs.Common.{◌≡◌, ℕ, suc, ◌<◌, ◌+◌, List, [], ◌∷◌, length, get_or, map, Some, true, refl, ap, sym, ◌∙◌, arith}
 use Rattle.std.proofs.Common.{slice_get, drop, add-one, drop-cons}
 use Rattle.std.specs.Prelude.{◌==◌}

@@ -436,24 +436,24 @@ impl<S: BuildHasher + Drop> Columns<S> {
     }
 
     /// Appends a transaction's parts.
-    pub fn append(&mut self, edition: Edition, sheet: &DraftColumns<S>) -> Result<Head, LogFault>
-        ensures apart { IsDistinct bytes_eq (parts_of sheet.now).others }
+    pub fn append(&mut self, edition: Edition, draft: &DraftColumns<S>) -> Result<Head, LogFault>
+        ensures apart { IsDistinct bytes_eq (parts_of draft.now).others }
         ensures ok { IfOk result
             (λ h. Appends (shared_of self.old) (shared_of self.new) h edition
-            (parts_of sheet.now)) }
+            (parts_of draft.now)) }
         ensures err { OnErr result (Interns (shared_of self.old) (shared_of self.new)) }
         ensures full { result ≡ Err Full
-            → 2 ^ 32 ≤ held_with (shared_of self.old) (parts_of sheet.now) }
+            → 2 ^ 32 ≤ held_with (shared_of self.old) (parts_of draft.now) }
     {
-        let others = sheet.others.as_slice();
+        let others = draft.others.as_slice();
         self.append_parts(
             edition,
-            sheet.reads.as_slice(),
-            sheet.writes.as_slice(),
+            draft.reads.as_slice(),
+            draft.writes.as_slice(),
             others,
-            sheet.large.as_slice(),
-            sheet.terms.as_slice(),
-            sheet.rows.as_slice(),
+            draft.large.as_slice(),
+            draft.terms.as_slice(),
+            draft.rows.as_slice(),
         )
     }
 

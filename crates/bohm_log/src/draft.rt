@@ -36,7 +36,7 @@ use std::marker::Model;
 /// operation fails with `Full` only if the terms and statements together are 2^32 - 1 or more.
 pub struct Draft<S: BuildHasher = BuildHasherDefault<FoldHasher>> {
     edition: Edition,
-    sheet: DraftColumns<S>,
+    columns: DraftColumns<S>,
     pending: Pending,
 }
 
@@ -45,10 +45,10 @@ impl<S: BuildHasher + Drop> Drop for Draft<S> {
     fn drop(self) {
         let Self {
             edition: _,
-            sheet,
+            columns,
             pending: _,
         } = self;
-        drop(sheet);
+        drop(columns);
     }
 }
 
@@ -57,14 +57,14 @@ impl<S: BuildHasher> Model for Draft<S> {
 
     ghost Value = { Drafted };
 
-    ghost view = { λ d. drafted_of d.edition (parts_of d.sheet) d.pending };
+    ghost view = { λ d. drafted_of d.edition (parts_of d.columns) d.pending };
 
     ghost use Rattle.bohm_log.specs.SoundLogs.{IsSoundDraft};
     ghost use Rattle.bohm_log.specs.Sizes.{IsCounted};
 
-    ghost invariant = { λ d. IsDrafted (parts_of d.sheet) d.pending
-        × IsSoundDraft (drafted_of d.edition (parts_of d.sheet) d.pending)
-        × IsCounted (parts_of d.sheet) (drafted_of d.edition (parts_of d.sheet) d.pending) };
+    ghost invariant = { λ d. IsDrafted (parts_of d.columns) d.pending
+        × IsSoundDraft (drafted_of d.edition (parts_of d.columns) d.pending)
+        × IsCounted (parts_of d.columns) (drafted_of d.edition (parts_of d.columns) d.pending) };
 }
 
 impl<S: BuildHasher> Draft<S> {
@@ -74,7 +74,7 @@ impl<S: BuildHasher> Draft<S> {
     {
         Draft {
             edition,
-            sheet: DraftColumns::new(alloc, hasher),
+            columns: DraftColumns::new(alloc, hasher),
             pending: Pending::at(0),
         }
     }
@@ -84,7 +84,7 @@ impl<S: BuildHasher> Draft<S> {
         ensures { self.new ≡ fresh edition }
     {
         self.edition = edition;
-        self.sheet.clear();
+        self.columns.clear();
         self.pending = Pending::at(0);
     }
 
@@ -96,7 +96,7 @@ impl<S: BuildHasher> Draft<S> {
         ensures never_full { result ≢ Err Full }
     {
         key.has_name();
-        self.sheet.add_read(key)?;
+        self.columns.add_read(key)?;
         Ok(())
     }
 
@@ -108,7 +108,7 @@ impl<S: BuildHasher> Draft<S> {
         ensures never_full { result ≢ Err Full }
     {
         key.has_name();
-        self.sheet.add_write(key)?;
+        self.columns.add_write(key)?;
         Ok(())
     }
 
@@ -125,7 +125,7 @@ impl<S: BuildHasher> Draft<S> {
         ensures err { OnErr result (self.new ≡ self.old) }
         ensures never_full { result ≢ Err Full }
     {
-        let Some(key) = self.sheet.same_read(word) else {
+        let Some(key) = self.columns.same_read(word) else {
             return Ok(false);
         };
         key.has_name();
@@ -140,7 +140,7 @@ impl<S: BuildHasher> Draft<S> {
         ensures none { OnErr result (self.now.latest ≡ []) }
         ensures empty { IfErr result (λ e. e ≡ faults.Empty) }
     {
-        if (self.pending.latest() as usize) < self.sheet.terms.len() {
+        if (self.pending.latest() as usize) < self.columns.terms.len() {
             Ok(())
         } else {
             Err(SumFault::Empty)
@@ -153,7 +153,7 @@ impl<S: BuildHasher> Draft<S> {
         ensures open { result ≡ true → 0 < open_terms self.now }
         ensures whole { result ≡ false → open_terms self.now ≡ 0 }
     {
-        (self.pending.start as usize) < self.sheet.terms.len()
+        (self.pending.start as usize) < self.columns.terms.len()
     }
 
     /// Ends a sum that isn't the last one of its statement. It fails with `Empty` if the sum has no
@@ -167,7 +167,7 @@ impl<S: BuildHasher> Draft<S> {
         ensures never_full { result ≢ Err (faults.Log Full) }
     {
         self.require_terms()?;
-        self.pending = self.pending.next(self.sheet.terms.len() as u32);
+        self.pending = self.pending.next(self.columns.terms.len() as u32);
         Ok(())
     }
 
@@ -177,7 +177,7 @@ impl<S: BuildHasher> Draft<S> {
         ensures { result
             ≡ (is_among self.now.txn.reads key.now || is_among self.now.txn.writes key.now) }
     {
-        self.sheet.reads.contains(key) || self.sheet.writes.contains(key)
+        self.columns.reads.contains(key) || self.columns.writes.contains(key)
     }
 
     /// Its edition and its columns.
@@ -187,7 +187,7 @@ impl<S: BuildHasher> Draft<S> {
         ensures sound { IsTxn self.now.txn.edition self.now.txn }
         ensures counted { IsCounted (parts_of result.1.now) self.now }
     {
-        (self.edition, &self.sheet)
+        (self.edition, &self.columns)
     }
 
     /// The edition and the columns of the draft, which is consumed.
@@ -201,10 +201,10 @@ impl<S: BuildHasher> Draft<S> {
     {
         let Draft {
             edition,
-            sheet,
+            columns,
             pending: _,
         } = self;
-        (edition, sheet)
+        (edition, columns)
     }
 }
 
@@ -217,10 +217,10 @@ impl<S: BuildHasher + Drop> Draft<S> {
         ensures err { OnErr result (self.new ≡ self.old) }
         ensures full { result ≡ Err Full → 2 ^ 32 - 1 ≤ size_of self.old }
     {
-        if self.sheet.terms.len() >= u32::MAX as usize {
+        if self.columns.terms.len() >= u32::MAX as usize {
             return Err(LogFault::Full);
         }
-        self.sheet.add_term(minus, atom)?;
+        self.columns.add_term(minus, atom)?;
         Ok(())
     }
 
@@ -236,13 +236,13 @@ impl<S: BuildHasher + Drop> Draft<S> {
         ensures err { OnErr result (self.new ≡ self.old) }
         ensures full { result ≡ Err Full → 2 ^ 32 - 1 ≤ size_of self.old }
     {
-        if self.sheet.terms.len() >= u32::MAX as usize {
+        if self.columns.terms.len() >= u32::MAX as usize {
             return Err(LogFault::Full);
         }
-        let Some(place) = self.sheet.read_place(word) else {
+        let Some(place) = self.columns.read_place(word) else {
             return Ok(false);
         };
-        self.sheet.add_read_at(minus, place, word)?;
+        self.columns.add_read_at(minus, place, word)?;
         Ok(true)
     }
 
@@ -253,7 +253,7 @@ impl<S: BuildHasher + Drop> Draft<S> {
         ensures place { IfSome result (λ i. slice_get self.now.txn.writes i ≡ Some word.now) }
         ensures name { IsSome result → is_name word.now ≡ true }
     {
-        self.sheet.write_place(word)
+        self.columns.write_place(word)
     }
 
     /// Adds a literal by the path for atoms of all kinds. Out of line: if one function had two
@@ -279,10 +279,10 @@ impl<S: BuildHasher + Drop> Draft<S> {
         let Ok(small) = u32::try_from(number) else {
             return self.add_large(minus, number);
         };
-        if self.sheet.terms.len() >= u32::MAX as usize {
+        if self.columns.terms.len() >= u32::MAX as usize {
             return Err(LogFault::Full);
         }
-        self.sheet.add_small(minus, small)?;
+        self.columns.add_small(minus, small)?;
         Ok(())
     }
 
@@ -318,9 +318,9 @@ impl<S: BuildHasher + Drop> Draft<S> {
         ensures err { OnErr result (self.new ≡ self.old) }
         ensures full { result ≡ Err Full → 2 ^ 32 - 1 ≤ size_of self.old }
     {
-        let end = self.sheet.terms.len() as u32;
+        let end = self.columns.terms.len() as u32;
         let (first, second) = self.pending.ends(end);
-        self.sheet
+        self.columns
             .add_named(action, name, self.pending.start, (first, second, end))?;
         self.pending = Pending::at(end);
         Ok(())
@@ -337,9 +337,9 @@ impl<S: BuildHasher + Drop> Draft<S> {
         ensures err { OnErr result (self.new ≡ self.old) }
         ensures never_full { result ≢ Err Full }
     {
-        let end = self.sheet.terms.len() as u32;
+        let end = self.columns.terms.len() as u32;
         let (first, second) = self.pending.ends(end);
-        self.sheet.add_written(
+        self.columns.add_written(
             action,
             place,
             name,
@@ -359,9 +359,9 @@ impl<S: BuildHasher + Drop> Draft<S> {
         ensures err { OnErr result (self.new ≡ self.old) }
         ensures never_full { result ≢ Err Full }
     {
-        let end = self.sheet.terms.len() as u32;
+        let end = self.columns.terms.len() as u32;
         let (first, second) = self.pending.ends(end);
-        self.sheet
+        self.columns
             .add_nameless(action, self.pending.start, (first, second, end))?;
         self.pending = Pending::at(end);
         Ok(())

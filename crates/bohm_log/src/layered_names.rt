@@ -219,6 +219,7 @@ impl<S: BuildHasher> LayeredNames<S> {
         ensures kept { Begins self.new self.old }
         ensures few { length self.new ≤ 2 ^ 30 }
     {
+        // The call's contract says that at most 2^30 names are shared.
         let _ = self.shared.as_slice();
         self.own.clear();
     }

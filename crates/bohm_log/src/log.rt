@@ -125,8 +125,8 @@ impl<S: BuildHasher> Log<S> {
             return Err(CloseFault::Open);
         }
         let ends = self.columns.ends();
-        let (edition, sheet) = draft.parts();
-        let head = self.columns.append(edition, sheet);
+        let (edition, columns) = draft.parts();
+        let head = self.columns.append(edition, columns);
         match push_head(&mut self.heads, head) {
             Ok(()) => Ok(()),
             Err(fault) => {

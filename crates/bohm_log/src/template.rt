@@ -214,10 +214,10 @@ impl Template {
         ensures ok { IfOk result (λ t. t ≡ procedure_with draft.txn keys.items values.now) }
         ensures full { result ≡ Err Full → 2 ^ 32 ≤ size_of draft + length values.now }
     {
-        let (edition, mut sheet) = draft.into_parts();
+        let (edition, mut columns) = draft.into_parts();
         let mut places = Vec::new(alloc);
-        place_names(&mut sheet.others, &mut places, values)?;
-        let names = Vec::from_slice(alloc, sheet.others.as_slice())?;
+        place_names(&mut columns.others, &mut places, values)?;
+        let names = Vec::from_slice(alloc, columns.others.as_slice())?;
         let PreparedBody {
             reads,
             writes,
@@ -226,19 +226,19 @@ impl Template {
         } = prepared(
             alloc,
             keys.as_slice(),
-            sheet.reads.as_slice(),
-            sheet.writes.as_slice(),
-            sheet.terms.as_slice(),
-            sheet.rows.as_slice(),
+            columns.reads.as_slice(),
+            columns.writes.as_slice(),
+            columns.terms.as_slice(),
+            columns.rows.as_slice(),
             places.as_slice(),
         )?;
-        let same_sets = are_same(sheet.reads.as_slice(), sheet.writes.as_slice());
+        let same_sets = are_same(columns.reads.as_slice(), columns.writes.as_slice());
         let DraftColumns {
             large,
             terms,
             rows,
             ..
-        } = sheet;
+        } = columns;
         are_names(keys.as_slice());
         are_names(values);
         Ok(Template {

@@ -1,4 +1,4 @@
--- What a machine had run, and what it runs on.
+-- The transactions that a machine has run, and those that it runs next.
 use Rattle.std.proofs.Common.{◌≡◌, ℕ, ◌+◌, ◌-◌, ◌<◌, ◌≤◌, ◌^◌, ◌++◌, List, [], length, length-append, take, refl, ap, sym, ◌∙◌, arith, ⊎_elim}
 use Rattle.std.proofs.lemmas.List.{length-take}
 use Rattle.std.proofs.lemmas.Bool.{cases_lt}
@@ -13,7 +13,7 @@ use Rattle.bohm_apply.proofs.ForCallers.{floor_stays}
 use Rattle.bohm_machine.specs.Machines.{GoesOn, HasRun, floor_of, now_of, past_of, top_of}
 use Rattle.bohm_machine.specs.Segments.{RunsOn}
 
--- at the top a machine holds what its log leaves
+-- at the top a machine has the state after its log
 pub at_top : (look : Look) (start : ℕ) (log : List Txn) (m : Timeline) → HasRun look start log m → now_of m ≡ state look log (length log)
 at_top look start log m h =
     let all : top_of m - start ≡ length log = omega (arith, h.top) in
@@ -50,7 +50,7 @@ ran_on was now txns a g = record {
 
 -- ---- from the history to the machine
 
--- a history that keeps all its past goes on as its machine
+-- running on a history that keeps all of its past is running on the machine
 went : (keep : ℕ) (was now : Timeline) (txns : List Txn) (a : List Reply) → was.floor ≤ was.top → now.top ≤ keep → IsApplied was now txns keep a
     → GoesOn was now txns a
 went keep was now txns a ordered low h =
@@ -64,7 +64,7 @@ went keep was now txns a ordered low h =
       count = h.count;
     }
 
--- before the first transaction
+-- running no transactions changes nothing
 pub at_rest : (m : Timeline) → GoesOn m m [] []
 at_rest m = record {
   replies = refl;
@@ -75,7 +75,7 @@ at_rest m = record {
   count = omega arith;
 }
 
--- a machine that was restored
+-- a restored machine has run no transaction
 pub restored : (m : Timeline) (look : Look) (start : ℕ) → top_of m ≡ start → floor_of m ≡ start → past_of m start ≡ look → HasRun look start [] m
 restored m look start top floor past = record {
   top = omega (arith, top);
@@ -84,7 +84,7 @@ restored m look start top floor past = record {
   past = λ ts above below. let e : ts ≡ start = omega (arith, above, below, top, floor) in let z : start - start ≡ 0 = omega arith in rw (e, z) past;
 }
 
--- to let go what is below a floor keeps what was run
+-- trimming below a floor keeps the transactions that were run
 pub trimmed : (look : Look) (start : ℕ) (log : List Txn) (was now : Timeline) → floor_of was ≤ floor_of now → floor_of now ≤ top_of now
     → top_of now ≡ top_of was → ((ts : ℕ) → floor_of now ≤ ts → past_of now ts ≡ past_of was ts) → HasRun look start log was → HasRun look start log now
 trimmed look start log was now above ordered top past h = record {
@@ -94,7 +94,7 @@ trimmed look start log was now above ordered top past h = record {
   past = λ ts low high. past ts low ∙ h.past ts (omega (arith, low, above)) (omega (arith, high, top));
 }
 
--- a machine whose timestamps don't pass the last one goes on by the transactions that its history went on by
+-- the machine runs the transactions that its history ran, if their timestamps are below the limit
 pub goes_on : (m : Timeline) (n : ℕ) (was now : Timeline) (log : List Txn) (a : List Reply) → m ≡ was → floor_of m ≤ top_of m → top_of m + length log < 2 ^ 32
     → IsApplied was now (take n log) 4294967295 a → GoesOn m now (take n log) a
 goes_on m n was now log a is ordered low h =

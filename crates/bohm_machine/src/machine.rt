@@ -10,7 +10,7 @@ ghost use Rattle.std.specs.Str.{bytes_eq};
 ghost use Rattle.bohm_types.specs.Appending.{empty_document};
 ghost use Rattle.bohm_types.specs.Keys.{rising, names_of};
 ghost use Rattle.bohm_txn.specs.Stores.{cell_in, store_of};
-ghost use Rattle.bohm_store.specs.Versions.{kept_versions, total, versions};
+ghost use Rattle.bohm_store.specs.Versions.{kept_versions, most_counted, total, versions};
 ghost use Rattle.bohm_store.specs.declared.fault.PastFault.TheVariants as past_is;
 ghost use Rattle.bohm_store.specs.declared.fault.StoreFault.TheVariants as store_is;
 ghost use Rattle.bohm_machine.specs.Machines.{GoesOn, HasRun, floor_of, past_of, top_of};
@@ -125,7 +125,7 @@ impl Machine {
     /// The number of kept versions, or `u64::MAX` if there are more. The time grows with the number
     /// of keys.
     pub fn version_count(&self) -> u64
-        ensures count { result ≡ min (total self.now.chains) 18446744073709551615 }
+        ensures count { result ≡ min (total self.now.chains) most_counted }
         ensures distinct { IsDistinct bytes_eq (keys_of self.now.chains) }
     {
         self.history.version_count()

@@ -1,4 +1,4 @@
--- What a worker finds, transaction by transaction, and what several found together.
+-- The placeholders that one worker finds, transaction by transaction, and that several workers find together.
 use Rattle.std.proofs.Common.{◌≡◌, ◌≢◌, ℕ, ◌+◌, ◌<◌, ◌≤◌, ◌%◌, ◌==◌, ◌||◌, Bool, true, false, List, [], ◌∷◌, ◌++◌, length, map, take, drop, get_or}
 use Rattle.std.proofs.Common.{slice_get, refl, sym, ap, ◌∙◌, arith, if◌then◌else◌, max, nat_lt, append_assoc, append-nil, add-zero, length-append}
 use Rattle.std.proofs.Math.Bool.{or-false}
@@ -28,7 +28,7 @@ row_same : (mine : List ℕ → Bool) (base hand : List ℕ → List Placeholder
 row_same mine base hand first ahead k h true e = rw (h, e) refl
 row_same mine base hand first ahead k h false e = rw e refl
 
--- one more transaction of which f was told what is ahead
+-- a worker's result up to index i, with the placeholders of the transaction at i, is its result up to i + 1
 pub found_on : (mine : List ℕ → Bool) (f : List Txn → List ℕ → Placeholder) (xs : List Txn) (i : ℕ) (d : Txn) → i < length xs
     → (out more : List Placeholder) → out ++ found_by mine f (take i xs) (drop i xs) ≡ found_by mine f [] xs
     → more ≡ (out ++ map (λ k. if mine k then f (take i xs) k else none) (get_or xs i d).reads) ++ map (λ k. if mine k then f (take i xs) k else none)
@@ -73,9 +73,9 @@ pub chains_step : (mine : List ℕ → Bool) (base hand new : List ℕ → List 
     → new k ≡ (if mine k then base k ++ placeholders_made first (take (i + 1) xs) k else base k)
 chains_step mine base hand new first xs i d inside k h n = chains_by mine base hand new first xs i d inside k h n (mine k) refl
 
--- ---- the begins of a batch
+-- ---- the begins of a batch's placeholders
 
--- what holds of the timestamp holds of each begin
+-- a property of a transaction's timestamp holds for the begin of each of its placeholders
 written_each : (P : ℕ → Type 0) (u index : ℕ) (ws : List (List ℕ)) (k : List ℕ) → P u
     → AllByRecursion (λ (v : Placeholder). P v.begin) (placeholders_written u index ws k)
 written_each P u index [] k p = tt
@@ -124,7 +124,7 @@ greater_map : (f g : List ℕ → Placeholder) (ks : List (List ℕ)) (xs ys : L
 greater_map f g [] xs ys = refl
 greater_map f g (k ∷ ks) xs ys = rw (greater_map f g ks xs ys) refl
 
--- what two workers found, taken together, is what one finds that has the parts of both
+-- the joined results of two workers are the result of one worker that has the keys of both
 pub greater_found : (a b : List ℕ → Bool) (f : List Txn → List ℕ → Placeholder) (done xs : List Txn)
     → greater (found_by a f done xs) (found_by b f done xs) ≡ found_by (λ k. a k || b k) f done xs
 greater_found a b f done [] = refl
@@ -138,7 +138,7 @@ pub found_same : (a b : List ℕ → Bool) (f g : List Txn → List ℕ → Plac
 found_same a b f g same done [] = refl
 found_same a b f g same done (x ∷ xs) = rw (map_same _ _ (x.reads ++ x.writes) (λ j k e. same done k), found_same a b f g same (done ++ x ∷ []) xs) refl
 
--- the number of accesses doesn't depend on the worker
+-- the length of a worker's result doesn't depend on the worker's keys
 pub length-found_by : (a b : List ℕ → Bool) (f : List Txn → List ℕ → Placeholder) (done xs : List Txn)
     → length (found_by a f done xs) ≡ length (found_by b f done xs)
 length-found_by a b f done [] = refl
@@ -163,7 +163,7 @@ next_or_by m w false e =
     let apart : m ≢ w = λ x. grind (arith, nat_tests) in
     rw e (or-false (nat_lt m w) ∙ sym (lt_apart m w apart))
 
--- below w, or w, is below w + 1
+-- m is below w or equal to w exactly if m is below w + 1
 pub next_or : (m w : ℕ) → (nat_lt m w || (m == w)) ≡ nat_lt m (w + 1)
 next_or m w = next_or_by m w (m == w) refl
 
@@ -181,7 +181,7 @@ module _ (part : List ℕ → ℕ) (n : ℕ) (f : List Txn → List ℕ → Plac
       ∙ found_same (λ k. nat_lt (part k % n) w || keys_of part n w k) (λ k. nat_lt (part k % n) (w + 1)) f f
       (λ done k. ap (λ b. if b then f done k else none) (next_or (part k % n) w)) [] xs
 
-  -- the next worker's are joined into those of the workers so far
+  -- the result of worker w, joined into that of the workers below w, gives the result of the workers below w + 1
   pub found_joined : (w size : ℕ) (before joined : List Placeholder) → size ≡ length before → before ≡ found_by (λ k. nat_lt (part k % n) w) f [] xs
       → joined ≡ greater before (found_by (keys_of part n w) f [] xs)
       → take size (joined ++ drop (length joined) before) ≡ found_by (λ k. nat_lt (part k % n) (w + 1)) f [] xs

@@ -1,4 +1,4 @@
--- Gathered keys are those of the batch, and have their places by number.
+-- The gathered keys are those of the batch, and each number has its index among them.
 use Rattle.std.proofs.Common.{◌≡◌, ℕ, ◌<◌, Bool, true, List, [], ◌∷◌, length, map, slice_get, get_or, Some, refl, sym, ap, ◌∙◌, subst, inl, inr, ⊎_elim, arith}
 use Rattle.std.specs.Prelude.{Contains, ◌||◌}
 use Rattle.std.specs.List.{All, list_any, IsDistinct}
@@ -21,7 +21,7 @@ use Rattle.bohm_place.specs.Plans.{Planned}
 use Rattle.bohm_place.specs.Noting.{declares_key, AreKeysOf, HasPlace, IsSetNoted}
 use Rattle.bohm_place.proofs.Gathering.{one_number, there_is}
 
--- ---- they are those that transactions declare
+-- ---- the gathered keys are those that transactions declare
 
 any_mapped : {A B : Type 0} (f : A → B) (p : B → Bool) (xs : List A) → list_any p (map f xs) ≡ list_any (λ x. p (f x)) xs
 any_mapped f p [] = refl
@@ -35,7 +35,7 @@ declared_by_number k txns key is =
 pub gathered_keys : (k : Numbered) (g : Gathered) (txns : List Txn) → Numbers k txns → AreGathered k g → AreKeysOf txns (names_at k.names g.numbers)
 gathered_keys k g txns is are = record { apart = are.apart; each = λ key. are.keys key ∙ declared_by_number k txns key is }
 
--- ---- each declared number is one of the gathered
+-- ---- each declared number is gathered
 
 stands : (k : Numbered) (g : Gathered) (i : ℕ) (s : List ℕ × List ℕ) (n : ℕ) → AreGathered k g → IsDistinct bytes_eq k.names → slice_get k.sets i ≡ Some s
     → n < length k.names → has_key k.names (name_at k.names n) s ≡ true → Contains g.numbers n
@@ -72,13 +72,13 @@ writes_stand k g i s are apart at named j d inside =
     stands k g i s n are apart at (named j d inside) (or_right (is_among (names_at k.names s.0) (name_at k.names n))
     (is_among (names_at k.names s.1) (name_at k.names n)) (among_named k.names s.1 j d inside))
 
--- and has its place
+-- each gathered number has a noted index, and is at this index
 pub place_there : (ns ps : List ℕ) (n : ℕ) → ArePlaced ns ps → Contains ns n → (p : ℕ) × (slice_get ps n ≡ Some p) × (slice_get ns p ≡ Some n)
 place_there ns ps n placed has =
     let at : slice_get ns has.0 ≡ Some n = slice_get-get_or ns has.0 n has.1 ∙ ap (λ x. Some x) has.2 in
     (has.0, placed has.0 n at, at)
 
--- ---- the places of keys with numbers
+-- ---- the indices of numbers are the indices of their names
 
 has_named : (names : List (List ℕ)) (numbers base : List ℕ) (n : ℕ) (a : Access) → HasPlace base numbers n a
     → HasPlace (names_at names base) (names_at names numbers) n a

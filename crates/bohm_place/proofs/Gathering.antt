@@ -1,4 +1,4 @@
--- Numbers that are gathered once each, and their places.
+-- Gathered key numbers, each once, and the index of each number among them.
 use Rattle.std.proofs.Common.{◌≡◌, ℕ, zero, suc, ◌+◌, ◌<◌, ◌≤◌, Bool, true, false, List, [], ◌∷◌, ◌++◌, length, get_or}
 use Rattle.std.proofs.Common.{slice_get, slice_set, Some, refl, ap, sym, ◌∙◌, subst, inl, inr, ⊎_elim, arith, nat_lt}
 use Rattle.std.specs.Prelude.{◌⊎◌, ◌||◌, ◌==◌, if◌then◌else◌}
@@ -25,9 +25,9 @@ use Rattle.bohm_place.specs.Gathering.{AreFew, AreGathered, ArePlaced, has_key, 
 use Rattle.bohm_place.proofs.Lists.{set_same, set_other}
 use Rattle.bohm_place.proofs.NewestCell.{usable_at}
 
--- ---- whether a number stands among others
+-- ---- whether a number is in a list
 
--- where an element passes, and it
+-- the index of an element that passes the test, and the element, if there is one
 pub there_is : {A : Type 0} (p : A → Bool) (xs : List A) → list_any p xs ≡ true → (i : ℕ) × (x : A) × (slice_get xs i ≡ Some x) × (p x ≡ true)
 there_is p [] h = absurd cc
 there_is {A} p (x ∷ xs) h =
@@ -45,7 +45,7 @@ any_there p (y ∷ xs) (suc i) x at passes =
 pub found : (ns : List ℕ) (p n : ℕ) → slice_get ns p ≡ Some n → list_any (λ m. m == n) ns ≡ true
 found ns p n at = any_there (λ m. m == n) ns p n at (eq-eqb n n refl)
 
--- it stands nowhere but at the place that is noted for it
+-- a number isn't in the list if it isn't at the index that is noted for it
 pub not_found : (ns ps : List ℕ) (p n : ℕ) → ArePlaced ns ps → slice_get ps n ≡ Some p → ¬ (slice_get ns p ≡ Some n) → list_any (λ m. m == n) ns ≡ false
 not_found ns ps p n placed at_n apart = false_from_ne_true (list_any (λ m. m == n) ns) (λ h.
     let (q, m, at, is) = there_is (λ m. m == n) ns h in
@@ -101,7 +101,7 @@ all_with_number P ns n all here =
     only zero d l = here
     only (suc i) d l = absurd (omega arith)
 
--- a test finds what it found before, or the new number
+-- a number of the new list passes the test exactly if n or a number of the old list does
 any_with_number : (f : ℕ → Bool) (ns : List ℕ) (n : ℕ) → list_any f (with_number ns n) ≡ (list_any f ns || f n)
 any_with_number f ns n =
     elim (list_any (λ m. m == n) ns) as (λ b. list_any (λ m. m == n) ns ≡ b → list_any f (if b then ns else (ns ++ n ∷ [])) ≡ (list_any f ns || f n)) [
@@ -122,7 +122,7 @@ any_with_number f ns n =
     known true e i at = let all : list_any f ns ≡ true = any_there f ns i n at e in rw all refl
     known false e i at = rw e (same (list_any f ns))
 
--- ---- many more
+-- ---- several more numbers
 
 pub length-with_numbers : (ns more : List ℕ) → length (with_numbers ns more) ≤ length ns + length more
 length-with_numbers ns [] = omega arith
@@ -150,7 +150,7 @@ any_with_numbers f ns [] = or_nothing (list_any f ns)
 any_with_numbers f ns (n ∷ more) = any_with_numbers f (with_number ns n) more ∙ ap (λ b. b || list_any f more) (any_with_number f ns n)
     ∙ or_assoc (list_any f ns) (f n) (list_any f more)
 
--- ---- the keys with the numbers
+-- ---- the keys of the gathered numbers
 
 among_named : (names : List (List ℕ)) (ns : List ℕ) (key : List ℕ) → is_among (names_at names ns) key ≡ list_any (λ n. bytes_eq (name_at names n) key) ns
 among_named names [] key = refl
@@ -171,7 +171,7 @@ keys_gathered names sets key =
     let f : ℕ → Bool = λ n. bytes_eq (name_at names n) key in
     among_named names (with_numbers [] (numbers_in sets)) key ∙ any_with_numbers f [] (numbers_in sets) ∙ among_sets names sets key
 
--- names apart have one number each
+-- distinct names have one number each
 pub one_number : (names : List (List ℕ)) (m n : ℕ) → IsDistinct bytes_eq names → m < length names → n < length names → name_at names m ≡ name_at names n → m ≡ n
 one_number names m n apart low_m low_n same =
     let pairs = AllPairs-from_IsDistinct bytes_eq-Decides names apart in
@@ -180,7 +180,7 @@ one_number names m n apart low_m low_n same =
     (λ (le : n ≤ m). ⊎_elim (λ (lt : n < m). absurd (pairs n m [] lt low_m (sym same))) (λ (ge : m ≤ n). omega arith) (cases_lt n m))
     (cases_lt m n)
 
--- so the keys with distinct numbers are apart
+-- the names of the gathered numbers are distinct
 pub keys_apart : (names : List (List ℕ)) (ns ps : List ℕ) → IsDistinct bytes_eq names → AllNamed names ns → ArePlaced ns ps
     → IsDistinct bytes_eq (names_at names ns)
 keys_apart names ns ps apart named placed = IsDistinct-from_apart bytes_eq (names_at names ns) (λ i j d low high.
@@ -205,7 +205,7 @@ gathered k ns ps apart named placed all = record {
   placed = placed;
 }
 
--- ---- what transactions declare
+-- ---- the declared sets of transactions
 
 pub few_at : (sets : List (List ℕ × List ℕ)) (i : ℕ) (s : List ℕ × List ℕ) → All AreFew sets → slice_get sets i ≡ Some s → AreFew s
 few_at sets i s all at = subst AreFew (get_or_from_slice_get sets i s s at) (all i s (slice_get_within sets i s at))
@@ -213,7 +213,7 @@ few_at sets i s all at = subst AreFew (get_or_from_slice_get sets i s s at) (all
 pub sets_long : (k : Numbered) (txns : List Txn) → Numbers k txns → length k.sets ≡ length txns
 sets_long k txns is = sym (length-map k.sets (named_sets k.names)) ∙ ap length is.same ∙ length-map txns declared_sets
 
--- the sets of a transaction by number
+-- the names of a transaction's sets by number are the keys that the transaction declares
 pub set_at : (k : Numbered) (txns : List Txn) (i : ℕ) (s : List ℕ × List ℕ) (x : Txn) → Numbers k txns → slice_get k.sets i ≡ Some s
     → slice_get txns i ≡ Some x → named_sets k.names s ≡ declared_sets x
 set_at k txns i s x is at_s at_x = same_Some (named_sets k.names s) (declared_sets x) (

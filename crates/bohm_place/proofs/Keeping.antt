@@ -1,4 +1,4 @@
--- What is kept of a chain.
+-- The kept placeholders of a chain, and their begins.
 use Rattle.std.proofs.Common.{◌≡◌, ℕ, ◌<◌, Bool, true, false, List, [], ◌∷◌, length, refl, arith, nat_le, All}
 use Rattle.std.proofs.lemmas.List.Elements.{All-tail}
 use Rattle.bohm_place.specs.declared.placeholder.Placeholder.{Placeholder}
@@ -39,7 +39,7 @@ RisesFrom-kept n floor [] h = h
 RisesFrom-kept n floor (b ∷ []) h = h
 RisesFrom-kept n floor (b ∷ c ∷ cs) h = RisesFrom-kept_by n floor b c cs (nat_le c floor) refl h (RisesFrom-kept n floor (c ∷ cs))
 
--- ---- what holds of each begin holds of those that are kept
+-- ---- a property of all begins holds for the kept begins
 
 All-kept_by : (P : ℕ → Type 0) (floor b c : ℕ) (cs : List ℕ) (t : Bool) → nat_le c floor ≡ t → All P (b ∷ c ∷ cs) → All P (kept floor (c ∷ cs))
     → All P (kept floor (b ∷ c ∷ cs))

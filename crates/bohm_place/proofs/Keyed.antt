@@ -1,4 +1,4 @@
--- Keys, and look-ups in chains by key.
+-- Keys in lists, chains by key, and the last placeholder of a list.
 use Rattle.std.proofs.Common.{◌≡◌, ℕ, Bool, List, [], ◌∷◌, ◌++◌, Option, Some, None, unwrap_or, option_map, refl, ap, ◌∙◌}
 use Rattle.std.specs.Map.{lookup}
 use Rattle.std.specs.Str.{bytes_eq}

@@ -30,7 +30,7 @@ kept_all floor false base cur listed c = c ∙ sym (kept_short floor base (few (
     few : (n : ℕ) → (1 < n → ⊥) → n < 2
     few n h = omega arith
 
--- ---- a step through the list, of which the front of n is kept
+-- ---- one step through the list: the first n keys stay listed, and the key is stored at index n
 
 pub listed_on : (xs : List (List ℕ)) (n : ℕ) (key k : List ℕ) → n < length xs → IsAmong (take n xs) k → IsAmong (take (n + 1) (set xs n key)) k
 listed_on xs n key k inside h = rw (take_more_set xs n key inside) (among_left (take n xs) (key ∷ []) k h)

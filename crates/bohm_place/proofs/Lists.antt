@@ -1,4 +1,4 @@
--- Lists by places.
+-- List elements by index.
 use Rattle.std.proofs.Common.{◌≡◌, ◌≢◌, ℕ, zero, suc, ◌+◌, ◌<◌, List, [], ◌∷◌, ◌++◌, length, take, drop}
 use Rattle.std.proofs.Common.{slice_get, slice_set, set, get_or, Some, refl, ap, ◌∙◌, arith, length-set}
 use Rattle.std.proofs.lemmas.Option.{slice_get-get_or}
@@ -31,7 +31,7 @@ pub first_of : {A : Type 0} (xs : List A) → 0 < length xs → A
 first_of [] h = absurd (omega arith)
 first_of (x ∷ xs) h = x
 
--- what holds of each element at its place, after a push
+-- if P holds for each element at its index and for the pushed element, it holds for each of the longer list
 pub each_pushed : {A : Type 0} (P : ℕ → A → Type 0) (xs : List A) (x : A) → ((w : ℕ) (d : A) → w < length xs → P w (get_or xs w d)) → P (length xs) x
     → (w : ℕ) (d : A) → w < length xs + 1 → P w (get_or (xs ++ x ∷ []) w d)
 each_pushed P [] x h p zero d lt = p

@@ -1,4 +1,4 @@
--- What is kept of a rising chain, begin by begin.
+-- A rising chain keeps exactly the begins that `IsKept` describes.
 use Rattle.std.proofs.Common.{◌≡◌, ℕ, zero, suc, ◌<◌, ◌≤◌, Bool, true, false, List, [], ◌∷◌, length, get_or, refl, inl, inr, ⊎_elim, ◌⊎◌, arith, nat_le}
 use Rattle.std.specs.Prelude.{Contains, ◌↔◌}
 use Rattle.std.specs.List.{AllByRecursion}

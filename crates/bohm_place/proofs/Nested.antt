@@ -1,4 +1,4 @@
--- Accesses in one list, transaction by transaction.
+-- One list of placeholders gives the accesses of all transactions, row by row.
 use Rattle.std.proofs.Common.{◌≡◌, ℕ, zero, suc, ◌+◌, ◌<◌, ◌≤◌, ◌%◌, true, List, [], ◌∷◌, ◌++◌, length, map, take, drop, slice_get}
 use Rattle.std.proofs.Common.{Some, refl, sym, ap, ◌∙◌, subst, arith, if◌then◌else◌, nat_lt, append_assoc, append-nil, length-append}
 use Rattle.std.proofs.lemmas.Bool.Decides.{nat_tests}
@@ -21,7 +21,7 @@ use Rattle.bohm_place.proofs.Placed.{Below}
 use Rattle.bohm_place.proofs.Found.{found_same}
 use Rattle.bohm_place.proofs.Right.{right_access, index_before, newest_ahead-base}
 
--- what f says of each access, transaction by transaction
+-- the accesses of each transaction: f gives the placeholder for a key, from the earlier transactions
 abbrev pub nested : (List Txn → List ℕ → Placeholder) → List Txn → List Txn → List Accesses
 nested f done [] = []
 nested f done (t ∷ ts) = record { reads = map access_of (map (f done) t.reads); writes = map access_of (map (f done) t.writes); sure = is_sure t } ∷ nested f
@@ -60,7 +60,7 @@ rows_nested f done (t ∷ ts) pre start e =
     rw whole more in
     λ i. row_nested (f done) pre rest start t e i ∷ more' i
 
--- the rows of a plan that was found in one list
+-- the rows cut from the list of all found placeholders are the rows that `nested` gives
 found_nested : (f : List Txn → List ℕ → Placeholder) (ts : List Txn) → map (accesses_of (found_by (λ _. true) f [] ts)) (rows_from 0 ts) ≡ nested f [] ts
 found_nested f ts = rows_nested f [] ts [] 0 refl
 
@@ -94,7 +94,7 @@ right_row first ts i keys above inside = record {
       rw (← same) (right_access first ts k i above inside);
 }
 
--- the plan that was found in one list is right
+-- a plan whose rows have each key's newest placeholder from the earlier transactions is right
 pub right_plan : (first : ℕ) (ts : List Txn) (p : Planned) → 0 < first → p.first ≡ first → p.rows ≡ nested (ahead_of first) [] ts → IsRightPlan ts p
 right_plan first ts p above start rows = record {
   paired = ap length rows ∙ length-nested (ahead_of first) [] ts;
@@ -111,7 +111,7 @@ right_plan first ts p above start rows = record {
   sure = λ i t e. rw (rows, nested_at (ahead_of first) [] ts i t e) refl;
 }
 
--- ---- accesses of the version before the batch
+-- ---- accesses whose source is `Before`
 
 in_row : (P : Access → Type 0) (f : List ℕ → Placeholder) → ((k : List ℕ) → P (access_of (f k))) → (keys : List (List ℕ)) (j : ℕ) (a : Access)
     → slice_get (map access_of (map f keys)) j ≡ Some a → P a
@@ -119,7 +119,7 @@ in_row P f each [] j a e = absurd cc
 in_row P f each (k ∷ keys) zero a e = subst P (same_Some (access_of (f k)) a e) (each k)
 in_row P f each (k ∷ keys) (suc j) a e = in_row P f each keys j a e
 
--- each access is what f says of a key
+-- a property of each access that f gives holds for each access of the plan
 in_nested : (P : Access → Type 0) (f : List Txn → List ℕ → Placeholder) → ((done : List Txn) (k : List ℕ) → P (access_of (f done k))) → (set : DeclaredSet)
     (first : ℕ) (keys : List (List ℕ)) (done ts : List Txn) (i j : ℕ) (a : Access)
     → slice_get (planned_in set (record { first = first; rows = nested f done ts; keys = keys }) i) j ≡ Some a → P a
@@ -130,7 +130,7 @@ in_nested P f each Writes first keys done (t ∷ ts) zero j a e = in_row P (f do
 in_nested P f each Reads first keys done (t ∷ ts) (suc i) j a e = in_nested P f each Reads first keys (done ++ t ∷ []) ts i j a e
 in_nested P f each Writes first keys done (t ∷ ts) (suc i) j a e = in_nested P f each Writes first keys (done ++ t ∷ []) ts i j a e
 
--- the plan that was found in one list has no places
+-- a plan whose rows have each key's newest placeholder from the earlier transactions has no noted index
 pub no_places : (first : ℕ) (ts : List Txn) (p : Planned) → 0 < first → p.rows ≡ nested (ahead_of first) [] ts → HasNoPlaces p
 no_places first ts p above rows set i j a e =
     in_nested (λ x. x.source ≡ Before → x.index ≡ 0) (ahead_of first) (λ done k. index_before first done k above) set p.first p.keys [] ts i j a
@@ -138,7 +138,7 @@ no_places first ts p above rows set i j a e =
 
 -- ---- one worker or several
 
--- the rows of the plan, where they are laid out one behind another
+-- the rows of a plan, from the placeholders that one worker finds for all keys
 pub rows_found : (first : ℕ) (ts : List Txn) (found : List Placeholder) (rows : List Row) → found ≡ found_by (λ _. true) (ahead_of first) [] ts
     → rows ≡ rows_from 0 ts → map (accesses_of found) rows ≡ nested (ahead_of first) [] ts
 rows_found first ts found rows e laid = rw (e, laid) (found_nested (ahead_of first) ts)
@@ -146,14 +146,14 @@ rows_found first ts found rows e laid = rw (e, laid) (found_nested (ahead_of fir
 whole_by : (m n : ℕ) (v w : Placeholder) → m < n → v ≡ w → (if nat_lt m n then v else none) ≡ w
 whole_by m n v w lt e = let t : nat_lt m n ≡ true = grind (arith, nat_tests) in rw t e
 
--- what all workers found together, of which f says the same as g
+-- the joined result of all n workers with f is the result for all keys with g, if f and g agree
 pub found_whole : (part : List ℕ → ℕ) (n : ℕ) (f g : List Txn → List ℕ → Placeholder) (ts : List Txn) → 0 < n
     → ((done : List Txn) (k : List ℕ) → f done k ≡ g done k)
     → found_by (λ k. nat_lt (part k % n) n) f [] ts ≡ found_by (λ _. true) g [] ts
 found_whole part n f g ts some same =
     found_same (λ k. nat_lt (part k % n) n) (λ _. true) f g (λ done k. whole_by (part k % n) n (f done k) (g done k) (omega arith) (same done k)) [] ts
 
--- the same where chains stood before the batch
+-- the rows of a plan, from the joined result of all workers, with chains from before the batch
 pub rows_whole : (part : List ℕ → ℕ) (n first : ℕ) (ts : List Txn) (given : List Keyed) (found : List Placeholder) (rows : List Row) → 0 < n → 0 < first
     → ((k : List ℕ) → Below first (placeholders_in part given k))
     → found ≡ found_by (λ k. nat_lt (part k % n) n) (newest_ahead first (placeholders_in part given)) [] ts → rows ≡ rows_from 0 ts
@@ -163,7 +163,7 @@ rows_whole part n first ts given found rows some above low e laid =
     rows_found first ts found rows (e ∙ found_whole part n (newest_ahead first base) (ahead_of first) ts some
     (λ done k. newest_ahead-base first base done k above (low k))) laid
 
--- the plan that was found in one list, where each transaction was told what is ahead
+-- the placeholders that one worker finds for all keys give the right plan, without noted indices and keys
 pub planned : (first : ℕ) (ts : List Txn) (found : List Placeholder) (rows : List Row) (p : Planned) → 0 < first → found ≡ found_by (λ _. true)
     (ahead_of first) [] ts → rows ≡ rows_from 0 ts → p.first ≡ first → p.rows ≡ map (accesses_of found) rows → p.keys ≡ [] → IsPlanned first ts p
 planned first ts found rows p above e laid start is unkeyed =

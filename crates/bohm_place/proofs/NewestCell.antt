@@ -1,4 +1,4 @@
--- A key's cell is the one after its newest writer.
+-- A key's cell before a transaction is its cell after the key's newest earlier writer.
 use Rattle.std.proofs.Common.{◌≡◌, ℕ, zero, suc, ◌+◌, ◌-◌, ◌<◌, ◌≤◌, List, length, slice_get, Some, refl, ap, ◌∙◌, subst, arith, add-suc, add-zero}
 use Rattle.std.proofs.lemmas.Option.{get_or_from_slice_get, slice_get_within}
 use Rattle.bohm_types.specs.Txn.{Txn}
@@ -19,7 +19,7 @@ formed_at ts formed i t e = subst IsWellFormedTxn (get_or_from_slice_get ts i t 
 pub usable_at : (ts : List Txn) → AreWellFormed ts → (i : ℕ) (t : Txn) → slice_get ts i ≡ Some t → IsUsable t
 usable_at ts formed i t e = usable t (formed_at ts formed i t e)
 
--- a transaction that doesn't write the key leaves its cell
+-- a transaction that doesn't write the key leaves the key's cell unchanged
 one : (look : Look) (ts : List Txn) (v : ℕ) (k : List ℕ) → AreWellFormed ts → v < length ts → ((t : Txn) → slice_get ts v ≡ Some t → IsAmong t.writes k → ⊥)
     → state look ts (suc v) k ≡ state look ts v k
 one look ts v k formed inside absent =

@@ -1,4 +1,4 @@
--- Noting a place at one access changes no other access of a plan.
+-- Noting an index at one access changes no other access of a plan.
 use Rattle.std.proofs.Common.{get_or, ◌≡◌, ℕ, zero, suc, ◌+◌, ◌<◌, ◌≤◌, List, [], ◌∷◌, length, map, take, drop, min, slice_get, slice_set}
 use Rattle.std.proofs.Common.{Option, Some, None, unwrap_or, option_map, refl, sym, ap, ◌∙◌, subst, inl, inr, ◌⊎◌, ⊎_elim, arith, length-drop}
 use Rattle.std.proofs.Math.Logic.{∥∥₁_elim}
@@ -21,12 +21,12 @@ use Rattle.bohm_place.specs.Writers.{IsNewest}
 use Rattle.bohm_place.proofs.Right.{begin_before}
 use Rattle.bohm_place.proofs.Lists.{get_take, get_drop, set_same, set_other}
 
--- ---- what a plan lists, by places in memory
+-- ---- the accesses of a plan, from placeholders in memory
 
 abbrev pub laid_out : ℕ → List (List ℕ) → List Placeholder → List Row → Planned
 laid_out first keys vs rows = record { first = first; rows = map (accesses_of vs) rows; keys = keys }
 
--- the accesses of one row
+-- the accesses of one declared set in a row
 abbrev cut : DeclaredSet → List Placeholder → Row → List Access
 cut s vs row = map access_of (take (count_in s row) (drop (start_in s row) vs))
 
@@ -51,7 +51,7 @@ in_cut s vs row n a at = omega (arith, slice_get_within (cut s vs row) n a at, l
 past_cut : (s : DeclaredSet) (vs : List Placeholder) (row : Row) (n : ℕ) → count_in s row ≤ n → slice_get (cut s vs row) n ≡ None
 past_cut s vs row n h = slice_get_past (cut s vs row) n (omega (arith, length-cut s vs row))
 
--- ---- no two accesses lie at one place
+-- ---- different accesses have different indices in memory
 
 laid_behind : (rows : List Row) (least i : ℕ) (row : Row) → AreLaidFrom least rows → slice_get rows i ≡ Some row → least ≤ row.start
 laid_behind [] least i row laid at = absurd cc
@@ -100,7 +100,7 @@ module _ (rows : List Row) (laid : AreLaidFrom 0 rows) where
       (cases_lt m i))
       (cases_eq m i)
 
-  -- ---- one placeholder is another one
+  -- ---- one placeholder is replaced
 
   module _ (first : ℕ) (keys : List (List ℕ)) (vs : List Placeholder) (set : DeclaredSet) (i j place : ℕ) (row : Row) (at : slice_get rows i ≡ Some row)
       (l : j < count_in set row) (within : (start_in set row + j) < length vs) (noted : Placeholder) (none : noted.begin ≡ 0) (index : noted.index ≡ place)
@@ -123,7 +123,7 @@ module _ (rows : List Row) (laid : AreLaidFrom 0 rows) where
     was : option_map (λ (a : Access). a.source) (slice_get (cut set vs row) j) ≡ Some Before
     was = ap (λ accesses. option_map (λ (a : Access). a.source) (slice_get accesses j)) (sym (cut_of set first keys vs rows i (Some row) at)) ∙ before
 
-    -- of a row, by what lies at the place of the access
+    -- replacing the placeholder changes no source in a row
     source_in_row : (s : DeclaredSet) (m n : ℕ) (other : Row) → slice_get rows m ≡ Some other
         → option_map (λ (a : Access). a.source) (slice_get (cut s new other) n) ≡ option_map (λ (a : Access). a.source) (slice_get (cut s vs other) n)
     source_in_row s m n other in_m = ⊎_elim
@@ -185,7 +185,7 @@ module _ (rows : List Row) (laid : AreLaidFrom 0 rows) where
       each = λ s m n a. each_by s m n a (slice_get rows m) refl;
     }
 
--- ---- the access that is noted
+-- ---- the access at which an index is noted
 
 located_by : (first : ℕ) (keys : List (List ℕ)) (vs : List Placeholder) (rows : List Row) (set : DeclaredSet) (i j : ℕ) (row : Row) (o : Option Row)
     → slice_get rows i ≡ o → row ≡ get_or rows i row → j < length (planned_in set (laid_out first keys vs rows) i)
@@ -210,7 +210,7 @@ noted_there first keys vs rows set i j place row v noted laid is inside there be
     let is_before : (access_of v).source ≡ Before = same_Some (access_of v).source Before (sym (ap (option_map (λ (a : Access). a.source)) found) ∙ source) in
     noted_at rows laid first keys vs set i j place row located.0 located.1 located.2 noted (begin ∙ begin_before v is_before) index before
 
--- ---- what stays of a plan
+-- ---- a plan stays right, and keeps its sources, when indices are noted or keys are added
 
 pub sources_twice : (p q r : Planned) → HasSourcesOf p q → HasSourcesOf q r → HasSourcesOf p r
 sources_twice p q r h g = record {
@@ -228,12 +228,12 @@ pub rights_of_plan : (txns : List Txn) (p : Planned) (set : DeclaredSet) (i : �
 rights_of_plan txns p Reads i x right at = right.reads i x at
 rights_of_plan txns p Writes i x right at = right.writes i x at
 
--- there is an access for each key that a transaction declares
+-- a right plan has an access for each key that a transaction declares
 pub row_paired : (txns : List Txn) (p : Planned) (set : DeclaredSet) (i : ℕ) (x : Txn) → ∥ IsRightPlan txns p ∥₁ → slice_get txns i ≡ Some x
     → length (keys_in set x) ≡ length (planned_in set p i)
 row_paired txns p set i x right at = ∥∥₁_elim right (hlevel props) (λ plan. (rights_of_plan txns p set i x plan at).paired)
 
--- the keys of a plan say nothing of its accesses
+-- a right plan stays right if its keys are replaced
 pub keyed_right : (txns : List Txn) (p : Planned) (keys : List (List ℕ)) → IsRightPlan txns p → IsRightPlan txns (record p { keys = keys })
 keyed_right txns p keys right = record { paired = right.paired; reads = right.reads; writes = right.writes; sure = right.sure }
 
@@ -245,7 +245,7 @@ pub keyed_noted : (txns : List Txn) (p : Planned) (keys base : List (List ℕ)) 
 keyed_noted txns p keys base noted set i n x a at_x at_a =
     noted set i n x a at_x (ap (λ accesses. slice_get accesses n) (sym (keyed_planned set p keys i)) ∙ at_a)
 
--- lists of which one has elements where the other has are as long
+-- two lists have the same length if both have elements at the same indices
 long_by : {A B : Type 0} (xs : List A) (ys : List B) (f : A → Source) (g : B → Source)
     → ((j : ℕ) → option_map f (slice_get xs j) ≡ option_map g (slice_get ys j)) → length xs ≡ length ys
 long_by [] [] f g h = refl

@@ -1,4 +1,4 @@
--- The places of declared keys, noted set by set.
+-- The indices of declared keys in a base, noted set by set.
 use Rattle.std.proofs.Common.{◌≡◌, ℕ, ◌+◌, ◌<◌, ◌≤◌, true, List, slice_get, Some, sym, ap, ◌∙◌, subst, inl, inr, ⊎_elim, arith, All, length}
 use Rattle.std.proofs.lemmas.Bool.{cases_lt, or_left, or_right}
 use Rattle.std.proofs.lemmas.List.Folds.{list_any_at}
@@ -26,7 +26,7 @@ module _ {K : Type 0} (p : Planned) (set : DeclaredSet) (i : ℕ) (keys base : L
     done = λ n a low at before. absurd (omega arith);
   }
 
-  -- at an access whose source is of the batch nothing is noted
+  -- no index is noted for an access whose source is in the batch
   pub next_passed : (q : Planned) (n u : ℕ) (b : Access) → IsSetNoted p q set i keys base n → slice_get (planned_in set q i) n ≡ Some b → b.source ≡ Within u
       → IsSetNoted p q set i keys base (n + 1)
   next_passed q n u b noted at within = record { sources = noted.sources; right = noted.right; each = noted.each; done = done }
@@ -41,7 +41,7 @@ module _ {K : Type 0} (p : Planned) (set : DeclaredSet) (i : ℕ) (keys base : L
           absurd cc)
           (cases_lt m n)
 
-  -- at another one the place is
+  -- the index of the key is noted for an access whose source is `Before`
   pub next_noted : (q r : Planned) (n place : ℕ) (k : K) → IsSetNoted p q set i keys base n → IsNoted q r set i n place → source_in set q i n ≡ Some Before
       → slice_get keys n ≡ Some k → slice_get base place ≡ Some k → IsSetNoted p r set i keys base (n + 1)
   next_noted q r n place k noted now before at_key at_place = record {
@@ -69,7 +69,7 @@ module _ {K : Type 0} (p : Planned) (set : DeclaredSet) (i : ℕ) (keys base : L
 
 -- ---- all transactions
 
--- the rows below n have the places of their keys
+-- in the first `count` rows, each access whose source is `Before` has the index of its key in the base
 abbrev pub AreNotedBelow : List Txn → Planned → List (List ℕ) → ℕ → Type 0
 AreNotedBelow txns p base count = (set : DeclaredSet) (i n : ℕ) (x : Txn) (a : Access) → i < count → slice_get txns i ≡ Some x
     → slice_get (planned_in set p i) n ≡ Some a → a.source ≡ Before → HasPlace base (keys_in set x) n a
@@ -105,7 +105,7 @@ next_row txns p q r base i x at noted reads writes set m n y a low at_y at_a bef
         (writes.each Reads i n a at_a)
     new Writes n a at_a before k at_k = writes.done n a (slice_get_within x.writes n k at_k) at_a before k at_k
 
--- a declared key is one of the keys
+-- a key in one of a transaction's declared sets is declared by the transaction
 declares_in : (set : DeclaredSet) (x : Txn) (k : List ℕ) → IsAmong (keys_in set x) k → declares_key k x ≡ true
 declares_in Reads x k h = or_left (is_among x.reads k) (is_among x.writes k) h
 declares_in Writes x k h = or_right (is_among x.reads k) (is_among x.writes k) h

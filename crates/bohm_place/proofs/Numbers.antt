@@ -1,4 +1,4 @@
--- The newest placeholders by the numbers of keys.
+-- The newest placeholders by key number.
 use Rattle.std.proofs.Common.{◌≡◌, ◌≢◌, ℕ, ◌+◌, ◌<◌, ◌≤◌, Bool, true, false, List, [], ◌∷◌, ◌++◌, length, map, take, get_or, slice_get}
 use Rattle.std.proofs.Common.{slice_set, Some, refl, sym, ap, ◌∙◌, subst, inl, inr, ◌⊎◌, ⊎_elim, arith, if◌then◌else◌, nat_lt, All, length-set}
 use Rattle.std.specs.List.{IsDistinct}
@@ -24,7 +24,7 @@ use Rattle.bohm_place.proofs.Found.{made_more}
 
 -- ---- numbers and names
 
--- keys with two numbers are apart
+-- different numbers have different names
 one_number : (names : List (List ℕ)) (m n : ℕ) → IsDistinct bytes_eq names → m < length names → n < length names → m ≢ n
     → bytes_eq (name_at names m) (name_at names n) ≡ true → ⊥
 one_number names m n distinct in_m in_n apart e = ⊎_elim
@@ -42,7 +42,7 @@ one_number names m n distinct in_m in_n apart e = ⊎_elim
 within_own : (first u index : ℕ) → first ≤ u → within first (record { begin = u; index = index }) ≡ record { begin = u; index = index }
 within_own first u index le = let e : nat_lt u first ≡ false = grind (arith, nat_tests) in rw e refl
 
--- the placeholder at n after one of the key with this number was placed
+-- the newest placeholder of number n, after `next` was placed for this number
 module _ (first : ℕ) (names : List (List ℕ)) (number : ℕ) (hand new : List Placeholder) (next : Placeholder) (apart : IsDistinct bytes_eq names)
     (inside : number < length names) (long : length names ≤ length hand) (own : within first next ≡ next) where
   slot_by : (n : ℕ) → n < length names → (m b : Bool) → bytes_eq (name_at names number) (name_at names n) ≡ b → (b ≡ true → m ≡ true)
@@ -60,7 +60,7 @@ module _ (first : ℕ) (names : List (List ℕ)) (number : ℕ) (hand new : List
       rw at refl
   slot_by n in_n false false e mine is (inr other) = rw is refl
 
--- the writes up to the next one have been placed
+-- the first i writes of the transaction u are placed, and then the write at index i
 module _ (mine : List ℕ → Bool) (first u : ℕ) (names : List (List ℕ)) (numbers : List ℕ) (i number : ℕ) (old hand new : List Placeholder)
     (covered : IsCovered names old) (named : AllNamed names numbers) (late : first ≤ u) (inside : i < length numbers) (at : get_or numbers i number ≡ number)
     (before : AreNumbersPlaced mine first u names (take i numbers) old hand)
@@ -104,7 +104,7 @@ module _ (mine : List ℕ → Bool) (first u : ℕ) (names : List (List ℕ)) (n
         ) step;
   }
 
-  -- what the next one finds stood there before them
+  -- the next write finds the placeholder that was there before the transaction's writes
   found_by_now : AreDistinct (names_at names numbers) → (m : Bool) → mine (name_at names number) ≡ m
       → (if m then within first (newest_at hand number) else none) ≡ (if m then within first (newest_at old number) else none)
   found_by_now distinct true has =
@@ -156,7 +156,7 @@ module _ (mine : List ℕ → Bool) (first : ℕ) (names : List (List ℕ)) wher
             placed.each n in_n has ∙ rw (before.each n in_n has, writes) (sym whole);
       }
 
-  -- what is found by number is what the transactions ahead make of the named key
+  -- the placeholder found for a number is the newest one of the number's name from the earlier transactions
   found_name : (ahead : List Txn) (newest : List Placeholder) (n : ℕ) → n < length names → StandsBehind mine first names ahead newest → (m : Bool)
       → mine (name_at names n) ≡ m
       → (if m then within first (newest_at newest n) else none) ≡ (if m then ahead_of first ahead (name_at names n) else none)

@@ -1,4 +1,4 @@
--- What one worker finds that has all parts.
+-- A single worker has all parts, and finds the placeholders of all keys.
 use Rattle.std.proofs.Common.{◌≡◌, ℕ, ◌%◌, true, List, [], refl, arith}
 use Rattle.std.proofs.lemmas.Nat.{mod_below}
 use Rattle.bohm_types.specs.Txn.{Txn}

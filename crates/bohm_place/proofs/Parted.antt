@@ -1,4 +1,4 @@
--- What a worker owes for its own parts of all.
+-- The result of a worker that has only its own parts, restated for all parts.
 use Rattle.std.proofs.Common.{◌≡◌, ℕ, ◌<◌, Bool, true, false, List, [], ◌++◌, All, length, slice_get, Some, refl, sym, subst, ap, ◌∙◌, if◌then◌else◌}
 use Rattle.bohm_types.specs.Txn.{Txn}
 use Rattle.bohm_txn.proofs.ForCallers.{rising_writes}
@@ -13,7 +13,7 @@ module _ (part : List ℕ → ℕ) (n first : ℕ) (all own : List Keyed) (w : �
   held : (k : List ℕ) → keys_of part n w k ≡ true → placeholders_in part own k ≡ placeholders_in part all k
   held k mine = let here = is (part k) (inside k) mine in rw here refl
 
-  -- of all parts, a worker can plan with its own
+  -- a worker can plan with its own parts if the begins in all parts are below the first timestamp of the batch
   pub can_place : (count : ℕ) → length all ≡ count → length own ≡ length all → ((k : List ℕ) → All (λ b. b < first) (chain_in part all k))
       → CanPlace part count n w first own
   can_place count counted long earlier = record {

@@ -1,4 +1,4 @@
--- Placeholders in the hands of workers.
+-- Placeholders that a worker adds to the chains in its parts, and parts that are trimmed.
 use Rattle.std.proofs.Common.{◌≡◌, ◌≢◌, ℕ, zero, suc, ◌+◌, ◌<◌, ◌≤◌, ◌&&◌, ◌||◌, Bool, true, false, List, [], ◌∷◌, ◌++◌, length, map, take, get_or, slice_get}
 use Rattle.std.proofs.Common.{slice_set, Option, Some, None, unwrap_or, option_map, refl, sym, ap, ◌∙◌, inl, inr, ◌⊎◌, arith, if◌then◌else◌, All, append-nil}
 use Rattle.std.specs.Str.{bytes_eq}
@@ -52,7 +52,7 @@ module _ (part : List ℕ → ℕ) where
       rw (g, o) is
   foreign_by qs old new key k next i inside at b e is apart (inr s) = rw (set_other qs (part key) i new s) refl
 
-  -- the keys of another part have there what they had
+  -- in each part, the chains of keys that belong to other parts don't change
   pub foreign : (qs : List Keyed) (old new : Keyed) (key k : List ℕ) (next : Placeholder) (i : ℕ) → part key < length qs → slice_get qs (part key) ≡ Some old
       → placeholders new k ≡ (if bytes_eq key k then placeholders old k ++ next ∷ [] else placeholders old k) → part k ≢ i
       → placeholders_in (λ _. i) (slice_set qs (part key) new) k ≡ placeholders_in (λ _. i) qs k
@@ -79,7 +79,7 @@ step_by true false base hand new ws next h n = rw (n, h, append-nil ws) refl
 step_by false true base hand new ws next h n = n ∙ h
 step_by false false base hand new ws next h n = n ∙ h
 
--- one more write of the transaction u
+-- one more write of the transaction u is placed
 pub write_placed : (m : Bool) (base hand new : List Placeholder) (u i : ℕ) (keys : List (List ℕ)) (k d : List ℕ) → i < length keys → length (take i keys) ≡ i
     → hand ≡ (if m then base ++ placeholders_written u 0 (take i keys) k else base)
     → new ≡ (if (bytes_eq (get_or keys i d) k && m) then hand ++ record { begin = u; index = i } ∷ [] else hand)
@@ -90,12 +90,12 @@ write_placed m base hand new u i keys k d inside len h n =
     = ap (λ ws. placeholders_written u 0 ws k) (take_more keys i d inside) ∙ written_more u 0 (take i keys) (get_or keys i d) k i (omega arith) in
     rw more (step_by m (bytes_eq (get_or keys i d) k) base hand new (placeholders_written u 0 (take i keys) k) record { begin = u; index = i } h n)
 
--- the key of the next write has none yet of the transaction
+-- the key of the next write has no placeholder from the earlier writes of the transaction
 pub not_yet_written : (u i : ℕ) (keys : List (List ℕ)) (d : List ℕ) → i < length keys → AreDistinct keys
     → placeholders_written u 0 (take i keys) (get_or keys i d) ≡ []
 not_yet_written u i keys d inside distinct = written_none u 0 (take i keys) (get_or keys i d) (none_before keys i d inside (apart-AreDistinct keys distinct))
 
--- and its chain is as it was before the transaction
+-- the chain of the next write's key is as it was before the transaction
 pub not_yet_placed : (m : Bool) (base hand : List Placeholder) (u i : ℕ) (keys : List (List ℕ)) (d : List ℕ) → i < length keys → AreDistinct keys
     → hand ≡ (if m then base ++ placeholders_written u 0 (take i keys) (get_or keys i d) else base) → hand ≡ base
 not_yet_placed true base hand u i keys d inside distinct h = h ∙ ap (λ ws. base ++ ws) (not_yet_written u i keys d inside distinct) ∙ append-nil base
@@ -125,9 +125,9 @@ AreEmpty-push [] p h e (suc i) q k at = absurd cc
 AreEmpty-push (x ∷ xs) p h e zero q k at = h 0 q k at
 AreEmpty-push (x ∷ xs) p h e (suc i) q k at = AreEmpty-push xs p (λ j. h (suc j)) e i q k at
 
--- ---- parts of which each is trimmed
+-- ---- trimmed parts
 
--- the part, if there is one, has what is kept of its chains
+-- either both parts are absent, or the second part has the kept begins of the first part's chains
 abbrev pub KeptParts : ℕ → Option Keyed → Option Keyed → Type 0
 KeptParts floor None None = Unit {0}
 KeptParts floor None (Some q) = ⊥
@@ -151,7 +151,7 @@ trimmed_here floor o r p q e f h = rw (e, f) h
 pub trimmed_past : (floor : ℕ) (o r : Option Keyed) → o ≡ None → r ≡ None → KeptParts floor o r
 trimmed_past floor o r e f = rw (e, f) tt
 
--- ---- what the writes of a transaction find
+-- ---- the placeholders that a transaction's writes find
 
 pub found_write : {A : Type 0} (F : A → Placeholder) (before now new : List Placeholder) (v : Placeholder) (keys : List A) (i : ℕ) (key : A) → i < length keys
     → get_or keys i key ≡ key → now ≡ before ++ map F (take i keys) → new ≡ now ++ v ∷ [] → v ≡ F key → new ≡ before ++ map F (take (i + 1) keys)

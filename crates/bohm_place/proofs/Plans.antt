@@ -1,9 +1,9 @@
--- The plans of a log's batches, one after another.
+-- A property of each plan in a list, after one more plan is appended.
 use Rattle.std.proofs.Common.{◌≡◌, ℕ, zero, suc, List, [], ◌∷◌, ◌++◌, length, slice_get, Some, subst}
 use Rattle.std.proofs.lemmas.Option.{same_Some}
 use Rattle.bohm_place.specs.Plans.{Planned}
 
--- what holds of each plan at its place, and of one more behind them
+-- if P holds for each plan at its index and for the appended plan, it holds for each plan of the longer list
 pub plan_more : (P : ℕ → Planned → Type 0) (ps : List Planned) (q : Planned) → ((i : ℕ) (p : Planned) → slice_get ps i ≡ Some p → P i p) → P (length ps) q
     → (i : ℕ) (p : Planned) → slice_get (ps ++ q ∷ []) i ≡ Some p → P i p
 plan_more P [] q each last zero p e = subst (P 0) (same_Some q p e) last

@@ -1,4 +1,4 @@
--- The newest placeholder that the transactions ahead make of a key is the right source.
+-- The newest placeholder of a key from the earlier transactions of the batch gives the right access.
 use Rattle.std.proofs.Common.{◌≡◌, ℕ, suc, ◌+◌, ◌<◌, ◌≤◌, ◌==◌, ◌||◌, Bool, true, false, List, [], ◌∷◌, length, take, slice_get}
 use Rattle.std.proofs.Common.{Some, refl, sym, ap, ◌∙◌, subst, inl, inr, ◌⊎◌, ⊎_elim, arith, if◌then◌else◌, nat_lt, add-zero}
 use Rattle.std.specs.List.{AllByRecursion}
@@ -22,9 +22,9 @@ use Rattle.bohm_place.proofs.Rising.{begins-append}
 use Rattle.bohm_place.proofs.Placed.{Below}
 use Rattle.bohm_place.proofs.Found.{made_each}
 
--- ---- the last of the writes of one transaction
+-- ---- the last placeholder from the writes of one transaction
 
--- r is v where none of the writes is of the key, and else the placeholder of one that is
+-- r is v if none of the writes is of the key; otherwise r is the placeholder of a write of the key
 abbrev LastWritten : Placeholder → ℕ → ℕ → List (List ℕ) → List ℕ → Placeholder → Type 0
 LastWritten v u index ws k r = ((r ≡ v) × (is_among ws k ≡ false)) ⊎ ((j : ℕ) × ((r ≡ record { begin = u; index = index + j }) × (slice_get ws j ≡ Some k)))
 
@@ -52,13 +52,13 @@ last_written : (v : Placeholder) (u index : ℕ) (ws : List (List ℕ)) (k : Lis
 last_written v u index [] k = inl (refl, refl)
 last_written v u index (w ∷ ws) k = last_written_by v u index w ws k (bytes_eq w k) refl (λ x. last_written x u (index + 1) ws k)
 
--- ---- the last of the writes of several transactions
+-- ---- the last placeholder from the writes of several transactions
 
--- no transaction from place p up to place n writes the key
+-- no transaction at an index from p to n - 1 writes the key
 abbrev NoneFrom : List Txn → List ℕ → ℕ → ℕ → Type 0
 NoneFrom all k p n = (m : ℕ) (x : Txn) → p ≤ m → m < n → slice_get all m ≡ Some x → is_among x.writes k ≡ true → ⊥
 
--- v is the placeholder of the last transaction below place n that writes the key
+-- v is the placeholder of the last transaction below index n that writes the key
 record IsLast (first : ℕ) (all : List Txn) (k : List ℕ) (n : ℕ) (v : Placeholder) : Type 0 where
   place : ℕ
   txn : Txn
@@ -155,13 +155,13 @@ right_by first all k i v above (inr l) =
       write = record { txn = l.txn; there = there; declared = l.declared };
     })
 
--- what is found ahead of place i is the right source of the transaction there
+-- the key's newest placeholder from the transactions before index i gives the right access for the transaction at i
 pub right_access : (first : ℕ) (all : List Txn) (k : List ℕ) (i : ℕ) → 0 < first → i ≤ length all
     → IsRightAccess first all (first + i) k (access_of (last_or none (placeholders_made first (take i all) k)))
 right_access first all k i above inside = right_by first all k i (last_or none (placeholders_made first (take i all) k)) above
     (newest_made first all k i inside)
 
--- ---- chains before the batch don't matter
+-- ---- the chains before the batch don't affect the newest placeholder
 
 abbrev Above : ℕ → List Placeholder → Type 0
 Above first vs = AllByRecursion (λ v. first ≤ v.begin) vs
@@ -190,7 +190,7 @@ newest_ahead-base first base ahead k above low =
     ap (within first) (last_or-append none (base k) (placeholders_made first ahead k))
     ∙ within_by first (last_or none (base k)) (placeholders_made first ahead k) (last_below first none (base k) above low) (made_above first ahead k)
 
--- ---- no placeholder
+-- ---- accesses whose source is `Before`
 
 begin_by : (v : Placeholder) (b : Bool) → (v.begin == 0) ≡ b → (access_of v).source ≡ Before → v.begin ≡ 0
 begin_by v true e before = grind (arith, nat_tests)
@@ -203,7 +203,7 @@ index_by : (first : ℕ) (vs : List Placeholder) → 0 < first → Above first v
 index_by first [] above h e = refl
 index_by first (v ∷ vs) above h e = absurd (omega (arith, last_above first v vs h.0 h.1, e))
 
--- where the transactions ahead make no placeholder of the key, its access has the index 0
+-- if the newest placeholder gives the source `Before`, its index is 0
 pub index_before : (first : ℕ) (ahead : List Txn) (k : List ℕ) → 0 < first → (access_of (last_or none (placeholders_made first ahead k))).source ≡ Before
     → (last_or none (placeholders_made first ahead k)).index ≡ 0
 index_before first ahead k above before = index_by first (placeholders_made first ahead k) above (made_above first ahead k)

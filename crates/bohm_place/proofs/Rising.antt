@@ -17,7 +17,7 @@ pub RisesFrom-push : (n : ℕ) (xs : List ℕ) (t : ℕ) → RisesFrom n xs → 
 RisesFrom-push n [] t h below lt = (lt, tt)
 RisesFrom-push n (x ∷ xs) t h below lt = (h.0, RisesFrom-push x xs t h.1 (All-tail (λ b. b < t) x xs below) (All-head (λ b. b < t) x xs below))
 
--- the begins from ts on
+-- all begins are at or above ts
 abbrev pub From : ℕ → List ℕ → Type 0
 From ts xs = AllByRecursion (λ b. ts ≤ b) xs
 
@@ -44,7 +44,7 @@ greatest_below-found n ts (x ∷ xs) b ys h lt above =
     let g = greatest_below-found x ts xs b ys h.1 lt above in
     rw (e, g) (omega arith)
 
--- the same of a chain's placeholders, at a place behind which all begin at or above ts
+-- in a rising chain, the last begin below ts, at index i, is the greatest begin below ts
 pub greatest_below-at : (ts : ℕ) (vs : List Placeholder) (w : Placeholder) (i : ℕ) (d : Placeholder) → i < length vs → RisesFrom 0 (begins (vs ++ w ∷ []))
     → (get_or vs i d).begin < ts → From ts (begins (drop (i + 1) vs)) → ts ≤ w.begin
     → greatest_below ts (begins (vs ++ w ∷ [])) ≡ (get_or vs i d).begin
@@ -58,13 +58,13 @@ greatest_below-at ts vs w i d inside rises lt above last =
     begins-append vs (w ∷ []) ∙ ap (λ xs. xs ++ w.begin ∷ []) parts ∙ append_assoc front (b ∷ back) (w.begin ∷ []) in
     rw whole (greatest_below-found 0 ts front b (back ++ w.begin ∷ []) (rw whole at rises) lt (each_append (λ b. ts ≤ b) back (w.begin ∷ []) above (last, tt)))
 
--- the same of a chain of which none is below ts
+-- a chain without a begin below ts has 0 as its greatest begin below ts
 pub greatest_below-past : (ts : ℕ) (vs : List Placeholder) (w : Placeholder) → From ts (begins vs) → ts ≤ w.begin
     → greatest_below ts (begins (vs ++ w ∷ [])) ≡ 0
 greatest_below-past ts vs w above last = rw (begins-append vs (w ∷ []))
     (greatest_below-none ts (begins vs ++ w.begin ∷ []) (each_append (λ b. ts ≤ b) (begins vs) (w.begin ∷ []) above (last, tt)))
 
--- the same of the newest one
+-- if the newest placeholder begins below ts, its begin is the greatest begin below ts
 pub greatest_below-newest : (ts : ℕ) (vs : List Placeholder) (w : Placeholder) → RisesFrom 0 (begins (vs ++ w ∷ [])) → w.begin < ts
     → greatest_below ts (begins (vs ++ w ∷ [])) ≡ w.begin
 greatest_below-newest ts vs w rises lt = rw (begins-append vs (w ∷ []))
@@ -76,7 +76,7 @@ rises_appended_by true true old new next h is above lt = rw (is, begins-append o
 rises_appended_by true false old new next h is above lt = rw is h
 rises_appended_by false e old new next h is above lt = rw is h
 
--- a chain to which a placeholder is appended where the key is its own
+-- a rising chain still rises after a placeholder with a greater begin is appended for its key
 pub rises_appended : (ok : Bool) (key k : List ℕ) (old new : List Placeholder) (next : Placeholder) → RisesFrom 0 (begins old)
     → new ≡ (if (ok && bytes_eq key k) then old ++ next ∷ [] else old) → (bytes_eq key k ≡ true → All (λ b. b < next.begin) (begins old)) → 0 < next.begin
     → RisesFrom 0 (begins new)

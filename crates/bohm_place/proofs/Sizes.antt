@@ -44,7 +44,7 @@ is_size_at sizes e i h = AllPass-from_list_all is_size sizes (and_parts (list_al
 pub size_at : (sizes : List ℕ) → are_sizes sizes ≡ true → (i : ℕ) → i < length sizes → (1 ≤ slice_index sizes i) × (slice_index sizes i ≤ 4096)
 size_at sizes e i h = let one = is_size_at sizes e i h in (some_size (slice_index sizes i) one, few_size (slice_index sizes i) one)
 
--- ---- batches of one size, and the last of what is left
+-- ---- batches of equal size, and a last batch with the remaining transactions
 
 even_full : (batch q : ℕ) → 1 ≤ batch → IsEven batch (replicate q batch)
 even_full batch q some = record {
@@ -69,7 +69,7 @@ sum_full batch q = sum_by-replicate (λ x. x) q batch
 sum_rest : (batch q r : ℕ) → sum (replicate q batch ++ r ∷ []) ≡ q * batch + r
 sum_rest batch q r = sum_by_push (λ x. x) (replicate q batch) r ∙ ap (λ n. n + r) (sum_full batch q)
 
--- the batches of a log of this length
+-- the sizes are even, and their total is the length of the log
 pub record IsCutEvenly (batch len : ℕ) (sizes : List ℕ) : Type 0 where
   pub even : IsEven batch sizes
   pub total : sum sizes ≡ len
@@ -87,7 +87,7 @@ cut_rest batch len sizes some left is =
     let total = sum_rest batch (len / batch) (len % batch) ∙ div-add-mod' len batch in
     rw is (record { even = even; total = total })
 
--- sizes that are even are sizes
+-- even sizes are possible sizes if the size of a batch and the length of the log are within their limits
 pub even_sizes : (batch len : ℕ) (sizes : List ℕ) → batch ≤ 4096 → len ≤ 4294967295 → IsCutEvenly batch len sizes → are_sizes sizes ≡ true
 even_sizes batch len sizes few short cut =
     let total : sum sizes ≤ 4294967295 = omega (arith, cut.total) in

@@ -13,7 +13,7 @@ pub lt_apart : (j p : ℕ) → j ≢ p → nat_lt j (p + 1) ≡ nat_lt j p
 lt_apart j p apart = lt_apart_by j p (nat_lt j p) refl apart
 
 module _ {T : Type 0} (n w : ℕ) where
-  -- below p the parts of the worker are the other list's
+  -- in a, the worker's parts below index p are those of b0, and all other parts are those of a0
   abbrev pub Mixed : ℕ → List T → List T → List T → Type 0
   Mixed p a a0 b0 = (j : ℕ) → j < length a0 → slice_get a j ≡ (if (nat_lt j p && ((j % n) == w)) then slice_get b0 j else slice_get a0 j)
 

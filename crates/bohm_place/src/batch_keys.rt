@@ -64,6 +64,7 @@ fn add_sets(
     ensures { OnOk result
         (AreGathered keys.now (record { numbers = numbers.new.items; places = places.new })) }
 {
+    // The call's contract says that the names are distinct.
     let _ = keys.names();
     for index in 0..keys.len() {
         let (reads, writes) = keys.sets(index);

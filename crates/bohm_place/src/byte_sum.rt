@@ -3,6 +3,7 @@
 ghost use Rattle.std.specs.Prelude.{◌≡◌, ◌<◌, ◌≤◌, ◌%◌, length, IfSome, is_some, nat_lt};
 ghost use Rattle.std.specs.List.{sum};
 ghost use Rattle.std.proofs.Math.Nat.{mod-lt};
+ghost use Rattle.bohm_types.specs.Limits.{longest_name};
 
 use crate::partition::Partition;
 use bohm_types::Key;
@@ -29,7 +30,7 @@ impl ByteSum {
 
 // The sum of a key's bytes.
 fn sum_of(bytes: &[u8]) -> u32
-    requires { length bytes.now ≤ 32 }
+    requires { length bytes.now ≤ longest_name }
     ensures { result ≡ sum bytes.now }
 {
     bytes.iter().map(|byte| u32::from(*byte)).sum()

@@ -26,6 +26,7 @@ use std::thread::Threads;
 pub(crate) fn each_key_has_a_part<P: Partition>(partition: &P)
     ensures { AreParts (P.part_of partition.now) (P.count partition.now) }
 {
+    // Only the contract needs the partition.
     let _ = partition;
 }
 

@@ -1,4 +1,4 @@
--- A procedure's own instance is checked alone; handles are as many as their keys.
+-- A procedure's own instance is checked alone, and there are as many handles as keys.
 use Rattle.std.proofs.Common.{◌≡◌, ℕ, true, false, List, [], ◌∷◌, ◌++◌, length, Some, Ok, Err, refl, sym, ap, ◌∙◌, arith, ◌≤◌, ◌+◌, map, take}
 use Rattle.std.specs.Prelude.{ℤ, Result, OnOk, is_err}
 use Rattle.std.specs.List.{sum_by}
@@ -46,7 +46,7 @@ zeros_terms (x ∷ xs) =
     sum_by-append stmt_terms (let_zero x ∷ []) (map let_zero xs) in
     omega (arith, split, zeros_terms xs)
 
--- each value's statement has one term
+-- the statements of the values have at most one term for each value
 pub lets_short : (d : Drafted) (values : List (List ℕ)) → BeginsWithLets d.txn values → IsBetween d
     → sum_by stmt_terms (take (length values) d.txn.body) + open_terms d ≤ length values
 lets_short d values e whole =

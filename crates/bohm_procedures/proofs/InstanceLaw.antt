@@ -25,7 +25,7 @@ use Rattle.bohm_log.proofs.ForCallers.{key_set_few}
 use Rattle.bohm_procedures.proofs.KeySetLaws.{key_set_rises, among_key_set_map}
 use Rattle.bohm_procedures.proofs.SubstitutionLaws.{Covers, BindAlike, unread_with, unwritten_with, misnamed_with, long_with, parts_with}
 
--- the second statement is faultless where the first one is: it names the same locals, and keys that the others stand for
+-- t has no fault if s has none: t names the locals of s, and the keys that f gives for the keys of s
 pub record Mirrors (f : List ℕ → List ℕ) (s t : Stmt) : Type 0 where
   binds : bound t ≡ bound s
   shows : is_show t ≡ is_show s
@@ -119,7 +119,7 @@ bound_alike f [] (t ∷ ts) h (suc i) x = absurd h
 bound_alike f (s ∷ ss) [] h (suc i) x = absurd h
 bound_alike f (s ∷ ss) (t ∷ ts) h (suc i) x = rw (h.0.binds, bound_alike f ss ts h.1 i x) refl
 
--- what passes no place of one body passes none of the other
+-- if p doesn't hold at an index of ss, q doesn't hold there in ts, whose statements mirror those of ss
 still_none : (f : List ℕ → List ℕ) (p q : Stmt → Bool) → ((s t : Stmt) → Mirrors f s t → p s ≡ false → q t ≡ false) → (ss ts : List Stmt)
     → Bodies f ss ts → (i : ℕ) → passes_at p ss i ≡ false → passes_at q ts i ≡ false
 unfolding Bodies
@@ -131,7 +131,7 @@ still_none f p q each (s ∷ ss) (t ∷ ts) h (suc i) e = still_none f p q each 
 
 -- ---- transactions
 
--- the second transaction has the sets that the first one's stand for, in order, and a body that mirrors its body
+-- u declares the keys that f gives for those of t, as sets, and the body of u mirrors that of t
 pub record IsTurned (f : List ℕ → List ℕ) (t u : Txn) : Type 0 where
   pub reads : u.reads ≡ key_set (map f t.reads)
   pub writes : u.writes ≡ key_set (map f t.writes)

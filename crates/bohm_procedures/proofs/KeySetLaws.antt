@@ -1,4 +1,4 @@
--- Keys in order, each once: they rise, they are the same keys, and they are no more.
+-- Sets of keys ascend, and the set of some keys' images has the image of each of these keys.
 use Rattle.std.proofs.Common.{◌≡◌, ℕ, true, false, List, [], ◌∷◌, map, refl, ap, ◌∙◌, subst}
 use Rattle.std.specs.Prelude.{◌||◌}
 use Rattle.std.specs.Str.{bytes_eq}
@@ -11,7 +11,7 @@ use Rattle.bohm_txn.proofs.ForCallers.{same_key, key_itself, among_first, among_
 use Rattle.bohm_types.specs.KeySets.{inserted_by, inserted, key_set}
 use Rattle.bohm_log.proofs.ForCallers.{among_key_set}
 
--- ---- they rise
+-- ---- the set is ascending
 
 turned : (x k : List ℕ) → slice_cmp nat_cmp k x ≡ Greater → is_lt (slice_cmp nat_cmp x k) ≡ true
 turned x k e = ap is_lt (nat_list_cmp_total.antisymm x k ∙ ap ordering_reverse e)
@@ -39,7 +39,7 @@ pub key_set_rises : (ks : List (List ℕ)) → rising (key_set ks) ≡ true
 key_set_rises [] = refl
 key_set_rises (k ∷ ks) = rising_inserted k (key_set ks) (key_set_rises ks)
 
--- ---- a function of each
+-- ---- the images of keys
 
 pub among_map : (f : List ℕ → List ℕ) (ks : List (List ℕ)) (q : List ℕ) → IsAmong ks q → IsAmong (map f ks) (f q)
 among_map f [] q h = absurd cc

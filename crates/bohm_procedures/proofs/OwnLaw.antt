@@ -1,4 +1,4 @@
--- Where the sets rise, the own instance is the instance for the procedure's own names and zeros.
+-- If the declared sets ascend, the own instance is the one for the procedure's own names and zeros.
 use Rattle.std.proofs.Common.{◌≡◌, ℕ, Bool, true, List, [], ◌∷◌, ◌++◌, map, get_or, Option, Some, None, refl, ap, ◌∙◌}
 use Rattle.std.specs.Prelude.{pos}
 use Rattle.std.specs.Str.{bytes_eq}

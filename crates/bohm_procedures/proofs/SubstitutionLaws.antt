@@ -1,4 +1,4 @@
--- What a statement with other keys keeps of the statement.
+-- Properties that a statement keeps when its keys are replaced.
 use Rattle.std.proofs.Common.{◌≡◌, ℕ, Bool, true, false, List, [], ◌∷◌, length, map, Option, Some, None, refl, sym, ◌∙◌, subst}
 use Rattle.std.specs.Prelude.{◌||◌, not, nat_le}
 use Rattle.std.specs.List.{list_all}
@@ -12,7 +12,7 @@ use Rattle.bohm_types.specs.Stmt.{Stmt, Bind, Need, Has, Lacks, Put, Remove, Sho
 use Rattle.bohm_txn.specs.Faulty.{reads_among, locals_bound, is_bound, is_unread, is_unwritten, is_misnamed, is_long}
 use Rattle.bohm_types.specs.Substitution.{atom_with, term_with, sum_with, stmt_with}
 
--- ---- its parts
+-- ---- the parts of a statement
 
 pub record IsWith (f : List ℕ → List ℕ) (s t : Stmt) : Type 0 where
   pub sums_are : sums t ≡ map (sum_with f) (sums s)
@@ -32,9 +32,9 @@ parts_with f (Remove k) = record { sums_are = refl; tests = refl; targets = refl
 parts_with f (Show sum) = record { sums_are = refl; tests = refl; targets = refl; binds = refl; shows = refl }
 parts_with f Fail = record { sums_are = refl; tests = refl; targets = refl; binds = refl; shows = refl }
 
--- ---- tests of all
+-- ---- tests for faults
 
--- what passes one test passes another one, through a function
+-- if all elements pass p, and g maps each such element to one that passes q, all images pass q
 pub all_map : {A : Type 0} (p q : A → Bool) (g : A → A) → ((x : A) → p x ≡ true → q (g x) ≡ true) → (xs : List A) → list_all p xs ≡ true
     → list_all q (map g xs) ≡ true
 all_map p q g each [] h = refl
@@ -49,7 +49,7 @@ not_or false b h = absurd cc
 from_not_or : (a b : Bool) → a ≡ true → b ≡ false → (not a || b) ≡ false
 from_not_or a b e h = rw (e, h) refl
 
--- every key among some stands for one among others
+-- f maps each of these keys to one of the other keys
 abbrev pub Covers : (List ℕ → List ℕ) → List (List ℕ) → List (List ℕ) → Type 0
 Covers f keys others = (k : List ℕ) → IsAmong keys k → IsAmong others (f k)
 
@@ -80,7 +80,7 @@ pub unwritten_with : (f : List ℕ → List ℕ) (keys others : List (List ℕ))
     → is_unwritten others (stmt_with f s) ≡ false
 unwritten_with f keys others covers s h = rw (parts_with f s).targets (key_covered f keys others covers (target s) h)
 
--- the same locals are bound
+-- the two lists of statements bind the same locals
 abbrev pub BindAlike : List Stmt → List Stmt → Type 0
 BindAlike ss ts = (x : List ℕ) → is_bound ts x ≡ is_bound ss x
 

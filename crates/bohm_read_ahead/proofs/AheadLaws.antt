@@ -26,7 +26,7 @@ begins : (e : Edition) (p : Parsing) → IsParsing e p → IsWindow (window_of p
 begins e (There taker) is = is.0
 begins e (Here checked) is = is.0
 
--- ---- more windows
+-- ---- more windows are read ahead
 
 pub none_ahead : (v : Option (List ℕ)) (r : ReadingState) → IsGoing r → ReadsAhead v v r r
 none_ahead v r going = record {
@@ -60,14 +60,14 @@ module _ (v x : Option (List ℕ)) (was mid : ReadingState) (so_far : ReadsAhead
   pub refused_ahead : (fault : ReadingFault) → RefusesNext x y mid.source fault → RefusesChunk v y was fault
   refused_ahead fault h = λ u d first chunks edition taken. h u d first chunks (windows_of mid.ahead.items) (so_far.reads u d first chunks taken)
 
--- ---- the first of them
+-- ---- the first of the windows ahead is taken
 
 module _ (v x : Option (List ℕ)) (was mid : ReadingState) (so_far : ReadsAhead v x was mid) (a : Parsing) (rest : List Parsing)
     (items : mid.ahead.items ≡ a ∷ rest) (w : Window) (same_window : w ≡ window_of a) where
   pub first_parsing : IsParsing mid.edition a × AreParsing mid.edition rest
   first_parsing = let h = so_far.going.parsing in rw items at h
 
-  -- what was read of a text ends with the windows that are ahead
+  -- the chunks are followed by the first window ahead, the other windows ahead, and the rest of the source
   there : (u : Option (List ℕ)) (d : Document) (first : List ℕ) (chunks : List Chunk) → IsTaken u v d first chunks was
       → IsReadOn u x d first chunks (w ∷ windows_of rest) mid.source
   there u d first chunks taken =
@@ -79,7 +79,7 @@ module _ (v x : Option (List ℕ)) (was mid : ReadingState) (so_far : ReadsAhead
   refused_first y fault h = λ u d first chunks edition taken. h u d first chunks (windows_of rest) (edition ∙ sym so_far.edition)
       (there u d first chunks taken)
 
-  -- it was taken, and nothing was read
+  -- the first window ahead was taken, and no bytes were read
   module _ (then : ReadingState) (chunk : Chunk) (took : TakesWindow mid.edition w mid.source then.source chunk) (others : then.ahead.items ≡ rest)
       (edition : then.edition ≡ mid.edition) (count : then.count ≡ mid.count) (z : Option (List ℕ)) (unread : z ≡ x) where
     then_there : (u : Option (List ℕ)) (d : Document) (first : List ℕ) (chunks : List Chunk) → d.edition ≡ was.edition → IsTaken u v d first chunks was

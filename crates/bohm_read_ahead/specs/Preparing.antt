@@ -16,7 +16,7 @@ use Rattle.bohm_types.specs.Limits.{most_txns}
 
 -- the number of transactions with these more, exact up to the most that a log may have
 abbrev pub count_with : ℕ → ℕ → ℕ
-count_with count more = min (count + more) 1000001
+count_with count more = min (count + more) (most_txns + 1)
 
 -- a document of this many transactions and without a fault has this first fault when continued by these
 abbrev pub IsFaultBehind : ℕ → List Txn → Option CheckFault → Type 0

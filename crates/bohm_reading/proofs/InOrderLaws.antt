@@ -1,4 +1,4 @@
--- Windows one after another.
+-- A window's fault as a fault of the whole text, where windows follow one another.
 use Rattle.std.proofs.Common.{◌≡◌, inl, inr, ℕ, ◌≤◌, List, [], ◌∷◌, ◌++◌, length}
 use Rattle.std.proofs.Common.{Result, Ok, Err, subst, sym, arith, append-nil}
 use Rattle.bohm_types.specs.declared.edition.Edition.{Edition}
@@ -16,7 +16,7 @@ use Rattle.bohm_reading.specs.declared.fault.ReadingFault.TheVariants.{Read, Too
 use Rattle.bohm_reading.specs.declared.window.Window.{Window}
 use Rattle.bohm_reading.specs.InOrder.{bytes_of, AreInOrder, IsBadAt, IsOpenAt, RefusesWindow, RefusesText}
 
--- ---- counts
+-- ---- numbers of lines, and faults
 
 pub chunk_short : (e : Edition) (w : List ℕ) (r : Result Chunk WindowFault) (chunk : Chunk) → ReadsWindow e w r → r ≡ Ok chunk → chunk.lines ≤ length w
 chunk_short e w r chunk read is =

@@ -1,4 +1,4 @@
--- Windows from a reader.
+-- Reading windows from a reader.
 use Rattle.std.proofs.Common.{◌≡◌, inl, inr, ℕ, ◌+◌, ◌<◌, ◌≤◌, Bool, true, false, List, [], ◌∷◌, ◌++◌, length}
 use Rattle.std.proofs.Common.{take, drop, Some, None, refl, ap, sym, subst, ◌∙◌, arith, append_assoc, append-nil, length-append}
 use Rattle.std.specs.Prelude.{codes, Option}
@@ -36,7 +36,7 @@ Consumes-more (Some x) None w a b one two = absurd one
 Consumes-more (Some x) (Some y) None a b one two = absurd two
 Consumes-more (Some x) (Some y) (Some z) a b one two = one ∙ (ap (λ (r : List ℕ). a ++ r) two ∙ sym (append_assoc a b z))
 
--- ---- windows
+-- ---- one more window
 
 window_front : (text rest tail : List ℕ) → text ++ rest ≡ codes "txn" ++ 10 ∷ tail → 4 ≤ length text → IsWindow text
 window_front text rest tail same some =
@@ -72,7 +72,7 @@ order_push (v ∷ vs) w tail ahead same order begins inner last =
 bytes_push : (vs : List Window) (w : Window) → bytes_of (vs ++ w ∷ []) ≡ bytes_of vs ++ w.text.items
 bytes_push vs w = flat_map-append (λ (x : Window). x.text.items) vs (w ∷ []) ∙ ap (λ (b : List ℕ). bytes_of vs ++ b) (append-nil w.text.items)
 
--- ---- window after window
+-- ---- from one window to the next
 
 same_log : (d : Document) → with_log d [] ≡ d
 same_log d = ap (λ (log : List Txn). record d { log = log }) (append-nil d.log)
@@ -88,7 +88,7 @@ on_none u d s is = record {
 pub ready : (u : Option (List ℕ)) (d : Document) (s : Source) → IsReading u d [] s → IsReady s
 ready u d s is = record { next = is.next; short = is.short }
 
--- a window that was read
+-- the window w is the piece p, read from the source `was`, and leaves the source `now`
 module _ (v x : Option (List ℕ)) (was now : Source) (p : Piece) (is : IsPiece v x was.rest.items was.total p) (w : Window) (text : w.text.items ≡ p.text.items)
     (last : w.last ≡ p.ended) (rest : now.rest.items ≡ p.rest.items) (total : now.total ≡ p.total) (ended : now.ended ≡ p.ended) where
   all_read : (ahead : List Window) → bytes_of (ahead ++ w ∷ []) ++ now.rest.items ≡ (bytes_of ahead ++ was.rest.items) ++ is.more
@@ -152,7 +152,7 @@ module _ (v x : Option (List ℕ)) (was now : Source) (p : Piece) (is : IsPiece 
           ∙ (ap (λ (r : List ℕ). r ++ is.more) so_far.same ∙ simp append_assoc));
     }
 
--- ---- too long
+-- ---- texts that are too long
 
 on_long : (u v x : Option (List ℕ)) (d : Document) (first : List ℕ) (chunks : List Chunk) (ahead : List Window) (s : Source)
     → IsReadOn u v d first chunks ahead s → IsTooLong v x s.total → IsTooLong u x (length (print_doc d ++ first))
@@ -171,7 +171,7 @@ on_long u v x d first chunks ahead s so_far long = record {
   read = Consumes-more u v x so_far.more long.more so_far.read long.read;
 }
 
--- ---- the first of the windows that were read
+-- ---- taking the first of the windows ahead
 
 module _ (u v : Option (List ℕ)) (d : Document) (first : List ℕ) (chunks : List Chunk) (w : Window) (ahead : List Window) (was : Source)
     (so_far : IsReadOn u v d first chunks (w ∷ ahead) was) where
@@ -181,7 +181,7 @@ module _ (u v : Option (List ℕ)) (d : Document) (first : List ℕ) (chunks : L
   text_so_far : IsTextOf (print_doc before) was.lines before
   text_so_far = record { sound = so_far.is.sound; print = refl; lines = so_far.is.lines }
 
-  -- its lines can be counted
+  -- the lines before the window and the bytes of the window are together at most 67108864
   pub room : was.lines + length w.text.items ≤ 67108864
   room = omega (
     arith,
@@ -225,7 +225,7 @@ module _ (u v : Option (List ℕ)) (d : Document) (first : List ℕ) (chunks : L
         same = same ∙ so_far.same;
       }
 
-  -- the text so far, the window, and what was read behind it
+  -- the whole text: the text so far, the window, and the bytes read after the window
   all_same : (more : List ℕ) → print_doc before ++ (w.text.items ++ (bytes_of ahead ++ (was.rest.items ++ more)))
       ≡ print_doc d ++ (first ++ (so_far.more ++ more))
   all_same more =
@@ -269,13 +269,13 @@ module _ (u v : Option (List ℕ)) (d : Document) (first : List ℕ) (chunks : L
       by_fault (Line n) all told = all
       by_fault Short all told = all
 
-  -- nothing is left to read
+  -- a refused window refuses the text if the source has ended
   pub refused_last : (e : Edition) (fault : ReadingFault) → d.edition ≡ e → RefusesWindow e w.text.items w.last was.lines fault → was.ended ≡ true
       → RefusesOn u v d first (length (print_doc d ++ first)) fault
   refused_last e fault same refused ended =
       on_fault e fault v [] same refused (Consumes-none v) (so_far.is.last ended).at_end (omega (arith, so_far.is.short)) (λ t. refl)
 
-  -- the rest was drained
+  -- a refused window refuses the text if the rest of the source was drained
   pub drained : (e : Edition) (fault result : ReadingFault) (y : Option (List ℕ)) → d.edition ≡ e → RefusesWindow e w.text.items w.last was.lines fault
       → was.ended ≡ false → Drains v y was.total fault result → RefusesOn u y d first (length (print_doc d ++ first)) result
   drained e fault result y same refused going (inl h) = subst (λ (f : ReadingFault). RefusesOn u y d first (length (print_doc d ++ first)) f) (sym h.0)
@@ -283,7 +283,7 @@ module _ (u v : Option (List ℕ)) (d : Document) (first : List ℕ) (chunks : L
   drained e fault result y same refused going (inr (inl h)) = rw h tt
   drained e fault result y same refused going (inr (inr h)) = rw h.0 (on_long u v y d first chunks (w ∷ ahead) was so_far h.1)
 
--- ---- the end
+-- ---- the end and the faults of a source
 
 pub on_end : (u v : Option (List ℕ)) (d : Document) (first : List ℕ) (chunks : List Chunk) (s : Source) → IsReadOn u v d first chunks [] s → s.ended ≡ true
     → ReadsOn u v d first (logs_of chunks)

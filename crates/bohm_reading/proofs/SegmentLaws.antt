@@ -1,4 +1,4 @@
--- The first window, and all that stands behind it.
+-- The first window of a text, and the text after the window.
 use Rattle.std.proofs.Common.{◌≡◌, inl, inr, ℕ, ◌+◌, ◌≤◌, true, false, List, [], ◌++◌}
 use Rattle.std.proofs.Common.{length, ap, sym, subst, ◌∙◌, arith, append_assoc, length-append}
 use Rattle.std.specs.Prelude.{Option}
@@ -57,7 +57,7 @@ module _ (u v : Option (List ℕ)) (begun : List ℕ) (none : begun ≡ []) (p :
     read = Consumes-more u v y is.more h.1.more is.read h.1.read;
   }
 
-  -- the first window is a document's text
+  -- if the first window is a document's text, reading begins with this document
   pub beginning : (first : FirstWindow) (lines : ℕ) (s : Source) → IsTextOf p.text.items lines (document_of_first first) → s.rest.items ≡ p.rest.items
       → s.total ≡ p.total → s.lines ≡ lines → s.ended ≡ p.ended → ReadsBeginning u v first s
   beginning first lines s h rest total count ended = record {
@@ -84,7 +84,7 @@ module _ (u v : Option (List ℕ)) (begun : List ℕ) (none : begun ≡ []) (p :
     };
   }
 
--- ---- what stands behind the first window
+-- ---- the text after the first window
 
 module _ (u v y : Option (List ℕ)) (first : FirstWindow) (s : Source) (begun : ReadsBeginning u v first s) where
   abbrev d : Document

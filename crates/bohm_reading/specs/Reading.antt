@@ -17,11 +17,12 @@ use Rattle.bohm_reading.specs.declared.window.Window.{Window}
 use Rattle.bohm_types.specs.declared.edition.Edition.{Edition}
 use Rattle.bohm_reading.specs.Pieces.{IsLast}
 use Rattle.bohm_reading.specs.InOrder.{bytes_of, AreInOrder, logs_of, RefusesText}
+use Rattle.bohm_types.specs.Limits.{longest_text}
 
 -- more bytes were read than a text may have, with `before` bytes read before
 pub record IsTooLong (unread unread' : Option (List ℕ)) (before : ℕ) : Type 0 where
   pub more : List ℕ
-  pub long : 67108864 < before + length more
+  pub long : longest_text < before + length more
   pub read : Consumes unread unread' more
 
 -- the reader was read to its end, with `before` bytes read before
@@ -29,7 +30,7 @@ pub record IsDrained (unread unread' : Option (List ℕ)) (before : ℕ) : Type 
   pub more : List ℕ
   pub read : Consumes unread unread' more
   pub at_end : IsAtEnd unread'
-  pub short : before + length more ≤ 67108864
+  pub short : before + length more ≤ longest_text
 
 abbrev pub Drains : Option (List ℕ) → Option (List ℕ) → ℕ → ReadingFault → ReadingFault → Type 0
 Drains unread unread' before fault result = ((result ≡ fault) × IsDrained unread unread' before)
@@ -46,7 +47,7 @@ pub record IsReading (unread : Option (List ℕ)) (d : Document) (ahead : List W
   pub sound : IsDocument d
   pub lines : s.lines ≡ length (whole_lines (print_doc d))
   pub total : s.total ≡ length (print_doc d ++ (bytes_of ahead ++ s.rest.items))
-  pub short : s.total ≤ 67108864
+  pub short : s.total ≤ longest_text
   -- whatever follows
   pub order : (more : List ℕ) → (s.ended ≡ true → more ≡ []) → AreInOrder ahead (s.rest.items ++ more)
   pub next : s.ended ≡ false → IsWindow s.rest.items
@@ -59,14 +60,14 @@ pub record ReadsOn (unread unread' : Option (List ℕ)) (d : Document) (rest : L
   pub at_end : IsAtEnd unread'
   pub sound : IsDocument (with_log d log)
   pub print : print_doc (with_log d log) ≡ print_doc d ++ (rest ++ more)
-  pub short : length (print_doc d ++ (rest ++ more)) ≤ 67108864
+  pub short : length (print_doc d ++ (rest ++ more)) ≤ longest_text
 
 -- the whole text was read, and it is refused with this fault
 pub record RefusesAll (unread unread' : Option (List ℕ)) (d : Document) (rest : List ℕ) (fault : ReadingFault) : Type 0 where
   pub more : List ℕ
   pub read : Consumes unread unread' more
   pub at_end : IsAtEnd unread'
-  pub short : length (print_doc d ++ (rest ++ more)) ≤ 67108864
+  pub short : length (print_doc d ++ (rest ++ more)) ≤ longest_text
   pub is : RefusesText (print_doc d ++ (rest ++ more)) fault
 
 abbrev pub RefusesOn : Option (List ℕ) → Option (List ℕ) → Document → List ℕ → ℕ → ReadingFault → Type 0
@@ -108,14 +109,14 @@ pub record ReadsTextOf (unread unread' : Option (List ℕ)) (d : Document) : Typ
   pub sound : IsDocument d
   pub read : Consumes unread unread' (print_doc d)
   pub at_end : IsAtEnd unread'
-  pub short : length (print_doc d) ≤ 67108864
+  pub short : length (print_doc d) ≤ longest_text
 
 -- the reader was read to its end, and its text is refused with this fault
 pub record ReadsRefused (unread unread' : Option (List ℕ)) (fault : ReadingFault) : Type 0 where
   pub text : List ℕ
   pub read : Consumes unread unread' text
   pub at_end : IsAtEnd unread'
-  pub short : length text ≤ 67108864
+  pub short : length text ≤ longest_text
   pub is : RefusesText text fault
 
 abbrev pub RefusesReading : Option (List ℕ) → Option (List ℕ) → ReadingFault → Type 0
@@ -130,11 +131,11 @@ RefusesReading unread unread' Short = ReadsRefused unread unread' Short
 -- the next window can be read
 pub record IsReady (s : Source) : Type 0 where
   pub next : s.ended ≡ false → IsWindow s.rest.items
-  pub short : s.total ≤ 67108864
+  pub short : s.total ≤ longest_text
 
 -- how many bytes may still be parsed: reading a window leaves this number unchanged, and taking the window decreases it
 abbrev pub left_of : List Window → Source → ℕ
-left_of ahead s = (67108864 - s.total) + length (bytes_of ahead ++ s.rest.items)
+left_of ahead s = (longest_text - s.total) + length (bytes_of ahead ++ s.rest.items)
 
 -- the first window was read: the document so far, and the bytes read after it
 pub record ReadsBeginning (unread unread' : Option (List ℕ)) (first : FirstWindow) (s : Source) : Type 0 where

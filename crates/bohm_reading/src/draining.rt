@@ -4,7 +4,8 @@ ghost use Rattle.std.specs.Prelude.{◌≤◌};
 ghost use Rattle.bohm_reading.specs.Reading.{Drains};
 
 use crate::fault::ReadingFault;
-use crate::source::{LONGEST_TEXT, READ_SIZE};
+use crate::source::READ_SIZE;
+use bohm_types::LONGEST_TEXT;
 use std::io::Read;
 
 /// Reads the rest of a text that is refused with this fault, and returns the fault. A failed read,

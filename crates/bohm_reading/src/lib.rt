@@ -10,5 +10,4 @@ mod window;
 
 pub use fault::ReadingFault;
 pub use reading::{Source, next_window, read_first, take_parsed};
-pub use source::LONGEST_TEXT;
 pub use window::{Parsed, Window};

@@ -6,6 +6,7 @@ ghost use Rattle.bohm_reading.specs.InOrder.{RefusesWindow};
 ghost use Rattle.bohm_reading.specs.Reading.{FirstRefused, IsReady, ReadsBeginning, ReadsNext};
 ghost use Rattle.bohm_reading.specs.Reading.{RefusesNext, RefusesReading, RefusesTaking};
 ghost use Rattle.bohm_reading.specs.Reading.{TakesWindow};
+ghost use Rattle.bohm_types.specs.Limits.{longest_text};
 
 use crate::cutting::CutLine;
 use crate::draining::drain;
@@ -140,7 +141,7 @@ pub fn next_window<R: Read>(
 /// Why a window with `lines` lines before it is refused.
 fn refusal(edition: Edition, lines: u64, window: &Window, fault: WindowFault) -> ReadingFault
     requires { ReadsWindow edition window.now.text.items (Err fault) }
-    ensures { lines + length window.now.text.items ≤ 67108864
+    ensures { lines + length window.now.text.items ≤ longest_text
         → RefusesWindow edition window.now.text.items window.now.last lines result }
 {
     // Only the contract needs the edition.

@@ -8,12 +8,9 @@ ghost use Rattle.bohm_reading.specs.Reading.{IsReadFailure, IsSourceFault};
 
 use crate::cutting::{CutLine, OPENING, cut_at};
 use crate::fault::ReadingFault;
-use bohm_types::NoMemory;
+use bohm_types::{LONGEST_TEXT, NoMemory};
 use std::alloc::Global;
 use std::io::Read;
-
-/// The maximum number of bytes that a text may have.
-pub const LONGEST_TEXT: usize = 67_108_864;
 
 /// The maximum number of bytes that one read requests.
 pub(crate) const READ_SIZE: usize = 65_536;

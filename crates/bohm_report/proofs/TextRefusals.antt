@@ -1,4 +1,4 @@
--- What the check says of a refused text is what a run says.
+-- The check refuses a text for the reasons for which a run refuses it.
 use Rattle.std.proofs.Common.{◌≡◌, ℕ, List, None, sym, subst}
 use Rattle.std.specs.Prelude.{Option}
 use Rattle.bohm_text.specs.declared.fault.TextFault.TheVariants as texts
@@ -24,14 +24,14 @@ module _ (unread unread' : Option (List ℕ)) (text : List ℕ) (read : ReadsAll
   }
   run_refuses NoMemory is given = tt
 
--- of the fault that it is made
+-- the same of the fault that a refusal becomes
 pub told_refuses : (unread unread' : Option (List ℕ)) (text : List ℕ) (refusal : Refusal) (fault : RunFault) → ReadsAll unread unread' text
     → check.Refuses text refusal
     → fault ≡ fault_of refusal → (given : Given) → Refuses given unread unread' None None fault
 told_refuses unread unread' text refusal fault read is made given =
     subst (λ (e : RunFault). Refuses given unread unread' None None e) (sym made) (run_refuses unread unread' text read refusal is given)
 
--- and it is told before anything is written
+-- the refusal comes before anything is written
 module _ (text : List ℕ) where
   pub refused_early : (refusal : Refusal) → check.Refuses text refusal → IsBeforeWriting (fault_of refusal)
   refused_early (Text (texts.Line n)) is = tt

@@ -16,7 +16,7 @@ use Rattle.bohm_run.specs.declared.chunks.RunState.{RunState}
 use Rattle.bohm_answer.specs.declared.fault.RunFault.{RunFault}
 use Rattle.bohm_answer.specs.declared.fault.RunFault.TheVariants.{Read, TooLong, Text, Check, Trimmed, Future, NoMemory, Write}
 
--- the text of the replies, and then that of the store of a timestamp
+-- the text of the replies, followed by that of the store at a timestamp, is the document's answer
 pub answer_text : (keep : ℕ) (u v : Option (List ℕ)) (s : RunState) (run : IsLogRun keep u v s) (ts : ℕ) (entered : List (List ℕ × ℤ)) (text : List ℕ)
     → s.progress.history.floor ≤ ts → ts ≤ s.progress.history.top
     → cell_in (store_of entered) ≡ past s.progress.history ts → entered ≡ entries (store_of entered) → text ≡ s.text.items ++ print_store entered

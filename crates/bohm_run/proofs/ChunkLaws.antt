@@ -1,4 +1,4 @@
--- Chunk after chunk is the whole log.
+-- A log that is run chunk after chunk is run as a whole.
 use Rattle.std.proofs.Common.{◌≡◌, inl, inr, ⊎_elim, ℕ, ◌+◌, ◌≤◌, ◌<◌, ◌++◌, List, [], length}
 use Rattle.std.proofs.Common.{length-append, append_assoc, append-nil, refl, ap, sym, subst, ◌∙◌, arith}
 use Rattle.std.specs.Prelude.{Option, Some, None, true, false, is_some}
@@ -21,12 +21,12 @@ use Rattle.bohm_run.specs.Chunks.{IsNext, IsPartRun, IsRunTo, RunsChunk, RunsNex
 
 -- ---- counts
 
--- up to the most that a log may have, the count is exact
+-- the count is exact up to the most transactions that a log may have
 pub exact : (n count : ℕ) → IsCountOf n count → n ≤ 1000000 → count ≡ n
 exact n count (inl e) few = e
 exact n count (inr many) few = absurd (omega (arith, many.0, few))
 
--- a count goes on
+-- adding a chunk's length to a count gives the count of the longer log
 pub count_on : (n count more : ℕ) → IsCountOf n count → IsCountOf (n + more) (count_with count more)
 count_on n count more (inl e) = ⊎_elim
     (λ (few : count + more < 1000001). inl (omega (arith, few, e)))
@@ -52,7 +52,7 @@ module _ (txns : List Txn) (was now : RunState) (same : now.in_store ≡ was.in_
       subst (λ (m : ℕ). IsCountOf (length d.log + length txns) m) (sym count) (count_on (length d.log) was.count (length txns) so_far) in
       subst (λ (n : ℕ). IsCountOf n now.count) (sym (length-append d.log txns)) on
 
-  -- a chunk without a fault was run
+  -- running a chunk that has no fault continues the run of the log
   pub chunk_ran : was.fault ≡ None → now.fault ≡ None → was.count + length txns ≤ 1000000 → IsFaultBehind was.count txns None
       → was.progress.history.top ≡ was.count
       → IsPartRun was.progress.history now.progress.history txns was.executor.keep (was.progress.history.top + 1) was.text.items now.text.items
@@ -82,7 +82,7 @@ module _ (txns : List Txn) (was now : RunState) (same : now.in_store ≡ was.in_
     };
   }
 
-  -- where a fault was found, or there are too many transactions, nothing is owed of the history
+  -- a chunk need not be run if there is a fault, or if there are too many transactions
   pub chunk_skipped : ((d : Document) → IsCountOf (length d.log) was.count → IsCheckedTo d was.fault → IsCheckedTo (with_log d txns) now.fault)
       → (now.fault ≡ None → 1000000 < now.count) → RunsChunk txns was now
   chunk_skipped checked over = record {
@@ -96,7 +96,7 @@ module _ (txns : List Txn) (was now : RunState) (same : now.in_store ≡ was.in_
     };
   }
 
--- ---- chunk after chunk
+-- ---- no chunk, and successive chunks
 
 pub runs_none : (s : RunState) → RunsChunk [] s s
 runs_none s = record {
@@ -120,7 +120,7 @@ runs_on xs ys was mid now one two = record {
 
 module _ (was now : RunState) (chunk : CheckedChunk) (next : IsNext was chunk) (same : now.in_store ≡ was.in_store)
     (keeps : now.executor.keep ≡ was.executor.keep) (count : now.count ≡ count_with was.count (length chunk.log)) where
-  -- behind a fault nothing runs
+  -- after a fault, the next chunk's transactions aren't run
   pub next_skipped : is_some was.fault ≡ true → now.fault ≡ was.fault → RunsNext chunk was now
   next_skipped found kept = record {
     runs = chunk_skipped chunk.log was now same keeps count

@@ -1,4 +1,4 @@
--- What the crates above cite of this crate's proofs. Each lemma is proved in the file of its subject.
+-- The lemmas of this crate that other crates cite. Each lemma is proved in the file of its subject.
 
--- a refusal before the writing says nothing of what was written
+-- a refusal before writing doesn't depend on the written bytes
 pub use Rattle.bohm_run.proofs.Refusals.{before_writing}

@@ -1,4 +1,4 @@
--- What a run says of a refused text.
+-- Refusals of a text, and refusals before writing.
 use Rattle.std.proofs.Common.{◌≡◌, ℕ, List, None, refl}
 use Rattle.std.specs.Prelude.{Option}
 use Rattle.bohm_text.specs.Cut.{whole_lines}
@@ -19,7 +19,7 @@ text_refused given unread unread' text (texts.Line n) read line short = record {
 text_refused given unread unread' text texts.Short read line short = record { text = text; read = read; is = short refl }
 text_refused given unread unread' text texts.NoMemory read line short = tt
 
--- a refusal before the writing says nothing of what was written
+-- a refusal before writing doesn't depend on the written bytes
 pub before_writing : (given : Given) (unread unread' w w' v v' : Option (List ℕ)) (fault : RunFault) → IsBeforeWriting fault
     → Refuses given unread unread' w w' fault → Refuses given unread unread' v v' fault
 before_writing given unread unread' w w' v v' Read early h = tt

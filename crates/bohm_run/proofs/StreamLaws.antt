@@ -1,4 +1,4 @@
--- Window after window, read and run.
+-- A log that is read and run window after window.
 use Rattle.std.proofs.Common.{◌≡◌, inl, ℕ, ◌≤◌, ◌++◌, List, [], ◌∷◌, true, length}
 use Rattle.std.proofs.Common.{refl, append_assoc, append-nil, ap, sym, subst, ◌∙◌, arith, take}
 use Rattle.std.specs.Prelude.{Option, None}
@@ -51,7 +51,7 @@ begin e log u s r state same none = λ d begun. record {
   runs = runs_none state;
 }
 
--- a window behind the first one is refused
+-- if the window after the first one is refused, so is the log
 pub refused_first : (e : Edition) (log : List Txn) (u : Option (List ℕ)) (s : Source) (r : ReadingState) → r.edition ≡ e → r.source ≡ s
     → r.ahead.items ≡ [] → (x : Option (List ℕ)) (fault : ReadingFault) → RefusesChunk u x r fault → RefusesLog e log u x s fault
 refused_first e log u s r edition same none x fault h = λ d begun. h u d s.rest.items [] (begun.edition ∙ sym edition)
@@ -118,7 +118,7 @@ reading_before reading.TooLong = tt
 reading_before (reading.Line n) = tt
 reading_before reading.Short = tt
 
--- ---- the whole
+-- ---- the whole log
 
 module _ (u v y : Option (List ℕ)) (first : FirstWindow) (s : Source) (begun : ReadsBeginning u v first s) where
   abbrev pub d : Document

@@ -12,6 +12,7 @@ use Rattle.bohm_settings.specs.Given.{Given}
 use Rattle.bohm_answer.specs.Bytes.{ReadsAll, Sends}
 use Rattle.bohm_answer.specs.declared.fault.RunFault.{RunFault}
 use Rattle.bohm_answer.specs.declared.fault.RunFault.TheVariants.{Read, TooLong, Text, Check, Trimmed, Future, NoMemory, Write}
+use Rattle.bohm_types.specs.Limits.{longest_text}
 pub use Rattle.bohm_answer.specs.Answer.{answer_of}
 pub use Rattle.bohm_answer.specs.Refusing.{IsBeforeWriting}
 
@@ -53,7 +54,7 @@ pub record ReadsLog (unread unread' : Option (List ℕ)) (P : Document → Type 
 -- the reader had more bytes than a text may have
 pub record ReadsTooMuch (unread unread' : Option (List ℕ)) : Type 0 where
   pub bytes : List ℕ
-  pub long : 67108864 < length bytes
+  pub long : longest_text < length bytes
   pub read : Consumes unread unread' bytes
 
 -- all that was read has this property

@@ -1,4 +1,4 @@
--- A transaction's step over a finite store.
+-- The step of one transaction on a finite store.
 use Rattle.std.proofs.Common.{◌≡◌, ℕ, ◌+◌, Bool, true, false, List, [], ◌∷◌, ◌++◌, map, drop, Some, refl, sym, ap, ◌∙◌, inl, inr, append_assoc}
 use Rattle.std.specs.Prelude.{◌⊎◌, ◌||◌, cond}
 use Rattle.std.specs.List.{zip, list_any, slice_get}
@@ -13,7 +13,7 @@ use Rattle.bohm_txn.specs.Serial.{writes_of, reply_of, after, replies}
 use Rattle.bohm_txn.specs.Stores.{Store, cell_in, put_all, store_after}
 use Rattle.bohm_txn.proofs.ForCallers.{kept, same_key, drop_at, cell_in-put_all, same_store, usable}
 
--- the last cell of a key among pairs that are taken from one look
+-- the last cell of a key among pairs of keys and cells of one state
 newest_taken : (look : Look) (keys : List (List ℕ)) (k : List ℕ) (before : Cell) → (before ≡ look k) ⊎ IsAmong keys k
     → newest (zip keys (map look keys)) k before ≡ look k
 newest_taken look [] k before (inl e) = e
@@ -32,7 +32,7 @@ either keys k P none = elim (is_among keys k) as (λ b. is_among keys k ≡ b �
   | false ↦ λ e. inl (none (λ h. cc))
 ] refl
 
--- to put the cells of the declared writes is to put the writes that count
+-- putting the cells of all declared writes has the effect of putting those of the body's writes
 pub put_all-cells : (s : Store) (t : Txn) → IsWellFormedTxn t
     → put_all s (zip t.writes (map (after (cell_in s) t) t.writes)) ≡ put_all s (writes_of (body (cell_in s) t))
 put_all-cells s t well = same_store _ _ (λ k.
@@ -45,7 +45,7 @@ put_all-cells s t well = same_store _ _ (λ k.
 pub cell_in-step : (s : Store) (t : Txn) → cell_in (put_all s (writes_of (body (cell_in s) t))) ≡ after (cell_in s) t
 cell_in-step s t = λ i k. cell_in-put_all s (writes_of (body (cell_in s) t)) k i
 
--- one more transaction of the log
+-- the replies after one more transaction of the log
 pub replies_more : (s s' : Store) (ts : List Txn) (i : ℕ) (t : Txn) (r : Reply) (done whole : List Reply) → slice_get ts i ≡ Some t
     → r ≡ reply_of (body (cell_in s) t) → s' ≡ put_all s (writes_of (body (cell_in s) t))
     → done ++ replies (cell_in s) (drop i ts) ≡ whole → (done ++ r ∷ []) ++ replies (cell_in s') (drop (i + 1) ts) ≡ whole

@@ -1,4 +1,4 @@
--- A run with the settings by default prints the store behind the whole log, which is never out of reach.
+-- A run with the default settings prints the store after the whole log, which is always readable.
 use Rattle.std.proofs.Common.{◌≡◌, ap, arith}
 use Rattle.std.specs.FinMap.{entries}
 use Rattle.std.proofs.Math.Seq.{take-length}

@@ -2,7 +2,8 @@
 
 ghost use Rattle.std.specs.Prelude.{◌≡◌, ◌≤◌};
 ghost use Rattle.std.specs.Option.{SomeIff};
-ghost use Rattle.bohm_settings.specs.Given.{Given, AreInRange, IsBetween, defaults};
+ghost use Rattle.bohm_settings.specs.Given.{AreInRange, Given, IsBetween, defaults};
+ghost use Rattle.bohm_settings.specs.Given.{most_kept, most_parts, most_workers};
 ghost use Rattle.bohm_types.specs.Limits.{largest_batch};
 
 use crate::retention::Kept;
@@ -103,7 +104,7 @@ impl Settings {
     /// The number of planning workers.
     pub fn cc(&self) -> Planners
         ensures value { result ≡ self.now.cc }
-        ensures in_range { IsBetween 1 16 result }
+        ensures in_range { IsBetween 1 most_workers result }
     {
         self.cc
     }
@@ -111,7 +112,7 @@ impl Settings {
     /// The number of executing workers.
     pub fn exec(&self) -> Executors
         ensures value { result ≡ self.now.exec }
-        ensures in_range { IsBetween 1 16 result }
+        ensures in_range { IsBetween 1 most_workers result }
     {
         self.exec
     }
@@ -119,7 +120,7 @@ impl Settings {
     /// The number of partitions of the keys.
     pub fn parts(&self) -> u32
         ensures value { result ≡ self.now.parts }
-        ensures in_range { IsBetween 1 64 result }
+        ensures in_range { IsBetween 1 most_parts result }
     {
         self.parts
     }
@@ -135,7 +136,7 @@ impl Settings {
     /// How many timestamps below the last batch's end stay readable.
     pub fn keep(&self) -> Kept
         ensures value { result ≡ self.now.keep }
-        ensures in_range { result ≤ 4096 }
+        ensures in_range { result ≤ most_kept }
     {
         self.keep
     }

@@ -1,4 +1,4 @@
--- One transaction more: the numbers of its keys, what they hold, and the versions that it adds.
+-- The next transaction: the numbers of its keys, their cells, and the versions that it adds.
 use Rattle.std.proofs.Common.{◌≡◌, ◌∙◌, ℕ, ◌+◌, ◌<◌, List, [], ◌∷◌, ◌++◌, All, length, map, take, get_or, Some, refl, sym, ap, subst, arith, zero, suc}
 use Rattle.std.specs.Prelude.{min}
 use Rattle.std.proofs.Common.{append-nil, length-append}
@@ -20,7 +20,7 @@ use Rattle.bohm_store.specs.Numbered.{Numbered, timeline, versions_at}
 use Rattle.bohm_store.specs.Writes.{AreBelow, AreNumbersOf, AreTxnWrites, all_txn_writes, named_write, txn_writes, writes_by}
 use Rattle.bohm_store.proofs.Kept.{past_named}
 
--- ---- numbers
+-- ---- the numbers of keys
 
 kept_names : (names more : List (List ℕ)) (ns : List ℕ) → All (λ n. n < length names) ns → map (name_at (names ++ more)) ns ≡ map (name_at names) ns
 kept_names names more [] below = refl
@@ -28,7 +28,7 @@ kept_names names more (n ∷ ns) below =
     let here : name_at (names ++ more) n ≡ name_at names n = get_or_append_left names more [] n (All-head (λ (m : ℕ). m < length names) n ns below) in
     rw (here, kept_names names more ns (All-tail (λ (m : ℕ). m < length names) n ns below)) refl
 
--- they stay the keys' among more names
+-- the keys have the same numbers when names are appended
 pub numbers_longer : (names names' : List (List ℕ)) (ns : List ℕ) (keys : List (List ℕ)) → Begins names names' → AreNumbersOf names ns keys
     → AreNumbersOf names' ns keys
 numbers_longer names names' ns keys (more, e) h =
@@ -38,7 +38,7 @@ numbers_longer names names' ns keys (more, e) h =
       named = ap (λ (ks : List (List ℕ)). map (name_at ks) ns) e ∙ kept_names names more ns h.below ∙ h.named;
     }
 
--- one key more
+-- appending the number of the next key gives the numbers of one more key
 pub numbers_more : (names : List (List ℕ)) (ns : List ℕ) (keys : List (List ℕ)) (i n : ℕ) (k : List ℕ) → slice_get keys i ≡ Some k
     → n < length names → name_at names n ≡ k → AreNumbersOf names ns (take i keys) → AreNumbersOf names (ns ++ n ∷ []) (take (i + 1) keys)
 numbers_more names ns keys i n k here inside is h =
@@ -52,7 +52,7 @@ numbers_more names ns keys i n k here inside is h =
 pub no_numbers : (names : List (List ℕ)) → AreNumbersOf names [] []
 no_numbers names = record { below = All-nil (λ (n : ℕ). n < length names); named = refl }
 
--- ---- what keys hold, by their numbers
+-- ---- the cells of keys at the top, by number
 
 cells_named : (names : List (List ℕ)) (h : Numbered) (ns : List ℕ) → IsDistinct bytes_eq names → All (λ n. n < length names) ns
     → map (past (timeline names h) h.top) (map (name_at names) ns) ≡ map (λ n. cell_at h.top (versions_at h n) Absent) ns
@@ -67,7 +67,7 @@ pub cells_by_number : (names : List (List ℕ)) (h : Numbered) (ns : List ℕ) (
 cells_by_number names h ns keys apart are =
     ap (map (past (timeline names h) h.top)) (sym are.named) ∙ cells_named names h ns apart are.below
 
--- ---- what is written
+-- ---- the transaction's writes
 
 writes_below : (count u : ℕ) (ns : List ℕ) (cs : List Cell) → All (λ n. n < count) ns → AreBelow count (writes_by u ns cs)
 writes_below count u [] cs below = All-nil (λ (w : NumberedWrite). w.number < count)
@@ -82,13 +82,13 @@ writes_named names u look [] = refl
 writes_named names u look (n ∷ ns) =
     ap (λ (ws : List KeyedVersion). record { begin = u; key = name_at names n; cell = look (name_at names n) } ∷ ws) (writes_named names u look ns)
 
--- as many as numbers and cells
+-- there is one write for each number with a cell
 pub writes_many : (u : ℕ) (ns : List ℕ) (cs : List Cell) → length (writes_by u ns cs) ≡ min (length ns) (length cs)
 writes_many u [] cs = omega arith
 writes_many u (n ∷ ns) [] = omega arith
 writes_many u (n ∷ ns) (c ∷ cs) = omega (arith, writes_many u ns cs)
 
--- the one at a place
+-- the write at an index has the number and the cell at the index
 pub write_at : (u : ℕ) (ns : List ℕ) (cs : List Cell) (i : ℕ) (c : Cell) (d : NumberedWrite) → i < length (writes_by u ns cs)
     → c ≡ get_or cs i c → record { number = get_or ns i 0; version = record { begin = u; cell = c } } ≡ get_or (writes_by u ns cs) i d
 write_at u [] cs i c d low is = absurd (omega (arith, low))
@@ -99,7 +99,7 @@ write_at u (n ∷ ns) (e ∷ es) (suc i) c d low is = write_at u ns es i c d (om
 pub numbers_long : (names : List (List ℕ)) (ns : List ℕ) (keys : List (List ℕ)) → AreNumbersOf names ns keys → length ns ≡ length keys
 numbers_long names ns keys are = sym (length-map ns (name_at names)) ∙ ap length are.named
 
--- the cells that a transaction leaves, at the numbers of its declared writes
+-- a transaction's writes have the numbers of its declared writes and the cells that it leaves
 pub txn_written : (names : List (List ℕ)) (u : ℕ) (look : Look) (t : Txn) (ns : List ℕ) (cs : List Cell) → AreNumbersOf names ns t.writes
     → map (after look t) t.writes ≡ cs → AreTxnWrites names u look t (writes_by u ns cs)
 txn_written names u look t ns cs are leaves = record {
@@ -110,7 +110,7 @@ txn_written names u look t ns cs are leaves = record {
       (writes_named names u (after look t) ns));
 }
 
--- a transaction's writes are those of the log that it is alone
+-- a transaction's writes are those of the list with only that transaction
 pub one_listed : (names : List (List ℕ)) (u : ℕ) (look : Look) (t : Txn) (ws : List NumberedWrite) → AreTxnWrites names u look t ws
     → map (named_write names) ws ≡ all_txn_writes u look (t ∷ [])
 one_listed names u look t ws h = h.listed ∙ sym (append-nil (txn_writes u (after look t) t.writes))

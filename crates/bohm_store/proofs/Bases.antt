@@ -1,4 +1,4 @@
--- What keys hold.
+-- A list of keys with the cell of each.
 use Rattle.std.proofs.Common.{◌≡◌, ℕ, Bool, true, false, ◌||◌, List, [], ◌∷◌, map, refl, ap, if◌then◌else◌}
 use Rattle.std.specs.Str.{bytes_eq}
 use Rattle.bohm_types.specs.declared.cell.Cell.{Cell}

@@ -19,7 +19,7 @@ use Rattle.bohm_store.proofs.Counts.{gone, rest_distinct, total_removed}
 use Rattle.bohm_store.proofs.ProducedVersions.{produced_from}
 use Rattle.bohm_store.proofs.Rewound.{none_to}
 
--- ---- those that a floor keeps
+-- ---- the versions that a floor keeps
 
 kept_by : (floor : ℕ) (v w : Version) (ws : List Version) (b : Bool) → nat_le w.begin floor ≡ b
     → length (kept_versions floor (w ∷ ws)) ≤ length (w ∷ ws) → length (kept_versions floor (v ∷ w ∷ ws)) ≤ length (v ∷ w ∷ ws)
@@ -31,14 +31,14 @@ kept_no_more floor [] = omega arith
 kept_no_more floor (v ∷ []) = omega arith
 kept_no_more floor (v ∷ w ∷ ws) = kept_by floor v w ws (nat_le w.begin floor) refl (kept_no_more floor (w ∷ ws))
 
--- ---- the same names
+-- ---- two histories under the same names
 
 pub named_no_more : (f g : ℕ → List Version) (n : ℕ) (names : List (List ℕ)) → ((m : ℕ) → length (f m) ≤ length (g m))
     → total (named f n names) ≤ total (named g n names)
 named_no_more f g n [] h = omega arith
 named_no_more f g n (k ∷ names) h = omega (arith, h n, named_no_more f g (n + 1) names h)
 
--- those that a floor keeps, if it is above the present one
+-- trimming at a floor leaves at most as many versions
 pub trimmed_no_more : (f g : ℕ → List Version) (floor low : ℕ) (names : List (List ℕ)) → (floor < low → (n : ℕ) → f n ≡ kept_versions low (g n))
     → (low ≤ floor → (n : ℕ) → f n ≡ g n) → total (named f 0 names) ≤ total (named g 0 names)
 trimmed_no_more f g floor low names less same = named_no_more f g 0 names (λ n. ⊎_elim
@@ -64,7 +64,7 @@ sum_zero : (ks : List (List ℕ)) → sum_of (λ _. 0) ks ≡ 0
 sum_zero [] = refl
 sum_zero (k ∷ ks) = omega (arith, sum_zero ks)
 
--- 1 where it is so
+-- 1 for true, 0 for false
 abbrev one_if : Bool → ℕ
 one_if true = 1
 one_if false = 0
@@ -122,12 +122,12 @@ produced_at_most u look (t ∷ ts) ks d =
       produced_at_most (u + 1) (after look t) ts ks d,
     )
 
--- ---- the count
+-- ---- the total number of versions
 
 abbrev Keyed : Type 0
 Keyed = List (List ℕ × List Version)
 
--- without a key's entry another key has the same versions
+-- removing a key's entry doesn't change another key's versions
 other_by : (k q : List ℕ) (f : List ℕ × List Version) (fs : Keyed) (b c : Bool) → bytes_eq k f.0 ≡ b → bytes_eq q f.0 ≡ c → bytes_eq k q ≡ false
     → versions_in (remove_entry (bytes_eq k) fs) q ≡ versions_in fs q → versions_in (remove_entry (bytes_eq k) (f ∷ fs)) q ≡ versions_in (f ∷ fs) q
 other_by k q f fs true c e is other more =
@@ -162,7 +162,7 @@ total_low (e ∷ es) fs extra d few =
     let whole = total_removed e.0 fs in
     omega (arith, rest, whole, here)
 
--- where no key has more versions, there are no more
+-- if no key has more versions than before, the total isn't larger either
 pub fewer_count : (was now : Timeline) → IsDistinct bytes_eq (keys_of now.chains) → ((k : List ℕ) → length (versions now k) ≤ length (versions was k))
     → total now.chains ≤ total was.chains
 fewer_count was now d few =
@@ -179,7 +179,7 @@ grown_count was now txns d few =
       produced_at_most (was.top + 1) (past was was.top) txns (keys_of now.chains) d,
     )
 
--- ---- those that begin at or below a timestamp
+-- ---- versions that begin at or below a timestamp
 
 to_by : (ts : ℕ) (v : Version) (vs : List Version) (b : Bool) → nat_le v.begin ts ≡ b → length (versions_to ts vs) ≤ length (versions_to ts (v ∷ vs))
 to_by ts v vs true e = rw e (omega arith)
@@ -223,7 +223,7 @@ to_grown was txns ts k le =
     (none_to ts (produced_versions (was.top + 1) (past was was.top) txns k) (produced_from ts (was.top + 1) (past was was.top) txns k (omega (arith, le))))
     ∙ append-nil (versions_to ts (versions was k))
 
--- transactions add none to them
+-- settling transactions adds no version that begins at or below the former top
 pub settled_early : (was now : Timeline) (txns : List Txn) (low ts : ℕ) → IsSettledKept was now txns low → ts ≤ was.top → (k : List ℕ)
     → length (versions_to ts (versions now k)) ≤ length (versions_to ts (versions was k))
 settled_early was now txns low ts h le k =

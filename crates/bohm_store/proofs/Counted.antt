@@ -1,4 +1,4 @@
--- How many versions there are, by number and by key.
+-- How many versions a history has, counted by number and by key.
 use Rattle.std.proofs.Common.{◌≡◌, ℕ, suc, ◌+◌, ◌<◌, ◌≤◌, ◌==◌, ◌∙◌, true, false, List, [], ◌∷◌, ◌++◌, length, take, drop, get_or}
 use Rattle.std.proofs.Common.{refl, sym, ap, ⊎_elim, arith, if◌then◌else◌, All, add-one, drop-cons}
 use Rattle.std.proofs.lemmas.Bool.{cases_eq, cases_lt}
@@ -15,7 +15,7 @@ use Rattle.bohm_store.specs.Chains.{later_begins}
 use Rattle.bohm_store.specs.Numbered.{IsNumbered, Numbered, ends_of, filled, named, older_of, version_of, versions_at}
 use Rattle.bohm_store.proofs.Linked.{as_many, none_older}
 
--- ---- the present ones
+-- ---- newest versions
 
 none_filled : (now : List Held) (from : ℕ) (names : List (List ℕ)) → length now ≤ from → total (named (held_at now) from names) ≡ 0
 none_filled now from [] le = refl
@@ -47,7 +47,7 @@ filled_more vs i v lt is =
     let more = ap filled taken ∙ filled-append (take i vs) (v ∷ []) in
     omega (arith, more)
 
--- ---- one older version more
+-- ---- one more older version
 
 same_by : (o : Older) (os : List Older) (held : ℕ → List Version) (from : ℕ) (k : List ℕ) (names : List (List ℕ)) → o.number < from
     → total (named (λ n. older_of (o ∷ os) n ++ held n) from names) ≡ total (named (λ n. older_of os n ++ held n) from names)
@@ -85,7 +85,7 @@ total_all (o ∷ os) held names low =
     let rest = total_all os held names (All-tail (λ (p : Older). p.number < length names) o os low) in
     omega (arith, one, rest)
 
--- ---- older versions are of keys with room
+-- ---- the numbers of older versions are below the count of keys
 
 none_left : (xs ys : List Version) → xs ++ ys ≡ [] → ys ≡ []
 none_left [] ys e = e
@@ -110,7 +110,7 @@ none_behind_older h n inv le =
     none_older (older_of h.older n) (ends_of h.older n)
     (ap (λ (vs : List Version). later_begins (older_of h.older n ++ vs)) (sym held) ∙ inv.linked n) (as_many h.older n)
 
--- of all keys there are the older ones, and those that are held
+-- the total is the count of older versions plus the count of newest ones
 pub counted : (h : Numbered) (names : List (List ℕ)) → IsNumbered h → length h.newest ≤ length names
     → total (named (versions_at h) 0 names) ≡ length h.older + filled h.newest
 counted h names inv long =

@@ -1,4 +1,4 @@
--- Two lists of versions by key in which each key has the same versions have as many.
+-- Two lists of versions by key have the same total if each key has the same versions in both.
 use Rattle.std.proofs.Common.{◌≡◌, ℕ, ◌+◌, Bool, true, false, cond, List, [], ◌∷◌, length, Option, None, unwrap_or, refl, sym, ap, ◌∙◌, arith, if◌then◌else◌}
 use Rattle.std.specs.List.{AllByRecursion, IsDistinct}
 use Rattle.std.specs.Map.{lookup, keys_of, remove_entry}
@@ -56,7 +56,7 @@ unfolding IsDistinct
 distinct_removed k [] d = d
 distinct_removed k (f ∷ fs) d = distinct_by k f fs (bytes_eq k f.0) refl d (distinct_removed k fs d.1)
 
--- ---- the count
+-- ---- the total number of versions
 
 pub rest_distinct : (e : List ℕ × List Version) (es : Keyed) → IsDistinct bytes_eq (keys_of (e ∷ es)) → IsDistinct bytes_eq (keys_of es)
 unfolding IsDistinct

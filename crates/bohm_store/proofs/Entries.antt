@@ -1,4 +1,4 @@
--- What the keys with numbers hold at a time.
+-- The list of keys with their values at a timestamp, in the order of their numbers.
 use Rattle.std.proofs.Common.{◌≡◌, ◌≢◌, ℕ, ◌+◌, ◌<◌, ◌≤◌, ◌==◌, ◌∙◌, true, false, List, [], ◌∷◌, ◌++◌, length, drop, get_or}
 use Rattle.std.proofs.Common.{slice_set, refl, sym, ap, ⊎_elim, arith, if◌then◌else◌, append_assoc, add-one, drop-cons}
 use Rattle.std.specs.Prelude.{ℤ}
@@ -20,7 +20,7 @@ entry_before : (k : List ℕ) (c : Cell) (rest : List (List ℕ × ℤ)) → cel
 entry_before k cells.Absent rest = refl
 entry_before k (cells.Present z) rest = refl
 
--- one key more
+-- listing the next key keeps the invariant: the list and the remaining entries are the whole
 pub listed_more : (ts : ℕ) (f : ℕ → List Version) (names : List (List ℕ)) (i : ℕ) (k : List ℕ) (out new whole : List (List ℕ × ℤ))
     → i < length names → get_or names i [] ≡ k → out ++ timeline_entries_at ts (named f i (drop i names)) ≡ whole
     → new ≡ out ++ cell_entry k (cell_at ts (f i) cells.Absent) []
@@ -34,7 +34,7 @@ listed_more ts f names i k out new whole lt at before is =
     ∙ sym (ap (λ (ks : List (List ℕ)). out ++ timeline_entries_at ts (named f i ks)) left)
     ∙ before
 
--- versions that say the same of the time are listed alike
+-- versions that give the same cells at the timestamp give the same list
 pub entries_same : (ts : ℕ) (f g : ℕ → List Version) (from : ℕ) (names : List (List ℕ))
     → ((n : ℕ) → from ≤ n → n < from + length names → cell_at ts (f n) cells.Absent ≡ cell_at ts (g n) cells.Absent)
     → timeline_entries_at ts (named f from names) ≡ timeline_entries_at ts (named g from names)
@@ -46,7 +46,7 @@ pub keys_named : (f : ℕ → List Version) (from : ℕ) (names : List (List ℕ
 keys_named f from [] = refl
 keys_named f from (k ∷ names) = ap (λ (ks : List (List ℕ)). k ∷ ks) (keys_named f (from + 1) names)
 
--- one older version put back
+-- an older version that is put back becomes its number's newest version, and no other number changes
 pub put_back : (now : List Held) (number n : ℕ) (v : Held) (x : Version) → number < length now → held_versions v ≡ x ∷ []
     → held_at (slice_set now number v) n ≡ (if (number == n) then x ∷ [] else held_at now n)
 put_back now number n v x inside is = ⊎_elim

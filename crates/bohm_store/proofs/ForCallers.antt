@@ -1,6 +1,6 @@
--- What the crates above cite of this crate's proofs. Each lemma is proved in the file of its subject.
+-- The lemmas of this crate that other crates cite. Each lemma is proved in the file of its subject.
 
--- how many versions there are
+-- bounds on the number of versions
 pub use Rattle.bohm_store.proofs.Bounds.{fewer_count, settled_early, to_few}
--- what the next batch answers
+-- the replies of the next batch
 pub use Rattle.bohm_store.proofs.ProducedVersions.{next_replies}

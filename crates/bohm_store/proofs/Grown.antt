@@ -1,4 +1,4 @@
--- A history to which all versions of transactions have come.
+-- A history to which all versions that transactions produce were added.
 use Rattle.std.proofs.Common.{◌≡◌, false, ℕ, ◌+◌, ◌<◌, ◌≤◌, ◌∙◌, List, [], ◌∷◌, ◌++◌, length, map, All, refl, sym, ap, subst, ⊎_elim, arith, append-nil}
 use Rattle.std.specs.List.{IsDistinct}
 use Rattle.std.specs.Str.{bytes_eq}
@@ -27,12 +27,12 @@ use Rattle.bohm_store.specs.Numbered.{Numbered, IsNumbered, timeline, versions_a
 use Rattle.bohm_store.proofs.Kept.{by_key, grown_by_key, all_settled}
 use Rattle.bohm_store.proofs.NumberedWrites.{keyed_versions, unnamed_versions, none_past, named_climb}
 
--- the writes of the batch that follows a top
+-- if a batch starts after the top, its writes begin at the timestamp after the top
 listed_next : (b : Batch) (top : ℕ) (ws : List KeyedVersion) → first_of b ≡ top + 1 → ws ≡ all_txn_writes (first_of b) (base_of b) (txns_of b)
     → ws ≡ all_txn_writes (top + 1) (base_of b) (txns_of b)
 listed_next b top ws first listed = listed ∙ ap (λ (u : ℕ). all_txn_writes u (base_of b) (txns_of b)) first
 
--- the listed writes of the next batch, and of the next transaction
+-- the writes of the next batch, or of the next transaction, are the writes after the history's top
 pub batch_behind : (names : List (List ℕ)) (t : Timeline) (b : Batch) (ws : List NumberedWrite) → IsNext t b → AreWritesOf names b ws
     → AreWritesBehind names t (length (txns_of b)) (txns_of b) ws
 batch_behind names t b ws next writes = record {

@@ -1,4 +1,4 @@
--- A history that went on by a batch, where the versions of each key are known.
+-- A history continued by transactions, given the versions of each key.
 use Rattle.std.proofs.Common.{◌≡◌, ℕ, ◌+◌, ◌<◌, ◌≤◌, ◌∙◌, false, List, [], length, max, All, refl, sym, ap, subst, ⊎_elim, arith}
 use Rattle.std.specs.List.{IsDistinct}
 use Rattle.std.specs.Map.{keys_of}
@@ -19,7 +19,7 @@ use Rattle.bohm_store.proofs.SettledHistory.{settled_earlier, settled_later, set
 use Rattle.bohm_store.specs.Numbered.{Numbered, timeline, versions_at}
 use Rattle.bohm_store.proofs.Names.{HasNumber, number_of, versions_named, versions_none}
 
--- what holds by number holds by key
+-- a property of the versions by number holds for the versions by key
 pub by_key : (names : List (List ℕ)) (h : Numbered) (P : List ℕ → List Version → Type 0) → IsDistinct bytes_eq names
     → ((n : ℕ) → n < length names → P (name_at names n) (versions_at h n)) → ((k : List ℕ) → is_among names k ≡ false → P k [])
     → (k : List ℕ) → P k (versions (timeline names h) k)
@@ -73,7 +73,7 @@ module _ (was now : Timeline) (txns : List Txn) (low : ℕ) (well : All IsWellFo
         (versions was k) (grown_versions was txns k) refl (up k) refl well from (omega (arith, below, top)) in λ i k. same k i);
   }
 
--- the same where all stay
+-- as `kept_settled`, with all versions kept
 pub all_settled : (was now : Timeline) (txns : List Txn) → All IsWellFormedTxn txns → ((k : List ℕ) → UpTo was.top (versions was k))
     → now.floor ≡ was.floor → now.top ≡ was.top + length txns → ((k : List ℕ) → versions now k ≡ grown_versions was txns k)
     → IsDistinct bytes_eq (keys_of now.chains) → IsSettled was now txns
@@ -91,7 +91,7 @@ all_settled was now txns well up floor top all apart = record {
       (omega (arith, below, top)) in λ i k. same k i);
 }
 
--- the same, and then trimmed
+-- a history that settled the transactions and was then trimmed at a floor
 module _ (names : List (List ℕ)) (was : Timeline) (mid new : Numbered) (txns : List Txn) (low : ℕ) (apart : IsDistinct bytes_eq names)
     (h : IsSettled was (timeline names mid) txns) (floor : new.floor ≡ max mid.floor low) (top : new.top ≡ mid.top)
     (less : mid.floor < low → (n : ℕ) → versions_at new n ≡ kept_versions low (versions_at mid n))
@@ -115,7 +115,7 @@ module _ (names : List (List ℕ)) (was : Timeline) (mid new : Numbered) (txns :
       (trimmed_no_more (versions_at new) (versions_at mid) mid.floor low names less same)
       (λ ts above. (let each : (k : List ℕ) → _ = λ k. seen_by_key ts above k in λ i k. each k i))
 
--- ---- what a key that was looked up held
+-- ---- the cell of a key that was looked up
 
 pub past_named : (names : List (List ℕ)) (h : Numbered) (ts n : ℕ) (k : List ℕ) → IsDistinct bytes_eq names → n < length names
     → name_at names n ≡ k → past (timeline names h) ts k ≡ cell_at ts (versions_at h n) Absent

@@ -1,4 +1,4 @@
--- Older versions and the present one, by number.
+-- A number's older versions and its newest one, linked by their ends and begins.
 use Rattle.std.proofs.Common.{◌≡◌, ℕ, zero, suc, ◌<◌, ◌≤◌, ◌==◌, ◌∙◌, Bool, true, false, List, [], ◌∷◌, ◌++◌, length, get_or, take}
 use Rattle.std.proofs.Common.{replicate, refl, ap, arith, nat_le}
 use Rattle.bohm_store.specs.declared.version.Version.{Version}
@@ -15,7 +15,7 @@ use Rattle.bohm_store.specs.Held.{held_cell, held_versions, held_at}
 use Rattle.bohm_store.specs.Numbered.{IsNumbered, older_of, ends_of}
 use Rattle.bohm_types.specs.declared.cell.Cell.TheVariants as cells
 
--- at most one is held
+-- a key has at most one newest version
 pub held_single : (v : Held) → later_begins (held_versions v) ≡ []
 held_single Never = refl
 held_single (Absent b) = refl
@@ -38,7 +38,7 @@ pub as_many : (os : List Older) (n : ℕ) → length (older_of os n) ≡ length 
 as_many [] n = refl
 as_many (o ∷ os) n = as_many_by o os n (o.number == n) refl (as_many os n)
 
--- ---- the newest one
+-- ---- the newest of all versions
 
 newest_skip : (xs ps : List Version) (v : Version) → newest_only (xs ++ v ∷ ps) ≡ newest_only (v ∷ ps)
 newest_skip [] ps v = refl
@@ -53,14 +53,14 @@ length_nil : (xs : List Version) → length (xs ++ []) ≡ length xs
 length_nil [] = refl
 length_nil (a ∷ xs) = ap suc (length_nil xs)
 
--- where there are older versions one is held
+-- a key with older versions also has a held one, so the older versions don't change the newest
 pub newest_held : (xs hs ps : List Version) (es : List ℕ) → later_begins (xs ++ hs) ≡ es → length xs ≡ length es
     → newest_only (xs ++ (hs ++ ps)) ≡ newest_only (hs ++ ps)
 newest_held [] hs ps es e l = refl
 newest_held (a ∷ xs) (h ∷ hs) ps es e l = newest_skip (a ∷ xs) (hs ++ ps) h
 newest_held (a ∷ xs) [] ps es e l = absurd (omega (arith, l, ap length e, length_later a (xs ++ []), length_nil xs))
 
--- a history whose keys hold the same
+-- a history with the same newest version for each number keeps the invariant
 pub numbered_same : (floor top : ℕ) (old new : List Held) (older : List Older)
     → IsNumbered (record { floor = floor; top = top; newest = old; older = older }) → ((n : ℕ) → held_at new n ≡ held_at old n)
     → IsNumbered (record { floor = floor; top = top; newest = new; older = older })
@@ -73,7 +73,7 @@ numbered_same floor top old new older h same = record {
   due = h.due;
 }
 
--- ---- what is held is the newest one
+-- ---- the held version gives the cell at the top
 
 last_low : (top : ℕ) (vs : List Version) (w : Version) → UpTo top (vs ++ w ∷ []) → w.begin ≤ top
 last_low top [] w h = All-head (λ v. v.begin ≤ top) w [] h

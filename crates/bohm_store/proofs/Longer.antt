@@ -1,4 +1,4 @@
--- A history seen by more names.
+-- A history under a longer list of names.
 use Rattle.std.proofs.Common.{◌≡◌, ℕ, ◌+◌, ◌≤◌, ◌∙◌, Bool, true, false, List, [], ◌∷◌, ◌++◌, length, refl, sym, ap, arith}
 use Rattle.std.specs.Str.{bytes_eq}
 use Rattle.std.proofs.lemmas.List.{get_or_past}
@@ -10,7 +10,7 @@ use Rattle.bohm_store.specs.Held.{held_at, held_versions}
 use Rattle.bohm_store.specs.Numbered.{IsNumbered, Numbered, ends_of, named, older_of, versions_at}
 use Rattle.bohm_store.proofs.Linked.{as_many, none_older}
 
--- numbers behind all have no versions
+-- a number at or past the end of the newest versions has no versions
 pub none_behind : (h : Numbered) (n : ℕ) → IsNumbered h → length h.newest ≤ n → versions_at h n ≡ []
 none_behind h n inv le =
     let held : held_at h.newest n ≡ [] = ap held_versions (get_or_past h.newest n Never le) in
@@ -35,7 +35,7 @@ longer_by : (f g : ℕ → List Version) (from : ℕ) (x : List ℕ) (names more
 longer_by f g from x names more k true e at rest = rw e at
 longer_by f g from x names more k false e at rest = rw e rest
 
--- more names say nothing new, where their numbers have no versions
+-- names whose numbers have no versions don't change the versions of any key
 pub longer_names : (f g : ℕ → List Version) (from : ℕ) (names more : List (List ℕ)) (k : List ℕ) → ((n : ℕ) → f n ≡ g n)
     → ((n : ℕ) → from + length names ≤ n → f n ≡ []) → versions_in (named f from (names ++ more)) k ≡ versions_in (named g from names) k
 longer_names f g from [] more k same none = none_named f from more k (λ n le. none n (omega arith))
@@ -48,7 +48,7 @@ none_total f from (x ∷ more) at =
     let here : length (f from) ≡ 0 = ap (λ (vs : List Version). length vs) (at from (omega arith)) in
     omega (arith, here, none_total f (from + 1) more (λ n le. at n (omega arith)))
 
--- nor are there more versions
+-- names whose numbers have no versions don't change the total
 pub longer_total : (f : ℕ → List Version) (from : ℕ) (names more : List (List ℕ)) → ((n : ℕ) → from + length names ≤ n → f n ≡ [])
     → total (named f from (names ++ more)) ≡ total (named f from names)
 longer_total f from [] more none = none_total f from more (λ n le. none n (omega arith))

@@ -1,4 +1,4 @@
--- What holds of the versions of each number holds of those of each key.
+-- A property of each number's versions also holds for each key's versions.
 use Rattle.std.proofs.Common.{◌≡◌, ℕ, ◌+◌, Bool, true, false, List, [], ◌∷◌, refl, sym}
 use Rattle.std.specs.Str.{bytes_eq}
 use Rattle.bohm_store.specs.declared.version.Version.{Version}

@@ -20,7 +20,7 @@ apart_at x [] i h lt = absurd (omega arith)
 apart_at x (y ∷ names) zero h lt = nat_list_eq_equiv.symm y x ∙ h.0
 apart_at x (y ∷ names) (suc i) h lt = apart_at x names i h.1 (omega arith)
 
--- the key with a number has what stands there
+-- the key at an index has the versions that `f` gives for the key's number
 named_at : (f : ℕ → List Version) (from : ℕ) (names : List (List ℕ)) (i : ℕ) → IsDistinct bytes_eq names → i < length names
     → versions_in (named f from names) (get_or names i []) ≡ f (from + i)
 unfolding IsDistinct
@@ -47,7 +47,7 @@ versions_none_from f from (x ∷ names) k h = none_by f from x names k (bytes_eq
 pub versions_none : (f : ℕ → List Version) (names : List (List ℕ)) (k : List ℕ) → is_among names k ≡ false → versions_in (named f 0 names) k ≡ []
 versions_none f names k h = versions_none_from f 0 names k h
 
--- ---- each key has a number, or is none of the names
+-- ---- each key has a number or isn't among the names
 
 pub record HasNumber (names : List (List ℕ)) (k : List ℕ) : Type 0 where
   pub number : ℕ
@@ -85,11 +85,11 @@ pub turned : (k : List ℕ) (xs : List (List ℕ)) → is_among xs k ≡ list_an
 turned k [] = refl
 turned k (x ∷ xs) = rw (nat_list_eq_equiv.symm x k, turned k xs) refl
 
--- it is none of the names
+-- a key that the look-up didn't find isn't among the names
 pub not_found : (names : List (List ℕ)) (k : List ℕ) → position (bytes_eq k) names ≡ None → is_among names k ≡ false
 not_found names k e = turned k names ∙ none_at (bytes_eq k) 0 names (sym (position_from-zero (bytes_eq k) names) ∙ e)
 
--- or it has the number
+-- the index that the look-up found is the key's number
 pub found_at : (names : List (List ℕ)) (k : List ℕ) (n : ℕ) → position (bytes_eq k) names ≡ Some n → (n < length names) × (name_at names n ≡ k)
 found_at names k n e = let p = position-Some (bytes_eq k) names n [] e in (p.0, sym (same_key k (get_or names n []) p.1))
 

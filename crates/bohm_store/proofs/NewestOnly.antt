@@ -1,4 +1,4 @@
--- The newest of versions alone.
+-- Only the newest of a key's versions.
 use Rattle.std.proofs.Common.{◌≡◌, ℕ, ◌+◌, ◌<◌, ◌≤◌, ◌==◌, ◌∙◌, Bool, true, false, List, [], ◌∷◌, ◌++◌, length, take, get_or, refl}
 use Rattle.std.proofs.Common.{sym, ap, arith, if◌then◌else◌, nat_le, append-nil, append_assoc}
 use Rattle.std.proofs.lemmas.Bool.Decides.{nat_tests}
@@ -26,7 +26,7 @@ newest_single [] h = refl
 newest_single (v ∷ []) h = refl
 newest_single (v ∷ w ∷ ws) h = absurd cc
 
--- a floor that no version is above keeps it alone
+-- a floor at or above all begins keeps only the newest version
 pub kept_newest : (floor : ℕ) (vs : List Version) → UpTo floor vs → kept_versions floor vs ≡ newest_only vs
 kept_newest floor [] h = refl
 kept_newest floor (v ∷ []) h = refl
@@ -36,13 +36,13 @@ kept_newest floor (v ∷ w ∷ ws) h =
     let is : nat_le w.begin floor ≡ true = grind (arith, nat_tests) in
     rw is (kept_newest floor (w ∷ ws) rest)
 
--- where one more comes it takes the place of what was held
+-- a further version, if there is one, replaces the newest version
 replaced_by : (old ms mid new : List Version) (v : Version) (b : Bool) → mid ≡ newest_only (old ++ ms)
     → new ≡ (if b then v ∷ [] else mid) → new ≡ newest_only (old ++ (ms ++ (if b then v ∷ [] else [])))
 replaced_by old ms mid new v true was is = is ∙ sym (newest_push (old ++ ms) v) ∙ ap newest_only (append_assoc old ms (v ∷ []))
 replaced_by old ms mid new v false was is = is ∙ was ∙ ap (λ (xs : List Version). newest_only (old ++ xs)) (sym (append-nil ms))
 
--- by no write, and by one write more
+-- without writes the newest version stays, and one more write replaces the version of its number
 pub replaced_none : (now : List Held) (n : ℕ) → held_at now n ≡ newest_only (held_at now n ++ [])
 replaced_none now n = sym (ap newest_only (append-nil (held_at now n)) ∙ newest_single (held_at now n) (single_at now n))
 

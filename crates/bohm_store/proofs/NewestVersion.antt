@@ -1,4 +1,4 @@
--- Of versions that rise: the cell at a time is that of the newest one, and those that a floor keeps are the ones above it and the newest.
+-- Ascending versions: the newest at a timestamp gives the cell, and a floor keeps the newest and all later ones.
 use Rattle.std.proofs.Common.{◌≡◌, ℕ, zero, suc, ◌<◌, ◌≤◌, Bool, true, false, List, [], ◌∷◌, All, refl, sym, subst, inl, inr, ⊎_elim, ◌⊎◌, arith, nat_le}
 use Rattle.std.specs.Prelude.{Contains, ◌↔◌}
 use Rattle.std.proofs.lemmas.Bool.{cases_lt}
@@ -15,7 +15,7 @@ contains_head v vs = (0, omega arith, refl)
 contains_tail : (v w : Version) (vs : List Version) → Contains vs w → Contains (v ∷ vs) w
 contains_tail v w vs (k, lt, e) = (suc k, omega arith, e)
 
--- one that is contained is the first, or contained in the rest
+-- a version in a list is the first one or is in the rest
 contains_cases : (v w : Version) (vs : List Version) → Contains (v ∷ vs) w → (v ≡ w) ⊎ Contains vs w
 contains_cases v w vs (zero, lt, e) = inl e
 contains_cases v w vs (suc k, lt, e) = inr (k, omega arith, e)
@@ -25,9 +25,9 @@ all_contains P [] w h (k, lt, e) = absurd (omega arith)
 all_contains P (v ∷ vs) w h m =
     ⊎_elim (λ same. subst P same (All-head P v vs h)) (λ there. all_contains P vs w (All-tail P v vs h) there) (contains_cases v w vs m)
 
--- ---- the cell at a time
+-- ---- the cell at a timestamp
 
--- one that begins at or below ts, before others
+-- the newest version at ts is still the newest when an earlier version is put in front
 newest_behind : (ts : ℕ) (v w : Version) (vs : List Version) → All (λ x. v.begin < x.begin) vs → IsNewestAt ts vs w → IsNewestAt ts (v ∷ vs) w
 newest_behind ts v w vs above n =
     let lt : v.begin < w.begin = all_contains (λ x. v.begin < x.begin) vs w above n.there in
@@ -46,7 +46,7 @@ newest_first ts v vs low above = record {
       (All-weaker (λ x. ts < x.begin) (λ x. x.begin ≤ ts → x.begin ≤ v.begin) (λ x lt l. absurd (omega arith)) vs above);
 }
 
--- a version that the first one is below is the newest at ts, or all are above
+-- the cell is the newest version's at ts, or all versions begin above ts and the cell is the one before them
 abbrev Found : ℕ → List Version → Cell → Cell → Type 0
 Found ts vs c before = ((v : Version) × IsNewestAt ts vs v × (v.cell ≡ c)) ⊎ (All (λ v. ts < v.begin) vs × (c ≡ before))
 
@@ -72,7 +72,7 @@ found ts (v ∷ vs) before r = found_by ts v vs before (nat_le v.begin ts) refl 
 pub cell_at-newest : (ts : ℕ) (vs : List Version) → Rises vs → IsCellAt ts vs (cell_at ts vs Absent)
 cell_at-newest ts vs r = found ts vs Absent r
 
--- ---- what a floor keeps
+-- ---- the versions that a floor keeps
 
 all_kept_by : (P : Version → Type 0) (floor : ℕ) (v w : Version) (ws : List Version) (b : Bool) → nat_le w.begin floor ≡ b
     → All P (v ∷ w ∷ ws) → All P (kept_versions floor (w ∷ ws)) → All P (kept_versions floor (v ∷ w ∷ ws))
@@ -94,7 +94,7 @@ Rises-kept floor [] h = h
 Rises-kept floor (v ∷ []) h = h
 Rises-kept floor (v ∷ w ∷ ws) h = rises_kept_by floor v w ws (nat_le w.begin floor) refl h (Rises-kept floor (w ∷ ws) h.1)
 
--- one that begins above the first is not the newest before it
+-- each version that a floor keeps is in the list of kept versions
 to_by : (floor : ℕ) (v w x : Version) (ws : List Version) (b : Bool) → nat_le w.begin floor ≡ b → v.begin < w.begin
     → IsKept floor (v ∷ w ∷ ws) x → (IsKept floor (w ∷ ws) x → Contains (kept_versions floor (w ∷ ws)) x)
     → Contains (kept_versions floor (v ∷ w ∷ ws)) x
@@ -126,7 +126,7 @@ kept_behind : (floor : ℕ) (v x : Version) (vs : List Version) → All (λ y. v
 kept_behind floor v x vs above (inl (there, past)) = inl (contains_tail v x vs there, past)
 kept_behind floor v x vs above (inr n) = inr (newest_behind floor v x vs above n)
 
--- the first one, where the others begin above the floor
+-- the first version is kept if all others begin above the floor
 kept_first : (floor : ℕ) (v : Version) (vs : List Version) → All (λ y. floor < y.begin) vs → IsKept floor (v ∷ vs) v
 kept_first floor v vs above = ⊎_elim (λ lt. inl (contains_head v vs, lt)) (λ le. inr (newest_first floor v vs le above)) (cases_lt floor v.begin)
 

@@ -1,4 +1,4 @@
--- Writes by number, and the versions that they make of keys.
+-- Writes by number, and the versions that they give keys.
 use Rattle.std.proofs.Common.{◌≡◌, ◌≢◌, ℕ, ◌+◌, ◌<◌, ◌≤◌, ◌==◌, ◌∙◌, Bool, true, false, List, [], ◌∷◌, ◌++◌, length, map, take, drop}
 use Rattle.std.proofs.Common.{get_or, refl, sym, ap, subst, ⊎_elim, arith, if◌then◌else◌, append-nil, append_assoc, add-one, drop-cons}
 use Rattle.std.proofs.Common.{length-append}
@@ -45,12 +45,12 @@ climb_end_from m top (w ∷ ws) h = (let le = climb_end_from w.version.begin top
 pub climb_end : (m top : ℕ) (ws : List NumberedWrite) → ClimbTo m top ws → m ≤ top
 climb_end m top ws h = climb_end_from m top ws h
 
--- ---- by keys
+-- ---- the same writes by key
 
 below_of : (m n : ℕ) → m ≢ n → n ≤ m → n < m
 below_of m n apart ge = grind (arith, nat_tests)
 
--- keys with two numbers are apart
+-- keys with different numbers differ
 pub two_numbers : (names : List (List ℕ)) (m n : ℕ) → IsDistinct bytes_eq names → m < length names → n < length names → m ≢ n
     → bytes_eq (name_at names m) (name_at names n) ≡ false
 two_numbers names m n distinct in_m in_n apart = ⊎_elim
@@ -79,7 +79,7 @@ keyed_by names w ws n apart named inside more = ⊎_elim
     rw (no, here, more) refl)
     (cases_eq w.number n)
 
--- of the key with a number they make the versions of the named writes
+-- the named writes give the key with a number the versions that the numbered writes give the number
 pub keyed_versions : (names : List (List ℕ)) (ws : List NumberedWrite) (n : ℕ) → IsDistinct bytes_eq names → AreBelow (length names) ws
     → n < length names → versions_of_writes (map (named_write names) ws) (name_at names n) ≡ versions_by ws n
 keyed_versions names [] n apart below inside = refl
@@ -100,7 +100,7 @@ pub named_climb : (names : List (List ℕ)) (n top : ℕ) (ws : List NumberedWri
 named_climb names n top [] h = h
 named_climb names n top (w ∷ ws) h = (h.0, named_climb names w.version.begin top ws h.1)
 
--- they make none of a key that is none of the names
+-- the named writes give no version to a key that isn't among the names
 unnamed_by : (names : List (List ℕ)) (w : NumberedWrite) (ws : List NumberedWrite) (k : List ℕ) (b : Bool)
     → bytes_eq (name_at names w.number) k ≡ b → w.number < length names → is_among names k ≡ false
     → versions_of_writes (map (named_write names) ws) k ≡ [] → versions_of_writes (map (named_write names) (w ∷ ws)) k ≡ []
@@ -117,7 +117,7 @@ unnamed_versions names (w ∷ ws) k below absent =
     (All-head (λ (x : NumberedWrite). x.number < length names) w ws below) absent
     (unnamed_versions names ws k (All-tail (λ (x : NumberedWrite). x.number < length names) w ws below) absent)
 
--- ---- by more names
+-- ---- more names
 
 pub begins_self : (names : List (List ℕ)) → Begins names names
 begins_self names = ([], sym (append-nil names))
@@ -138,7 +138,7 @@ longer_from names more (w ∷ ws) below =
     get_or_append_left names more [] w.number (All-head (λ (x : NumberedWrite). x.number < length names) w ws below) in
     rw (here, longer_from names more ws (All-tail (λ (x : NumberedWrite). x.number < length names) w ws below)) refl
 
--- they keep their keys
+-- when names are appended, each write keeps its key
 pub longer_writes : (names names' : List (List ℕ)) (ws : List NumberedWrite) → Begins names names' → AreBelow (length names) ws
     → map (named_write names') ws ≡ map (named_write names) ws
 longer_writes names names' ws (more, e) below = ap (λ (ns : List (List ℕ)). map (named_write ns) ws) e ∙ longer_from names more ws below

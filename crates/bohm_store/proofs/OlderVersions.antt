@@ -1,4 +1,4 @@
--- Older versions: what a trim leaves, what comes, and what they say of a time.
+-- Older versions: trims, appends, and the version of a key at a timestamp.
 use Rattle.std.proofs.Common.{◌≡◌, ◌≢◌, ℕ, zero, suc, ◌+◌, ◌-◌, ◌<◌, ◌≤◌, ◌==◌, ◌&&◌, ◌∙◌, Bool, true, false, List, [], ◌∷◌, ◌++◌, length, drop}
 use Rattle.std.proofs.Common.{get_or, slice_set, refl, sym, ap, ⊎_elim, arith, if◌then◌else◌, nat_le, nat_lt, All, append-nil, append_assoc}
 use Rattle.std.proofs.Common.{add-one, drop-cons}
@@ -19,7 +19,7 @@ use Rattle.bohm_store.specs.Held.{held_versions, held_at}
 use Rattle.bohm_store.specs.Numbered.{EndsRise, IsLinked, IsNotDue, ends_of, first_after, older_of, version_of}
 use Rattle.bohm_store.proofs.Linked.{as_many, none_older}
 
--- ---- the first one goes
+-- ---- the first version is removed
 
 own_dropped : (floor : ℕ) (v : Version) (rest : List Version) (end : ℕ) (es : List ℕ) → later_begins (v ∷ rest) ≡ end ∷ es → end ≤ floor
     → (kept_versions floor (v ∷ rest) ≡ kept_versions floor rest) × (later_begins rest ≡ es)
@@ -44,7 +44,7 @@ pub dropped : (floor : ℕ) (o : Older) (os : List Older) (n : ℕ) (held : List
     → (kept_versions floor (older_of (o ∷ os) n ++ held) ≡ kept_versions floor (older_of os n ++ held)) × IsLinked os n held
 dropped floor o os n held le h = dropped_by floor o os n held (o.number == n) refl le h
 
--- all go
+-- all older versions are removed
 pub linked_none : (os : List Older) (n : ℕ) (held : List Version) → IsLinked os n held → IsLinked [] n held
 linked_none [] n held h = h
 linked_none (o ∷ os) n held h = linked_none os n held (dropped o.end o os n held (omega arith) h).1
@@ -56,7 +56,7 @@ all_dropped floor (o ∷ os) n held low h =
     let step = dropped floor o os n held (All-head (λ p. p.end ≤ floor) o os low) h in
     step.0 ∙ all_dropped floor os n held (All-tail (λ p. p.end ≤ floor) o os low) step.1
 
--- ---- what stays
+-- ---- the versions that a floor keeps
 
 pub all_due : (floor top : ℕ) (os : List Older) → IsNotDue floor os → EndsRise top os → All (λ o. floor < o.end) os
 all_due floor top [] h r = All-nil (λ o. floor < o.end)
@@ -86,7 +86,7 @@ pub kept_due : (floor : ℕ) (os : List Older) (n : ℕ) (held : List Version) �
     → kept_versions floor (older_of os n ++ held) ≡ older_of os n ++ held
 kept_due floor os n held due linked = kept_all floor (older_of os n ++ held) (ends_of os n) linked (ends_above floor os n due)
 
--- ---- one more
+-- ---- a version is appended
 
 older_push : (os : List Older) (o : Older) (n : ℕ) → older_of (os ++ o ∷ []) n ≡ older_of os n ++ (if (o.number == n) then version_of o ∷ [] else [])
 older_push [] o n = append-nil (if (o.number == n) then version_of o ∷ [] else [])
@@ -122,7 +122,7 @@ module _ (os more : List Older) (now new : List Held) (number : ℕ) (w : Versio
   Displaced n =
       (older_of more n ++ held_at new n ≡ (older_of os n ++ held_at now n) ++ (if (number == n) then w ∷ [] else [])) × IsLinked more n (held_at new n)
 
-  -- what is held stays as an older version
+  -- the replaced newest version is appended to the older ones
   module _ (o : Older) (was : held_at now number ≡ version_of o ∷ []) (own : o.number ≡ number) (ended : o.end ≡ w.begin) (more_is : more ≡ os ++ o ∷ []) where
     pub displaced_one : (n : ℕ) → IsLinked os n (held_at now n) → Displaced n
     displaced_one n linked = ⊎_elim
@@ -155,7 +155,7 @@ module _ (os more : List Older) (now new : List Held) (number : ℕ) (w : Versio
         (fact ∙ sym (append-nil (older_of os n ++ held_at now n)) ∙ rw no refl, ap later_begins fact ∙ linked ∙ sym ends))
         (cases_eq n number)
 
-  -- nothing is held
+  -- the key had no version
   module _ (was : held_at now number ≡ []) (more_is : more ≡ os) where
     pub displaced_none : (n : ℕ) → IsLinked os n (held_at now n) → Displaced n
     displaced_none n linked = ⊎_elim
@@ -190,14 +190,14 @@ pub rise_push : (top : ℕ) (os : List Older) (o : Older) → EndsRise top os �
 rise_push top [] o r le = (omega arith, All-nil (λ p. o.end ≤ p.end), tt)
 rise_push top (p ∷ os) o r le = (omega (arith, r.0, le), All-push (λ q. p.end ≤ q.end) os o r.1 (omega (arith, r.0, le)), rise_push top os o r.2 le)
 
--- ---- what they say of a time
+-- ---- the version of a key at a timestamp
 
 skip_by : (ts : ℕ) (o : Older) (os : List Older) (n : ℕ) (held : List Version) (b : Bool) → nat_lt ts o.end ≡ false
     → (if (b && nat_lt ts o.end) then version_of o ∷ [] else first_after ts os n held) ≡ first_after ts os n held
 skip_by ts o os n held true e = rw e refl
 skip_by ts o os n held false e = refl
 
--- where one ended at or below the time, those before it did too
+-- if a version ended at or below the timestamp, that version and all before are skipped
 skips_to : (ts top : ℕ) (os : List Older) (n : ℕ) (held : List Version) (i : ℕ) (d : Older) → EndsRise top os → i < length os
     → (get_or os i d).end ≤ ts → first_after ts os n held ≡ first_after ts (drop (suc i) os) n held
 skips_to ts top [] n held i d r lt le = absurd (omega arith)
@@ -213,7 +213,7 @@ first_skips ts top os n held i d r some le is low =
     let next : suc (i - 1) ≡ i = omega (arith, some) in
     skips_to ts top os n held (i - 1) d r (omega (arith, some, le)) (rw (← is) low) ∙ ap (λ (j : ℕ). first_after ts (drop j os) n held) next
 
--- one that ended above the time comes first, where it is of the number
+-- a version that ended above the timestamp is found if it has the number, and is skipped otherwise
 step_by : (ts : ℕ) (o : Older) (os : List Older) (n : ℕ) (held : List Version) (b : Bool) → (o.number == n) ≡ b → ts < o.end
     → first_after ts (o ∷ os) n held ≡ (if b then version_of o ∷ [] else first_after ts os n held)
 step_by ts o os n held true e lt = let yes : nat_lt ts o.end ≡ true = grind (arith, nat_tests) in rw (e, yes) refl
@@ -226,7 +226,7 @@ first_step ts os n held i d b lt is e late =
     let at : drop i os ≡ d ∷ drop (i + 1) os = rw add-one (drop-cons os i d lt) ∙ ap (λ (o : Older). o ∷ drop (i + 1) os) (sym is) in
     rw at (step_by ts d (drop (i + 1) os) n held b e late)
 
--- those that are not of the number say nothing
+-- versions of other numbers are skipped
 pub first_passes : (ts : ℕ) (os : List Older) (n : ℕ) (held : List Version) (d : Older) (i more : ℕ) → i + more ≤ length os
     → ((j : ℕ) → i ≤ j → j < i + more → (get_or os j d).number ≢ n)
     → first_after ts (drop i os) n held ≡ first_after ts (drop (i + more) os) n held
@@ -279,7 +279,7 @@ seen_by ts o os n held false c e f r h more =
     let r' : Rises (older_of os n ++ held) = rw e at r in
     rw e (more r' h')
 
--- the first one that ended above the time says what all say
+-- the first version that ended above the timestamp, or else the newest, gives the cell that all versions give
 pub first_seen : (ts : ℕ) (os : List Older) (n : ℕ) (held : List Version) → Rises (older_of os n ++ held) → IsLinked os n held
     → cell_at ts (older_of os n ++ held) cells.Absent ≡ cell_at ts (first_after ts os n held) cells.Absent
 first_seen ts [] n held r h = refl

@@ -1,4 +1,4 @@
--- The history of a starting store by numbers.
+-- The history that a starting store opens, by the numbers of keys.
 use Rattle.std.proofs.Common.{◌≡◌, ℕ, suc, ◌+◌, ◌<◌, ◌≤◌, ◌∙◌, Bool, true, false, List, [], ◌∷◌}
 use Rattle.std.proofs.Common.{◌++◌, length, map, take, get_or, refl, sym, ap, ⊎_elim, arith, nat_le}
 use Rattle.std.specs.Prelude.{ℤ, pos}
@@ -29,7 +29,7 @@ use Rattle.bohm_store.proofs.Names.{turned}
 abbrev pub first_held : List ℕ × ℤ → Held
 first_held e = Present 0 e.1
 
--- what is held since the start has no other version
+-- the only version of a starting entry is ascending and begins at or below any timestamp
 started : (ts : ℕ) (v : Held) (e : List ℕ × ℤ) → v ≡ first_held e → UpTo ts (held_versions v) × Rises (held_versions v)
 started ts v e is = rw is (
   All-cons (λ (w : Version). w.begin ≤ ts) (record { begin = 0; cell = cells.Present e.1 }) [] (omega arith)
@@ -55,7 +55,7 @@ opened ts es items is = rw is (record {
   due = All-nil (λ (o : Older). ts < o.end);
 })
 
--- ---- what its keys have
+-- ---- the versions of the store's keys
 
 named_by : (f : ℕ → List Version) (from : ℕ) (e : List ℕ × ℤ) (es : List (List ℕ × ℤ)) (k : List ℕ) (b : Bool) → bytes_eq k e.0 ≡ b
     → f from ≡ record { begin = 0; cell = cells.Present e.1 } ∷ []
@@ -74,7 +74,7 @@ named_entries f from (e ∷ es) k at =
     named_by f from e es k (bytes_eq k e.0) refl first
     (named_entries f (from + 1) es k (λ i d lt. (let next : (from + 1) + i ≡ from + suc i = omega arith in rw next (at (suc i) d (omega arith)))))
 
--- as many versions as keys, where each has one
+-- if each key has one version, there are as many versions as keys
 counted : (f : ℕ → List Version) (from : ℕ) (es : List (List ℕ × ℤ)) → ((i : ℕ) (d : List ℕ × ℤ) → i < length es
     → f (from + i) ≡ record { begin = 0; cell = cells.Present (get_or es i d).1 } ∷ []) → total (named f from (names_of es)) ≡ length es
 counted f from [] at = refl
@@ -98,9 +98,9 @@ opened_versions es items k is =
     (λ i d lt. (let e : 0 + i ≡ i = omega arith in rw (e, is) (ap held_versions (get_or-map first_held es i d Never lt))))
     ∙ ap (λ o. starting_versions (cell_of o)) (sym (get-store_of es k))
 
--- ---- the keys of its store
+-- ---- the keys of the starting store
 
--- one key more of a rising list is a new one
+-- the next key of an ascending list isn't among the earlier keys, so the key gets the next number
 pub next_named : (es : List (List ℕ × ℤ)) (i : ℕ) (e : List ℕ × ℤ) → rising (names_of es) ≡ true → i < length es → e ≡ get_or es i e
     → with_name (names_of (take i es)) e.0 ≡ names_of (take (i + 1) es)
 next_named es i e rises lt is =

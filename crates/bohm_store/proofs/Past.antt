@@ -1,4 +1,4 @@
--- The cell at a time, of versions one after another.
+-- The cell that a list of versions gives at a timestamp.
 use Rattle.std.proofs.Common.{◌≡◌, ℕ, ◌-◌, ◌<◌, ◌≤◌, Bool, true, false, List, [], ◌∷◌, ◌++◌, refl, ◌∙◌}
 use Rattle.std.proofs.Common.{arith, if◌then◌else◌, nat_le}
 use Rattle.std.proofs.lemmas.Bool.Decides.{nat_tests}
@@ -12,7 +12,7 @@ pub cell_at-append : (ts : ℕ) (xs ys : List Version) (c : Cell) → cell_at ts
 cell_at-append ts [] ys c = refl
 cell_at-append ts (x ∷ xs) ys c = cell_at-append ts xs ys (if nat_le x.begin ts then x.cell else c)
 
--- versions from later on say nothing
+-- versions that begin above a timestamp don't change the cell at the timestamp
 pub cell_at-above : (ts : ℕ) (vs : List Version) (c : Cell) → Above ts vs → cell_at ts vs c ≡ c
 cell_at-above ts [] c h = refl
 cell_at-above ts (v ∷ vs) c h =
@@ -20,7 +20,7 @@ cell_at-above ts (v ∷ vs) c h =
     let no : nat_le v.begin ts ≡ false = grind (arith, nat_tests) in
     rw no (cell_at-above ts vs c (All-tail (λ v. ts < v.begin) v vs h))
 
--- at and above the last begin nothing changes any more
+-- if all versions begin at or below the top, the cell at each later timestamp is the one at the top
 pub cell_at-up_to : (top ts : ℕ) (vs : List Version) (c : Cell) → UpTo top vs → top ≤ ts → cell_at ts vs c ≡ cell_at top vs c
 cell_at-up_to top ts [] c h le = refl
 cell_at-up_to top ts (v ∷ vs) c h le =
@@ -29,7 +29,7 @@ cell_at-up_to top ts (v ∷ vs) c h le =
     let at_ts : nat_le v.begin ts ≡ true = grind (arith, nat_tests) in
     rw (at_top, at_ts) (cell_at-up_to top ts vs v.cell (All-tail (λ v. v.begin ≤ top) v vs h) le)
 
--- what the floor lets go is not seen from the floor on
+-- versions that a floor drops don't change the cell at or above the floor
 kept_by : (floor ts : ℕ) (v w : Version) (ws : List Version) (c : Cell) (b : Bool) → nat_le w.begin floor ≡ b → floor ≤ ts
     → ((d : Cell) → cell_at ts (kept_versions floor (w ∷ ws)) d ≡ cell_at ts (w ∷ ws) d)
     → cell_at ts (kept_versions floor (v ∷ w ∷ ws)) c ≡ cell_at ts (v ∷ w ∷ ws) c

@@ -1,4 +1,4 @@
--- Where the older versions of each key stand, as they come and go.
+-- Where the older versions of each key are in the queue, as versions are removed and appended.
 use Rattle.std.proofs.Common.{◌≡◌, ◌≢◌, ℕ, suc, ◌+◌, ◌-◌, ◌<◌, ◌≤◌, ◌∙◌, List, [], ◌∷◌, ◌++◌, length, get_or, slice_set, min, refl, ap}
 use Rattle.std.proofs.Common.{⊎_elim, arith, length-append}
 use Rattle.std.proofs.lemmas.Bool.{cases_eq, cases_lt}
@@ -7,17 +7,17 @@ use Rattle.std.proofs.Math.Seq.{get_or-append_seam}
 use Rattle.bohm_store.specs.declared.older.Older.{Older}
 use Rattle.bohm_store.specs.Places.{IsPlaced, unknown}
 
--- the first one goes
+-- the counts stay right when the first version is removed
 pub placed_rest : (gone : ℕ) (latest : List ℕ) (o : Older) (os : List Older) → IsPlaced gone latest (o ∷ os) → IsPlaced (min (gone + 1) unknown) latest os
 placed_rest gone latest o os h = record {
   others = λ i j d lt inside le. h.others (suc i) (suc j) d (omega arith) (omega arith) (omega arith);
   counted = λ i d inside known. (let was = h.counted (suc i) d (omega arith) known in omega arith);
 }
 
--- one more
+-- the counts stay right when a version is appended
 module _ (gone : ℕ) (latest : List ℕ) (os : List Older) (o : Older) (before : ℕ) (was : IsPlaced gone latest os)
     (before_is : before ≡ min (gone + length os) unknown) (few : o.others ≤ before - get_or latest o.number 0) where
-  -- one before it stands further before it than it says
+  -- the `others` versions just before the appended one are of other keys
   behind : (i : ℕ) (d : Older) → i < length os → length os ≤ i + o.others → (get_or os i d).number ≢ o.number
   behind i d lt le same = ⊎_elim
       (λ (known : get_or latest o.number 0 < unknown).

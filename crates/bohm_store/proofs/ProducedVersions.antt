@@ -1,4 +1,4 @@
--- What transactions that run one after another produce: versions that rise, and say what each key holds after each of them.
+-- The versions that a serial run produces: they ascend, and give each key's cell after each transaction.
 use Rattle.std.proofs.Common.{◌≡◌, ℕ, suc, ◌+◌, ◌-◌, ◌<◌, ◌≤◌, Bool, true, false, List, [], ◌∷◌, ◌++◌, length, All, refl, sym, ap, ◌∙◌}
 use Rattle.std.proofs.Common.{arith, if◌then◌else◌, nat_le, ⊎_elim}
 use Rattle.std.specs.List.{list_any}
@@ -21,7 +21,7 @@ use Rattle.bohm_store.specs.Nexts.{Agree, IsNext}
 use Rattle.bohm_store.specs.Chains.{Above, UpTo}
 use Rattle.bohm_store.proofs.Past.{cell_at-above, cell_at-append}
 
--- the version that one transaction produces of a key, if it writes it
+-- the version that a transaction gives a key, if it declares to write the key
 abbrev one : Bool → ℕ → Cell → List Version
 one b u c = if b then record { begin = u; cell = c } ∷ [] else []
 
@@ -29,7 +29,7 @@ all_one : (P : Version → Type 0) (b : Bool) (u : ℕ) (c : Cell) → P (record
 all_one P true u c h = All-cons P (record { begin = u; cell = c }) [] h (All-nil P)
 all_one P false u c h = All-nil P
 
--- ---- where they begin
+-- ---- the begins of produced versions
 
 pub produced_from : (n u : ℕ) (look : Look) (ts : List Txn) (k : List ℕ) → n < u → Above n (produced_versions u look ts k)
 produced_from n u look [] k lt = All-nil (λ v. n < v.begin)
@@ -44,7 +44,7 @@ produced_up_to top u look (t ∷ ts) k le =
     (all_one (λ v. v.begin ≤ top) (is_among t.writes k) u (after look t k) (omega arith))
     (produced_up_to top (u + 1) (after look t) ts k (omega arith))
 
--- versions that rise, behind ones that rise and begin before them
+-- ascending versions followed by later ascending versions are ascending
 pub Rises-append : (top : ℕ) (vs ws : List Version) → Rises vs → Rises ws → UpTo top vs → Above top ws → Rises (vs ++ ws)
 Rises-append top [] ws r s low above = s
 Rises-append top (v ∷ vs) ws r s low above =
@@ -67,7 +67,7 @@ produced_rises u look (t ∷ ts) k =
     (all_one (λ v. v.begin ≤ u) (is_among t.writes k) u (after look t k) (omega arith))
     (produced_from u (u + 1) (after look t) ts k (omega arith))
 
--- ---- what they say
+-- ---- the cells that produced versions give
 
 one_by : (u ts : ℕ) (b : Bool) (c before : Cell) → u ≤ ts → (b ≡ false → c ≡ before) → cell_at ts (one b u c) before ≡ c
 one_by u ts true c before le same = let here : nat_le u ts ≡ true = grind (arith, nat_tests) in rw here refl
@@ -76,7 +76,7 @@ one_by u ts false c before le same = sym (same refl)
 unwritten : (look : Look) (t : Txn) (k : List ℕ) → IsWellFormedTxn t → is_among t.writes k ≡ false → after look t k ≡ look k
 unwritten look t k well none = kept look t k (usable t well) (λ among. true≢false (sym among ∙ none))
 
--- after the transaction at ts each key holds what the newest of them at or below ts says
+-- after the transaction at ts, each key has the cell of the newest produced version at or below ts
 pub produced_state : (n ts : ℕ) (look : Look) (txns : List Txn) (k : List ℕ) → All IsWellFormedTxn txns → ts ≤ n + length txns → n ≤ ts
     → cell_at ts (produced_versions (n + 1) look txns k) (look k) ≡ state look txns (ts - n) k
 produced_state n ts look [] k well high low = let none : ts - n ≡ 0 = omega arith in rw none refl
@@ -95,7 +95,7 @@ produced_state n ts look (t ∷ txns) k well high low = ⊎_elim
     cell_at-above ts (produced_versions (n + 1) look (t ∷ txns) k) (look k) (produced_from ts (n + 1) look (t ∷ txns) k (omega arith)) ∙ rw none refl)
     (cases_lt n ts)
 
--- ---- what keys that no transaction declares hold doesn't matter
+-- ---- the cells of undeclared keys don't matter
 
 agree_after : (look other : Look) (t : Txn) (txns : List Txn) → IsWellFormedTxn t → Agree (t ∷ txns) look other
     → Agree (t ∷ txns) (after look t) (after other t)
@@ -134,6 +134,6 @@ replies_same look other (t ∷ txns) well same =
     (λ j declared. next j (or_right (declares_key j t) (list_any (declares_key j) txns) declared)) in
     λ i. reply_of (here i) ∷ rest i
 
--- so the next batch answers over its base what it answers over the past at the top
+-- the next batch gives the same replies on its base as on the past at the history's top
 pub next_replies : (t : Timeline) (b : Batch) → IsNext t b → replies (base_of b) (txns_of b) ≡ replies (past t t.top) (txns_of b)
 next_replies t b next = replies_same (base_of b) (past t t.top) (txns_of b) b.batched.formed next.base

@@ -1,4 +1,4 @@
--- What stays of versions where those that begin above a timestamp go.
+-- The versions that remain when those that begin after a timestamp are removed.
 use Rattle.std.proofs.Common.{◌≡◌, ℕ, suc, ◌-◌, ◌<◌, ◌≤◌, ◌==◌, ◌∙◌, Bool, true, false, List}
 use Rattle.std.proofs.Common.{[], ◌∷◌, ◌++◌, All, length, get_or, map, refl, sym, ap, arith}
 use Rattle.std.proofs.Common.{if◌then◌else◌, nat_le, nat_lt, ⊎_elim}
@@ -19,7 +19,7 @@ use Rattle.bohm_store.specs.Held.{held_at, held_versions}
 use Rattle.bohm_store.specs.Numbered.{EndsRise, IsEndedBy, IsLinked, IsNumbered, Numbered}
 use Rattle.bohm_store.specs.Numbered.{ended_by, ends_of, first_after, older_of, version_of, versions_at}
 
--- ---- versions
+-- ---- a key's versions up to the timestamp
 
 pub none_to : (ts : ℕ) (vs : List Version) → Above ts vs → versions_to ts vs ≡ []
 none_to ts [] h = refl
@@ -56,7 +56,7 @@ pub rises_to : (ts : ℕ) (vs : List Version) → Rises vs → Rises (versions_t
 rises_to ts [] h = tt
 rises_to ts (v ∷ vs) h = rises_by ts v vs (nat_le v.begin ts) refl h.0 (rises_to ts vs h.1)
 
--- the cell up to there is the same
+-- the cell at or below the timestamp is unchanged
 cell_by : (ts u : ℕ) (v : Version) (vs : List Version) (c : Cell) (b : Bool) → nat_le v.begin ts ≡ b → u ≤ ts
     → ((d : Cell) → cell_at u (versions_to ts vs) d ≡ cell_at u vs d) → cell_at u (versions_to ts (v ∷ vs)) c ≡ cell_at u (v ∷ vs) c
 cell_by ts u v vs c true e le more = rw e (more (if nat_le v.begin u then v.cell else c))
@@ -68,7 +68,7 @@ pub cell_to : (ts u : ℕ) (vs : List Version) (c : Cell) → u ≤ ts → cell_
 cell_to ts u [] c le = refl
 cell_to ts u (v ∷ vs) c le = cell_by ts u v vs c (nat_le v.begin ts) refl le (λ d. cell_to ts u vs d le)
 
--- ---- older versions
+-- ---- older versions that ended by the timestamp
 
 all_by_by : (P : Older → Type 0) (ts : ℕ) (o : Older) (os : List Older) (b : Bool) → nat_le o.end ts ≡ b → P o → All P (ended_by ts os)
     → All P (ended_by ts (o ∷ os))
@@ -90,7 +90,7 @@ pub climbs_to : (ts top : ℕ) (os : List Older) → EndsRise top os → EndsRis
 climbs_to ts top [] h = tt
 climbs_to ts top (o ∷ os) h = climbs_by ts o os (nat_le o.end ts) refl h.1 (climbs_to ts top os h.2)
 
--- where the first one ended later, none is left
+-- if an older version ended after the timestamp, so did all following ones, and none of them remains
 none_by : (ts : ℕ) (o : Older) (os : List Older) → ts < o.end → All (λ p. o.end ≤ p.end) os → ended_by ts os ≡ []
 none_by ts o [] lt above = refl
 none_by ts o (p ∷ os) lt above =
@@ -98,9 +98,9 @@ none_by ts o (p ∷ os) lt above =
     let no : nat_le p.end ts ≡ false = grind (arith, nat_tests) in
     rw no refl
 
--- ---- both
+-- ---- older versions with the newest one
 
--- those behind one that ended later begin later
+-- if a version ended after the timestamp, the versions that follow it begin after the timestamp
 later_above : (ts : ℕ) (v : Version) (rest : List Version) (end : ℕ) (es : List ℕ) → later_begins (v ∷ rest) ≡ end ∷ es → ts < end → Rises rest
     → Above ts rest
 later_above ts v [] end es e lt rises = absurd cc
@@ -109,7 +109,7 @@ later_above ts v (w ∷ ws) end es e lt rises =
     All-cons (λ v. ts < v.begin) w ws (omega (arith, b, lt))
     (All-weaker (λ x. w.begin < x.begin) (λ x. ts < x.begin) (λ x above. omega (arith, b, lt)) ws rises.0)
 
--- one that ended in time began before
+-- a version that ended at or below the timestamp also began at or below the timestamp
 began : (ts : ℕ) (v : Version) (rest : List Version) (end : ℕ) (es : List ℕ) → later_begins (v ∷ rest) ≡ end ∷ es → end ≤ ts → Rises (v ∷ rest)
     → v.begin ≤ ts
 began ts v [] end es e le rises = absurd cc
@@ -166,7 +166,7 @@ module _ (ts n : ℕ) (held : List Version) where
   restored top (o ∷ os) climbs linked rises =
       restored_by top o os (o.number == n) (nat_le o.end ts) refl refl climbs linked rises (λ link up. restored top os climbs.2 link up)
 
--- where there are none, none is left
+-- a number without older versions has none after the removal
 front_none_by : (ts : ℕ) (o : Older) (os : List Older) (n : ℕ) (own low : Bool) → (o.number == n) ≡ own → nat_le o.end ts ≡ low
     → older_of (o ∷ os) n ≡ [] → (older_of os n ≡ [] → older_of (ended_by ts os) n ≡ []) → older_of (ended_by ts (o ∷ os)) n ≡ []
 front_none_by ts o os n true low e f none more = (let no : version_of o ∷ older_of os n ≡ [] = rw e at none in absurd cc)
@@ -177,13 +177,13 @@ front_none : (ts : ℕ) (os : List Older) (n : ℕ) → older_of os n ≡ [] →
 front_none ts [] n none = refl
 front_none ts (o ∷ os) n none = front_none_by ts o os n (o.number == n) (nat_le o.end ts) refl refl none (front_none ts os n)
 
--- a key that holds nothing never did
+-- a key without a newest version has no versions, before or after the removal
 pub unheld : (ts : ℕ) (os : List Older) (n : ℕ) → IsLinked os n [] → older_of (ended_by ts os) n ++ [] ≡ versions_to ts (older_of os n ++ [])
 unheld ts os n linked =
     let none : older_of os n ≡ [] = none_older (older_of os n) (ends_of os n) linked (as_many os n) in
     rw (front_none ts os n none, none) refl
 
--- ---- where they end
+-- ---- the ends of older versions
 
 abbrev numbers_to : ℕ → List ℕ → List ℕ
 numbers_to ts [] = []
@@ -242,7 +242,7 @@ pub linked_to : (ts top : ℕ) (os : List Older) (n : ℕ) (vs : List Version) �
     → later_begins (versions_to ts vs) ≡ ends_of (ended_by ts os) n
 linked_to ts top os n vs climbs rises linked = later_to ts vs rises ∙ ap (numbers_to ts) linked ∙ sym (ends_to ts top os n climbs)
 
--- ---- the last one goes
+-- ---- the last older version is removed
 
 cut_by : (ts : ℕ) (p : Older) (os : List Older) (o : Older) (b : Bool) → nat_le p.end ts ≡ b → ended_by ts (os ++ o ∷ []) ≡ ended_by ts os
     → ended_by ts ((p ∷ os) ++ o ∷ []) ≡ ended_by ts (p ∷ os)
@@ -261,7 +261,7 @@ pub climbs_front : (top : ℕ) (os : List Older) (o : Older) → EndsRise top (o
 climbs_front top [] o h = tt
 climbs_front top (p ∷ os) o h = (h.0, all_front (λ q. p.end ≤ q.end) os o h.1, climbs_front top os o h.2)
 
--- where the last one ended in time, all did
+-- if the last older version ended by the timestamp, all of them remain
 uncut_by : (ts : ℕ) (o : Older) (os : List Older) → o.end ≤ ts → ended_by ts os ≡ os → ended_by ts (o ∷ os) ≡ o ∷ os
 uncut_by ts o os le more = (let yes : nat_le o.end ts ≡ true = grind (arith, nat_tests) in rw yes (ap (λ (xs : List Older). o ∷ xs) more))
 
@@ -283,7 +283,7 @@ uncut ts top (o ∷ p ∷ os) climbs last =
     let low : p.end ≤ ts = first_low ts p os (nat_le p.end ts) refl more in
     uncut_by ts o (p ∷ os) (omega (arith, le, low)) more
 
--- all ended by then
+-- if the last older version ended by the timestamp, all of them did
 pub all_low : (ts top : ℕ) (os : List Older) → EndsRise top os → IsEndedBy ts os → All (λ o. o.end ≤ ts) os
 all_low ts top [] climbs last = All-nil (λ o. o.end ≤ ts)
 all_low ts top (o ∷ []) climbs last = All-cons (λ q. q.end ≤ ts) o [] (last o (omega arith)) (All-nil (λ q. q.end ≤ ts))
@@ -293,9 +293,9 @@ all_low ts top (o ∷ p ∷ os) climbs last =
     let low : p.end ≤ ts = All-head (λ q. q.end ≤ ts) p os more in
     All-cons (λ q. q.end ≤ ts) o (p ∷ os) (omega (arith, le, low)) more
 
--- ---- a history
+-- ---- the rewound history
 
--- what keys hold was put back to a time, and what began later was let go
+-- each key's version at the timestamp was put back, and versions that begin after the timestamp were removed
 module _ (ts : ℕ) (old : Numbered) (mid new : List Held) (was : IsNumbered old) (long : length new ≡ length old.newest)
     (back : (n : ℕ) → n < length old.newest → held_at mid n ≡ first_after ts old.older n (held_at old.newest n))
     (gone : (n : ℕ) → held_at new n ≡ versions_to ts (held_at mid n)) where

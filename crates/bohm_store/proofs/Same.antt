@@ -1,4 +1,4 @@
--- A history whose keys are more than before, or have more room, and which else is the same.
+-- A history that is the same under more names, or with room for more keys.
 use Rattle.std.proofs.Common.{◌≡◌, ℕ, ◌+◌, ◌-◌, ◌≤◌, ◌∙◌, List, [], ◌++◌, length, take, drop, refl, sym, ap, arith, max}
 use Rattle.std.proofs.lemmas.List.{length-take-le, take-append-drop}
 use Rattle.bohm_types.specs.declared.cell.Cell.TheVariants.{Absent}
@@ -14,7 +14,7 @@ use Rattle.bohm_store.specs.Numbered.{Numbered, named, timeline, versions_at}
 use Rattle.bohm_store.proofs.Longer.{longer_names, longer_total}
 use Rattle.bohm_store.proofs.Named.{mapped_versions}
 
--- ---- more names, and more room
+-- ---- more names, and room for more keys
 
 pub named_more : (h : Numbered) (names names' : List (List ℕ)) → length h.newest ≤ length names
     → ((n : ℕ) → length h.newest ≤ n → versions_at h n ≡ []) → Begins names names' → IsSame (timeline names h) (timeline names' h)
@@ -34,7 +34,7 @@ covered_same names old new floor top same = record {
   count = λ i. total (named (λ n. same n i) 0 names);
 }
 
--- the names behind those with room have no versions
+-- leaving out trailing names whose numbers have no versions doesn't change a key's versions
 pub shorter : (h : Numbered) (names : List (List ℕ)) (m : ℕ) (k : List ℕ) → m ≤ length names → ((n : ℕ) → m ≤ n → versions_at h n ≡ [])
     → versions (timeline names h) k ≡ versions (timeline (take m names) h) k
 shorter h names m k low behind =
@@ -43,7 +43,7 @@ shorter h names m k low behind =
     ap (λ (ns : List (List ℕ)). versions (timeline ns h) k) whole
     ∙ longer_names (versions_at h) (versions_at h) 0 (take m names) (drop m names) k (λ n. refl) (λ n le. behind n (omega (arith, le, len)))
 
--- ---- what is so of a history is so of one that is the same
+-- ---- properties that carry over to a history that is the same
 
 pub same_past : (t r : Timeline) (ts : ℕ) → IsSame t r → past r ts ≡ past t ts
 same_past t r ts h = (let each : (k : List ℕ) → _ = λ k. ap (λ (vs : List Version). cell_at ts vs Absent) (h.versions k) in λ i k. each k i)

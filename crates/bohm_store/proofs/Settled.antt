@@ -1,4 +1,4 @@
--- A history whose keys hold what transactions leave, and nothing older.
+-- A history that keeps only the newest version of each key after transactions.
 use Rattle.std.proofs.Common.{◌≡◌, false, ℕ, ◌+◌, ◌<◌, ◌≤◌, ◌∙◌, List, [], ◌++◌, length, map, All, get_or, refl, sym, ap, subst, ⊎_elim, arith}
 use Rattle.std.proofs.Common.{append-nil, append_assoc}
 use Rattle.std.specs.List.{IsDistinct}
@@ -38,7 +38,7 @@ module _ (names : List (List ℕ)) (base : Look) (txns : List Txn) (well : All I
   alone : (n : ℕ) → versions_at new n ≡ held_at new.newest n
   alone n = ap (λ (os : List Older). older_of os n ++ held_at new.newest n) gone
 
-  -- the newest of all versions is what the batch leaves of what is held
+  -- older versions don't change which version is the newest
   newest_of : (n : ℕ) (ps : List Version) → newest_only (versions_at old n ++ ps) ≡ newest_only (held_at old.newest n ++ ps)
   newest_of n ps =
       ap newest_only (append_assoc (older_of old.older n) (held_at old.newest n) ps)
@@ -116,6 +116,6 @@ module _ (names : List (List ℕ)) (base : Look) (txns : List Txn) (well : All I
       (vs ++ produced_versions (old.top + 1) (past (timeline names old) old.top) txns k)) apart grown none_grown)
       (subst (λ (ks : List (List ℕ)). IsDistinct bytes_eq ks) (sym (keys_named (versions_at new) 0 names)) apart)
 
-  -- both
+  -- the new history keeps the invariant and has settled the transactions
   pub settled : IsNumbered new × IsSettledKept (timeline names old) (timeline names new) txns (old.top + length txns)
   settled = (numbered, settled_kept)

@@ -1,4 +1,4 @@
--- A history whose chains have got what transactions produce.
+-- A history whose chains were extended by the versions that transactions produce.
 use Rattle.std.proofs.Common.{◌≡◌, ℕ, ◌+◌, ◌-◌, ◌<◌, ◌≤◌, List, ◌++◌, length, max, All, sym, ap, ◌∙◌, arith}
 use Rattle.std.proofs.lemmas.List.Elements.{All-weaker, All-append}
 use Rattle.bohm_types.specs.declared.cell.Cell.TheVariants.{Absent}
@@ -16,7 +16,7 @@ use Rattle.bohm_store.proofs.Past.{cell_at-above, cell_at-append, cell_at-up_to}
 use Rattle.bohm_store.proofs.ProducedVersions.{Rises-append, produced_from, produced_up_to, produced_rises, produced_state, produced_same}
 use Rattle.bohm_store.proofs.WrittenVersions.{made_written}
 
--- the writes make what the transactions produce over a look that agrees
+-- the writes give the versions that the transactions produce on any look that agrees on declared keys
 pub made_produced : (u : ℕ) (look other : Look) (txns : List Txn) (ws : List KeyedVersion) (k : List ℕ) → All IsWellFormedTxn txns
     → Agree txns look other → ws ≡ all_txn_writes u look txns → versions_of_writes ws k ≡ produced_versions u other txns k
 made_produced u look other txns ws k well same is =
@@ -49,7 +49,7 @@ settled_later top ts look txns k old new is low at well from to =
     rw is (cell_at-append ts old (produced_versions (top + 1) look txns k) Absent
     ∙ ap (cell_at ts (produced_versions (top + 1) look txns k)) here ∙ produced_state top ts look txns k well to from)
 
--- ---- the same, and then trimmed
+-- ---- the settled history, trimmed
 
 pub settled_trimmed : (was mid now : Timeline) (txns : List Txn) (low : ℕ) → IsSettled was mid txns → now.floor ≡ max mid.floor low → now.top ≡ mid.top
     → (mid.floor < low → (k : List ℕ) → versions now k ≡ kept_versions low (versions mid k))

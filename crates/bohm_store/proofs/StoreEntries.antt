@@ -1,4 +1,4 @@
--- The keys that have a value at a time.
+-- The keys that have a value at a timestamp, as a store.
 use Rattle.std.proofs.Common.{◌≡◌, ℕ, Bool, true, false, List, [], ◌∷◌, None, unwrap_or, refl, ap, ◌∙◌}
 use Rattle.std.specs.Prelude.{ℤ}
 use Rattle.std.specs.Map.{lookup, keys_of}
@@ -14,7 +14,7 @@ use Rattle.bohm_store.specs.Versions.{cell_at}
 use Rattle.bohm_store.specs.Chains.{cell_entry, timeline_entries_at}
 use Rattle.bohm_txn.proofs.ForCallers.{get-store_of}
 
--- ---- the keys differ
+-- ---- the listed keys are distinct
 
 all_pick : (P : List ℕ → Type 0) (k : List ℕ) (c : Cell) (rest : List (List ℕ × ℤ)) → P k → AllByRecursion P (keys_of rest)
     → AllByRecursion P (keys_of (cell_entry k c rest))
@@ -38,7 +38,7 @@ distinct_held ts [] h = h
 distinct_held ts (e ∷ es) h =
     distinct_pick e.0 (cell_at ts e.1 Absent) (timeline_entries_at ts es) (all_held (λ y. bytes_eq e.0 y ≡ false) ts es h.0) (distinct_held ts es h.1)
 
--- ---- what is listed of a key
+-- ---- the entry of a key
 
 pub none_from : {X : Type 0} (x k : List ℕ) (es : List (List ℕ × X)) → bytes_eq k x ≡ true
     → AllByRecursion (λ y. bytes_eq x y ≡ false) (keys_of es) → lookup (bytes_eq k) es ≡ None
@@ -68,7 +68,7 @@ cell_again : (c : Cell) → cell_of (number_in c) ≡ c
 cell_again Absent = refl
 cell_again (Present z) = refl
 
--- the listed store says of each key what its versions say
+-- in the listed store each key has the cell that its versions give at the timestamp
 pub cell_held : (ts : ℕ) (k : List ℕ) (es : List (List ℕ × List Version)) → IsDistinct bytes_eq (keys_of es)
     → cell_in (store_of (timeline_entries_at ts es)) k ≡ cell_at ts (unwrap_or (lookup (bytes_eq k) es) []) Absent
 cell_held ts k es h =

@@ -1,4 +1,4 @@
--- The writes of transactions make the versions that they produce.
+-- The writes of transactions give each key the versions that the transactions produce.
 use Rattle.std.proofs.Common.{◌≡◌, ℕ, ◌+◌, ◌<◌, ◌≤◌, Bool, true, false, List, [], ◌∷◌, ◌++◌, length, All, refl, sym, ap, ◌∙◌, arith}
 use Rattle.std.proofs.Common.{if◌then◌else◌, append_assoc, subst, take, drop, get_or, add-one, Some}
 use Rattle.std.specs.List.{slice_get}
@@ -37,7 +37,7 @@ made_none u look (j ∷ ks) k h = made_none_by u look j ks k (bytes_eq j k) refl
     made_none_by u look j ks k true e h more = let h' = rw e at h in absurd cc
     made_none_by u look j ks k false e h more = let h' = rw e at h in rw e (more h')
 
--- one transaction's writes make one version of each key that it declares to write
+-- a transaction's writes give one version to each key that it declares to write, and none to other keys
 made_once : (u : ℕ) (look : Look) (ks : List (List ℕ)) (k : List ℕ) → AreDistinct ks
     → versions_of_writes (txn_writes u look ks) k ≡ (if is_among ks k then record { begin = u; cell = look k } ∷ [] else [])
 made_once u look [] k d = refl
@@ -70,14 +70,14 @@ climb_behind : (n u top : ℕ) (look : Look) (ks : List (List ℕ)) (ws : List K
 climb_behind n u top look [] ws low high more = more n low
 climb_behind n u top look (k ∷ ks) ws low high more = (low, climb_behind u u top look ks ws (omega arith) high more)
 
--- they climb up to the last transaction
+-- the begins of transactions' writes don't decrease, and none is above the last transaction's timestamp
 pub written_climbs : (n u top : ℕ) (look : Look) (txns : List Txn) → n ≤ u → n ≤ top → u + length txns ≤ top + 1 → Climb n (all_txn_writes u look txns) top
 written_climbs n u top look [] low under high = under
 written_climbs n u top look (t ∷ txns) low under high =
     climb_behind n u top (after look t) t.writes (all_txn_writes (u + 1) (after look t) txns) low (omega arith)
     (λ m le. written_climbs m (u + 1) top (after look t) txns (omega arith) (omega arith) (omega arith))
 
--- ---- listing them
+-- ---- extending the list of writes
 
 pub written_more : (u : ℕ) (look : Look) (ks : List (List ℕ)) (i : ℕ) (d : List ℕ) → i < length ks
     → txn_writes u look (take (i + 1) ks) ≡ txn_writes u look (take i ks) ++ record { begin = u; key = get_or ks i d; cell = look (get_or ks i d) } ∷ []
@@ -87,7 +87,7 @@ written_more u look ks i d inside = rw (take_more ks i d inside) (pushed (take i
     pushed [] k = refl
     pushed (x ∷ xs) k = ap (λ (ws : List KeyedVersion). record { begin = u; key = x; cell = look x } ∷ ws) (pushed xs k)
 
--- one transaction more
+-- appending the next transaction's writes keeps the invariant: the list and the remaining writes are the whole
 pub written_step : (base : Look) (txns : List Txn) (first i : ℕ) (x : Txn) (out whole : List KeyedVersion) → slice_get txns i ≡ Some x
     → out ++ all_txn_writes (first + i) (state base txns i) (drop i txns) ≡ whole
     → (out ++ txn_writes (first + i) (state base txns (i + 1)) x.writes) ++ all_txn_writes (first + (i + 1)) (state base txns (i + 1)) (drop (i + 1) txns)
@@ -101,7 +101,7 @@ written_step base txns first i x out whole here h =
 pub all_at : {A : Type 0} (P : A → Type 0) (xs : List A) (i : ℕ) (x : A) → All P xs → slice_get xs i ≡ Some x → P x
 all_at P xs i x h e = subst P (get_or_from_slice_get xs i x x e) (h i x (slice_get_within xs i x e))
 
--- one key more
+-- appending the next key's write lists the writes of one more of the transaction's keys
 pub written_push : (u : ℕ) (look : Look) (ks : List (List ℕ)) (i : ℕ) (k : List ℕ) (c : Cell) (out : List KeyedVersion) → slice_get ks i ≡ Some k → look k ≡ c
     → (out ++ txn_writes u look (take i ks)) ++ record { begin = u; key = k; cell = c } ∷ [] ≡ out ++ txn_writes u look (take (i + 1) ks)
 written_push u look ks i k c out here is =

@@ -72,6 +72,10 @@ versions t k = versions_in t.chains k
 abbrev pub past : Timeline → ℕ → Look
 past t ts = λ k. cell_at ts (versions t k) Absent
 
+-- the greatest number that a count of versions tells
+abbrev pub most_counted : ℕ
+most_counted = 18446744073709551615
+
 -- the number of versions
 abbrev pub total : List (List ℕ × List Version) → ℕ
 total [] = 0

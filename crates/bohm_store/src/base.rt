@@ -26,6 +26,7 @@ pub fn cell_of(
     ensures cell { result ≡ past (timeline names.now numbered.now) ts key.now }
     ensures newest { IsCellAt ts (versions (timeline names.now numbered.now) key.now) result }
 {
+    // The call's contract says that the names are distinct.
     let _ = names.table();
     match names.find(key) {
         Some(number) => numbered.cell_at(number, ts),

@@ -6,7 +6,7 @@ ghost use Rattle.std.specs.Map.{keys_of};
 ghost use Rattle.std.specs.Str.{bytes_eq};
 ghost use Rattle.bohm_types.specs.Keys.{rising, names_of};
 ghost use Rattle.bohm_txn.specs.Stores.{cell_in, store_of};
-ghost use Rattle.bohm_store.specs.Versions.{past, total, versions};
+ghost use Rattle.bohm_store.specs.Versions.{most_counted, past, total, versions};
 ghost use Rattle.bohm_store.specs.Chains.{starting_versions};
 
 mod advance;
@@ -196,7 +196,7 @@ impl History {
     /// The number of kept versions, or `u64::MAX` if there are more. The time grows with the number
     /// of keys.
     pub fn version_count(&self) -> u64
-        ensures count { result ≡ min (total self.now.chains) 18446744073709551615 }
+        ensures count { result ≡ min (total self.now.chains) most_counted }
         ensures distinct { IsDistinct bytes_eq (keys_of self.now.chains) }
     {
         self.numbered.count(self.names.table())

@@ -10,7 +10,7 @@ ghost use Rattle.bohm_types.specs.Txn.{Txn};
 ghost use Rattle.bohm_log.specs.Layers.{all_names};
 ghost use Rattle.bohm_types.specs.declared.cell.Cell.TheVariants as cells;
 ghost use Rattle.bohm_txn.specs.Stores.{cell_in, store_of};
-ghost use Rattle.bohm_store.specs.Versions.{IsCellAt, Rises, cell_at, kept_versions};
+ghost use Rattle.bohm_store.specs.Versions.{IsCellAt, Rises, cell_at, kept_versions, most_counted};
 ghost use Rattle.bohm_store.specs.Versions.{past, total, versions, versions_to};
 ghost use Rattle.bohm_store.specs.Chains.{starting_versions};
 ghost use Rattle.bohm_store.specs.Nexts.{IsSettled, IsSettledKept};
@@ -332,8 +332,9 @@ impl NumberedHistory {
     pub fn count(&self, names: NameTable<'_>) -> u64
         requires { length self.now.newest ≤ length (all_names names) }
         ensures { result
-            ≡ min (total (timeline (all_names names.entry) self.now).chains) 18446744073709551615 }
+            ≡ min (total (timeline (all_names names.entry) self.now).chains) most_counted }
     {
+        // Only the contract needs the names.
         let _ = names;
         (count_held(&self.newest) as u64).saturating_add(self.older.len() as u64)
     }

@@ -1,4 +1,4 @@
--- A word is ahead where the line begins with it and a space.
+-- A word is ahead (`is_ahead`) exactly if the line begins with this word and a space.
 use Rattle.std.proofs.Common.{◌≡◌, ◌≢◌, ℕ, ◌<◌, true, false, List, [], ◌∷◌, ◌++◌, length, drop, Some, None, refl, ap, sym, ◌∙◌, arith}
 use Rattle.std.specs.Prelude.{Option, IfSome, IfNone, MatchOption, codes, is_some}
 use Rattle.std.specs.Borrow.{Bor}
@@ -31,21 +31,21 @@ ahead word (next ∷ words) some = (bytes_eq-Decides word word).1 refl
 found : (word line rest : List ℕ) → IsWithout 32 word → line ≡ word ++ 32 ∷ rest → split 32 line ≡ word ∷ split 32 rest
 found word line rest lacks e = ap (split 32) e ∙ split_more 32 word rest lacks
 
--- whether something stands behind a word and a space
+-- stripping `word` and a space succeeds exactly if the line's first word is `word` and another word follows
 pub is_begun : (word line : List ℕ) (r : Option (Bor (List ℕ))) → IsWithout 32 word → IfSome r (λ rest. line ≡ word ++ 32 ∷ rest.now)
     → IfNone r ((rest : List ℕ) → line ≢ word ++ 32 ∷ rest) → is_some r ≡ is_ahead word (split 32 line)
 is_begun word line None lacks some none = sym (not_ahead word line (split 32 line) refl none)
 is_begun word line (Some rest) lacks some none =
     sym (ap (is_ahead word) (found word line rest.now lacks some) ∙ ahead word (split 32 rest.now) (split-some 32 rest.now))
 
--- what stands behind a word and a space
+-- stripping `word` and a space leaves the words after the first word, or `is_ahead` is false
 pub behind_word : (word line : List ℕ) (r : Option (Bor (List ℕ))) → IsWithout 32 word → IfSome r (λ rest. line ≡ word ++ 32 ∷ rest.now)
     → IfNone r ((rest : List ℕ) → line ≢ word ++ 32 ∷ rest)
     → MatchOption r (is_ahead word (split 32 line) ≡ false) (λ rest. split 32 line ≡ word ∷ split 32 rest.now)
 behind_word word line None lacks some none = not_ahead word line (split 32 line) refl none
 behind_word word line (Some rest) lacks some none = found word line rest.now lacks some
 
--- `need` is compared before the space behind it
+-- `need` is stripped in two steps: the word, then the space after the word
 pub no_need : (line : List ℕ) → ((rest : List ℕ) → line ≢ codes "need" ++ rest) → is_ahead (codes "need") (split 32 line) ≡ false
 no_need line none = not_ahead (codes "need") line (split 32 line) refl (λ rest e. none (32 ∷ rest) e)
 

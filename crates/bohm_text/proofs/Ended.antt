@@ -1,4 +1,4 @@
--- A sum that was read has a term, so its statement is taken unless memory runs out.
+-- A sum that was read has a term, so a draft takes its statement unless an allocation fails.
 use Rattle.std.proofs.Common.{◌≡◌, ◌<◌, Bool, List, [], ◌∷◌, length, Some, None, Ok, Err, refl, ap, sym, subst, ◌∙◌, arith}
 use Rattle.std.specs.Prelude.{Option, Result, codes}
 use Rattle.std.specs.Option.{option_map}
@@ -18,7 +18,7 @@ use Rattle.bohm_text.specs.Reading.{Fails, Ending, Terms, sum_from, last_sum, af
 use Rattle.bohm_text.specs.Taking.{read_fault_of, taken, compared, with_terms, with_cond, Takes, TakesCond}
 use Rattle.bohm_text.proofs.Sounds.{sum_sound, bound_sound, last_sound, cond_sound}
 
--- ---- what was read has a term
+-- ---- a sum that was read has a term
 
 long : (d : Drafted) (sum : List (Bool × Atom)) → 0 < length sum → 0 < length (with_terms d sum).latest
 long d sum some = omega (some, length-append d.latest sum, arith)
@@ -33,7 +33,7 @@ sum_long d now words end e =
           subst (λ (x : Drafted). 0 < length x.latest) same (long d p.0 (sum_sound words p is).0)
     ] refl e
 
--- what was read stands behind the same keys
+-- reading a sum or a condition leaves the declared writes unchanged
 pub sum_behind : (d now : Drafted) (words : Words) (end : Ending) → taken d (sum_from words) ≡ Some (now, end) → d.txn.writes ≡ now.txn.writes
 sum_behind d now words end e = go (sum_from words) e
   where
@@ -77,7 +77,7 @@ module _ (d now : Drafted) (words : Words) where
             subst (λ (x : Drafted). 0 < length x.latest) same (long (with_sum (with_terms d c.left)) c.right (cond_sound words c is).1.0)
       ] refl e
 
--- ---- so a fault is that of memory
+-- ---- a fault is a failed allocation
 
 no_term : (terms : List (Bool × Atom)) → 0 < length terms → terms ≡ [] → ⊥
 no_term [] some e = absurd (omega (arith, some))

@@ -1,15 +1,15 @@
--- What the crates above cite of this crate's proofs. Each lemma is proved in the file of its subject.
+-- The lemmas of this crate that other crates cite. Each lemma is proved in the file of its subject.
 
 -- the lines of a document's text
 pub use Rattle.bohm_text.proofs.TextLaws.{lines_of_text}
 -- texts that are printed element by element
 pub use Rattle.bohm_text.proofs.Printed.{print_more, spaced_append, lines_append}
--- where a text is cut, by the place of its first cut
+-- how a text is split, by the index of its first separator
 pub use Rattle.bohm_text.proofs.Cuts.{IsCutAt, cut_from}
 -- lines of joined texts
 pub use Rattle.bohm_text.proofs.WindowLaws.{lines_begin}
 pub use Rattle.bohm_text.proofs.OpenLaws.{whole_ended, open_line}
--- windows behind the windows before them
+-- windows after the text of a document
 pub use Rattle.bohm_text.proofs.Placed.{longer, lines_short, chunk_placed, bad_placed, short_placed, open_placed, bad_begins}
--- replies behind others
+-- replies that follow other replies
 pub use Rattle.bohm_text.proofs.Numbered.{numbered-append}

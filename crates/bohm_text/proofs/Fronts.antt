@@ -1,4 +1,4 @@
--- A line that begins with a word and a space has that word first, and behind it the words of the rest.
+-- A line that begins with a word and a space splits into this word and the words of the rest.
 use Rattle.std.proofs.Common.{◌≡◌, ◌≢◌, ℕ, ◌+◌, Bool, true, false, List, [], ◌∷◌, ◌++◌, length, take, drop, Some, None, refl, ap, sym, ◌∙◌, arith}
 use Rattle.std.proofs.Common.{length-append}
 use Rattle.std.specs.Prelude.{Option, MatchOption, IfSome, IfNone, codes, nat_eq}
@@ -16,7 +16,7 @@ none_left : (xs : List ℕ) → length xs ≡ 0 → xs ≡ []
 none_left [] e = refl
 none_left (x ∷ xs) e = absurd (omega (arith, e))
 
--- what a search for a text at the front tells
+-- the result of stripping the prefix `front` from a line
 abbrev IsStripped : List ℕ → List ℕ → Option (Bor (List ℕ)) → Type 0
 IsStripped line front r = MatchOption r (pointwise nat_eq (take (length front) line) front ≡ false)
     (λ x. (pointwise nat_eq (take (length front) line) front ≡ true) × (x.now ≡ drop (length front) line) × (length x.now + length front ≡ length line))
@@ -54,7 +54,7 @@ module _ (line rest : List ℕ) where
   of_writes e None h = tt
   of_writes e (Some words) h = split_writes line rest words.now e h
 
--- a word that begins with a text is the text only if nothing follows
+-- a word that begins with a text is this text exactly if no bytes follow
 pub whole_word : (word text rest : List ℕ) (none : Bool) → word ≡ text ++ rest → none ≡ nat_eq (length rest) 0 → none ≡ bytes_eq word text
 whole_word word text rest none e h = same_from_decides none (bytes_eq word text) (there, back) (bytes_eq-Decides word text)
   where

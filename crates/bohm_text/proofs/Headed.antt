@@ -1,4 +1,4 @@
--- Lines that are read behind a head line.
+-- Lines that are read after a head line.
 use Rattle.std.proofs.Common.{◌≡◌, ℕ, ◌+◌, List, [], ◌∷◌, ◌++◌, length, Some, refl, ap, sym, ◌∙◌, arith, append_assoc}
 use Rattle.bohm_types.specs.declared.edition.Edition.{Edition}
 use Rattle.bohm_types.specs.declared.edition.Edition.TheVariants.{One, Two}
@@ -15,12 +15,12 @@ unfolding head_of
 head_read One = refl
 head_read Two = refl
 
--- the head line was read
+-- after the head line is read, the text itself is left to read
 pub read_head : (e : Edition) (text : List ℕ) → IsReadTo step Nothing (headed e text) 1 text (begun e)
 read_head e text = read_more (read_none step Nothing (headed e text)) (head_line e) text (headed_lines e text)
     (append_assoc (head_line e) (10 ∷ []) text) (begun e) (step-head (head_line e) e (head_read e))
 
--- a text is its rest behind its head line
+-- a text that begins with a head line is the headed text of its rest
 pub is_headed : (e : Edition) (text head others : List ℕ) → text ≡ head ++ 10 ∷ others → head_of head ≡ Some e → headed e others ≡ text
 is_headed e text head others bytes is = append_assoc (head_line e) (10 ∷ []) others
     ∙ (ap (λ (line : List ℕ). line ++ 10 ∷ others) (sym (head_takes head e is)) ∙ sym bytes)

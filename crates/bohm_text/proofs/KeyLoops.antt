@@ -1,4 +1,4 @@
--- Keys that are declared, one after the other.
+-- Adding declared keys to a draft, one after another.
 use Rattle.std.proofs.Common.{◌≡◌, ℕ, true, List, [], ◌∷◌, Some, None, refl, ap, sym, ◌∙◌, append_assoc}
 use Rattle.std.specs.Prelude.{Option}
 use Rattle.std.specs.Option.{option_map}
@@ -29,7 +29,7 @@ map-none : {X Y : Type 0} (f : X → Y) (read : Option X) → option_map f read 
 map-none f None e = refl
 map-none f (Some x) e = absurd cc
 
--- a set that keys are added to, one by one or all at once
+-- a declared set of a draft: adding keys one by one is the same as adding all keys at once
 module _ (one : Drafted → List ℕ → Drafted) (all : Drafted → Words → Drafted)
     (steps : (d : Drafted) (key : List ℕ) (keys : Words) → all d (key ∷ keys) ≡ all (one d key) keys) (stays : (d : Drafted) → all d [] ≡ d) where
   regroup : (d : Drafted) (key : List ℕ) (read : Option Words) → option_map (all d) (read >>= λ keys. Some (key ∷ keys)) ≡ option_map (all (one d key)) read

@@ -1,4 +1,4 @@
--- What stands behind a `need` is a condition, unless it is a test of a key's presence.
+-- The words after `need` are read as a condition, unless they test whether a key is present.
 use Rattle.std.proofs.Common.{◌≡◌, ℕ, Bool, true, false, cond, List, [], ◌∷◌, Some, None, refl, ap, sym, ◌∙◌}
 use Rattle.std.specs.Prelude.{Option, ◌||◌, codes}
 use Rattle.std.specs.Option.{option_map}
@@ -16,7 +16,7 @@ pub no_words : (words : Words) → words ≡ [] → need_of words ≡ option_map
 unfolding need_of cond_of sum_from
 no_words words e = rw e refl
 
--- one term is no condition
+-- a single term isn't a condition
 alone : (term : Option (Bool × Atom)) → ((term >>= λ t. longer t (Some ([], ending stops.End []))) >>= right_side) ≡ None
 alone None = refl
 alone (Some t) = refl
@@ -29,7 +29,7 @@ pub one_word : (words rest : Words) (word : List ℕ) → words ≡ word ∷ res
 unfolding need_of
 one_word words rest word e none = rw (e, none) (ap (option_map Need) (sym (one_is_none word)))
 
--- nothing stands behind the end of the left side
+-- two words aren't a condition, since no right side follows
 two_are_none : (word name : List ℕ) → cond_of (word ∷ name ∷ []) ≡ None
 unfolding cond_of sum_from terms_of last_sum
 two_are_none word name = ends (first_of word) (stop_of name)
@@ -52,7 +52,7 @@ untested word name e =
       | false ↦ elim no as Q [ true ↦ λ h. absurd cc | false ↦ λ _. refl ]
     ] e
 
--- neither `has` nor `no` is ahead
+-- words that begin neither with `has` nor with `no` and another word are read as a condition
 pub no_test : (words : Words) → is_ahead (codes "has") words || is_ahead (codes "no") words ≡ false → need_of words ≡ option_map Need (cond_of words)
 unfolding need_of
 no_test [] none = no_words [] refl
@@ -65,7 +65,7 @@ pub many_words : (words w1 w2 w3 : Words) (left cmp right : List ℕ) → words 
 unfolding need_of
 many_words words w1 w2 w3 left cmp right e1 e2 e3 = rw (e1, e2, e3) refl
 
--- the only two words
+-- exactly two words are read as a test of a key's presence
 pub test_alone : (words : Words) (word name : List ℕ) → words ≡ word ∷ name ∷ [] → need_of words ≡ presence_of word name
 unfolding need_of
 test_alone words word name e = rw e refl

@@ -1,4 +1,4 @@
--- The lines of joined replies are those of the first ones, and then those of the others, numbered from there on.
+-- The text of joined replies is the text of the first replies, then of the others, with numbers that continue.
 use Rattle.std.proofs.Common.{◌≡◌, ℕ, ◌+◌, ◌++◌, List, [], ◌∷◌, length, map, refl, ap, ◌∙◌, arith}
 use Rattle.std.proofs.lemmas.List.{map-append}
 use Rattle.std.proofs.lemmas.List.Concat.{flat_map-append}

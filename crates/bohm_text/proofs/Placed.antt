@@ -1,4 +1,4 @@
--- A window behind the windows before it.
+-- A window after the text of a document.
 use Rattle.std.proofs.Common.{◌≡◌, ℕ, suc, ◌+◌, ◌-◌, ◌≤◌, take, List, [], ◌∷◌, ◌++◌, length, ap, sym, subst, ◌∙◌, arith, append_assoc, length-append, Err}
 use Rattle.std.proofs.lemmas.List.{append-nil, take-append-le}
 use Rattle.std.specs.Prelude.{codes, ◌==◌, Bool, true, false, cond}
@@ -74,7 +74,7 @@ open_placed bytes lines d window rest n so_far begins whole is next =
     subst (λ (t : List ℕ). IsFirstBadLine (whole_lines (bytes ++ t)) (lines + (n + 1))) (append-nil (window ++ rest))
     (bad_placed bytes lines d (window ++ rest) [] (n + 1) so_far (longer window rest begins) (record { line = alone; within = within }))
 
--- ---- what was read
+-- ---- faults of windows and of whole texts
 
 pub window_fault : (e : Edition) (text : List ℕ) (fault : WindowFault) → ReadsBehind e text (Err fault) → ReadsWindow e text (Err fault)
 window_fault e text (Line n) h = record { line = bad_line (whole_lines (headed e text)) (n + 1) h.0; within = h.1 }
@@ -86,7 +86,7 @@ first_fault text (Line n) h = bad_line (whole_lines text) n h
 first_fault text (Open n) h = record { short = short text h.0; lines = h.1 }
 first_fault text NoMemory h = tt
 
--- a whole text's fault
+-- the fault of a whole text names its first bad line, or says that the text is short
 pub line_told : (text : List ℕ) (fault : WindowFault) (n : ℕ) → text_fault_of fault ≡ texts.Line n → ReadsText text (Err fault)
     → IsFirstBadLine (whole_lines text) n
 line_told text (Line m) n e h = let same : m ≡ n = cc in subst (IsFirstBadLine (whole_lines text)) same (bad_line (whole_lines text) m h)
@@ -98,7 +98,7 @@ short_told text (Line m) e h = absurd cc
 short_told text (Open m) e h = short text h.0
 short_told text NoMemory e h = absurd cc
 
--- a bad line stays the first one, whatever comes behind
+-- the first bad line stays the first one if more bytes follow
 pub bad_begins : (text rest : List ℕ) (n : ℕ) → IsFirstBadLine (whole_lines text) n → IsFirstBadLine (whole_lines (text ++ rest)) n
 bad_begins text rest n h =
     let next = lines_begin text rest in

@@ -8,7 +8,7 @@ use Rattle.bohm_text.specs.Print.{Words, line_text, lines_text, spaced}
 drop_at : {A : Type 0} (xs : List A) (i : ℕ) (x : A) → slice_get xs i ≡ Some x → drop i xs ≡ x ∷ drop (i + 1) xs
 drop_at xs i x e = rw add-one (drop-cons xs i x (slice_get_within xs i x e) ∙ ap (λ y. y ∷ drop (suc i) xs) (get_or_from_slice_get xs i x x e))
 
--- the text of the list from a place on: once its first element is printed, the text of the others is left
+-- after element i is printed, the text of the elements from index i + 1 on is left to print
 pub print_more : {A : Type 0} (text : List A → List ℕ) (xs : List A) (i : ℕ) (x : A) (out piece longer whole : List ℕ) → slice_get xs i ≡ Some x
     → text (x ∷ drop (i + 1) xs) ≡ piece ++ text (drop (i + 1) xs) → longer ≡ out ++ piece → out ++ text (drop i xs) ≡ whole
     → longer ++ text (drop (i + 1) xs) ≡ whole

@@ -1,4 +1,4 @@
--- The lines of a procedure are read again, so each procedure has one text.
+-- Reading a procedure's lines gives back the procedure, so two procedures never have the same text.
 use Rattle.std.proofs.Common.{◌≡◌, ℕ, true, false, List, [], ◌∷◌, ◌++◌, map, Some, refl, ap, sym, ◌∙◌, append_assoc}
 use Rattle.std.specs.Prelude.{codes, not}
 use Rattle.std.specs.List.{AllByRecursion}
@@ -109,7 +109,7 @@ unfolding stage_after edition_of
 head_step One = refl
 head_step Two = refl
 
--- from the reads on
+-- the lines after the reads complete the procedure
 body_stages : (e : Edition) (ks vs reads writes : Words) (body : List Stmt) → AllByRecursion IsName writes → AllByRecursion IsStmt body
     → are_declared ks reads writes ≡ true
     → stages (Reading e ks vs reads) (line_text (codes "writes" ∷ writes) ∷ map line_text (map stmt_words body ++ (codes "end" ∷ []) ∷ []))
@@ -146,7 +146,7 @@ procedure_stages p sound =
     ap (stages (Keys p.edition p.keys)) (map-append line_text (map value_words p.values) (tail_lines p.reads p.writes p.body)) ∙
     params_stages p.edition p.keys p.values p.reads p.writes p.body sound.values sound.apart_values sound.reads sound.writes sound.body sound.declared)))
 
--- ---- one text
+-- ---- no two procedures have the same text
 
 pub each_append : {A : Type 0} (P : A → Type 0) (xs ys : List A) → AllByRecursion P xs → AllByRecursion P ys → AllByRecursion P (xs ++ ys)
 each_append P [] ys h k = k

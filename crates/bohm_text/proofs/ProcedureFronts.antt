@@ -1,4 +1,4 @@
--- The first faulty line is the first that begins no procedure.
+-- The first line that the reader refuses is the first bad line of a procedure's text.
 use Rattle.std.proofs.Common.{◌≡◌, ℕ, ◌-◌, List, [], ◌∷◌, ◌++◌, map, take, true, Some, None, refl, ap, sym, subst, ◌∙◌, append_assoc}
 use Rattle.std.specs.Prelude.{Option, codes, IsSome, Result, Ok, Err, IfOk, drop, length}
 use Rattle.std.specs.List.{AllByRecursion, list_all}
@@ -50,7 +50,7 @@ declared_behind reads before (k ∷ ks) =
     ap (λ (ws : Words). list_all (is_declared reads ws) ks) (sym (append_assoc before (k ∷ []) ks)) ∙ declared_behind reads (before ++ k ∷ []) ks in
     and_from (is_declared reads (before ++ k ∷ ks) k) (list_all (is_declared reads (before ++ k ∷ ks)) ks) here more
 
--- keys that are all written are declared
+-- keys are all declared if the writes are these keys
 all_written : (ks reads : Words) → are_declared ks reads ks ≡ true
 all_written ks reads = declared_behind reads [] ks
 
@@ -60,7 +60,7 @@ made : (e : Edition) (ks vs reads writes : Words) (body : List Stmt) → ArePara
 made e ks vs reads writes body p r w b d = record
     { keys = p.keys; values = p.values; apart_keys = p.apart_keys; apart_values = p.apart_values; reads = r; writes = w; body = b; declared = d }
 
--- a procedure's lines, cut behind some
+-- any number of a procedure's first lines begin a procedure's text
 from_words : (p : Procedure) (before after : List Words) → IsProcedure p → procedure_lines p ≡ before ++ after → Front (map line_text before)
 from_words p before after sound e = record
     { procedure = p; sound = sound; more = map line_text after; begins = ap (map line_text) e ∙ map-append line_text before after }

@@ -1,4 +1,4 @@
--- Lines that are read are those of what they made, which is sound.
+-- Lines that are read are the lines of the stage that they lead to, and this stage is sound.
 use Rattle.std.proofs.Common.{◌≡◌, ℕ, true, false, cond, List, [], ◌∷◌, ◌++◌, map, Some, None, refl, ap, sym, subst, ◌∙◌, inl, inr, append_assoc}
 use Rattle.std.specs.Prelude.{codes}
 use Rattle.std.specs.List.{AllByRecursion}
@@ -26,7 +26,7 @@ use Rattle.bohm_text.proofs.Sounds.{stmt_sound, set_sound}
 use Rattle.bohm_text.proofs.StepTakes.{words_line, set_takes}
 use Rattle.bohm_text.proofs.ProcedureAgain.{new_first, each_append}
 
--- the lines that made this stage, as words
+-- the lines that lead to this stage, as words
 abbrev pub stage_words : Stage → List Words
 stage_words Nothing = []
 stage_words (Keys e ks) = procedure_words e ∷ map key_words ks
@@ -52,7 +52,7 @@ IsSound (Body e ks vs reads writes body) = AreParams ks vs × AllByRecursion IsN
     × AllByRecursion IsStmt body × (are_declared ks reads writes ≡ true)
 IsSound (Done p) = IsProcedure p
 
--- q is what p and this line make
+-- the line leads from stage p to stage q: q has one more line than p, and is sound if p is
 record Adds (p q : Stage) (line : List ℕ) : Type 0 where
   words : Words
   text : line_text words ≡ line
@@ -143,7 +143,7 @@ after_values_adds e ks vs q line (w ∷ ws) at h =
       | inr p ↦ reads_adds e ks vs q line (ap (reads_line e ks vs) at ∙ p.1)
     ]
 
--- no values yet
+-- a line that leads from `Values` without values to a stage leads there from `Keys`
 from_keys : (e : Edition) (ks : Words) (q : Stage) (line : List ℕ) → Adds (Values e ks []) q line → Adds (Keys e ks) q line
 from_keys e ks q line a = record {
   words = a.words;
@@ -240,7 +240,7 @@ stages_add p q (line ∷ lines) h =
     ∙ map_push line_text (stage_words p) a.words ∙ ap (λ (l : List ℕ). map line_text (stage_words p) ++ l ∷ []) a.text in
     (rest.0 ∙ ap (λ (r : List (List ℕ)). r ++ lines) here ∙ append_assoc (map line_text (stage_words p)) (line ∷ []) lines, λ s. rest.1 (a.kept s))
 
--- a text whose lines make a procedure is that procedure's
+-- a text whose lines are read as a procedure is the text of this procedure, which is valid
 pub procedure_found : (text : List ℕ) (p : Procedure) → stages Nothing (whole_lines text) ≡ Some (Done p) → text_of (whole_lines text) ≡ text
     → IsProcedure p × (print_procedure p ≡ text)
 procedure_found text p h whole =

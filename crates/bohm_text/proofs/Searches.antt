@@ -1,4 +1,4 @@
--- The first separator, as a search of many bytes at once finds it.
+-- Searching many bytes at once finds the first separator.
 use Rattle.std.proofs.Common.{◌≡◌, ℕ, zero, suc, ◌+◌, ◌*◌, ◌%◌, ◌^◌, ◌<◌, ◌≤◌, Bool, true, false, not, List, [], ◌∷◌, cond}
 use Rattle.std.proofs.Common.{map, take, replicate, w8, length, Option, Some, None, refl, ap, sym, subst, ◌∙◌, slice_index, arith}
 use Rattle.std.specs.Prelude.{◌==◌}
@@ -36,7 +36,7 @@ first_newline bytes (Some k) h =
     let here : 0 + k ≡ k = omega arith in
     sym (first_there (is_byte 10) bytes 0 k h.0.high (λ j less. h.0.before j (omega arith) less) h.1 ∙ ap Some here)
 
--- the first place stands inside
+-- an index that was found is within the bytes
 inside_from : (test : ℕ → Bool) (n : ℕ) (bytes : List ℕ) (at : ℕ) → position_from test n bytes ≡ Some at → at < n + length bytes
 inside_from test n [] at e = absurd cc
 inside_from test n (b ∷ bs) at e =
@@ -49,7 +49,7 @@ inside_from test n (b ∷ bs) at e =
 pub inside : (c : ℕ) (bytes : List ℕ) (at : ℕ) → position_from (λ b. b == c) 0 bytes ≡ Some at → at < length bytes
 inside c bytes at e = let far = inside_from (λ b. b == c) 0 bytes at e in omega (arith, far)
 
--- where a mask of the first bytes has a bit for the byte c, the lowest one is its first place
+-- if the mask of a block isn't 0, its lowest bit set is at the index of the first byte c
 module _ (c : ℕ) where
   abbrev other : ℕ → Bool
   other b = not (is_byte c b)
@@ -66,7 +66,7 @@ module _ (c : ℕ) where
         | false ↦ λ h. marked k (n + 1) bs (omega (arith, h)) ∙ ap Some (omega arith)
       ] some
 
-  -- the mask of a block of the first n bytes
+  -- the mask of a block of n bytes, with a bit set where the byte is c
   abbrev pub marks_of : ℕ → List ℕ → ℕ
   marks_of n block = mask_l (map (top 7) (zip2 (λ a b. cond (a == b) 255 0) block (replicate n c))) % 2 ^ 64
 

@@ -1,4 +1,4 @@
--- A sign with a space behind it is a word with another one behind it.
+-- A sign with a space after it is a word with another word after it.
 use Rattle.std.proofs.Common.{◌≡◌, ℕ, ◌<◌, Bool, true, false, cond, List, [], ◌∷◌, drop, get_or, length, Some, None, inl, inr, refl, sym, ◌∙◌, arith}
 use Rattle.std.specs.Prelude.{◌==◌, ◌&&◌, ◌||◌, nat_eq}
 use Rattle.std.proofs.lemmas.Bool.{eqb-true, or_cases}
@@ -13,7 +13,7 @@ both true true e = (refl, refl)
 both true false e = absurd cc
 both false t e = absurd cc
 
--- the first of some words, where others stand behind it
+-- a first word is read as a sign if other words follow
 ahead : (sign : List ℕ) (words : Words) → 0 < length words → sign_ahead (sign ∷ words) ≡ sign_of sign
 ahead sign [] some = absurd (omega (arith, some))
 ahead sign (word ∷ words) some = refl
@@ -46,7 +46,7 @@ two_onto a b [] some = absurd (omega (arith, some))
 two_onto a b (word ∷ []) some = refl
 two_onto a b (word ∷ next ∷ words) some = long a b word
 
--- a sign and a space are a word, and the words behind it
+-- bytes that begin with a sign and a space split into the sign and the words after the space
 pub signed_words : (bytes : List ℕ) → begins_signed bytes ≡ true → split 32 bytes ≡ (get_or bytes 0 0 ∷ []) ∷ split 32 (drop 2 bytes)
 unfolding begins_signed split
 signed_words [] e = absurd cc

@@ -1,4 +1,4 @@
--- The lines of a document are read again.
+-- Reading the lines of a document gives back the document.
 use Rattle.std.proofs.Common.{◌≡◌, ℕ, Bool, true, false, List, [], ◌∷◌, ◌++◌, map, Some, refl, ap, sym, ◌∙◌, arith, append_assoc}
 use Rattle.std.specs.Prelude.{ℤ, codes}
 use Rattle.std.specs.List.{flat_map, AllByRecursion}
@@ -23,7 +23,7 @@ use Rattle.bohm_text.proofs.WordLaws.{IsWord, words_lack, stmt_are_words, entry_
 pub cut : (w : List ℕ) (ws : Words) → AllByRecursion IsWord (w ∷ ws) → split 32 (line_text (w ∷ ws)) ≡ w ∷ ws
 cut w ws words = let lack = words_lack 32 (w ∷ ws) (omega arith) words in split_again w ws lack.0 lack.1
 
--- a line whose words are not the keyword's
+-- a line whose words differ from the keyword's words isn't the keyword
 pub other_line : (line keyword : List ℕ) → (split 32 line ≡ split 32 keyword → ⊥) → bytes_eq line keyword ≡ false
 other_line line keyword apart =
     let P : Bool → Type 0 = λ (t : Bool). bytes_eq line keyword ≡ t → t ≡ false in
@@ -49,7 +49,7 @@ entry_step edition store entry sound =
     two : (entry : List ℕ × ℤ) → store_words entry ≡ codes "txn" ∷ [] → ⊥
     two entry e = cc
 
--- a statement's line has the statement's words, and is not `end`
+-- a statement's line splits into the statement's words, and isn't `end`
 pub stmt_line : (s : Stmt) → IsStmt s → (split 32 (line_text (stmt_words s)) ≡ stmt_words s) × (bytes_eq (line_text (stmt_words s)) (codes "end") ≡ false)
 unfolding split
 stmt_line s sound = let words = stmt_cut s sound in (words, other_line (line_text (stmt_words s)) (codes "end") (λ e. not_end s (sym words ∙ e)))

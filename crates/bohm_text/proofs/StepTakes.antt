@@ -1,4 +1,4 @@
--- Lines that are read are the lines of what they made.
+-- Lines that are read are the lines of the progress that they lead to.
 use Rattle.std.proofs.Common.{◌≡◌, ℕ, ◌<◌, Bool, true, false, cond, List, [], ◌∷◌, ◌++◌, length, map}
 use Rattle.std.proofs.Common.{Some, None, refl, ap, sym, subst, ◌∙◌, arith, inl, inr, append_assoc}
 use Rattle.std.specs.Prelude.{ℤ, ◌==◌, codes}
@@ -49,7 +49,7 @@ map_append : {A B : Type 0} (f : A → B) (xs ys : List A) → map f (xs ++ ys) 
 map_append f [] ys = refl
 map_append f (x ∷ xs) ys = ap (λ r. f x ∷ r) (map_append f xs ys)
 
--- the lines that made this progress
+-- the lines that lead to this progress
 abbrev pub progress_lines : Progress → List (List ℕ)
 progress_lines Nothing = []
 progress_lines (Between d) = text_lines d
@@ -58,7 +58,7 @@ progress_lines (Reading d reads) = text_lines d ++ codes "txn" ∷ line_text (co
 progress_lines (Body d reads writes body) = text_lines d ++ codes "txn" ∷ line_text (codes "reads" ∷ reads) ∷ line_text (codes "writes" ∷ writes) ∷ map
     (λ s. line_text (stmt_words s)) body
 
--- ---- one line more
+-- ---- one more line
 
 entry_adds : (d : Document) (entry : List ℕ × ℤ) → d.log ≡ [] → text_lines (with_entry d entry) ≡ text_lines d ++ line_text (store_words entry) ∷ []
 entry_adds d entry none =

@@ -1,4 +1,4 @@
--- Reading a text line by line, each line by a step.
+-- Reading a text line by line, with one step for each line.
 use Rattle.std.proofs.Common.{◌≡◌, ℕ, zero, suc, false, ◌+◌, ◌-◌, ◌<◌, ◌≤◌, List, [], ◌∷◌, ◌++◌, length}
 use Rattle.std.proofs.Common.{take, Some, None, refl, ap, sym, ◌∙◌, arith, append_assoc, length-append}
 use Rattle.std.specs.Prelude.{Option, ◌==◌}
@@ -8,7 +8,7 @@ use Rattle.bohm_text.specs.Cut.{whole_lines}
 use Rattle.bohm_text.specs.Reading.{◌>>=◌}
 use Rattle.bohm_text.specs.Stepping.{after_lines, IsFirstRefused, IsLeftOpen}
 
--- the lines before the rest made this state
+-- `count` lines of the text were read, up to the bytes `rest`, and led to this state
 pub record IsReadTo {S : Type 0} (step : S → List ℕ → Option S) (start : S) (text : List ℕ) (count : ℕ) (rest : List ℕ) (state : S) : Type 0 where
   pub done : List (List ℕ)
   pub counted : length done ≡ count
@@ -32,7 +32,7 @@ lines-push {S} step p q done line next before now = lines-append step p done (li
     last None next e = e
     last (Some r) next e = e
 
--- refused lines are refused whatever follows them
+-- lines that are refused stay refused when more lines follow
 pub none_after : {S : Type 0} (step : S → List ℕ → Option S) (p : S) (lines more : List (List ℕ)) (q : S) → after_lines step p lines ≡ None
     → after_lines step p (lines ++ more) ≡ Some q → ⊥
 none_after {S} step p lines more q none e = let stopped : after_lines step p (lines ++ more) ≡ None = lines-append step p lines more ∙ rw none refl in cc
@@ -50,7 +50,7 @@ pub some_left : (n : ℕ) → false ≡ (n == 0) → 0 < n
 some_left zero e = absurd cc
 some_left (suc n) e = omega arith
 
--- nothing was read yet
+-- before any line is read, the state is the starting state
 pub read_none : {S : Type 0} (step : S → List ℕ → Option S) (start : S) (text : List ℕ) → IsReadTo step start text 0 text start
 read_none step start text = record { done = []; counted = refl; lines = refl; bytes = refl; read = refl; short = omega arith }
 

@@ -1,4 +1,4 @@
--- What is read of a line was spelled so.
+-- Words that were read as a value are that value's own words.
 use Rattle.std.proofs.Common.{◌≡◌, ℕ, zero, suc, ◌-◌, ◌^◌, Bool, cond, List, [], ◌∷◌, ◌++◌, Some, None, refl, ap, sym, subst, ◌∙◌, lit<, inl, inr}
 use Rattle.std.specs.Prelude.{Option, ℤ, pos, negsuc, ◌==◌, codes}
 use Rattle.std.specs.Option.{option_map}
@@ -24,13 +24,13 @@ use Rattle.bohm_text.proofs.WordTakes.{bind_some, map_some, chosen, if_some, key
 
 -- ---- sums
 
--- what stands after a sum
+-- the words from the end of a sum on
 abbrev pub ending_words : Ending → Words
 ending_words End = []
 ending_words (When words) = codes "when" ∷ words
 ending_words (Compared cmp words) = cmp_word cmp ∷ words
 
--- what a word decides, if it is this keyword or another one
+-- a case distinction on whether a word is this keyword
 pub by_word : {X : Type 0} (P : List ℕ → Type 0) (w word : List ℕ) (x rest : Option X) (r : X) → cond (bytes_eq w word) x rest ≡ Some r
     → (x ≡ Some r → P word) → (rest ≡ Some r → P w) → P w
 by_word P w word x rest r e here elsewhere =
@@ -54,7 +54,7 @@ stop_takes w stop words e =
     let m = map_some stops.Compared (cmp_of w) stop h in
     subst (λ (s : Stop). w ∷ words ≡ ending_words (ending s words)) m.2 (ap (λ (v : List ℕ). v ∷ words) (cmp_takes w m.0 m.1)))
 
--- the words of terms and of what ends them
+-- the words of further terms, and the words from the end of the sum on
 abbrev pub further_text : Terms → Words
 further_text p = flat_map further_words p.0 ++ ending_words p.1
 
@@ -69,7 +69,7 @@ stopped_takes w words p e =
 pub longer_some : (t : Bool × Atom) (read : Option Terms) (p : Terms) → longer t read ≡ Some p → (q : Terms) × (read ≡ Some q) × ((t ∷ q.0, q.1) ≡ p)
 longer_some t read p e = let b = bind_some read (λ q. Some (t ∷ q.0, q.1)) p e in (b.0, b.1, same_Some (t ∷ b.0.0, b.0.1) p b.2)
 
--- one term more, after a sign
+-- words that are read as a sign, a term and further terms are the words of these terms
 more_takes : (sign word : List ℕ) (minus : Bool) (ws : Words) (p : Terms) → sign_of sign ≡ Some minus
     → ((q : Terms) → terms_of ws ≡ Some q → ws ≡ further_text q)
     → (further_of minus word >>= λ term. longer term (terms_of ws)) ≡ Some p → sign ∷ word ∷ ws ≡ further_text p
@@ -129,7 +129,7 @@ cond_takes ws c e =
     let b = bind_some (sum_from ws) right_side c e in
     sum_takes ws b.0 b.1 ∙ right_takes b.0 c b.2
 
--- ---- lines
+-- ---- declared keys, statements and entries
 
 pub keys_take : (ws ks : List (List ℕ)) → keys_of ws ≡ Some ks → ws ≡ ks
 unfolding keys_of
@@ -226,7 +226,7 @@ unfolding fail_of
 fail_takes [] s e = subst (λ (t : Stmt). codes "fail" ∷ [] ≡ stmt_words t) (same_Some Fail s e) refl
 fail_takes (w ∷ ws) s e = absurd cc
 
--- a statement is read by its verb
+-- a case distinction on the verb of a statement
 pub by_verb : (P : List ℕ → Type 0) (verb : List ℕ) (ws : Words) (s : Stmt) → stmt_of (verb ∷ ws) ≡ Some s → (put_of ws ≡ Some s → P (codes "set"))
     → (bind_of ws ≡ Some s → P (codes "let")) → (need_of ws ≡ Some s → P (codes "need")) → (option_map Show (last_sum ws) ≡ Some s → P (codes "show"))
     → (remove_of ws ≡ Some s → P (codes "drop")) → (fail_of ws ≡ Some s → P (codes "fail")) → P verb

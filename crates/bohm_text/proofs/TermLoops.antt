@@ -1,4 +1,4 @@
--- Terms that are added to a draft, one after the other.
+-- Adding the terms of a sum to a draft, one after another.
 use Rattle.std.proofs.Common.{◌≡◌, ℕ, Bool, true, List, [], ◌∷◌, Some, None, Ok, Err, inl, inr, refl, ap, sym, subst, ◌∙◌, append_assoc}
 use Rattle.std.specs.Prelude.{Option, Result, ◌⊎◌}
 use Rattle.std.specs.Option.{option_map}
@@ -22,24 +22,24 @@ use Rattle.bohm_text.specs.Taking.{TakesTerms, taken, with_one, with_terms}
 
 -- ---- one term
 
--- a name in a sum is the key that is read
+-- a name is read as a term that reads this key
 pub read_taken : (minus : Bool) (word : List ℕ) (d now : Drafted) → is_name word ≡ true → now ≡ with_term d minus (Read word)
     → option_map (with_one d) (further_of minus word) ≡ Some now
 read_taken minus word d now e made = rw (further_again minus (Read word) refl e, made) refl
 
--- what was taken
+-- the term that the draft took is the term that was read
 pub took : (d now : Drafted) (read : Option (Bool × Atom)) → option_map (with_one d) read ≡ Some now
     → (term : Bool × Atom) × (read ≡ Some term) × (now ≡ with_one d term)
 took d now None e = absurd cc
 took d now (Some term) e = (term, refl, sym (same_Some (with_one d term) now e))
 
--- a fault that is handed on
+-- a fault of reading terms, passed on, is a right result of taking the terms
 pub fails_up : (r : Result Stop ReadFault) (fault : ReadFault) (read : Option Terms) (rest : Words) (before now : Drafted)
     → IsErrAnd r (λ other. other ≡ fault) → Fails fault read → TakesTerms r read rest before now
 fails_up (Ok stop) fault read rest before now is e = absurd is
 fails_up (Err other) fault read rest before now is e = subst (λ (f : ReadFault). Fails f read) (sym is) e
 
--- ---- one term more, or the end
+-- ---- a further term, or the end of a sum
 
 pub terms_of-sign : (words w1 w2 : Words) (sign word : List ℕ) (minus : Bool) (term : Bool × Atom) → words ≡ sign ∷ w1 → w1 ≡ word ∷ w2
     → sign_of sign ≡ Some minus → further_of minus word ≡ Some term → terms_of words ≡ longer term (terms_of w2)
@@ -51,14 +51,14 @@ pub terms_of-bad : (words w1 w2 : Words) (sign word : List ℕ) (minus : Bool) �
 unfolding terms_of
 terms_of-bad words w1 w2 sign word minus e1 e2 s t = rw (e1, e2, s, t) refl
 
--- no sign is ahead
+-- if the words don't begin with a sign and another word, the sum ends there
 pub terms_of-stop : (words : Words) → sign_ahead words ≡ None → terms_of words ≡ end_of words
 unfolding terms_of
 terms_of-stop [] h = refl
 terms_of-stop (sign ∷ []) h = refl
 terms_of-stop (sign ∷ word ∷ words) h = rw h refl
 
--- the sign that is ahead
+-- if a sign was found, the words are this sign and the words after the sign
 pub sign_taken : (words w1 : Words) (minus : Bool) → Some minus ≡ sign_ahead words → w1 ≡ behind_sign (Some minus) words
     → (sign : List ℕ) × (words ≡ sign ∷ w1) × (sign_of sign ≡ Some minus)
 sign_taken [] w1 minus h e = absurd cc

@@ -1,4 +1,4 @@
--- Each document has one text, and the first faulty line is the first that begins no document.
+-- No two documents have the same text, and the first line that the reader refuses is a text's first bad line.
 use Rattle.std.proofs.Common.{◌≡◌, ℕ, ◌-◌, true, false, List, [], ◌∷◌, take, Some, None, refl, ap, sym, subst, ◌∙◌, arith, append_assoc}
 use Rattle.std.specs.Prelude.{Option, codes, IsSome, ◌==◌}
 use Rattle.std.specs.List.{list_all, AllByRecursion}
@@ -40,7 +40,7 @@ lines_lack d sound = All-map IsLine (IsWithout 10) line_text (λ ws line. line_l
 pub lines_of_text : (d : Document) → IsDocument d → whole_lines (print_doc d) ≡ text_lines d
 lines_of_text d sound = lines_again (text_lines d) (lines_lack d sound)
 
--- ---- one text
+-- ---- no two documents have the same text
 
 pub text_steps : (d : Document) → IsDocument d → steps Nothing (whole_lines (print_doc d)) ≡ Some (Between d)
 text_steps d sound = ap (steps Nothing) (lines_of_text d sound) ∙ document_steps d sound
@@ -54,7 +54,7 @@ one_text d e sound_d sound_e same =
     (sym (text_steps d sound_d) ∙ (ap (λ (t : List ℕ). steps Nothing (whole_lines t)) same ∙ text_steps e sound_e)) in
     same_document d e read
 
--- ---- beginnings
+-- ---- lines that begin a document
 
 pub not_front : (ls : List (List ℕ)) → steps Nothing ls ≡ None → Front ls → ⊥
 not_front ls none front = none_after step Nothing ls front.more (Between front.document) none

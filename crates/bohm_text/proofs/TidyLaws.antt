@@ -31,16 +31,16 @@ lines_bytes [] all = tt
 lines_bytes (l ∷ ls) all = each_append IsTextByte (line_text l ++ 10 ∷ []) (lines_text ls)
     (each_append IsTextByte (line_text l) (10 ∷ []) (line_bytes l all.0.1) (refl, tt)) (lines_bytes ls all.1)
 
--- ---- bytes side by side
+-- ---- adjacent bytes
 
--- a byte of a word may stand beside any byte
+-- a byte of a word may be beside any byte
 after_word : (a b : ℕ) → IsWordByte a → IsApart a b
 after_word a b word = record { after_space = λ e. absurd (let above : 32 < a = word_byte-above a word in omega arith); before_space = λ _. word }
 
 before_word : (a b : ℕ) → IsWordByte b → IsApart a b
 before_word a b word = record { after_space = λ _. word; before_space = λ e. absurd (let above : 32 < b = word_byte-above b word in omega arith) }
 
--- the last byte, or the one before
+-- the last of these bytes, or the byte before them if there are none
 last_from : ℕ → List ℕ → ℕ
 last_from a [] = a
 last_from a (b ∷ bs) = last_from b bs
@@ -59,7 +59,7 @@ word_apart : (a : ℕ) (w : List ℕ) → AllByRecursion IsWordByte w → AreApa
 word_apart a [] all = tt
 word_apart a (b ∷ bs) all = (before_word a b all.0, word_apart b bs all.1)
 
--- a word's last byte, whatever stands before
+-- a word ends with a byte of a word, whatever byte precedes the word
 word_end : (a : ℕ) (w : List ℕ) → IsWord w → IsWordByte (last_from a w)
 unfolding last_from
 word_end a [] word = absurd cc
@@ -98,7 +98,7 @@ lines_apart (l ∷ ls) all =
     let next : AreApart (last_from 10 (line_text l ++ 10 ∷ [])) (lines_text ls) = rw (last_push 10 10 (line_text l)) (lines_apart ls all.1) in
     apart-append 10 (line_text l ++ 10 ∷ []) (lines_text ls) (line_apart 10 l all.0) next
 
--- ---- the end
+-- ---- the newline at the end, and whole texts
 
 ends_with : (l : Words) (ls : List Words) → (before : List ℕ) × (lines_text (l ∷ ls) ≡ before ++ 10 ∷ [])
 ends_with l [] = (line_text l, rw (append-nil (line_text l ++ 10 ∷ [])) refl)

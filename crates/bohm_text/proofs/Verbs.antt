@@ -1,4 +1,4 @@
--- A line that begins neither with `set` nor with `need` and more words is read by its other verbs.
+-- Words that begin neither with `set` nor with `need` and another word are read by the other verbs.
 use Rattle.std.proofs.Common.{◌≡◌, ℕ, Bool, true, false, List, [], ◌∷◌, refl}
 use Rattle.std.specs.Prelude.{codes}
 use Rattle.std.specs.Str.{bytes_eq}

@@ -1,4 +1,4 @@
--- What windows behind a document say of the whole text: its document, its first bad line, and that it ends too soon.
+-- The text of a document and the window after it: the document, the first bad line, or that the text is short.
 use Rattle.std.proofs.Common.{◌≡◌, ℕ, zero, suc, ◌+◌, ◌-◌, ◌≤◌, true, false, List, [], ◌∷◌, ◌++◌, length, map}
 use Rattle.std.proofs.Common.{take, Some, None, refl, ap, sym, subst, ◌∙◌, arith, append_assoc, length-append}
 use Rattle.std.specs.Prelude.{Option, Bool, codes, cond, IsSome, ◌==◌}
@@ -29,7 +29,7 @@ onto_first-append : (b : ℕ) (parts more : List (List ℕ)) → (r : List (List
 onto_first-append b [] more = (onto_first b more, refl)
 onto_first-append b (part ∷ parts) more = (more, refl)
 
--- the lines of a text are the first ones of a text that begins with it
+-- the complete lines of a text are the first lines of any text that continues this text
 pub lines_begin : (text rest : List ℕ) → (more : List (List ℕ)) × (whole_lines (text ++ rest) ≡ whole_lines text ++ more)
 unfolding whole_lines
 lines_begin [] rest = (whole_lines rest, refl)
@@ -62,7 +62,7 @@ headed_lines Two text = lines_on (segment Two []) (record { store = tt; log = tt
 pub window_lines : (text : List ℕ) (w : IsWindow text) → whole_lines text ≡ codes "txn" ∷ whole_lines w.behind
 window_lines text w = ap whole_lines w.begins ∙ line_again (codes "txn") w.behind (refl, (refl, (refl, tt)))
 
--- ---- beginnings
+-- ---- lines that begin a document
 
 pub front_read : (lines : List (List ℕ)) → Front lines → IsSome (steps Nothing lines)
 front_read lines begins = from (steps Nothing lines) refl
@@ -148,7 +148,7 @@ window_line d sound text rest window (suc k) h =
     lines_on d sound (text ++ rest) ∙ ap (λ (ls : List (List ℕ)). text_lines d ++ ls) (next.1 ∙ ap (λ (ls : List (List ℕ)). ls ++ next.0) are) in
     rw (all, lines_of d sound) (line_behind d sound lines next.0 k alone)
 
--- ---- the end
+-- ---- short texts
 
 whole_window : (d c : Document) → IsDocument d → IsDocument c → (text : List ℕ) → print_doc c ≡ print_doc d ++ text → text_of (whole_lines text) ≡ text
 whole_window d c sound_d sound_c text same =
@@ -156,7 +156,7 @@ whole_window d c sound_d sound_c text same =
     append_cancel_left (print_doc d) (text_of (whole_lines text)) text
     (sym (flat_map-append (λ line. line ++ 10 ∷ []) (text_lines d) (whole_lines text)) ∙ (ap text_of (sym (lines_on d sound_d text)) ∙ again))
 
--- whatever is a document behind another one, is a document alone
+-- if the progress after the document d is between transactions, the progress without d is, too
 alone_between : (d c : Document) (o : Option Progress) → option_map (behind d) o ≡ Some (Between c) → (b : Document) × (o ≡ Some (Between b))
 alone_between d c None e = absurd cc
 alone_between d c (Some Nothing) e = absurd cc
@@ -184,7 +184,7 @@ window_short d sound text window h =
           h.none b.0 is.0 is.1;
     }
 
--- ---- the document
+-- ---- the document with a window's transactions
 
 pub window_found : (d : Document) → IsDocument d → (log : List Txn) (text : List ℕ) → IsDocument (segment d.edition log)
     → print_doc (segment d.edition log) ≡ headed d.edition text → IsDocument (with_log d log) × (print_doc (with_log d log) ≡ print_doc d ++ text)

@@ -39,7 +39,7 @@ All-flat_map P Q f h (x ∷ xs) all = each_append Q (f x) (flat_map f xs) (h x a
 
 -- ---- words
 
--- at least one byte, and only bytes of words
+-- a word: at least one byte, and only bytes that words may have
 abbrev pub is_word : List ℕ → Bool
 is_word [] = false
 is_word (c ∷ cs) = is_word_byte c && list_all is_word_byte cs
@@ -190,7 +190,7 @@ pub names_are_words : (ks : Words) → AllByRecursion IsName ks → AllByRecursi
 names_are_words [] all = tt
 names_are_words (k ∷ ks) all = (name_word k all.0, names_are_words ks all.1)
 
--- a line has words
+-- a line is one or more valid words
 abbrev pub IsLine : Words → Type 0
 IsLine ws = (0 < length ws) × AllByRecursion IsWord ws
 

@@ -1,4 +1,4 @@
--- What is read of a word was spelled so.
+-- A word that was read as a value is that value's own word.
 use Rattle.std.proofs.Common.{◌≡◌, ℕ, ◌+◌, ◌-◌, ◌*◌, ◌^◌, ◌<◌, ◌≤◌, Bool, true, false, cond, List}
 use Rattle.std.proofs.Common.{[], ◌∷◌, length, Some, None, refl, sym, subst, lit<, arith, inl, inr}
 use Rattle.std.specs.Prelude.{Option, ◌⊎◌, ◌&&◌, ◌==◌, nat_le, nat_lt, codes}
@@ -20,7 +20,7 @@ use Rattle.bohm_text.specs.Print.{atom_word, first_word}
 use Rattle.bohm_text.specs.Reading.{◌>>=◌, digits_of, whole_of, lit_of, atom_of, first_of, sign_of, further_of, local_of}
 use Rattle.bohm_text.proofs.Digits.{digit_is}
 
--- ---- steps that succeed
+-- ---- optional values
 
 pub bind_some : {A B : Type 0} (o : Option A) (f : A → Option B) (y : B) → (o >>= f) ≡ Some y → (x : A) × (o ≡ Some x) × (f x ≡ Some y)
 bind_some None f y e = absurd cc

@@ -60,7 +60,7 @@ pub joined_end : (signs : Bool) (gap : Gap) (old : List (List ℕ)) (out whole :
 unfolding joined
 joined_end signs gap old out whole at so_far = sym (append-nil out) ∙ ap (λ (ws : List (List ℕ)). out ++ joined signs gap ws) (sym at) ∙ so_far
 
--- ---- lines
+-- ---- the lines of a text
 
 pub line_none : (bs : List ℕ) → position_from (λ b. b == 10) 0 bs ≡ None → split 10 bs ≡ bs ∷ []
 line_none bs e = subst (λ r. IsCutAt 10 bs 0 r) e (cut_from 10 0 bs)
@@ -79,7 +79,7 @@ fed_more v w rest line more whole cut now so_far = ap (λ (u : Written). fed_all
 pub fed_last : (v w : Written) (rest : List ℕ) (whole : Written) → split 10 rest ≡ rest ∷ [] → v ≡ fed w rest → fed_all w (split 10 rest) ≡ whole → v ≡ whole
 fed_last v w rest whole cut now so_far = now ∙ ap (fed_all w) (sym cut) ∙ so_far
 
--- ---- a line that was read
+-- ---- an exact line that is added
 
 pub added_none : (line : List ℕ) (w : Written) → length line ≡ 0 → added line w ≡ w
 unfolding added

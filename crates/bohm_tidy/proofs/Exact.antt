@@ -1,4 +1,4 @@
--- The lines of an exact text are no faulty ones.
+-- A text with a bad line is no document's text.
 use Rattle.std.proofs.Common.{◌≡◌, ℕ, List, take, drop, sym, ap, subst, ◌∙◌}
 use Rattle.std.proofs.lemmas.List.{take-append-drop}
 use Rattle.bohm_types.specs.Document.{Document}

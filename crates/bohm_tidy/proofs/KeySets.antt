@@ -1,4 +1,4 @@
--- A set in order has each of its keys once, and no others.
+-- The set of a list has exactly the list's keys, in ascending order and each once.
 use Rattle.std.proofs.Common.{◌≡◌, ℕ, Bool, true, false, cond, List, [], ◌∷◌, refl, ap, sym, subst, ◌∙◌}
 use Rattle.std.specs.Prelude.{◌||◌}
 use Rattle.std.specs.Cmp.{tied_itself}
@@ -32,7 +32,7 @@ tied a b e = same_key a b (sym (is_eq-slice_cmp a b) ∙ ap is_eq e)
 not_below_itself : (k : List ℕ) → ¬ (cmp k k ≡ Less)
 not_below_itself k e = let same : cmp k k ≡ Equal = tied_itself nat_list_cmp_total k in cc
 
--- ---- lists whose keys rise
+-- ---- lists of ascending keys
 
 pub rises_below : (a b : List ℕ) (ks : List (List ℕ)) → cmp a b ≡ Less → rises_from b ks ≡ true → rises_from a ks ≡ true
 rises_below a b [] under r = refl
@@ -40,7 +40,7 @@ rises_below a b (k ∷ ks) under r =
     let (first, rest) = and_parts (is_lt (cmp b k)) (rises_from k ks) r in
     both_true (ap is_lt (nat_list_cmp_total.trans a b k under (less (cmp b k) first))) rest
 
--- each key is above the one that they rise from
+-- each key of a list that ascends from a key is above that key
 above : (a : List ℕ) (ks : List (List ℕ)) → rises_from a ks ≡ true → (q : List ℕ) → is_among ks q ≡ true → cmp a q ≡ Less
 above a [] r q among = absurd cc
 above a (k ∷ ks) r q among =
@@ -60,7 +60,7 @@ absent_itself a ks r = false_from_ne_true (is_among ks a) (λ among. not_below_i
 among_itself : (k : List ℕ) (ks : List (List ℕ)) → is_among (k ∷ ks) k ≡ true
 among_itself k ks = rw (key_itself k) refl
 
--- ---- rising lists with the same keys are one
+-- ---- ascending lists with the same keys are equal
 
 abbrev SameKeys : List (List ℕ) → List (List ℕ) → Type 0
 SameKeys ks ns = (q : List ℕ) → is_among ks q ≡ is_among ns q
@@ -109,7 +109,7 @@ one_list (x ∷ xs) (y ∷ ys) r s same =
     let same' : SameKeys (x ∷ xs) (x ∷ ys) = subst (λ z. SameKeys (x ∷ xs) (z ∷ ys)) (sym first) same in
     ap (λ z. z ∷ xs) first ∙ ap (λ zs. y ∷ zs) (one_list_from x xs ys r s' (same_rest x xs ys r s' same'))
 
--- ---- a key put into a list
+-- ---- a key inserted into a list
 
 insert_from : (a k : List ℕ) (xs : List (List ℕ)) → cmp a k ≡ Less → rises_from a xs ≡ true → rises_from a (insert_key k xs) ≡ true
 unfolding insert_key
@@ -165,11 +165,11 @@ unfolding key_set
 key_set-among [] q = refl
 key_set-among (k ∷ ks) q = among_insert k (key_set ks) q ∙ ap (λ b. bytes_eq k q || b) (key_set-among ks q)
 
--- keys that rise are a set already
+-- the set of a list of ascending keys is the list itself
 pub key_set-settled : (ks : List (List ℕ)) → rising ks ≡ true → key_set ks ≡ ks
 key_set-settled ks r = one_list (key_set ks) ks (key_set-rises ks) r (key_set-among ks)
 
--- ---- sorted, and each key once
+-- ---- a sorted list without duplicates is the set of its keys
 
 strict_from : (a : List ℕ) (ks : List (List ℕ)) → IsStrictlySortedBy cmp (a ∷ ks) → rises_from a ks ≡ true
 unfolding IsStrictlySortedBy

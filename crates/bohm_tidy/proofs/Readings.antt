@@ -1,4 +1,4 @@
--- A text that was printed from what a loose one says is its exact text.
+-- If a text is read as a document, the text printed from the settled document is the tidied text.
 use Rattle.std.proofs.Common.{◌≡◌, ℕ, Bool, List, [], refl, ap, sym, ◌∙◌, inl}
 use Rattle.std.specs.List.{IsDistinct}
 use Rattle.std.specs.Str.{bytes_eq}
@@ -18,7 +18,7 @@ exactly text exact d sound prints distinct printed = record {
   is = printed;
 }
 
--- a document that was read from the exact lines of a text, and printed
+-- the text tidied by its lines, if the document was read from the text's exact lines
 pub read_by_lines : (text exact plain : List ℕ) (rs ws : List Bool) (w : Written) (d : Document) → w ≡ written text → w.text ≡ plain → w.no_reads ≡ rs
     → w.no_writes ≡ ws → print_doc d ≡ plain → IsDocument d → IsDistinct bytes_eq (names_of d.store) → exact ≡ print_doc (settled rs ws d)
     → IsTidiedByLines text exact

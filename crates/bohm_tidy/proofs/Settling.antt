@@ -1,4 +1,4 @@
--- A log that is printed transaction by transaction, its sets in order.
+-- A log that is printed transaction by transaction, with sorted sets.
 use Rattle.std.proofs.Common.{◌≡◌, ℕ, ◌+◌, Bool, List, ◌∷◌, ◌++◌, drop, Some, ap, sym, ◌∙◌, append_assoc}
 use Rattle.std.specs.List.{flat_map, slice_get}
 use Rattle.bohm_types.specs.Txn.{Txn}

@@ -1,4 +1,4 @@
--- A settled document is one, its keys rise, and one whose keys rise is settled.
+-- A settled document is sound, its keys ascend, and a document whose keys ascend is settled.
 use Rattle.std.proofs.Common.{◌≡◌, ℕ, Bool, true, false, cond, List, [], ◌∷◌, ◌++◌, refl, ap, ◌∙◌}
 use Rattle.std.specs.Prelude.{Some, None}
 use Rattle.std.specs.Cmp.Lexicographic.{slice_cmp}
@@ -23,7 +23,7 @@ use Rattle.bohm_tidy.proofs.Stores.{entries_rise, rising_entries, entries_sound}
 abbrev AreNames : List (List ℕ) → Type 0
 AreNames ks = AllByRecursion IsName ks
 
--- ---- names
+-- ---- the keys of sets are names
 
 insert_names : (k : List ℕ) (xs : List (List ℕ)) → IsName k → AreNames xs → AreNames (insert_key k xs)
 unfolding insert_key

@@ -1,4 +1,4 @@
--- A list of entries whose keys rise is the one of its store.
+-- Entries with ascending keys are the entries of their store.
 use Rattle.std.proofs.Common.{◌≡◌, ℕ, Bool, true, false, List, [], ◌∷◌, length, refl, ap, sym, subst, ◌∙◌, arith}
 use Rattle.std.specs.Prelude.{ℤ, T}
 use Rattle.std.specs.Cmp.Derive.{both_true}
@@ -31,7 +31,7 @@ truth : (b : Bool) → T b → b ≡ true
 truth true h = refl
 truth false h = absurd h
 
--- ---- rising keys, as the library says it
+-- ---- ascending keys and the library's sorted entries
 
 below_rising : (a : List ℕ) (es : Entries) → rises_from a (names_of es) ≡ true → below_all cmp a es ≡ true
 below_rising a [] r = refl
@@ -57,7 +57,7 @@ rising_sorted (e ∷ f ∷ es) s =
 pub entries_rise : (s : Store) → rising (names_of (finite.entries s)) ≡ true
 entries_rise s = rising_sorted (finite.entries s) (truth (is_sorted cmp (finite.entries s)) (finite.entries_sorted s))
 
--- entries whose keys rise are those of their store
+-- the store of entries with ascending keys has exactly these entries, in this order
 pub rising_entries : (es : Entries) → rising (names_of es) ≡ true → finite.entries (store_of es) ≡ es
 rising_entries es r =
     let here : T (is_sorted cmp es) = subst T (sym (sorted_rising es r)) tt in
@@ -65,7 +65,7 @@ rising_entries es r =
     (λ q. finite.get-from_sorted cmp es q here ∙ sym (finite.get-from_entries nat_list_cmp_total es q)) in
     ap (λ (s : Store). finite.entries s) (sym same) ∙ finite.entries-from_sorted cmp es here
 
--- ---- keys that rise differ
+-- ---- ascending keys are distinct
 
 differ_from : (a : List ℕ) (ks : List (List ℕ)) → rises_from a ks ≡ true → AllByRecursion (λ k. bytes_eq a k ≡ false) ks
 differ_from a [] r = tt
@@ -79,18 +79,18 @@ unfolding IsDistinct
 rising_distinct [] r = tt
 rising_distinct (k ∷ ks) r = (differ_from k ks r, rising_distinct ks (rising_rest k ks r))
 
--- ---- entries in another order
+-- ---- entries that were sorted
 
 pub distinct_moved : (es sorted : Entries) → IsPermutation es sorted → rising (names_of sorted) ≡ true → IsDistinct bytes_eq (names_of es)
 distinct_moved es sorted moved r = IsDistinct-IsPermutation bytes_eq nat_list_eq_equiv.symm (names_of sorted) (names_of es)
     (IsPermutation-map (λ (e : List ℕ × ℤ). e.0) sorted es (IsPermutation-sym es sorted moved)) (rising_distinct (names_of sorted) r)
 
--- once they rise, they are those of the store of the ones before
+-- entries sorted by key, each key once, are the entries of the unsorted entries' store
 pub entries_moved : (es sorted : Entries) → IsPermutation es sorted → rising (names_of sorted) ≡ true → sorted ≡ finite.entries (store_of es)
 entries_moved es sorted moved r = sym (rising_entries sorted r)
     ∙ ap (λ (s : Store). finite.entries s) (same_moved es sorted moved (distinct_moved es sorted moved r))
 
--- ---- the entries of a store are entries of the list
+-- ---- the store of sound entries has sound entries
 
 put_sound : (k : List ℕ) (z : ℤ) (es : Entries) → IsEntry (k, z) → AllByRecursion IsEntry es → AllByRecursion IsEntry (put cmp k z es)
 put_sound k z [] new all = (new, tt)

@@ -1,4 +1,4 @@
--- Tidying writes exact texts whose keys rise, and leaves those as they are.
+-- Tidying writes exact texts whose keys ascend, and leaves such texts unchanged.
 use Rattle.std.proofs.Common.{◌≡◌, ℕ, Bool, List, [], ap, sym, ⊎_elim, ◌∙◌}
 use Rattle.std.specs.Prelude.{None}
 use Rattle.bohm_types.specs.Document.{Document}

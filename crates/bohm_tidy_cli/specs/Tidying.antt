@@ -3,13 +3,14 @@ use Rattle.std.specs.Prelude.{ℕ, ◌≤◌, List, length, Option}
 use Rattle.std.specs.Io.KnownBytes.{Appends}
 use Rattle.bohm_answer.specs.Bytes.{ReadsAll, Sends}
 use Rattle.bohm_tidy.specs.Tidied.{IsTidied}
+use Rattle.bohm_types.specs.Limits.{longest_text}
 
 -- the reader's whole input is a text with this exact text, which isn't too long
 pub record ReadsLoose (unread unread' : Option (List ℕ)) (exact : List ℕ) : Type 0 where
   pub text : List ℕ
   pub read : ReadsAll unread unread' text
   pub tidied : IsTidied text exact
-  pub short : length exact ≤ 67108864
+  pub short : length exact ≤ longest_text
 
 -- only the exact text was written
 pub record Tidies (unread unread' written written' : Option (List ℕ)) : Type 0 where

@@ -1,4 +1,4 @@
--- Parts of a log that is well formed.
+-- A part of a well-formed log is well formed.
 use Rattle.std.proofs.Common.{ℕ, ◌-◌, List, All, drop}
 use Rattle.std.specs.List.{between}
 use Rattle.std.proofs.lemmas.List.Elements.{All-drop, All-take}

@@ -1,4 +1,4 @@
--- What `eval` answers, from what the tables hold in the end.
+-- The results of `eval`, from the tables at the end of the body.
 use Rattle.std.proofs.Common.{◌≡◌, ℕ, zero, suc, List, [], ◌∷◌, length, map, Ok, Err, ap, sym, ◌∙◌, subst, arith}
 use Rattle.std.specs.Prelude.{Result, All}
 use Rattle.std.specs.List.{AllByRecursion}
@@ -22,7 +22,7 @@ all_at P [] all k d within = absurd (omega arith)
 all_at P (x ∷ xs) all zero d within = all.0
 all_at P (x ∷ xs) all (suc k) d within = all_at P xs all.1 k d (omega arith)
 
--- a transaction that may be evaluated over these cells
+-- the transaction is well formed, with a cell for each declared key
 pub record IsCall (t : Txn) (reads earlier : List Cell) : Type 0 where
   pub well : IsWellFormedTxn t
   pub paired : length t.reads ≡ length reads
@@ -54,7 +54,7 @@ abort t look reads earlier f call same e =
     aborted t look earlier (body look t) f (subst (λ (r : Result Tables (Reason × ℕ)). EndAlike t look earlier (body look t) r) e
     (ends t look reads earlier call same))
 
--- an abort leaves the cells as they were
+-- an aborted transaction leaves the cells of its declared writes unchanged
 pub abort_cells : (t : Txn) (look : Look) (earlier : List Cell) (f : Reason × ℕ) → map look t.writes ≡ earlier → body look t ≡ Err f
     → map (after look t) t.writes ≡ earlier
 abort_cells t look earlier f same e = ap (λ (r : Ended). map (λ k. newest (writes_of r) k (look k)) t.writes) e ∙ same
@@ -62,14 +62,14 @@ abort_cells t look earlier f same e = ap (λ (r : Ended). map (λ k. newest (wri
 pub never_aborts : {A : Type 0} (t : Txn) (look : Look) (f : Reason × ℕ) → IsSure t → body look t ≡ Err f → A
 never_aborts t look f sure e = let (run, is) = sure_commits look t sure in absurd (let both = sym is ∙ e in cc)
 
--- what a run by places says of the transaction
+-- a run of the transaction that the parts represent is a run of t
 placed_run : (e : Edition) (p : Parts) (t : Txn) (reads earlier : List Cell) (r : Result Tables (Reason × ℕ)) → e ≡ t.edition → txn_of t.edition p ≡ t
     → tables_from (txn_of e p) (start reads earlier) 1 (txn_of e p).body ≡ r
     → tables_from t (start reads earlier) 1 t.body ≡ r
 placed_run e p t reads earlier r same placed ran =
     subst (λ (x : Txn). tables_from x (start reads earlier) 1 x.body ≡ r) (ap (λ (x : Edition). txn_of x p) same ∙ placed) ran
 
--- its answer, where it was run
+-- if the run over the tables ends well, the body commits over every look with these cells of the reads
 pub placed_commit : (e : Edition) (p : Parts) (t : Txn) (reads earlier : List Cell) (w : Tables) → IsCall t reads earlier → e ≡ t.edition
     → txn_of t.edition p ≡ t → tables_from (txn_of e p) (start reads earlier) 1 (txn_of e p).body ≡ Ok w → (look : Look) → map look t.reads ≡ reads
     → IsCommit t earlier (body look t) w

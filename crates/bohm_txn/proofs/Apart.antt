@@ -1,4 +1,4 @@
--- Rising keys differ from one another.
+-- Keys in ascending order differ from one another.
 use Rattle.std.proofs.Common.{◌≡◌, ℕ, zero, suc, ◌<◌, true, false, List, [], ◌∷◌, length, take, get_or, refl, sym, subst, arith}
 use Rattle.std.specs.Prelude.{◌||◌}
 use Rattle.std.specs.Cmp.{tied_itself}
@@ -30,7 +30,7 @@ pub among_then : (x k : List ℕ) (xs : List (List ℕ)) → IsAmong xs k → Is
 among_then x k xs among =
     elim (bytes_eq x k) as (λ b. (b || list_any (λ y. bytes_eq y k) xs) ≡ true) [ true ↦ refl | false ↦ among ]
 
--- no key stands twice
+-- no key occurs twice
 abbrev pub AllApart : List (List ℕ) → Type 0
 AllApart [] = Unit {0}
 AllApart (x ∷ xs) = (¬ IsAmong xs x) × AllApart xs
@@ -40,7 +40,7 @@ less Less e = refl
 less Equal e = absurd cc
 less Greater e = absurd cc
 
--- rising keys are above the one that they rise from
+-- if k and then the keys ascend, k is below each of the keys
 pub below_all : (k : List ℕ) (ks : List (List ℕ)) → rises_from k ks ≡ true → (q : List ℕ) → IsAmong ks q → slice_cmp nat_cmp k q ≡ Less
 below_all k [] e q among = absurd cc
 below_all k (n ∷ ns) e q among =
@@ -68,7 +68,7 @@ rising_apart (k ∷ ks) e = apart_from k ks e
 differs : (k : List ℕ) (ks : List (List ℕ)) (x : List ℕ) → ¬ IsAmong ks k → IsAmong ks x → bytes_eq k x ≡ false
 differs k ks x absent has = false_from_ne_true (bytes_eq k x) (λ e. absent (subst (λ (y : List ℕ). IsAmong ks y) (sym (same_key k x e)) has))
 
--- the key at a place stands at no place before
+-- in a list without duplicates, the key at an index doesn't occur before the index
 pub none_before : (ks : List (List ℕ)) (i : ℕ) (d : List ℕ) → i < length ks → AllApart ks → is_among (take i ks) (get_or ks i d) ≡ false
 none_before [] i d inside apart = absurd (omega arith)
 none_before (k ∷ ks) zero d inside apart = refl

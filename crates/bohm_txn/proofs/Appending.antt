@@ -1,4 +1,4 @@
--- A document stays well formed when a well-formed transaction comes.
+-- A document stays well formed when a well-formed transaction is appended.
 use Rattle.std.proofs.Common.{◌≡◌, ℕ, zero, suc, ◌<◌, ◌+◌, Bool, true, false, List, [], ◌∷◌, ◌++◌}
 use Rattle.std.proofs.Common.{length, Ok, Err, sym, ap, ◌∙◌, subst, arith, length-append}
 use Rattle.std.specs.Prelude.{Result, OnOk, OnErr, not, nat_le}

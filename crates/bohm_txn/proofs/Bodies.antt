@@ -1,4 +1,4 @@
--- What a body writes is declared, how many values it shows, and what it leaves.
+-- The keys that a body writes, the number of values that it shows, and the cells after it.
 use Rattle.std.proofs.Common.{◌≡◌, ℕ, suc, ◌+◌, Bool, true, false, cond, List, [], ◌∷◌, ◌++◌, length, map, Some, Ok, Err, refl, sym, ap, ◌∙◌, subst, arith}
 use Rattle.std.specs.Prelude.{ℤ, Result, if◌then◌else◌}
 use Rattle.std.specs.List.{AllByRecursion, slice_get}
@@ -25,12 +25,12 @@ use Rattle.bohm_txn.specs.Declares.{IsUsable, shows_in}
 use Rattle.bohm_txn.specs.Tables.{Tables, all_written, cell_at, run_with, step, taken, written}
 use Rattle.bohm_txn.proofs.BodyLaw.{same_body}
 
--- P holds of what a body that ended well did
+-- if the body ended well, P holds for its effects
 abbrev pub OnRun : (Run → Type 0) → Ended → Type 0
 OnRun P (Ok run) = P run
 OnRun P (Err fault) = Unit {0}
 
--- each key that is written is one of P
+-- P holds for each written key
 abbrev pub WritesOnly : (List ℕ → Type 0) → List (List ℕ × Cell) → Type 0
 WritesOnly P ws = AllByRecursion (λ w. P w.0) ws
 
@@ -38,7 +38,7 @@ only_more : (P : List ℕ → Type 0) (ws : List (List ℕ × Cell)) (k : List �
 only_more P [] k c all p = (p, tt)
 only_more P (w ∷ ws) k c all p = (all.0, only_more P ws k c all.1 p)
 
--- what one statement adds
+-- the statement writes only keys of P, and shows a value if it is a `Show`
 record Adds (P : List ℕ → Type 0) (s : Stmt) (ss : List Stmt) (before run : Run) : Type 0 where
   pub only : WritesOnly P before.writes → WritesOnly P run.writes
   pub shows : length before.shows + shows_in (s ∷ ss) ≡ length run.shows + shows_in ss
@@ -57,7 +57,7 @@ unfolding OnStep
 on_lacks Q run true q = tt
 on_lacks Q run false q = q
 
--- a step that may fail on the way is one of what it does
+-- Q holds after a step that evaluates something or fails, if Q holds with each value
 on_do : (Q : Run → Type 0) {A : Type 0} (r : Result A Reason) (f : A → Run) → ((x : A) → Q (f x)) → OnStep Q (then_do r f)
 unfolding OnStep
 on_do Q (Ok x) f q = q x
@@ -113,7 +113,7 @@ shows_written : (t : Txn) (w : Tables) (ps : List (List ℕ × Cell)) → (all_w
 shows_written t w [] = refl
 shows_written t w (p ∷ ps) = shows_written t (written t w p.0 p.1) ps
 
--- a statement adds the values that it shows to the tables
+-- a statement appends its shown values to the tables
 pub step_shows : (t : Txn) (w next : Tables) (s : Stmt) (ss : List Stmt) → step t w s ≡ Ok next
     → length w.shows + shows_in (s ∷ ss) ≡ length next.shows + shows_in ss
 unfolding OnStep
@@ -127,11 +127,11 @@ step_shows t w next s ss is =
           (sym (shows_written t (record w { locals = run.locals; shows = run.shows }) run.writes) ∙ ap (λ (n : Tables). n.shows) same))
     ] (adds (λ k. Unit {0}) (cell_at t.reads w.seen) s ss (run_with w []) (any_writes s)) is
 
--- the first of some statements shows no more than all of them
+-- statements show as many values as the first statement and the others together
 pub shows_first : (s : Stmt) (ss : List Stmt) → shows_in (s ∷ ss) ≡ shows_in (s ∷ []) + shows_in ss
 shows_first s ss = omega (arith, sum_by-cons (λ s. cond (is_show s) 1 0) s ss, sum_by-cons (λ s. cond (is_show s) 1 0) s [])
 
--- what a body from a statement on did
+-- the statements write only keys of P, and show a value for each `Show`
 record Did (P : List ℕ → Type 0) (ss : List Stmt) (before run : Run) : Type 0 where
   pub only : WritesOnly P before.writes → WritesOnly P run.writes
   pub shows : length before.shows + shows_in ss ≡ length run.shows
@@ -156,7 +156,7 @@ only_of : (P : List ℕ → Type 0) (ss : List Stmt) (r : Ended) → OnRun (Did 
 only_of P ss (Ok run) d = d.only tt
 only_of P ss (Err fault) d = tt
 
--- what is written is one of P, where each target is
+-- if each statement's target is a key of P, the body writes only keys of P
 pub writes_only : (P : List ℕ → Type 0) (look : Look) (t : Txn) → AllByRecursion (StmtWrites P) t.body → WritesOnly P (writes_of (body look t))
 writes_only P look t all = only_of P t.body (body look t) (did P t.edition look fresh 1 t.body all)
 
@@ -194,7 +194,7 @@ unwritten P (w ∷ ws) k c all not =
       | false ↦ λ e. unwritten P ws k c all.1 not
     ] refl
 
--- a key that isn't one of P keeps its cell, where each target is
+-- if each statement's target is a key of P, every other key keeps its cell
 pub kept_by : (P : List ℕ → Type 0) (look : Look) (t : Txn) (k : List ℕ) → AllByRecursion (StmtWrites P) t.body → ¬ P k → after look t k ≡ look k
 kept_by P look t k all not = unwritten P (writes_of (body look t)) k (look k) (writes_only P look t all) not
 
@@ -202,13 +202,13 @@ kept_by P look t k all not = unwritten P (writes_of (body look t)) k (look k) (w
 pub kept : (look : Look) (t : Txn) (k : List ℕ) → IsUsable t → ¬ IsAmong t.writes k → after look t k ≡ look k
 kept look t k usable not = kept_by (IsAmong t.writes) look t k usable.writes not
 
--- ---- over alike stores
+-- ---- bodies over two looks that agree on some keys
 
--- where the declared reads have the same cells, the body does the same
+-- if the declared reads have the same cells, the body has the same result
 pub same_reads : (look other : Look) (t : Txn) → IsUsable t → ((k : List ℕ) → IsAmong t.reads k → look k ≡ other k) → body look t ≡ body other t
 same_reads look other t usable same = same_body (IsAmong t.reads) t.edition look other same fresh 1 t.body usable.reads
 
--- and a key with the same cell before has the same cell after
+-- if the body has the same result over both looks, a key with equal cells before has equal cells after
 pub same_after : (look other : Look) (t : Txn) (k : List ℕ) → body look t ≡ body other t → look k ≡ other k → after look t k ≡ after other t k
 same_after look other t k e same = λ i. newest (writes_of (e i)) k (same i)
 
@@ -219,7 +219,7 @@ map_same f g (x ∷ xs) same =
     let rest : map f xs ≡ map g xs = map_same f g xs (λ j. same (suc j)) in
     λ i. first i ∷ rest i
 
--- keys of equal cells before have equal cells after
+-- if the body has the same result over both looks, keys with equal cells before have equal cells after
 pub same_cells : (look other : Look) (t : Txn) (ks : List (List ℕ)) → body look t ≡ body other t → ((k : List ℕ) → IsAmong ks k → look k ≡ other k)
     → map (after look t) ks ≡ map (after other t) ks
 same_cells look other t ks e same = map_same (after look t) (after other t) ks (λ j k at. same_after look other t k e (same k (among_at ks j k at)))

@@ -1,4 +1,4 @@
--- A body depends on the keys that it reads alone.
+-- A body depends only on the keys that it reads.
 use Rattle.std.proofs.Common.{◌≡◌, ℕ, ◌+◌, Bool, List, [], ◌∷◌, Option, Some, None, Ok, Err, refl, ap}
 use Rattle.std.specs.Prelude.{ℤ, pos, if◌then◌else◌}
 use Rattle.std.specs.List.{AllByRecursion}
@@ -14,7 +14,7 @@ use Rattle.bohm_txn.specs.Meaning.{compares, cond_value, guard_value, is_present
 use Rattle.bohm_types.specs.Accesses.{AtomReads, SumReads, StmtReads}
 use Rattle.std.specs.Ordering.{int_cmp}
 
--- each key of P holds the same
+-- the looks agree on each key of P
 abbrev pub Agree : (List ℕ → Type 0) → Look → Look → Type 0
 Agree P look other = (k : List ℕ) → P k → look k ≡ other k
 
@@ -63,7 +63,7 @@ same_stmt P look other same run (Remove k) reads = refl
 same_stmt P look other same run (Show sum) reads = λ i. then_do (same_sum P look other same run.locals sum reads.0.0 i) (show run)
 same_stmt P look other same run Fail reads = refl
 
--- what the statements before wrote is seen alike
+-- looks that agree on the keys of P still agree with the writes of earlier statements
 pub same_seen : (P : List ℕ → Type 0) (e : Edition) (look other : Look) (run : Run) → Agree P look other → Agree P (seen e look run) (seen e other run)
 same_seen P One look other run same = same
 same_seen P Two look other run same = λ k reads. ap (λ c. newest run.writes k c) (same k reads)

@@ -29,7 +29,7 @@ pub counted_no : {A : Type 0} (p : A → Bool) (xs : List A) (i : ℕ) (x : A) (
     → n ≡ count_by p (take (i + 1) xs)
 counted_no p xs i x n at isnt e = e ∙ sym (count_by_more_no p xs i x (slice_get_within xs i x at) (ap p (get_or_from_slice_get xs i x x at) ∙ isnt))
 
--- ---- keys that rise
+-- ---- keys in ascending order
 
 rises_next : (ks : List (List ℕ)) (i : ℕ) (a b : List ℕ) → slice_get ks i ≡ Some a → slice_get ks (i + 1) ≡ Some b
     → rising (drop i ks) ≡ (below a b && rising (drop (i + 1) ks))
@@ -76,7 +76,7 @@ pub log_step : (log : List Txn) (i : ℕ) (t : Txn) → slice_get log i ≡ Some
     → first_from find_txn i (drop i log) ≡ found_or (i + 1) (first_in_txn t) (first_from find_txn (i + 1) (drop (i + 1) log))
 log_step log i t at = rw (drop_at log i t at) refl
 
--- the search at a row
+-- a search from row i on finds the fault of row i, or else the first fault of the following rows
 pub body_searched : (e : Edition) (p : Parts) (rows : List StmtRow) (i : ℕ) (d : StmtRow) (o : Option CheckKind) → rows ≡ p.rows → i < length rows
     → o ≡ least (stmt_faulty (txn_of e p) (map (stmt_of p) (take i rows)) (stmt_of p (get_or rows i d)))
     → first_from (find_stmt (txn_of e p)) i (map (stmt_of p) (drop i rows)) ≡ found_or (i + 1) o

@@ -38,7 +38,7 @@ none_on find i (x ∷ xs) ys e =
       | Some b ↦ λ h. absurd cc
     ] e
 
--- the place behind so many
+-- the result of a search, with its index increased by n
 abbrev pub later : {B : Type 0} → ℕ → ℕ × B → ℕ × B
 later n p = (n + p.0, p.1)
 
@@ -64,24 +64,24 @@ log_on xs ys e =
 
 -- ---- a document's first fault
 
--- the document that goes on by these transactions
+-- the document with these transactions appended to its log
 abbrev more : Document → List Txn → Document
 more d txns = record d { log = d.log ++ txns }
 
 abbrev order : CheckFault
 order = record { txn = 0; stmt = 0; kind = Order }
 
--- where the store's keys rise, it is the log's
+-- if the store's keys ascend and the log isn't too long, the document's first fault is the log's
 in_rising : (d : Document) → rising (names_of d.store) ≡ true → length d.log ≤ 1000000 → first_in_doc d ≡ first_in_log d.log
 in_rising d rises few =
     let short : nat_le (length d.log) 1000000 ≡ true = grind (arith, nat_tests) in
     rw (rises, short) refl
 
--- and else it is the store's
+-- if the store's keys don't ascend, the document's first fault is the store's
 in_falling : (d : Document) → rising (names_of d.store) ≡ false → option_map fault_of (first_in_doc d) ≡ Some order
 in_falling d falls = rw falls refl
 
--- a fault is the store's, or the log's
+-- P holds if it holds in both cases: the store's keys ascend, or they don't
 by_store : (d : Document) (P : Type 0) → (rising (names_of d.store) ≡ true → P) → (rising (names_of d.store) ≡ false → P) → P
 by_store d P rises falls = cases (rising (names_of d.store)) refl
   where
@@ -95,9 +95,9 @@ to_log d found rises is few = is few ∙ ap (option_map fault_of) (in_rising d r
 to_doc : (d : Document) (found : Option CheckFault) → rising (names_of d.store) ≡ true → IsLogCheckedTo d.log found → IsCheckedTo d found
 to_doc d found rises is few = is few ∙ ap (option_map fault_of) (sym (in_rising d rises few))
 
--- ---- a chunk more
+-- ---- a document with one more chunk
 
--- the fault with its transaction counted up
+-- the fault, with its transaction's number increased by n
 abbrev pub counted_up : ℕ → CheckFault → CheckFault
 counted_up n f = record f { txn = n + f.txn }
 
@@ -131,7 +131,7 @@ checked_kept d ys (Some f) some is =
     (λ rises. to_doc (more d ys) (Some f) rises (log_kept d.log ys f (to_log d (Some f) rises is)))
     (λ falls few. is (omega (arith, few, length-append d.log ys)) ∙ (in_falling d falls ∙ sym (in_falling (more d ys) falls)))
 
--- a document without a fault so far, and what was found in the chunk
+-- if a document has no fault so far, its first fault with one more chunk is the chunk's
 checked_more : (d : Document) (ys : List Txn) (found : Option CheckFault) → IsCheckedTo d None → IsLogCheckedTo ys found
     → IsCheckedTo (more d ys) (option_map (counted_up (length d.log)) found)
 checked_more d ys found is here =
@@ -153,7 +153,7 @@ is_none (Some f) e = absurd cc
 pub more_none : (d : Document) (ys : List Txn) (r : Option CheckFault) → IsCheckedTo d None → IsLogCheckedTo ys r → r ≡ None → IsCheckedTo (more d ys) None
 more_none d ys r so_far is e = checked_more d ys None so_far (subst (IsLogCheckedTo ys) e is)
 
--- the count is that of the transactions, if there are not too many
+-- a count of transactions that is within the limit is exact
 pub exact : (n count : ℕ) → IsCountOf n count → count ≤ 1000000 → count ≡ n
 exact n count (inl e) few = e
 exact n count (inr many) few = absurd (omega (arith, many.1, few))
@@ -182,7 +182,7 @@ fault_within ys f (Some p) e same =
     let is : f ≡ fault_of p = cc in
     rw is (omega (arith, place_within find_txn 0 ys p e))
 
--- ---- the whole
+-- ---- the result of a whole check
 
 pub store_checked : (d : Document) → d.log ≡ [] → IsCheckedTo d (store_fault d.store)
 store_checked d none =

@@ -1,4 +1,4 @@
--- What a statement sees and writes at its places.
+-- The cells that a statement reads and writes by index.
 use Rattle.std.proofs.Common.{◌≡◌, ℕ, zero, suc, ◌<◌, ◌≤◌, Bool, true, false, List, [], ◌∷◌, length}
 use Rattle.std.proofs.Common.{map, Option, Some, None, slice_set, refl, ap, sym, ◌∙◌, arith}
 use Rattle.std.specs.Prelude.{Ok, Err, not, if◌then◌else◌}
@@ -28,7 +28,7 @@ use Rattle.bohm_txn.proofs.Apart.{rising_apart}
 use Rattle.bohm_txn.proofs.Places.{only_place}
 use Rattle.bohm_txn.proofs.Placing.{placed_read, unread_absent}
 
--- ---- what is read
+-- ---- cells that are read by index
 
 read_there : (keys : List (List ℕ)) (cells : List Cell) (i : ℕ) (c : Cell) → rising keys ≡ true → length keys ≡ length cells → i < length keys
     → slice_index_or cells i c ≡ cell_at keys cells (name_at keys i)
@@ -61,7 +61,7 @@ module _ (p : Parts) (cells : List Cell) (locals : Locals) where
   unread_number kinds.Read i up few inside is = absurd cc
   unread_number kinds.Local i up few inside is = absurd cc
 
--- ---- what is written
+-- ---- the tables with a cell written by index
 
 own_place : (keys : List (List ℕ)) (i : ℕ) → rising keys ≡ true → i < length keys → place keys (name_at keys i) ≡ Some i
 own_place keys i up inside = only_place keys (name_at keys i) (Some i) (rising_apart keys up) (slice_get-get_or keys i [] inside)
@@ -77,13 +77,13 @@ module _ (p : Parts) (w : Tables) (i : ℕ) (c : Cell) (up : rising p.writes ≡
   written_seen Two is = ap (λ (o : Option ℕ). record w { seen = replaced p.reads w.seen (name_at p.writes i) c; cells = set_from w.cells o c })
       (own_place p.writes i up inside)
 
--- ---- targets
+-- ---- whether a statement's target is a key
 
 pub is_key : (k : List ℕ) (o : Option (List ℕ)) → option_eq bytes_eq o (Some k) ≡ some_passes (λ x. bytes_eq x k) o
 is_key k None = refl
 is_key k (Some x) = refl
 
--- ---- what is tested
+-- ---- tests for the presence of a key
 
 module _ (e : Edition) (p : Parts) (r : StmtRow) (w : Tables) (v : Environment) (b : Bool) (same : v.txn.now ≡ p) (sees : look_of v ≡ cell_at p.reads w.seen)
     (has : b ≡ is_present (look_of v (key_at v.txn.now.reads v.txn.now.others r.declared r.name))) where
@@ -117,7 +117,7 @@ pub not_parts : (b c : Bool) → not b ≡ c → b ≡ not c
 not_parts true c is = ap not is
 not_parts false c is = ap not is
 
--- ---- what holds of each statement, at a place
+-- ---- a property of each statement, for the statement at an index
 
 pub each_at : {A B : Type 0} (P : B → Type 0) (f : A → B) (xs : List A) (i : ℕ) (d : A) → i < length xs → AllByRecursion P (map f xs)
     → P (f (slice_index_or xs i d))

@@ -1,12 +1,12 @@
--- What the crates above cite of this crate's proofs. Each lemma is proved in the file of its subject.
+-- The lemmas of this crate that other crates cite. Each lemma is proved in the file of its subject.
 
--- keys, and whether a list of them has one
+-- equal keys, and whether a key is in a list
 pub use Rattle.bohm_txn.proofs.Bodies.{same_key, key_itself, among_at}
 pub use Rattle.bohm_txn.proofs.Apart.{other_key, among_first, among_then}
--- keys that rise are apart, and how they compare
+-- keys in ascending order differ from one another, and how keys compare
 pub use Rattle.bohm_txn.proofs.Apart.{AllApart, rising_apart, none_before, less}
 pub use Rattle.bohm_txn.proofs.Lookups.{no_fall, same_at}
--- lists by places
+-- the rest of a list from an index on, and a property of all elements of two lists
 pub use Rattle.bohm_txn.proofs.Lists.{front, drop_at, each_append}
 -- a well-formed transaction, and its body over two looks
 pub use Rattle.bohm_txn.proofs.UseLaws.{usable, rising_writes}
@@ -22,8 +22,8 @@ pub use Rattle.bohm_txn.proofs.Listed.{same_moved, entries_listed}
 -- the check of a log in chunks
 pub use Rattle.bohm_txn.proofs.Chunked.{store_checked, checked_kept, no_store_fault, no_store_fault_of}
 pub use Rattle.bohm_txn.proofs.UseLaws.{few_txns}
--- the first fault of a document, of a transaction and of a statement
+-- the first fault of a document
 pub use Rattle.bohm_txn.proofs.FirstLaw.{well_formed, first_fault}
--- steps along a list of keys
+-- comparisons of consecutive keys
 pub use Rattle.bohm_txn.proofs.Checking.{falls, climbs}
 pub use Rattle.bohm_txn.proofs.Rises.{below}

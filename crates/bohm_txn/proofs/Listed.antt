@@ -20,7 +20,7 @@ use Rattle.bohm_txn.proofs.Stores.{same_nat}
 use Rattle.bohm_txn.proofs.Entries.{find_lookup, get-store_of}
 use Rattle.bohm_txn.proofs.Permuted.{lookup_permuted, distinct_permuted}
 
--- neither above nor equal
+-- an ordering that is neither greater nor equal is less
 less_by : (o r : Ordering) → r ≡ ordering_reverse o → is_lt r ≡ false → is_eq o ≡ false → o ≡ Less
 less_by Less r e above equal = refl
 less_by Equal r e above equal = absurd cc
@@ -36,7 +36,7 @@ below_more a b (e ∷ es) under h =
     let (first, rest) = and_parts (is_lt (slice_cmp nat_cmp b e.0)) (below_all (slice_cmp nat_cmp) b es) h in
     rw (nat_list_cmp_total.trans a b e.0 under (less _ first)) (below_more a b es under rest)
 
--- keys that don't fall and differ strictly rise
+-- keys that don't descend and differ from one another ascend strictly
 rises : (es : List (List ℕ × ℤ)) → ((k : ℕ) (d : List ℕ × ℤ) → suc k < length es → is_lt
     (slice_cmp nat_cmp (get_or es (suc k) d).0 (get_or es k d).0) ≡ false) → IsDistinct bytes_eq (keys_of es) → is_sorted (slice_cmp nat_cmp) es ≡ true
 unfolding IsDistinct
@@ -48,12 +48,12 @@ rises (e ∷ f ∷ es) sorted distinct =
     both_true (both_true (ap is_lt first) (below_more e.0 f.0 es first
     (and_parts (below_all (slice_cmp nat_cmp) f.0 es) (is_sorted (slice_cmp nat_cmp) es) rest).0)) rest
 
--- entries in another order are those of the same store
+-- a permutation of entries with distinct keys has the same store
 pub same_moved : (es items : List (List ℕ × ℤ)) → IsPermutation es items → IsDistinct bytes_eq (keys_of es) → store_of items ≡ store_of es
 same_moved es items moved distinct = finite.same_map nat_list_cmp_total same_nat _ _
     (λ q. get-store_of items q ∙ lookup_permuted es items moved distinct q ∙ sym (get-store_of es q))
 
--- once sorted they are listed as the store lists them
+-- entries with distinct keys, sorted by key, are in the order in which their store lists them
 pub entries_listed : (es items : List (List ℕ × ℤ)) → IsPermutation es items → IsDistinct bytes_eq (keys_of es)
     → IsSortedByKey (λ e. e.0) (slice_cmp nat_cmp) items → items ≡ finite.entries (store_of items)
 entries_listed es items moved distinct sorted =

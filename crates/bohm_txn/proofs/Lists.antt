@@ -1,4 +1,4 @@
--- Of lists: what is left from a place on, and what holds of each element of two.
+-- The rest of a list from an index on, and a property of all elements of two lists.
 use Rattle.std.proofs.Common.{◌≡◌, ℕ, suc, ◌+◌, ◌<◌, List, [], ◌∷◌, ◌++◌, length, get_or, drop, Some, ap, sym, ◌∙◌, add-one, drop-cons}
 use Rattle.std.specs.List.{AllByRecursion, slice_get}
 use Rattle.std.proofs.lemmas.Option.{slice_get_within, get_or_from_slice_get}

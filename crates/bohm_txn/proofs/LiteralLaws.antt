@@ -1,4 +1,4 @@
--- The totals of literals say whether a sum is sure.
+-- A sum is sure if and only if all its terms are literals and their total is in range.
 use Rattle.std.proofs.Common.{◌≡◌, ℕ, ◌+◌, ◌^◌, Bool, true, false, List, [], ◌∷◌, Some, None, Ok, Err, refl, ap, sym, ◌∙◌, arith}
 use Rattle.std.specs.Prelude.{ℤ, pos, negsuc, ◌-ℤ◌, ◌&&◌, nat_lt, nat_le, is_ok, if◌then◌else◌}
 use Rattle.std.specs.List.{list_all}

@@ -1,4 +1,4 @@
--- Entries in another order: a look-up by key finds the same, where the keys differ.
+-- A look-up by key finds the same value in a permutation of entries with distinct keys.
 use Rattle.std.proofs.Common.{◌≡◌, ℕ, List, Some, None, refl, sym, ◌∙◌}
 use Rattle.std.specs.Prelude.{Option}
 use Rattle.std.specs.Map.{lookup, keys_of}

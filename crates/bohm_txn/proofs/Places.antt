@@ -1,4 +1,4 @@
--- The places of keys that rise.
+-- The indices of keys in ascending order.
 use Rattle.std.proofs.Common.{◌≡◌, ℕ, zero, suc, ◌+◌, Bool, true, false, cond, List, [], ◌∷◌, Option, Some, None, refl, ap, sym, ◌∙◌, subst, add-one}
 use Rattle.std.specs.Option.{option_map}
 use Rattle.std.specs.List.{list_any, position_from}
@@ -21,7 +21,7 @@ later t i (x ∷ xs) =
 pub place-cons : (x : List ℕ) (xs : List (List ℕ)) (k : List ℕ) → place (x ∷ xs) k ≡ cond (bytes_eq x k) (Some 0) (option_map suc (place xs k))
 place-cons x xs k = ap (λ o. cond (bytes_eq x k) (Some 0) o) (later (λ y. bytes_eq y k) 0 xs)
 
--- a place of a key is its only one
+-- in a list without duplicates, `place` finds a key's index, or `None` if the key isn't in the list
 pub only_place : (keys : List (List ℕ)) (k : List ℕ) (o : Option ℕ) → AllApart keys → IsPlaceOf keys k o → place keys k ≡ o
 only_place [] k None apart h = refl
 only_place [] k (Some i) apart h = absurd cc

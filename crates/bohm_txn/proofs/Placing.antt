@@ -1,4 +1,4 @@
--- What places say of keys, terms and statements.
+-- Keys, terms and statements, from the indices that denote them.
 use Rattle.std.proofs.Common.{◌≡◌, ℕ, suc, ◌-◌, ◌+◌, ◌<◌, ◌≤◌, Bool, true, false, List, [], ◌∷◌, ◌++◌, length}
 use Rattle.std.proofs.Common.{take, drop, map, All, Some, None, refl, ap, sym, subst, ⊎_elim, ◌∙◌, arith}
 use Rattle.std.specs.Prelude.{not, ◌&&◌, ◌||◌, ◌==◌}
@@ -32,7 +32,7 @@ use Rattle.bohm_txn.proofs.Bodies.{among_at, key_itself}
 use Rattle.bohm_txn.proofs.Apart.{other_key}
 use Rattle.bohm_txn.proofs.Places.{cell_at_place}
 
--- ---- cells
+-- ---- the cell of a key at an index, and of an undeclared key
 
 pub placed_read : (keys : List (List ℕ)) (cells : List Cell) (i : ℕ) → rising keys ≡ true → i < length keys
     → cell_at keys cells (name_at keys i) ≡ slice_index_or cells i Absent
@@ -161,7 +161,7 @@ end_within p r h =
     let (rises, below) = end_by_rises r.action r.start r.first r.second r.third h.first h.second h.third in
     (rises, omega (arith, below, h.end))
 
--- ---- names that stand at one place
+-- ---- whether a statement binds the name at an index
 
 pub same_place : (names : List (List ℕ)) (i j : ℕ) → IsDistinct bytes_eq names → i < length names → j < length names
     → bytes_eq (name_at names i) (name_at names j) ≡ (i == j)

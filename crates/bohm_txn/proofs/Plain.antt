@@ -1,4 +1,4 @@
--- A statement has no fault whose terms are at hand, whose key is declared and whose sums are short.
+-- A plain row has no fault if its terms are literals, declared reads or bound locals, and the name it binds is new.
 use Rattle.std.proofs.Common.{◌≡◌, ℕ, suc, ◌-◌, ◌≤◌, Bool, true, false, List, [], ◌∷◌, length, drop, map, All, None, refl, ap, sym, ◌∙◌, arith}
 use Rattle.std.specs.Prelude.{not, ◌&&◌, nat_le}
 use Rattle.std.specs.List.{IsDistinct, between, list_all}
@@ -39,7 +39,7 @@ all_sums f Remove n x y z a b c = refl
 all_sums f Show n x y z a b c = rw a refl
 all_sums f Fail n x y z a b c = refl
 
--- ---- terms at hand
+-- ---- terms that are literals, declared reads or locals with a note
 
 both : (a b : Bool) → (a && b) ≡ true → (a ≡ true) × (b ≡ true)
 both true b h = (refl, h)
@@ -79,7 +79,7 @@ module _ (noted : List Bool) where
         let (here, later) = both _ _ h in
         rw (local_bound t.kind t.place (within 0 t (omega arith)) here, locals_are_bound ts (λ i d l. within (suc i) d (omega arith)) later) refl
 
--- ---- placed names
+-- ---- statements whose key is declared, if they have one
 
 tests_declared : (a : Action) (b : Bool) → is_placed a b ≡ true → (tests_key a && not b) ≡ false
 tests_declared Bind b h = refl
@@ -103,7 +103,7 @@ writes_declared Remove b h = rw h refl
 writes_declared Show b h = refl
 writes_declared Fail b h = refl
 
--- ---- the three parts of the terms
+-- ---- a property of all terms of a row, for its three sums
 
 module _ (p : Parts) (f : Bool × Atom → Bool) where
   parts : (i j k l : ℕ) → i ≤ j → j ≤ k → k ≤ l → list_all f (sum_between p i l) ≡ true
@@ -114,7 +114,7 @@ module _ (p : Parts) (f : Bool × Atom → Bool) where
       let (second, third) = both _ _ (sym (list_all-append f (sum_between p j k) (sum_between p k l)) ∙ ap (list_all f) (two_sums p j k l b c) ∙ others) in
       (first, (second, third))
 
--- ---- no fault
+-- ---- the statement of a plain row has no fault
 
 no_least : (f : CheckKind → Bool) → f Order ≡ false → f Unread ≡ false → f Unwritten ≡ false → f Local ≡ false → f Limit ≡ false → least f ≡ None
 no_least f a b c d e = rw (a, b, c, d, e) refl
@@ -140,7 +140,7 @@ module _ (p : Parts) (r : StmtRow) (few_reads : length p.reads ≤ 16) (few_writ
   abbrev third_sum : List (Bool × Atom)
   third_sum = sum_between p r.second r.third
 
-  -- what holds of the three sums holds of those that the statement has
+  -- a property of the row's three sums holds for all sums of its statement
   of_sums : (f : List (Bool × Atom) → Bool) → f first_sum ≡ true → f second_sum ≡ true → f third_sum ≡ true → list_all f (sums (stmt_of p r)) ≡ true
   of_sums f a b c = all_sums f r.action _ first_sum second_sum third_sum a b c
 
@@ -153,7 +153,7 @@ module _ (p : Parts) (r : StmtRow) (few_reads : length p.reads ≤ 16) (few_writ
       (is_short p r.first r.second row.second (omega (arith, row.third, row.end)) second)
       (is_short p r.second r.third row.third row.end third))
 
-  -- what holds of each term holds of those in the statement's sums
+  -- a property of each term of the row holds for all terms of its statement's sums
   plain_terms : (f : Bool × Atom → Bool) → list_all f (sum_between p r.start r.third) ≡ true → list_all (list_all f) (sums (stmt_of p r)) ≡ true
   plain_terms f h =
       let (first, (second, third)) = parts p f r.start r.first r.second r.third row.first row.second row.third h in

@@ -1,4 +1,4 @@
--- The replies that rows are of, where rows and values come and go.
+-- The replies that rows represent, when rows and values are appended or removed.
 use Rattle.std.proofs.Common.{◌≡◌, ℕ, ◌-◌, ◌≤◌, List, [], ◌∷◌, ◌++◌, length, take, drop, map, refl, ap, sym, ◌∙◌, arith, length-append}
 use Rattle.std.specs.Prelude.{ℤ}
 use Rattle.std.specs.List.{All, AllByRecursion, between}
@@ -17,7 +17,7 @@ between-front xs more i j within rises =
     let room : j - i ≤ length (drop i xs) = omega (arith, length-drop i xs) in
     rw (drop-append-le i xs more short) (take-append-le (j - i) (drop i xs) more room)
 
--- what stands by the values stands by more of them
+-- a row within the values has the same reply after values are appended
 same_reply : (values more : List ℤ) (row : ReplyRow) → IsInside values row → reply_by (values ++ more) row ≡ reply_by values row
 same_reply values more (Commit start end) h = ap replies_are.Commit (between-front values more start end h.1 h.0)
 same_reply values more (Abort reason stmt) h = refl
@@ -31,7 +31,7 @@ same_replies : (values more : List ℤ) (rows : List ReplyRow) → AllByRecursio
 same_replies values more [] h = refl
 same_replies values more (r ∷ rs) h = rw (same_reply values more r h.0, same_replies values more rs h.1) refl
 
--- ---- a commit came
+-- ---- a commit is appended
 
 last_shows : (values shows : List ℤ) → between (length values) (length (values ++ shows)) (values ++ shows) ≡ shows
 last_shows values shows = between_to_end (values ++ shows) (length values) (length (values ++ shows)) (omega arith) ∙ drop_at values shows (length values) refl
@@ -53,7 +53,7 @@ commit_inside rows values shows new_rows new_values a inside = rw (a.row, a.show
     All-push (IsInside all) rows (Commit (length values) (length all)) (All-weaker (IsInside values) (IsInside all) (still_inside values shows) rows inside)
     (omega (arith, length-append values shows), omega arith))
 
--- ---- the last ones went
+-- ---- the last rows are removed
 
 pub replies_taken : (values : List ℤ) (rows some : List ReplyRow) (n : ℕ) → some ≡ take n rows
     → map (reply_by values) some ≡ take n (map (reply_by values) rows)

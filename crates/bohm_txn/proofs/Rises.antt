@@ -1,4 +1,4 @@
--- What `is_sorted_by` answers on keys.
+-- The answer of `is_sorted_by` on keys is whether they ascend.
 use Rattle.std.proofs.Common.{◌≡◌, ℕ, zero, suc, ◌<◌, List, [], ◌∷◌, length, map, get_or, Bool, true, false, refl, arith, add-one, subst}
 use Rattle.std.specs.Prelude.{◌&&◌}
 use Rattle.std.specs.Ordering.{nat_cmp, is_lt}

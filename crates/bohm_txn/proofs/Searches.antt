@@ -1,19 +1,19 @@
--- A search along a list finds the first place with the least fault there.
+-- A search along a list finds the first faulty index, and the least fault there.
 use Rattle.std.proofs.Common.{◌≡◌, ℕ, zero, suc, ◌+◌, ◌<◌, List, [], ◌∷◌, Bool, true, false, Option, Some}
 use Rattle.std.proofs.Common.{None, ◌⊎◌, inl, inr, refl, sym, ◌∙◌, subst, arith, add-zero, zero-add}
 use Rattle.bohm_txn.specs.Faulty.{passes_at}
 use Rattle.bohm_txn.specs.FirstFault.{found_or, first_from}
 
--- what is found is the least that passes; where nothing is found, nothing passes
+-- an element that was found passes, and no lesser element does; if none was found, no element passes
 abbrev pub IsLeast : {B : Type 0} → (B → B → Type 0) → (B → Bool) → Option B → Type 0
 IsLeast {B} lt P None = (b : B) → P b ≡ false
 IsLeast {B} lt P (Some b) = (P b ≡ true) × ((c : B) → lt c b → P c ≡ false)
 
--- by place, and then by what is there
+-- an earlier index, or the same index with a lesser element
 abbrev pub Sooner : {B : Type 0} → (B → B → Type 0) → ℕ × B → ℕ × B → Type 0
 Sooner lt p q = (p.0 < q.0) ⊎ ((p.0 ≡ q.0) × lt p.1 q.1)
 
--- the test of the element at this place, by its index counted from i
+-- the element at this index passes the test, which takes indices counted from i
 abbrev pub within : {A B : Type 0} → (ℕ → A → B → Bool) → ℕ → List A → ℕ → B → Bool
 within Q i [] j b = false
 within Q i (x ∷ xs) zero b = Q i x b
@@ -65,7 +65,7 @@ from_law lt Q find each i (x ∷ xs) =
       | Some b ↦ λ h. record { at = 0; place = omega arith; holds = h.0; before = here_before lt Q i x xs b h.1 }
     ] (each i x)
 
--- place 0 stands before the list
+-- the element found at index 0, or else in the list following index 0, is the first of all
 pub front_law : {A B : Type 0} (lt : B → B → Type 0) (Q : ℕ → A → B → Bool) (P : ℕ → B → Bool) (xs : List A)
     → ((j : ℕ) (b : B) → P (suc j) b ≡ within Q 0 xs j b) → (head : Option B) → IsLeast lt (P 0) head → (o : Option (ℕ × B)) → IsFound lt Q 0 xs o
     → IsLeast (Sooner lt) (λ p. P p.0 p.1) (found_or 0 head o)

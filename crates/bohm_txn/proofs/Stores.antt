@@ -1,4 +1,4 @@
--- A store's cells go as the looks do, and say which store it is.
+-- The cells of a store after writes and after transactions; stores with the same cells are equal.
 use Rattle.std.proofs.Common.{◌≡◌, ℕ, Bool, true, false, cond, List, [], ◌∷◌, length, Option, Some, None, refl, ap, ◌∙◌}
 use Rattle.std.specs.Prelude.{ℤ, if◌then◌else◌}
 use Rattle.std.specs.Ordering.{nat_cmp, eq_by_cmp}
@@ -47,6 +47,6 @@ same_option (Some z) (Some y) e = let same : z ≡ y = cc in ap (λ x. Some x) s
 pub same_nat : map.IsAntisymmetric (slice_cmp nat_cmp)
 same_nat = map.slice_cmp-IsAntisymmetric map.nat_cmp-IsAntisymmetric
 
--- a store is what its cells are
+-- stores with the same cells are equal
 pub same_store : (s r : Store) → ((k : List ℕ) → cell_in s k ≡ cell_in r k) → s ≡ r
 same_store s r same = map.same_map nat_list_cmp_total same_nat s r (λ k. same_option (map.get s k) (map.get r k) (same k))

@@ -1,4 +1,4 @@
--- A sure transaction commits over every store, and its cells are the same.
+-- A sure transaction commits over every store, and its declared writes always have the same cells after it.
 use Rattle.std.proofs.Common.{◌≡◌, ℕ, zero, suc, ◌+◌, Bool, true, false, cond, List, [], ◌∷◌, ◌++◌, length}
 use Rattle.std.proofs.Common.{map, Some, None, Ok, Err, refl, ap, sym, ◌∙◌, subst, arith, inl, inr}
 use Rattle.std.specs.Prelude.{ℤ, pos, ◌⊎◌, ◌||◌, Result, is_ok}
@@ -43,15 +43,15 @@ same_literals look other locals others z ((minus, Local x) ∷ ts) all = absurd 
 literals : (sum : List (Bool × Atom)) → is_sure_sum sum ≡ true → AllByRecursion (λ t. is_lit t.1 ≡ true) sum
 literals sum e = all_true (λ t. is_lit t.1) sum (and_parts (list_all (λ t. is_lit t.1) sum) (is_ok (sum_value (λ k. Absent) [] sum)) e).0
 
--- a sure sum has the same value everywhere
+-- a sure sum has a value over every look
 sure_sum : (look : Look) (locals : Locals) (sum : List (Bool × Atom)) → is_sure_sum sum ≡ true → (z : ℤ) × (sum_value look locals sum ≡ Ok z)
 sure_sum look locals sum e =
     let (z, is) = value_of (sum_value (λ k. Absent) [] sum) (and_parts (list_all (λ t. is_lit t.1) sum) (is_ok (sum_value (λ k. Absent) [] sum)) e).1 in
     (z, ap in_range (same_literals look (λ k. Absent) locals [] (pos 0) sum (literals sum e)) ∙ is)
 
--- ---- the writes that a commit leaves
+-- ---- the keys that a commit writes
 
--- the writes name the key
+-- the key's cell after the writes doesn't depend on the key's cell before
 abbrev pub Covered : List (List ℕ × Cell) → List ℕ → Type 0
 Covered ws k = (c d : Cell) → newest ws k c ≡ newest ws k d
 
@@ -80,7 +80,7 @@ write_more ws x v ss k (inr target) =
       | false ↦ λ e h. inr h
     ] refl target
 
--- after one statement that goes well
+-- if the first statement succeeds and the others commit, all of these statements commit
 then_commits : (e : Edition) (look : Look) (run next : Run) (n : ℕ) (s : Stmt) (ss : List Stmt) → perform (seen e look run) run s ≡ Ok next
     → ((k : List ℕ) → Covered run.writes k ⊎ (is_target (s ∷ ss) k ≡ true) → Covered next.writes k ⊎ (is_target ss k ≡ true))
     → Commits ss next (body_from e look next (n + 1) ss) → Commits (s ∷ ss) run (body_from e look run n (s ∷ ss))
@@ -112,7 +112,7 @@ commits e look run n (Show sum ∷ ss) all =
     then_commits e look run (show run z) n (Show sum) ss (ap (λ r. then_do r (show run)) is) (λ k h. h) (commits e look (show run z) (n + 1) ss all.1)
 commits e look run n (Fail ∷ ss) all = no all.0
 
--- ---- the transaction
+-- ---- the whole transaction
 
 sure_stmts : (t : Txn) → IsSure t → AllByRecursion (λ s. is_sure_stmt s ≡ true) t.body
 sure_stmts t sure = all_true is_sure_stmt t.body (and_parts (list_all is_sure_stmt t.body) (list_all (is_target t.body) t.writes) sure).0
@@ -137,12 +137,12 @@ sure_reads P (Remove k) h = (tt, tt)
 sure_reads P (Show sum) h = ((sum_reads P sum h, tt), tt)
 sure_reads P Fail h = no h
 
--- over every store it does the same
+-- a sure transaction's body has the same result over every look
 pub sure_body : (look other : Look) (t : Txn) → IsSure t → body look t ≡ body other t
 sure_body look other t sure = same_body (λ k. ⊥) t.edition look other (λ k none. absurd none) fresh 1 t.body
     (all_map (λ s. is_sure_stmt s ≡ true) (StmtReads (λ k. ⊥)) t.body (sure_reads (λ k. ⊥)) (sure_stmts t sure))
 
--- and commits
+-- a sure transaction commits over every look
 pub sure_commits : (look : Look) (t : Txn) → IsSure t → (run : Run) × (body look t ≡ Ok run)
 sure_commits look t sure = let r = commits t.edition look fresh 1 t.body (sure_stmts t sure) in (r.run, r.is)
 
@@ -151,14 +151,14 @@ among_passes p [] j k e at = absurd cc
 among_passes p (x ∷ xs) zero k e at = let same : x ≡ k = cc in subst (λ y. p y ≡ true) same (and_parts (p x) (list_all p xs) e).0
 among_passes p (x ∷ xs) (suc j) k e at = among_passes p xs j k (and_parts (p x) (list_all p xs) e).1 at
 
--- a declared write has a cell that doesn't depend on the one before
+-- after a sure transaction, the cell of a declared write doesn't depend on the cell before
 sure_covered : (look : Look) (t : Txn) → IsSure t → (j : ℕ) (k : List ℕ) → slice_get t.writes j ≡ Some k → Covered (writes_of (body look t)) k
 sure_covered look t sure j k at =
     let r = commits t.edition look fresh 1 t.body (sure_stmts t sure) in
     let target = among_passes (is_target t.body) t.writes j k (and_parts (list_all is_sure_stmt t.body) (list_all (is_target t.body) t.writes) sure).1 at in
     subst (λ (e : Ended). Covered (writes_of e) k) (sym r.is) (r.covers k (inr target))
 
--- its declared writes have the same cells after it, whatever stood before
+-- after a sure transaction, its declared writes have the same cells over every look
 pub sure_after : (look other : Look) (t : Txn) → IsSure t → map (after look t) t.writes ≡ map (after other t) t.writes
 sure_after look other t sure =
     map_same (after look t) (after other t) t.writes
@@ -174,7 +174,7 @@ covered_cells look ws (k ∷ ks) (c ∷ cs) long covered =
     let rest = covered_cells look ws ks cs (omega arith) (λ j. covered (suc j)) in
     λ i. first i ∷ rest i
 
--- so whatever cells are handed for them, it leaves the same
+-- the cells after a sure transaction are those of its writes over any cells before, not only the look's
 pub sure_cells : (look : Look) (t : Txn) (before : List Cell) → IsSure t → length t.writes ≡ length before
     → map (after look t) t.writes ≡ cells_with (writes_of (body look t)) t.writes before
 sure_cells look t before sure long = covered_cells look (writes_of (body look t)) t.writes before long (sure_covered look t sure)

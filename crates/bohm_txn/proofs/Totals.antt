@@ -19,7 +19,7 @@ total_step look locals terms rest t z n is value = rw is (after (atom_value look
     after None e = absurd cc
     after (Some x) e = let same : signed z t.0 x ≡ n = cc in rw same refl
 
--- ---- the newest entry, found from the back
+-- ---- the newest entry, searched from the end of the list
 
 abbrev entry_or : {A : Type 0} → Option (List ℕ × A) → A → A
 entry_or None before = before

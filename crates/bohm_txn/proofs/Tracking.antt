@@ -1,4 +1,4 @@
--- The tables of cells hold what the list of writes says.
+-- The tables of cells agree with the list of writes.
 use Rattle.std.proofs.Common.{◌≡◌, ℕ, suc, ◌+◌, Bool, true, false, cond, List, [], ◌∷◌, ◌++◌, length}
 use Rattle.std.proofs.Common.{map, Option, Some, None, Ok, Err, refl, ap, sym, ◌∙◌, subst, arith}
 use Rattle.std.specs.Prelude.{Result, if◌then◌else◌}
@@ -26,7 +26,7 @@ use Rattle.bohm_txn.proofs.Bodies.{same_key, key_itself}
 use Rattle.bohm_txn.proofs.Places.{place-cons}
 use Rattle.bohm_txn.proofs.BodyLaw.{same_stmt}
 
--- ---- places, entry by entry
+-- ---- a key's cell and its replacement, by recursion on the keys
 
 cell_at-cons : (x : List ℕ) (xs : List (List ℕ)) (c : Cell) (cs : List Cell) (k : List ℕ)
     → cell_at (x ∷ xs) (c ∷ cs) k ≡ cond (bytes_eq x k) c (cell_at xs cs k)
@@ -64,7 +64,7 @@ twice : (b : Bool) (c d r : Cell) → cond b c r ≡ cond b c (cond b d r)
 twice true c d r = refl
 twice false c d r = refl
 
--- the replaced cell is there, and the others stay
+-- after a key's cell is replaced, the key has the new cell and the other keys keep their cells
 cell_at-replaced : (keys : List (List ℕ)) (cells : List Cell) (k : List ℕ) (c : Cell) (q : List ℕ) → length cells ≡ length keys → IsAmong keys q
     → cell_at keys (replaced keys cells k c) q ≡ cond (bytes_eq k q) c (cell_at keys cells q)
 cell_at-replaced [] cells k c q long among = absurd cc
@@ -93,7 +93,7 @@ pub newest_more : (ws : List (List ℕ × Cell)) (x : List ℕ) (v : Cell) (k : 
 newest_more [] x v k c = refl
 newest_more (w ∷ ws) x v k c = newest_more ws x v k (if bytes_eq w.0 k then w.1 else c)
 
--- the cells of the keys with the writes upon those before
+-- the cells of the keys after the writes, from their cells before
 abbrev pub cells_with : List (List ℕ × Cell) → List (List ℕ) → List Cell → List Cell
 cells_with ws keys before = map (λ p. newest ws p.0 p.1) (zip keys before)
 
@@ -129,9 +129,9 @@ cells-write ws k c (x ∷ xs) (e ∷ es) apart =
           λ i. first i ∷ rest i
     ] refl) ∙ sym (replaced-cons x xs (newest ws x e) (cells_with ws xs es) k c)
 
--- ---- the tables and the writes
+-- ---- tables that agree with the writes
 
--- what a statement sees, by the writes before it
+-- a statement's look: in edition 2 it includes the writes of earlier statements
 abbrev pub sees : Edition → Look → List (List ℕ × Cell) → Look
 sees One look ws = look
 sees Two look ws = λ k. newest ws k (look k)
@@ -176,7 +176,7 @@ tracks_more t look earlier ws w k c apart tracks = record {
   cells = cells-write ws k c t.writes earlier apart ∙ ap (λ cs. replaced t.writes cs k c) tracks.cells;
 }
 
--- the same writes, with other locals and shows
+-- tables with the same cells, but perhaps other locals and shows, still agree with the writes
 tracks_still : (t : Txn) (look : Look) (earlier : List Cell) (ws : List (List ℕ × Cell)) (w v : Tables) → w.seen ≡ v.seen → w.cells ≡ v.cells
     → Tracks t look earlier ws w → Tracks t look earlier ws v
 tracks_still t look earlier ws w v seen_is cells_is tracks = record {
@@ -298,7 +298,7 @@ sees-none : (e : Edition) (look : Look) (k : List ℕ) → sees e look [] k ≡ 
 sees-none One look k = refl
 sees-none Two look k = refl
 
--- the tables end as the body does
+-- a run over the tables ends as the body does, with the same effects or the same failure
 pub ends_alike : (t : Txn) (look : Look) (reads earlier : List Cell) → AllApart t.writes → AllByRecursion (StmtReads (IsAmong t.reads)) t.body
     → length t.reads ≡ length reads → length t.writes ≡ length earlier → map look t.reads ≡ reads
     → EndAlike t look earlier (body look t) (tables_from t (start reads earlier) 1 t.body)
@@ -309,7 +309,7 @@ ends_alike t look reads earlier apart declared long_reads long_writes same =
       cells = none_written t.writes earlier long_writes;
     }) declared
 
--- ---- what is left in the end
+-- ---- the results of a commit and of an abort
 
 pub record IsCommit (t : Txn) (earlier : List Cell) (r : Ended) (w : Tables) : Type 0 where
   pub outcome : outcome_of r ≡ outcomes_are.Commit
@@ -328,7 +328,7 @@ pub aborted : (t : Txn) (look : Look) (earlier : List Cell) (r : Ended) (f : Rea
 aborted t look earlier (Ok run) f a = absurd a
 aborted t look earlier (Err g) f e = ap (λ x. Err x) e
 
--- the cells that are handed for the keys may stand for those of the store
+-- the keys' cells after writes over a look are those after the writes over the look's cells
 pub cells_over : (look : Look) (ws : List (List ℕ × Cell)) (keys : List (List ℕ)) → map (λ k. newest ws k (look k)) keys ≡ cells_with ws keys (map look keys)
 cells_over look ws [] = refl
 cells_over look ws (k ∷ ks) = ap (λ rest. newest ws k (look k) ∷ rest) (cells_over look ws ks)

@@ -1,4 +1,4 @@
--- What a well-formed document and its transactions keep.
+-- The order and the limits in a well-formed document and its transactions.
 use Rattle.std.proofs.Common.{◌≡◌, ℕ, zero, suc, ◌≤◌, List, [], ◌∷◌, length, take, get_or, ◌<◌, Bool, true, false, Option, Some, None, refl, sym, subst, arith}
 use Rattle.std.specs.Prelude.{not, ◌||◌, ◌&&◌, nat_le}
 use Rattle.std.specs.List.{All, AllByRecursion, list_all, slice_get}
@@ -76,7 +76,7 @@ rising_store d well = kept (rising (names_of d.store)) (well 0 0 Order)
 pub few_txns : (d : Document) → WellFormed d → length d.log ≤ 1000000
 few_txns d well = le_from (length d.log) 1000000 (kept (nat_le (length d.log) 1000000) (well 0 0 Limit))
 
--- ---- a transaction's sets
+-- ---- a transaction's declared sets and counts
 
 pub rising_reads : (t : Txn) → IsWellFormedTxn t → rising t.reads ≡ true
 rising_reads t well = kept (rising t.reads) (not_left (not (rising t.reads)) (not (rising t.writes)) (well 1 0 Order))
@@ -93,7 +93,7 @@ counts false b c d h = absurd (h refl)
 
 -- ---- a transaction's statements
 
--- no statement of the list is faulty, those before it being handed
+-- if no statement is faulty after the earlier statements that f gives, P holds for each statement
 stmts_of : (t : Txn) (P : Stmt → Type 0) (kind : CheckKind) → ((before : List Stmt) (s : Stmt) → ¬ (stmt_faulty t before s kind ≡ true) → P s)
     → (f : ℕ → List Stmt) (ss : List Stmt) → ((i : ℕ) → ¬ (passes_at (λ s. stmt_faulty t (f i) s kind) ss i ≡ true)) → AllByRecursion P ss
 stmts_of t P kind each f [] h = tt

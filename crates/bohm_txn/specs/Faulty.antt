@@ -12,7 +12,7 @@ use Rattle.bohm_types.specs.Stmt.{Stmt}
 use Rattle.bohm_types.specs.Txn.{Txn}
 use Rattle.bohm_types.specs.Document.{Document}
 use Rattle.bohm_types.specs.Parts.{sums, tested, target, bound, is_show}
-use Rattle.bohm_types.specs.Limits.{most_keys, most_stmts, most_terms, most_txns}
+use Rattle.bohm_types.specs.Limits.{most_keys, most_shows, most_stmts, most_terms, most_txns}
 
 -- ---- names and terms
 
@@ -49,7 +49,7 @@ sets_faulty t Unread = false
 sets_faulty t Unwritten = false
 sets_faulty t Local = false
 sets_faulty t Limit = not (nat_le (length t.body) most_stmts) || not (nat_le (length t.reads) most_keys) || not (nat_le (length t.writes) most_keys) || not
-    (nat_le (count_by is_show t.body) 16)
+    (nat_le (count_by is_show t.body) most_shows)
 
 -- a key that it reads is undeclared
 abbrev pub is_unread : List (List ℕ) → Stmt → Bool

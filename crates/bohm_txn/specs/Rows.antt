@@ -6,6 +6,7 @@ use Rattle.bohm_log.specs.declared.row.Action.TheVariants.{Bind, Need, Has, Lack
 use Rattle.bohm_log.specs.declared.row.AtomKind.{AtomKind}
 use Rattle.bohm_log.specs.declared.row.AtomKind.TheVariants.{Small, Large, Read, Unread, Local}
 use Rattle.bohm_log.specs.declared.row.StmtRow.{StmtRow}
+use Rattle.bohm_types.specs.Limits.{most_stmts, most_terms}
 
 -- where its last sum ends
 abbrev pub end_by : Action → ℕ → ℕ → ℕ → ℕ → ℕ
@@ -32,7 +33,7 @@ is_declared Local = true
 
 -- the name at this index has a note
 abbrev pub has_note : List Bool → ℕ → Bool
-has_note noted i = nat_lt i 64 && get_or noted i false
+has_note noted i = nat_lt i most_stmts && get_or noted i false
 
 -- a term of this kind, with this index, is a literal, a declared read, or a local with a note
 abbrev pub is_at_hand : List Bool → AtomKind → ℕ → Bool
@@ -56,7 +57,7 @@ is_placed Fail declared = true
 
 -- each of its three sums has few terms
 abbrev pub has_short_sums : StmtRow → Bool
-has_short_sums r = nat_le (r.first - r.start) 16 && (nat_le (r.second - r.first) 16 && nat_le (r.third - r.second) 16)
+has_short_sums r = nat_le (r.first - r.start) most_terms && (nat_le (r.second - r.first) most_terms && nat_le (r.third - r.second) most_terms)
 
 abbrev pub is_plain_row : StmtRow → Bool
 is_plain_row r = is_placed r.action r.declared && has_short_sums r
@@ -100,6 +101,6 @@ binds_by Fail name i = false
 abbrev pub binds_at : ℕ → StmtRow → Bool
 binds_at i r = binds_by r.action r.name i
 
--- for each of the first 64 names, whether one of these statements binds it
+-- for each name with an index below the most statements, whether one of these statements binds it
 abbrev pub AreNoted : List Bool → List StmtRow → Type 0
-AreNoted noted rows = (i : ℕ) → i < 64 → get_or noted i false ≡ list_any (binds_at i) rows
+AreNoted noted rows = (i : ℕ) → i < most_stmts → get_or noted i false ≡ list_any (binds_at i) rows

@@ -14,7 +14,7 @@ ghost use Rattle.bohm_types.specs.Limits.{most_keys, most_shows, most_stmts, mos
 
 use crate::bound::Bound;
 use crate::fault::{CheckFault, CheckKind};
-use crate::glance::is_plain;
+use crate::plain_rows::is_plain;
 use crate::rules::{is_long, is_misnamed, is_unread, is_unwritten, rebinds};
 use crate::showing::shows;
 use bohm_log::{Doc, IndexedTxn, Keys, LogPart, StmtRow, TxnView};

@@ -81,6 +81,7 @@ pub fn is_unwritten(txn: &IndexedTxn<'_>, row: &StmtRow) -> bool
     requires few { length txn.now.writes ≤ most_keys }
     ensures { result ≡ is_unwritten txn.now.writes (stmt_of txn.now row.now) }
 {
+    // Only the contract needs the transaction.
     let _ = txn;
     writes_key(row) && !row.declared
 }
@@ -94,6 +95,7 @@ fn is_bound(txn: &IndexedTxn<'_>, before: &[StmtRow], noted: &Bound, place: u32)
     ensures { result
         ≡ is_bound (map (stmt_of txn.now) before.now) (name_at txn.now.others place) }
 {
+    // The call's contract says that the names are distinct.
     let _ = txn.others();
     noted.binds(before, place)
 }
@@ -161,6 +163,7 @@ pub fn is_long(txn: &IndexedTxn<'_>, row: &StmtRow) -> bool
     requires { RowIn txn.now row.now }
     ensures { result ≡ is_long (stmt_of txn.now row.now) }
 {
+    // Only the contract needs the transaction.
     let _ = txn;
     let first = row.first - row.start > MOST_TERMS;
     let second = row.second - row.first > MOST_TERMS;

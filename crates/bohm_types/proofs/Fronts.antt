@@ -1,4 +1,4 @@
--- The first bytes of eight that were read as one number.
+-- The first bytes of eight bytes that were read as one number.
 use Rattle.std.proofs.Common.{◌≡◌, ℕ, zero, suc, ◌-◌, ◌*◌, ◌/◌, ◌%◌, ◌^◌, ◌<◌, ◌≤◌, List, [], ◌∷◌, length, take, arith}
 use Rattle.std.specs.Int.{w64, from_be_bytes}
 use Rattle.bohm_types.specs.Words.{padded}
@@ -23,7 +23,7 @@ of_eight (suc (suc (suc (suc (suc (suc (suc zero))))))) a b c d e f g h rest byt
     omega (arith, bytes 0, bytes 1, bytes 2, bytes 3, bytes 4, bytes 5, bytes 6, bytes 7)
 of_eight (suc (suc (suc (suc (suc (suc (suc (suc n)))))))) a b c d e f g h rest bytes some few = absurd (omega (arith, few))
 
--- what is shifted out and back in is zeros, and so is what is behind the first bytes
+-- shifting a number out and back in keeps its first n bytes and makes zeros of the bytes after them
 pub of_text : (n : ℕ) (text : List ℕ) → AreBytes text → 8 ≤ length text → 0 < n → n < 8
     → shifted n (from_be_bytes w64 (padded 8 text)) ≡ from_be_bytes w64 (padded 8 (take n text))
 of_text n [] bytes long some few = absurd (omega (arith, long))

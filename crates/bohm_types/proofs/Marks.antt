@@ -1,6 +1,6 @@
--- The bytes of a number, compared at once: no mark is set exactly where none of them is the one sought.
-use Rattle.std.proofs.Common.{◌≡◌, ℕ, zero, suc, ◌+◌, ◌*◌, ◌/◌, ◌%◌, ◌^◌, ◌<◌, ◌≤◌, Bool, true, false, cond, List, [], ◌∷◌, length, map, replicate, Some, None, w8}
-use Rattle.std.proofs.Common.{refl, sym, subst, ◌∙◌, arith}
+-- Comparing the bytes of a number at once: no mark is set exactly if none of them is the byte sought.
+use Rattle.std.proofs.Common.{◌≡◌, ℕ, zero, suc, ◌+◌, ◌*◌, ◌/◌, ◌%◌, ◌^◌, ◌<◌, ◌≤◌, Bool, true, false, cond, Some, None, w8}
+use Rattle.std.proofs.Common.{List, [], ◌∷◌, length, map, replicate, refl, sym, subst, ◌∙◌, arith}
 use Rattle.std.specs.Prelude.{◌==◌}
 use Rattle.std.specs.List.{AllByRecursion, position_from}
 use Rattle.std.specs.Int.{w64, byte_at, from_be_bytes, to_be_bytes}
@@ -20,7 +20,7 @@ bytes_in w = w % 256 ∷ w / 256 % 256 ∷ w / 256 / 256 % 256 ∷ w / 256 / 256
 bytes_at : (w : ℕ) → bytes_in w ≡ byte_at 0 w ∷ byte_at 1 w ∷ byte_at 2 w ∷ byte_at 3 w ∷ byte_at 4 w ∷ byte_at 5 w ∷ byte_at 6 w ∷ byte_at 7 w ∷ []
 bytes_at w = c (omega arith) (c (omega arith) (c (omega arith) (c (omega arith) (c (omega arith) (c (omega arith) (c (omega arith) (c (omega arith) refl)))))))
   where
-    -- equal bytes before equal lists
+    -- lists are equal if their first bytes and their other bytes are
     c : {x y : ℕ} {xs ys : List ℕ} → x ≡ y → xs ≡ ys → x ∷ xs ≡ y ∷ ys
     c p q = λ i. p i ∷ q i
 
@@ -58,7 +58,7 @@ module _ (test : ℕ → Bool) where
   padded_others (suc n) [] zeros others = (zeros, padded_others n [] zeros others)
   padded_others (suc n) (x ∷ xs) zeros others = (others.0, padded_others n xs zeros others.1)
 
-  -- eight bytes in the other order
+  -- the same holds of eight bytes in the opposite order
   reversed : (a b c d e f g h : ℕ) → AreOthers (a ∷ b ∷ c ∷ d ∷ e ∷ f ∷ g ∷ h ∷ []) → AreOthers (h ∷ g ∷ f ∷ e ∷ d ∷ c ∷ b ∷ a ∷ [])
   reversed a b c d e f g h o =
       (o.1.1.1.1.1.1.1.0, (o.1.1.1.1.1.1.0, (o.1.1.1.1.1.0, (o.1.1.1.1.0, (o.1.1.1.0, (o.1.1.0, (o.1.0, (o.0, tt))))))))
@@ -69,11 +69,11 @@ module _ (test : ℕ → Bool) where
   from_be : (w : ℕ) → AreOthers (to_be_bytes w64 w) → AreOthers (bytes_in w)
   from_be w o = subst AreOthers (sym (bytes_at w)) (reversed _ _ _ _ _ _ _ _ o)
 
--- the mask of the bytes that are compared with one
+-- the mask of the bytes of a number that equal a given byte
 abbrev pub marks : ℕ → ℕ → ℕ
 marks byte w = mask_l (map (top 7) (zip2 (λ a b. cond (a == b) 255 0) (bytes_in w) (replicate 8 byte))) % 2 ^ 64
 
--- a byte of a word, sought in its number
+-- searching a word for a byte by its number
 module _ (word : List ℕ) (packed byte : ℕ) (bytes : AreBytes word) (few : length word ≤ 8) (e : packed ≡ from_be_bytes w64 (padded 8 word)) where
   abbrev test : ℕ → Bool
   test b = b == byte

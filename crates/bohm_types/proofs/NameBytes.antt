@@ -17,7 +17,7 @@ are_alike true false e = absurd cc
 are_alike false true e = absurd cc
 are_alike false false e = refl
 
--- each entry from a byte on is that byte where a name may have it, and else another one
+-- each entry of the table is its byte if a name may have that byte, and another one otherwise
 agree : List ℕ → ℕ → Bool
 agree [] byte = true
 agree (entry ∷ entries) byte = alike (entry == byte) (is_name_byte byte) && agree entries (suc byte)

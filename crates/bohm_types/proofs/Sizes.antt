@@ -1,4 +1,4 @@
--- How long the name is that four words are: where zeros begin in its last word that isn't 0.
+-- The length of the name that four words hold: it ends where zeros begin in the last word that isn't 0.
 use Rattle.std.proofs.Common.{◌≡◌, ◌≢◌, ℕ, zero, suc, ◌+◌, ◌*◌, ◌-◌, ◌/◌, ◌%◌, ◌^◌, ◌<◌, ◌≤◌, List, [], ◌∷◌, ◌++◌}
 use Rattle.std.proofs.Common.{length, replicate, slice_index_or, take, drop, true, refl, ap, sym, ◌∙◌, arith}
 use Rattle.std.specs.List.{AllByRecursion}
@@ -15,7 +15,7 @@ use Rattle.bohm_types.specs.KeyInside.{IsWorded, name_of}
 use Rattle.bohm_types.specs.declared.key.Key.TheInside.{Inside}
 use Rattle.bohm_types.specs.Words.{padded, spread, words, words_of, IsFilled, IsShort}
 
--- ---- zeros behind a number
+-- ---- trailing zeros of a number
 
 even : (k v : ℕ) → v % 2 ≡ 0 → count_trailing_zeros (suc k) v ≡ suc (count_trailing_zeros k (v / 2))
 unfolding count_trailing_zeros
@@ -147,7 +147,7 @@ four name =
 
 -- ---- the length
 
--- the last word that isn't 0, behind k bytes of the name
+-- the length follows from the last word that isn't 0, before which there are k bytes of the name
 last-word : (name xs : List ℕ) (w k : ℕ) → w ≡ word xs → 0 < length xs → length xs ≤ 8 → AllByRecursion IsFilled xs → length name ≡ k + length xs
     → k + 8 - trailing_zeros w64 w / 8 ≡ length name
 last-word name xs w k e h g f n =

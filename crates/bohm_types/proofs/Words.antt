@@ -54,7 +54,7 @@ cmp-padded (suc n) (suc x ∷ xs) [] h g f k = ap (λ o. ordering_then o (slice_
     (sym (nat_cmp_is (suc x) 0 Greater (omega arith)))
 cmp-padded (suc n) (x ∷ xs) (y ∷ ys) h g f k = ap (ordering_then (nat_cmp x y)) (cmp-padded n xs ys (omega (arith, h)) (omega (arith, g)) f.1 k.1)
 
--- what bytes are worth, the first one most
+-- the number with these bytes as digits, the first one the most significant
 abbrev worth : List ℕ → ℕ
 worth [] = 0
 worth (b ∷ bs) = b * 256 ^ length bs + worth bs
@@ -82,7 +82,7 @@ worth-word (a ∷ b ∷ c ∷ d ∷ x ∷ y ∷ z ∷ t ∷ s ∷ rest) e = absu
 lower : (x y u v w : ℕ) → x < y → u < w → x * w + u < y * w + v
 lower x y u v w h g = omega (arith, mul-add-lt x w u y h g, mul_comm w y)
 
--- two digits each, where the low ones are below what a high one is worth
+-- comparing two digits each: a low digit is below the base
 digits : (x y u v w : ℕ) → u < w → v < w → nat_cmp (x * w + u) (y * w + v) ≡ ordering_then (nat_cmp x y) (nat_cmp u v)
 digits x y u v w a b = sym (nat_cmp_is (x * w + u) (y * w + v) (ordering_then (nat_cmp x y) (nat_cmp u v))
     (by-digits (nat_cmp x y) (nat_cmp u v) (ranks x y) (ranks u v)))
@@ -128,7 +128,7 @@ words-cmp (suc n) xs ys h k f g =
     ∙ ap (λ zs. slice_cmp nat_cmp zs (take 8 ys ++ drop 8 ys)) (take-append-drop 8 xs)
     ∙ ap (slice_cmp nat_cmp xs) (take-append-drop 8 ys)
 
--- words are ordered as names are
+-- words are ordered as the names that they hold
 pub ordered : (xs ys : List ℕ) → IsShort xs → IsShort ys → slice_cmp nat_cmp (words_of xs) (words_of ys) ≡ slice_cmp nat_cmp xs ys
 ordered xs ys h k =
     words-cmp 4 (padded 32 xs) (padded 32 ys) (padded-length 32 xs) (padded-length 32 ys) (padded-bytes 32 xs h.filled) (padded-bytes 32 ys k.filled)
@@ -137,7 +137,7 @@ ordered xs ys h k =
 pub equal : (xs ys : List ℕ) → IsShort xs → IsShort ys → bytes_eq (words_of xs) (words_of ys) ≡ bytes_eq xs ys
 equal xs ys h k = sym (is_eq-slice_cmp (words_of xs) (words_of ys)) ∙ ap is_eq (ordered xs ys h k) ∙ is_eq-slice_cmp xs ys
 
--- ---- bytes
+-- ---- the bytes of a name
 
 pub is_a_name : (k : Inside) → IsWorded k → is_name (name_of k) ≡ true
 unfolding name_of
@@ -215,7 +215,7 @@ pub new_name : (name ws : List ℕ) → true ≡ is_name name → ws ≡ words_o
 unfolding name_of
 new_name name ws e made = rw (sym e) (ap Some (named ws name (short name (sym e)) made))
 
--- ---- a name that is compared in place
+-- ---- comparing a name without making a key of it
 
 front : (n : ℕ) (xs : List ℕ) → length xs ≤ n → take (length xs) (padded n xs) ≡ xs
 front n xs h = ap (take (length xs)) (padded-behind n xs h) ∙ take-append_seam xs (replicate (n - length xs) 0)
@@ -243,7 +243,7 @@ named_by k h name f e = same_from_decides (bytes_eq k.words (words_of name)) (by
     back : name_of k ≡ name → bytes_eq k.words (words_of name) ≡ true
     back q = (bytes_eq-Decides k.words (words_of name)).1 (h.made ∙ ap words_of (named_by_it k h ∙ q))
 
--- where the words are the same, the sizes decide
+-- if the words are equal, the names are equal exactly if their lengths are
 pub same_size : (k : Inside) (h : IsWorded k) (name : List ℕ) (n : ℕ) → AreBytes name → n ≡ length h.name → bytes_eq k.words (words_of name) ≡ true
     → nat_eq (length name) n ≡ bytes_eq (name_of k) name
 same_size k h name n f e t = same_from_decides (nat_eq (length name) n) (bytes_eq (name_of k) name) (there, back) (bytes_eq-Decides (name_of k) name)
@@ -264,20 +264,20 @@ other_words k h name same e apart = same_from_decides same (bytes_eq (name_of k)
     back : name_of k ≡ name → same ≡ true
     back q = e ∙ (bytes_eq-Decides k.words (words_of name)).1 (h.made ∙ ap words_of (named_by_it k h ∙ q))
 
--- ---- a short word in one word
+-- ---- names of at most 7 bytes
 
 word-injective : (xs ys : List ℕ) → length xs ≡ 8 → length ys ≡ 8 → AreBytes xs → AreBytes ys → from_be_bytes w64 xs ≡ from_be_bytes w64 ys → xs ≡ ys
 word-injective xs ys h k f g e =
     sym (be_bytes_8 xs (from_be_bytes w64 xs) h f refl) ∙ ap (to_be_bytes w64) e ∙ be_bytes_8 ys (from_be_bytes w64 ys) k g refl
 
--- names have no zeros, so one that is padded as a short word is short
+-- names have no zeros, so a name that is padded as a short name is short
 as_short : (n : ℕ) (xs ys : List ℕ) → AllByRecursion IsFilled xs → length ys ≤ n → padded (suc n) xs ≡ padded (suc n) ys → length xs ≤ n
 as_short n [] ys f h e = omega arith
 as_short n (x ∷ xs) [] f h e = absurd (omega (arith, f.0.some, ap (λ bs. get_or bs 0 0) e))
 as_short zero (x ∷ xs) (y ∷ ys) f h e = absurd (omega (arith, h))
 as_short (suc n) (x ∷ xs) (y ∷ ys) f h e = omega (arith, as_short n xs ys f.1 (omega (arith, h)) (ap (drop 1) e))
 
--- a name's first word is that of a short word only if all of its words are
+-- a key's first word is that of a short name exactly if all of its words are
 pub short_words : (k : Inside) (h : IsWorded k) (name : List ℕ) → AreBytes name → length name ≤ 7
     → nat_eq (slice_index_or k.words 0 0) (from_be_bytes w64 (padded 8 name)) ≡ bytes_eq k.words (words_of name)
 short_words k h name f few = same_from_decides

@@ -1,6 +1,14 @@
 -- The limits of a log and of its batches. The code's constants have the same values.
 use Rattle.std.specs.Prelude.{ℕ}
 
+-- bytes of a name
+abbrev pub longest_name : ℕ
+longest_name = 32
+
+-- bytes of a text
+abbrev pub longest_text : ℕ
+longest_text = 67108864
+
 -- keys that a transaction reads, and that it writes
 abbrev pub most_keys : ℕ
 most_keys = 16

@@ -2,6 +2,7 @@
 use Rattle.std.specs.Prelude.{ℕ, zero, suc, ◌<◌, ◌≤◌, List, [], ◌∷◌, ◌++◌, length, take, drop}
 use Rattle.std.specs.List.{AllByRecursion}
 use Rattle.std.specs.Int.{w64, to_be_bytes, from_be_bytes}
+use Rattle.bohm_types.specs.Limits.{longest_name}
 
 -- the first n bytes of a name, padded with zeros
 abbrev pub padded : ℕ → List ℕ → List ℕ
@@ -34,7 +35,7 @@ pub record IsFilled (b : ℕ) : Type 0 where
   pub some : 0 < b
   pub byte : b < 256
 
--- at most 32 bytes, none of them 0
+-- not longer than a name may be, and no byte is 0
 pub record IsShort (name : List ℕ) : Type 0 where
-  pub few : length name ≤ 32
+  pub few : length name ≤ longest_name
   pub filled : AllByRecursion IsFilled name

@@ -12,6 +12,7 @@ ghost use Rattle.bohm_types.specs.Name.{key_of, is_name, is_name_byte};
 ghost use Rattle.std.specs.Int.{w64, from_be_bytes};
 ghost use Rattle.bohm_types.specs.Words.{padded};
 ghost use Rattle.bohm_types.specs.Keys.{place};
+ghost use Rattle.bohm_types.specs.Limits.{longest_name};
 
 use crate::packed_word::PackedWord;
 use crate::packing::{mixed, short_hash_at, size_of, spread, zeros_behind};
@@ -84,19 +85,20 @@ pub struct KeyText {
 
 impl Model for KeyText {
     ghost use Rattle.std.specs.Prelude.{◌≤◌, ℕ, List, take};
+    ghost use Rattle.bohm_types.specs.Limits.{longest_name};
 
     ghost Value = { List ℕ };
 
     ghost view = { λ t. take t.size t.bytes };
 
-    ghost invariant = { λ t. t.size ≤ 32 };
+    ghost invariant = { λ t. t.size ≤ longest_name };
 }
 
 impl KeyText {
     /// The name itself.
     pub fn as_slice(&self) -> &[u8]
         ensures name { result.now ≡ self.now }
-        ensures short { length result.now ≤ 32 }
+        ensures short { length result.now ≤ longest_name }
     {
         &self.bytes[..self.size]
     }
@@ -177,6 +179,7 @@ impl Key {
     pub fn has_name(&self)
         ensures { is_name self.now ≡ true }
     {
+        // Reading a field makes the type's invariant known to the prover.
         let _ = &self.words;
     }
 

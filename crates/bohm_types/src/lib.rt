@@ -19,7 +19,8 @@ pub use edition::Edition;
 pub use items::Items;
 pub use key::{Key, KeyText};
 pub use limits::{
-    GREATEST_LITERAL, LARGEST_BATCH, MOST_KEYS, MOST_SHOWS, MOST_STMTS, MOST_TERMS, MOST_TXNS,
+    GREATEST_LITERAL, LARGEST_BATCH, LONGEST_NAME, LONGEST_TEXT, MOST_KEYS, MOST_SHOWS, MOST_STMTS,
+    MOST_TERMS, MOST_TXNS,
 };
 pub use memory::NoMemory;
 pub use name_cache::NameCache;

@@ -1,5 +1,11 @@
 //! The limits of a log. Each is named here, and nowhere else.
 
+/// The most bytes of a name.
+pub const LONGEST_NAME: usize = 32;
+
+/// The most bytes of a text.
+pub const LONGEST_TEXT: usize = 67_108_864;
+
 /// The greatest literal.
 pub const GREATEST_LITERAL: u64 = 9_223_372_036_854_775_807;
 

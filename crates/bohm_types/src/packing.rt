@@ -4,6 +4,7 @@ ghost use Rattle.std.specs.Prelude.{◌≡◌, ◌<◌, ◌≤◌, ◌/◌, List
 ghost use Rattle.std.specs.Int.{w64, from_be_bytes, trailing_zeros};
 ghost use Rattle.bohm_types.specs.Name.{is_name};
 ghost use Rattle.bohm_types.specs.Words.{padded, words_of, spread};
+ghost use Rattle.bohm_types.specs.Limits.{longest_name};
 
 /// The word of the first 8 bytes, padded with zeros. No buffer is filled with them, since most
 /// names are short.
@@ -94,7 +95,7 @@ pub(crate) fn zeros_behind(word: u64) -> usize
 /// The length of the name in four words, which ends before the padding zeros.
 #[inline(always)]
 pub(crate) fn size_of(words: &[u64; 4]) -> usize
-    ensures short { result ≤ 32 }
+    ensures short { result ≤ longest_name }
     ensures size { (name : List ℕ) → is_name name ≡ true → words.now ≡ words_of name
         → result ≡ length name }
 {

@@ -1,4 +1,4 @@
--- What a read that isn't refused says of the past.
+-- A read of the past that isn't refused is at or above the limit.
 use Rattle.std.proofs.Common.{◌≡◌, ℕ, ◌<◌, ◌≤◌, Result, Ok, Err, is_ok, ap, sym, ◌∙◌, ⊎_elim}
 use Rattle.std.proofs.lemmas.Bool.{cases_lt, true≢false}
 

@@ -66,6 +66,7 @@ impl History {
         ensures numbers { OnOk result
             (AreNumbersOf (keys_of self.new.chains) numbers.new.items keys.now) }
     {
+        // The call's contract says that a key without a number has no version.
         let _ = self.numbered.len();
         number_all(&mut self.names, hints, keys, numbers)
     }
@@ -86,6 +87,7 @@ impl History {
         ensures seen { map (past self.now self.now.top) txn.now.reads ≡ scratch.new.seen }
         ensures cells { map (past self.now self.now.top) txn.now.writes ≡ scratch.new.cells }
     {
+        // The call's contract says that the names are distinct.
         let _ = self.names.table();
         if txn.writes_its_reads() {
             push_reads_and_cells(&self.numbered, numbers, scratch);
@@ -111,6 +113,7 @@ impl History {
         ensures cells { map (after (past self.now self.now.top) txn.now) txn.now.writes
             ≡ scratch.new.cells }
     {
+        // The call's contract says that the names are distinct.
         let _ = self.names.table();
         scratch.clear();
         self.push_held(txn, hints, numbers, scratch);

@@ -22,6 +22,7 @@ impl History {
         ensures past { (t : ℕ) → t ≤ ts → past self.new t ≡ past self.old t }
         ensures distinct { IsDistinct bytes_eq (keys_of self.new.chains) }
     {
+        // The call's contract says that the names are distinct.
         let _ = self.names.table();
         self.numbered.rewind(ts);
     }

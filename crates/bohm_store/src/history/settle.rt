@@ -71,6 +71,7 @@ impl History {
         ensures writes { IfOk result
             (λ v. AreWritesOf (keys_of self.new.chains) (batch_of_finished finished.now) v.items) }
     {
+        // The call's contract says that a key without a number has no version.
         let _ = self.numbered.len();
         numbered_writes(alloc, &mut self.names, hints, finished)
     }

@@ -6,7 +6,7 @@ use Rattle.bohm_exec.specs.Answers.{batch_of_finished}
 use Rattle.bohm_apply.specs.Replies.{replies_of}
 use Rattle.bohm_apply.proofs.replies.push_some.Given as goal
 
--- the replies so far and those to what is left are those to all, and what stood there is still in front
+-- with the remaining replies appended, the list is the final one, and it begins with the initial replies
 abbrev pub invariant-loop-place : goal.invariant-loop-place
 invariant-loop-place l =
     let b = batch_of_finished l.finished in

@@ -1,4 +1,4 @@
--- `end_closed` lets go a handle that owns nothing.
+-- `end_closed` drops a handle that owns nothing.
 use Rattle.std.proofs.Common.{List, [], ◌∷◌, ◌++◌, refl, sym, subst}
 use mir.Val.{Val, vunit}
 use base.Logic.{SProp, ent, id⊢}

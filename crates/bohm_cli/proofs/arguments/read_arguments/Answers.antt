@@ -12,11 +12,11 @@ use Rattle.bohm_cli.proofs.Readings.{settings_read, same_settings}
 use Rattle.bohm_cli.proofs.arguments.read_arguments.Goals.{After-as_slice, After-new-settings}
 use Rattle.bohm_cli.proofs.arguments.read_arguments.Goals as goal
 
--- the line is the program's name and the arguments
+-- the command line is the program's name and the arguments
 whole : (c : After-as_slice) → texts c.as_slice.result.now ≡ codes "bohm" ∷ map string_bytes c.args.arguments.now
 whole c = rw c.as_slice.ensures.value c.in_ok-line.ensures
 
--- the numbers make the settings that the arguments give
+-- the parsed numbers make the settings that the arguments give
 made : (c : After-new-settings) → c.new-settings.result ≡ Some (settings_in (map string_bytes c.args.arguments.now))
 made c =
     let line = whole (goal.at.unwrap-requires c).After-as_slice in

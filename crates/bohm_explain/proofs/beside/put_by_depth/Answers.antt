@@ -9,7 +9,7 @@ use Rattle.bohm_explain.proofs.LeftOver.{all_others, few_others}
 use Rattle.bohm_explain.proofs.Texts.{one_more}
 use Rattle.bohm_explain.proofs.beside.put_by_depth.Goals as goal
 
--- the deepest of some depths is one of them
+-- if all depths are between 1 and 4096, so is the greatest one
 between : (depths : List ℕ) → 0 < length depths → All (IsBetween 1 4096) depths → IsBetween 1 4096 (greatest depths)
 between depths some each =
     let least = (each 0 0 some).0 in

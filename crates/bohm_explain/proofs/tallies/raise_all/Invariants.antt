@@ -5,7 +5,7 @@ use Rattle.bohm_explain.specs.Heats.{chain_in}
 use Rattle.bohm_explain.specs.Tallies.{lists, raised, tally}
 use Rattle.bohm_explain.proofs.tallies.raise_all.Given as goal
 
--- what is left raises it to what all of them do
+-- the remaining arrows raise each key's longest chain to the length that all arrows raise it to
 abbrev pub invariant-loop-arrow : goal.invariant-loop-arrow
 invariant-loop-arrow l = record {
   chains : (k : List ℕ) → raised (tally l.tallies k) (chain_in k (zip (iter_rest l.arrow-iterator.a) (iter_rest l.arrow-iterator.b))) ≡ raised

@@ -13,11 +13,11 @@ use Rattle.bohm_explain_cli.proofs.Readings.{request_read, same_request}
 use Rattle.bohm_explain_cli.proofs.arguments.read_arguments.Goals.{After-as_slice, After-new-request}
 use Rattle.bohm_explain_cli.proofs.arguments.read_arguments.Goals as goal
 
--- the line is the program's name and the arguments
+-- the command line is the program's name, followed by the arguments
 whole : (c : After-as_slice) → texts c.as_slice.result.now ≡ codes "explain" ∷ map string_bytes c.args.arguments.now
 whole c = rw c.as_slice.ensures.value c.in_ok-line.ensures
 
--- the numbers make the request that the arguments make
+-- the parsed numbers and flags make the arguments' request
 made : (c : After-new-request) → c.new-request.result ≡ Some (request_in (map string_bytes c.args.arguments.now))
 made c =
     let line = whole (goal.at.unwrap-requires c).After-as_slice in

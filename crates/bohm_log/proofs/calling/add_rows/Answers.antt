@@ -9,7 +9,7 @@ use Rattle.bohm_log.proofs.Lets.{behind, rows_longer, rows_whole, short_rows}
 use Rattle.bohm_log.proofs.Widening.{landed}
 use Rattle.bohm_log.proofs.calling.add_rows.Goals as goal
 
--- the prepared statements are those that the call wants
+-- the prepared statements are those of the call
 prepared : (c : goal.After-add_once) → c.as_slice-rows.result.now
     ≡ let_rows (length c.args.body.now.terms.items) c.args.places.now c.args.values.now
     ++ map (row_to c.args.moves.now.reads.now c.args.moves.now.writes.now) (drop (length c.args.places.now) c.args.body.now.rows.items)

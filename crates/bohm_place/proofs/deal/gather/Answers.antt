@@ -10,7 +10,7 @@ use Rattle.bohm_place.proofs.deal.gather.Goals.{In_ok-more}
 use Rattle.bohm_place.proofs.deal.gather.Given as given
 use Rattle.bohm_place.proofs.deal.gather.Goals as goal
 
--- what this worker found
+-- this worker's result satisfies `IsFoundInAll`
 right_more : (g : given.Over) (c : In_ok-more g) → IsFoundInAll (g.P.Partition.part_of c.args.partition.now) c.len-count.result c.loop-number.number
     c.args.batch.first c.args.batch.txns.now c.args.given.value.items c.in_ok-more.field-0.found.items c.in_ok-more.field-0.parts.items
 right_more g c =

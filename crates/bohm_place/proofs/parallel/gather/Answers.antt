@@ -12,7 +12,7 @@ use Rattle.bohm_place.proofs.parallel.gather.Goals.{In_ok-more}
 use Rattle.bohm_place.proofs.parallel.gather.Given as given
 use Rattle.bohm_place.proofs.parallel.gather.Goals as goal
 
--- what this worker found
+-- this worker's result satisfies `IsFoundByNumber`
 right_more : (g : given.Over) (c : In_ok-more g)
     → IsFoundByNumber (keys_of (g.P.Partition.part_of c.args.partition.now) c.len-count.result c.loop-number.number)
     c.args.batch.first c.args.batch.txns.now c.in_ok-more.field-0.found.items c.in_ok-more.field-0.newest

@@ -19,7 +19,7 @@ use Rattle.bohm_place.proofs.plan_keys.note_gathered.Goals.{After-sets, After-no
 pub loop-i-init : goal.loop-i-init
 loop-i-init c = record { sources = sources_same c.args.plan.now; right = c.requires.right; noted = λ set i n x a low. absurd (omega arith) }
 
--- the transaction of row i, whose keys have the numbers
+-- the transaction of row i, which declares the keys whose numbers are in the sets
 record IsRow (c : After-sets) : Type 0 where
   pub txn : Txn
   pub is_at : slice_get c.args.txns.now c.loop-i.i ≡ Some txn
@@ -39,7 +39,7 @@ row_of c =
       writes = ap (λ (s : List (List ℕ) × List (List ℕ)). s.1) same;
     }
 
--- t is the timestamp of row i
+-- `first + i` is the timestamp of row i
 row : (c : After-sets) → ((c.first-first.result + c.loop-i.i) - c.loop-i.plan.first) ≡ c.loop-i.i
 row c = omega (arith, c.first-first.ensures, c.loop-i.invariant.sources.first)
 

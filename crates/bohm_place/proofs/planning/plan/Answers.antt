@@ -60,7 +60,7 @@ gather-requires-clause-each g c κs lives w d low =
 pub new-requires : goal.new-requires
 new-requires g c = are_rows c.args.first c.args.txns.now c.in_ok-rows.rows.items c.requires.plannable.position c.requires.plannable.room c.in_ok-rows.ensures
 
--- each access has the source that the transactions ahead of its own give
+-- each access has the newest placeholder of its key from the earlier transactions of the batch
 rows_planned : (g : given.Over) (c : After-new g) → c.new.result.rows ≡ nested (ahead_of c.args.first) [] c.args.txns.now
 rows_planned g c =
     let part = g.P.Partition.part_of c.args.partition.now in
@@ -73,7 +73,7 @@ rows_planned g c =
     c.new.ensures.rows ∙ rows_whole part n c.args.first c.args.txns.now given c.in_ok-found.found.items c.in_ok-rows.rows.items some
     c.requires.plannable.position before found c.in_ok-rows.ensures
 
--- the chains of the shards are those before the batch with what its transactions make
+-- a key's chain in the new shards is its old chain, followed by its placeholders from the batch
 made_behind : (g : given.Over) (c : After-new g) (k : List ℕ) → placeholders_in (g.P.Partition.part_of c.args.partition.now) c.from_parts.result k
     ≡ placeholders_in (g.P.Partition.part_of c.args.partition.now) c.into_parts-parts.result.items k ++ placeholders_made c.args.first c.args.txns.now k
 made_behind g c k =

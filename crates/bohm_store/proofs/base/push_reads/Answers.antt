@@ -1,4 +1,4 @@
--- One read more.
+-- The cell of the next read is pushed into the scratch.
 use Rattle.std.proofs.Common.{rules, ◌≡◌, ◌++◌, ◌∷◌, [], ap, append_assoc, arith, length, length-append}
 use Rattle.bohm_txn.specs.Results.{Results}
 use Rattle.bohm_txn.proofs.ForCallers.{drop_at}

@@ -1,4 +1,4 @@
--- The first reads are handed.
+-- The cells of the first reads are in the scratch.
 use Rattle.std.proofs.Common.{◌≡◌, ◌++◌, map, drop, length}
 use Rattle.bohm_store.specs.Versions.{past}
 use Rattle.bohm_store.specs.Numbered.{timeline}

@@ -1,4 +1,4 @@
--- The cells of the first numbers are handed.
+-- The cells of the first numbers are in the scratch, as reads and as cells.
 use Rattle.std.proofs.Common.{◌≡◌, map, take, length}
 use Rattle.bohm_types.specs.declared.cell.Cell.TheVariants.{Absent}
 use Rattle.bohm_store.specs.Versions.{cell_at}

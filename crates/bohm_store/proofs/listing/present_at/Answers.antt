@@ -11,7 +11,7 @@ use Rattle.bohm_store.proofs.Entries.{entries_same}
 use Rattle.bohm_store.proofs.listing.present_at.Goals.{After-deref}
 use Rattle.bohm_store.proofs.listing.present_at.Goals as goal
 
--- what is put back is what is held, and what is listed is what that left
+-- `rewind` gets the newest versions, and `present` gets the versions that `rewind` leaves
 same : (c : After-deref) → (c.as_mut_slice.result.now ≡ c.args.newest.now) × (c.deref.result.now ≡ c.rewind.new.newest)
 same c =
     let now = c.args.newest.now in

@@ -10,7 +10,7 @@ use Rattle.bohm_store.proofs.OlderVersions.{had, displaced_one, displaced_none, 
 use Rattle.bohm_store.proofs.older.displace.Goals.{After-new, in-Some, in_default}
 use Rattle.bohm_store.proofs.older.displace.Goals as goal
 
--- the versions by a number, and how they are linked
+-- the written version is added to its number's versions, and each number's older versions stay linked
 displaced : (c : After-new) (n : ℕ) → IsLinked c.args.older.now.items n (held_at c.args.newest.now n)
     → let more = c.match-version.older.items in let new = slice_set c.args.newest.now c.args.write.number c.new.result in
     (older_of more n ++ held_at new n ≡ (older_of c.args.older.now.items n ++ held_at c.args.newest.now n)

@@ -1,4 +1,4 @@
--- What a transaction that is run in place leaves, over every store with its cells.
+-- The results of a transaction that runs in place, over every look with the scratch's cells.
 use Rattle.std.proofs.Common.{◌≡◌, ◌∙◌, Err, ap, map, sym}
 use Rattle.bohm_txn.specs.Meaning.{Look, body}
 use Rattle.bohm_txn.specs.Room.{tables_of}

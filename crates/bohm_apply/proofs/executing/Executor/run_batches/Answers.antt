@@ -84,7 +84,7 @@ returns-clause-walk g c =
     walk_ends c.args.progress.history c.loop-place.progress.history (cutting_of c.args.log) c.loop-place.place c.loop-place.start c.args.self.keep
     c.loop-place.progress.replies true c.args.log.whole h.2 (λ t. search rules) (rw h.3 at h.4)
 
--- what holds of all holds of the last one
+-- a property of all notes holds for the last one
 last_of : (P : PlanNote → Type 0) (xs : List PlanNote) (x : PlanNote) → All P (xs ++ x ∷ []) → P x
 last_of P [] x all = all 0 x (omega arith)
 last_of P (y ∷ ys) x all = last_of P ys x (λ k d within. all (suc k) d (omega (arith, within)))

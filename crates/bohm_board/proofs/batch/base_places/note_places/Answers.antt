@@ -16,7 +16,7 @@ loop-i-init c = record { sources = sources_same c.args.plan.now; right = c.requi
 at_i : (c : After-txn-txn) → slice_get c.args.txns.now c.loop-i.i ≡ Some c.txn-txn.result
 at_i c = c.txn-txn.ensures
 
--- t is the timestamp of row i
+-- the row of the timestamp first + i is row i
 row : (c : After-txn-txn) → ((c.first-first.result + c.loop-i.i) - c.loop-i.plan.first) ≡ c.loop-i.i
 row c = omega (arith, c.first-first.ensures, c.loop-i.invariant.sources.first)
 

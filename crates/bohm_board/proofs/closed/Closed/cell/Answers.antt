@@ -8,7 +8,7 @@ use Rattle.bohm_board.proofs.SlotNumbers.{right_there, right_by_word}
 use Rattle.bohm_board.proofs.closed.Closed.cell.Goals as goal
 use Rattle.bohm_board.proofs.closed.Closed.cell.Goals.{After-index}
 
--- the presence word that is read is the slot's
+-- the word that is read is the slot's presence word
 word : (c : After-index) → c.index.result.now ≡ get_or (words_of c.args.self.now.columns).presences (number c.args.self.now.batch c.args.slot) 0
 word c = c.index.ensures ∙ (get_or_default_zero (words_of c.args.self.now.columns).presences c.number-number.result c.index.result.now (search rules)
     ∙ ap (λ (k : ℕ). get_or (words_of c.args.self.now.columns).presences k 0) c.number-number.ensures.number)

@@ -29,7 +29,7 @@ descent-init g c =
           (starts b c.args.start done c.requires.start.inside);
     }
 
--- the top was taken off
+-- the pop removed the top of the stack
 top_taken : (g : given.Over) (c : After-pop g) → c.descent.self.stack.now.items ≡ c.pop.new.self.items ++ top_of c.descent.self.stack.now.items ∷ []
 top_taken g c =
     let xs = c.descent.self.stack.now.items in
@@ -43,14 +43,14 @@ top_taken g c =
     let less' : length ys < length xs = search (rules, less) in
     last_of xs ys c.pop.result (ap (λ (z : Vec ℕ Global). z.items) (sym kept) ∙ c.pop.ensures.items) less'
 
--- the top wants the one that goes on the stack
+-- the top of the stack wants the position that is pushed
 wanted : (g : given.Over) (c : In-Needs g) → Wants (batch_of c.args.self.now.stepper.board.now) (top_of c.descent.self.stack.now.items) c.in-Needs.u
 wanted g c =
     let inv = c.descent.invariant in
     let top = top_is c.descent.self.stack.now.items c.len.result c.index-top.result.now inv.stack.some (search rules) c.index-top.ensures in
     subst (λ (z : ℕ × Bor Board). Wants (batch_of z.1.now) z.0 c.in-Needs.u) (λ i. (top i, inv.same.board i)) c.in-Needs.ensures.step_on.took.wants
 
--- the rest of the stack is nearer to its end
+-- if the popped stack isn't empty, its measure is smaller, and it is still a descent
 popped : (g : given.Over) (c : After-pop g) → 0 < length c.pop.new.self.items
     → (left_to_do (batch_of c.args.self.now.stepper.board.now) (view c.step_on.new.self.stepper.pass.now).done c.pop.new.self.items
     < left_to_do (batch_of c.args.self.now.stepper.board.now) (view c.descent.self.stepper.pass.now).done c.descent.self.stack.now.items)

@@ -10,7 +10,7 @@ use Rattle.bohm_log.proofs.columns.Columns.append.Goals as goal
 pub returns-clause-ok : goal.returns-clause-ok
 returns-clause-ok g c =
     let same : parts_by c.as_slice.result.now c.as_slice-2.result.now c.as_slice-others.result.now c.as_slice-3.result.now
-    c.as_slice-4.result.now c.as_slice-5.result.now ≡ parts_of c.args.sheet.now =
+    c.as_slice-4.result.now c.as_slice-5.result.now ≡ parts_of c.args.draft.now =
     λ j. parts_by (c.as_slice.ensures.value j) (c.as_slice-2.ensures.value j) (c.as_slice-others.ensures.names j)
     (c.as_slice-3.ensures.value j) (c.as_slice-4.ensures.value j) (c.as_slice-5.ensures.value j) in
     let Comes : Parts → Head → Type 0 =

@@ -35,7 +35,7 @@ returns-in-Err-clause-err g c =
     c.append_call-head.result c.append_call-head.ensures.ok c.append_call-head.ensures.err
     ∙ c.self.view_is
 
--- what a call of a template adds
+-- the parts of a template's call represent the procedure's instance, and may be appended to the log
 call_adds : (e : Edition) (keys args : List (List ℕ)) (body : BodyColumns) (locals xs : List ℕ) (vs : List ℤ) (places : CallPlaces)
     → IsTemplate keys body locals × IsSoundProcedure (procedure_of e keys locals (parts_in body))
     × IsFilled (parts_in body) (procedure_of e keys locals (parts_in body))

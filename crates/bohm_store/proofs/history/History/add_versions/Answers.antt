@@ -1,4 +1,4 @@
--- The versions of one transaction, by the numbers of its writes and the cells that it leaves.
+-- The versions of one transaction, from the numbers of its writes and the cells that it leaves.
 use Rattle.std.proofs.Common.{◌≡◌, ◌∙◌, ◌+◌, ◌∷◌, [], ℕ, ap, arith, map}
 use Rattle.bohm_txn.specs.Meaning.{Look}
 use Rattle.bohm_txn.specs.Serial.{after}
@@ -12,7 +12,7 @@ use Rattle.bohm_store.proofs.Same.{covered_same, kept_same, same_top}
 use Rattle.bohm_store.proofs.history.History.add_versions.Goals.{After-cover}
 use Rattle.bohm_store.proofs.history.History.add_versions.Goals as goal
 
--- over the history with more room, the cells are those that the transaction leaves
+-- on the history with more room, the numbers and cells are still the transaction's writes
 covered : (c : After-cover) → let names = c.self.inside.names in let mid = c.cover.new.self in
     AreTxnWrites names (mid.top + 1) (past (timeline names mid) mid.top) c.args.txn.now (writes_by (mid.top + 1) c.args.numbers.now c.args.cells.now)
 covered c =
@@ -26,7 +26,7 @@ covered c =
     ∙ rw (← c.self.view_is) at c.requires.cells in
     txn_written names (mid.top + 1) (past (timeline names mid) mid.top) t c.args.numbers.now c.args.cells.now are leaves
 
--- its writes, which begin behind the top
+-- the numbers and cells are the writes of the one transaction after the top
 behind : (c : After-cover) (begin : ℕ) → begin ≡ c.cover.new.self.top + 1
     → AreWritesBehind c.self.inside.names (timeline c.self.inside.names c.cover.new.self) 1 (c.args.txn.now ∷ [])
     (writes_by begin c.args.numbers.now c.args.cells.now)

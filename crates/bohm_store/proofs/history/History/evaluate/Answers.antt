@@ -1,4 +1,4 @@
--- What a transaction leaves that is run on what its keys hold at the top.
+-- The cells that a transaction leaves when it runs on the cells of its keys at the top.
 use Rattle.std.proofs.Common.{◌≡◌, ◌∙◌, List, ℕ, Ok, Err, map, sym, arith, refl}
 use Rattle.bohm_types.specs.Txn.{Txn}
 use Rattle.bohm_txn.specs.declared.outcome.Outcome.TheVariants as outcomes_are

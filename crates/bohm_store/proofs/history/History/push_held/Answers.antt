@@ -1,4 +1,4 @@
--- What a transaction's declared keys hold, by the numbers of those that it writes.
+-- The cells of a transaction's declared keys at the top, by the numbers of the keys that it writes.
 use Rattle.std.proofs.Common.{◌≡◌, ◌∙◌, ◌≤◌, List, ℕ, length, map, sym, ap, arith}
 use Rattle.std.specs.List.{IsDistinct}
 use Rattle.std.specs.Map.{keys_of}

@@ -1,4 +1,4 @@
--- One transaction more: its numbers, what it leaves, and its versions.
+-- The next transaction: the numbers of its keys, the cells that it leaves, and its versions.
 use Rattle.std.proofs.Common.{◌≡◌, ◌∙◌, ◌+◌, ◌-◌, ◌∷◌, [], ℕ, List, sym, ap, subst}
 use Rattle.std.specs.Map.{keys_of}
 use Rattle.bohm_txn.specs.Meaning.{Look, body}

@@ -9,7 +9,7 @@ use Rattle.bohm_store.specs.Writes.{AreWritesOf}
 use Rattle.bohm_store.proofs.history.History.settle_listed.Goals.{After-cover}
 use Rattle.bohm_store.proofs.history.History.settle_listed.Goals as goal
 
--- the history with more room is the same, the batch is its next one too, and the writes are the batch's
+-- with more room the history is the same, the batch still follows it, and the writes are the batch's
 covered : (c : After-cover) → let names = c.self.inside.names in let mid = timeline names c.cover.new.self in
     IsSame (timeline names c.self.inside.numbered) mid × IsNext mid c.args.batch.now × AreWritesOf names c.args.batch.now c.args.writes.now
 covered c =

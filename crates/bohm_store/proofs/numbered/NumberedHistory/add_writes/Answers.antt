@@ -27,7 +27,7 @@ new c = record {
   older = c.add.new.older.items;
 }
 
--- what it leaves
+-- the resulting history keeps the invariant and has settled the transactions
 left : (c : In-Ok) (txns : List Txn)
     → AreWritesBehind (all_names c.args.names) (timeline (all_names c.args.names) (old c)) c.args.count txns (listed_in c.args.writes)
     → IsNumbered (new c) × IsSettled (timeline (all_names c.args.names) (old c)) (timeline (all_names c.args.names) (new c)) txns
@@ -65,7 +65,7 @@ pub returns-in-Ok-clause-ok : goal.returns-in-Ok-clause-ok
 returns-in-Ok-clause-ok c = λ txns given.
     rw (← c.self.view_is) (left (goal.at.returns-in-Ok-clause-ok c).In-Ok txns (rw (← c.self.view_is) at given)).1
 
--- an error leaves what keys hold
+-- an error leaves the newest versions unchanged
 same : (c : In-Err) → (with_items c.self.inside.newest c.add.new.newest).items ≡ c.self.inside.newest.items
 same c =
     let value = c.as_mut_slice.ensures.value in

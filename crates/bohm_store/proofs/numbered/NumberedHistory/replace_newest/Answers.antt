@@ -26,7 +26,7 @@ new c = record {
   older = c.clear.new.self.items;
 }
 
--- what it leaves
+-- the resulting history keeps the invariant and has settled the transactions, trimmed at the new top
 left : (c : After-replace_all) (txns : List Txn)
     → AreWritesBehind (all_names c.args.names) (timeline (all_names c.args.names) (old c)) c.args.count txns (listed_in c.args.writes)
     → IsNumbered (new c)

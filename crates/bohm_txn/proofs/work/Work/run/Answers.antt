@@ -1,4 +1,4 @@
--- A well-formed transaction's cells fit.
+-- A well-formed transaction has at most 16 cells of its reads, and at most 16 of its writes.
 use Rattle.std.proofs.Common.{arith}
 use Rattle.bohm_log.specs.Parts.{txn_of}
 use Rattle.bohm_txn.proofs.UseLaws.{usable}

@@ -16,11 +16,11 @@ use Rattle.bohm_txn.proofs.Evaluating.{each_at}
 use Rattle.bohm_txn.proofs.UseLaws.{rising_reads, rising_writes, usable}
 use Rattle.bohm_txn.proofs.work.Work.run_in_place.Goals as goal
 
--- where a list has no element
+-- a default row, for an index without a row
 abbrev no_row : StmtRow
 no_row = record { action = Bind; declared = false; name = 0; start = 0; first = 0; second = 0; third = 0 }
 
--- the statement at a place and those behind it
+-- the statements from an index on are the statement at the index and the statements following
 stmts_at : (p : Parts) (i : ℕ) → i < length p.rows
     → map (stmt_of p) (drop i p.rows) ≡ stmt_of p (get_or p.rows i no_row) ∷ map (stmt_of p) (drop (i + 1) p.rows)
 stmts_at p i low = ap (map (stmt_of p)) (drop_at p.rows i (get_or p.rows i no_row) (slice_get-get_or p.rows i no_row low))

@@ -1,6 +1,6 @@
 use Rattle.std.proofs.Common.{sym, ◌∙◌}
 use Rattle.bohm_txn.proofs.Plain.{is_faultless}
-use Rattle.bohm_txn.proofs.glance.is_plain.Goals as goal
+use Rattle.bohm_txn.proofs.plain_rows.is_plain.Goals as goal
 
 pub returns-then-is_plain_row : goal.returns-then-is_plain_row
 returns-then-is_plain_row c = λ at_hand e before rows are. is_faultless c.args.txn.now c.args.row.now c.requires.reads c.requires.writes c.requires.row e

@@ -79,6 +79,7 @@ pub fn is_plain(txn: &IndexedTxn<'_>, noted: &Bound, row: &StmtRow) -> bool
         ≡ false → least (stmt_faulty (txn_of e txn.now) (map (stmt_of txn.now) before)
         (stmt_of txn.now row.now)) ≡ None }
 {
+    // The call's contract says that the names are distinct.
     let _ = txn.others();
     is_plain_row(row) && are_at_hand(noted, txn.terms(row.start, row.third))
 }
