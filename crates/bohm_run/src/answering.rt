@@ -27,11 +27,11 @@ use std::thread::Threads;
 
 /// The minimum number of bytes of a window of a text, except for the first and the last one, if one
 /// worker executes. It is small, so that a window and its columns stay in a processor's cache.
-const WINDOW_SIZE: usize = 131_072;
+const WINDOW_SIZE: usize = 32_768;
 
 /// The minimum number of bytes of a window if several workers execute, which are started anew for
 /// each batch.
-const SHARED_WINDOW_SIZE: usize = 262_144;
+const SHARED_WINDOW_SIZE: usize = 131_072;
 
 fn window_size(settings: Settings) -> usize {
     if settings.exec().count() == 1 {
@@ -127,7 +127,7 @@ fn answer(alloc: Global, state: RunState, ts: u32) -> Result<Vec<u8>, NoMemory>
 /// that they declare, and with the number of the store's keys k as k log k. Parsing is spread over
 /// `cc` threads, and the evaluation of long bodies over `exec` threads; all else is done by one
 /// thread, or by two if several workers execute. The memory grows with the keys of the log, with
-/// the text of the answer, and with 2 `cc` + 3 windows. A window has 128 KiB, 256 KiB for several
+/// the text of the answer, and with 2 `cc` + 3 windows. A window has 32 KiB, 128 KiB for several
 /// executing workers, or is as long as the head and the store, or as a transaction, if these are
 /// longer.
 pub fn run_text<T: Threads + Wait + Sync + RandomSource + Copy + Send + 'static, R: Read, W: Write>(
