@@ -2,6 +2,10 @@
 use Rattle.std.specs.Prelude.{◌≡◌, ℕ, ◌&&◌, nat_le, List, [], ◌∷◌, ◌++◌, map, replicate, if◌then◌else◌}
 use Rattle.bohm_check.specs.declared.shown.Window.{Window}
 
+-- bytes of a line that are shown
+abbrev pub most_shown : ℕ
+most_shown = 120
+
 -- a byte that can be printed, or a question mark
 abbrev pub printable : ℕ → ℕ
 printable b = if nat_le 32 b && nat_le b 126 then b else 63

@@ -1,7 +1,7 @@
 //! How a line is displayed, with a caret.
 
 ghost use Rattle.std.specs.Prelude.{◌≡◌, ◌++◌, ◌-◌, ◌<◌, ◌≤◌, length, map, replicate, OnOk};
-ghost use Rattle.bohm_check.specs.Shown.{IsWhole, marked, printable};
+ghost use Rattle.bohm_check.specs.Shown.{IsWhole, marked, most_shown, printable};
 
 use bohm_types::{Key, NoMemory};
 use itoa::{Buffer, Integer};
@@ -68,7 +68,7 @@ struct Window<'a> {
 
 impl<'a> Window<'a> {
     fn round(line: &'a [u8], offset: usize) -> Window<'a>
-        ensures { length line.now ≤ SHOWN_BYTES → IsWhole line.now result }
+        ensures { length line.now ≤ most_shown → IsWhole line.now result }
     {
         let spare = line.len().saturating_sub(SHOWN_BYTES);
         let before = offset.saturating_sub(SHOWN_BYTES / 2).min(spare);
@@ -113,7 +113,7 @@ pub fn put_line(
     column: usize,
     carets: usize,
 ) -> Result<(), NoMemory>
-    ensures marked { OnOk result (length line.now ≤ SHOWN_BYTES → 0 < carets
+    ensures marked { OnOk result (length line.now ≤ most_shown → 0 < carets
         → out.new.items ≡ out.old.items ++ marked line.now (column - 1) carets) }
 {
     let offset = column.saturating_sub(1);

@@ -10,6 +10,10 @@ use Rattle.bohm_explain.specs.declared.bands.Band.{Band}
 use Rattle.bohm_explain.specs.declared.nodes.Node.{Node}
 use Rattle.bohm_explain.specs.declared.bands.TheConstants.{MOST_NODES}
 
+-- transactions or bands that are drawn
+abbrev pub most_nodes : ℕ
+most_nodes = 200
+
 -- a text if this holds
 abbrev pub shown : Bool → List ℕ → List ℕ
 shown holds text = if holds then text else []

@@ -3,7 +3,7 @@
 ghost use Rattle.std.specs.Prelude.{◌≡◌, ℕ, ◌*◌, ◌++◌, ◌<◌, ◌≤◌, All, IfOk, count_by, length};
 ghost use Rattle.std.specs.Prelude.{slice_index};
 ghost use Rattle.bohm_explain.specs.Asked.{IsBetween};
-ghost use Rattle.bohm_explain.specs.Picture.{band_at, band_line, band_lines, band_width};
+ghost use Rattle.bohm_explain.specs.Picture.{band_at, band_line, band_lines, band_width, most_nodes};
 ghost use Rattle.bohm_explain.specs.Picture.{count_text, depths_text, is_in};
 ghost use Rattle.bohm_types.specs.Limits.{largest_batch};
 
@@ -32,7 +32,7 @@ pub fn band_width(deepest: u32) -> u32
 /// The band after this many others.
 fn band_at(deepest: u32, width: u32, before: u32) -> Band
     requires width { width ≤ 21 }
-    requires few { before < MOST_NODES }
+    requires few { before < most_nodes }
     ensures { result ≡ band_at deepest width before }
 {
     Band {
@@ -45,9 +45,9 @@ fn band_at(deepest: u32, width: u32, before: u32) -> Band
 fn band_counts(deepest: u32, width: u32, depths: &[u32]) -> [u32; MOST_NODES as usize]
     requires few { length depths.now ≤ largest_batch }
     requires depths { All (IsBetween 1 deepest) depths.now }
-    requires wide { deepest ≤ width * MOST_NODES }
-    ensures length { length result ≡ MOST_NODES }
-    ensures counts { (k : ℕ) → k < MOST_NODES
+    requires wide { deepest ≤ width * most_nodes }
+    ensures length { length result ≡ most_nodes }
+    ensures counts { (k : ℕ) → k < most_nodes
         → slice_index result k ≡ count_by (is_in (band_at deepest width k)) depths.now }
 {
     let mut counts = [0; MOST_NODES as usize];
@@ -84,7 +84,7 @@ fn put_count(out: &mut Vec<u8>, band: Band, count: u32) -> Result<(), NoMemory>
 
 /// Appends a band with this many transactions, after `before` other bands.
 fn put_band(out: &mut Vec<u8>, before: u32, band: Band, count: u32) -> Result<(), NoMemory>
-    requires few { before < MOST_NODES }
+    requires few { before < most_nodes }
     ensures { IfOk result (λ _. out.new.items ≡ out.old.items ++ band_line before band count) }
 {
     out.extend_from_slice(b"  d")?;

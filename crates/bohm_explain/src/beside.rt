@@ -5,7 +5,7 @@ ghost use Rattle.std.specs.Prelude.{IfOk, length, option_copied, take};
 ghost use Rattle.bohm_place.specs.Chains.{greatest};
 ghost use Rattle.bohm_explain.specs.Asked.{IsBetween};
 ghost use Rattle.bohm_explain.specs.Heaviest.{IsInside};
-ghost use Rattle.bohm_explain.specs.Picture.{band_width, by_depth, chain_legend, leading};
+ghost use Rattle.bohm_explain.specs.Picture.{band_width, by_depth, chain_legend, leading, most_nodes};
 ghost use Rattle.bohm_explain.specs.Picture.{link_node, link_nodes, link_text, links, others};
 ghost use Rattle.bohm_types.specs.Limits.{largest_batch, most_txns};
 
@@ -142,7 +142,7 @@ pub fn put_by_depth(
     requires inside { All (IsInside (length depths.now)) arrows.now }
     requires chain { All (λ p. p < length depths.now) chain.now }
     ensures { IfOk result (λ _. out.new.items ≡ out.old.items
-        ++ by_depth batch first arrows.now depths.now (take MOST_NODES chain.now) (length chain.now)) }
+        ++ by_depth batch first arrows.now depths.now (take most_nodes chain.now) (length chain.now)) }
 {
     let drawn = &chain[..chain.len().min(MOST_NODES as usize)];
     let others = others(alloc, drawn, depths)?;

@@ -18,7 +18,7 @@ ghost use Rattle.bohm_explain.specs.Chains.{IsWantedBy, LeadsOn, weight_of};
 ghost use Rattle.bohm_explain.specs.Figures.{batch_at, batch_count, depths, figures_in};
 ghost use Rattle.bohm_explain.specs.Heaviest.{AreRising, greatest_wanted, greatest_wanting};
 ghost use Rattle.bohm_explain.specs.Heaviest.{heaviest_from, heaviest_to};
-ghost use Rattle.bohm_explain.specs.Picture.{band_width, leading};
+ghost use Rattle.bohm_explain.specs.Picture.{band_width, leading, most_nodes};
 ghost use Rattle.bohm_explain.specs.Printed.{IsLongestChain, heights, longest};
 ghost use Rattle.bohm_explain.specs.Ranking.{IsRanking};
 ghost use Rattle.bohm_explain.specs.Wanted.{arrows};
@@ -82,8 +82,8 @@ pub fn longest_is_deepest()
 /// For any batch, a picture by depth has at most 200 bands, and at most 200 transactions of a
 /// chain.
 pub fn few_are_drawn()
-    ensures bands { (deepest : ℕ) → 1 ≤ deepest → div_ceil deepest (band_width deepest) ≤ MOST_NODES }
-    ensures chain { (chain : List ℕ) → length (take MOST_NODES chain) ≤ MOST_NODES }
+    ensures bands { (deepest : ℕ) → 1 ≤ deepest → div_ceil deepest (band_width deepest) ≤ most_nodes }
+    ensures chain { (chain : List ℕ) → length (take MOST_NODES chain) ≤ most_nodes }
 {}
 
 /// Each step of a chain that is drawn beside bands has its arrow.

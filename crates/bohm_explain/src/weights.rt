@@ -63,6 +63,7 @@ pub fn alike(alloc: Global, count: usize) -> Result<Vec<u32>, NoMemory>
 {
     let mut weights = Vec::with_capacity(alloc, count)?;
     for index in 0..count {
+        // Only the loop's invariant needs the index.
         let _ = index;
         weights.push(1)?;
     }
