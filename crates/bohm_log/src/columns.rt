@@ -155,6 +155,7 @@ impl<S: BuildHasher> Columns<S> {
         ensures empty { entries_in (shared_of result) ≡ 0 }
         ensures names { length result.names ≤ 2 ^ 30 }
     {
+        // The call's contract says that there are at most 2^30 names.
         let _ = shared.as_slice();
         Columns {
             names: LayeredNames::sharing(alloc, hasher, shared),

@@ -31,6 +31,7 @@ pub fn are_values(values: &[Value])
     ensures { AllByRecursion IsNumber values.now }
 {
     for value in values {
+        // The call's contract says that the result is a 64-bit number.
         let _ = value.get();
     }
 }
@@ -39,6 +40,7 @@ fn is_entry(entry: &(Key, Value))
     ensures { IsEntry entry.now }
 {
     entry.0.has_name();
+    // The call's contract says that the result is a 64-bit number.
     let _ = entry.1.get();
 }
 

@@ -49,6 +49,7 @@ impl Literals {
         ensures added { IfSome result (λ l. l.added + 2 ^ 64 < 2 ^ 128) }
         ensures taken { IfSome result (λ l. l.taken + 2 ^ 64 < 2 ^ 128) }
     {
+        // The call's contract bounds the number of terms, so that the sums don't overflow.
         let _count = terms.len();
         let mut literals = Literals { added: 0, taken: 0 };
         for term in terms {
