@@ -1,5 +1,5 @@
 -- The replies of batches and their transactions.
-use Rattle.std.specs.Prelude.{◌≡◌, ℕ, ℤ, List, [], ◌∷◌, ◌++◌, Some}
+use Rattle.std.specs.Prelude.{◌≡◌, ℕ, ℤ, List, [], ◌∷◌, ◌++◌, length, Some}
 use Rattle.bohm_types.specs.Txn.{Txn}
 use Rattle.bohm_txn.specs.declared.outcome.Reply.{Reply}
 use Rattle.bohm_txn.specs.Meaning.{body}
@@ -9,15 +9,20 @@ use Rattle.bohm_board.specs.Batches.{base_of, txn_at, txns_of}
 use Rattle.bohm_exec.specs.declared.finished.Finished.{Finished}
 use Rattle.bohm_exec.specs.Answers.{batch_of_finished}
 use Rattle.bohm_exec.specs.Moments.{state_before}
+use Rattle.bohm_store.specs.declared.listed_writes.ListedWrites.{ListedWrites}
 use Rattle.bohm_store.specs.Versions.{Timeline, past}
+use Rattle.bohm_store.specs.Writes.{AreNextShares}
 
 -- the replies of a finished batch over its base
 abbrev pub replies_of : Finished → List Reply
 replies_of f = replies (base_of (batch_of_finished f)) (txns_of (batch_of_finished f))
 
--- the replies of its transactions after the top of a history
-abbrev pub replies_behind : Timeline → Finished → List Reply
-replies_behind t f = replies (past t t.top) (txns_of (batch_of_finished f))
+-- the batch of these transactions after the top of a history was evaluated: its replies follow the others, and its writes are listed
+pub record IsEvaluated (t : Timeline) (txns : List Txn) (was now : List Reply) (l : ListedWrites) : Type 0 where
+  pub batch : Batch
+  pub same : txns_of batch ≡ txns
+  pub listed : AreNextShares t batch (length txns) (l ∷ [])
+  pub told : now ≡ was ++ replies (past t t.top) txns
 
 -- ---- of the transaction with the timestamp t, in the serial run
 

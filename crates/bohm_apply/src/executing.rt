@@ -1,27 +1,29 @@
 //! The executing side: it runs batch after batch, as their plans arrive.
 
-ghost use Rattle.std.specs.Prelude.{◌≡◌, ◌+◌, ◌<◌, ◌≤◌, ◌^◌, All, length, IsSome, OnOk, OnErr};
+ghost use Rattle.std.specs.Prelude.{◌≡◌, ◌+◌, ◌<◌, ◌≤◌, ◌^◌, All, length, IsSome, IfOk, OnOk, OnErr};
 ghost use Rattle.bohm_txn.specs.Faulty.{IsWellFormedTxn};
-ghost use Rattle.bohm_place.specs.Noting.{HasKeysOf};
 ghost use Rattle.bohm_place.specs.Plans.{IsRightPlan};
 ghost use Rattle.bohm_place.specs.CutLogs.{cutting_of};
 ghost use Rattle.bohm_place.specs.Cuttings.{ArePlans};
+ghost use Rattle.bohm_board.specs.Bases.{IsBatched};
 ghost use Rattle.bohm_apply.specs.Lines.{IsWholeLine};
 ghost use Rattle.bohm_apply.specs.Progresses.{GoesOn, IsWalkOf, StaysPut};
+ghost use Rattle.bohm_apply.specs.Replies.{IsEvaluated};
 ghost use Rattle.bohm_apply.specs.Sides.{CanExecute};
 ghost use Rattle.bohm_types.specs.Limits.{largest_batch};
 
 use crate::plan_queue::{Line, PlanReceiver};
-use crate::replies::settle_batch;
+use crate::replies::push_replies;
 use crate::workers::{ScratchPool, finish_batch};
 use bohm_exec::Gate;
 use bohm_hints::IndexHints;
 use bohm_log::LogPart;
 use bohm_place::{CutLog, Plan};
-use bohm_store::History;
+use bohm_store::{History, ListedWrites};
 use bohm_txn::Replies;
 use bohm_types::NoMemory;
 use std::alloc::Global;
+use std::slice;
 use std::sync::Wait;
 use std::thread::Threads;
 
@@ -41,6 +43,38 @@ pub struct Executor {
     pub keep: u32,
 }
 
+/// Evaluates the batch that follows the history's top, appends its replies, and lists its writes.
+/// An error leaves the replies unchanged.
+fn evaluate_batch<G: Gate, R: Threads + Sync>(
+    rt: &R,
+    alloc: Global,
+    history: &History,
+    hints: &IndexHints,
+    pool: &mut ScratchPool,
+    replies: &mut Replies,
+    txns: &LogPart<'_>,
+    plan: Plan,
+    gate: &G,
+) -> Result<ListedWrites, NoMemory>
+    requires batched { IsBatched txns.now plan }
+    requires first { plan.first ≡ history.now.top + 1 }
+    ensures evaluated { IfOk result
+        (IsEvaluated history.now txns.now replies.old replies.new) }
+    ensures err { OnErr result (replies.new ≡ replies.old) }
+{
+    let batch = history.batch_with(hints, txns, plan);
+    let finished = finish_batch(rt, alloc, batch, pool, gate)?;
+    let answered = replies.len();
+    push_replies(alloc, replies, &finished)?;
+    match history.list_writes(alloc, hints, &finished, 0, finished.len()) {
+        Ok(listed) => Ok(listed),
+        Err(refusal) => {
+            replies.truncate(answered);
+            Err(refusal)
+        }
+    }
+}
+
 impl Executor {
     /// Runs the batch that follows the history's top.
     fn run_batch<G: Gate, R: Threads + Sync>(
@@ -58,24 +92,38 @@ impl Executor {
         requires formed { All IsWellFormedTxn txns.now }
         requires first { plan.first ≡ progress.old.history.top + 1 }
         requires right { ∥ IsRightPlan txns.now plan ∥₁ }
-        requires keys { HasKeysOf txns.now plan }
         ensures keep { self.new.keep ≡ self.old.keep }
         ensures ok { OnOk result (GoesOn progress.old progress.new txns.now self.old.keep) }
         ensures err { OnErr result (StaysPut progress.old progress.new) }
     {
-        let batch = progress
+        let answered = progress.replies.len();
+        let count = txns.len() as u32;
+        let floor = (progress.history.top() + count).saturating_sub(self.keep);
+        progress
             .history
-            .batch_with(alloc, &mut self.hints, txns, plan)?;
-        let finished = finish_batch(rt, alloc, batch, &mut self.pool, gate)?;
-        settle_batch(
+            .note_keys(&mut self.hints, txns.keys().names())?;
+        let listed = evaluate_batch(
+            rt,
             alloc,
-            &mut progress.history,
+            &progress.history,
+            &self.hints,
+            &mut self.pool,
             &mut progress.replies,
-            &mut self.hints,
-            &finished,
-            self.keep,
+            txns,
+            plan,
+            gate,
         )?;
-        Ok(())
+        let shares = slice::from_ref(&listed);
+        match progress
+            .history
+            .install(alloc, &mut self.hints, shares, count, floor)
+        {
+            Ok(()) => Ok(()),
+            Err(refusal) => {
+                progress.replies.truncate(answered);
+                Err(refusal)
+            }
+        }
     }
 
     /// Runs the batches of a log by their plans. An error ends the run. The time grows with the

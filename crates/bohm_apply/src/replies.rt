@@ -1,15 +1,12 @@
 //! The replies of finished batches.
 
-ghost use Rattle.std.specs.Prelude.{◌≡◌, ◌+◌, ◌-◌, ◌++◌, List, length, OnOk, OnErr};
+ghost use Rattle.std.specs.Prelude.{◌≡◌, ◌++◌, List, OnOk, OnErr};
 ghost use Rattle.bohm_txn.specs.declared.outcome.Reply.{Reply};
-ghost use Rattle.bohm_board.specs.Batches.{IsIn, txns_of};
+ghost use Rattle.bohm_board.specs.Batches.{IsIn};
 ghost use Rattle.bohm_exec.specs.Answers.{batch_of_finished};
-ghost use Rattle.bohm_store.specs.Nexts.{IsNext, IsSame, IsSettledKept};
-ghost use Rattle.bohm_apply.specs.Replies.{AreSerialShows, IsReplied, replies_behind, replies_of};
+ghost use Rattle.bohm_apply.specs.Replies.{AreSerialShows, IsReplied, replies_of};
 
 use bohm_exec::Finished;
-use bohm_hints::IndexHints;
-use bohm_store::History;
 use bohm_txn::{Outcome, Replies, shows};
 use bohm_types::{Cell, NoMemory, Value};
 use std::alloc::Global;
@@ -69,7 +66,7 @@ fn push_some(alloc: Global, replies: &mut Replies, finished: &Finished<'_>) -> R
 
 /// Appends the reply of each transaction of a finished batch, in log order. An error leaves the
 /// list unchanged. The time grows with the number of the batch's statements.
-fn push_replies(
+pub(crate) fn push_replies(
     alloc: Global,
     replies: &mut Replies,
     finished: &Finished<'_>,
@@ -83,34 +80,4 @@ fn push_replies(
         replies.truncate(before);
     }
     pushed
-}
-
-/// Appends the replies of the finished batch, which is the next one of the history, and settles it
-/// there, trimmed at `keep` timestamps below the batch's end. An error leaves the visible state
-/// unchanged.
-pub(crate) fn settle_batch(
-    alloc: Global,
-    history: &mut History,
-    replies: &mut Replies,
-    hints: &mut IndexHints,
-    finished: &Finished<'_>,
-    keep: u32,
-) -> Result<(), NoMemory>
-    requires { IsNext history.old (batch_of_finished finished.now) }
-    ensures settled { let txns = txns_of (batch_of_finished finished.now) in
-        let floor = (history.old.top + length txns) - keep in
-        OnOk result (IsSettledKept history.old history.new txns floor) }
-    ensures replies { let told = replies_behind history.old finished.now in
-        OnOk result (replies.new ≡ replies.old ++ told) }
-    ensures same { OnErr result (IsSame history.old history.new) }
-    ensures kept { OnErr result (replies.new ≡ replies.old) }
-{
-    let before = replies.len();
-    push_replies(alloc, replies, finished)?;
-    let floor = (history.top() + finished.len()).saturating_sub(keep);
-    let settled = history.settle_kept(alloc, hints, finished, floor);
-    if settled.is_err() {
-        replies.truncate(before);
-    }
-    settled
 }

@@ -17,7 +17,7 @@ use bohm_hints::IndexHints;
 use bohm_log::{LogPart, TxnView};
 use bohm_place::{CutLog, Cuts};
 use bohm_store::{History, Workspace};
-use bohm_txn::{Replies, Scratch};
+use bohm_txn::{Replies, ReplySink, Scratch};
 use bohm_types::NoMemory;
 use std::alloc::Global;
 use std::mem;
@@ -56,10 +56,10 @@ impl SerialExecutor {
 
     /// Runs the transaction that follows the history's top, and appends its reply. After an error
     /// the transaction may or may not have run, and has no reply.
-    fn run_next(
+    fn run_next<S: ReplySink>(
         &mut self,
         history: &mut History,
-        replies: &mut Replies,
+        answered: &mut S,
         txn: &TxnView<'_>,
         hints: &mut IndexHints,
         keep: u32,
@@ -68,14 +68,16 @@ impl SerialExecutor {
         requires timestamp { history.old.top + 1 < 2 ^ 32 }
         ensures settled { OnOk result (IsSettledKept history.old history.new (txn.now ∷ [])
             ((history.old.top + 1) - keep)) }
-        ensures reply { OnOk result (replies.new
-            ≡ replies.old ++ reply_of (body (past history.old history.old.top) txn.now) ∷ []) }
+        ensures reply { OnOk result (S.appended (history.old.top + 1) answered.old
+            (reply_of (body (past history.old history.old.top) txn.now) ∷ []) answered.new) }
         ensures tried { OnErr result (IsSame history.old history.new
             ⊎ IsSettledKept history.old history.new (txn.now ∷ []) ((history.old.top + 1) - keep)) }
-        ensures unanswered { OnErr result (replies.new ≡ replies.old) }
+        ensures unanswered { OnErr result
+            (S.appended (history.old.top + 1) answered.old [] answered.new) }
     {
+        let number = history.top() + 1;
         let outcome = history.run_next(txn, keep, hints, &mut self.workspace, &mut self.scratch)?;
-        replies.push(outcome, self.scratch.shows())?;
+        answered.push(number as u64, outcome, self.scratch.shows())?;
         Ok(())
     }
 
@@ -87,10 +89,10 @@ impl SerialExecutor {
     ///
     /// If an allocation fails, the first of the transactions may have run, and replies may have
     /// been appended. The time grows with the number of the transactions' terms.
-    pub fn run(
+    pub fn run<S: ReplySink>(
         &mut self,
         history: &mut History,
-        answered: &mut Replies,
+        answered: &mut S,
         txns: &LogPart<'_>,
         hints: &mut IndexHints,
         keep: u32,
@@ -100,11 +102,11 @@ impl SerialExecutor {
         requires formed { All IsWellFormedTxn txns.now }
         ensures applied { OnOk result (IsApplied history.old history.new txns.now keep
             (replies (past history.old history.old.top) txns.now)) }
-        ensures answered { OnOk result
-            (answered.new ≡ answered.old ++ replies (past history.old history.old.top) txns.now) }
+        ensures answered { OnOk result (S.appended (history.old.top + 1) answered.old
+            (replies (past history.old history.old.top) txns.now) answered.new) }
         ensures some { OnErr result (RanSome history.old history.new txns.now keep) }
-        ensures behind { OnErr result
-            ((more : List Reply) × (answered.new ≡ answered.old ++ more)) }
+        ensures behind { OnErr result ((more : List Reply)
+            × S.appended (history.old.top + 1) answered.old more answered.new) }
     {
         hints.cover(txns.keys().names())?;
         answered.reserve(txns.len())?;

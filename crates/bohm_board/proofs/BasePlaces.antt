@@ -20,7 +20,8 @@ use Rattle.bohm_place.specs.declared.declared_set.DeclaredSet.{DeclaredSet}
 use Rattle.bohm_place.specs.Noting.{declares_key}
 use Rattle.bohm_place.specs.Plans.{Planned, keys_in, HasSourcesOf, IsRightPlan}
 use Rattle.bohm_board.specs.declared.batch.Batch.{Batch}
-use Rattle.bohm_board.specs.Batches.{entries_of, key_in, accesses_in, position, IsIn}
+use Rattle.bohm_board.specs.declared.base.Base.TheVariants.{Listed}
+use Rattle.bohm_board.specs.Batches.{key_in, accesses_in, position, txn_at, IsIn}
 use Rattle.bohm_board.proofs.SlotNumbers.{txn_there}
 use Rattle.bohm_board.proofs.WantedSources.{keys_paired}
 use Rattle.bohm_board.specs.Bases.{keys_of, declared_keys, IsBase, IsBatched}
@@ -88,13 +89,19 @@ batched_on txns p q is same right = record {
 
 -- ---- indices in a batch's base
 
--- an access whose source is `Before` has the index of its key in the base
-pub placed : (b : Batch) (set : DeclaredSet) (t j : ℕ) (a : Access) → IsIn b t → slice_get (accesses_in set b t) j ≡ Some a → a.source ≡ Before
-    → (k : List ℕ) × (key_in set b t j ≡ Some k) × (slice_get (keys_of (entries_of b)) a.index ≡ Some k)
-placed b set t j a is at before =
-    let (x, at_x) = txn_there b t is in
+-- an access of the batch has a key
+pub key_there : (b : Batch) (set : DeclaredSet) (t j : ℕ) (a : Access) (x : Txn) → txn_at b t ≡ Some x → slice_get (accesses_in set b t) j ≡ Some a
+    → (k : List ℕ) × (slice_get (keys_in set x) j ≡ Some k)
+key_there b set t j a x at_x at =
     let keys = keys_in set x in
     let low : j < length keys = omega (arith, slice_get_within (accesses_in set b t) j a at, keys_paired b set t x at_x) in
-    let k = get_or keys j [] in
-    let at_k : slice_get keys j ≡ Some k = slice_get-get_or keys j [] low in
-    (k, rw at_x at_k, b.noted set (position b t) j x a at_x at before k at_k)
+    (get_or keys j [], slice_get-get_or keys j [] low)
+
+-- an access whose source is `Before` has the index of its key in a listed base
+pub placed : (b : Batch) (entries : Entries) (set : DeclaredSet) (t j : ℕ) (a : Access) → IsIn b t → b.base ≡ Listed entries
+    → slice_get (accesses_in set b t) j ≡ Some a → a.source ≡ Before
+    → (k : List ℕ) × (key_in set b t j ≡ Some k) × (slice_get (keys_of entries) a.index ≡ Some k)
+placed b entries set t j a is listed at before =
+    let (x, at_x) = txn_there b t is in
+    let (k, at_k) = key_there b set t j a x at_x at in
+    (k, rw at_x at_k, (b.based entries listed).1 set (position b t) j x a at_x at before k at_k)

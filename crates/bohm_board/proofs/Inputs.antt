@@ -26,7 +26,8 @@ use Rattle.bohm_place.specs.Writers.{IsNewest, WritesAt}
 use Rattle.bohm_board.specs.declared.batch.Batch.{Batch}
 use Rattle.bohm_board.specs.declared.knowledge.RightSlot.{RightSlot}
 use Rattle.bohm_board.specs.declared.knowledge.Rights.{Rights}
-use Rattle.bohm_board.specs.Serial.{own_cells, offset}
+use Rattle.bohm_place.specs.Slots.{offset}
+use Rattle.bohm_board.specs.Serial.{own_cells}
 use Rattle.bohm_board.specs.Batches.{base_of, txns_of, plan_of, first_of, rights_of, right_cell, number}
 use Rattle.bohm_board.specs.Inputs.{IsCellFrom, IsCellOf, AreCellsOf, AreRight}
 use Rattle.bohm_place.proofs.ForCallers.{usable_at, newest_state_by}

@@ -13,7 +13,8 @@ use Rattle.bohm_txn.specs.declared.outcome.Reason.{Reason}
 use Rattle.bohm_txn.specs.Declares.{shows_in}
 use Rattle.bohm_txn.specs.Meaning.{Look, Run, Ended, body, body_from, perform, seen, or_stop}
 use Rattle.bohm_txn.specs.Serial.{after, state, outcome_of, shows_of}
-use Rattle.bohm_board.specs.Serial.{show_cells, own_cells, slot_at, slots_of, slots_from, outcomes, width, offset}
+use Rattle.bohm_place.specs.Slots.{width, offset}
+use Rattle.bohm_board.specs.Serial.{show_cells, own_cells, slot_at, slots_of, slots_from, outcomes}
 
 pub get_left : {A : Type 0} (xs ys : List A) (j : ℕ) (x : A) → slice_get xs j ≡ Some x → slice_get (xs ++ ys) j ≡ Some x
 get_left [] ys j x e = absurd cc
@@ -99,11 +100,6 @@ own_show look t j = get_right (map (after look t) t.writes) (show_cells (shows_i
     (omega (arith, length-map t.writes (after look t)))
 
 -- ---- offsets grow by the widths
-
-pub offset_next : (ts : List Txn) (u : ℕ) (x : Txn) → slice_get ts u ≡ Some x → offset ts (suc u) ≡ offset ts u + width x
-offset_next [] u x e = absurd cc
-offset_next (y ∷ ts) zero x e = let same : y ≡ x = same_Some y x e in rw same (omega arith)
-offset_next (y ∷ ts) (suc u) x e = omega (arith, offset_next ts u x e)
 
 pub offset_inside : (ts : List Txn) (u : ℕ) (x : Txn) → slice_get ts u ≡ Some x → offset ts u + width x ≤ offset ts (length ts)
 offset_inside [] u x e = absurd cc

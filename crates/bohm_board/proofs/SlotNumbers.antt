@@ -13,7 +13,8 @@ use Rattle.bohm_board.specs.declared.batch.Batch.{Batch}
 use Rattle.bohm_board.specs.declared.slot.Slot.{Slot}
 use Rattle.bohm_board.specs.declared.knowledge.RightSlot.{RightSlot}
 use Rattle.bohm_board.specs.declared.knowledge.Rights.{Rights}
-use Rattle.bohm_board.specs.Serial.{width, offset, own_cells, slot_at}
+use Rattle.bohm_place.specs.Slots.{width, offset}
+use Rattle.bohm_board.specs.Serial.{own_cells, slot_at}
 use Rattle.bohm_board.specs.Batches.{txns_of, base_of, first_of, position, timestamp, IsIn, IsSlot}
 use Rattle.bohm_board.specs.Batches.{txn_at, width_at, number, slot_numbered, rights_of, IsRightCell}
 use Rattle.bohm_board.specs.Encoding.{filled_word}

@@ -10,12 +10,11 @@ use Rattle.bohm_txn.specs.Meaning.{Look}
 use Rattle.bohm_txn.specs.Serial.{after}
 use Rattle.bohm_board.specs.declared.batch.Batch.{Batch}
 use Rattle.bohm_board.specs.declared.knowledge.RightSlot.{RightSlot}
-use Rattle.bohm_board.specs.Serial.{own_cells, slot_at, slots_of, slots_from, width, offset}
+use Rattle.bohm_place.specs.Slots.{width, offset}
+use Rattle.bohm_board.specs.Serial.{own_cells, slot_at, slots_of, slots_from}
 use Rattle.bohm_board.specs.Batches.{rights_of, base_of, txns_of, first_of}
-use Rattle.bohm_board.proofs.SerialSlots.{length-own_cells, length-outcomes, length-slots_of, length-slots, offset_next}
+use Rattle.bohm_board.proofs.SerialSlots.{length-own_cells, length-outcomes, length-slots_of, length-slots}
 use Rattle.std.proofs.lemmas.List.{length-append, get_or_append_left, get_or-append_right}
-use Rattle.bohm_board.specs.declared.layout.Layout.{Layout}
-use Rattle.bohm_board.specs.Layouts.{AreStarts, IsLayoutOf}
 
 abbrev pub InSecond : {A : Type 0} → List A → List A → ℕ → A → Type 0
 InSecond xs ys p x = (m : ℕ) × (p ≡ length xs + m) × (slice_get ys m ≡ Some x)
@@ -86,20 +85,3 @@ outcomes_long b = length-outcomes (base_of b) (txns_of b)
 pub slots_long : (b : Batch) → length (rights_of b).slots ≡ offset (txns_of b) (length (txns_of b))
 unfolding rights_of
 slots_long b = length-slots (first_of b) (base_of b) (txns_of b)
-
--- ---- the starts and sizes of a layout
-
-pub next_offset : (ts : List Txn) (i : ℕ) (x : Txn) → slice_get ts i ≡ Some x → offset ts (i + 1) ≡ offset ts i + width x
-next_offset ts i x e = rw add-one (offset_next ts i x e)
-
-pub one_start : (ts : List Txn) (i : ℕ) (xs : List ℕ) (n : ℕ) → AreStarts ts i xs → n ≡ offset ts i → AreStarts ts (i + 1) (xs ++ n ∷ [])
-one_start ts i xs n are e = record {
-  long = omega (arith, length-append xs (n ∷ []), are.long);
-  each = below_more (λ j. get_or (xs ++ n ∷ []) j 0 ≡ offset ts j) i
-      (λ j h. get_or_append_left xs (n ∷ []) 0 j (omega (arith, are.long)) ∙ are.each j h)
-      (let none : i - i ≡ 0 = omega arith in get_or-append_right xs (n ∷ []) i i 0 are.long (omega arith) ∙ (ap (λ (z : ℕ). get_or (n ∷ []) z 0) none ∙ e));
-}
-
-pub layout_lengths : (b : Batch) (l : Layout) → IsLayoutOf (txns_of b) l
-    → (length (rights_of b).outcomes ≡ l.positions) × (length (rights_of b).slots ≡ l.slots)
-layout_lengths b l is = (outcomes_long b ∙ sym is.positions, slots_long b ∙ sym is.slots)

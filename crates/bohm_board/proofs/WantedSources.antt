@@ -1,5 +1,5 @@
 -- Each declared key has an access, and each wanted source is an earlier position of the batch.
-use Rattle.std.proofs.Common.{◌≡◌, ℕ, ◌+◌, ◌<◌, List, [], ◌++◌, length, Bool, true, false, Option, Some}
+use Rattle.std.proofs.Common.{◌≡◌, ℕ, ◌+◌, ◌<◌, ◌≤◌, List, [], ◌++◌, length, Bool, true, false, Option, Some}
 use Rattle.std.proofs.Common.{option_map, unwrap_or, ap, sym, ◌∙◌, subst, ⊎_elim, inl, inr, refl, arith}
 use Rattle.std.specs.Prelude.{Contains, ◌⊎◌, if◌then◌else◌}
 use Rattle.std.specs.List.{slice_get}
@@ -15,14 +15,17 @@ use Rattle.bohm_place.specs.declared.access.Source.{Source}
 use Rattle.bohm_place.specs.declared.access.Source.TheVariants.{Within}
 use Rattle.bohm_place.specs.declared.declared_set.DeclaredSet.{DeclaredSet}
 use Rattle.bohm_place.specs.declared.declared_set.DeclaredSet.TheVariants.{Reads, Writes}
-use Rattle.bohm_place.specs.Plans.{IsRightAccess, AreRightAccesses, IsIndexOf, keys_in, sure_at}
+use Rattle.bohm_place.specs.Plans.{IsRightAccess, AreRightAccesses, IsIndexOf, keys_in, slot_at, sure_at}
+use Rattle.bohm_place.specs.Slots.{offset}
 use Rattle.bohm_place.specs.Writers.{IsNewest}
-use Rattle.bohm_place.proofs.ForCallers.{row_paired}
+use Rattle.bohm_place.proofs.ForCallers.{offset_few, row_paired}
 use Rattle.bohm_board.specs.declared.batch.Batch.{Batch}
-use Rattle.bohm_board.specs.Batches.{accesses_in, txns_of, first_of, plan_of, position, IsIn, IsSlot}
+use Rattle.bohm_board.specs.Bases.{most_batch_slots}
+use Rattle.bohm_board.specs.Batches.{accesses_in, txns_of, first_of, plan_of, position, rights_of, IsIn, IsSlot}
 use Rattle.bohm_board.specs.Batches.{txn_at, reads_at, writes_at, wanted_at, is_sure_at, slot_in}
 use Rattle.bohm_board.proofs.BoardLaw.{nothing_in}
 use Rattle.bohm_board.proofs.SlotNumbers.{txn_there, width_there}
+use Rattle.bohm_board.proofs.SlotPlaces.{slots_long}
 
 -- there is an access for each declared key
 pub keys_paired : (b : Batch) (set : DeclaredSet) (t : ℕ) (x : Txn) → txn_at b t ≡ Some x → length (keys_in set x) ≡ length (accesses_in set b t)
@@ -82,6 +85,18 @@ sure_planned b t sure inside at =
     ∥∥₁_elim b.batched.right (hlevel props)
     (λ plan. same_Some sure (is_sure x) (sym at ∙ plan.sure (position b t) x at_x)
     ∙ sym (ap (λ (o : Option Txn). unwrap_or (option_map is_sure o) false) at_x))
+
+-- the plan has the number of slots before a transaction, and the number of all slots
+pub slot_planned : (b : Batch) (t n : ℕ) → IsIn b t → slot_at (plan_of b) (position b t) ≡ Some n → n ≡ offset (txns_of b) (position b t)
+slot_planned b t n inside at =
+    let (x, at_x) = txn_there b t inside in
+    ∥∥₁_elim b.batched.right (hlevel props) (λ plan. same_Some n (offset (txns_of b) (position b t)) (sym at ∙ plan.slot (position b t) x at_x))
+
+pub slots_planned : (b : Batch) → (plan_of b).slots ≡ length (rights_of b).slots
+slots_planned b = ∥∥₁_elim b.batched.right (hlevel props) (λ plan. plan.slots ∙ sym (slots_long b))
+
+pub few_slots : (b : Batch) → length (rights_of b).slots ≤ most_batch_slots
+few_slots b = omega (arith, slots_long b, offset_few (txns_of b) (length (txns_of b)) b.batched.formed, b.batched.few)
 
 -- a wanted source is an earlier position, and has the slot that the access names
 pub wanted_earlier : (b : Batch) (t : ℕ) (a : Access) (u : ℕ) → IsIn b t → Contains (wanted_at b t) a → a.source ≡ Within u → IsEarlier b t a u

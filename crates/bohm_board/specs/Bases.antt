@@ -1,9 +1,14 @@
 -- The data of a batch: its transactions and plan, and the cells of its keys before it.
-use Rattle.std.specs.Prelude.{ℕ, ◌+◌, ◌<◌, ◌≤◌, ◌^◌, All, List, [], ◌∷◌, ◌++◌, length, map}
+use Rattle.std.specs.Prelude.{◌≡◌, ℕ, ◌+◌, ◌<◌, ◌≤◌, ◌^◌, All, List, [], ◌∷◌, ◌++◌, length, map}
 use Rattle.bohm_types.specs.declared.cell.Cell.{Cell}
+use Rattle.bohm_types.specs.declared.cell.Cell.TheVariants as cells
 use Rattle.bohm_types.specs.Txn.{Txn}
+use Rattle.bohm_hints.specs.Top.{top_cell}
 use Rattle.bohm_txn.specs.Faulty.{IsWellFormedTxn}
-use Rattle.bohm_place.specs.Noting.{AreKeysOf}
+use Rattle.bohm_txn.specs.Meaning.{Look, newest}
+use Rattle.bohm_board.specs.declared.base.Base.{Base}
+use Rattle.bohm_board.specs.declared.base.Base.TheVariants.{Listed, Top}
+use Rattle.bohm_place.specs.Noting.{AreKeysOf, AreNoted}
 use Rattle.bohm_place.specs.Plans.{Planned, IsRightPlan}
 use Rattle.bohm_types.specs.Limits.{largest_batch}
 
@@ -23,6 +28,23 @@ pub record IsBatched (txns : List Txn) (plan : Planned) : Type 0 where
   pub formed : All IsWellFormedTxn txns
   pub right : ∥ IsRightPlan txns plan ∥₁
 
+-- slots of a batch
+abbrev pub most_batch_slots : ℕ
+most_batch_slots = 131072
+
 -- a key has one entry if a transaction declares it, and otherwise none
 abbrev pub IsBase : List Txn → List (List ℕ × Cell) → Type 0
 IsBase txns entries = AreKeysOf txns (keys_of entries)
+
+-- the cell of each key, by a list of keys
+abbrev pub listed_cells : List (List ℕ × Cell) → Look
+listed_cells entries = λ k. newest entries k cells.Absent
+
+-- the cell of each key before the batch
+abbrev pub cells_of : Base → Look
+cells_of (Listed entries) = listed_cells entries
+cells_of (Top t) = top_cell t
+
+-- a listed base has the keys of the batch, and each access of the plan whose source is `Before` has the index of its key among them
+abbrev pub IsBaseFor : List Txn → Planned → Base → Type 0
+IsBaseFor txns plan base = (entries : List (List ℕ × Cell)) → base ≡ Listed entries → IsBase txns entries × AreNoted txns plan (keys_of entries)

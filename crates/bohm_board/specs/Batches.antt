@@ -2,19 +2,20 @@
 use Rattle.std.specs.Prelude.{◌≡◌, ℕ, ◌+◌, ◌-◌, ◌<◌, ◌≤◌, List, [], ◌++◌, length, Contains, Bool, false, Option, Some, slice_get, unwrap_or, if◌then◌else◌}
 use Rattle.std.specs.Option.{option_map}
 use Rattle.bohm_types.specs.declared.cell.Cell.{Cell}
-use Rattle.bohm_types.specs.declared.cell.Cell.TheVariants.{Absent}
 use Rattle.bohm_types.specs.Txn.{Txn}
 use Rattle.bohm_txn.specs.declared.outcome.Outcome.{Outcome}
-use Rattle.bohm_txn.specs.Meaning.{Look, newest}
+use Rattle.bohm_txn.specs.Meaning.{Look}
 use Rattle.bohm_txn.specs.Sure.{is_sure}
 use Rattle.bohm_place.specs.declared.access.Access.{Access}
 use Rattle.bohm_place.specs.declared.access.Source.TheVariants.{Within}
 use Rattle.bohm_place.specs.declared.declared_set.DeclaredSet.{DeclaredSet}
+use Rattle.bohm_place.specs.Slots.{width, offset}
 use Rattle.bohm_place.specs.Plans.{Planned, keys_in, planned_in, reads_of, writes_of}
+use Rattle.bohm_board.specs.Bases.{cells_of}
 use Rattle.bohm_board.specs.declared.batch.Batch.{Batch}
 use Rattle.bohm_board.specs.declared.slot.Slot.{Slot}
 use Rattle.bohm_board.specs.declared.knowledge.Rights.{Rights}
-use Rattle.bohm_board.specs.Serial.{width, offset, slots_from, outcomes}
+use Rattle.bohm_board.specs.Serial.{slots_from, outcomes}
 
 abbrev pub txns_of : Batch → List Txn
 txns_of b = b.txns
@@ -22,16 +23,13 @@ txns_of b = b.txns
 abbrev pub plan_of : Batch → Planned
 plan_of b = b.plan
 
-abbrev pub entries_of : Batch → List (List ℕ × Cell)
-entries_of b = b.base
-
 -- the timestamp of the first transaction
 abbrev pub first_of : Batch → ℕ
 first_of b = b.plan.first
 
 -- the cell of each key before the batch
 abbrev pub base_of : Batch → Look
-base_of b = λ k. newest (entries_of b) k Absent
+base_of b = cells_of b.base
 
 -- ---- positions and slots
 

@@ -9,6 +9,5 @@ pub mod Events
 pub mod Law
 pub mod Shown
 pub mod Steps
-pub mod Layouts
 pub mod Passes
 pub mod Closings

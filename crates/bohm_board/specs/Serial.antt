@@ -1,5 +1,5 @@
 -- The outcomes and cells of transactions that run one after another.
-use Rattle.std.specs.Prelude.{ℕ, zero, suc, ◌+◌, ℤ, List, [], ◌∷◌, ◌++◌, map, length}
+use Rattle.std.specs.Prelude.{ℕ, zero, suc, ◌+◌, ℤ, List, [], ◌∷◌, ◌++◌, map}
 use Rattle.bohm_types.specs.declared.cell.Cell.{Cell}
 use Rattle.bohm_types.specs.declared.cell.Cell.TheVariants.{Absent, Present}
 use Rattle.bohm_types.specs.Txn.{Txn}
@@ -18,16 +18,6 @@ show_cells (suc n) (z ∷ zs) = Present z ∷ show_cells n zs
 -- a transaction's own cells: for each declared write the key's cell after it, then for each `show` its value, or absence on an abort
 abbrev pub own_cells : Look → Txn → List Cell
 own_cells look t = map (after look t) t.writes ++ show_cells (shows_in t.body) (shows_of (body look t))
-
--- the number of a transaction's slots
-abbrev pub width : Txn → ℕ
-width t = length t.writes + shows_in t.body
-
--- the number of slots before position i
-abbrev pub offset : List Txn → ℕ → ℕ
-offset ts zero = 0
-offset [] (suc i) = 0
-offset (t ∷ ts) (suc i) = width t + offset ts i
 
 abbrev pub slot_at : ℕ → ℕ → Cell → RightSlot
 slot_at t j c = record { slot = record { txn = t; index = j }; cell = c }

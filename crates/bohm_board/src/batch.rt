@@ -1,47 +1,32 @@
 //! A batch: its transactions, their plan and their base.
 
-ghost use Rattle.std.specs.Prelude.{◌≡◌, ◌<◌, length, Some, IsSomeAnd, slice_get, true};
-ghost use Rattle.std.specs.List.{IsDistinct};
-ghost use Rattle.std.specs.Str.{bytes_eq};
+ghost use Rattle.std.specs.Prelude.{◌≡◌, ◌<◌, ◌≤◌, length, Some, IsSomeAnd, slice_get, true};
 ghost use Rattle.std.proofs.Props.{props};
-ghost use Rattle.bohm_types.specs.declared.cell.Cell.TheVariants.{Absent};
 ghost use Rattle.bohm_types.specs.Keys.{rising};
-ghost use Rattle.bohm_txn.specs.Meaning.{newest};
-ghost use Rattle.bohm_place.specs.Noting.{AreNoted, HasKeysOf};
-ghost use Rattle.bohm_place.specs.Plans.{source_in, HasSourcesOf};
+ghost use Rattle.bohm_hints.specs.Top.{top_cell};
+ghost use Rattle.bohm_place.specs.Plans.{keys_in, source_in, HasSourcesOf};
 ghost use Rattle.bohm_place.specs.declared.access.Source.TheVariants.{Before};
-ghost use Rattle.bohm_board.specs.Bases.{keys_of, IsBase, IsBatched};
+ghost use Rattle.bohm_board.specs.Bases.{keys_of, listed_cells, IsBase, IsBaseFor, IsBatched};
+ghost use Rattle.bohm_board.specs.Bases.{most_batch_slots};
 
 mod base_places;
 
+use crate::base::{Base, cell_of};
 use crate::batch::base_places::note_places;
-use crate::slot::width;
-use bohm_log::{LogPart, TxnView};
-use bohm_place::{Access, DeclaredSet, Plan, Source};
+use crate::slot::Slot;
+use bohm_hints::TopCells;
+use bohm_log::{Keys, LogPart, TxnView};
+use bohm_place::{Access, DeclaredSet, Plan, Source, width};
 use bohm_types::{Cell, Items, Key};
-
-// The cell of a key among entries with distinct keys; `Absent` if it has no entry.
-fn cell_of(entries: &[(Key, Cell)], key: &Key) -> Cell
-    requires { IsDistinct bytes_eq (keys_of entries.now) }
-    ensures { result ≡ newest entries.now key.now Absent }
-{
-    for (other, cell) in entries {
-        if *other == *key {
-            return *cell;
-        }
-    }
-    Cell::Absent
-}
 
 /// Transactions of a log that run together, their plan, and the cell before them of each key that
 /// they declare.
 pub struct Batch<'a> {
     txns: LogPart<'a>,
     plan: Plan,
-    base: Items<(Key, Cell)>,
+    base: Base<'a>,
     ghost batched: { IsBatched txns plan },
-    ghost based: { IsBase txns base } by { Prim.hlevel props },
-    ghost noted: { AreNoted txns plan (keys_of base) },
+    ghost based: { IsBaseFor txns plan base } by { Prim.hlevel props },
 }
 
 // Written by hand: a derived drop is proved again in each function that drops such a value.
@@ -55,10 +40,11 @@ impl<'a> Drop for Batch<'a> {
 }
 
 impl<'a> Batch<'a> {
-    ghost use Rattle.bohm_board.specs.Batches.{first_of, txns_of, plan_of, entries_of, base_of};
+    ghost use Rattle.bohm_board.specs.Batches.{first_of, txns_of, plan_of, base_of};
     ghost use Rattle.bohm_board.specs.Batches.{txn_at, key_in, accesses_in, reads_at, writes_at};
-    ghost use Rattle.bohm_board.specs.Batches.{position, rights_of, width_at, is_sure_at, IsIn};
+    ghost use Rattle.bohm_board.specs.Batches.{position, number, rights_of, width_at, is_sure_at, IsIn, IsSlot};
     ghost use Rattle.std.specs.Option.{option_map};
+    ghost use Rattle.bohm_types.specs.Txn.{Txn};
 
     /// A batch whose first transaction has the timestamp `first`. The base has exactly one entry
     /// for each key that a transaction declares, sorted by key. Each access of the plan whose
@@ -72,7 +58,7 @@ impl<'a> Batch<'a> {
         ensures first { first_of result ≡ first }
         ensures txns { txns_of result ≡ txns.entry }
         ensures plan { HasSourcesOf plan (plan_of result) }
-        ensures base { entries_of result ≡ base.items }
+        ensures base { base_of result ≡ listed_cells base.items }
     {
         // The plan has the timestamp too: only the contract needs it here.
         let _ = first;
@@ -81,25 +67,23 @@ impl<'a> Batch<'a> {
         Batch {
             txns,
             plan,
-            base: Items::from(base),
+            base: Base::Listed(Items::from(base)),
         }
     }
 
-    /// A batch whose plan has its keys: the base has an entry for each of them, in their order. Its
-    /// time is constant.
-    pub fn by_place(txns: LogPart<'a>, plan: Plan, base: Vec<(Key, Cell)>) -> Batch<'a>
-        requires batched { IsBatched txns plan }
-        requires keys { HasKeysOf txns plan }
-        requires base { keys_of base.items ≡ plan.keys }
+    /// A batch whose keys hold, before it, what they hold at the top of a history. Its time is
+    /// constant.
+    pub fn over(txns: LogPart<'a>, plan: Plan, top: TopCells<'a>) -> Batch<'a>
+        requires { IsBatched txns plan }
         ensures first { first_of result ≡ plan.first }
         ensures txns { txns_of result ≡ txns.entry }
         ensures plan { plan_of result ≡ plan }
-        ensures base { entries_of result ≡ base.items }
+        ensures base { base_of result ≡ top_cell top.entry }
     {
         Batch {
             txns,
             plan,
-            base: Items::from(base),
+            base: Base::Top(top),
         }
     }
 
@@ -158,6 +142,23 @@ impl<'a> Batch<'a> {
         width(&self.txn(t))
     }
 
+    /// The number of slots of all its transactions. Its time is constant.
+    pub(crate) fn slots(&self) -> usize
+        ensures slots { result ≡ length (rights_of self.now).slots }
+        ensures few { result ≤ most_batch_slots }
+    {
+        self.plan.slots()
+    }
+
+    /// The number of a slot among all slots of the batch, counted from 0. Its time is constant.
+    pub(crate) fn number(&self, slot: Slot) -> usize
+        requires { IsSlot self.now slot }
+        ensures number { result ≡ number self.now slot }
+        ensures inside { result < length (rights_of self.now).slots }
+    {
+        self.plan.slot(slot.txn) + slot.index as usize
+    }
+
     /// The source of the declared read at `index`, counted from 0, of the transaction with the
     /// timestamp `t`.
     pub fn read(&self, t: u32, index: u32) -> Source
@@ -188,25 +189,35 @@ impl<'a> Batch<'a> {
         self.plan.access(set, t, index)
     }
 
-    /// The cell, before the batch, of the key at `index`, counted from 0, in a declared set of the
-    /// transaction with the timestamp `t`. The source of the access must be `Before`. Its time is
-    /// constant.
-    pub fn cell_before(&self, set: DeclaredSet, t: u32, index: u32) -> Cell
+    /// The cell, before the batch, of the key at `index`, counted from 0, of these keys, which are
+    /// a declared set of the transaction with the timestamp `t`. The source of the access must be
+    /// `Before`. Its time is constant, but that a key of a history is looked up if it isn't where
+    /// it was when it was last seen.
+    pub fn cell_before(&self, set: DeclaredSet, t: u32, keys: &Keys<'_>, index: u32) -> Cell
         requires txn { IsIn self.now t }
+        requires keys { (x : Txn) → txn_at self.now t ≡ Some x → keys.now ≡ keys_in set x }
         requires index { index < length (accesses_in set self.now t) }
         requires source { source_in set (plan_of self.now) (position self.now t) index
             ≡ Some Before }
         ensures { option_map (base_of self.now) (key_in set self.now t index) ≡ Some result }
     {
-        let access = self.plan.access(set, t, index);
-        self.base.as_slice()[access.index as usize].1
+        match &self.base {
+            Base::Listed(entries) => {
+                let access = self.plan.access(set, t, index);
+                entries.as_slice()[access.index as usize].1
+            }
+            Base::Top(top) => top.cell(keys.number(index as usize), keys.key(index as usize)),
+        }
     }
 
-    /// The cell of a key before the batch; `Absent` if no transaction of the batch declares the
-    /// key. The time grows with the number of declared keys.
+    /// The cell of a key before the batch. The time grows with the number of keys that the batch
+    /// declares if it was made with a list of their cells, and is that of one look-up otherwise.
     pub fn before(&self, key: &Key) -> Cell
         ensures { result ≡ base_of self.now key.now }
     {
-        cell_of(self.base.as_slice(), key)
+        match &self.base {
+            Base::Listed(entries) => cell_of(entries.as_slice(), key),
+            Base::Top(top) => top.find(key),
+        }
     }
 }

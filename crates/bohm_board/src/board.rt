@@ -1,9 +1,8 @@
 //! The board of a batch, and its rule.
 
 ghost use Rattle.std.specs.Prelude.{◌≡◌, ◌+◌, length};
-ghost use Rattle.bohm_board.specs.Batches.{rights_of, txns_of};
+ghost use Rattle.bohm_board.specs.Batches.{rights_of};
 ghost use Rattle.bohm_board.specs.Shown.{IsSized, words_of};
-ghost use Rattle.bohm_board.specs.Layouts.{IsLayoutOf};
 
 mod calls;
 mod step_kinds;
@@ -12,7 +11,6 @@ mod steps;
 use crate::batch::Batch;
 use crate::columns::Columns;
 use crate::knowledge::View;
-use crate::layout::Layout;
 use atomic_table::{Table, TableRule};
 use std::alloc::Global;
 
@@ -34,14 +32,11 @@ impl<'a> TableRule<(), View, Batch<'a>> for BoardRule {
 pub struct Board<'a> {
     table: Table<(), View, Batch<'a>, BoardRule, Global>,
     batch: Batch<'a>,
-    layout: Layout,
     // Memory for the words once the board is closed.
     columns: Columns,
     ghost keyed: { table.shared.key ≡ batch },
-    ghost laid: { IsLayoutOf (txns_of batch) layout },
-    ghost positions: { length (rights_of batch).outcomes ≡ layout.positions },
-    ghost slots: { length (rights_of batch).slots ≡ layout.slots },
-    ghost sized: { table.shared.table_id.words ≡ layout.positions + (layout.slots + layout.slots) },
+    ghost sized: { let slots = length (rights_of batch).slots in
+        table.shared.table_id.words ≡ length (rights_of batch).outcomes + (slots + slots) },
     ghost bare: { table.shared.table_id.slots ≡ 0 },
     ghost room: { IsSized (rights_of batch) (words_of columns) },
 }
@@ -52,12 +47,10 @@ impl<'a> Drop for Board<'a> {
         let Self {
             table,
             batch,
-            layout,
             columns,
         } = self;
         drop(table);
         drop(batch);
-        drop(layout);
         drop(columns);
     }
 }

@@ -2,25 +2,19 @@
 
 ghost use Rattle.std.specs.Prelude.{◌≡◌, ◌+◌, ◌<◌, ◌≤◌, ℕ, length, slice_index, vec_len};
 ghost use Rattle.std.specs.Slots.{slots_items, slots_len, IsFull};
-ghost use Rattle.bohm_board.specs.Batches.{rights_of, txns_of};
+ghost use Rattle.bohm_board.specs.Batches.{rights_of};
 ghost use Rattle.bohm_board.specs.Shown.{AreSound, IsSized, words_of};
-ghost use Rattle.bohm_board.specs.Layouts.{IsLayoutOf};
 
 mod finals;
 
 use crate::batch::Batch;
 use crate::columns::Columns;
-use crate::layout::Layout;
 use std::alloc::Global;
 
 /// The words of a board on which no thread steps any more.
 pub struct Closed<'a> {
     pub(crate) batch: Batch<'a>,
-    pub(crate) layout: Layout,
     pub(crate) columns: Columns,
-    ghost laid: { IsLayoutOf (txns_of batch) layout },
-    ghost positions: { length (rights_of batch).outcomes ≡ layout.positions },
-    ghost slots: { length (rights_of batch).slots ≡ layout.slots },
     ghost sized: { IsSized (rights_of batch) (words_of columns) },
     ghost sound: { AreSound batch (words_of columns) },
 }
@@ -28,13 +22,8 @@ pub struct Closed<'a> {
 // Written by hand: a derived drop is proved again in each function that drops such a value.
 impl<'a> Drop for Closed<'a> {
     fn drop(self) {
-        let Self {
-            batch,
-            layout,
-            columns,
-        } = self;
+        let Self { batch, columns } = self;
         drop(batch);
-        drop(layout);
         drop(columns);
     }
 }

@@ -3,6 +3,7 @@
 //! Concurrency Control", VLDB 2015.
 #![tactic(auto)]
 
+mod base;
 mod batch;
 mod board;
 mod closed;
@@ -10,7 +11,6 @@ mod columns;
 mod encoding;
 mod knowledge;
 pub mod laws;
-mod layout;
 mod pass;
 mod slot;
 mod status;

@@ -11,7 +11,8 @@ use Rattle.bohm_txn.specs.Meaning.{Look, body}
 use Rattle.bohm_txn.specs.Serial.{after, outcome_of, shows_of}
 use Rattle.bohm_txn.proofs.ForCallers.{next}
 use Rattle.bohm_board.specs.declared.batch.Batch.{Batch}
-use Rattle.bohm_board.specs.Serial.{show_cells, offset}
+use Rattle.bohm_place.specs.Slots.{offset}
+use Rattle.bohm_board.specs.Serial.{show_cells}
 use Rattle.bohm_board.specs.Batches.{txns_of, base_of, position, txn_at, rights_of, right_cell, IsRightCell, IsRightOutcome}
 use Rattle.bohm_board.proofs.ForCallers.{own_right, outcome_right, own_write, own_show}
 use Rattle.bohm_exec.specs.Handed.{slot_of}

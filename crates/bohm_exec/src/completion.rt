@@ -1,6 +1,6 @@
 //! Evaluating the positions that no sweep finished.
 
-ghost use Rattle.std.specs.Prelude.{◌≡◌, ◌≢◌, ◌<◌, ℕ};
+ghost use Rattle.std.specs.Prelude.{◌≡◌, ◌≢◌, ◌<◌, ℕ, true};
 ghost use Rattle.bohm_board.specs.Batches.{accesses_in, IsIn, position, width_at};
 ghost use Rattle.bohm_board.specs.Closings.{batch_of_closed, status_in, IsFinished, IsUnfinished};
 ghost use Rattle.bohm_board.specs.Closings.{HasCell};
@@ -74,15 +74,29 @@ fn evaluate_left(closed: &mut Closed, t: u32, evaluator: &mut Evaluator)
     closed.set_outcome(t, outcome);
 }
 
+/// Whether no position was deferred.
+fn are_empty(asides: &[Aside]) -> bool
+    ensures { result ≡ true → (t : ℕ) → ¬ IsSetAside asides.now t }
+{
+    for aside in asides {
+        if !aside.pairs().is_empty() {
+            return false;
+        }
+    }
+    true
+}
+
 /// Evaluates, in log order, each position without an outcome. It allocates nothing. Each such
-/// position was deferred by a sweep, so that one of the `Aside`s contains it.
+/// position was deferred by a sweep, so that one of the `Aside`s contains it: if they are empty,
+/// the time grows only with their number, otherwise also with the number of positions.
 pub fn complete<'a>(mut closed: Closed<'a>, asides: &[Aside], scratch: &mut Scratch) -> Finished<'a>
     requires aside { (t : ℕ) →
         IsIn (batch_of_closed closed) t → IsUnfinished closed t → IsSetAside asides.now t }
     ensures batch { batch_of_finished result ≡ batch_of_closed closed.entry }
 {
-    // Only the contract needs them.
-    let _ = asides;
+    if are_empty(asides) {
+        return Finished::new(closed);
+    }
     let mut evaluator = Evaluator::new(scratch);
     let (first, len) = (closed.batch().first(), closed.batch().len());
     for distance in 0..len {

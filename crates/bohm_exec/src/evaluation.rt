@@ -8,16 +8,18 @@ ghost use Rattle.bohm_board.specs.Inputs.{AreCellsOf};
 ghost use Rattle.bohm_exec.specs.Handed.{AreFound, IsReady, AreRightSlots, slot_cell};
 ghost use Rattle.bohm_types.specs.Limits.{most_keys};
 
-use crate::wanted::count;
+use crate::wanted::keys_at;
 use bohm_board::Batch;
+use bohm_log::Keys;
 use bohm_place::{DeclaredSet, Source};
 use bohm_txn::{Outcome, Scratch, eval};
 use bohm_types::{Cell, MOST_KEYS};
 
-/// Copies from the base the cells of the accesses that take the version before the batch, each to
-/// its key's index.
-fn add_base(batch: &Batch, t: u32, set: DeclaredSet, cells: &mut [Cell])
+/// Copies the cells of the accesses that take the version before the batch, each to its key's
+/// index. The keys are those of the declared set.
+fn add_base(batch: &Batch, t: u32, set: DeclaredSet, keys: &Keys<'_>, cells: &mut [Cell])
     requires inside { IsIn batch.now t }
+    requires keys { (x : Txn) → txn_at batch.now t ≡ Some x → keys.now ≡ keys_in set x }
     requires paired { length (accesses_in set batch.now t) ≡ length cells.old }
     requires few { length cells.old ≤ most_keys }
     requires found { AreFound batch.now (accesses_in set batch.now t) cells.old }
@@ -26,7 +28,7 @@ fn add_base(batch: &Batch, t: u32, set: DeclaredSet, cells: &mut [Cell])
 {
     for index in 0..cells.len() {
         match batch.access(set, t, index as u32).source {
-            Source::Before => cells[index] = batch.cell_before(set, t, index as u32),
+            Source::Before => cells[index] = batch.cell_before(set, t, keys, index as u32),
             Source::Within(_) => {}
         }
     }
@@ -57,19 +59,21 @@ impl<'a> Evaluator<'a> {
         }
     }
 
-    /// Evaluates the position over its cells. All cells except those of the base must be there
-    /// before the call. After it `slot_cell` returns the cells of the position's slots.
+    /// Evaluates the position over its cells. All cells that the batch makes must be there before
+    /// the call. After it `slot_cell` returns the cells of the position's slots.
     pub(crate) fn evaluate(&mut self, batch: &Batch, t: u32) -> Outcome
         requires inside { IsIn batch.now t }
         requires ready { IsReady batch.now t self.old }
         ensures outcome { IsRightOutcome batch.now t result }
         ensures cells { AreRightSlots batch.now t self.new.scratch.now }
     {
-        let reads = &mut self.reads[..count(batch, t, DeclaredSet::Reads)];
-        let earlier = &mut self.earlier[..count(batch, t, DeclaredSet::Writes)];
-        add_base(batch, t, DeclaredSet::Reads, reads);
+        let read_keys = keys_at(batch, t, DeclaredSet::Reads);
+        let written_keys = keys_at(batch, t, DeclaredSet::Writes);
+        let reads = &mut self.reads[..read_keys.len()];
+        let earlier = &mut self.earlier[..written_keys.len()];
+        add_base(batch, t, DeclaredSet::Reads, &read_keys, reads);
         if !self.sure {
-            add_base(batch, t, DeclaredSet::Writes, earlier);
+            add_base(batch, t, DeclaredSet::Writes, &written_keys, earlier);
         }
         eval(&batch.txn(t), reads, earlier, self.scratch)
     }

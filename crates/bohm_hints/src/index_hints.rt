@@ -34,6 +34,11 @@ impl IndexHints {
         Ok(())
     }
 
+    /// How many keys that the log doesn't share have room.
+    pub fn len(&self) -> usize {
+        self.indexes.len()
+    }
+
     /// The likely index of the key with this number in the log, or an index that no key has.
     #[inline(always)]
     pub fn index(&self, number: u32) -> u32 {
@@ -49,9 +54,15 @@ impl IndexHints {
 
     /// Notes the index of the key with this number in the log, if there is room for it.
     pub fn note(&mut self, number: u32, index: u32) {
-        if let Some(own) = (number as usize).checked_sub(self.shared)
-            && let Some(hint) = self.indexes.get_mut(own)
-        {
+        if let Some(own) = (number as usize).checked_sub(self.shared) {
+            self.note_own(own, index);
+        }
+    }
+
+    /// Notes the index of the key with this number among those that the log doesn't share, if there
+    /// is room for it.
+    pub fn note_own(&mut self, own: usize, index: u32) {
+        if let Some(hint) = self.indexes.get_mut(own) {
             *hint = index;
         }
     }

@@ -14,8 +14,8 @@ use Rattle.bohm_place.proofs.Nested.{length-rows_from, laid-rows_from}
 use Rattle.bohm_place.proofs.Parted.{writes_distinct}
 
 -- the number of rows is below 2^32, and each row's accesses follow those of the rows before it
-pub are_rows : (first : ℕ) (txns : List Txn) (rows : List Row) → 0 < first → first + length txns ≤ 2 ^ 32 → rows ≡ rows_from 0 txns → AreRows rows
-are_rows first txns rows above room e = rw e (record { few = omega (arith, length-rows_from 0 txns, room, above); laid = laid-rows_from 0 txns })
+pub are_rows : (first : ℕ) (txns : List Txn) (rows : List Row) → 0 < first → first + length txns ≤ 2 ^ 32 → rows ≡ rows_from 0 0 txns → AreRows rows
+are_rows first txns rows above room e = rw e (record { few = omega (arith, length-rows_from 0 0 txns, room, above); laid = laid-rows_from 0 0 txns })
 
 -- all begins in the chains before the batch are below the first timestamp of the batch
 pub early : (part : List ℕ → ℕ) (first : ℕ) (shards given : List Keyed) → given ≡ shards → ((k : List ℕ) → All (λ b. b < first) (chain_in part shards k))

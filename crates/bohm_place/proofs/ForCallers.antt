@@ -10,7 +10,7 @@ pub use Rattle.bohm_place.proofs.NewestCell.{newest_state_by}
 -- a right plan has an access for each declared key, and noting an index changes no source
 pub use Rattle.bohm_place.proofs.Noted.{row_paired, sources_same, sources_twice, sources_long}
 pub use Rattle.bohm_place.proofs.NotedSets.{AreNotedBelow, none_noted, next_passed, next_noted, next_row, entered, few_keys}
--- the keys of a batch by number, and the declared sets of transactions by number
-pub use Rattle.bohm_place.proofs.Gathering.{few_at, few_sets, one_number, set_at, sets_long, there_is}
+-- the number of slots before each transaction
+pub use Rattle.bohm_place.proofs.Offsets.{offset_next, next_offset, offset_few}
 -- the number of transactions before each batch
 pub use Rattle.bohm_place.proofs.Sizes.{ahead_next}

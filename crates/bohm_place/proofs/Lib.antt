@@ -1,4 +1,3 @@
-mod GatheredPlaces
 mod Keyed
 mod NotedSets
 mod Rising
@@ -11,6 +10,7 @@ mod Placed
 mod Found
 mod Right
 mod Nested
+mod Offsets
 mod Parted
 mod NewestCell
 mod Members
@@ -18,7 +18,6 @@ mod Noted
 mod OneWorker
 mod Behind
 mod Numbers
-mod Gathering
 mod Sizes
 mod Plans
 pub mod ForCallers

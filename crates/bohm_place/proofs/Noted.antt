@@ -14,28 +14,27 @@ use Rattle.bohm_place.specs.declared.declared_set.DeclaredSet.{DeclaredSet}
 use Rattle.bohm_place.specs.declared.declared_set.DeclaredSet.TheVariants.{Reads, Writes}
 use Rattle.bohm_place.specs.declared.placeholder.Placeholder.{Placeholder}
 use Rattle.bohm_place.specs.declared.row.Row.{Row}
-use Rattle.bohm_place.specs.Plans.{Planned, access_of, accesses_of, planned_in, source_in, sure_at, keys_in, start_in, count_in}
+use Rattle.bohm_place.specs.Plans.{Planned, access_of, accesses_of, planned_in, source_in, slot_at, sure_at, keys_in, start_in, count_in}
 use Rattle.bohm_place.specs.Plans.{end_of, AreLaidFrom, HasSourcesOf, IsNote, IsNoted, AreRightAccesses, IsRightAccess, IsRightPlan}
-use Rattle.bohm_place.specs.Noting.{AreNoted}
 use Rattle.bohm_place.specs.Writers.{IsNewest}
 use Rattle.bohm_place.proofs.Right.{begin_before}
 use Rattle.bohm_place.proofs.Lists.{get_take, get_drop, set_same, set_other}
 
 -- ---- the accesses of a plan, from placeholders in memory
 
-abbrev pub laid_out : ℕ → List (List ℕ) → List Placeholder → List Row → Planned
-laid_out first keys vs rows = record { first = first; rows = map (accesses_of vs) rows; keys = keys }
+abbrev pub laid_out : ℕ → ℕ → List Placeholder → List Row → Planned
+laid_out first slots vs rows = record { first = first; rows = map (accesses_of vs) rows; slots = slots }
 
 -- the accesses of one declared set in a row
 abbrev cut : DeclaredSet → List Placeholder → Row → List Access
 cut s vs row = map access_of (take (count_in s row) (drop (start_in s row) vs))
 
-cut_of : (s : DeclaredSet) (first : ℕ) (keys : List (List ℕ)) (vs : List Placeholder) (rows : List Row) (m : ℕ) (o : Option Row) → slice_get rows m ≡ o
-    → planned_in s (laid_out first keys vs rows) m ≡ unwrap_or (option_map (cut s vs) o) []
-cut_of Reads first keys vs rows m None e = rw (slice_get-map (accesses_of vs) rows m, e) refl
-cut_of Reads first keys vs rows m (Some row) e = rw (slice_get-map (accesses_of vs) rows m, e) refl
-cut_of Writes first keys vs rows m None e = rw (slice_get-map (accesses_of vs) rows m, e) refl
-cut_of Writes first keys vs rows m (Some row) e = rw (slice_get-map (accesses_of vs) rows m, e) refl
+cut_of : (s : DeclaredSet) (first : ℕ) (slots : ℕ) (vs : List Placeholder) (rows : List Row) (m : ℕ) (o : Option Row) → slice_get rows m ≡ o
+    → planned_in s (laid_out first slots vs rows) m ≡ unwrap_or (option_map (cut s vs) o) []
+cut_of Reads first slots vs rows m None e = rw (slice_get-map (accesses_of vs) rows m, e) refl
+cut_of Reads first slots vs rows m (Some row) e = rw (slice_get-map (accesses_of vs) rows m, e) refl
+cut_of Writes first slots vs rows m None e = rw (slice_get-map (accesses_of vs) rows m, e) refl
+cut_of Writes first slots vs rows m (Some row) e = rw (slice_get-map (accesses_of vs) rows m, e) refl
 
 get_cut : (s : DeclaredSet) (vs : List Placeholder) (row : Row) (n : ℕ) → n < count_in s row
     → slice_get (cut s vs row) n ≡ option_map access_of (slice_get vs (start_in s row + n))
@@ -102,9 +101,9 @@ module _ (rows : List Row) (laid : AreLaidFrom 0 rows) where
 
   -- ---- one placeholder is replaced
 
-  module _ (first : ℕ) (keys : List (List ℕ)) (vs : List Placeholder) (set : DeclaredSet) (i j place : ℕ) (row : Row) (at : slice_get rows i ≡ Some row)
+  module _ (first : ℕ) (slots : ℕ) (vs : List Placeholder) (set : DeclaredSet) (i j place : ℕ) (row : Row) (at : slice_get rows i ≡ Some row)
       (l : j < count_in set row) (within : (start_in set row + j) < length vs) (noted : Placeholder) (none : noted.begin ≡ 0) (index : noted.index ≡ place)
-      (before : source_in set (laid_out first keys vs rows) i j ≡ Some Before) where
+      (before : source_in set (laid_out first slots vs rows) i j ≡ Some Before) where
     abbrev pub p : ℕ
     p = start_in set row + j
 
@@ -121,7 +120,7 @@ module _ (rows : List Row) (laid : AreLaidFrom 0 rows) where
     there = get_cut set new row j l ∙ ap (option_map access_of) at_place ∙ ap (λ a. Some a) now
 
     was : option_map (λ (a : Access). a.source) (slice_get (cut set vs row) j) ≡ Some Before
-    was = ap (λ accesses. option_map (λ (a : Access). a.source) (slice_get accesses j)) (sym (cut_of set first keys vs rows i (Some row) at)) ∙ before
+    was = ap (λ accesses. option_map (λ (a : Access). a.source) (slice_get accesses j)) (sym (cut_of set first slots vs rows i (Some row) at)) ∙ before
 
     -- replacing the placeholder changes no source in a row
     source_in_row : (s : DeclaredSet) (m n : ℕ) (other : Row) → slice_get rows m ≡ Some other
@@ -142,9 +141,9 @@ module _ (rows : List Row) (laid : AreLaidFrom 0 rows) where
         (cases_lt n (count_in s other))
 
     source_by : (s : DeclaredSet) (m n : ℕ) (o : Option Row) → slice_get rows m ≡ o
-        → source_in s (laid_out first keys new rows) m n ≡ source_in s (laid_out first keys vs rows) m n
-    source_by s m n None in_m = rw (cut_of s first keys new rows m None in_m, cut_of s first keys vs rows m None in_m) refl
-    source_by s m n (Some other) in_m = rw (cut_of s first keys new rows m (Some other) in_m, cut_of s first keys vs rows m (Some other) in_m)
+        → source_in s (laid_out first slots new rows) m n ≡ source_in s (laid_out first slots vs rows) m n
+    source_by s m n None in_m = rw (cut_of s first slots new rows m None in_m, cut_of s first slots vs rows m None in_m) refl
+    source_by s m n (Some other) in_m = rw (cut_of s first slots new rows m (Some other) in_m, cut_of s first slots vs rows m (Some other) in_m)
         (source_in_row s m n other in_m)
 
     each_in_row : (s : DeclaredSet) (m n : ℕ) (a : Access) (other : Row) → slice_get rows m ≡ Some other → slice_get (cut s new other) n ≡ Some a
@@ -161,56 +160,62 @@ module _ (rows : List Row) (laid : AreLaidFrom 0 rows) where
         ∙ sym (get_cut s new other n inside) ∙ at_n))
         (cases_eq (start_in s other + n) p)
 
-    each_by : (s : DeclaredSet) (m n : ℕ) (a : Access) (o : Option Row) → slice_get rows m ≡ o → slice_get (planned_in s (laid_out first keys new rows) m) n
-        ≡ Some a → (slice_get (planned_in s (laid_out first keys vs rows) m) n ≡ Some a) ⊎ IsNote set s i m j n place a
-    each_by s m n a None in_m at_n = let h = rw (cut_of s first keys new rows m None in_m) at at_n in absurd cc
+    each_by : (s : DeclaredSet) (m n : ℕ) (a : Access) (o : Option Row) → slice_get rows m ≡ o → slice_get (planned_in s (laid_out first slots new rows) m) n
+        ≡ Some a → (slice_get (planned_in s (laid_out first slots vs rows) m) n ≡ Some a) ⊎ IsNote set s i m j n place a
+    each_by s m n a None in_m at_n = let h = rw (cut_of s first slots new rows m None in_m) at at_n in absurd cc
     each_by s m n a (Some other) in_m at_n =
         let h : slice_get (cut s new other) n ≡ Some a =
-        ap (λ accesses. slice_get accesses n) (sym (cut_of s first keys new rows m (Some other) in_m)) ∙ at_n in
-        rw (cut_of s first keys vs rows m (Some other) in_m) (each_in_row s m n a other in_m h)
+        ap (λ accesses. slice_get accesses n) (sym (cut_of s first slots new rows m (Some other) in_m)) ∙ at_n in
+        rw (cut_of s first slots vs rows m (Some other) in_m) (each_in_row s m n a other in_m h)
 
-    sure_by : (m : ℕ) (o : Option Row) → slice_get rows m ≡ o → sure_at (laid_out first keys new rows) m ≡ sure_at (laid_out first keys vs rows) m
+    sure_by : (m : ℕ) (o : Option Row) → slice_get rows m ≡ o → sure_at (laid_out first slots new rows) m ≡ sure_at (laid_out first slots vs rows) m
     sure_by m None in_m = rw (slice_get-map (accesses_of new) rows m, slice_get-map (accesses_of vs) rows m, in_m) refl
     sure_by m (Some other) in_m = rw (slice_get-map (accesses_of new) rows m, slice_get-map (accesses_of vs) rows m, in_m) refl
 
-    pub noted_at : IsNoted (laid_out first keys vs rows) (laid_out first keys new rows) set i j place
+    slot_by : (m : ℕ) (o : Option Row) → slice_get rows m ≡ o → slot_at (laid_out first slots new rows) m ≡ slot_at (laid_out first slots vs rows) m
+    slot_by m None in_m = rw (slice_get-map (accesses_of new) rows m, slice_get-map (accesses_of vs) rows m, in_m) refl
+    slot_by m (Some other) in_m = rw (slice_get-map (accesses_of new) rows m, slice_get-map (accesses_of vs) rows m, in_m) refl
+
+    pub noted_at : IsNoted (laid_out first slots vs rows) (laid_out first slots new rows) set i j place
     noted_at = record {
       sources = record {
         first = refl;
         paired = length-map rows (accesses_of new) ∙ sym (length-map rows (accesses_of vs));
         sources = λ s m n. source_by s m n (slice_get rows m) refl;
         sure = λ m. sure_by m (slice_get rows m) refl;
+        slot = λ m. slot_by m (slice_get rows m) refl;
+        slots = refl;
       };
-      here = ap (λ accesses. slice_get accesses j) (cut_of set first keys new rows i (Some row) at) ∙ there;
+      here = ap (λ accesses. slice_get accesses j) (cut_of set first slots new rows i (Some row) at) ∙ there;
       each = λ s m n a. each_by s m n a (slice_get rows m) refl;
     }
 
 -- ---- the access at which an index is noted
 
-located_by : (first : ℕ) (keys : List (List ℕ)) (vs : List Placeholder) (rows : List Row) (set : DeclaredSet) (i j : ℕ) (row : Row) (o : Option Row)
-    → slice_get rows i ≡ o → row ≡ get_or rows i row → j < length (planned_in set (laid_out first keys vs rows) i)
+located_by : (first : ℕ) (slots : ℕ) (vs : List Placeholder) (rows : List Row) (set : DeclaredSet) (i j : ℕ) (row : Row) (o : Option Row)
+    → slice_get rows i ≡ o → row ≡ get_or rows i row → j < length (planned_in set (laid_out first slots vs rows) i)
     → (slice_get rows i ≡ Some row) × (j < count_in set row) × ((start_in set row + j) < length vs)
-located_by first keys vs rows set i j row None at is inside = let h = rw (cut_of set first keys vs rows i None at) at inside in absurd (omega arith)
-located_by first keys vs rows set i j row (Some other) at is inside =
+located_by first slots vs rows set i j row None at is inside = let h = rw (cut_of set first slots vs rows i None at) at inside in absurd (omega arith)
+located_by first slots vs rows set i j row (Some other) at is inside =
     let same : other ≡ row = sym (is ∙ get_or_from_slice_get rows i other row at) in
     let at' : slice_get rows i ≡ Some row = at ∙ ap (λ r. Some r) same in
-    let h = rw (cut_of set first keys vs rows i (Some row) at') at inside in
+    let h = rw (cut_of set first slots vs rows i (Some row) at') at inside in
     (at', omega (arith, length-cut set vs row), omega (arith, length-cut set vs row, length-drop (start_in set row) vs))
 
-pub noted_there : (first : ℕ) (keys : List (List ℕ)) (vs : List Placeholder) (rows : List Row) (set : DeclaredSet) (i j place : ℕ) (row : Row)
-    (v noted : Placeholder) → AreLaidFrom 0 rows → row ≡ get_or rows i row → j < length (planned_in set (laid_out first keys vs rows) i)
-    → v ≡ get_or vs (start_in set row + j) v → noted.begin ≡ v.begin → noted.index ≡ place → source_in set (laid_out first keys vs rows) i j ≡ Some Before
-    → IsNoted (laid_out first keys vs rows) (laid_out first keys (slice_set vs (start_in set row + j) noted) rows) set i j place
-noted_there first keys vs rows set i j place row v noted laid is inside there begin index before =
-    let located = located_by first keys vs rows set i j row (slice_get rows i) refl is inside in
+pub noted_there : (first : ℕ) (slots : ℕ) (vs : List Placeholder) (rows : List Row) (set : DeclaredSet) (i j place : ℕ) (row : Row)
+    (v noted : Placeholder) → AreLaidFrom 0 rows → row ≡ get_or rows i row → j < length (planned_in set (laid_out first slots vs rows) i)
+    → v ≡ get_or vs (start_in set row + j) v → noted.begin ≡ v.begin → noted.index ≡ place → source_in set (laid_out first slots vs rows) i j ≡ Some Before
+    → IsNoted (laid_out first slots vs rows) (laid_out first slots (slice_set vs (start_in set row + j) noted) rows) set i j place
+noted_there first slots vs rows set i j place row v noted laid is inside there begin index before =
+    let located = located_by first slots vs rows set i j row (slice_get rows i) refl is inside in
     let at_v : slice_get vs (start_in set row + j) ≡ Some v = slice_get_read vs (length vs) (start_in set row + j) v refl located.2 there in
     let found = get_cut set vs row j located.1 ∙ ap (option_map access_of) at_v in
     let source : option_map (λ (a : Access). a.source) (slice_get (cut set vs row) j) ≡ Some Before =
-    ap (λ accesses. option_map (λ (a : Access). a.source) (slice_get accesses j)) (sym (cut_of set first keys vs rows i (Some row) located.0)) ∙ before in
+    ap (λ accesses. option_map (λ (a : Access). a.source) (slice_get accesses j)) (sym (cut_of set first slots vs rows i (Some row) located.0)) ∙ before in
     let is_before : (access_of v).source ≡ Before = same_Some (access_of v).source Before (sym (ap (option_map (λ (a : Access). a.source)) found) ∙ source) in
-    noted_at rows laid first keys vs set i j place row located.0 located.1 located.2 noted (begin ∙ begin_before v is_before) index before
+    noted_at rows laid first slots vs set i j place row located.0 located.1 located.2 noted (begin ∙ begin_before v is_before) index before
 
--- ---- a plan stays right, and keeps its sources, when indices are noted or keys are added
+-- ---- a plan stays right, and keeps its sources, when indices are noted
 
 pub sources_twice : (p q r : Planned) → HasSourcesOf p q → HasSourcesOf q r → HasSourcesOf p r
 sources_twice p q r h g = record {
@@ -218,10 +223,12 @@ sources_twice p q r h g = record {
   paired = g.paired ∙ h.paired;
   sources = λ set i j. g.sources set i j ∙ h.sources set i j;
   sure = λ i. g.sure i ∙ h.sure i;
+  slot = λ i. g.slot i ∙ h.slot i;
+  slots = g.slots ∙ h.slots;
 }
 
 pub sources_same : (p : Planned) → HasSourcesOf p p
-sources_same p = record { first = refl; paired = refl; sources = λ set i j. refl; sure = λ i. refl }
+sources_same p = record { first = refl; paired = refl; sources = λ set i j. refl; sure = λ i. refl; slot = λ i. refl; slots = refl }
 
 pub rights_of_plan : (txns : List Txn) (p : Planned) (set : DeclaredSet) (i : ℕ) (x : Txn) → IsRightPlan txns p → slice_get txns i ≡ Some x
     → AreRightAccesses p.first txns (p.first + i) (keys_in set x) (planned_in set p i)
@@ -232,18 +239,6 @@ rights_of_plan txns p Writes i x right at = right.writes i x at
 pub row_paired : (txns : List Txn) (p : Planned) (set : DeclaredSet) (i : ℕ) (x : Txn) → ∥ IsRightPlan txns p ∥₁ → slice_get txns i ≡ Some x
     → length (keys_in set x) ≡ length (planned_in set p i)
 row_paired txns p set i x right at = ∥∥₁_elim right (hlevel props) (λ plan. (rights_of_plan txns p set i x plan at).paired)
-
--- a right plan stays right if its keys are replaced
-pub keyed_right : (txns : List Txn) (p : Planned) (keys : List (List ℕ)) → IsRightPlan txns p → IsRightPlan txns (record p { keys = keys })
-keyed_right txns p keys right = record { paired = right.paired; reads = right.reads; writes = right.writes; sure = right.sure }
-
-keyed_planned : (set : DeclaredSet) (p : Planned) (keys : List (List ℕ)) (i : ℕ) → planned_in set (record p { keys = keys }) i ≡ planned_in set p i
-keyed_planned Reads p keys i = refl
-keyed_planned Writes p keys i = refl
-
-pub keyed_noted : (txns : List Txn) (p : Planned) (keys base : List (List ℕ)) → AreNoted txns p base → AreNoted txns (record p { keys = keys }) base
-keyed_noted txns p keys base noted set i n x a at_x at_a =
-    noted set i n x a at_x (ap (λ accesses. slice_get accesses n) (sym (keyed_planned set p keys i)) ∙ at_a)
 
 -- two lists have the same length if both have elements at the same indices
 long_by : {A B : Type 0} (xs : List A) (ys : List B) (f : A → Source) (g : B → Source)
@@ -289,4 +284,6 @@ right_noted txns p q set i j place noted before right =
         each = right_noted_access txns p q set i j place noted before right Writes m x at;
       };
       sure = λ m x at. noted.sources.sure m ∙ right.sure m x at;
+      slot = λ m x at. noted.sources.slot m ∙ right.slot m x at;
+      slots = noted.sources.slots ∙ right.slots;
     })

@@ -17,7 +17,7 @@ use Rattle.bohm_place.proofs.Noted.{sources_same, sources_twice, right_noted}
 
 -- ---- one declared set
 
-module _ {K : Type 0} (p : Planned) (set : DeclaredSet) (i : ℕ) (keys base : List K) where
+module _ (p : Planned) (set : DeclaredSet) (i : ℕ) (keys base : List (List ℕ)) where
   pub none_noted : IsSetNoted p p set i keys base 0
   none_noted = record {
     sources = sources_same p;
@@ -42,7 +42,7 @@ module _ {K : Type 0} (p : Planned) (set : DeclaredSet) (i : ℕ) (keys base : L
           (cases_lt m n)
 
   -- the index of the key is noted for an access whose source is `Before`
-  pub next_noted : (q r : Planned) (n place : ℕ) (k : K) → IsSetNoted p q set i keys base n → IsNoted q r set i n place → source_in set q i n ≡ Some Before
+  pub next_noted : (q r : Planned) (n place : ℕ) (k : List ℕ) → IsSetNoted p q set i keys base n → IsNoted q r set i n place → source_in set q i n ≡ Some Before
       → slice_get keys n ≡ Some k → slice_get base place ≡ Some k → IsSetNoted p r set i keys base (n + 1)
   next_noted q r n place k noted now before at_key at_place = record {
     sources = sources_twice p q r noted.sources now.sources;

@@ -129,9 +129,6 @@ declared_at keys txns i s x numbers at is =
     let right : slice_get (map declared_sets txns) i ≡ Some (declared_sets x) = rw (slice_get-map declared_sets txns i, is) refl in
     same_Some (named_sets keys.names s) (declared_sets x) (sym left ∙ ap (λ ys. slice_get ys i) numbers.same ∙ right)
 
-pub as_many : (keys : Numbered) (txns : List Txn) → Numbers keys txns → length keys.sets ≡ length txns
-as_many keys txns numbers = sym (length-map keys.sets (named_sets keys.names)) ∙ ap length numbers.same ∙ length-map txns declared_sets
-
 module _ (mine : List ℕ → Bool) (first : ℕ) (names : List (List ℕ)) where
   pub stands_on : (txns : List Txn) (i : ℕ) (x : Txn) (numbers : List ℕ) (hand new : List Placeholder) → i < length txns → get_or txns i x ≡ x
       → names_at names numbers ≡ x.writes

@@ -3,7 +3,6 @@ use Rattle.std.specs.Prelude.{◌≡◌, ℕ, ◌+◌, ◌<◌, ◌≤◌, List,
 use Rattle.std.specs.Prelude.{Bool, ◌&&◌, nat_le, Option, Some, None, if◌then◌else◌, All}
 use Rattle.std.specs.List.{sum, list_all}
 use Rattle.bohm_types.specs.Txn.{Txn}
-use Rattle.bohm_place.specs.Noting.{HasKeysOf}
 use Rattle.bohm_place.specs.Plans.{Planned, IsRightPlan}
 use Rattle.bohm_types.specs.Limits.{largest_batch, last_timestamp}
 
@@ -25,11 +24,10 @@ first_at c i = c.first + ahead c.sizes i
 abbrev pub txns_at : Cutting → ℕ → List Txn
 txns_at c i = take (slice_index c.sizes i) (drop (ahead c.sizes i) c.log)
 
--- the plan is right for the batch at this index, and has its keys
+-- the plan is right for the batch at this index
 pub record IsPlanAt (c : Cutting) (i : ℕ) (p : Planned) : Type 0 where
   pub first : p.first ≡ first_at c i
   pub right : ∥ IsRightPlan (txns_at c i) p ∥₁
-  pub keys : HasKeysOf (txns_at c i) p
 
 -- each batch has its plan, in order
 pub record ArePlans (c : Cutting) (plans : List Planned) : Type 0 where

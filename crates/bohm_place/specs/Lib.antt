@@ -1,10 +1,10 @@
 pub mod Chains
 pub mod Noting
+pub mod Slots
 pub mod Writers
 pub mod Plans
 pub mod Shares
 pub mod Planners
 pub mod Numbered
-pub mod Gathering
 pub mod Cuttings
 pub mod CutLogs

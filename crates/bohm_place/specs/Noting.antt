@@ -1,4 +1,4 @@
--- The keys of a batch in its plan, and the indices of keys in a base.
+-- The keys that a batch declares, and the indices of keys in a base.
 use Rattle.std.specs.Prelude.{◌≡◌, ℕ, ◌<◌, ◌⊎◌, List, Bool, ◌||◌, Some, slice_get}
 use Rattle.std.specs.List.{list_any, IsDistinct}
 use Rattle.std.specs.Str.{bytes_eq}
@@ -17,24 +17,19 @@ pub record AreKeysOf (txns : List Txn) (keys : List (List ℕ)) : Type 0 where
   pub apart : IsDistinct bytes_eq keys
   pub each : (k : List ℕ) → is_among keys k ≡ list_any (declares_key k) txns
 
--- ---- indices in a base, of keys or of their numbers
+-- ---- indices in a base
 
 -- the access's index is that of key n in the base
-abbrev pub HasPlace : {K : Type 0} → List K → List K → ℕ → Access → Type 0
-HasPlace {K} base keys n a = (k : K) → slice_get keys n ≡ Some k → slice_get base a.index ≡ Some k
+abbrev pub HasPlace : List (List ℕ) → List (List ℕ) → ℕ → Access → Type 0
+HasPlace base keys n a = (k : List ℕ) → slice_get keys n ≡ Some k → slice_get base a.index ≡ Some k
 
 -- each access whose source is `Before` has the index of its key in the base
 abbrev pub AreNoted : List Txn → Planned → List (List ℕ) → Type 0
 AreNoted txns p base = (set : DeclaredSet) (i n : ℕ) (x : Txn) (a : Access) → slice_get txns i ≡ Some x → slice_get (planned_in set p i) n ≡ Some a
     → a.source ≡ Before → HasPlace base (keys_in set x) n a
 
--- the plan has the keys of the batch, and each access whose source is `Before` has the index of its key among them
-pub record HasKeysOf (txns : List Txn) (p : Planned) : Type 0 where
-  pub keys : AreKeysOf txns p.keys
-  pub noted : AreNoted txns p p.keys
-
 -- the second plan is the first with the indices of the first `count` keys of the set in row i
-pub record IsSetNoted {K : Type 0} (p q : Planned) (set : DeclaredSet) (i : ℕ) (keys base : List K) (count : ℕ) : Type 0 where
+pub record IsSetNoted (p q : Planned) (set : DeclaredSet) (i : ℕ) (keys base : List (List ℕ)) (count : ℕ) : Type 0 where
   pub sources : HasSourcesOf p q
   pub right : (txns : List Txn) → IsRightPlan txns p → IsRightPlan txns q
   pub each : (other : DeclaredSet) (m n : ℕ) (a : Access) → slice_get (planned_in other q m) n ≡ Some a

@@ -12,19 +12,21 @@ use Rattle.bohm_place.specs.declared.declared_set.DeclaredSet.{DeclaredSet}
 use Rattle.bohm_place.specs.declared.declared_set.DeclaredSet.TheVariants.{Reads, Writes}
 use Rattle.bohm_place.specs.declared.placeholder.Placeholder.{Placeholder}
 use Rattle.bohm_place.specs.declared.row.Row.{Row}
+use Rattle.bohm_place.specs.Slots.{offset}
 use Rattle.bohm_place.specs.Writers.{IsNewest, WritesAt}
 
--- the accesses of one transaction, in the order in which their keys are declared, and whether it is sure
+-- the accesses of one transaction, in the order in which their keys are declared, the number of slots of the transactions before it, and whether it is sure
 pub record Accesses : Type 0 where
   pub reads : List Access
   pub writes : List Access
+  pub slot : ℕ
   pub sure : Bool
 
--- the contract view of a plan: the first timestamp, the accesses of each transaction, and the gathered keys
+-- the contract view of a plan: the first timestamp, the accesses of each transaction, and the number of all slots
 pub record Planned : Type 0 where
   pub first : ℕ
   pub rows : List Accesses
-  pub keys : List (List ℕ)
+  pub slots : ℕ
 
 -- the accesses of the batch's transaction at this index
 abbrev pub reads_of : Planned → ℕ → List Access
@@ -35,6 +37,9 @@ writes_of p i = unwrap_or (option_map (λ row. row.writes) (slice_get p.rows i))
 
 abbrev pub sure_at : Planned → ℕ → Option Bool
 sure_at p i = option_map (λ row. row.sure) (slice_get p.rows i)
+
+abbrev pub slot_at : Planned → ℕ → Option ℕ
+slot_at p i = option_map (λ row. row.slot) (slice_get p.rows i)
 
 -- the keys and accesses of one of a transaction's two declared sets
 abbrev pub keys_in : DeclaredSet → Txn → List (List ℕ)
@@ -63,12 +68,15 @@ pub record AreRightAccesses (first : ℕ) (txns : List Txn) (t : ℕ) (keys : Li
   pub paired : length keys ≡ length accesses
   pub each : (j : ℕ) (k : List ℕ) (a : Access) → slice_get keys j ≡ Some k → slice_get accesses j ≡ Some a → IsRightAccess first txns t k a
 
--- the source of each access is the newest writer in the batch before the accessing transaction, and the sure transactions are marked
+-- the source of each access is the newest writer in the batch before the accessing transaction, the sure transactions are marked, and each transaction's
+-- slots follow those of the transactions before it
 pub record IsRightPlan (txns : List Txn) (p : Planned) : Type 0 where
   pub paired : length p.rows ≡ length txns
   pub reads : (i : ℕ) (txn : Txn) → slice_get txns i ≡ Some txn → AreRightAccesses p.first txns (p.first + i) txn.reads (reads_of p i)
   pub writes : (i : ℕ) (txn : Txn) → slice_get txns i ≡ Some txn → AreRightAccesses p.first txns (p.first + i) txn.writes (writes_of p i)
   pub sure : (i : ℕ) (txn : Txn) → slice_get txns i ≡ Some txn → sure_at p i ≡ Some (is_sure txn)
+  pub slot : (i : ℕ) (txn : Txn) → slice_get txns i ≡ Some txn → slot_at p i ≡ Some (offset txns i)
+  pub slots : p.slots ≡ offset txns (length txns)
 
 -- ---- indices in a base
 
@@ -76,12 +84,14 @@ pub record IsRightPlan (txns : List Txn) (p : Planned) : Type 0 where
 abbrev pub HasNoPlaces : Planned → Type 0
 HasNoPlaces p = (set : DeclaredSet) (i j : ℕ) (a : Access) → slice_get (planned_in set p i) j ≡ Some a → a.source ≡ Before → a.index ≡ 0
 
--- the second plan has the sources and the sure transactions of the first
+-- the second plan has the sources, the slots and the sure transactions of the first
 pub record HasSourcesOf (p q : Planned) : Type 0 where
   pub first : q.first ≡ p.first
   pub paired : length q.rows ≡ length p.rows
   pub sources : (set : DeclaredSet) (i j : ℕ) → source_in set q i j ≡ source_in set p i j
   pub sure : (i : ℕ) → sure_at q i ≡ sure_at p i
+  pub slot : (i : ℕ) → slot_at q i ≡ slot_at p i
+  pub slots : q.slots ≡ p.slots
 
 -- this is access j of the set in row i, with the index noted
 pub record IsNote (set other : DeclaredSet) (i m j n place : ℕ) (a : Access) : Type 0 where
@@ -105,12 +115,11 @@ pub record IsPlannable (first : ℕ) (txns : List Txn) : Type 0 where
   pub room : first + length txns ≤ 2 ^ 32
   pub formed : All IsWellFormedTxn txns
 
--- the right plan of the batch that starts at this timestamp, without noted indices and without keys
+-- the right plan of the batch that starts at this timestamp, without noted indices
 pub record IsPlanned (start : ℕ) (txns : List Txn) (plan : Planned) : Type 0 where
   pub first : plan.first ≡ start
   pub right : IsRightPlan txns plan
   pub unplaced : HasNoPlaces plan
-  pub unkeyed : plan.keys ≡ []
 
 -- ---- a plan in memory
 
@@ -122,6 +131,7 @@ abbrev pub accesses_of : List Placeholder → Row → Accesses
 accesses_of vs row = record {
   reads = map access_of (take row.reads (drop row.start vs));
   writes = map access_of (take row.writes (drop (row.start + row.reads) vs));
+  slot = row.slot;
   sure = row.sure;
 }
 

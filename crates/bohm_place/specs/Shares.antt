@@ -9,6 +9,7 @@ use Rattle.bohm_txn.specs.Sure.{is_sure}
 use Rattle.bohm_place.specs.declared.placeholder.Placeholder.{Placeholder}
 use Rattle.bohm_place.specs.declared.row.Row.{Row}
 use Rattle.bohm_place.specs.Chains.{Keyed, placeholders_in, chain_in, none, last_or}
+use Rattle.bohm_place.specs.Slots.{width}
 
 abbrev pub AreWellFormed : List Txn → Type 0
 AreWellFormed txns = All IsWellFormedTxn txns
@@ -57,11 +58,11 @@ newest_ahead first base ahead k = within first (last_or none (base k ++ placehol
 abbrev pub ahead_of : ℕ → List Txn → List ℕ → Placeholder
 ahead_of first ahead k = last_or none (placeholders_made first ahead k)
 
--- where the accesses of each transaction are, the first of them at `start`, and whether it is sure
-abbrev pub rows_from : ℕ → List Txn → List Row
-rows_from start [] = []
-rows_from start (t ∷ ts) = record { start = start; reads = length t.reads; writes = length t.writes; sure = is_sure t } ∷ rows_from
-    ((start + length t.reads) + length t.writes) ts
+-- where the accesses of each transaction are, the first of them at `start`, the number of slots before it, counted from `slot`, and whether it is sure
+abbrev pub rows_from : ℕ → ℕ → List Txn → List Row
+rows_from start slot [] = []
+rows_from start slot (t ∷ ts) = record { start = start; reads = length t.reads; writes = length t.writes; slot = slot; sure = is_sure t } ∷ rows_from
+    ((start + length t.reads) + length t.writes) (slot + width t) ts
 
 -- the greater begin and the greater index of the two
 abbrev pub greater_of : Placeholder → Placeholder → Placeholder

@@ -14,6 +14,6 @@ pub enum Source {
 pub struct Access {
     pub source: Source,
     /// The index, counted from 0, of the source's declared write of the key. For `Before` it is the
-    /// index of the key in the base, and 0 in a plan without keys.
+    /// index of the key in a listed base, and 0 in a plan as it was made.
     pub index: u32,
 }

@@ -1,10 +1,9 @@
-//! Planning: the batches of a log, placeholders for the versions of a batch, and the source of each
-//! access. The design is that of BOHM: Faleiro and Abadi, "Rethinking Serializable Multiversion
-//! Concurrency Control", VLDB 2015.
+//! Planning: the batches of a log, placeholders for the versions of a batch, the source of each
+//! access, and the slots of each transaction. The design is that of BOHM: Faleiro and Abadi,
+//! "Rethinking Serializable Multiversion Concurrency Control", VLDB 2015.
 #![tactic(auto)]
 
 mod access;
-mod batch_keys;
 mod by_key;
 mod by_number;
 mod byte_sum;
@@ -20,17 +19,16 @@ mod parallel;
 mod partition;
 mod placeholder;
 mod places;
-mod plan_keys;
 mod planned;
 mod planning;
 mod row;
 mod shards;
 mod single_threaded;
+mod slots;
 mod unplanned;
 mod worker;
 
 pub use access::{Access, Source};
-pub use batch_keys::BatchKeys;
 pub use byte_sum::ByteSum;
 pub use cut_log::CutLog;
 pub use cuts::Cuts;
@@ -40,7 +38,8 @@ pub use newest::Newest;
 pub use parallel::plan_by_number;
 pub use partition::Partition;
 pub use places::Places;
-pub use planned::{NumberedKey, Plan};
+pub use planned::Plan;
 pub use planning::plan;
 pub use shards::Shards;
 pub use single_threaded::plan_alone;
+pub use slots::width;

@@ -117,8 +117,8 @@ fn gather<P: Partition>(
 /// change from batch to batch. An error drops them. The time of a worker grows with the number of
 /// accesses, with a call of the partition for each access if there are several workers, and with
 /// the number of the log's keys that are new to its array. Before that, one thread takes time that
-/// grows with the number of terms, and after it, to join the results, time that grows with the
-/// number of accesses times the number of workers.
+/// grows with the number of statements and terms, and after it, to join the results, time that
+/// grows with the number of accesses times the number of workers.
 pub fn plan_by_number<P: Partition, R: Threads + Sync>(
     rt: &R,
     alloc: Global,
@@ -135,7 +135,7 @@ pub fn plan_by_number<P: Partition, R: Threads + Sync>(
     ensures below { IfOk result
         (λ r. All (λ a. All (λ v. v.begin < first + length txns.now) a) r.0.items) }
 {
-    let rows = rows(alloc, txns)?;
+    let (rows, slots) = rows(alloc, txns)?;
     let batch = UnplannedBatch {
         first,
         txns,
@@ -144,5 +144,5 @@ pub fn plan_by_number<P: Partition, R: Threads + Sync>(
     let jobs = jobs(alloc, newest)?;
     let each = plan_all(rt, alloc, jobs, batch, partition)?;
     let (newest, found) = gather(alloc, each, batch, partition)?;
-    Ok((newest, Plan::new(alloc, first, found, rows)))
+    Ok((newest, Plan::new(first, found, rows, slots)))
 }

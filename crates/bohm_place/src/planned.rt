@@ -1,33 +1,22 @@
 //! The plan of a batch.
 
-ghost use Rattle.std.specs.Prelude.{◌≡◌, [], ◌-◌, ◌<◌, ◌≤◌, length, slice_get, Some, IsSomeAnd};
+ghost use Rattle.std.specs.Prelude.{◌≡◌, ◌-◌, ◌<◌, ◌≤◌, length, slice_get, Some, IsSomeAnd};
 ghost use Rattle.bohm_place.specs.Plans.{access_of};
 
 use crate::access::{Access, Source};
 use crate::declared_set::DeclaredSet;
 use crate::placeholder::Placeholder;
 use crate::row::Row;
-use bohm_types::Key;
-use std::alloc::Global;
 use std::marker::Model;
 
-/// A key, and its number in its log.
-#[derive(Clone, Copy, Debug)]
-pub struct NumberedKey {
-    pub key: Key,
-    /// A hint: no contract says which key has the number, so a caller that looks a key up by it
-    /// also compares the keys.
-    pub number: u32,
-}
-
-/// The source of each access of a batch, and which transactions are sure. It may also have the keys
-/// that the batch declares, each once.
+/// The source of each access of a batch, the number of each transaction's first slot, and which
+/// transactions are sure. A slot is a declared write or a `show` of a transaction.
 #[derive(Drop)]
 pub struct Plan {
     first: u32,
     placeholders: Vec<Placeholder>,
     rows: Vec<Row>,
-    keys: Vec<NumberedKey>,
+    slots: usize,
 }
 
 impl Model for Plan {
@@ -39,7 +28,7 @@ impl Model for Plan {
     ghost view = { λ p. record {
       first = p.first;
       rows = map (accesses_of p.placeholders.items) p.rows.items;
-      keys = map (λ k. k.key) p.keys.items;
+      slots = p.slots;
     } };
 
     ghost invariant = { λ p. AreRows p.rows.items };
@@ -63,38 +52,26 @@ impl From<Placeholder> for Access {
 impl Plan {
     ghost use Rattle.std.specs.Prelude.{map};
     ghost use Rattle.bohm_place.specs.Plans.{accesses_of, planned_in, reads_of, writes_of};
-    ghost use Rattle.bohm_place.specs.Plans.{source_in, sure_at, AreRows, IsNoted};
+    ghost use Rattle.bohm_place.specs.Plans.{slot_at, source_in, sure_at, AreRows, IsNoted};
     ghost use Rattle.bohm_place.specs.declared.access.Source.TheVariants.{Before};
 
-    /// The plan, without keys, of a batch that starts at the timestamp `first`.
+    /// The plan of a batch that starts at the timestamp `first` and has this number of slots.
     pub(crate) fn new(
-        alloc: Global,
         first: u32,
         placeholders: Vec<Placeholder>,
         rows: Vec<Row>,
+        slots: usize,
     ) -> Plan
         requires { AreRows rows.items }
         ensures first { result.first ≡ first }
         ensures rows { result.rows ≡ map (accesses_of placeholders.items) rows.items }
-        ensures keys { result.keys ≡ [] }
+        ensures slots { result.slots ≡ slots }
     {
         Plan {
             first,
             placeholders,
             rows,
-            keys: Vec::new(alloc),
-        }
-    }
-
-    /// The plan with these keys instead of its own.
-    pub(crate) fn with_keys(self, keys: Vec<NumberedKey>) -> Plan
-        ensures { result ≡ record self { keys = map (λ k. k.key) keys.items } }
-    {
-        Plan {
-            first: self.first,
-            placeholders: self.placeholders,
-            rows: self.rows,
-            keys,
+            slots,
         }
     }
 
@@ -143,11 +120,21 @@ impl Plan {
         self.rows[(t - self.first) as usize].sure
     }
 
-    /// The gathered keys.
-    pub fn keys(&self) -> &[NumberedKey]
-        ensures { map (λ k. k.key) result.now ≡ self.now.keys }
+    /// The number of slots of the batch's transactions before the one with the timestamp `t`: the
+    /// number, counted from 0, of its first slot. Its time is constant.
+    pub fn slot(&self, t: u32) -> usize
+        requires first { self.now.first ≤ t }
+        requires txn { t - self.now.first < length self.now.rows }
+        ensures { slot_at self.now (t - self.now.first) ≡ Some result }
     {
-        &self.keys
+        self.rows[(t - self.first) as usize].slot
+    }
+
+    /// The number of slots of all the batch's transactions. Its time is constant.
+    pub fn slots(&self) -> usize
+        ensures { result ≡ self.now.slots }
+    {
+        self.slots
     }
 
     /// The access of the key at `index`, counted from 0, in a declared set of the transaction with
@@ -161,14 +148,13 @@ impl Plan {
         Access::from(self.placeholders[row.place(set, index)])
     }
 
-    /// Notes, at an access whose source is `Before`, the index of its key in the base of the batch.
-    /// All other accesses are unchanged. Its time is constant.
+    /// Notes, at an access whose source is `Before`, the index of its key in a listed base. All
+    /// other accesses are unchanged. Its time is constant.
     pub fn note(&mut self, set: DeclaredSet, t: u32, index: u32, place: u32)
         requires first { self.old.first ≤ t }
         requires index { index < length (planned_in set self.old (t - self.old.first)) }
         requires source { source_in set self.old (t - self.old.first) index ≡ Some Before }
-        ensures noted { IsNoted self.old self.new set (t - self.old.first) index place }
-        ensures keys { self.new.keys ≡ self.old.keys }
+        ensures { IsNoted self.old self.new set (t - self.old.first) index place }
     {
         let row = self.rows[(t - self.first) as usize];
         let accessed = row.place(set, index);

@@ -79,7 +79,7 @@ fn plan_all<P: Partition, R: Threads + Sync>(
 ///
 /// An error drops the shards. The time of a worker grows with the number of accesses, and with one
 /// look-up for each access of its keys. Before that, one thread takes time that grows with the
-/// number of terms.
+/// number of statements and terms.
 pub fn plan<P: Partition, R: Threads + Sync>(
     rt: &R,
     alloc: Global,
@@ -106,7 +106,7 @@ pub fn plan<P: Partition, R: Threads + Sync>(
         → All (λ b. b < first + length txns.now) (chain_in (P.part_of partition.now) r.0 k)) }
 {
     let workers = cc.min(partition.parts()) as usize;
-    let rows = rows(alloc, txns)?;
+    let (rows, slots) = rows(alloc, txns)?;
     let batch = UnplannedBatch {
         first,
         txns,
@@ -120,6 +120,6 @@ pub fn plan<P: Partition, R: Threads + Sync>(
     let found = gather(alloc, parts.as_mut_slice(), each, batch, partition, given)?;
     Ok((
         Shards::from_parts(parts),
-        Plan::new(alloc, first, found, rows),
+        Plan::new(first, found, rows, slots),
     ))
 }

@@ -1,22 +1,26 @@
-//! Where a transaction's accesses are in a plan.
+//! Where a transaction's accesses and slots are in a plan.
 
 ghost use Rattle.std.specs.Prelude.{◌≡◌, ◌<◌, ◌≤◌, ◌+◌, ◌^◌, length, IfOk};
 ghost use Rattle.bohm_place.specs.Plans.{start_in};
 ghost use Rattle.bohm_place.specs.Shares.{rows_from, AreWellFormed};
+ghost use Rattle.bohm_place.specs.Slots.{offset};
 
 use crate::declared_set::DeclaredSet;
+use crate::slots::width;
 use bohm_log::LogPart;
 use bohm_txn::sure;
 use bohm_types::NoMemory;
 use std::alloc::Global;
 
 /// The accesses of one transaction in a list of all accesses: its reads from index `start` on,
-/// followed by its writes; and whether the transaction is sure.
+/// followed by its writes; the number of slots of the batch's transactions before it; and whether
+/// the transaction is sure.
 #[derive(Clone, Copy, Debug)]
 pub struct Row {
     pub start: usize,
     pub reads: u32,
     pub writes: u32,
+    pub slot: usize,
     pub sure: bool,
 }
 
@@ -34,14 +38,17 @@ impl Row {
     }
 }
 
-/// The row of each transaction. The time grows with the number of their terms.
-pub fn rows(alloc: Global, txns: &LogPart<'_>) -> Result<Vec<Row>, NoMemory>
+/// The row of each transaction, and the number of their slots. The time grows with the number of
+/// their statements and terms.
+pub fn rows(alloc: Global, txns: &LogPart<'_>) -> Result<(Vec<Row>, usize), NoMemory>
     requires formed { AreWellFormed txns.now }
     requires few { length txns.now ≤ 2 ^ 32 }
-    ensures { IfOk result (λ v. v.items ≡ rows_from 0 txns.now) }
+    ensures rows { IfOk result (λ r. r.0.items ≡ rows_from 0 0 txns.now) }
+    ensures slots { IfOk result (λ r. r.1 ≡ offset txns.now (length txns.now)) }
 {
     let mut rows = Vec::with_capacity(alloc, txns.len())?;
     let mut start = 0;
+    let mut slots = 0usize;
     for index in 0..txns.len() {
         let txn = txns.txn(index);
         let reads = txn.reads().len();
@@ -50,9 +57,11 @@ pub fn rows(alloc: Global, txns: &LogPart<'_>) -> Result<Vec<Row>, NoMemory>
             start,
             reads: reads as u32,
             writes: writes as u32,
+            slot: slots,
             sure: sure(&txn),
         })?;
         start += reads + writes;
+        slots += width(&txn) as usize;
     }
-    Ok(rows)
+    Ok((rows, slots))
 }

@@ -20,8 +20,8 @@ use std::alloc::Global;
 /// the one that `plan` makes.
 ///
 /// The array is the one that planning the previous batch returned, or a new one. An error drops it.
-/// The time grows with the number of accesses and of terms, and with the number of the log's keys
-/// that are new to the array.
+/// The time grows with the number of accesses, of statements and of terms, and with the number of
+/// the log's keys that are new to the array.
 pub fn plan_alone(
     alloc: Global,
     newest: Newest,
@@ -33,7 +33,7 @@ pub fn plan_alone(
     ensures planned { IfOk result (λ r. IsPlanned first txns.now r.1) }
     ensures below { IfOk result (λ r. All (λ v. v.begin < first + length txns.now) r.0) }
 {
-    let rows = rows(alloc, txns)?;
+    let (rows, slots) = rows(alloc, txns)?;
     let batch = UnplannedBatch {
         first,
         txns,
@@ -45,5 +45,5 @@ pub fn plan_alone(
     };
     let job = NumberJob { worker, newest };
     let FoundByNumber { found, newest } = plan_numbers(alloc, job, batch, &Undivided)?;
-    Ok((newest, Plan::new(alloc, first, found, rows)))
+    Ok((newest, Plan::new(first, found, rows, slots)))
 }

@@ -22,7 +22,8 @@ use Rattle.bohm_text.specs.ProcedureReading.{let_zero}
 use Rattle.bohm_procedures.specs.Accepting.{own, IsAccepted, BeginsWithLets}
 use Rattle.std.specs.Int.RustNames.{unsigned_abs}
 use Rattle.bohm_log.proofs.ForCallers.{key_set_few}
-use Rattle.bohm_procedures.proofs.KeySetLaws.{key_set_rises, among_key_set_map}
+use Rattle.bohm_txn.proofs.ForCallers.{key_set_rises}
+use Rattle.bohm_procedures.proofs.KeySetLaws.{among_key_set_map}
 use Rattle.bohm_procedures.proofs.SubstitutionLaws.{Covers, BindAlike, unread_with, unwritten_with, misnamed_with, long_with, parts_with}
 
 -- t has no fault if s has none: t names the locals of s, and the keys that f gives for the keys of s

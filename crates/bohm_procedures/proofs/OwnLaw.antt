@@ -2,19 +2,15 @@
 use Rattle.std.proofs.Common.{◌≡◌, ℕ, Bool, true, List, [], ◌∷◌, ◌++◌, map, get_or, Option, Some, None, refl, ap, ◌∙◌}
 use Rattle.std.specs.Prelude.{pos}
 use Rattle.std.specs.Str.{bytes_eq}
-use Rattle.std.specs.Ordering.{nat_cmp, is_lt}
-use Rattle.std.specs.declared.cmp.Ordering.TheVariants.{Less}
-use Rattle.std.specs.Cmp.Lexicographic.{slice_cmp}
-use Rattle.std.proofs.lemmas.Bool.{and_parts}
 use Rattle.std.proofs.lemmas.Iterator.Adapters.{position_from-zero}
 use Rattle.std.proofs.lemmas.List.Quantifiers.{position-Some}
-use Rattle.bohm_types.specs.Keys.{rising, rises_from, place}
+use Rattle.bohm_types.specs.Keys.{rising, place}
 use Rattle.bohm_types.specs.Term.{Atom, Lit, Read, Local}
 use Rattle.bohm_types.specs.Stmt.{Cond, Stmt, Bind, Need, Has, Lacks, Put, Remove, Show, Fail}
-use Rattle.bohm_types.specs.KeySets.{inserted_by, inserted, key_set}
+use Rattle.bohm_types.specs.KeySets.{key_set}
 use Rattle.bohm_types.specs.Substitution.{atom_with, sum_with, guard_with, stmt_with}
 use Rattle.bohm_types.specs.Procedure.{Procedure, argument_or, stands_for, lets, instance}
-use Rattle.bohm_txn.proofs.ForCallers.{same_key, less}
+use Rattle.bohm_txn.proofs.ForCallers.{same_key, key_set_itself}
 use Rattle.bohm_text.specs.ProcedureReading.{let_zero}
 use Rattle.bohm_procedures.specs.Accepting.{own}
 
@@ -58,17 +54,6 @@ keys_same : (ks : List (List ℕ)) → map (λ k. k) ks ≡ ks
 keys_same [] = refl
 keys_same (k ∷ ks) = ap (λ r. k ∷ r) (keys_same ks)
 
-set_from : (k : List ℕ) (ks : List (List ℕ)) → rises_from k ks ≡ true → key_set (k ∷ ks) ≡ k ∷ ks
-set_from k [] e = refl
-set_from k (n ∷ ns) e =
-    let (first, rest) = and_parts (is_lt (slice_cmp nat_cmp k n)) (rises_from n ns) e in
-    let under : slice_cmp nat_cmp k n ≡ Less = less (slice_cmp nat_cmp k n) first in
-    ap (inserted k) (set_from n ns rest) ∙ ap (λ o. inserted_by o k n ns (inserted k ns)) under
-
-pub set_itself : (ks : List (List ℕ)) → rising ks ≡ true → key_set ks ≡ ks
-set_itself [] e = refl
-set_itself (k ∷ ks) e = set_from k ks e
-
 zeros : (xs : List (List ℕ)) → lets xs (map (λ x. pos 0) xs) ≡ map let_zero xs
 zeros [] = refl
 zeros (x ∷ xs) = ap (λ r. let_zero x ∷ r) (zeros xs)
@@ -84,7 +69,7 @@ own_is_instance p reads writes =
     })
     ∙ (λ i. record {
       edition = p.edition;
-      reads = (ap key_set (keys_same p.reads) ∙ set_itself p.reads reads) i;
-      writes = (ap key_set (keys_same p.writes) ∙ set_itself p.writes writes) i;
+      reads = (ap key_set (keys_same p.reads) ∙ key_set_itself p.reads reads) i;
+      writes = (ap key_set (keys_same p.writes) ∙ key_set_itself p.writes writes) i;
       body = map let_zero p.values ++ body_same p.body i;
     })

@@ -55,7 +55,7 @@ module _ (txns : List Txn) (was now : RunState) (same : now.in_store ≡ was.in_
   -- running a chunk that has no fault continues the run of the log
   pub chunk_ran : was.fault ≡ None → now.fault ≡ None → was.count + length txns ≤ 1000000 → IsFaultBehind was.count txns None
       → was.progress.history.top ≡ was.count
-      → IsPartRun was.progress.history now.progress.history txns was.executor.keep (was.progress.history.top + 1) was.text.items now.text.items
+      → IsPartRun was.progress.history now.progress.history txns was.executor.keep (was.progress.history.top + 1) was.text now.text
       → RunsChunk txns was now
   chunk_ran clean still few checked top part = record {
     in_store = same;
@@ -130,7 +130,7 @@ module _ (was now : RunState) (chunk : CheckedChunk) (next : IsNext was chunk) (
   }
 
   pub next_ran : AreReady was.count chunk.log → was.fault ≡ None → now.fault ≡ None
-      → IsPartRun was.progress.history now.progress.history chunk.log was.executor.keep (was.progress.history.top + 1) was.text.items now.text.items
+      → IsPartRun was.progress.history now.progress.history chunk.log was.executor.keep (was.progress.history.top + 1) was.text now.text
       → RunsNext chunk was now
   next_ran ready clean still part =
       let few : was.count ≤ 1000000 = omega (arith, ready.few) in

@@ -32,7 +32,7 @@ pub record IsStarted (keep : ℕ) (store : List (List ℕ × ℤ)) (s : RunState
   pub top : s.progress.history.top ≡ 0
   pub floor : s.progress.history.floor ≡ 0
   pub past : s.in_store ≡ None → past s.progress.history 0 ≡ cell_in (store_of store)
-  pub text : s.text.items ≡ []
+  pub text : s.text ≡ []
   pub count : s.count ≡ 0
   pub in_store : s.in_store ≡ store_fault store
   pub fault : s.fault ≡ s.in_store
@@ -45,7 +45,7 @@ IsLevel s = s.fault ≡ None → s.count ≤ most_txns → s.progress.history.to
 pub record IsRunTo (opened : Timeline) (d : Document) (s : RunState) : Type 0 where
   pub counted : IsCountOf (length d.log) s.count
   pub checked : IsCheckedTo d s.fault
-  pub run : s.fault ≡ None → length d.log ≤ most_txns → IsRun opened s.executor.keep d.log s.progress.history s.text.items
+  pub run : s.fault ≡ None → length d.log ≤ most_txns → IsRun opened s.executor.keep d.log s.progress.history s.text
 
 -- whatever was run before from an opened history was continued by these transactions
 pub record RunsChunk (txns : List Txn) (was now : RunState) : Type 0 where

@@ -98,14 +98,11 @@ fn answer(alloc: Global, state: RunState, ts: u32) -> Result<Vec<u8>, NoMemory>
         (λ text. (keep : ℕ) (unread unread' : Option (List ℕ))
         → (run : IsLogRun keep unread unread' state) → text.items ≡ answer_of run.document ts) }
 {
-    let RunState {
-        progress,
-        mut text,
-        ..
-    } = state;
+    let RunState { progress, text, .. } = state;
     let store = store_then(alloc, &progress.history, ts)?;
-    put_store(&mut text, store.as_slice())?;
-    Ok(text)
+    let mut bytes = text.into_bytes();
+    put_store(&mut bytes, store.as_slice())?;
+    Ok(bytes)
 }
 
 /// Reads a log to the reader's end, runs it as the settings say, and writes the text of its answer

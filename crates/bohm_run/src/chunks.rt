@@ -17,7 +17,7 @@ use bohm_log::{DrawnSeed, LogPart};
 use bohm_place::{CutLog, Cuts, Plan};
 use bohm_read_ahead::{CheckedChunk, Prepared, counted};
 use bohm_store::History;
-use bohm_text::put_replies;
+use bohm_text::ReplyText;
 use bohm_txn::{CheckFault, Replies, check_store};
 use bohm_types::{Key, MOST_TXNS, NoMemory, Value};
 use std::alloc::Global;
@@ -30,7 +30,7 @@ pub(crate) struct RunState {
     /// The history, and the replies of the chunk that ran last.
     pub(crate) progress: Progress,
     /// The text of the replies so far.
-    pub(crate) text: Vec<u8>,
+    pub(crate) text: ReplyText,
     pub(crate) executor: Executor,
     pub(crate) serial: SerialExecutor,
     /// The number of transactions so far, exact up to the most that a log may have.
@@ -80,7 +80,7 @@ impl RunState {
                 history: open_history(alloc, seed, store.as_slice(), in_store, shares)?,
                 replies: Replies::new(alloc),
             },
-            text: Vec::new(alloc),
+            text: ReplyText::new(alloc),
             executor: Executor {
                 pool: ScratchPool::new(alloc, settings.exec())?,
                 hints: IndexHints::new(alloc),
@@ -94,13 +94,12 @@ impl RunState {
     }
 }
 
-/// Runs transactions in log order, and appends the text of their replies. The list of replies is a
-/// buffer whose contents are replaced. The hints are those of the transactions' log.
+/// Runs transactions in log order, and appends the text of their replies. The hints are those of
+/// the transactions' log.
 fn run_to_text(
     serial: &mut SerialExecutor,
     history: &mut History,
-    replies: &mut Replies,
-    text: &mut Vec<u8>,
+    text: &mut ReplyText,
     txns: &LogPart<'_>,
     hints: &mut IndexHints,
     keep: u32,
@@ -108,12 +107,11 @@ fn run_to_text(
     requires few { history.old.top + length txns.now ≤ MOST_TXNS }
     requires formed { All IsWellFormedTxn txns.now }
     ensures { OnOk result (IsPartRun history.old history.new txns.now keep (history.old.top + 1)
-        text.old.items text.new.items) }
+        text.old text.new) }
 {
-    let first = history.top() + 1;
-    replies.clear();
-    serial.run(history, replies, txns, hints, keep)?;
-    put_replies(text, first as u64, replies)?;
+    // Its contract says that the floor isn't above the top, as `run` requires.
+    let _ = history.top();
+    serial.run(history, text, txns, hints, keep)?;
     Ok(())
 }
 
@@ -123,7 +121,7 @@ fn run_clean<T: Threads + Sync>(
     rt: &T,
     alloc: Global,
     progress: &mut Progress,
-    text: &mut Vec<u8>,
+    text: &mut ReplyText,
     executor: &mut Executor,
     part: &LogPart<'_>,
     hints: &mut IndexHints,
@@ -137,7 +135,7 @@ fn run_clean<T: Threads + Sync>(
     ensures keep { executor.new.keep ≡ executor.old.keep }
     ensures run { let number = progress.old.history.top + 1 in OnOk result
         (IsPartRun progress.old.history progress.new.history part.entry.now executor.old.keep number
-        text.old.items text.new.items) }
+        text.old text.new) }
 {
     let first = progress.history.top() + 1;
     let log = CutLog::new(first, part, cuts);
@@ -146,7 +144,7 @@ fn run_clean<T: Threads + Sync>(
     progress.replies.clear();
     executor.run_planned(rt, alloc, progress, log, plans, &OpenGate)?;
     mem::swap(&mut executor.hints, hints);
-    put_replies(text, first as u64, &progress.replies)?;
+    text.put(first as u64, &progress.replies)?;
     Ok(())
 }
 
@@ -175,7 +173,6 @@ pub(crate) fn run_chunk<T: Threads + Sync>(
         Prepared::Ready => run_to_text(
             &mut state.serial,
             &mut state.progress.history,
-            &mut state.progress.replies,
             &mut state.text,
             &log,
             &mut chunk.hints,

@@ -38,16 +38,22 @@ numbers_longer names names' ns keys (more, e) h =
       named = ap (λ (ks : List (List ℕ)). map (name_at ks) ns) e ∙ kept_names names more ns h.below ∙ h.named;
     }
 
+-- appending a number appends its key
+pub numbers_next : (names : List (List ℕ)) (ns : List ℕ) (keys : List (List ℕ)) (n : ℕ) (k : List ℕ) → n < length names → name_at names n ≡ k
+    → AreNumbersOf names ns keys → AreNumbersOf names (ns ++ n ∷ []) (keys ++ k ∷ [])
+numbers_next names ns keys n k inside is h = record {
+  below = All-push (λ (m : ℕ). m < length names) ns n h.below inside;
+  named = map-append (name_at names) ns (n ∷ []) ∙ (λ j. h.named j ++ is j ∷ []);
+}
+
 -- appending the number of the next key gives the numbers of one more key
 pub numbers_more : (names : List (List ℕ)) (ns : List ℕ) (keys : List (List ℕ)) (i n : ℕ) (k : List ℕ) → slice_get keys i ≡ Some k
     → n < length names → name_at names n ≡ k → AreNumbersOf names ns (take i keys) → AreNumbersOf names (ns ++ n ∷ []) (take (i + 1) keys)
 numbers_more names ns keys i n k here inside is h =
     let more : take (i + 1) keys ≡ take i keys ++ get_or keys i k ∷ [] = take_more keys i k (slice_get_within keys i k here) in
     let at : get_or keys i k ≡ k = get_or_from_slice_get keys i k k here in
-    record {
-      below = All-push (λ (m : ℕ). m < length names) ns n h.below inside;
-      named = map-append (name_at names) ns (n ∷ []) ∙ (λ j. h.named j ++ is j ∷ []) ∙ sym (more ∙ ap (λ (x : List ℕ). take i keys ++ x ∷ []) at);
-    }
+    let all : take i keys ++ k ∷ [] ≡ take (i + 1) keys = sym (more ∙ ap (λ (x : List ℕ). take i keys ++ x ∷ []) at) in
+    subst (λ (ks : List (List ℕ)). AreNumbersOf names (ns ++ n ∷ []) ks) all (numbers_next names ns (take i keys) n k inside is h)
 
 pub no_numbers : (names : List (List ℕ)) → AreNumbersOf names [] []
 no_numbers names = record { below = All-nil (λ (n : ℕ). n < length names); named = refl }

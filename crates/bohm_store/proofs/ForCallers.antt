@@ -4,3 +4,5 @@
 pub use Rattle.bohm_store.proofs.Bounds.{fewer_count, settled_early, to_few}
 -- the replies of the next batch
 pub use Rattle.bohm_store.proofs.ProducedVersions.{next_replies}
+-- a list of all writes of a batch
+pub use Rattle.bohm_store.proofs.Shares.{one_share}

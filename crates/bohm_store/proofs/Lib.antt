@@ -3,7 +3,10 @@ mod NewestVersion
 mod NewestOnly
 mod ProducedVersions
 mod WrittenVersions
+mod Shares
 mod Bases
+mod DeclaredKeys
+mod Tops
 mod SettledHistory
 mod StoreEntries
 mod Counts

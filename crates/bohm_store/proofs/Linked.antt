@@ -1,6 +1,7 @@
 -- A number's older versions and its newest one, linked by their ends and begins.
 use Rattle.std.proofs.Common.{◌≡◌, ℕ, zero, suc, ◌<◌, ◌≤◌, ◌==◌, ◌∙◌, Bool, true, false, List, [], ◌∷◌, ◌++◌, length, get_or, take}
 use Rattle.std.proofs.Common.{replicate, refl, ap, arith, nat_le}
+use Rattle.bohm_hints.specs.Top.{held_cell}
 use Rattle.bohm_store.specs.declared.version.Version.{Version}
 use Rattle.std.proofs.lemmas.List.Elements.{All-nil, All-head, All-tail}
 use Rattle.std.proofs.lemmas.Bool.Decides.{nat_tests}
@@ -8,10 +9,10 @@ use Rattle.std.proofs.lemmas.List.{take_all}
 use Rattle.bohm_store.proofs.Past.{cell_at-append}
 use Rattle.bohm_store.specs.Versions.{Rises, cell_at}
 use Rattle.bohm_store.specs.Chains.{UpTo, newest_only, later_begins}
-use Rattle.bohm_store.specs.declared.held.Held.{Held}
-use Rattle.bohm_store.specs.declared.held.Held.TheVariants.{Never, Absent, Present}
+use Rattle.bohm_hints.specs.declared.held.Held.{Held}
+use Rattle.bohm_hints.specs.declared.held.Held.TheVariants.{Never, Absent, Present}
 use Rattle.bohm_store.specs.declared.older.Older.{Older}
-use Rattle.bohm_store.specs.Held.{held_cell, held_versions, held_at}
+use Rattle.bohm_store.specs.Held.{held_versions, held_at}
 use Rattle.bohm_store.specs.Numbered.{IsNumbered, older_of, ends_of}
 use Rattle.bohm_types.specs.declared.cell.Cell.TheVariants as cells
 

@@ -5,7 +5,7 @@ use Rattle.std.proofs.lemmas.List.{get_or_past}
 use Rattle.bohm_store.specs.declared.version.Version.{Version}
 use Rattle.bohm_store.specs.Versions.{total, versions_in}
 use Rattle.bohm_store.specs.Chains.{later_begins}
-use Rattle.bohm_store.specs.declared.held.Held.TheVariants.{Never}
+use Rattle.bohm_hints.specs.declared.held.Held.TheVariants.{Never}
 use Rattle.bohm_store.specs.Held.{held_at, held_versions}
 use Rattle.bohm_store.specs.Numbered.{IsNumbered, Numbered, ends_of, named, older_of, versions_at}
 use Rattle.bohm_store.proofs.Linked.{as_many, none_older}

@@ -6,7 +6,7 @@ use Rattle.std.proofs.lemmas.List.Elements.{All-head, All-tail}
 use Rattle.bohm_store.specs.declared.version.Version.{Version}
 use Rattle.bohm_store.specs.Versions.{kept_versions}
 use Rattle.bohm_store.specs.Chains.{UpTo, later_begins, newest_only}
-use Rattle.bohm_store.specs.declared.held.Held.{Held}
+use Rattle.bohm_hints.specs.declared.held.Held.{Held}
 use Rattle.bohm_store.specs.declared.numbered_write.NumberedWrite.{NumberedWrite}
 use Rattle.bohm_store.specs.Held.{held_at}
 use Rattle.bohm_store.specs.Writes.{versions_by}

@@ -12,8 +12,8 @@ use Rattle.bohm_store.specs.declared.version.Version.{Version}
 use Rattle.bohm_store.specs.Versions.{Rises, cell_at, kept_versions}
 use Rattle.bohm_store.specs.Chains.{Above, later_begins}
 use Rattle.bohm_store.proofs.Past.{cell_at-above}
-use Rattle.bohm_store.specs.declared.held.Held.{Held}
-use Rattle.bohm_store.specs.declared.held.Held.TheVariants.{Never}
+use Rattle.bohm_hints.specs.declared.held.Held.{Held}
+use Rattle.bohm_hints.specs.declared.held.Held.TheVariants.{Never}
 use Rattle.bohm_store.specs.declared.older.Older.{Older}
 use Rattle.bohm_store.specs.Held.{held_versions, held_at}
 use Rattle.bohm_store.specs.Numbered.{EndsRise, IsLinked, IsNotDue, ends_of, first_after, older_of, version_of}

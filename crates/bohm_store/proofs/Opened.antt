@@ -18,8 +18,8 @@ use Rattle.bohm_txn.proofs.ForCallers.{get-store_of, none_before, rising_apart}
 use Rattle.bohm_store.specs.declared.version.Version.{Version}
 use Rattle.bohm_store.specs.Versions.{Rises, cell_at, total, versions_in}
 use Rattle.bohm_store.specs.Chains.{UpTo, starting_versions}
-use Rattle.bohm_store.specs.declared.held.Held.{Held}
-use Rattle.bohm_store.specs.declared.held.Held.TheVariants.{Never, Present}
+use Rattle.bohm_hints.specs.declared.held.Held.{Held}
+use Rattle.bohm_hints.specs.declared.held.Held.TheVariants.{Never, Present}
 use Rattle.bohm_store.specs.declared.older.Older.{Older}
 use Rattle.bohm_store.specs.Held.{held_versions, held_at}
 use Rattle.bohm_store.specs.Numbered.{IsNumbered, named}

@@ -13,8 +13,8 @@ use Rattle.bohm_store.specs.Versions.{Rises, cell_at, versions_to}
 use Rattle.bohm_store.specs.Chains.{Above, UpTo, later_begins}
 use Rattle.bohm_store.proofs.Linked.{as_many, none_older}
 use Rattle.bohm_store.proofs.OlderVersions.{ends_above}
-use Rattle.bohm_store.specs.declared.held.Held.{Held}
-use Rattle.bohm_store.specs.declared.held.Held.TheVariants.{Never}
+use Rattle.bohm_hints.specs.declared.held.Held.{Held}
+use Rattle.bohm_hints.specs.declared.held.Held.TheVariants.{Never}
 use Rattle.bohm_store.specs.Held.{held_at, held_versions}
 use Rattle.bohm_store.specs.Numbered.{EndsRise, IsEndedBy, IsLinked, IsNumbered, Numbered}
 use Rattle.bohm_store.specs.Numbered.{ended_by, ends_of, first_after, older_of, version_of, versions_at}

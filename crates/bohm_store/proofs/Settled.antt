@@ -20,7 +20,7 @@ use Rattle.bohm_store.proofs.Entries.{keys_named}
 use Rattle.bohm_store.proofs.NewestVersion.{All-kept}
 use Rattle.bohm_store.proofs.NewestOnly.{kept_newest}
 use Rattle.bohm_store.proofs.SettledHistory.{settled_low}
-use Rattle.bohm_store.specs.declared.held.Held.TheVariants.{Never}
+use Rattle.bohm_hints.specs.declared.held.Held.TheVariants.{Never}
 use Rattle.bohm_store.specs.declared.older.Older.{Older}
 use Rattle.bohm_store.specs.Held.{held_at}
 use Rattle.bohm_store.specs.Numbered.{Numbered, IsNumbered, older_of, ends_of, timeline, versions_at}

@@ -3,7 +3,7 @@ use Rattle.std.specs.Prelude.{◌≡◌, ℕ, ◌+◌, ◌-◌, ◌<◌, ◌≤�
 use Rattle.bohm_store.specs.declared.version.Version.{Version}
 use Rattle.bohm_store.specs.Versions.{Rises, Timeline}
 use Rattle.bohm_store.specs.Chains.{UpTo, later_begins}
-use Rattle.bohm_store.specs.declared.held.Held.{Held}
+use Rattle.bohm_hints.specs.declared.held.Held.{Held}
 use Rattle.bohm_store.specs.declared.older.Older.{Older}
 use Rattle.bohm_store.specs.Held.{held_at, held_versions}
 

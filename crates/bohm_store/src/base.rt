@@ -1,19 +1,16 @@
 //! The cells of keys at the top and before.
 
-ghost use Rattle.std.specs.Prelude.{◌≡◌, ◌<◌, ◌≤◌, ◌++◌, ◌∷◌, [], length, map, IfOk};
+ghost use Rattle.std.specs.Prelude.{◌≡◌, ◌<◌, ◌≤◌, ◌++◌, ◌∷◌, [], length, map};
 ghost use Rattle.bohm_types.specs.declared.cell.Cell.TheVariants.{Absent};
 ghost use Rattle.bohm_types.specs.Limits.{most_keys};
 ghost use Rattle.bohm_store.specs.Versions.{IsCellAt, cell_at, past, versions};
 ghost use Rattle.bohm_store.specs.Numbered.{timeline, versions_at};
 
 use crate::numbered::NumberedHistory;
-use crate::numbering::is_numbered;
-use bohm_hints::IndexHints;
+use bohm_hints::{IndexHints, is_numbered};
 use bohm_log::{HashSeed, Keys, LayeredNames};
-use bohm_place::NumberedKey;
 use bohm_txn::Scratch;
-use bohm_types::{Cell, Key, NoMemory};
-use std::alloc::Global;
+use bohm_types::{Cell, Key};
 
 /// The cell of a key after the transaction with a timestamp. The time is that of one look-up, and
 /// grows with the number of the key's versions that ended above the timestamp.
@@ -56,28 +53,6 @@ fn cell_by(
         }
         None => Cell::Absent,
     }
-}
-
-/// Each of these keys, with its cell at the top. A key is hashed only if the number that it had
-/// when it was last seen isn't its number.
-pub fn base_of(
-    names: &LayeredNames<HashSeed>,
-    numbered: &NumberedHistory,
-    alloc: Global,
-    hints: &mut IndexHints,
-    keys: &[NumberedKey],
-) -> Result<Vec<(Key, Cell)>, NoMemory>
-    ensures { IfOk result (λ v. v.items
-        ≡ map (λ k. (k, past (timeline names.now numbered.now) numbered.now.top k))
-        (map (λ k. k.key) keys.now)) }
-{
-    let mut base = Vec::with_capacity(alloc, keys.len())?;
-    for numbered_key in keys {
-        let key = numbered_key.key;
-        let cell = cell_by(names, numbered, hints, numbered_key.number, &key);
-        base.push((key, cell))?;
-    }
-    Ok(base)
 }
 
 /// Pushes into a scratch the cells at the top of a transaction's declared reads.

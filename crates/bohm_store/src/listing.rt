@@ -9,8 +9,9 @@ ghost use Rattle.bohm_store.specs.Versions.{cell_at};
 ghost use Rattle.bohm_store.specs.Held.{held_at, held_versions};
 ghost use Rattle.bohm_store.specs.Numbered.{EndsRise, filled, first_after, named, version_of};
 
-use crate::held::Held;
+use crate::held::{cell_then, count_of, held_from};
 use crate::older::{Older, OlderVersions};
+use bohm_hints::Held;
 use bohm_log::NameTable;
 use bohm_types::{Cell, Key, NoMemory, Value};
 use std::alloc::Global;
@@ -21,7 +22,7 @@ fn put_back(newest: &mut [Held], one: Older)
         ≡ (if (one.number == n) then version_of one ∷ [] else held_at newest.old n) }
 {
     let place = one.number as usize;
-    let held = Held::new(one.begin, one.cell);
+    let held = held_from(one.begin, one.cell);
     if place < newest.len() {
         newest[place] = held;
     }
@@ -50,7 +51,7 @@ fn list_one(out: &mut Vec<(Key, Value)>, key: &Key, held: Held, ts: u32) -> Resu
     ensures { OnOk result (out.new.items ≡ out.old.items
         ++ cell_entry key.now (cell_at ts (held_versions held) cells.Absent) []) }
 {
-    if let Cell::Present(value) = held.cell_at(ts) {
+    if let Cell::Present(value) = cell_then(held, ts) {
         out.push((*key, value))?;
     }
     Ok(())
@@ -102,7 +103,7 @@ pub fn count_held(newest: &[Held]) -> usize
 {
     let mut count = 0usize;
     for i in 0..newest.len() {
-        count += newest[i].count();
+        count += count_of(newest[i]);
     }
     count
 }

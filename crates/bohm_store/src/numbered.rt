@@ -1,12 +1,14 @@
 //! The versions of all keys, by the numbers of the keys.
 
 ghost use Rattle.std.specs.Prelude.{◌≡◌, ◌+◌, ◌<◌, ◌≤◌, ◌^◌, ℕ, List};
-ghost use Rattle.std.specs.Prelude.{[], length, max, min, true, OnOk, OnErr, IfOk};
+ghost use Rattle.std.specs.Prelude.{[], length, max, min, slice_index_or, true, OnOk, OnErr, IfOk};
 ghost use Rattle.std.specs.FinMap.{entries};
 ghost use Rattle.std.specs.List.{IsDistinct};
 ghost use Rattle.std.specs.Str.{bytes_eq};
 ghost use Rattle.bohm_types.specs.Keys.{rising, names_of};
 ghost use Rattle.bohm_types.specs.Txn.{Txn};
+ghost use Rattle.bohm_hints.specs.Top.{held_cell};
+ghost use Rattle.bohm_hints.specs.declared.held.Held.TheVariants.{Never};
 ghost use Rattle.bohm_log.specs.Layers.{all_names};
 ghost use Rattle.bohm_types.specs.declared.cell.Cell.TheVariants as cells;
 ghost use Rattle.bohm_txn.specs.Stores.{cell_in, store_of};
@@ -17,11 +19,12 @@ ghost use Rattle.bohm_store.specs.Nexts.{IsSettled, IsSettledKept};
 ghost use Rattle.bohm_store.specs.Writes.{AreWritesBehind, listed_in};
 ghost use Rattle.bohm_store.specs.Numbered.{timeline, versions_at};
 
-use crate::held::{Held, forget_after, held_of};
+use crate::held::forget_after;
 use crate::listing::{count_held, present_at, rewind};
 use crate::older::{OlderVersions, add, cell_before, cut_off, trim};
 use crate::replacing::replace_all;
 use crate::writes::Writes;
+use bohm_hints::{Held, held_of};
 use bohm_log::NameTable;
 use bohm_types::{Cell, Key, NoMemory, Value};
 use std::alloc::Global;
@@ -133,6 +136,16 @@ impl NumberedHistory {
         ensures ordered { self.now.floor ≤ result }
     {
         self.top
+    }
+
+    /// The newest version of each key, at the index of its number: the key's cell at the top is that
+    /// of this version.
+    pub fn newest(&self) -> &[Held]
+        ensures newest { result.now ≡ self.now.newest }
+        ensures cells { (n : ℕ) → held_cell (slice_index_or result.now n Never)
+            ≡ cell_at self.now.top (versions_at self.now n) cells.Absent }
+    {
+        &self.newest
     }
 
     /// The number of keys that there is room for. Keys with numbers at or above it have no version.

@@ -5,22 +5,9 @@ ghost use Rattle.bohm_log.specs.Layers.{all_names};
 ghost use Rattle.bohm_log.specs.Parts.{Begins};
 ghost use Rattle.bohm_store.specs.Writes.{AreNumbersOf};
 
-use bohm_hints::IndexHints;
+use bohm_hints::{IndexHints, is_numbered};
 use bohm_log::{HashSeed, Keys, LayeredNames, NameTable};
 use bohm_types::{Key, NoMemory};
-
-/// Whether this is the number of a key.
-#[inline(always)]
-pub fn is_numbered(names: NameTable<'_>, number: u32, key: &Key) -> bool
-    ensures { result ≡ true → slice_get (all_names names.entry) number ≡ Some key.now }
-{
-    let number = number as usize;
-    if number < names.len() {
-        *names.name(number) == *key
-    } else {
-        false
-    }
-}
 
 /// The number of a key, which gets one if it has none. The key is hashed only if the number that it
 /// had when it was last seen isn't its number. On an error every key keeps its number.

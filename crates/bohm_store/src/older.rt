@@ -13,10 +13,11 @@ ghost use Rattle.bohm_store.specs.Held.{held_at, held_versions};
 ghost use Rattle.bohm_store.specs.Numbered.{IsEndedBy, EndsRise, IsLinked, IsNotDue, ended_by};
 ghost use Rattle.bohm_store.specs.Numbered.{ends_of, first_after, older_of, version_of};
 
-use crate::held::Held;
+use crate::held::{cell_then, held_from, version_of};
 use crate::numbered_write::NumberedWrite;
 use crate::version::Version;
 use crate::writes::Writes;
+use bohm_hints::Held;
 use bohm_types::{Cell, NoMemory};
 use std::alloc::Global;
 use std::collections::VecDeque;
@@ -234,7 +235,7 @@ pub fn cell_before(older: &OlderVersions, newest: Held, number: u32, ts: u32) ->
     ensures { result ≡ cell_at ts
         (first_after ts older.now.items number (held_versions newest)) cells.Absent }
 {
-    let mut cell = newest.cell_at(ts);
+    let mut cell = cell_then(newest, ts);
     let mut i = older.latest(number);
     while i > 0 {
         i -= 1;
@@ -299,10 +300,10 @@ pub fn displace(newest: &mut [Held], older: &mut OlderVersions, write: NumberedW
 {
     let number = write.number;
     let begin = write.version.begin;
-    if let Some(version) = newest[number as usize].version() {
+    if let Some(version) = version_of(newest[number as usize]) {
         older.push(number, begin, version);
     }
-    newest[number as usize] = Held::new(begin, write.version.cell);
+    newest[number as usize] = held_from(begin, write.version.cell);
 }
 
 // Replaces the newest versions of keys with these, one after another. There is room for the

@@ -5,9 +5,10 @@ ghost use Rattle.bohm_store.specs.Chains.{newest_only};
 ghost use Rattle.bohm_store.specs.Held.{held_at};
 ghost use Rattle.bohm_store.specs.Writes.{AreBelow, listed_in, versions_by};
 
-use crate::held::Held;
+use crate::held::held_from;
 use crate::numbered_write::NumberedWrite;
 use crate::writes::Writes;
+use bohm_hints::Held;
 
 // Replaces the newest version of a key.
 fn replace(newest: &mut [Held], write: NumberedWrite)
@@ -16,7 +17,7 @@ fn replace(newest: &mut [Held], write: NumberedWrite)
         ≡ (if (write.number == n) then write.version ∷ [] else held_at newest.old n) }
 {
     let begin = write.version.begin;
-    let held = Held::new(begin, write.version.cell);
+    let held = held_from(begin, write.version.cell);
     newest[write.number as usize] = held;
 }
 

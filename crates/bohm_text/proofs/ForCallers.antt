@@ -12,4 +12,4 @@ pub use Rattle.bohm_text.proofs.OpenLaws.{whole_ended, open_line}
 -- windows after the text of a document
 pub use Rattle.bohm_text.proofs.Placed.{longer, lines_short, chunk_placed, bad_placed, short_placed, open_placed, bad_begins}
 -- replies that follow other replies
-pub use Rattle.bohm_text.proofs.Numbered.{numbered-append}
+pub use Rattle.bohm_text.specs.Numbered.{numbered-append}

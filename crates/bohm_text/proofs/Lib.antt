@@ -27,7 +27,6 @@ mod WindowLaws
 mod Headed
 mod OpenLaws
 mod Placed
-mod Numbered
 mod ProcedureAgain
 mod ProcedureTakes
 mod ProcedureLines

@@ -21,3 +21,4 @@ pub mod Drafted
 pub mod ProcedureParse
 pub mod ProcedureFaults
 pub mod ProcedureRead
+pub mod Numbered

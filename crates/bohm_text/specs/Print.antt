@@ -1,5 +1,5 @@
 -- The unique text of a document, of replies and of a store: lines of words, a space between two words and a newline after each line.
-use Rattle.std.specs.Prelude.{ℕ, ℤ, ◌+◌, List, [], ◌∷◌, ◌++◌, map, Bool, Option, Some, None, if◌then◌else◌, codes}
+use Rattle.std.specs.Prelude.{ℕ, ℤ, ◌≡◌, ◌+◌, List, [], ◌∷◌, ◌++◌, length, map, take, Bool, Option, Some, None, if◌then◌else◌, codes}
 use Rattle.std.specs.List.{flat_map}
 use Rattle.std.specs.Fmt.{decimal, signed_decimal}
 use Rattle.bohm_types.specs.Term.{Atom, Lit, Read, Local}
@@ -18,6 +18,10 @@ use Rattle.bohm_txn.specs.declared.outcome.Reply.TheVariants.{Commit, Abort}
 -- the words of a line
 abbrev pub Words : Type 0
 Words = List (List ℕ)
+
+-- a text begins with another one
+abbrev pub BeginsWith : List ℕ → List ℕ → Type 0
+BeginsWith front text = take (length front) text ≡ front
 
 -- ---- statements
 

@@ -1,39 +1,42 @@
 //! Printing an answer: the replies, and then the store.
 
-ghost use Rattle.std.specs.Prelude.{◌≡◌, ◌++◌, [], ◌+◌, ◌<◌, ◌≤◌, ◌^◌};
-ghost use Rattle.std.specs.Prelude.{IfOk, length, map};
+ghost use Rattle.std.specs.Prelude.{◌≡◌, ◌++◌, ◌∷◌, [], ◌+◌, ◌<◌, ◌≤◌, ◌^◌};
+ghost use Rattle.std.specs.Prelude.{codes, IfOk, OnErr, length, map};
 ghost use Rattle.std.specs.Fmt.{signed_decimal};
-ghost use Rattle.bohm_text.specs.Print.{reason_word, reply_words, spaced, line_text};
+ghost use Rattle.bohm_text.specs.Print.{reason_word, spaced, BeginsWith};
 ghost use Rattle.bohm_text.specs.Print.{print_answer, print_numbered, print_replies, print_store};
-ghost use Rattle.bohm_txn.specs.ReplyRows.{reply_shown};
+ghost use Rattle.bohm_txn.specs.Serial.{reply_with};
 
 use crate::printing::{put_entries, put_value};
-use bohm_txn::{Reason, Replies, ReplyView};
+use bohm_txn::{Outcome, Reason, Replies};
 use bohm_types::{Key, NoMemory, Value};
 use itoa::{Buffer, Integer};
 use std::alloc::Global;
 
 fn put_count<I: Integer>(out: &mut Vec<u8>, count: I) -> Result<(), NoMemory>
-    ensures { IfOk result (λ _. out.new.items ≡ out.old.items ++ I.text count) }
+    ensures ok { IfOk result (λ _. out.new.items ≡ out.old.items ++ I.text count) }
+    ensures err { OnErr result (out.new.items ≡ out.old.items) }
 {
     out.extend_from_slice(Buffer::new().format(count).as_bytes())?;
     Ok(())
 }
 
-fn reason_text(reason: Reason) -> &'static [u8]
-    ensures { result.now ≡ reason_word reason }
+/// The words of an abort up to the number of its statement.
+fn abort_text(reason: Reason) -> &'static [u8]
+    ensures { result.now ≡ codes " abort " ++ reason_word reason ++ codes " " }
 {
     match reason {
-        Reason::Need => b"need",
-        Reason::Fail => b"fail",
-        Reason::Absent => b"absent",
-        Reason::Range => b"range",
+        Reason::Need => b" abort need ",
+        Reason::Fail => b" abort fail ",
+        Reason::Absent => b" abort absent ",
+        Reason::Range => b" abort range ",
     }
 }
 
 fn put_shows(out: &mut Vec<u8>, shows: &[Value]) -> Result<(), NoMemory>
-    ensures { IfOk result
+    ensures ok { IfOk result
         (λ _. out.new.items ≡ out.old.items ++ spaced (map signed_decimal shows.now)) }
+    ensures err { OnErr result (BeginsWith out.old.items out.new.items) }
 {
     for value in shows {
         out.push(b' ')?;
@@ -42,24 +45,31 @@ fn put_shows(out: &mut Vec<u8>, shows: &[Value]) -> Result<(), NoMemory>
     Ok(())
 }
 
-fn put_reply(out: &mut Vec<u8>, number: u64, reply: ReplyView<'_>) -> Result<(), NoMemory>
-    ensures { IfOk result
+/// Appends the line of the reply with this outcome: a commit shows these values. After an error
+/// `out` contains a prefix of the line.
+pub(crate) fn put_reply(
+    out: &mut Vec<u8>,
+    number: u64,
+    outcome: Outcome,
+    shows: &[Value],
+) -> Result<(), NoMemory>
+    ensures ok { IfOk result
         (λ _. out.new.items
-        ≡ out.old.items ++ line_text (reply_words number (reply_shown reply.entry))) }
+        ≡ out.old.items ++ print_numbered number (reply_with outcome shows.now ∷ [])) }
+    ensures err { OnErr result (BeginsWith out.old.items out.new.items) }
 {
     put_count(out, number)?;
-    match reply {
-        ReplyView::Commit { shows } => {
+    match outcome {
+        Outcome::Commit => {
             out.extend_from_slice(b" commit")?;
             put_shows(out, shows)?;
         }
-        ReplyView::Abort { reason, stmt } => {
-            out.extend_from_slice(b" abort ")?;
-            out.extend_from_slice(reason_text(reason))?;
-            out.push(b' ')?;
+        Outcome::Abort { reason, stmt } => {
+            out.extend_from_slice(abort_text(reason))?;
             put_count(out, stmt)?;
         }
     }
+    out.push(b'\n')?;
     Ok(())
 }
 
@@ -71,8 +81,8 @@ pub fn put_replies(out: &mut Vec<u8>, first: u64, replies: &Replies) -> Result<(
         (λ _. out.new.items ≡ out.old.items ++ print_numbered first replies.now) }
 {
     for index in 0..replies.len() {
-        put_reply(out, first + index as u64, replies.get(index))?;
-        out.push(b'\n')?;
+        let (outcome, shows) = replies.get(index).parts();
+        put_reply(out, first + index as u64, outcome, shows)?;
     }
     Ok(())
 }

@@ -1,6 +1,6 @@
 //! Printing a document.
 
-ghost use Rattle.std.specs.Prelude.{◌≡◌, ◌++◌, ◌∷◌, [], IfOk, map};
+ghost use Rattle.std.specs.Prelude.{◌≡◌, ◌++◌, ◌∷◌, [], IfOk, OnErr, map};
 ghost use Rattle.std.specs.List.{flat_map};
 ghost use Rattle.std.specs.Fmt.{signed_decimal};
 ghost use Rattle.bohm_log.specs.Seeing.{atom_shown, term_shown, cond_shown, guard_shown};
@@ -186,7 +186,8 @@ fn put_log(out: &mut Vec<u8>, log: &LogPart<'_>) -> Result<(), NoMemory>
 }
 
 pub fn put_value(out: &mut Vec<u8>, value: Value) -> Result<(), NoMemory>
-    ensures { IfOk result (λ _. out.new.items ≡ out.old.items ++ signed_decimal value) }
+    ensures ok { IfOk result (λ _. out.new.items ≡ out.old.items ++ signed_decimal value) }
+    ensures err { OnErr result (out.new.items ≡ out.old.items) }
 {
     out.extend_from_slice(Buffer::new().format(value.get()).as_bytes())?;
     Ok(())

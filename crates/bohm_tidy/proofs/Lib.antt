@@ -1,4 +1,3 @@
-mod KeySets
 mod Lists
 mod ByWords
 mod Stores

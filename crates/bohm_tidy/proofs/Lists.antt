@@ -1,5 +1,5 @@
 -- Lists that are built element by element.
-use Rattle.std.proofs.Common.{◌≡◌, ℕ, ◌+◌, List, [], ◌∷◌, ◌++◌, drop, Some, ap, sym, ◌∙◌, append_assoc}
+use Rattle.std.proofs.Common.{◌≡◌, ℕ, ◌+◌, List, ◌++◌, drop, Some, ap, sym, ◌∙◌, append_assoc}
 use Rattle.std.specs.List.{flat_map, slice_get}
 use Rattle.bohm_txn.proofs.ForCallers.{drop_at}
 
@@ -10,13 +10,4 @@ gather_more f xs i x out longer whole at more so_far =
     ap (λ (ys : List _). ys ++ flat_map f (drop (i + 1) xs)) more
     ∙ append_assoc out (f x) (flat_map f (drop (i + 1) xs))
     ∙ ap (λ (ys : List _). out ++ flat_map f ys) (sym (drop_at xs i x at))
-    ∙ so_far
-
--- after element i is appended, the following elements are the rest of the whole
-pub push_more : {A : Type 0} (xs : List A) (i : ℕ) (x : A) (out longer whole : List A) → slice_get xs i ≡ Some x → longer ≡ out ++ x ∷ []
-    → out ++ drop i xs ≡ whole → longer ++ drop (i + 1) xs ≡ whole
-push_more xs i x out longer whole at more so_far =
-    ap (λ (ys : List _). ys ++ drop (i + 1) xs) more
-    ∙ append_assoc out (x ∷ []) (drop (i + 1) xs)
-    ∙ ap (λ (ys : List _). out ++ ys) (sym (drop_at xs i x at))
     ∙ so_far

@@ -6,18 +6,18 @@ use Rattle.std.specs.List.{AllByRecursion, flat_map}
 use Rattle.std.specs.Ordering.{nat_cmp}
 use Rattle.std.specs.declared.cmp.Ordering.TheVariants.{Less, Equal, Greater}
 use Rattle.bohm_types.specs.Document.{Document}
+use Rattle.bohm_types.specs.KeySets.{inserted_by, inserted, key_set}
 use Rattle.bohm_types.specs.Parts.{key_read, target}
 use Rattle.bohm_types.specs.Sound.{IsName, IsTerm, IsSum, IsStmt, IsTxn, IsDocument}
 use Rattle.bohm_types.specs.Stmt.{Stmt, Bind, Need, Has, Lacks, Put, Remove, Show, Fail}
 use Rattle.bohm_types.specs.Term.{Atom, Lit, Read, Local}
 use Rattle.bohm_types.specs.Txn.{Txn}
 use Rattle.bohm_types.specs.declared.edition.Edition.{Edition}
-use Rattle.bohm_txn.proofs.ForCallers.{each_append}
+use Rattle.bohm_txn.proofs.ForCallers.{each_append, key_set_rises, key_set_itself}
 use Rattle.bohm_txn.specs.Stores.{store_of}
-use Rattle.bohm_tidy.specs.Settled.{set_by, insert_key, key_set, the_key, sum_reads, stmt_reads, body_reads}
+use Rattle.bohm_tidy.specs.Settled.{the_key, sum_reads, stmt_reads, body_reads}
 use Rattle.bohm_tidy.specs.Settled.{body_writes, settled_txn, settled_log, settled, first_flag, other_flags}
 use Rattle.bohm_tidy.specs.Tidied.{HasRisingSets, HasRisingKeys}
-use Rattle.bohm_tidy.proofs.KeySets.{key_set-rises, key_set-settled}
 use Rattle.bohm_tidy.proofs.Stores.{entries_rise, rising_entries, entries_sound}
 
 abbrev AreNames : List (List ℕ) → Type 0
@@ -25,18 +25,16 @@ AreNames ks = AllByRecursion IsName ks
 
 -- ---- the keys of sets are names
 
-insert_names : (k : List ℕ) (xs : List (List ℕ)) → IsName k → AreNames xs → AreNames (insert_key k xs)
-unfolding insert_key
+insert_names : (k : List ℕ) (xs : List (List ℕ)) → IsName k → AreNames xs → AreNames (inserted k xs)
 insert_names k [] name all = (name, tt)
 insert_names k (x ∷ xs) name all =
-    elim (slice_cmp nat_cmp k x) as (λ o. AreNames (set_by o k x xs (insert_key k xs))) [
+    elim (slice_cmp nat_cmp k x) as (λ o. AreNames (inserted_by o k x xs (inserted k xs))) [
       | Less ↦ (name, (all.0, all.1))
       | Equal ↦ (all.0, all.1)
       | Greater ↦ (all.0, insert_names k xs name all.1)
     ]
 
 set_names : (ks : List (List ℕ)) → AreNames ks → AreNames (key_set ks)
-unfolding key_set
 set_names [] all = tt
 set_names (k ∷ ks) all = insert_names k (key_set ks) all.0 (set_names ks all.1)
 
@@ -103,10 +101,16 @@ log_sound edition rs ws (t ∷ ts) all = (txn_sound edition (first_flag rs) (fir
 
 log_rises : (rs ws : List Bool) (log : List Txn) → AllByRecursion HasRisingSets (settled_log rs ws log)
 log_rises rs ws [] = tt
-log_rises rs ws (t ∷ ts) = (record { reads = key_set-rises _; writes = key_set-rises _ }, log_rises (other_flags rs) (other_flags ws) ts)
+log_rises rs ws (t ∷ ts) = (
+  record {
+    reads = key_set_rises (cond (first_flag rs) (body_reads t.body) t.reads);
+    writes = key_set_rises (cond (first_flag ws) (body_writes t.body) t.writes);
+  },
+  log_rises (other_flags rs) (other_flags ws) ts,
+)
 
 txn_stays : (t : Txn) → HasRisingSets t → settled_txn false false t ≡ t
-txn_stays t rises = λ i. record t { reads = key_set-settled t.reads rises.reads i; writes = key_set-settled t.writes rises.writes i }
+txn_stays t rises = λ i. record t { reads = key_set_itself t.reads rises.reads i; writes = key_set_itself t.writes rises.writes i }
 
 log_stays : (log : List Txn) → AllByRecursion HasRisingSets log → settled_log [] [] log ≡ log
 log_stays [] all = refl

@@ -18,8 +18,7 @@ use Rattle.std.proofs.lemmas.Map.Text.{is_eq-slice_cmp}
 use Rattle.bohm_types.specs.Keys.{names_of, rising, rises_from}
 use Rattle.bohm_types.specs.Sound.{IsEntry}
 use Rattle.bohm_txn.specs.Stores.{Store, store_of}
-use Rattle.bohm_txn.proofs.ForCallers.{less, same_moved}
-use Rattle.bohm_tidy.proofs.KeySets.{rises_below}
+use Rattle.bohm_txn.proofs.ForCallers.{less, rising_rest, same_moved}
 
 abbrev Entries : Type 0
 Entries = List (List ℕ × ℤ)
@@ -33,15 +32,17 @@ truth false h = absurd h
 
 -- ---- ascending keys and the library's sorted entries
 
+rises_below : (a b : List ℕ) (ks : List (List ℕ)) → cmp a b ≡ Less → rises_from b ks ≡ true → rises_from a ks ≡ true
+rises_below a b [] under r = refl
+rises_below a b (k ∷ ks) under r =
+    let (first, rest) = and_parts (is_lt (cmp b k)) (rises_from k ks) r in
+    both_true (ap is_lt (nat_list_cmp_total.trans a b k under (less (cmp b k) first))) rest
+
 below_rising : (a : List ℕ) (es : Entries) → rises_from a (names_of es) ≡ true → below_all cmp a es ≡ true
 below_rising a [] r = refl
 below_rising a (e ∷ es) r =
     let (first, rest) = and_parts (is_lt (cmp a e.0)) (rises_from e.0 (names_of es)) r in
     both_true first (below_rising a es (rises_below a e.0 (names_of es) (less (cmp a e.0) first) rest))
-
-rising_rest : (a : List ℕ) (ks : List (List ℕ)) → rises_from a ks ≡ true → rising ks ≡ true
-rising_rest a [] r = refl
-rising_rest a (k ∷ ks) r = (and_parts (is_lt (cmp a k)) (rises_from k ks) r).1
 
 sorted_rising : (es : Entries) → rising (names_of es) ≡ true → is_sorted cmp es ≡ true
 sorted_rising [] r = refl

@@ -2,33 +2,13 @@
 use Rattle.std.specs.Prelude.{ℕ, List, [], ◌∷◌, ◌++◌, Bool, false, Option, Some, None, if◌then◌else◌}
 use Rattle.std.specs.FinMap.{entries}
 use Rattle.std.specs.List.{flat_map}
-use Rattle.std.specs.Ordering.{nat_cmp}
-use Rattle.std.specs.Cmp.Lexicographic.{slice_cmp}
-use Rattle.std.specs.declared.cmp.Ordering.{Ordering}
-use Rattle.std.specs.declared.cmp.Ordering.TheVariants.{Less, Equal, Greater}
 use Rattle.bohm_types.specs.Document.{Document}
+use Rattle.bohm_types.specs.KeySets.{key_set}
 use Rattle.bohm_types.specs.Parts.{key_read, sums, tested, target}
 use Rattle.bohm_types.specs.Stmt.{Stmt}
 use Rattle.bohm_types.specs.Term.{Atom}
 use Rattle.bohm_types.specs.Txn.{Txn}
 use Rattle.bohm_txn.specs.Stores.{store_of}
-
--- ---- sets
-
-abbrev pub set_by : Ordering → List ℕ → List ℕ → List (List ℕ) → List (List ℕ) → List (List ℕ)
-set_by Less k x xs others = k ∷ x ∷ xs
-set_by Equal k x xs others = x ∷ xs
-set_by Greater k x xs others = x ∷ others
-
--- a key inserted into a list of ascending keys, unless it is there
-unfoldable pub insert_key : List ℕ → List (List ℕ) → List (List ℕ)
-insert_key k [] = k ∷ []
-insert_key k (x ∷ xs) = set_by (slice_cmp nat_cmp k x) k x xs (insert_key k xs)
-
--- the keys in order, each once
-unfoldable pub key_set : List (List ℕ) → List (List ℕ)
-key_set [] = []
-key_set (k ∷ ks) = insert_key k (key_set ks)
 
 -- ---- what a body reads and writes
 

@@ -3,16 +3,18 @@
 ghost use Rattle.std.specs.Prelude.{◌≡◌, ◌++◌, ◌∷◌, [], IfOk, OnOk, codes, if◌then◌else◌};
 ghost use Rattle.std.specs.List.{IsDistinct, flat_map};
 ghost use Rattle.std.specs.Str.{bytes_eq};
+ghost use Rattle.bohm_types.specs.KeySets.{key_set};
 ghost use Rattle.bohm_types.specs.Keys.{names_of};
 ghost use Rattle.bohm_text.specs.Print.{line_text, lines_text, txn_lines, print_doc};
-ghost use Rattle.bohm_tidy.specs.Settled.{body_reads, body_writes, first_flag, key_set};
+ghost use Rattle.bohm_tidy.specs.Settled.{body_reads, body_writes, first_flag};
 ghost use Rattle.bohm_tidy.specs.Settled.{other_flags, settled, settled_log, settled_txn};
 
 use crate::body_keys::{add_body_reads, add_body_writes};
-use crate::key_set::{add_keys, put_set};
+use crate::key_set::put_set;
 use crate::store::{Unsettled, settled_store};
 use bohm_log::{Doc, LogPart, TxnView};
 use bohm_text::{put_body, put_entries};
+use bohm_txn::add_keys;
 use bohm_types::{Edition, Key, NoMemory, Value};
 use std::alloc::Global;
 

@@ -7,7 +7,7 @@ ghost use Rattle.bohm_place.specs.Cuttings.{first_at, txns_at};
 
 use bohm_layer_trials::counters;
 use bohm_log::LogPart;
-use bohm_place::{BatchKeys, Plan, Shards, plan};
+use bohm_place::{Plan, Shards, plan};
 use bohm_run::{ByteSum, Line, PlanNote, PlanReceiver, PlanSender, plan_line};
 use bohm_types::NoMemory;
 use std::alloc::Global;
@@ -39,7 +39,6 @@ fn send_plan<L: Line, R: Abort + Threads + Wait + Sync>(
     let parts = ByteSum::new(1).expect(rt, "a part");
     let shards = Shards::new(alloc, 1)?;
     let (_, plan) = plan(rt, alloc, shards, first, txns, 1, &parts)?;
-    let plan = plan.gather_keys(alloc, txns, &mut BatchKeys::new(alloc))?;
     let note = PlanNote {
         number: sender.sent() + 1,
         plan: Some(plan),

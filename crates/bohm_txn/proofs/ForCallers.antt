@@ -6,6 +6,9 @@ pub use Rattle.bohm_txn.proofs.Apart.{other_key, among_first, among_then}
 -- keys in ascending order differ from one another, and how keys compare
 pub use Rattle.bohm_txn.proofs.Apart.{AllApart, rising_apart, none_before, less}
 pub use Rattle.bohm_txn.proofs.Lookups.{no_fall, same_at}
+pub use Rattle.bohm_txn.proofs.KeySets.{rising_rest}
+-- sets of keys
+pub use Rattle.bohm_txn.proofs.KeySets.{key_set_rises, key_set_itself}
 -- the rest of a list from an index on, and a property of all elements of two lists
 pub use Rattle.bohm_txn.proofs.Lists.{front, drop_at, each_append}
 -- a well-formed transaction, and its body over two looks

@@ -26,4 +26,5 @@ mod ReplyRows
 mod ReplyParts
 mod Appending
 mod Chunked
+mod KeySets
 pub mod ForCallers

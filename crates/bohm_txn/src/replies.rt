@@ -7,6 +7,7 @@ ghost use Rattle.bohm_txn.specs.ReplyRows.{Adds, IsInside, reply_by, reply_shown
 ghost use Rattle.bohm_txn.specs.Serial.{reply_with};
 
 use crate::outcome::{Outcome, Reason};
+use crate::reply_sink::ReplySink;
 use bohm_types::{NoMemory, Value};
 use std::alloc::Global;
 use std::marker::Model;
@@ -18,6 +19,18 @@ pub enum ReplyView<'a> {
     Commit { shows: &'a [Value] },
     /// The first statement that fails, counted from 1, and why.
     Abort { reason: Reason, stmt: u32 },
+}
+
+impl<'a> ReplyView<'a> {
+    /// The outcome, and the shown values: none for an abort.
+    pub fn parts(self) -> (Outcome, &'a [Value])
+        ensures { reply_with result.0 result.1.now ≡ reply_shown self.entry }
+    {
+        match self {
+            ReplyView::Commit { shows } => (Outcome::Commit, shows),
+            ReplyView::Abort { reason, stmt } => (Outcome::Abort { reason, stmt }, &[]),
+        }
+    }
 }
 
 /// A transaction's outcome, and where its shown values are among all of them.
@@ -173,6 +186,33 @@ impl Replies {
         }
     }
 
+    /// Appends the replies of another list, up to one that fails.
+    fn push_all(&mut self, more: &Replies) -> Result<(), NoMemory>
+        ensures ok { OnOk result (self.new ≡ self.old ++ more.now) }
+        ensures err { OnErr result (take (length self.old) self.new ≡ self.old) }
+    {
+        self.reserve(more.len())?;
+        for index in 0..more.len() {
+            let (outcome, shows) = more.get(index).parts();
+            self.push(outcome, shows)?;
+        }
+        Ok(())
+    }
+
+    /// Appends the replies of another list. An error leaves the list unchanged. The time grows with
+    /// the number of the replies and of the values that they show.
+    pub fn append(&mut self, more: Replies) -> Result<(), NoMemory>
+        ensures ok { OnOk result (self.new ≡ self.old ++ more) }
+        ensures err { OnErr result (self.new ≡ self.old) }
+    {
+        let len = self.len();
+        if let Err(refusal) = self.push_all(&more) {
+            self.truncate(len);
+            return Err(refusal);
+        }
+        Ok(())
+    }
+
     /// Removes all replies. Capacity is kept.
     pub fn clear(&mut self)
         ensures { self.new ≡ [] }
@@ -187,4 +227,37 @@ impl Replies {
     {
         self.rows.truncate(len);
     }
+}
+
+/// The numbers aren't kept.
+impl ReplySink for Replies {
+    ghost use Rattle.std.specs.Prelude.{◌≡◌, [], ◌++◌};
+    ghost use Rattle.std.proofs.Common.{append-nil, append_assoc, sym, ap, ◌∙◌, List};
+    ghost use Rattle.bohm_txn.specs.declared.outcome.Reply.{Reply};
+
+    ghost appended = { λ _ a xs b. b ≡ a ++ xs };
+
+    ghost is_bare = { λ a. a ≡ [] };
+
+    fn empty(alloc: Global) -> Replies {
+        Replies::new(alloc)
+    }
+
+    fn reserve(&mut self, more: usize) -> Result<(), NoMemory> {
+        self.reserve(more)
+    }
+
+    #[inline]
+    fn push(&mut self, _number: u64, outcome: Outcome, shows: &[Value]) -> Result<(), NoMemory> {
+        self.push(outcome, shows)
+    }
+
+    fn append(&mut self, more: Replies) -> Result<(), NoMemory> {
+        self.append(more)
+    }
+
+    ghost nothing = { λ _ a. sym (append-nil a) };
+
+    ghost joined = { λ _ a b c xs ys first second. second
+        ∙ ap (λ (rs : List Reply). rs ++ ys) first ∙ append_assoc a xs ys };
 }

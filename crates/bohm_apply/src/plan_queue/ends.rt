@@ -93,8 +93,8 @@ impl<L: Line> PlanSender<L> {
         self.sent
     }
 
-    /// Sends the next note. A plan is the right one for the batch with that number, and has its
-    /// keys (`Plan::gather_keys`). It blocks while the queue is full, forever if no note is taken.
+    /// Sends the next note. A plan is the right one for the batch with that number. It blocks while
+    /// the queue is full, forever if no note is taken.
     pub fn send<R: Wait>(&mut self, rt: &R, note: PlanNote)
         requires number { note.number ≡ length self.old.notes + 1 }
         requires batch { note.number ≤ length L.cutting.sizes }

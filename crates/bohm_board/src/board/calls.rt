@@ -18,7 +18,6 @@ use crate::board::step_kinds::{Share, Unite};
 use crate::closed::{Closed, copy_words};
 use crate::columns::Columns;
 use crate::encoding::{present_cell, status_of_word};
-use crate::layout::Layout;
 use crate::pass::Pass;
 use crate::slot::Slot;
 use crate::status::{Claimed, Status};
@@ -36,9 +35,10 @@ impl<'a> Board<'a> {
         ensures own { IfOk result (λ b. IsPassOf b.0 b.1) }
         ensures view { IfOk result (λ b. view b.1 ≡ new_view (rights_of batch.entry)) }
     {
-        let layout = Layout::new(alloc, batch.txns())?;
-        let columns = Columns::new(alloc, layout.positions, layout.slots)?;
-        let words = Vec::from_elem(alloc, 0u64, layout.positions + 2 * layout.slots)?;
+        let positions = batch.len() as usize;
+        let slots = batch.slots();
+        let columns = Columns::new(alloc, positions, slots)?;
+        let words = Vec::from_elem(alloc, 0u64, positions + 2 * slots)?;
         let (table, seat) = Table::of_words(alloc, words.as_slice(), &batch)?;
         let pass = Pass {
             seat,
@@ -48,7 +48,6 @@ impl<'a> Board<'a> {
         let board = Board {
             table,
             batch,
-            layout,
             columns,
         };
         Ok((board, pass))
@@ -158,7 +157,7 @@ impl<'a> Board<'a> {
         ensures right { IfSome result (IsRightCell (batch_of self.now) slot) }
         ensures none { IsNone result → IsUnseen (view pass.old) slot }
     {
-        let number = self.layout.number(&self.batch, slot);
+        let number = self.batch.number(slot);
         match self.see_presence(&mut pass.seat, number) {
             0 => None,
             1 => Some(Cell::Absent),
@@ -180,7 +179,7 @@ impl<'a> Board<'a> {
         ensures own { IsPassOf self.now pass.new }
         ensures view { view pass.new ≡ after_fill (view pass.old) slot cell }
     {
-        let number = self.layout.number(&self.batch, slot);
+        let number = self.batch.number(slot);
         match cell {
             Cell::Absent => self.store_presence(&mut pass.seat, number, Cell::Absent),
             Cell::Present(value) => {
@@ -220,7 +219,6 @@ impl<'a> Board<'a> {
         let Board {
             table,
             batch,
-            layout,
             mut columns,
         } = self;
         let Pass {
@@ -228,16 +226,13 @@ impl<'a> Board<'a> {
             first: _,
             held: _,
         } = pass;
-        let (positions, slots) = (layout.positions, layout.slots);
+        let positions = batch.len() as usize;
+        let slots = batch.slots();
         let words = table.close_with(seat);
         copy_words(&words, 0, &mut columns.statuses);
         copy_words(&words, positions, &mut columns.presences);
         copy_words(&words, positions + slots, &mut columns.values);
         words.free();
-        Closed {
-            batch,
-            layout,
-            columns,
-        }
+        Closed { batch, columns }
     }
 }

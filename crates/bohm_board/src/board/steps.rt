@@ -26,7 +26,7 @@ impl<'a> Board<'a> {
         ensures at { result ≡ length (rights_of (batch_of self.now)).outcomes + slot }
         ensures inside { result < self.now.table.shared.table_id.words }
     {
-        self.layout.positions + slot
+        self.batch.len() as usize + slot
     }
 
     fn value_at(&self, slot: usize) -> usize
@@ -36,7 +36,7 @@ impl<'a> Board<'a> {
             (length (rights_of (batch_of self.now)).slots + slot) }
         ensures inside { result < self.now.table.shared.table_id.words }
     {
-        self.layout.positions + self.layout.slots + slot
+        self.batch.len() as usize + self.batch.slots() + slot
     }
 
     /// Loads a status word.

@@ -43,7 +43,7 @@ impl<'a> Closed<'a> {
         ensures whole { IsFinished self.now slot.txn → IsSome result }
         ensures right { IfSome result (IsRightCell (batch_of_closed self.now) slot) }
     {
-        let number = self.layout.number(&self.batch, slot);
+        let number = self.batch.number(slot);
         match self.columns.presences[number] {
             0 => None,
             1 => Some(Cell::Absent),
@@ -74,7 +74,7 @@ impl<'a> Closed<'a> {
             → presence_in self.new s ≡ presence_in self.old s }
         ensures statuses { (t : ℕ) → status_in self.new t ≡ status_in self.old t }
     {
-        let number = self.layout.number(&self.batch, slot);
+        let number = self.batch.number(slot);
         let (presence, value) = slot_words(cell);
         self.columns.values[number] = value;
         self.columns.presences[number] = presence;

@@ -1,25 +1,27 @@
 //! Makes the batch that follows the top of the history.
 
-ghost use Rattle.std.specs.Prelude.{◌≡◌, ◌+◌, IfOk};
-ghost use Rattle.bohm_place.specs.Noting.{HasKeysOf};
+ghost use Rattle.std.specs.Prelude.{◌≡◌, ◌+◌, map, IfOk};
 ghost use Rattle.bohm_place.specs.Plans.{HasSourcesOf};
 ghost use Rattle.bohm_board.specs.Bases.{IsBatched};
 ghost use Rattle.bohm_board.specs.Batches.{plan_of, txns_of};
 ghost use Rattle.bohm_store.specs.Nexts.{IsNext};
+ghost use Rattle.bohm_store.specs.Versions.{past};
 
-use crate::base::base_of;
+use crate::base::cell_of;
+use crate::declared::declared_keys;
 use crate::history::History;
 use bohm_board::Batch;
-use bohm_hints::IndexHints;
-use bohm_log::LogPart;
-use bohm_place::{BatchKeys, Plan};
-use bohm_types::NoMemory;
+use bohm_hints::{IndexHints, TopCells};
+use bohm_log::{LogPart, NameTable};
+use bohm_place::Plan;
+use bohm_types::{Cell, Key, NoMemory};
 use std::alloc::Global;
 
 impl History {
-    /// Makes the batch of these transactions, which starts after the top, with the cells that their
-    /// keys have at the top. On an error the plan is dropped. The time grows with the number of
-    /// keys that the transactions declare and with the number of the log's keys.
+    /// Makes the batch of these transactions, which starts after the top, with a list of the cells
+    /// that their keys have at the top, so that the history can change while the batch runs. On an
+    /// error the plan is dropped. The time grows with the number n of keys that the transactions
+    /// declare as n log n.
     pub fn batch<'a>(
         &self,
         alloc: Global,
@@ -32,34 +34,60 @@ impl History {
         ensures plan { IfOk result (λ b. HasSourcesOf plan (plan_of b)) }
         ensures next { IfOk result (IsNext self.now) }
     {
-        let plan = plan.gather_keys(alloc, txns, &mut BatchKeys::new(alloc))?;
-        self.batch_with(alloc, &mut IndexHints::new(alloc), txns, plan)
+        let keys = declared_keys(alloc, txns)?;
+        let base = self.cells_at_top(alloc, &keys)?;
+        Ok(Batch::new(plan.first(), txns.fork(), plan, base))
     }
 
-    /// Makes the batch as `batch` does, from a plan with its keys and with hints for the keys of the
-    /// log: a key is hashed only if its number differs from the one that it had when it was last
-    /// seen, and no key is sorted or searched for. A key that the history lacks, such as one that is
-    /// only ever read, has no number: it is looked up in each batch that declares it.
-    ///
-    /// The time grows with the number of keys that the transactions declare. It also grows with the
-    /// number of the log's keys, but only if that is higher than ever before.
+    /// Makes the batch as `batch` does, on the history itself: its keys' cells are looked up as
+    /// they are needed, with hints for the keys of the log. Its time is constant.
     pub fn batch_with<'a>(
-        &self,
-        alloc: Global,
-        hints: &mut IndexHints,
+        &'a self,
+        hints: &'a IndexHints,
         txns: &LogPart<'a>,
         plan: Plan,
-    ) -> Result<Batch<'a>, NoMemory>
+    ) -> Batch<'a>
         requires batched { IsBatched txns.now plan }
-        requires keys { HasKeysOf txns.now plan }
         requires first { plan.first ≡ self.now.top + 1 }
-        ensures txns { IfOk result (λ b. txns_of b ≡ txns.entry.now) }
-        ensures plan { IfOk result (λ b. plan_of b ≡ plan) }
-        ensures next { IfOk result (IsNext self.now) }
+        ensures txns { txns_of result ≡ txns.entry.now }
+        ensures plan { plan_of result ≡ plan }
+        ensures next { IsNext self.now result }
     {
-        hints.cover(txns.keys().names())?;
-        let keys = plan.keys();
-        let base = base_of(&self.names, &self.numbered, alloc, hints, keys)?;
-        Ok(Batch::by_place(txns.fork(), plan, base))
+        // The call's contract says that the names are distinct.
+        let _ = self.names.table();
+        let top = TopCells {
+            names: &self.names,
+            newest: self.numbered.newest(),
+            hints,
+        };
+        Batch::over(txns.fork(), plan, top)
+    }
+
+    /// Makes room in the hints for the keys of a log with these names, and notes the indexes of
+    /// those that are new to the hints. The time grows with the number of these.
+    pub fn note_keys(&self, hints: &mut IndexHints, names: NameTable<'_>) -> Result<(), NoMemory> {
+        let noted = hints.len();
+        hints.cover(names)?;
+        for (place, name) in names.own().iter().enumerate() {
+            if place >= noted
+                && let Some(index) = self.names.find(name)
+            {
+                hints.note_own(place, index);
+            }
+        }
+        Ok(())
+    }
+
+    // Each of these keys, with its cell at the top.
+    fn cells_at_top(&self, alloc: Global, keys: &[Key]) -> Result<Vec<(Key, Cell)>, NoMemory>
+        ensures { IfOk result (λ v. v.items
+            ≡ map (λ k. (k, past self.now self.now.top k)) keys.now) }
+    {
+        let mut cells = Vec::with_capacity(alloc, keys.len())?;
+        for key in keys {
+            let cell = cell_of(&self.names, &self.numbered, key, self.top());
+            cells.push((*key, cell))?;
+        }
+        Ok(cells)
     }
 }

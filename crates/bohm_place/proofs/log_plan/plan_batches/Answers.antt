@@ -11,20 +11,19 @@ loop-place-preserved c =
     let was = c.loop-place.invariant in
     let log = cutting_of c.args.log in
     let plans = c.loop-place.plans.items in
-    let q = c.in_ok-gather_keys.field-0 in
-    let made = c.in_ok-gather_keys.ensures in
+    let q = c.in_ok-next.plan in
+    let made = c.in_ok-next.ensures.planned in
     let txns = c.batch-txns.ensures in
     let here : IsPlanAt log c.loop-place.place q = record {
-      first = omega (arith, made.sources.first, c.in_ok-next.ensures.planned.first, c.first.ensures, was.start);
-      right = rw (sym txns.txns) made.right;
-      keys = rw (sym txns.txns) made.keys;
+      first = omega (arith, made.first, c.first.ensures, was.start);
+      right = rw (sym txns.txns) (∣ made.right ∣₁);
     } in
     let last : IsPlanAt log (length plans) q = rw was.count here in
     record {
-      start = omega (arith, c.len.ensures, txns.ahead);
+      start = omega (arith, c.len-start.ensures, txns.ahead);
       count = omega (arith, ap length c.in_ok-push.ensures.items, length-append plans (q ∷ []), was.count);
       each = rw c.in_ok-push.ensures.items (plan_more (IsPlanAt log) plans q was.each last);
       earlier = All-weaker (λ (v : Placeholder). v.begin < (c.first.result + c.loop-place.start) + length c.batch-txns.result)
-          (λ (v : Placeholder). v.begin < log.first + (c.loop-place.start + c.len.result))
-          (λ v lt. omega (arith, lt, c.first.ensures, c.len.ensures)) c.in_ok-next.next c.in_ok-next.ensures.below;
+          (λ (v : Placeholder). v.begin < log.first + (c.loop-place.start + c.len-start.result))
+          (λ v lt. omega (arith, lt, c.first.ensures, c.len-start.ensures)) c.in_ok-next.next c.in_ok-next.ensures.below;
     }

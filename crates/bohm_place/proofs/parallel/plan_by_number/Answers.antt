@@ -18,7 +18,7 @@ gather-requires-clause-each g c κs within w d low =
     rw many (rw (worker.0, worker.1) at each)
 
 pub new-requires : goal.new-requires
-new-requires g c = are_rows c.args.first c.args.txns.now c.in_ok-rows.rows.items c.requires.plannable.position c.requires.plannable.room c.in_ok-rows.ensures
+new-requires g c = are_rows c.args.first c.args.txns.now c.in_ok-rows.rows.items c.requires.plannable.position c.requires.plannable.room c.in_ok-rows.ensures.rows
 
 pub returns-clause-planned : goal.returns-clause-planned
 returns-clause-planned g c =
@@ -29,5 +29,5 @@ returns-clause-planned g c =
     let n = length c.in_ok-each.each.items in
     let some : 0 < n = omega (arith, c.requires.workers, c.in_ok-each.ensures.count, c.in_ok-jobs.ensures.count) in
     planned first txns found c.in_ok-rows.rows.items c.new.result c.requires.plannable.position
-    (c.in_ok-newest.ensures.found ∙ found_whole part n (ahead_of first) (ahead_of first) txns some (λ done k. refl)) c.in_ok-rows.ensures
-    c.new.ensures.first c.new.ensures.rows c.new.ensures.keys
+    (c.in_ok-newest.ensures.found ∙ found_whole part n (ahead_of first) (ahead_of first) txns some (λ done k. refl)) c.in_ok-rows.ensures.rows
+    c.new.ensures.first c.new.ensures.rows (c.new.ensures.slots ∙ c.in_ok-rows.ensures.slots)

@@ -58,10 +58,10 @@ gather-requires-clause-each g c κs lives w d low =
     (rw (worker.0, worker.1) at right) own inside long) each)
 
 pub new-requires : goal.new-requires
-new-requires g c = are_rows c.args.first c.args.txns.now c.in_ok-rows.rows.items c.requires.plannable.position c.requires.plannable.room c.in_ok-rows.ensures
+new-requires g c = are_rows c.args.first c.args.txns.now c.in_ok-rows.rows.items c.requires.plannable.position c.requires.plannable.room c.in_ok-rows.ensures.rows
 
 -- each access has the newest placeholder of its key from the earlier transactions of the batch
-rows_planned : (g : given.Over) (c : After-new g) → c.new.result.rows ≡ nested (ahead_of c.args.first) [] c.args.txns.now
+rows_planned : (g : given.Over) (c : After-new g) → c.new.result.rows ≡ nested (ahead_of c.args.first) 0 [] c.args.txns.now
 rows_planned g c =
     let part = g.P.Partition.part_of c.args.partition.now in
     let h = c.in_ok-found.ensures.found in
@@ -71,7 +71,7 @@ rows_planned g c =
     let given = c.into_parts-parts.result.items in
     let before = early part c.args.first c.args.shards given c.into_parts-parts.ensures c.requires.earlier in
     c.new.ensures.rows ∙ rows_whole part n c.args.first c.args.txns.now given c.in_ok-found.found.items c.in_ok-rows.rows.items some
-    c.requires.plannable.position before found c.in_ok-rows.ensures
+    c.requires.plannable.position before found c.in_ok-rows.ensures.rows
 
 -- a key's chain in the new shards is its old chain, followed by its placeholders from the batch
 made_behind : (g : given.Over) (c : After-new g) (k : List ℕ) → placeholders_in (g.P.Partition.part_of c.args.partition.now) c.from_parts.result k
@@ -93,9 +93,8 @@ returns-clause-planned g c =
     let rows = rows_planned g (goal.at.returns-clause-planned g c).After-new in
     record {
       first = c.new.ensures.first;
-      right = right_plan first txns c.new.result above c.new.ensures.first rows;
+      right = right_plan first txns c.new.result above c.new.ensures.first rows (c.new.ensures.slots ∙ c.in_ok-rows.ensures.slots);
       unplaced = no_places first txns c.new.result above rows;
-      unkeyed = c.new.ensures.keys;
     }
 
 pub returns-clause-chains : goal.returns-clause-chains

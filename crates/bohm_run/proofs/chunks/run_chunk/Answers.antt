@@ -18,8 +18,8 @@ returns-in-Ready g c =
     let count = c.counted-state.ensures ∙ (λ i. count_with (c.requires.behind i) ((c.len.ensures ∙ ap length c.part-log.ensures.same) i)) in
     on_ok_weaker c.run_to_text.result
     (λ part. next_ran was _ c.args.chunk.now c.requires refl refl count ready clean clean
-    (subst (λ (txns : List Txn). IsPartRun was.progress.history c.run_to_text.new.history txns was.executor.keep (was.progress.history.top + 1) was.text.items
-    c.run_to_text.new.text.items) c.part-log.ensures.same part)) c.run_to_text.ensures
+    (subst (λ (txns : List Txn). IsPartRun was.progress.history c.run_to_text.new.history txns was.executor.keep (was.progress.history.top + 1) was.text
+    c.run_to_text.new.text) c.part-log.ensures.same part)) c.run_to_text.ensures
 
 pub returns-in-Planned : goal.returns-in-Planned
 returns-in-Planned g c =
@@ -32,7 +32,7 @@ returns-in-Planned g c =
     on_ok_weaker c.run_clean.result
     (λ part. next_ran was _ c.args.chunk.now c.requires refl c.run_clean.ensures.keep count planned.ready clean clean
     (subst (λ (txns : List Txn). IsPartRun was.progress.history c.run_clean.new.progress.history txns was.executor.keep (was.progress.history.top + 1)
-    was.text.items c.run_clean.new.text.items) c.part-log.ensures.same part)) c.run_clean.ensures.run
+    was.text c.run_clean.new.text) c.part-log.ensures.same part)) c.run_clean.ensures.run
 
 pub returns-then-is_some : goal.returns-then-is_some
 returns-then-is_some g c =

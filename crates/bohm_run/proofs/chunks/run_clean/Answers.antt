@@ -12,8 +12,8 @@ use Rattle.bohm_run.proofs.chunks.run_clean.Goals as goal
 pub overflow_add-first : goal.overflow_add-first
 overflow_add-first g c = omega (arith, c.top-first.ensures.top, c.requires.few)
 
-pub put_replies-requires : goal.put_replies-requires
-put_replies-requires g c =
+pub put-requires : goal.put-requires
+put-requires g c =
     let was = c.args.progress.now.history in
     let more = replies (past was was.top) c.args.part.now in
     let ran = subst
@@ -33,5 +33,5 @@ returns-clause-run g c =
     record {
       answered = now.replies;
       applied = subst (λ (a : List Reply). IsApplied was now.history c.args.part.now c.args.executor.now.keep a) (sym is) ran.applied;
-      wrote = c.in_ok-put_replies.ensures ∙ ap (λ (n : ℕ). c.args.text.now.items ++ print_numbered (n + 1) now.replies) c.top-first.ensures.top;
+      wrote = c.in_ok-put.ensures ∙ ap (λ (n : ℕ). c.args.text.now ++ print_numbered (n + 1) now.replies) c.top-first.ensures.top;
     }

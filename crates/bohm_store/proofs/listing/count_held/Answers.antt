@@ -6,6 +6,6 @@ pub loop-i-preserved : goal.loop-i-preserved
 loop-i-preserved c =
     let more = filled_more c.args.newest.now c.loop-i.i c.index-newest-i.result c.loop-i-test.true c.index-newest-i.is in
     record {
-      filled = omega (arith, more, c.loop-i.invariant.filled, c.count-count.ensures.count);
-      few = omega (arith, c.loop-i.invariant.few, c.count-count.ensures.one);
+      filled = omega (arith, more, c.loop-i.invariant.filled, c.count_of-count.ensures.count);
+      few = omega (arith, c.loop-i.invariant.few, c.count_of-count.ensures.one);
     }

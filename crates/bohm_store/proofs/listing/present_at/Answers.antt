@@ -4,7 +4,7 @@ use Rattle.bohm_types.specs.declared.cell.Cell.TheVariants as cells
 use Rattle.bohm_log.specs.Layers.{all_names}
 use Rattle.bohm_store.specs.declared.version.Version.{Version}
 use Rattle.bohm_store.specs.Versions.{cell_at}
-use Rattle.bohm_store.specs.declared.held.Held.{Held}
+use Rattle.bohm_hints.specs.declared.held.Held.{Held}
 use Rattle.bohm_store.specs.Held.{held_at}
 use Rattle.bohm_store.specs.Numbered.{first_after}
 use Rattle.bohm_store.proofs.Entries.{entries_same}

@@ -30,7 +30,7 @@ loop-i-init c =
     let none : first_after c.args.ts (drop i os) n held ≡ held = passes
     ∙ ap (λ (j : ℕ). first_after c.args.ts (drop j os) n held) end
     ∙ ap (λ (ps : List Older). first_after c.args.ts ps n held) (drop_all (length os) os (omega arith)) in
-    record { inside = inside; cell = c.cell_at-cell.ensures ∙ ap (λ (vs : List Version). cell_at c.args.ts vs cells.Absent) (sym none) }
+    record { inside = inside; cell = c.cell_then-cell.ensures ∙ ap (λ (vs : List Version). cell_at c.args.ts vs cells.Absent) (sym none) }
 
 pub loop-i-preserved-then-one-number : goal.loop-i-preserved-then-one-number
 loop-i-preserved-then-one-number c =

@@ -38,13 +38,6 @@ run_batch-requires-clause-right g c κs within =
     let at : IsPlanAt log c.loop-place.place c.in-Some.plan = rw (c.requires.cutting, h.0) at c.take-note.ensures.note.plan c.in-Some.plan c.in-Some.is in
     rw (c.batch-txns.ensures.txns, c.in-Some.plan-is) at.right
 
-pub run_batch-requires-clause-keys : goal.run_batch-requires-clause-keys
-run_batch-requires-clause-keys g c κs within =
-    let h = c.loop-place.invariant in
-    let log = cutting_of c.args.log in
-    let at : IsPlanAt log c.loop-place.place c.in-Some.plan = rw (c.requires.cutting, h.0) at c.take-note.ensures.note.plan c.in-Some.plan c.in-Some.is in
-    rw (c.batch-txns.ensures.txns, c.in-Some.plan-is) at.keys
-
 pub drain-requires-clause-open : goal.drain-requires-clause-open
 drain-requires-clause-open g c =
     let there : IsSome c.take-note.result.plan = search rules in

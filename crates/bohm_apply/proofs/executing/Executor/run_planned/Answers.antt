@@ -41,14 +41,6 @@ run_batch-requires-clause-right g c κs within =
     let there = plan_there (cutting_of c.args.log) at.yielded c.in-Some.plan (into_iter_items c.next.new.self) c.args.plans.items whole c.requires.plans in
     rw (c.batch-txns.ensures.txns, at.invariant.place) there.1.right
 
-pub run_batch-requires-clause-keys : goal.run_batch-requires-clause-keys
-run_batch-requires-clause-keys g c κs within =
-    let at = c.loop-plan in
-    let whole : at.yielded ++ c.in-Some.plan ∷ into_iter_items c.next.new.self ≡ c.args.plans.items =
-    ap (λ (xs : List Planned). at.yielded ++ xs) (sym c.in-Some.ensures.steps.0) ∙ at.invariant.items in
-    let there = plan_there (cutting_of c.args.log) at.yielded c.in-Some.plan (into_iter_items c.next.new.self) c.args.plans.items whole c.requires.plans in
-    rw (c.batch-txns.ensures.txns, at.invariant.place) there.1.keys
-
 pub overflow_add-place : goal.overflow_add-place
 overflow_add-place g c = omega (
   arith,

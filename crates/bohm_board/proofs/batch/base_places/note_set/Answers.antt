@@ -69,7 +69,7 @@ loop-place-preserved c =
     subst (λ (f : ℕ). slice_get (planned_in set q (c.args.t - f)) n ≡ Some c.access.result) noted.sources.first c.access.ensures in
     elim c.match-access.branch [
       | in-Before+in-Ok w ↦
-          let now = subst (λ (f : ℕ). IsNoted q w.note.new.self set (c.args.t - f) n w.in-Ok.entry) noted.sources.first w.note.ensures.noted in
+          let now = subst (λ (f : ℕ). IsNoted q w.note.new.self set (c.args.t - f) n w.in-Ok.entry) noted.sources.first w.note.ensures in
           let before = ap (option_map (λ (a : Access). a.source)) at ∙ ap (λ o. Some o) w.in-Before.is in
           let found = rw w.in-Ok.is at w.search.ensures.found in
           rw w.plan-is (next_noted p set i keys base q w.note.new.self n w.in-Ok.entry k noted now before key found)

@@ -2,12 +2,13 @@ use Rattle.std.proofs.Common.{arith, ap, ◌∙◌}
 use Rattle.bohm_board.specs.Steps.{SeatState}
 use Rattle.bohm_board.proofs.Refinement.{joins}
 use Rattle.bohm_board.proofs.PassInvariant.{kept_along, kept_joined}
+use Rattle.bohm_board.proofs.SlotPlaces.{outcomes_long}
 use Rattle.bohm_board.proofs.board.Board.join.Goals as goal
 
 pub join_seat-requires : goal.join_seat-requires
 join_seat-requires c =
     let words = c.args.self.now.sized in
-    let positions = c.args.self.now.laid.positions in
+    let positions = outcomes_long c.args.self.now.batch in
     let some = c.args.self.now.batch.batched.some in (
       c.requires.own.0.seat.table,
       c.requires.own.1.seat.table,

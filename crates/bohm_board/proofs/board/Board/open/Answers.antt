@@ -1,26 +1,34 @@
-use Rattle.std.proofs.Common.{rules, arith, sym, ◌∙◌}
+use Rattle.std.proofs.Common.{rules, arith, ap, length, sym, ◌∙◌}
 use Rattle.bohm_board.specs.Batches.{rights_of}
 use Rattle.bohm_board.proofs.Refinement.{opens, blank_line}
-use Rattle.bohm_board.proofs.SlotPlaces.{layout_lengths}
+use Rattle.bohm_board.proofs.SlotPlaces.{outcomes_long}
 use Rattle.bohm_board.proofs.board.Board.open.Goals as goal
 
 pub of_words-requires : goal.of_words-requires
 of_words-requires c =
-    let lengths = layout_lengths c.args.batch c.in_ok-layout.layout (rw c.txns.ensures at c.in_ok-layout.ensures) in
+    let positions = outcomes_long c.args.batch in
     opens _ _ (c.as_slice.ensures.value ∙ (c.in_ok-words.ensures.items_if_clones_equal (search rules)
-    ∙ blank_line (rights_of c.args.batch) _ (let a = lengths.0 in let b = lengths.1 in omega arith)))
-
-pub invariant_of-board-clause-positions : goal.invariant_of-board-clause-positions
-invariant_of-board-clause-positions c = (layout_lengths c.args.batch c.in_ok-layout.layout (rw c.txns.ensures at c.in_ok-layout.ensures)).0
-
-pub invariant_of-board-clause-slots : goal.invariant_of-board-clause-slots
-invariant_of-board-clause-slots c = (layout_lengths c.args.batch c.in_ok-layout.layout (rw c.txns.ensures at c.in_ok-layout.ensures)).1
+    ∙ blank_line (rights_of c.args.batch) _ (omega (arith, positions, c.len-positions.ensures, c.slots-slots.ensures.slots))))
 
 pub invariant_of-board-clause-room : goal.invariant_of-board-clause-room
 invariant_of-board-clause-room c =
-    let lengths = layout_lengths c.args.batch c.in_ok-layout.layout (rw c.txns.ensures at c.in_ok-layout.ensures) in
+    let positions = c.len-positions.ensures ∙ sym (outcomes_long c.args.batch) in
+    let slots = c.slots-slots.ensures.slots in
     record {
-      statuses = c.in_ok-columns.ensures.statuses ∙ sym lengths.0;
-      presences = c.in_ok-columns.ensures.presences ∙ sym lengths.1;
-      values = c.in_ok-columns.ensures.values ∙ sym lengths.1;
+      statuses = c.in_ok-columns.ensures.statuses ∙ positions;
+      presences = c.in_ok-columns.ensures.presences ∙ slots;
+      values = c.in_ok-columns.ensures.values ∙ slots;
     }
+
+pub invariant_of-board-clause-sized : goal.invariant_of-board-clause-sized
+invariant_of-board-clause-sized c =
+    omega (
+      arith,
+      c.in_ok-table.ensures.0,
+      ap length c.as_slice.ensures.value,
+      c.in_ok-words.ensures.len,
+      c.in_ok-words.words.ok.0,
+      outcomes_long c.args.batch,
+      c.len-positions.ensures,
+      c.slots-slots.ensures.slots,
+    )

@@ -2,12 +2,13 @@ use Rattle.std.proofs.Common.{arith, ap, ◌∙◌}
 use Rattle.bohm_board.specs.Steps.{SeatState}
 use Rattle.bohm_board.proofs.Refinement.{splits}
 use Rattle.bohm_board.proofs.PassInvariant.{kept_along}
+use Rattle.bohm_board.proofs.SlotPlaces.{outcomes_long}
 use Rattle.bohm_board.proofs.board.Board.split.Goals as goal
 
 pub split_seat-other-requires : goal.split_seat-other-requires
 split_seat-other-requires c =
     let words = c.args.self.now.sized in
-    let positions = c.args.self.now.laid.positions in
+    let positions = outcomes_long c.args.self.now.batch in
     let some = c.args.self.now.batch.batched.some in
     (c.requires.own.seat.table, omega arith, splits _ _ _ (rw c.args.self.now.keyed c.requires.own.seat.right) c.requires.free)
 

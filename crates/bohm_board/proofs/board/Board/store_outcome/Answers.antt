@@ -12,8 +12,7 @@ pub store-requires : goal.store-requires
 store-requires c =
     let inside : c.args.position < length (rights_of c.args.self.now.batch).outcomes =
     slice_get_within (rights_of c.args.self.now.batch).outcomes c.args.position c.args.outcome c.requires.right in
-    let words = c.args.self.now.sized in
-    let positions = c.args.self.now.positions in (
+    let words = c.args.self.now.sized in (
       search rules,
       omega arith,
       finishes _ _ _ _ _ c.args.outcome _ c.outcome_word-word.ensures (rw c.args.self.now.keyed inside)

@@ -20,34 +20,34 @@ use Rattle.bohm_exec.proofs.evaluation.Evaluator.evaluate.Goals as goal
 use Rattle.bohm_exec.proofs.evaluation.Evaluator.evaluate.Goals.{After-txn, After-eval, then-not-self, else-not-self}
 
 pub add_base-requires-clause-paired : goal.add_base-requires-clause-paired
-add_base-requires-clause-paired c = let all = c.count.ensures in simp length-take (omega arith)
+add_base-requires-clause-paired c = let all = c.keys_at-read_keys.ensures in let len = c.len.ensures in simp length-take (omega arith)
 
 pub add_base-requires-clause-few : goal.add_base-requires-clause-few
-add_base-requires-clause-few c = let all = c.count.ensures in simp length-take (omega arith)
+add_base-requires-clause-few c = let all = c.keys_at-read_keys.ensures in let len = c.len.ensures in simp length-take (omega arith)
 
 pub add_base-requires-clause-found : goal.add_base-requires-clause-found
 add_base-requires-clause-found c =
     let b = c.args.batch.now in
-    found_front b (reads_at b c.args.t) c.args.self.now.reads c.count.result c.requires.ready.reads
+    found_front b (reads_at b c.args.t) c.args.self.now.reads c.len.result c.requires.ready.reads
 
 pub add_base-requires-then-not-self-clause-paired : goal.add_base-requires-then-not-self-clause-paired
-add_base-requires-then-not-self-clause-paired c = let all = c.count-2.ensures in simp length-take (omega arith)
+add_base-requires-then-not-self-clause-paired c = let all = c.keys_at-written_keys.ensures in let len = c.len-2.ensures in simp length-take (omega arith)
 
 pub add_base-requires-then-not-self-clause-few : goal.add_base-requires-then-not-self-clause-few
-add_base-requires-then-not-self-clause-few c = let all = c.count-2.ensures in simp length-take (omega arith)
+add_base-requires-then-not-self-clause-few c = let all = c.keys_at-written_keys.ensures in let len = c.len-2.ensures in simp length-take (omega arith)
 
 pub add_base-requires-then-not-self-clause-found : goal.add_base-requires-then-not-self-clause-found
 add_base-requires-then-not-self-clause-found c =
     let b = c.args.batch.now in
     let ready = c.requires.ready in
-    found_front b (writes_at b c.args.t) c.args.self.now.earlier c.count-2.result (ready.earlier (sym ready.sure ∙ c.if-not-self.true))
+    found_front b (writes_at b c.args.t) c.args.self.now.earlier c.len-2.result (ready.earlier (sym ready.sure ∙ c.if-not-self.true))
 
 pub eval-requires-clause-well : goal.eval-requires-clause-well
 eval-requires-clause-well c = well_formed c.args.batch.now c.args.t c.txn.result c.txn.ensures
 
 pub eval-requires-clause-earlier : goal.eval-requires-clause-earlier
 eval-requires-clause-earlier c =
-    let all = c.count-2.ensures in
+    let all = c.keys_at-written_keys.ensures in let len = c.len-2.ensures in
     let same = simp length-take at c.if-not-self.auto.earlier in
     omega (arith, writes_paired c.args.batch.now c.args.t c.txn.result c.txn.ensures)
 

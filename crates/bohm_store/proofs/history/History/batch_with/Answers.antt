@@ -1,33 +1,23 @@
-use Rattle.std.proofs.Common.{◌≡◌, ◌∙◌, List, ℕ, ap, subst, true}
-use Rattle.std.specs.List.{list_any}
-use Rattle.bohm_types.specs.declared.cell.Cell.{Cell}
-use Rattle.bohm_types.specs.Txn.{Txn}
+use Rattle.std.proofs.Common.{◌≡◌, ◌∙◌, List, ℕ, sym, ap, subst}
+use Rattle.std.specs.Prelude.{slice_index_or}
 use Rattle.bohm_types.specs.declared.cell.Cell.TheVariants.{Absent}
-use Rattle.bohm_types.specs.Keys.{is_among}
-use Rattle.bohm_txn.specs.Meaning.{newest}
-use Rattle.bohm_place.specs.Noting.{declares_key}
-use Rattle.bohm_board.specs.Bases.{keys_of}
-use Rattle.bohm_store.specs.Versions.{past}
-use Rattle.bohm_store.specs.Numbered.{timeline}
-use Rattle.bohm_store.proofs.Bases.{keys_paired, newest_paired}
+use Rattle.bohm_txn.specs.Meaning.{Look}
+use Rattle.bohm_hints.specs.declared.held.Held.{Held}
+use Rattle.bohm_hints.specs.declared.held.Held.TheVariants.{Never}
+use Rattle.bohm_hints.specs.Top.{held_by, held_cell}
+use Rattle.bohm_store.specs.Versions.{cell_at}
+use Rattle.bohm_store.specs.Numbered.{versions_at}
+use Rattle.bohm_store.proofs.Tops.{top_past}
 use Rattle.bohm_store.proofs.history.History.batch_with.Goals as goal
-
-pub by_place-requires-clause-base : goal.by_place-requires-clause-base
-by_place-requires-clause-base c =
-    let hold : List ℕ → Cell = past (timeline c.self.inside.names c.self.inside.numbered) c.self.inside.numbered.top in
-    ap keys_of c.in_ok-base.ensures ∙ rw c.keys-keys.ensures (keys_paired hold c.args.plan.keys)
 
 pub returns-clause-next : goal.returns-clause-next
 returns-clause-next c =
-    let hold : List ℕ → Cell = past (timeline c.self.inside.names c.self.inside.numbered) c.self.inside.numbered.top in
-    let names = c.args.plan.keys in
-    let first = rw (← c.self.view_is) at c.requires.first in
+    let names = c.self.inside.names in
+    let h = c.self.inside.numbered in
+    let each : (n : ℕ) → held_cell (slice_index_or h.newest n Never) ≡ cell_at h.top (versions_at h n) Absent =
+    λ n. ap (λ (xs : List Held). held_cell (slice_index_or xs n Never)) (sym c.newest.ensures.newest) ∙ c.newest.ensures.cells n in
     rw (← c.self.view_is) (record {
-      first = c.by_place.ensures.first ∙ first;
-      base = λ k declared.
-          (let here : list_any (declares_key k) c.args.txns.now
-          ≡ true = subst (λ (ts : List Txn). list_any (declares_key k) ts ≡ true) (c.by_place.ensures.txns ∙ c.fork.ensures) declared in
-          let among : is_among names k ≡ true = c.requires.keys.keys.each k ∙ here in
-          ap (λ (es : List (List ℕ × Cell)). newest es k Absent) (c.by_place.ensures.base ∙ c.in_ok-base.ensures)
-          ∙ rw c.keys-keys.ensures (newest_paired hold names k Absent among));
+      first = c.over.ensures.first ∙ rw (← c.self.view_is) at c.requires.first;
+      base = λ k declared. ap (λ (look : Look). look k) c.over.ensures.base
+          ∙ (ap (λ (xs : List Held). held_cell (held_by names xs k)) c.newest.ensures.newest ∙ top_past names h k c.table.ensures.apart each);
     })

@@ -1,7 +1,7 @@
 use Rattle.std.proofs.Common.{◌≡◌, ◌∙◌, List, get_or, sym, ap}
-use Rattle.bohm_store.specs.declared.held.Held.{Held}
-use Rattle.bohm_store.specs.declared.held.Held.TheVariants.{Never}
-use Rattle.bohm_store.specs.Held.{held_cell}
+use Rattle.bohm_hints.specs.declared.held.Held.{Held}
+use Rattle.bohm_hints.specs.declared.held.Held.TheVariants.{Never}
+use Rattle.bohm_hints.specs.Top.{held_cell}
 use Rattle.bohm_store.specs.Numbered.{older_of, ends_of}
 use Rattle.bohm_store.proofs.Linked.{as_many, cell_held}
 use Rattle.bohm_store.proofs.numbered.NumberedHistory.cell.Goals as goal

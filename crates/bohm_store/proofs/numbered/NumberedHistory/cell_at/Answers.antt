@@ -1,8 +1,8 @@
 use Rattle.std.proofs.Common.{◌≡◌, ◌∙◌, ◌++◌, List, get_or, sym, ap}
 use Rattle.bohm_types.specs.declared.cell.Cell.TheVariants as cells
 use Rattle.bohm_store.specs.Versions.{cell_at}
-use Rattle.bohm_store.specs.declared.held.Held.{Held}
-use Rattle.bohm_store.specs.declared.held.Held.TheVariants.{Never}
+use Rattle.bohm_hints.specs.declared.held.Held.{Held}
+use Rattle.bohm_hints.specs.declared.held.Held.TheVariants.{Never}
 use Rattle.bohm_store.specs.Held.{held_at, held_versions}
 use Rattle.bohm_store.specs.Numbered.{first_after, older_of}
 use Rattle.bohm_store.proofs.NewestVersion.{cell_at-newest}

@@ -1,6 +1,6 @@
 use Rattle.std.proofs.Common.{◌≡◌, ◌+◌, ◌∙◌, List, length, ap, min, arith}
 use Rattle.bohm_log.specs.Layers.{all_names}
-use Rattle.bohm_store.specs.declared.held.Held.{Held}
+use Rattle.bohm_hints.specs.declared.held.Held.{Held}
 use Rattle.bohm_store.specs.Numbered.{Numbered, filled, timeline}
 use Rattle.bohm_store.specs.Versions.{total}
 use Rattle.bohm_store.proofs.Counted.{counted}

@@ -10,7 +10,7 @@ use Rattle.std.proofs.lemmas.List.Sorted.{ranks_by, answers_always}
 use Rattle.bohm_types.specs.declared.cell.Cell.TheVariants as cells
 use Rattle.bohm_log.specs.Layers.{all_names}
 use Rattle.bohm_store.specs.Versions.{cell_at}
-use Rattle.bohm_store.specs.declared.held.Held.{Held}
+use Rattle.bohm_hints.specs.declared.held.Held.{Held}
 use Rattle.bohm_txn.specs.Stores.{Store, cell_in}
 use Rattle.bohm_store.specs.Chains.{timeline_entries_at}
 use Rattle.bohm_store.proofs.StoreEntries.{cell_held, distinct_held}

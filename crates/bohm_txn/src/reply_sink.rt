@@ -1,0 +1,48 @@
+//! What a run appends its replies to.
+
+ghost use Rattle.std.specs.Prelude.{◌≡◌, ℕ, ◌+◌, List, [], ◌∷◌, ◌++◌, length, OnOk, OnErr};
+ghost use Rattle.bohm_txn.specs.declared.outcome.Reply.{Reply};
+ghost use Rattle.bohm_txn.specs.Serial.{reply_with};
+
+use crate::outcome::Outcome;
+use bohm_types::{NoMemory, Value};
+use std::alloc::Global;
+
+/// What replies are appended to, in log order, such as a list of them or their text. The
+/// transactions of successive replies have consecutive timestamps.
+pub trait ReplySink {
+    /// The second sink is the first one with these replies appended, of transactions with
+    /// timestamps from this number on.
+    ghost appended: { ℕ → Self → List Reply → Self → Type 0 };
+
+    /// It has no replies.
+    ghost is_bare: { Self → Type 0 };
+
+    /// A sink without replies. It allocates nothing.
+    fn empty(alloc: Global) -> Self
+        ensures { is_bare result };
+
+    /// Reserves capacity for this many more replies, apart from the values that they show.
+    fn reserve(&mut self, more: usize) -> Result<(), NoMemory>
+        ensures { (first : ℕ) → appended first self.old [] self.new };
+
+    /// Appends the reply of the transaction with the timestamp `number` and this outcome: a commit
+    /// shows these values. An error appends nothing. The time grows with the number of the values.
+    fn push(&mut self, number: u64, outcome: Outcome, shows: &[Value]) -> Result<(), NoMemory>
+        ensures ok { OnOk result
+            (appended number self.old (reply_with outcome shows.now ∷ []) self.new) }
+        ensures err { OnErr result (appended number self.old [] self.new) };
+
+    /// Appends the replies of another sink, which were appended to one without replies. An error
+    /// appends nothing. The time grows with the number of the replies and of their values.
+    fn append(&mut self, more: Self) -> Result<(), NoMemory>
+        ensures ok { OnOk result
+            ((first : ℕ) (start : Self) (replies : List Reply) → is_bare start
+            → appended first start replies more → appended first self.old replies self.new) }
+        ensures err { OnErr result ((first : ℕ) → appended first self.old [] self.new) };
+
+    ghost nothing: { (first : ℕ) (a : Self) → appended first a [] a };
+
+    ghost joined: { (first : ℕ) (a b c : Self) (xs ys : List Reply) → appended first a xs b
+        → appended (first + length xs) b ys c → appended first a (xs ++ ys) c };
+}
