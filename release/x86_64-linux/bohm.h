@@ -25,7 +25,7 @@
 
 /* The version, and the checksum of the sources that the library is built from. */
 #define BOHM_VERSION "0.1.0"
-#define BOHM_SOURCES "721b26589e01913ebb74e66d13c2f009e71a2ff3e9da6e84645c4a3ed6983ce1"
+#define BOHM_SOURCES "039a2fed6e20defbe6b0445cf0eb259295f67ba0453d8f1e8cffede5a03d814d"
 
 /* The version and the checksum of the library that the program is linked with. */
 extern const char bohm_version[16], bohm_sources[65];

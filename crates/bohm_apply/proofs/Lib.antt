@@ -3,5 +3,6 @@ mod Going
 mod Ordered
 mod Walks
 mod Replying
+mod Shares
 mod Swept
 pub mod ForCallers

@@ -12,10 +12,10 @@ use Rattle.bohm_store.specs.Versions.{Timeline, past}
 use Rattle.bohm_apply.specs.Runs.{IsApplied}
 use Rattle.bohm_apply.proofs.Going.{settled_on, went_on}
 
--- the first i + 1 transactions are the first i, followed by the transaction at index i
-next_taken : (txns : List Txn) (i : ℕ) (t : Txn) → slice_get txns i ≡ Some t → take (i + 1) txns ≡ take i txns ++ t ∷ []
-next_taken txns i t here =
-    take_more txns i t (slice_get_within txns i t here) ∙ ap (λ (x : Txn). take i txns ++ x ∷ []) (get_or_from_slice_get txns i t t here)
+-- the first i + 1 elements are the first i, followed by the element at index i
+pub next_taken : {A : Type 0} (xs : List A) (i : ℕ) (x : A) → slice_get xs i ≡ Some x → take (i + 1) xs ≡ take i xs ++ x ∷ []
+next_taken {A} xs i x here =
+    take_more xs i x (slice_get_within xs i x here) ∙ ap (λ (y : A). take i xs ++ y ∷ []) (get_or_from_slice_get xs i x x here)
 
 -- settling the transaction at index i after the first i continues the history by the first i + 1
 pub one_more : (was mid now : Timeline) (txns : List Txn) (i keep : ℕ) (t : Txn) (a : List Reply) → was.floor ≤ was.top → slice_get txns i ≡ Some t

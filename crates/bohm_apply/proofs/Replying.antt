@@ -1,19 +1,20 @@
 -- The replies of a batch, one transaction after another.
-use Rattle.std.proofs.Common.{◌≡◌, ℕ, ◌+◌, ◌<◌, ◌≤◌, List, [], ◌∷◌, ◌++◌, length, take, drop, get_or, Some}
-use Rattle.std.proofs.Common.{None, Ok, Err, refl, sym, ap, ◌∙◌, add-one, append_assoc, arith, ⊎_elim}
+use Rattle.std.proofs.Common.{◌≡◌, ℕ, zero, suc, ◌+◌, ◌<◌, ◌≤◌, List, [], ◌∷◌, ◌++◌, length, take, drop, get_or, Some}
+use Rattle.std.proofs.Common.{None, Ok, Err, refl, sym, ap, ◌∙◌, arith, ⊎_elim}
 use Rattle.std.specs.Prelude.{ℤ, Option, Result, OnErr}
 use Rattle.std.specs.List.{slice_get}
 use Rattle.std.proofs.lemmas.List.{take_all, take_more}
-use Rattle.std.proofs.lemmas.Option.{get_or_from_slice_get, slice_get_cases, slice_get_within}
+use Rattle.std.proofs.lemmas.Option.{get_or_from_slice_get, same_Some, slice_get_cases, slice_get_within}
 use Rattle.bohm_types.specs.declared.cell.Cell.TheVariants.{Absent, Present}
 use Rattle.bohm_types.specs.Txn.{Txn}
-use Rattle.bohm_txn.specs.declared.outcome.Reply.{Reply}
 use Rattle.bohm_txn.specs.Declares.{shows_in}
 use Rattle.bohm_txn.specs.Meaning.{Look, Ended, body}
 use Rattle.bohm_txn.specs.Serial.{after, replies, reply_of, shows_of, state}
 use Rattle.bohm_txn.specs.Stores.{cell_of}
-use Rattle.bohm_txn.proofs.ForCallers.{shows_counted, drop_at, next}
+use Rattle.bohm_txn.proofs.ForCallers.{shows_counted}
+use Rattle.bohm_place.proofs.ForCallers.{get_drop}
 use Rattle.bohm_exec.specs.Moments.{shown}
+use Rattle.bohm_apply.proofs.Ordered.{next_taken}
 
 -- ---- the values that one transaction shows
 
@@ -51,19 +52,19 @@ shows_few look t = elim (body look t) as (λ (e : Ended). body look t ≡ e → 
 
 -- ---- the replies
 
--- with the next reply appended, the replies so far and the remaining ones are still the whole list
-pub reply_step : (base : Look) (txns : List Txn) (i : ℕ) (x : Txn) (r : Reply) (out whole : List Reply) → slice_get txns i ≡ Some x
-    → reply_of (body (state base txns i) x) ≡ r
-    → out ++ replies (state base txns i) (drop i txns) ≡ whole → (out ++ r ∷ []) ++ replies (state base txns (i + 1)) (drop (i + 1) txns) ≡ whole
-reply_step base txns i x r out whole here is h =
-    let after_it : state base txns (i + 1) ≡ after (state base txns i) x = rw add-one (next base txns i x here) in
-    let more = rw (drop_at txns i x here) at h in
-    rw (after_it, append_assoc, sym is) more
+-- the reply of the transaction at index i
+reply_at : (look : Look) (txns : List Txn) (i : ℕ) (x : Txn) → slice_get txns i ≡ Some x
+    → slice_get (replies look txns) i ≡ Some (reply_of (body (state look txns i) x))
+reply_at look [] i x e = absurd (omega (arith, slice_get_within [] i x e))
+reply_at look (t ∷ ts) zero x e = ap (λ (y : Txn). Some (reply_of (body look y))) (same_Some t x e)
+reply_at look (t ∷ ts) (suc i) x e = reply_at (after look t) ts i x e
 
--- a list that begins with the old replies still does when one more reply is appended
-pub longer : (old mid new : List Reply) (r : Reply) → ((more : List Reply) × (mid ≡ old ++ more)) → new ≡ mid ++ r ∷ []
-    → (more : List Reply) × (new ≡ old ++ more)
-longer old mid new r (more, before) now = (more ++ r ∷ [], now ∙ (ap (λ (rs : List Reply). rs ++ r ∷ []) before ∙ append_assoc old more (r ∷ [])))
+-- of the transactions from an index on, the replies of the first i + 1 are those of the first i, and then that of the one at index i
+pub next_reply : (look : Look) (txns : List Txn) (from i : ℕ) (x : Txn) → slice_get txns (from + i) ≡ Some x
+    → take (i + 1) (drop from (replies look txns)) ≡ take i (drop from (replies look txns)) ++ reply_of (body (state look txns (from + i)) x) ∷ []
+next_reply look txns from i x here =
+    let r = reply_of (body (state look txns (from + i)) x) in
+    next_taken (drop from (replies look txns)) i r (get_drop from i (replies look txns) ∙ reply_at look txns (from + i) x here)
 
 -- ---- a fact that doesn't depend on the result also holds on an error
 

@@ -1,6 +1,6 @@
 -- A walk over a cut log, batch after batch.
 use Rattle.std.proofs.Common.{◌≡◌, ℕ, ◌+◌, ◌-◌, ◌<◌, ◌≤◌, ◌++◌, List, length, take, drop, refl, ap, sym, ◌∙◌, arith, Bool}
-use Rattle.std.proofs.Common.{true, false, [], ◌∷◌, append_assoc, append-nil, subst, length-append, slice_get, Some}
+use Rattle.std.proofs.Common.{true, false, [], ◌∷◌, length-append, slice_get, Some}
 use Rattle.std.specs.Prelude.{slice_index, ℤ}
 use Rattle.std.specs.FinMap.{entries}
 use Rattle.std.specs.List.{sum}
@@ -16,8 +16,6 @@ use Rattle.bohm_store.specs.Versions.{Timeline, declared_writes, past, total}
 use Rattle.bohm_place.specs.Plans.{Planned}
 use Rattle.bohm_place.specs.Cuttings.{ArePlans, Cutting, IsPlanAt, ahead, txns_at}
 use Rattle.bohm_txn.specs.Meaning.{Look}
-use Rattle.bohm_apply.specs.declared.executing.Progress.{Progress}
-use Rattle.bohm_apply.specs.Progresses.{GoesOn}
 use Rattle.bohm_apply.specs.Runs.{IsApplied, IsWalked, IsHistoryOf, floor_after}
 use Rattle.bohm_apply.proofs.Going.{went_on, at_rest}
 use Rattle.bohm_place.proofs.ForCallers.{ahead_next}
@@ -37,24 +35,6 @@ pub walked_on : (was mid now : Timeline) (c : Cutting) (i start keep : ℕ) (a :
     → IsApplied was now (take (start + length txns) c.log) keep (a ++ replies (past mid mid.top) txns)
 walked_on was mid now c i start keep a txns ordered inside here is next h g =
     rw (front_more c i start txns inside here is next) (went_on was mid now (take start c.log) txns keep a (replies (past mid mid.top) txns) ordered h g)
-
--- the next batch continues both the history and the replies
-pub goes_on_more : (was mid now : Progress) (c : Cutting) (i start keep : ℕ) (txns : List Txn) → was.history.floor ≤ was.history.top → i < length c.sizes
-    → start ≡ ahead c.sizes i → txns ≡ txns_at c i → ahead c.sizes (i + 1) ≡ start + length txns
-    → GoesOn was mid (take start c.log) keep → GoesOn mid now txns keep → GoesOn was now (take (start + length txns) c.log) keep
-goes_on_more was mid now c i start keep txns ordered inside here is next h g =
-    let before = replies (past was.history was.history.top) (take start c.log) in
-    let more = replies (past mid.history mid.history.top) txns in
-    let on = walked_on was.history mid.history now.history c i start keep before txns ordered inside here is next h.applied g.applied in
-    record {
-      applied = subst (λ (a : List Reply). IsApplied was.history now.history (take (start + length txns) c.log) keep a) on.replies on;
-      replies = g.replies ∙ (ap (λ (a : List Reply). a ++ more) h.replies
-          ∙ (append_assoc was.replies before more ∙ ap (λ (a : List Reply). was.replies ++ a) on.replies));
-    }
-
--- an empty list of transactions leaves the history and the replies as they are
-pub goes_nowhere : (p : Progress) (keep : ℕ) → GoesOn p p [] keep
-goes_nowhere p keep = record { applied = at_rest p.history keep; replies = sym (append-nil p.replies) }
 
 plan_at : (ys : List Planned) (p : Planned) (rest : List Planned) → slice_get (ys ++ p ∷ rest) (length ys) ≡ Some p
 plan_at [] p rest = refl

@@ -1,5 +1,5 @@
 -- The replies of batches and their transactions.
-use Rattle.std.specs.Prelude.{◌≡◌, ℕ, ℤ, List, [], ◌∷◌, ◌++◌, length, Some}
+use Rattle.std.specs.Prelude.{◌≡◌, ℕ, ℤ, ◌+◌, List, [], ◌∷◌, length, Some}
 use Rattle.bohm_types.specs.Txn.{Txn}
 use Rattle.bohm_txn.specs.declared.outcome.Reply.{Reply}
 use Rattle.bohm_txn.specs.Meaning.{body}
@@ -17,18 +17,22 @@ use Rattle.bohm_store.specs.Writes.{AreNextShares}
 abbrev pub replies_of : Finished → List Reply
 replies_of f = replies (base_of (batch_of_finished f)) (txns_of (batch_of_finished f))
 
--- the batch of these transactions after the top of a history was evaluated: its replies follow the others, and its writes are listed
-pub record IsEvaluated (t : Timeline) (txns : List Txn) (was now : List Reply) (l : ListedWrites) : Type 0 where
+-- a relation of what replies are appended to, the timestamp of the first of these replies, the replies, and the result
+abbrev pub Appended : Type 0 → Type 1
+Appended A = ℕ → A → List Reply → A → Type 0
+
+-- the batch of these transactions after the top of a history was evaluated: its replies were appended, and its writes are listed
+pub record IsEvaluated {A : Type 0} (appended : Appended A) (t : Timeline) (txns : List Txn) (was now : A) (shares : List ListedWrites) : Type 0 where
   pub batch : Batch
   pub same : txns_of batch ≡ txns
-  pub listed : AreNextShares t batch (length txns) (l ∷ [])
-  pub told : now ≡ was ++ replies (past t t.top) txns
+  pub listed : AreNextShares t batch (length txns) shares
+  pub told : appended (t.top + 1) was (replies (past t t.top) txns) now
 
 -- ---- of the transaction with the timestamp t, in the serial run
 
 abbrev pub AreSerialShows : Batch → ℕ → List ℤ → Type 0
 AreSerialShows b t zs = (x : Txn) → txn_at b t ≡ Some x → shows_of (body (state_before b t) x) ≡ zs
 
--- its reply follows the others
-abbrev pub IsReplied : Batch → ℕ → List Reply → List Reply → Type 0
-IsReplied b t was now = (x : Txn) → txn_at b t ≡ Some x → now ≡ was ++ reply_of (body (state_before b t) x) ∷ []
+-- its reply was appended
+abbrev pub IsReplied : {A : Type 0} → Appended A → Batch → ℕ → A → A → Type 0
+IsReplied appended b t was now = (x : Txn) → txn_at b t ≡ Some x → appended t was (reply_of (body (state_before b t) x) ∷ []) now

@@ -1,37 +1,41 @@
 //! The executing side: it runs batch after batch, as their plans arrive.
 
-ghost use Rattle.std.specs.Prelude.{◌≡◌, ◌+◌, ◌<◌, ◌≤◌, ◌^◌, All, length, IsSome, IfOk, OnOk, OnErr};
+ghost use Rattle.std.specs.Prelude.{◌≡◌, ◌+◌, ◌<◌, ◌≤◌, ◌^◌, List, All, length, IsSome, IfOk, OnOk, OnErr};
 ghost use Rattle.bohm_txn.specs.Faulty.{IsWellFormedTxn};
+ghost use Rattle.bohm_txn.specs.Serial.{replies};
+ghost use Rattle.bohm_txn.specs.declared.outcome.Reply.{Reply};
 ghost use Rattle.bohm_place.specs.Plans.{IsRightPlan};
 ghost use Rattle.bohm_place.specs.CutLogs.{cutting_of};
 ghost use Rattle.bohm_place.specs.Cuttings.{ArePlans};
 ghost use Rattle.bohm_board.specs.Bases.{IsBatched};
+ghost use Rattle.bohm_store.specs.Nexts.{IsSame};
+ghost use Rattle.bohm_store.specs.Versions.{past};
 ghost use Rattle.bohm_apply.specs.Lines.{IsWholeLine};
-ghost use Rattle.bohm_apply.specs.Progresses.{GoesOn, IsWalkOf, StaysPut};
+ghost use Rattle.bohm_apply.specs.Progresses.{IsWalkOf};
 ghost use Rattle.bohm_apply.specs.Replies.{IsEvaluated};
+ghost use Rattle.bohm_apply.specs.Runs.{IsApplied};
 ghost use Rattle.bohm_apply.specs.Sides.{CanExecute};
 ghost use Rattle.bohm_types.specs.Limits.{largest_batch};
 
 use crate::plan_queue::{Line, PlanReceiver};
-use crate::replies::push_replies;
+use crate::settling::settle_batch;
 use crate::workers::{ScratchPool, finish_batch};
 use bohm_exec::Gate;
 use bohm_hints::IndexHints;
 use bohm_log::LogPart;
 use bohm_place::{CutLog, Plan};
 use bohm_store::{History, ListedWrites};
-use bohm_txn::Replies;
+use bohm_txn::{Replies, ReplySink};
 use bohm_types::NoMemory;
 use std::alloc::Global;
-use std::slice;
 use std::sync::Wait;
 use std::thread::Threads;
 
 /// A history, and the replies of the transactions that were applied to it.
 #[derive(Drop)]
-pub struct Progress {
-    pub history: History,
-    pub replies: Replies,
+pub(crate) struct Progress {
+    pub(crate) history: History,
+    pub(crate) replies: Replies,
 }
 
 /// Executes batches: it has the workers, the indexes of the log's keys in the history, and how many
@@ -44,113 +48,147 @@ pub struct Executor {
 }
 
 /// Evaluates the batch that follows the history's top, appends its replies, and lists its writes.
-/// An error leaves the replies unchanged.
-fn evaluate_batch<G: Gate, R: Threads + Sync>(
+/// After an error some of the replies may have been appended.
+fn evaluate_batch<S: ReplySink + Send + Drop, G: Gate, R: Threads + Sync>(
     rt: &R,
     alloc: Global,
     history: &History,
     hints: &IndexHints,
     pool: &mut ScratchPool,
-    replies: &mut Replies,
+    answered: &mut S,
     txns: &LogPart<'_>,
     plan: Plan,
     gate: &G,
-) -> Result<ListedWrites, NoMemory>
+) -> Result<Vec<ListedWrites>, NoMemory>
     requires batched { IsBatched txns.now plan }
     requires first { plan.first ≡ history.now.top + 1 }
-    ensures evaluated { IfOk result
-        (IsEvaluated history.now txns.now replies.old replies.new) }
-    ensures err { OnErr result (replies.new ≡ replies.old) }
+    ensures evaluated { IfOk result (λ shares. IsEvaluated S.appended history.now txns.now
+        answered.old answered.new shares.items) }
+    ensures err { OnErr result ((more : List Reply)
+        × S.appended (history.now.top + 1) answered.old more answered.new) }
 {
     let batch = history.batch_with(hints, txns, plan);
     let finished = finish_batch(rt, alloc, batch, pool, gate)?;
-    let answered = replies.len();
-    push_replies(alloc, replies, &finished)?;
-    match history.list_writes(alloc, hints, &finished, 0, finished.len()) {
-        Ok(listed) => Ok(listed),
-        Err(refusal) => {
-            replies.truncate(answered);
-            Err(refusal)
-        }
-    }
+    settle_batch(
+        rt,
+        alloc,
+        history,
+        hints,
+        pool.workers(),
+        answered,
+        &finished,
+    )
 }
 
 impl Executor {
-    /// Runs the batch that follows the history's top.
-    fn run_batch<G: Gate, R: Threads + Sync>(
+    /// Runs the batch that follows the history's top. After an error some of its replies may have
+    /// been appended.
+    fn try_batch<S: ReplySink + Send + Drop, G: Gate, R: Threads + Sync>(
         &mut self,
         rt: &R,
         alloc: Global,
-        progress: &mut Progress,
+        history: &mut History,
+        answered: &mut S,
         txns: &LogPart<'_>,
         plan: Plan,
         gate: &G,
     ) -> Result<(), NoMemory>
         requires some { 0 < length txns.now }
         requires few { length txns.now ≤ largest_batch }
-        requires timestamps { progress.old.history.top + 1 + length txns.now ≤ 2 ^ 32 }
+        requires timestamps { history.old.top + 1 + length txns.now ≤ 2 ^ 32 }
         requires formed { All IsWellFormedTxn txns.now }
-        requires first { plan.first ≡ progress.old.history.top + 1 }
+        requires first { plan.first ≡ history.old.top + 1 }
         requires right { ∥ IsRightPlan txns.now plan ∥₁ }
         ensures keep { self.new.keep ≡ self.old.keep }
-        ensures ok { OnOk result (GoesOn progress.old progress.new txns.now self.old.keep) }
-        ensures err { OnErr result (StaysPut progress.old progress.new) }
+        ensures applied { OnOk result (IsApplied history.old history.new txns.now self.old.keep
+            (replies (past history.old history.old.top) txns.now)) }
+        ensures answered { OnOk result (S.appended (history.old.top + 1) answered.old
+            (replies (past history.old history.old.top) txns.now) answered.new) }
+        ensures same { OnErr result (IsSame history.old history.new) }
+        ensures behind { OnErr result ((more : List Reply)
+            × S.appended (history.old.top + 1) answered.old more answered.new) }
     {
-        let answered = progress.replies.len();
         let count = txns.len() as u32;
-        let floor = (progress.history.top() + count).saturating_sub(self.keep);
-        progress
-            .history
-            .note_keys(&mut self.hints, txns.keys().names())?;
-        let listed = evaluate_batch(
+        let floor = (history.top() + count).saturating_sub(self.keep);
+        history.note_keys(&mut self.hints, txns.keys().names())?;
+        let shares = evaluate_batch(
             rt,
             alloc,
-            &progress.history,
+            history,
             &self.hints,
             &mut self.pool,
-            &mut progress.replies,
+            answered,
             txns,
             plan,
             gate,
         )?;
-        let shares = slice::from_ref(&listed);
-        match progress
-            .history
-            .install(alloc, &mut self.hints, shares, count, floor)
-        {
-            Ok(()) => Ok(()),
-            Err(refusal) => {
-                progress.replies.truncate(answered);
-                Err(refusal)
-            }
-        }
+        history.install(alloc, &mut self.hints, &shares, count, floor)?;
+        Ok(())
     }
 
-    /// Runs the batches of a log by their plans. An error ends the run. The time grows with the
-    /// number of the transactions' terms, and with the number of batches for the start of their
-    /// threads.
-    #[tactic(auto, using(crate::proofs::Walks::goes_nowhere))]
-    pub fn run_planned<G: Gate, R: Threads + Sync>(
+    /// Runs the batch that follows the history's top. An error appends no reply, and leaves the
+    /// visible state of the history unchanged.
+    fn run_batch<S: ReplySink + Send + Drop, G: Gate, R: Threads + Sync>(
         &mut self,
         rt: &R,
         alloc: Global,
-        progress: &mut Progress,
+        history: &mut History,
+        answered: &mut S,
+        txns: &LogPart<'_>,
+        plan: Plan,
+        gate: &G,
+    ) -> Result<(), NoMemory>
+        requires some { 0 < length txns.now }
+        requires few { length txns.now ≤ largest_batch }
+        requires timestamps { history.old.top + 1 + length txns.now ≤ 2 ^ 32 }
+        requires formed { All IsWellFormedTxn txns.now }
+        requires first { plan.first ≡ history.old.top + 1 }
+        requires right { ∥ IsRightPlan txns.now plan ∥₁ }
+        ensures keep { self.new.keep ≡ self.old.keep }
+        ensures applied { OnOk result (IsApplied history.old history.new txns.now self.old.keep
+            (replies (past history.old history.old.top) txns.now)) }
+        ensures answered { OnOk result (S.appended (history.old.top + 1) answered.old
+            (replies (past history.old history.old.top) txns.now) answered.new) }
+        ensures same { OnErr result (IsSame history.old history.new) }
+        ensures unanswered { OnErr result (answered.new ≡ answered.old) }
+    {
+        let before = answered.len();
+        let ran = self.try_batch(rt, alloc, history, answered, txns, plan, gate);
+        if ran.is_err() {
+            answered.truncate(before);
+        }
+        ran
+    }
+
+    /// Runs the batches of a log by their plans, and appends the replies. An error ends the run.
+    /// The time grows with the number of the transactions' terms, and with the number of batches
+    /// for the start of their threads.
+    pub fn run_planned<S: ReplySink + Send + Drop, G: Gate, R: Threads + Sync>(
+        &mut self,
+        rt: &R,
+        alloc: Global,
+        history: &mut History,
+        answered: &mut S,
         log: CutLog<'_>,
         plans: Vec<Plan>,
         gate: &G,
     ) -> Result<(), NoMemory>
-        requires first { (cutting_of log).first ≡ progress.old.history.top + 1 }
-        requires ordered { progress.old.history.floor ≤ progress.old.history.top }
+        requires first { (cutting_of log).first ≡ history.old.top + 1 }
+        requires ordered { history.old.floor ≤ history.old.top }
         requires plans { ArePlans (cutting_of log) plans.items }
         ensures keep { self.new.keep ≡ self.old.keep }
-        ensures ran { OnOk result
-            (GoesOn progress.old progress.new (cutting_of log.entry).log self.old.keep) }
+        ensures applied { let txns = (cutting_of log.entry).log in
+            OnOk result (IsApplied history.old history.new txns self.old.keep
+            (replies (past history.old history.old.top) txns)) }
+        ensures answered { let txns = (cutting_of log.entry).log in
+            OnOk result (S.appended (history.old.top + 1) answered.old
+            (replies (past history.old history.old.top) txns) answered.new) }
     {
         let mut start = 0usize;
         let mut place = 0u32;
         for plan in plans {
             let txns = log.batch(place, start);
-            self.run_batch(rt, alloc, progress, &txns, plan, gate)?;
+            self.run_batch(rt, alloc, history, answered, &txns, plan, gate)?;
             start += txns.len();
             place += 1;
         }
@@ -180,7 +218,8 @@ impl Executor {
                 return (progress, Err(NoMemory));
             };
             let txns = log.batch(place, start);
-            if let Err(refusal) = self.run_batch(rt, alloc, &mut progress, &txns, plan, gate) {
+            let Progress { history, replies } = &mut progress;
+            if let Err(refusal) = self.run_batch(rt, alloc, history, replies, &txns, plan, gate) {
                 drain(rt, receiver, log.batches() - place - 1);
                 return (progress, Err(refusal));
             }

@@ -11,6 +11,7 @@ mod planning_side;
 mod replies;
 mod running;
 mod serial_executor;
+mod settling;
 mod workers;
 
 pub use applying::{Applied, apply};
@@ -18,7 +19,7 @@ pub use bohm_place::{ByteSum, Cuts};
 pub use bohm_settings::{
     Executors, Kept, LARGEST_BATCH, MOST_KEPT, MOST_PARTS, MOST_WORKERS, Planners, Settings,
 };
-pub use executing::{Executor, Progress};
+pub use executing::Executor;
 pub use plan_queue::{Line, PlanNote, PlanReceiver, PlanSender, plan_line};
 pub use running::{Answer, run};
 pub use serial_executor::SerialExecutor;

@@ -1,13 +1,13 @@
 //! The replies of finished batches.
 
-ghost use Rattle.std.specs.Prelude.{◌≡◌, ◌++◌, List, OnOk, OnErr};
-ghost use Rattle.bohm_txn.specs.declared.outcome.Reply.{Reply};
-ghost use Rattle.bohm_board.specs.Batches.{IsIn};
+ghost use Rattle.std.specs.Prelude.{◌≤◌, length, IfOk, OnOk};
+ghost use Rattle.bohm_board.specs.Batches.{IsIn, txns_of};
 ghost use Rattle.bohm_exec.specs.Answers.{batch_of_finished};
-ghost use Rattle.bohm_apply.specs.Replies.{AreSerialShows, IsReplied, replies_of};
+ghost use Rattle.bohm_apply.specs.Replies.{AreSerialShows, IsReplied};
+ghost use Rattle.bohm_apply.specs.Settling.{IsShareFrom};
 
 use bohm_exec::Finished;
-use bohm_txn::{Outcome, Replies, shows};
+use bohm_txn::{Outcome, ReplySink, shows};
 use bohm_types::{Cell, NoMemory, Value};
 use std::alloc::Global;
 
@@ -28,56 +28,45 @@ fn values_shown(values: &mut Vec<Value>, finished: &Finished<'_>, t: u32) -> Res
     Ok(())
 }
 
-/// Appends the reply of the transaction with a timestamp. An error leaves the replies unchanged.
-fn push_reply(
-    replies: &mut Replies,
+/// Appends the reply of the transaction with a timestamp.
+fn push_reply<S: ReplySink>(
+    replies: &mut S,
     values: &mut Vec<Value>,
     finished: &Finished<'_>,
     t: u32,
 ) -> Result<(), NoMemory>
     requires { IsIn (batch_of_finished finished.now) t }
-    ensures ok { OnOk result
-        (IsReplied (batch_of_finished finished.now) t replies.old replies.new) }
-    ensures err { OnErr result (replies.new ≡ replies.old) }
+    ensures { OnOk result
+        (IsReplied S.appended (batch_of_finished finished.now) t replies.old replies.new) }
 {
     match finished.outcome(t) {
         Outcome::Commit => {
             values_shown(values, finished, t)?;
-            replies.push_commit(values.as_slice())
+            replies.push(t as u64, Outcome::Commit, values.as_slice())
         }
-        Outcome::Abort { reason, stmt } => replies.push_abort(reason, stmt),
+        abort => replies.push(t as u64, abort, &[]),
     }
 }
 
-/// Appends the replies as long as allocations succeed. One list holds the shown values of each
+/// The replies of at most `count` transactions of a finished batch, from the one at index `from`
+/// on. The time grows with the number of their statements. One list holds the shown values of each
 /// reply in turn.
-fn push_some(alloc: Global, replies: &mut Replies, finished: &Finished<'_>) -> Result<(), NoMemory>
-    ensures ok { OnOk result (replies.new ≡ replies.old ++ replies_of finished.now) }
-    ensures err { OnErr result
-        ((more : List Reply) × (replies.new ≡ replies.old ++ more)) }
+pub(crate) fn replies_from<S: ReplySink + Drop>(
+    alloc: Global,
+    finished: &Finished<'_>,
+    from: u32,
+    count: u32,
+) -> Result<S, NoMemory>
+    requires { from ≤ length (txns_of (batch_of_finished finished.now)) }
+    ensures { IfOk result (IsShareFrom S.is_bare S.appended finished.now from count) }
 {
     let first = finished.first();
+    let count = count.min(finished.len() - from);
+    let mut replies = S::empty(alloc);
+    replies.reserve(count as usize)?;
     let mut values = Vec::new(alloc);
-    for place in 0..finished.len() {
-        push_reply(replies, &mut values, finished, first + place)?;
+    for index in 0..count {
+        push_reply(&mut replies, &mut values, finished, first + from + index)?;
     }
-    Ok(())
-}
-
-/// Appends the reply of each transaction of a finished batch, in log order. An error leaves the
-/// list unchanged. The time grows with the number of the batch's statements.
-pub(crate) fn push_replies(
-    alloc: Global,
-    replies: &mut Replies,
-    finished: &Finished<'_>,
-) -> Result<(), NoMemory>
-    ensures ok { OnOk result (replies.new ≡ replies.old ++ replies_of finished.now) }
-    ensures err { OnErr result (replies.new ≡ replies.old) }
-{
-    let before = replies.len();
-    let pushed = push_some(alloc, replies, finished);
-    if pushed.is_err() {
-        replies.truncate(before);
-    }
-    pushed
+    Ok(replies)
 }

@@ -1,7 +1,7 @@
 -- The lemmas of this crate that other crates cite. Each lemma is proved in the file of its subject.
 
 -- list elements by index
-pub use Rattle.bohm_place.proofs.Lists.{set_same, set_other, each_pushed}
+pub use Rattle.bohm_place.proofs.Lists.{get_drop, set_same, set_other, each_pushed}
 -- rising keys are distinct, and each transaction of a well-formed list is usable
 pub use Rattle.bohm_place.proofs.Distinct.{AreDistinct-rising}
 pub use Rattle.bohm_place.proofs.NewestCell.{formed_at, usable_at}

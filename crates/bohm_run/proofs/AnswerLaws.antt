@@ -18,8 +18,8 @@ use Rattle.bohm_answer.specs.declared.fault.RunFault.TheVariants.{Read, TooLong,
 
 -- the text of the replies, followed by that of the store at a timestamp, is the document's answer
 pub answer_text : (keep : ℕ) (u v : Option (List ℕ)) (s : RunState) (run : IsLogRun keep u v s) (ts : ℕ) (entered : List (List ℕ × ℤ)) (text : List ℕ)
-    → s.progress.history.floor ≤ ts → ts ≤ s.progress.history.top
-    → cell_in (store_of entered) ≡ past s.progress.history ts → entered ≡ entries (store_of entered) → text ≡ s.text ++ print_store entered
+    → s.history.floor ≤ ts → ts ≤ s.history.top
+    → cell_in (store_of entered) ≡ past s.history ts → entered ≡ entries (store_of entered) → text ≡ s.text ++ print_store entered
     → text ≡ answer_of run.document ts
 answer_text keep u v s run ts entered text kept there cells own wrote =
     let stored : entered ≡ entries (store_after (store_of run.document.store) (take ts run.document.log)) =

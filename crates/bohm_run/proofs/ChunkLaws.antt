@@ -54,8 +54,8 @@ module _ (txns : List Txn) (was now : RunState) (same : now.in_store ≡ was.in_
 
   -- running a chunk that has no fault continues the run of the log
   pub chunk_ran : was.fault ≡ None → now.fault ≡ None → was.count + length txns ≤ 1000000 → IsFaultBehind was.count txns None
-      → was.progress.history.top ≡ was.count
-      → IsPartRun was.progress.history now.progress.history txns was.executor.keep (was.progress.history.top + 1) was.text now.text
+      → was.history.top ≡ was.count
+      → IsPartRun was.history now.history txns was.executor.keep (was.history.top + 1) was.text now.text
       → RunsChunk txns was now
   chunk_ran clean still few checked top part = record {
     in_store = same;
@@ -69,13 +69,13 @@ module _ (txns : List Txn) (was now : RunState) (same : now.in_store ≡ was.in_
           let here : was.count ≡ length d.log = exact (length d.log) was.count so_far.counted front in
           let before = so_far.run clean front in
           let long : length before.answered ≡ was.count = ap length before.applied.replies ∙ (length-replies (past opened opened.top) d.log ∙ sym here) in
-          let place : 1 + length before.answered ≡ was.progress.history.top + 1 = omega (arith, long, top) in
-          let applied = went_on opened was.progress.history now.progress.history d.log txns was.executor.keep before.answered part.answered ordered
+          let place : 1 + length before.answered ≡ was.history.top + 1 = omega (arith, long, top) in
+          let applied = went_on opened was.history now.history d.log txns was.executor.keep before.answered part.answered ordered
           before.applied part.applied in
           record {
             answered = before.answered ++ part.answered;
-            applied = subst (λ (k : ℕ). IsApplied opened now.progress.history (d.log ++ txns) k (before.answered ++ part.answered)) (sym keeps) applied;
-            wrote = part.wrote ∙ (ap (λ (t : List ℕ). t ++ print_numbered (was.progress.history.top + 1) part.answered) before.wrote
+            applied = subst (λ (k : ℕ). IsApplied opened now.history (d.log ++ txns) k (before.answered ++ part.answered)) (sym keeps) applied;
+            wrote = part.wrote ∙ (ap (λ (t : List ℕ). t ++ print_numbered (was.history.top + 1) part.answered) before.wrote
                 ∙ (ap (λ (n : ℕ). print_numbered 1 before.answered ++ print_numbered n part.answered) (sym place)
                 ∙ sym (numbered-append 1 before.answered part.answered)));
           };
@@ -130,7 +130,7 @@ module _ (was now : RunState) (chunk : CheckedChunk) (next : IsNext was chunk) (
   }
 
   pub next_ran : AreReady was.count chunk.log → was.fault ≡ None → now.fault ≡ None
-      → IsPartRun was.progress.history now.progress.history chunk.log was.executor.keep (was.progress.history.top + 1) was.text now.text
+      → IsPartRun was.history now.history chunk.log was.executor.keep (was.history.top + 1) was.text now.text
       → RunsNext chunk was now
   next_ran ready clean still part =
       let few : was.count ≤ 1000000 = omega (arith, ready.few) in

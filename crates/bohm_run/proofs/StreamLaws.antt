@@ -142,21 +142,21 @@ module _ (u v y : Option (List ℕ)) (first : FirstWindow) (s : Source) (begun :
     read : ReadsTextOf u y whole
     read = later_read u v y first s begun streams.log streams.read
 
-    ordered : start.progress.history.floor ≤ start.progress.history.top
+    ordered : start.history.floor ≤ start.history.top
     ordered = omega (arith, started.top, started.floor)
 
     abbrev empty : Document
     empty = record d { log = [] }
 
-    begins : IsRunTo start.progress.history empty start
+    begins : IsRunTo start.history empty start
     begins = record {
       counted = inl started.count;
       checked = subst (IsCheckedTo empty) (sym (started.fault ∙ started.in_store)) (store_checked empty refl);
-      run = λ none few. record { answered = []; applied = at_rest start.progress.history start.executor.keep; wrote = started.text };
+      run = λ none few. record { answered = []; applied = at_rest start.history start.executor.keep; wrote = started.text };
     }
 
-    run_to : IsRunTo start.progress.history whole now
-    run_to = streams.runs.runs start.progress.history empty ordered begins
+    run_to : IsRunTo start.history whole now
+    run_to = streams.runs.runs start.history empty ordered begins
 
     kept : now.executor.keep ≡ keep
     kept = streams.runs.keep ∙ started.keeps
@@ -180,13 +180,13 @@ module _ (u v y : Option (List ℕ)) (first : FirstWindow) (s : Source) (begun :
         let few : length whole.log ≤ 1000000 = few_txns whole formed in
         let run = run_to.run clean few in
         let sound : start.in_store ≡ None = started.in_store ∙ no_store_fault_of whole formed in
-        let opened : past start.progress.history 0 ≡ cell_in (store_of whole.store) = started.past sound in
+        let opened : past start.history 0 ≡ cell_in (store_of whole.store) = started.past sound in
         let long : length run.answered ≡ length whole.log =
-        ap length run.applied.replies ∙ length-replies (past start.progress.history start.progress.history.top) whole.log in
+        ap length run.applied.replies ∙ length-replies (past start.history start.history.top) whole.log in
         let front : take (length run.answered) whole.log ≡ whole.log = ap (λ (n : ℕ). take n whole.log) long ∙ take-length whole.log in
-        let applied : IsApplied start.progress.history now.progress.history whole.log keep run.answered =
-        subst (λ (k : ℕ). IsApplied start.progress.history now.progress.history whole.log k run.answered) kept run.applied in
-        let result = whole_run (cell_in (store_of whole.store)) start.progress.history now.progress.history whole.log keep run.answered started.floor
+        let applied : IsApplied start.history now.history whole.log keep run.answered =
+        subst (λ (k : ℕ). IsApplied start.history now.history whole.log k run.answered) kept run.applied in
+        let result = whole_run (cell_in (store_of whole.store)) start.history now.history whole.log keep run.answered started.floor
         started.top opened (rw front applied) long in
         record {
           document = whole;

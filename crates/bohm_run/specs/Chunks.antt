@@ -29,9 +29,9 @@ pub record IsRun (opened : Timeline) (keep : ℕ) (log : List Txn) (history : Ti
 -- nothing has run yet, and this many timestamps are to stay readable
 pub record IsStarted (keep : ℕ) (store : List (List ℕ × ℤ)) (s : RunState) : Type 0 where
   pub keeps : s.executor.keep ≡ keep
-  pub top : s.progress.history.top ≡ 0
-  pub floor : s.progress.history.floor ≡ 0
-  pub past : s.in_store ≡ None → past s.progress.history 0 ≡ cell_in (store_of store)
+  pub top : s.history.top ≡ 0
+  pub floor : s.history.floor ≡ 0
+  pub past : s.in_store ≡ None → past s.history 0 ≡ cell_in (store_of store)
   pub text : s.text ≡ []
   pub count : s.count ≡ 0
   pub in_store : s.in_store ≡ store_fault store
@@ -39,13 +39,13 @@ pub record IsStarted (keep : ℕ) (store : List (List ℕ × ℤ)) (s : RunState
 
 -- if there is no fault and there aren't too many transactions, all of them were run
 abbrev pub IsLevel : RunState → Type 0
-IsLevel s = s.fault ≡ None → s.count ≤ most_txns → s.progress.history.top ≡ s.count
+IsLevel s = s.fault ≡ None → s.count ≤ most_txns → s.history.top ≡ s.count
 
 -- the document so far was checked, and its log was run if it has no fault and not too many transactions
 pub record IsRunTo (opened : Timeline) (d : Document) (s : RunState) : Type 0 where
   pub counted : IsCountOf (length d.log) s.count
   pub checked : IsCheckedTo d s.fault
-  pub run : s.fault ≡ None → length d.log ≤ most_txns → IsRun opened s.executor.keep d.log s.progress.history s.text
+  pub run : s.fault ≡ None → length d.log ≤ most_txns → IsRun opened s.executor.keep d.log s.history s.text
 
 -- whatever was run before from an opened history was continued by these transactions
 pub record RunsChunk (txns : List Txn) (was now : RunState) : Type 0 where

@@ -56,4 +56,4 @@ pub record IsLogRun (keep : ℕ) (unread unread' : Option (List ℕ)) (s : RunSt
   pub read : ReadsDocument unread unread' document
   pub count : s.count ≡ length document.log
   pub replies : s.text ≡ print_numbered 1 (replies (cell_in (store_of document.store)) document.log)
-  pub history : IsHistoryOf (cell_in (store_of document.store)) document.log keep s.progress.history
+  pub history : IsHistoryOf (cell_in (store_of document.store)) document.log keep s.history

@@ -92,14 +92,14 @@ fn store_then(alloc: Global, history: &History, ts: u32) -> Result<Vec<(Key, Val
 
 /// The text of the answer of a log that was run, with the store at a timestamp.
 fn answer(alloc: Global, state: RunState, ts: u32) -> Result<Vec<u8>, NoMemory>
-    requires kept { state.progress.history.floor ≤ ts }
-    requires there { ts ≤ state.progress.history.top }
+    requires kept { state.history.floor ≤ ts }
+    requires there { ts ≤ state.history.top }
     ensures { IfOk result
         (λ text. (keep : ℕ) (unread unread' : Option (List ℕ))
         → (run : IsLogRun keep unread unread' state) → text.items ≡ answer_of run.document ts) }
 {
-    let RunState { progress, text, .. } = state;
-    let store = store_then(alloc, &progress.history, ts)?;
+    let RunState { history, text, .. } = state;
+    let store = store_then(alloc, &history, ts)?;
     let mut bytes = text.into_bytes();
     put_store(&mut bytes, store.as_slice())?;
     Ok(bytes)

@@ -10,7 +10,7 @@ ghost use Rattle.bohm_place.specs.Cuttings.{ArePlans};
 ghost use Rattle.bohm_apply.specs.Runs.{cutting_behind};
 ghost use Rattle.bohm_run.specs.Chunks.{IsNext, IsPartRun, IsStarted, RunsNext};
 
-use bohm_apply::{Executor, Progress, ScratchPool, SerialExecutor, Settings};
+use bohm_apply::{Executor, ScratchPool, SerialExecutor, Settings};
 use bohm_exec::OpenGate;
 use bohm_hints::IndexHints;
 use bohm_log::{DrawnSeed, LogPart};
@@ -18,7 +18,7 @@ use bohm_place::{CutLog, Cuts, Plan};
 use bohm_read_ahead::{CheckedChunk, Prepared, counted};
 use bohm_store::History;
 use bohm_text::ReplyText;
-use bohm_txn::{CheckFault, Replies, check_store};
+use bohm_txn::{CheckFault, check_store};
 use bohm_types::{Key, MOST_TXNS, NoMemory, Value};
 use std::alloc::Global;
 use std::mem;
@@ -27,8 +27,7 @@ use std::thread::Threads;
 /// How far a log has been checked and run.
 #[derive(Drop)]
 pub(crate) struct RunState {
-    /// The history, and the replies of the chunk that ran last.
-    pub(crate) progress: Progress,
+    pub(crate) history: History,
     /// The text of the replies so far.
     pub(crate) text: ReplyText,
     pub(crate) executor: Executor,
@@ -76,10 +75,7 @@ impl RunState {
     {
         let in_store = check_store(store.as_slice());
         Ok(RunState {
-            progress: Progress {
-                history: open_history(alloc, seed, store.as_slice(), in_store, shares)?,
-                replies: Replies::new(alloc),
-            },
+            history: open_history(alloc, seed, store.as_slice(), in_store, shares)?,
             text: ReplyText::new(alloc),
             executor: Executor {
                 pool: ScratchPool::new(alloc, settings.exec())?,
@@ -116,35 +112,31 @@ fn run_to_text(
 }
 
 /// Runs the transactions after the history's top by the plans of their batches, and appends the
-/// text of their replies.
-fn run_clean<T: Threads + Sync>(
+/// text of their replies. The hints are those of the transactions' log.
+fn run_planned_to_text<T: Threads + Sync>(
     rt: &T,
     alloc: Global,
-    progress: &mut Progress,
+    history: &mut History,
     text: &mut ReplyText,
     executor: &mut Executor,
-    part: &LogPart<'_>,
+    txns: &LogPart<'_>,
     hints: &mut IndexHints,
     cuts: &Cuts,
     plans: Vec<Plan>,
 ) -> Result<(), NoMemory>
-    requires total { sum cuts.now ≡ length part.now }
-    requires few { progress.old.history.top + length part.now ≤ MOST_TXNS }
-    requires formed { All IsWellFormedTxn part.now }
-    requires plans { ArePlans (cutting_behind progress.old.history part.now cuts.now) plans.items }
+    requires total { sum cuts.now ≡ length txns.now }
+    requires few { history.old.top + length txns.now ≤ MOST_TXNS }
+    requires formed { All IsWellFormedTxn txns.now }
+    requires plans { ArePlans (cutting_behind history.old txns.now cuts.now) plans.items }
     ensures keep { executor.new.keep ≡ executor.old.keep }
-    ensures run { let number = progress.old.history.top + 1 in OnOk result
-        (IsPartRun progress.old.history progress.new.history part.entry.now executor.old.keep number
-        text.old text.new) }
+    ensures run { OnOk result (IsPartRun history.old history.new txns.entry.now executor.old.keep
+        (history.old.top + 1) text.old text.new) }
 {
-    let first = progress.history.top() + 1;
-    let log = CutLog::new(first, part, cuts);
+    let log = CutLog::new(history.top() + 1, txns, cuts);
     // The executor takes the hints of this log, since each log numbers its keys itself.
     mem::swap(&mut executor.hints, hints);
-    progress.replies.clear();
-    executor.run_planned(rt, alloc, progress, log, plans, &OpenGate)?;
+    executor.run_planned(rt, alloc, history, text, log, plans, &OpenGate)?;
     mem::swap(&mut executor.hints, hints);
-    text.put(first as u64, &progress.replies)?;
     Ok(())
 }
 
@@ -172,16 +164,16 @@ pub(crate) fn run_chunk<T: Threads + Sync>(
         Prepared::TooMany => Ok(()),
         Prepared::Ready => run_to_text(
             &mut state.serial,
-            &mut state.progress.history,
+            &mut state.history,
             &mut state.text,
             &log,
             &mut chunk.hints,
             state.executor.keep,
         ),
-        Prepared::Planned { cuts, plans } => run_clean(
+        Prepared::Planned { cuts, plans } => run_planned_to_text(
             rt,
             alloc,
-            &mut state.progress,
+            &mut state.history,
             &mut state.text,
             &mut state.executor,
             &log,

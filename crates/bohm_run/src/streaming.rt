@@ -108,7 +108,7 @@ fn run_to_end<R: Read, T: Threads + Wait + Sync>(
     requires ready { IsReady log_reader.old.state.source }
     requires none { log_reader.old.state.ahead.items ≡ [] }
     requires count { log_reader.old.state.count ≡ 0 }
-    requires top { state.old.progress.history.top ≡ 0 }
+    requires top { state.old.history.top ≡ 0 }
     requires begun { state.old.count ≡ 0 }
     ensures ok { OnOk result
         (RunsBehind log_reader.old.state.edition first.log (R.remaining reader.old)
@@ -152,7 +152,7 @@ pub(crate) fn run_log<R: Read, T: Threads + Wait + Sync + RandomSource + Copy + 
     } = first;
     // A log of one window shares its names with no other.
     let mut state = RunState::start(alloc, seed, store, settings, !source.ended)?;
-    let names = state.progress.history.shared_names()?;
+    let names = state.history.shared_names()?;
     let reading = ReadingState::new(alloc, edition, source);
     // From here on, no failure returns before the threads are joined.
     let mut log_reader = LogReader::start(rt, alloc, reading, seed, names, size, settings)?;

@@ -1,10 +1,9 @@
 //! Replies that are printed as they are made.
 
-ghost use Rattle.std.specs.Prelude.{◌≡◌, [], ◌+◌, ◌++◌, ◌≤◌, ◌^◌, length, IfOk};
-ghost use Rattle.bohm_text.specs.Print.{print_numbered};
+ghost use Rattle.std.specs.Prelude.{◌≡◌, []};
 
-use crate::answers::{put_replies, put_reply};
-use bohm_txn::{Outcome, Replies, ReplySink};
+use crate::answers::put_reply;
+use bohm_txn::{Outcome, ReplySink};
 use bohm_types::{NoMemory, Value};
 use std::alloc::Global;
 use std::marker::Model;
@@ -45,15 +44,6 @@ impl ReplyText {
         }
     }
 
-    /// Appends a line for each reply of a list, numbered from `first`. The time grows with the
-    /// length of the lines. After an error the text contains a prefix of the lines.
-    pub fn put(&mut self, first: u64, replies: &Replies) -> Result<(), NoMemory>
-        requires { first + length replies.now ≤ 2 ^ 64 }
-        ensures { IfOk result (λ _. self.new ≡ self.old ++ print_numbered first replies.now) }
-    {
-        put_replies(&mut self.bytes, first, replies)
-    }
-
     pub fn into_bytes(self) -> Vec<u8>
         ensures { result.items ≡ self }
     {
@@ -63,7 +53,7 @@ impl ReplyText {
 }
 
 impl ReplySink for ReplyText {
-    ghost use Rattle.std.specs.Prelude.{◌≡◌, [], ◌++◌};
+    ghost use Rattle.std.specs.Prelude.{◌≡◌, [], ◌++◌, length};
     ghost use Rattle.bohm_text.specs.Print.{print_numbered};
     ghost use Rattle.std.proofs.Common.{append-nil, sym};
     ghost use Rattle.bohm_text.specs.Numbered.{printed_on};
@@ -71,6 +61,8 @@ impl ReplySink for ReplyText {
     ghost appended = { λ first a xs b. b ≡ a ++ print_numbered first xs };
 
     ghost is_bare = { λ a. a ≡ [] };
+
+    ghost extent = { length };
 
     fn empty(alloc: Global) -> ReplyText {
         ReplyText::new(alloc)
@@ -94,6 +86,14 @@ impl ReplySink for ReplyText {
     fn append(&mut self, more: ReplyText) -> Result<(), NoMemory> {
         self.bytes.extend_from_slice(more.bytes.as_slice())?;
         Ok(())
+    }
+
+    fn len(&self) -> usize {
+        self.bytes.len()
+    }
+
+    fn truncate(&mut self, len: usize) {
+        self.bytes.truncate(len);
     }
 
     ghost nothing = { λ _ a. sym (append-nil a) };

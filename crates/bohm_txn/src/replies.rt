@@ -231,13 +231,15 @@ impl Replies {
 
 /// The numbers aren't kept.
 impl ReplySink for Replies {
-    ghost use Rattle.std.specs.Prelude.{◌≡◌, [], ◌++◌};
+    ghost use Rattle.std.specs.Prelude.{◌≡◌, [], ◌++◌, length};
     ghost use Rattle.std.proofs.Common.{append-nil, append_assoc, sym, ap, ◌∙◌, List};
     ghost use Rattle.bohm_txn.specs.declared.outcome.Reply.{Reply};
 
     ghost appended = { λ _ a xs b. b ≡ a ++ xs };
 
     ghost is_bare = { λ a. a ≡ [] };
+
+    ghost extent = { length };
 
     fn empty(alloc: Global) -> Replies {
         Replies::new(alloc)
@@ -254,6 +256,14 @@ impl ReplySink for Replies {
 
     fn append(&mut self, more: Replies) -> Result<(), NoMemory> {
         self.append(more)
+    }
+
+    fn len(&self) -> usize {
+        self.len()
+    }
+
+    fn truncate(&mut self, len: usize) {
+        self.truncate(len)
     }
 
     ghost nothing = { λ _ a. sym (append-nil a) };

@@ -18,6 +18,9 @@ pub trait ReplySink {
     /// It has no replies.
     ghost is_bare: { Self → Type 0 };
 
+    /// How long it is, in a unit of its own, such as replies or bytes.
+    ghost extent: { Self → ℕ };
+
     /// A sink without replies. It allocates nothing.
     fn empty(alloc: Global) -> Self
         ensures { is_bare result };
@@ -40,6 +43,15 @@ pub trait ReplySink {
             ((first : ℕ) (start : Self) (replies : List Reply) → is_bare start
             → appended first start replies more → appended first self.old replies self.new) }
         ensures err { OnErr result ((first : ℕ) → appended first self.old [] self.new) };
+
+    /// Its length, for `truncate`.
+    fn len(&self) -> usize
+        ensures { result ≡ extent self.now };
+
+    /// Removes the replies that were appended since the sink had this length.
+    fn truncate(&mut self, len: usize)
+        ensures { (first : ℕ) (start : Self) (replies : List Reply) → extent start ≡ len
+            → appended first start replies self.old → self.new ≡ start };
 
     ghost nothing: { (first : ℕ) (a : Self) → appended first a [] a };
 

@@ -18,7 +18,7 @@ returns-in-Ready g c =
     let count = c.counted-state.ensures ∙ (λ i. count_with (c.requires.behind i) ((c.len.ensures ∙ ap length c.part-log.ensures.same) i)) in
     on_ok_weaker c.run_to_text.result
     (λ part. next_ran was _ c.args.chunk.now c.requires refl refl count ready clean clean
-    (subst (λ (txns : List Txn). IsPartRun was.progress.history c.run_to_text.new.history txns was.executor.keep (was.progress.history.top + 1) was.text
+    (subst (λ (txns : List Txn). IsPartRun was.history c.run_to_text.new.history txns was.executor.keep (was.history.top + 1) was.text
     c.run_to_text.new.text) c.part-log.ensures.same part)) c.run_to_text.ensures
 
 pub returns-in-Planned : goal.returns-in-Planned
@@ -29,10 +29,10 @@ returns-in-Planned g c =
     let planned : ArePlanned was.count log c.in-Planned.cuts c.in-Planned.plans.items =
     subst (IsPrepared was.count log) (sym c.replace.ensures.value ∙ c.in-Planned.is) c.requires.prepared in
     let count = c.counted-state.ensures ∙ (λ i. count_with (c.requires.behind i) ((c.len.ensures ∙ ap length c.part-log.ensures.same) i)) in
-    on_ok_weaker c.run_clean.result
-    (λ part. next_ran was _ c.args.chunk.now c.requires refl c.run_clean.ensures.keep count planned.ready clean clean
-    (subst (λ (txns : List Txn). IsPartRun was.progress.history c.run_clean.new.progress.history txns was.executor.keep (was.progress.history.top + 1)
-    was.text c.run_clean.new.text) c.part-log.ensures.same part)) c.run_clean.ensures.run
+    on_ok_weaker c.run_planned_to_text.result
+    (λ part. next_ran was _ c.args.chunk.now c.requires refl c.run_planned_to_text.ensures.keep count planned.ready clean clean
+    (subst (λ (txns : List Txn). IsPartRun was.history c.run_planned_to_text.new.history txns was.executor.keep (was.history.top + 1)
+    was.text c.run_planned_to_text.new.text) c.part-log.ensures.same part)) c.run_planned_to_text.ensures.run
 
 pub returns-then-is_some : goal.returns-then-is_some
 returns-then-is_some g c =
@@ -40,13 +40,13 @@ returns-then-is_some g c =
     (c.counted-state.ensures ∙ (λ i. count_with (c.requires.behind i) ((c.len.ensures ∙ ap length c.part-log.ensures.same) i)))
     (sym c.is_some.ensures ∙ c.if-is_some.true) refl
 
-pub run_clean-requires-clause-plans : goal.run_clean-requires-clause-plans
-run_clean-requires-clause-plans g c κs within =
+pub run_planned_to_text-requires-clause-plans : goal.run_planned_to_text-requires-clause-plans
+run_planned_to_text-requires-clause-plans g c κs within =
     let was = c.args.state.now in
     let planned : ArePlanned was.count c.args.chunk.now.log c.in-Planned.cuts c.in-Planned.plans.items =
     subst (IsPrepared was.count c.args.chunk.now.log) (sym c.replace.ensures.value ∙ c.in-Planned.is) c.requires.prepared in
     let clean : was.fault ≡ None = no_some was.fault (sym c.is_some.ensures ∙ c.if-is_some.false) in
-    let top : was.progress.history.top ≡ was.count = c.requires.level clean (omega (arith, planned.ready.few)) in
-    subst (λ (txns : List Txn). ArePlans (cutting_behind was.progress.history txns c.in-Planned.cuts) c.in-Planned.plans.items) (sym c.part-log.ensures.same)
+    let top : was.history.top ≡ was.count = c.requires.level clean (omega (arith, planned.ready.few)) in
+    subst (λ (txns : List Txn). ArePlans (cutting_behind was.history txns c.in-Planned.cuts) c.in-Planned.plans.items) (sym c.part-log.ensures.same)
     (subst (λ (n : ℕ). ArePlans (record { first = n + 1; log = c.args.chunk.now.log; sizes = c.in-Planned.cuts }) c.in-Planned.plans.items) (sym top)
     planned.planned)

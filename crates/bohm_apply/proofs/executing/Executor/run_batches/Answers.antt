@@ -46,21 +46,21 @@ drain-requires-clause-open g c =
 pub returns-in-Err-clause-walk : goal.returns-in-Err-clause-walk
 returns-in-Err-clause-walk g c =
     let h = c.loop-place.invariant in
-    let same = c.in-Err.ensures.err in
+    let same = c.in-Err.ensures in
     let log = cutting_of c.args.log in
-    let on = stayed c.args.progress.history c.loop-place.progress.history c.run_batch.new.progress.history
-    (take c.loop-place.start log.log) c.args.self.keep c.loop-place.progress.replies same.history (rw h.3 at h.4) in
-    walk_ends c.args.progress.history c.run_batch.new.progress.history log c.loop-place.place c.loop-place.start c.args.self.keep
-    c.run_batch.new.progress.replies false c.args.log.whole h.2 (λ t. absurd cc) (rw same.replies on)
+    let on = stayed c.args.progress.history c.loop-place.progress.history c.run_batch.new.history
+    (take c.loop-place.start log.log) c.args.self.keep c.loop-place.progress.replies same.same (rw h.3 at h.4) in
+    walk_ends c.args.progress.history c.run_batch.new.history log c.loop-place.place c.loop-place.start c.args.self.keep
+    c.run_batch.new.answered false c.args.log.whole h.2 (λ t. absurd cc) (rw same.unanswered on)
 
 pub loop-place-preserved : goal.loop-place-preserved
 loop-place-preserved g c =
     let h = c.loop-place.invariant in
     let log = cutting_of c.args.log in
     let there : IsSome c.take-note.result.plan = search rules in
-    let goes = c.in_default-run_batch.ensures.ok in
+    let goes = c.in_default-run_batch.ensures in
     let next = c.batch-txns.ensures in
-    let on = walked_on c.args.progress.history c.loop-place.progress.history c.run_batch.new.progress.history log c.loop-place.place c.loop-place.start
+    let on = walked_on c.args.progress.history c.loop-place.progress.history c.run_batch.new.history log c.loop-place.place c.loop-place.start
     c.args.self.keep c.loop-place.progress.replies c.batch-txns.result c.requires.ordered (search rules) h.2 next.txns next.ahead (rw h.3 at h.4)
     (rw h.3 at goes.applied) in
     rw c.len-start.ensures (
@@ -68,7 +68,7 @@ loop-place-preserved g c =
       rw c.take-note.ensures.taken (All-push (λ (x : PlanNote). IsSome x.plan) c.loop-place.receiver.notes c.take-note.result h.1 there),
       sym next.ahead,
       c.run_batch.ensures.keep ∙ h.3,
-      rw (c.run_batch.ensures.keep ∙ h.3, goes.replies) on,
+      rw (c.run_batch.ensures.keep ∙ h.3, goes.answered) on,
     )
 
 pub returns-clause-walk : goal.returns-clause-walk

@@ -22,6 +22,8 @@ returns-clause-reply g c =
     let ran = c.in_ok-outcome.ensures in
     let outcome = c.in_ok-outcome.outcome in
     let shows = c.shows.result.now in
+    let old = c.args.answered.now in
+    let new = c.push.new.self in
     let is = replied (body (past was was.top) c.args.txn.now) outcome shows ran.outcome (ran.shows ∙ sym c.shows.ensures) in
-    subst (λ (r : Reply). g.S.ReplySink.appended (was.top + 1) c.args.answered.now (r ∷ []) c.push.new.self) is
-    (subst (λ (n : ℕ). g.S.ReplySink.appended (n + 1) c.args.answered.now (reply_with outcome shows ∷ []) c.push.new.self) c.top-number.ensures.top c.in_ok-push.ensures.ok)
+    subst (λ (r : Reply). g.S.ReplySink.appended (was.top + 1) old (r ∷ []) new) is
+    (subst (λ (n : ℕ). g.S.ReplySink.appended (n + 1) old (reply_with outcome shows ∷ []) new) c.top-number.ensures.top c.in_ok-push.ensures.ok)
